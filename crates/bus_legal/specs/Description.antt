@@ -1,0 +1,42 @@
+-- What a terminal is described by.
+use Rattle.std.specs.Prelude.{ℕ, ◌-◌, Bool, ◌&&◌, List, [], get_or}
+use Rattle.bus_word.specs.declared.cell.Cell.{Cell}
+use Rattle.bus_word.specs.Cell.{is_allowed}
+use Rattle.bus_legal.specs.declared.setup.Setup.{Setup}
+
+pub record Description : Type 0 where
+  -- the address, 0 to 30, and the broadcast option
+  pub address : ℕ
+  pub broadcast : Bool
+  -- whether words received at the wraparound subaddress replace those held there
+  pub wrap : Bool
+  -- whether dynamic bus control is accepted
+  pub accept : Bool
+  -- the vector word and the BIT word at power-up
+  pub vector : ℕ
+  pub bit : ℕ
+  -- the words held at power-up, by subaddress (1 to 30) and number (1 to 32)
+  pub initial : ℕ → ℕ → ℕ
+  pub legal : Cell → Bool
+
+-- the wraparound subaddress
+abbrev pub wrap_subaddress : ℕ
+wrap_subaddress = 30
+
+-- word number i of subaddress s, in a table by both, from 1
+abbrev pub word_at : List (List ℕ) → ℕ → ℕ → ℕ
+word_at words s i = get_or (get_or words (s - 1) []) (i - 1) 0
+
+-- the description of a terminal that is set up so, with this legality: of the cells that no command
+-- has, none is legal
+abbrev pub described : Setup → (Cell → Bool) → Description
+described setup is_legal = record {
+  address = setup.address;
+  broadcast = setup.broadcast;
+  wrap = setup.wrap;
+  accept = setup.accept;
+  vector = setup.vector;
+  bit = setup.bit;
+  initial = word_at setup.initial;
+  legal = λ cell. is_allowed cell && is_legal cell;
+}

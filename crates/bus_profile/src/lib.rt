@@ -1,0 +1,9 @@
+//! The profile text: a TOML table that sets a remote terminal up, read into a `Profile`, and the
+//! faults for which a text is refused.
+#![tactic(auto)]
+
+mod entries;
+mod profile;
+
+pub use entries::{InitialWords, Initials, ModeRule, ModeRules, Rule, Rules};
+pub use profile::Profile;

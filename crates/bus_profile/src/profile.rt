@@ -1,0 +1,34 @@
+//! What a profile is.
+ghost use Rattle.std.specs.Prelude.{◌≤◌, IsTrue, length};
+ghost use Rattle.bus_profile.specs.OwnCodes.{has_required_codes};
+
+use crate::entries::{Initials, ModeRules, Rules};
+
+/// What sets a remote terminal up.
+#[derive(Debug, Drop)]
+pub struct Profile {
+    /// The terminal's address, 0 to 30.
+    pub address: u8,
+    /// The broadcast option: whether the terminal hears commands to address 31.
+    pub broadcast: bool,
+    /// Whether words received at the wraparound subaddress, 30, replace those held there.
+    pub wrap: bool,
+    /// Whether the terminal accepts dynamic bus control.
+    pub accept: bool,
+    /// The vector word at power-up.
+    pub vector: u16,
+    /// The BIT word at power-up.
+    pub bit: u16,
+    /// At most 256.
+    pub rules: Rules,
+    /// At most 256.
+    pub modes: ModeRules,
+    /// At most 256.
+    pub initials: Initials,
+    ghost own_address: { address ≤ 30 },
+    ghost few_rules: { length rules ≤ 256 },
+    ghost few_modes: { length modes ≤ 256 },
+    ghost few_initials: { length initials ≤ 256 },
+    // The four own mode codes that must be legal are.
+    ghost required_codes: { IsTrue (has_required_codes modes) },
+}

@@ -1,0 +1,2 @@
+pub mod Parity
+pub mod Masks

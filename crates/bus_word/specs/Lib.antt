@@ -1,0 +1,5 @@
+pub mod Word
+pub mod Command
+pub mod Status
+pub mod Mode
+pub mod Cell

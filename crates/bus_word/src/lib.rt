@@ -1,0 +1,16 @@
+//! The words of a MIL-STD-1553B bus: which are valid, the fields of a command word, the status
+//! word, the mode codes, and the cells in which a remote terminal decides what is legal.
+#![tactic(auto)]
+
+mod cell;
+mod command;
+pub mod laws;
+mod mode;
+mod status;
+mod word;
+
+pub use cell::{Cell, cell_of};
+pub use command::Command;
+pub use mode::{ModeRow, mode_row};
+pub use status::{StatusParts, status_of};
+pub use word::{Bus, Kind, Raw};
