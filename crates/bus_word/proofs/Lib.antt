@@ -1,2 +1,4 @@
 pub mod Parity
 pub mod Masks
+pub mod WordLaws
+pub mod CellLaws

@@ -3,3 +3,4 @@ pub mod Command
 pub mod Status
 pub mod Mode
 pub mod Cell
+pub mod Laws

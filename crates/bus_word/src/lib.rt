@@ -7,6 +7,8 @@ mod command;
 pub mod laws;
 mod mode;
 mod status;
+#[cfg(test)]
+mod tests;
 mod word;
 
 pub use cell::{Cell, cell_of};

@@ -1,0 +1,63 @@
+-- Laws over the definitions of words, commands, status words, mode codes and cells.
+use Rattle.std.specs.Prelude.{◌≡◌, ℕ, zero, suc, ◌+◌, ◌/◌, ◌%◌, ◌^◌, ◌<◌, Bool, true, if◌then◌else◌, Some, is_some}
+use Rattle.bus_word.specs.declared.word.Raw.{Raw}
+use Rattle.bus_word.specs.declared.status.StatusParts.{StatusParts}
+use Rattle.bus_word.specs.declared.cell.Cell.{Cell}
+use Rattle.bus_word.specs.Word.{bit_of, is_valid, valid_word}
+use Rattle.bus_word.specs.Command.{Fields, AreInRange, word_of, fields_of}
+use Rattle.bus_word.specs.Status.{status_word}
+use Rattle.bus_word.specs.Mode.{mode_row, is_required_code}
+use Rattle.bus_word.specs.Cell.{cell_of, is_allowed, allows_broadcast}
+
+-- of a sync and 16 bits, there is one valid word
+abbrev pub OneValidWord : Type 0
+OneValidWord = (w : Raw) → is_valid w ≡ true → w ≡ valid_word w.kind w.bits
+
+-- each command word is that of its fields, which are in range
+abbrev pub EachWordHasFields : Type 0
+EachWordHasFields = (command : ℕ) → command < 2 ^ 16 → AreInRange (fields_of command) × (word_of (fields_of command) ≡ command)
+
+-- fields in range are the fields of their command word: so it has no others
+abbrev pub FieldsAreUnique : Type 0
+FieldsAreUnique = (f : Fields) → AreInRange f → (word_of f < 2 ^ 16) × (fields_of (word_of f) ≡ f)
+
+-- where each bit of a status word stands
+pub record HasBits (status address : ℕ) (parts : StatusParts) : Type 0 where
+  pub address_field : status / 0x0800 ≡ address
+  pub error : status / 0x0400 % 2 ≡ bit_of parts.error
+  pub instrumentation : status / 0x0200 % 2 ≡ 0
+  pub service : status / 0x0100 % 2 ≡ bit_of parts.service
+  pub reserved : status / 0x0020 % 8 ≡ 0
+  pub broadcast : status / 0x0010 % 2 ≡ bit_of parts.broadcast
+  pub busy : status / 0x0008 % 2 ≡ bit_of parts.busy
+  pub subsystem : status / 0x0004 % 2 ≡ bit_of parts.subsystem
+  pub accept : status / 0x0002 % 2 ≡ bit_of parts.accept
+  pub terminal : status % 2 ≡ bit_of parts.terminal
+
+abbrev pub StatusHasBits : Type 0
+StatusHasBits = (address : ℕ) (parts : StatusParts) → HasBits (status_word address parts) address parts
+
+-- the number below 2 ^ n whose bit i is set exactly if i passes the test
+abbrev pub mask_where : ℕ → (ℕ → Bool) → ℕ
+mask_where zero test = 0
+mask_where (suc n) test = mask_where n test + (if test n then 2 ^ n else 0)
+
+-- the own mode codes that may be legal, those that must be, and those that may be by broadcast
+abbrev pub OwnCodes : Type 0
+OwnCodes = mask_where 32 (λ code. is_some (mode_row code)) ≡ 0x000f01ff
+abbrev pub RequiredCodes : Type 0
+RequiredCodes = mask_where 32 is_required_code ≡ 0x00000134
+abbrev pub BroadcastCodes : Type 0
+BroadcastCodes = mask_where 32 (λ code. allows_broadcast (mode_row code)) ≡ 0x000201fa
+
+-- some command has this cell
+pub record HasCommand (cell : Cell) : Type 0 where
+  pub command : ℕ
+  pub small : command < 2 ^ 16
+  pub is : cell_of command ≡ Some cell
+
+-- the allowed cells are those that some command has
+abbrev pub AllowedHaveCommands : Type 0
+AllowedHaveCommands = (cell : Cell) → is_allowed cell ≡ true → HasCommand cell
+abbrev pub CommandsHaveAllowed : Type 0
+CommandsHaveAllowed = (cell : Cell) → HasCommand cell → is_allowed cell ≡ true
