@@ -1,0 +1,5 @@
+pub mod LineLaws
+pub mod ReadingLaws
+pub mod PlayLaws
+pub mod FeedLaws
+pub mod RunLaws

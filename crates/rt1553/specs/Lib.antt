@@ -1,0 +1,9 @@
+pub mod Device
+pub mod Line
+pub mod History
+pub mod Stands
+pub mod Text
+pub mod Reading
+pub mod Transcript
+pub mod Playing
+pub mod Played
