@@ -1,2 +1,4 @@
 pub mod Last
 pub mod OwnCodes
+pub mod Ranges
+pub mod RangesOf

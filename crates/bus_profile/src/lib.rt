@@ -4,6 +4,8 @@
 
 mod entries;
 mod profile;
+mod ranges;
 
 pub use entries::{InitialWords, Initials, ModeRule, ModeRules, Rule, Rules};
 pub use profile::Profile;
+pub use ranges::{RangeFault, parse_ranges};

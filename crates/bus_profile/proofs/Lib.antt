@@ -1,0 +1,5 @@
+pub mod Bits
+pub mod Parts
+pub mod RangesGrammar
+pub mod RangesMeaning
+pub mod RangesRest
