@@ -1,4 +1,8 @@
+pub mod Arrays
 pub mod Bits
+pub mod Defaults
+pub mod Items
+pub mod Least
 pub mod Parts
 pub mod RangesGrammar
 pub mod RangesMeaning

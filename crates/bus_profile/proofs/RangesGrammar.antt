@@ -1,5 +1,5 @@
 -- The items of a text are those that the grammar gives it.
-use Rattle.std.proofs.Common.{◌≡◌, ◌≢◌, ℕ, zero, suc, ◌+◌, ◌-◌, ◌*◌, ◌<◌, ◌≤◌, ◌==◌, ◌&&◌, nat_le, Bool, true, false, cond, List, [], ◌∷◌, ◌++◌, map, Option, Some, None, refl, ap, sym, ◌∙◌, arith, inl, inr, ⊎_elim, ◌⊎◌, append_assoc, lit<}
+use Rattle.std.proofs.Common.{◌≡◌, ℕ, ◌<◌, ◌==◌, Bool, true, false, cond, List, [], ◌∷◌, ◌++◌, map, Option, Some, None, refl, ap, sym, ◌∙◌, arith, inl, inr, lit<}
 use Rattle.std.proofs.lemmas.Bool.{and_parts}
 use Rattle.std.proofs.lemmas.Option.{cond_some, same_Some}
 use Rattle.std.proofs.lemmas.Bool.Decides.{nat_tests}
@@ -8,7 +8,7 @@ use Rattle.std.specs.Char.{is_ascii_digit}
 use Rattle.bus_profile.specs.declared.ranges.Item.{Item}
 use Rattle.bus_profile.specs.RangesOf.{trim_start, trim_end, before_trimmed, decimal_of, number_of, pair_of, item_of, in_front, all_of, items_of}
 use Rattle.bus_profile.proofs.Parts.{pair_of-more}
-use Rattle.bus_profile.specs.Ranges.{AreSpaces, IsDigit, AreDigits, IsNumber, IsPair, IsItem, Denotes}
+use Rattle.bus_profile.specs.Ranges.{AreSpaces, IsDigit, AreDigits, IsNumber, IsItem, Denotes}
 
 -- ---- what the grammar gives is found
 

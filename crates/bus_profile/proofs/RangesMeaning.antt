@@ -1,14 +1,13 @@
 -- What a text of ranges answers, by the grammar.
-use Rattle.std.proofs.Common.{◌≡◌, ℕ, ◌+◌, ◌-◌, ◌^◌, ◌<◌, ◌≤◌, ◌&&◌, ◌||◌, nat_le, Bool, true, false, cond, List, [], ◌∷◌, Option, Some, None, Result, Ok, Err, IsTrue, ◌↔◌, refl, ap, sym, ◌∙◌, subst, arith, inl, inr, ⊎_elim, ◌⊎◌}
+use Rattle.std.proofs.Common.{◌≡◌, ℕ, ◌+◌, ◌-◌, ◌^◌, ◌<◌, ◌≤◌, ◌&&◌, ◌||◌, nat_le, Bool, true, false, cond, List, [], ◌∷◌, Option, Some, None, Ok, Err, refl, ap, sym, ◌∙◌, arith, inl, inr, ◌⊎◌}
 use Rattle.std.proofs.lemmas.Bool.Decides.{nat_tests}
 use Rattle.std.proofs.lemmas.Bool.{and_parts}
 use Rattle.std.proofs.lemmas.Option.{same_Some}
 use Rattle.std.specs.List.{list_all}
 use Rattle.bus_profile.specs.declared.ranges.Item.{Item}
-use Rattle.bus_profile.specs.declared.ranges.RangeFault.{RangeFault}
-use Rattle.bus_profile.specs.declared.ranges.RangeFault.TheVariants.{Syntax, Bounds}
-use Rattle.bus_profile.specs.RangesOf.{bits_where, is_within, is_named, items_of, mask_of, mask_within, ranges_of}
-use Rattle.bus_profile.specs.Ranges.{Denotes, IsWithin, AreWithin, Names, IsMask, IsOutside, IsReading}
+use Rattle.bus_profile.specs.declared.ranges.RangeFault.TheVariants.{Bounds}
+use Rattle.bus_profile.specs.RangesOf.{is_within, is_named, items_of, mask_of, mask_within, ranges_of}
+use Rattle.bus_profile.specs.Ranges.{Denotes, IsWithin, AreWithin, Names, IsReading}
 use Rattle.bus_profile.proofs.RangesGrammar.{items_found, items_are}
 use Rattle.bus_profile.specs.OwnCodes.{has_bit}
 use Rattle.bus_profile.proofs.Bits.{bits_where-bit, bits_where-cut}

@@ -3,9 +3,12 @@
 #![tactic(auto)]
 
 mod entries;
+mod fault;
 mod profile;
 mod ranges;
+mod section;
 
 pub use entries::{InitialWords, Initials, ModeRule, ModeRules, Rule, Rules};
+pub use fault::{Key, Part, ProfileFault};
 pub use profile::Profile;
 pub use ranges::{RangeFault, parse_ranges};

@@ -1,4 +1,4 @@
-use Rattle.std.proofs.Common.{◌≡◌, ◌≢◌, ℕ, ◌<◌, get_or}
+use Rattle.std.proofs.Common.{◌≢◌, ℕ, ◌<◌, get_or}
 use Rattle.bus_profile.proofs.ranges.first_part.Given as goal
 
 abbrev pub invariant-loop-index : goal.invariant-loop-index

@@ -1,5 +1,4 @@
-use Rattle.std.proofs.Common.{true, ◌≡◌, ℕ, sym, ◌∙◌, option_map, arith, rules}
-use Rattle.bus_profile.specs.RangesOf.{item_of}
+use Rattle.std.proofs.Common.{true, sym, ◌∙◌, option_map, arith}
 use Rattle.bus_profile.proofs.RangesRest.{finish-start, finish-none, finish-within, finish-outside, finish-end}
 use Rattle.bus_profile.proofs.ranges.mask_of_items.Goals as goal
 

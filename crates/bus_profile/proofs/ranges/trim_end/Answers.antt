@@ -1,4 +1,4 @@
-use Rattle.std.proofs.Common.{◌≡◌, ◌+◌, ◌-◌, length, arith, ◌∙◌, sym}
+use Rattle.std.proofs.Common.{◌-◌, length, arith, ◌∙◌, sym}
 use Rattle.bus_profile.proofs.Parts.{trim_end-space, trim_end-same}
 use Rattle.bus_profile.proofs.ranges.trim_end.Goals as goal
 

@@ -1,5 +1,4 @@
-use Rattle.std.proofs.Common.{◌≡◌, ◌≤◌, ◌<◌, ◌∙◌, ap, ◌||◌, ◌==◌, nat_lt, nat_le, ◌+◌, arith}
-use Rattle.std.proofs.lemmas.Bool.Decides.{nat_tests}
+use Rattle.std.proofs.Common.{◌∙◌, ap, ◌||◌, ◌==◌, arith}
 use Rattle.bus_profile.proofs.Bits.{has_bit-set, with_next, with_last}
 use Rattle.bus_profile.proofs.ranges.with_bits.Goals as goal
 
