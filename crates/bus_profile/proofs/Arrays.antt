@@ -7,10 +7,10 @@ use Rattle.toml.specs.declared.value.Value.{Value}
 use Rattle.bus_profile.specs.declared.fault.Key.{Key}
 use Rattle.bus_profile.specs.declared.fault.Part.{Part}
 use Rattle.bus_profile.specs.declared.fault.ProfileFault.TheVariants.{TooMany}
-use Rattle.bus_profile.specs.Checks.{in_order}
+use Rattle.bus_profile.specs.Checks.{check, in_order}
 use Rattle.bus_profile.specs.Keys.{row, tables, optional}
 use Rattle.bus_profile.specs.Kinds.{count_items}
-use Rattle.bus_profile.specs.Faults.{head_checks, is_too_long}
+use Rattle.bus_profile.specs.Faults.{key_checks, is_too_long}
 use Rattle.bus_profile.specs.FirstFault.{first_fault}
 
 pub count_items-view : (vs : List Value) → count_items (items_view vs) ≡ length vs
@@ -29,6 +29,7 @@ array_here o (table s) ds e f = absurd (cc)
 
 -- an array of entries has no fault as a whole but its length
 pub entries_head : (part : Part) (k : Key) (vs : List Value)
-    → first_fault (head_checks part (row k (tables 256) (optional (array no_items))) is_too_long (Some (array (items_view vs)))) ≡ cond (nat_lt 256 (length vs)) (Some (TooMany part k)) None
+    → first_fault (in_order (key_checks part (row k (tables 256) (optional (array no_items))) (Some (array (items_view vs))) ∷ check (TooMany part k) (is_too_long (items_view vs)) ∷ []))
+    ≡ cond (nat_lt 256 (length vs)) (Some (TooMany part k)) None
 unfolding in_order
 entries_head part k vs = rw (count_items-view vs)

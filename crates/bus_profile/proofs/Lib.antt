@@ -7,3 +7,4 @@ pub mod Parts
 pub mod RangesGrammar
 pub mod RangesMeaning
 pub mod RangesRest
+pub mod Sections

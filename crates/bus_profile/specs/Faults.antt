@@ -45,12 +45,15 @@ each_item checks n no_items = []
 each_item checks n (item d ds) = checks n d ∷ each_item checks (suc n) ds
 
 -- the checks of an array as a whole
-abbrev pub head_checks : Part → Row → (Items → Bool) → Option Data → List Check
-head_checks part row is_too_long d = in_order (key_checks part row d ∷ check (TooMany part row.key) (is_too_long (items d)) ∷ [])
+abbrev pub head_checks : Part → Row → (Items → Bool) → Members → List Check
+head_checks part row is_too_long ms = in_order (
+  row_checks part ms row
+  ∷ check (TooMany part row.key) (is_too_long (items (value row ms)))
+  ∷ [])
 
 -- the checks of an array: of the whole, and then of each item, from number 1
-unfoldable pub array_checks : Part → Row → (Items → Bool) → (ℕ → Data → List Check) → Option Data → List Check
-array_checks part row is_too_long checks d = in_order (head_checks part row is_too_long d ∷ each_item checks 1 (items d))
+unfoldable pub array_checks : Part → Row → (Items → Bool) → (ℕ → Data → List Check) → Members → List Check
+array_checks part row is_too_long checks ms = in_order (head_checks part row is_too_long ms ∷ each_item checks 1 (items (value row ms)))
 
 -- the checks of an entry of an array: that it is a table, that it has no unknown key, and those of
 -- its keys
@@ -82,7 +85,7 @@ goes_beyond (Some (integer z)) count = is_some (in_range 1 32 z) && nat_lt 32 (n
 goes_beyond _ count = false
 
 abbrev pub words_checks : Part → Members → List Check
-words_checks part ms = array_checks part words_row (λ ds. goes_beyond (value at_row ms) (count_items ds)) (λ _. word_checks part) (found key.Words ms)
+words_checks part ms = array_checks part words_row (λ ds. goes_beyond (value at_row ms) (count_items ds)) (λ _. word_checks part) ms
 
 abbrev pub initial_checks : ℕ → Data → List Check
 initial_checks n = entry_checks (part.Initial n) initial_row initial_rows (λ ms.
@@ -99,7 +102,7 @@ is_too_long ds = nat_lt 256 (count_items ds)
 
 -- the checks of an array of entries
 abbrev pub entries_checks : Row → (ℕ → Data → List Check) → Members → List Check
-entries_checks row checks ms = array_checks part.Root row is_too_long checks (found row.key ms)
+entries_checks row checks ms = array_checks part.Root row is_too_long checks ms
 
 -- the checks of all that stands in the tree
 unfoldable pub key_faults : Members → List Check

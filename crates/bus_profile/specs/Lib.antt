@@ -1,3 +1,4 @@
+pub mod Choice
 pub mod Last
 pub mod OwnCodes
 pub mod Ranges

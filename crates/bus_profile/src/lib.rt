@@ -2,8 +2,10 @@
 //! faults for which a text is refused.
 #![tactic(auto)]
 
+mod choice;
 mod entries;
 mod fault;
+mod mode;
 mod profile;
 mod ranges;
 mod section;

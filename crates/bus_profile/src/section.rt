@@ -138,7 +138,7 @@ impl Section<'_> {
     /// The items of an array of tables, at most 256: none where there is no such key.
     #[tactic(auto, unfolding(crate::specs::Checks::in_order))]
     pub fn entries(&self, key: Key) -> Result<&[Value], ProfileFault>
-        ensures reads { ReadsAs (λ values. items_view values.now) (head_checks self.now.part (row key (tables 256) (optional (array no_items))) is_too_long (found key (table_view self.now.table.now))) (items (found key (table_view self.now.table.now))) result }
+        ensures reads { ReadsAs (λ values. items_view values.now) (head_checks self.now.part (row key (tables 256) (optional (array no_items))) is_too_long (table_view self.now.table.now)) (items (value (row key (tables 256) (optional (array no_items))) (table_view self.now.table.now))) result }
         ensures few { IfOk result (λ values. length values.now ≤ 256) }
     {
         let Some(value) = self.value(key) else {
