@@ -79,13 +79,13 @@ word_checks part d = in_order (
   ∷ check (OutOfRange part key.Words) (is_out_of_range (whole 0 65535) d)
   ∷ [])
 
--- So many words from number `at` on go beyond number 32. Of an `at` with a fault this isn't asked.
-abbrev pub goes_beyond : Option Data → ℕ → Bool
-goes_beyond (Some (integer z)) count = is_some (in_range 1 32 z) && nat_lt 32 (number (Some (integer z)) - 1 + count)
-goes_beyond _ count = false
+-- The words from number `at` on go beyond number 32. Of an `at` with a fault this isn't asked.
+abbrev pub goes_beyond : Option Data → Items → Bool
+goes_beyond (Some (integer z)) ds = is_some (in_range 1 32 z) && nat_lt 32 (number (Some (integer z)) - 1 + count_items ds)
+goes_beyond _ ds = false
 
 abbrev pub words_checks : Part → Members → List Check
-words_checks part ms = array_checks part words_row (λ ds. goes_beyond (value at_row ms) (count_items ds)) (λ _. word_checks part) ms
+words_checks part ms = array_checks part words_row (goes_beyond (value at_row ms)) (λ _. word_checks part) ms
 
 abbrev pub initial_checks : ℕ → Data → List Check
 initial_checks n = entry_checks (part.Initial n) initial_row initial_rows (λ ms.

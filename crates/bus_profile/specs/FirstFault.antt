@@ -15,17 +15,22 @@ abbrev pub fault_of_parts : List (List Check) → Option ProfileFault
 fault_of_parts [] = None
 fault_of_parts (part ∷ parts) = option_or (first_fault part) (fault_of_parts parts)
 
--- no check fails, and the value is this one; or the first fault
+-- No check fails, and the value is this one; or the first fault.
 abbrev pub Reads : {A : Type 0} → List Check → A → Result A ProfileFault → Type 0
 Reads checks value (Ok a) = (first_fault checks ≡ None) × (a ≡ value)
 Reads checks value (Err fault) = first_fault checks ≡ Some fault
 
--- the same of what the value stands for
+-- the same of what the answer means
 abbrev pub ReadsAs : {A B : Type 0} → (A → B) → List Check → B → Result A ProfileFault → Type 0
 ReadsAs meaning checks value (Ok a) = (first_fault checks ≡ None) × (meaning a ≡ value)
 ReadsAs meaning checks value (Err fault) = first_fault checks ≡ Some fault
 
--- the same where memory may be wanted
-abbrev pub ReadsInMemory : {A B : Type 0} → (A → B) → Option ProfileFault → B → Result A ProfileFault → Type 0
-ReadsInMemory meaning first value (Ok a) = (first ≡ None) × (meaning a ≡ value)
-ReadsInMemory meaning first value (Err fault) = fault ≢ Memory → first ≡ Some fault
+-- the same of several parts
+abbrev pub ReadsParts : {A B : Type 0} → (A → B) → List (List Check) → B → Result A ProfileFault → Type 0
+ReadsParts meaning parts value (Ok a) = (fault_of_parts parts ≡ None) × (meaning a ≡ value)
+ReadsParts meaning parts value (Err fault) = fault_of_parts parts ≡ Some fault
+
+-- the same where a growth of memory may be refused
+abbrev pub ReadsInMemory : {A B : Type 0} → (A → B) → List (List Check) → B → Result A ProfileFault → Type 0
+ReadsInMemory meaning parts value (Ok a) = (fault_of_parts parts ≡ None) × (meaning a ≡ value)
+ReadsInMemory meaning parts value (Err fault) = fault ≢ Memory → fault_of_parts parts ≡ Some fault

@@ -10,3 +10,4 @@ pub mod Faults
 pub mod FirstFault
 pub mod Plain
 pub mod Read
+pub mod Words

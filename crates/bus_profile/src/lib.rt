@@ -5,9 +5,11 @@
 mod choice;
 mod entries;
 mod fault;
+mod initial;
 mod mode;
 mod profile;
 mod ranges;
+mod rule;
 mod section;
 
 pub use entries::{InitialWords, Initials, ModeRule, ModeRules, Rule, Rules};
