@@ -3,6 +3,7 @@ pub mod Bits
 pub mod Defaults
 pub mod Items
 pub mod Least
+pub mod OwnCodes
 pub mod Parts
 pub mod RangesGrammar
 pub mod RangesMeaning

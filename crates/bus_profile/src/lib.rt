@@ -7,6 +7,7 @@ mod entries;
 mod fault;
 mod initial;
 mod mode;
+mod own_codes;
 mod profile;
 mod ranges;
 mod rule;
