@@ -1,2 +1,13 @@
+pub mod Choice
 pub mod Last
 pub mod OwnCodes
+pub mod Ranges
+pub mod RangesOf
+pub mod Keys
+pub mod Kinds
+pub mod Checks
+pub mod Faults
+pub mod FirstFault
+pub mod Plain
+pub mod Read
+pub mod Words

@@ -1,6 +1,7 @@
 -- Which own mode codes a profile makes legal.
-use Rattle.std.specs.Prelude.{ℕ, Bool, ◌&&◌, ◌==◌, List, Option, Some, None, is_some}
+use Rattle.std.specs.Prelude.{ℕ, Bool, ◌&&◌, ◌==◌, not, List, [], ◌∷◌, Option, Some, None, is_some}
 use Rattle.std.specs.Int.{bit_at}
+use Rattle.std.specs.List.{find}
 use Rattle.bus_word.specs.Mode.{mode_row, is_required_code}
 use Rattle.bus_profile.specs.declared.entries.ModeRule.{ModeRule}
 use Rattle.bus_profile.specs.Last.{last_of}
@@ -26,3 +27,10 @@ is_own_code_legal modes code = is_some (mode_row code) && mode_says (is_required
 -- the own codes 2, 4, 5 and 8 are legal
 abbrev pub has_required_codes : List ModeRule → Bool
 has_required_codes modes = is_own_code_legal modes 2 && (is_own_code_legal modes 4 && (is_own_code_legal modes 5 && is_own_code_legal modes 8))
+
+-- the own codes that must be legal, and the least of them that isn't
+abbrev pub required_codes : List ℕ
+required_codes = 2 ∷ 4 ∷ 5 ∷ 8 ∷ []
+
+abbrev pub missing_code : List ModeRule → Option ℕ
+missing_code modes = find (λ code. not (is_own_code_legal modes code)) required_codes

@@ -2,8 +2,18 @@
 //! faults for which a text is refused.
 #![tactic(auto)]
 
+mod choice;
 mod entries;
+mod fault;
+mod initial;
+mod mode;
+mod own_codes;
 mod profile;
+mod ranges;
+mod rule;
+mod section;
 
 pub use entries::{InitialWords, Initials, ModeRule, ModeRules, Rule, Rules};
+pub use fault::{Key, Part, ProfileFault};
 pub use profile::Profile;
+pub use ranges::{RangeFault, parse_ranges};

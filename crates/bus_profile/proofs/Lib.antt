@@ -1,0 +1,11 @@
+pub mod Arrays
+pub mod Bits
+pub mod Defaults
+pub mod Items
+pub mod Least
+pub mod OwnCodes
+pub mod Parts
+pub mod RangesGrammar
+pub mod RangesMeaning
+pub mod RangesRest
+pub mod Sections
