@@ -1,5 +1,7 @@
 pub mod Device
 pub mod Line
+pub mod Profile
+pub mod Load
 pub mod History
 pub mod Stands
 pub mod Text
@@ -7,3 +9,5 @@ pub mod Reading
 pub mod Transcript
 pub mod Playing
 pub mod Played
+pub mod Engine
+pub mod Report

@@ -3,19 +3,24 @@
 
 mod chunk;
 mod device;
+mod engine;
 mod event;
 mod fault;
 mod feed;
 mod line;
 mod memory;
 mod play;
+mod profile;
+mod report;
 mod script;
 mod terminal;
 mod transcript;
 mod wrapped;
 
 pub use device::{IoFailed, Sink, Source};
+pub use engine::run;
 pub use event::Event;
-pub use fault::RunFault;
+pub use fault::{CanonFault, EngineFault, LoadFault, RunFault};
 pub use memory::{MemorySink, MemorySource};
+pub use report::describe;
 pub use wrapped::{FromRead, FromWrite};

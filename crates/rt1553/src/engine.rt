@@ -1,0 +1,69 @@
+//! A profile is run over a script.
+ghost use Rattle.std.specs.Prelude.{◌≡◌, ◌≤◌, true, false, ℕ, IfOk, IfErr, IfSome, IsErrOf};
+ghost use Rattle.rt1553.specs.Profile.{HasAddress};
+ghost use Rattle.rt1553.specs.Load.{IsNotLoaded};
+ghost use Rattle.rt1553.specs.Engine.{Completes, StopsBy, OnLoad, OnScript};
+
+use std::alloc::Global;
+
+use crate::profile::read_address;
+use crate::script::run_script;
+use crate::terminal::Terminal;
+use crate::{EngineFault, LoadFault, RunFault, Sink, Source};
+
+/// Runs the terminal of this address over a script from power-up.
+fn run_address<R: Source, W: Sink>(
+    address: u8,
+    reader: &mut R,
+    writer: &mut W,
+) -> Result<u64, RunFault>
+    requires own { address ≤ 30 }
+    requires reader { R.has_failed reader.old ≡ false }
+    requires writer { W.has_failed writer.old ≡ false }
+    ensures ok { IfOk result (λ n. IfSome (R.left reader.old) (λ script. Completes address script (W.written writer.old) (W.written writer.new) n)) }
+    ensures stopped { IfErr result (λ f. IfSome (R.left reader.old) (λ script. StopsBy address script (R.left reader.old) (R.left reader.new) (W.written writer.old) (W.written writer.new) f)) }
+    ensures read_failed { IsErrOf result RunFault.Read → R.has_failed reader.new ≡ true }
+    ensures write_failed { IsErrOf result RunFault.Write → W.has_failed writer.new ≡ true }
+{
+    let mut terminal = Terminal::power_up(address);
+    match run_script(&mut terminal, address, reader, writer) {
+        Ok(events) => Ok(events),
+        Err(fault) => Err(fault),
+    }
+}
+
+/// Runs a profile over a script and writes the transcript: for each event what the terminal sends. Gives
+/// the number of events. What the sink holds back is handed on before each read that follows an event, and
+/// on every way out.
+///
+/// Refuses the profile before anything is read or written. A refused script leaves the transcript of the
+/// lines before the refused one, and a failed read that of the whole lines that were read.
+pub fn run<R: Source, W: Sink>(
+    alloc: Global,
+    profile: &[u8],
+    reader: &mut R,
+    writer: &mut W,
+) -> Result<u64, EngineFault>
+    requires reader { R.has_failed reader.old ≡ false }
+    requires writer { W.has_failed writer.old ≡ false }
+
+    ensures ok { IfOk result (λ n. (address : ℕ) × HasAddress profile.now address
+        × IfSome (R.left reader.old) (λ script. Completes address script (W.written writer.old) (W.written writer.new) n)) }
+
+    ensures not_loaded { IfErr result (λ fault. OnLoad fault (λ f. IsNotLoaded profile.now f × (reader.new ≡ reader.old) × (writer.new ≡ writer.old))) }
+
+    ensures stopped { IfErr result (λ fault. OnScript fault (λ f. (address : ℕ) × HasAddress profile.now address
+        × IfSome (R.left reader.old) (λ script. StopsBy address script (R.left reader.old) (R.left reader.new) (W.written writer.old) (W.written writer.new) f))) }
+
+    ensures read_failed { IsErrOf result (EngineFault.Script RunFault.Read) → R.has_failed reader.new ≡ true }
+    ensures write_failed { IsErrOf result (EngineFault.Script RunFault.Write) → W.has_failed writer.new ≡ true }
+{
+    let address = match read_address(alloc, profile) {
+        Ok(address) => address,
+        Err(fault) => return Err(EngineFault::Load(LoadFault::from(fault))),
+    };
+    match run_address(address, reader, writer) {
+        Ok(events) => Ok(events),
+        Err(fault) => Err(EngineFault::Script(fault)),
+    }
+}

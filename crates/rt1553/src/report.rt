@@ -1,0 +1,31 @@
+//! Faults, as a program tells them.
+ghost use Rattle.std.specs.Prelude.{◌≡◌};
+ghost use Rattle.rt1553.specs.Report.{status_of};
+
+use arrayvec::ArrayString;
+use std::fmt::Write;
+
+use crate::{EngineFault, LoadFault, RunFault};
+
+/// The status that a program ends with: 2 for a profile or a script that is refused, 4 where a read or a
+/// write failed or memory was wanting.
+fn status_of(fault: &EngineFault) -> u8
+    ensures { result ≡ status_of fault.now }
+{
+    match fault {
+        EngineFault::Load(LoadFault::Memory) => 4,
+        EngineFault::Load(_) => 2,
+        EngineFault::Script(RunFault::Read | RunFault::Write) => 4,
+        EngineFault::Script(_) => 2,
+    }
+}
+
+/// The status that a program ends with and the line that it prints, with its line feed.
+pub fn describe(fault: &EngineFault) -> (u8, ArrayString<128>)
+    ensures { result.0 ≡ status_of fault.now }
+{
+    let mut line = ArrayString::new();
+    // the longest text is far below 128 bytes
+    let _ = writeln!(line, "{fault}");
+    (status_of(fault), line)
+}
