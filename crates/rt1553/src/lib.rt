@@ -14,6 +14,8 @@ mod profile;
 mod report;
 mod script;
 mod terminal;
+#[cfg(test)]
+mod tests;
 mod transcript;
 mod wrapped;
 
