@@ -5,3 +5,6 @@ pub mod FeedLaws
 pub mod RunLaws
 pub mod ProfileLaws
 pub mod EngineLaws
+pub mod CanonLaws
+pub mod LoadLaws
+pub mod SameLaws

@@ -1,6 +1,9 @@
 pub mod Device
 pub mod Line
 pub mod Profile
+pub mod Normal
+pub mod Canon
+pub mod CanonAnswer
 pub mod Load
 pub mod History
 pub mod Stands
@@ -9,5 +12,8 @@ pub mod Reading
 pub mod Transcript
 pub mod Playing
 pub mod Played
+pub mod Same
+pub mod Compare
+pub mod Verdict
 pub mod Engine
 pub mod Report

@@ -1,15 +1,13 @@
 //! A profile is run over a script.
 ghost use Rattle.std.specs.Prelude.{◌≡◌, ◌≤◌, true, false, ℕ, IfOk, IfErr, IfSome, IsErrOf};
-ghost use Rattle.rt1553.specs.Profile.{HasAddress};
-ghost use Rattle.rt1553.specs.Load.{IsNotLoaded};
+ghost use Rattle.rt1553.specs.Load.{Of, IsNotLoaded};
 ghost use Rattle.rt1553.specs.Engine.{Completes, StopsBy, OnLoad, OnScript};
 
 use std::alloc::Global;
 
-use crate::profile::read_address;
 use crate::script::run_script;
 use crate::terminal::Terminal;
-use crate::{EngineFault, LoadFault, RunFault, Sink, Source};
+use crate::{EngineFault, RunFault, Sink, Source, load};
 
 /// Runs the terminal of this address over a script from power-up.
 fn run_address<R: Source, W: Sink>(
@@ -47,22 +45,22 @@ pub fn run<R: Source, W: Sink>(
     requires reader { R.has_failed reader.old ≡ false }
     requires writer { W.has_failed writer.old ≡ false }
 
-    ensures ok { IfOk result (λ n. (address : ℕ) × HasAddress profile.now address
+    ensures ok { IfOk result (λ n. (address : ℕ) × Of profile.now address
         × IfSome (R.left reader.old) (λ script. Completes address script (W.written writer.old) (W.written writer.new) n)) }
 
     ensures not_loaded { IfErr result (λ fault. OnLoad fault (λ f. IsNotLoaded profile.now f × (reader.new ≡ reader.old) × (writer.new ≡ writer.old))) }
 
-    ensures stopped { IfErr result (λ fault. OnScript fault (λ f. (address : ℕ) × HasAddress profile.now address
+    ensures stopped { IfErr result (λ fault. OnScript fault (λ f. (address : ℕ) × Of profile.now address
         × IfSome (R.left reader.old) (λ script. StopsBy address script (R.left reader.old) (R.left reader.new) (W.written writer.old) (W.written writer.new) f))) }
 
     ensures read_failed { IsErrOf result (EngineFault.Script RunFault.Read) → R.has_failed reader.new ≡ true }
     ensures write_failed { IsErrOf result (EngineFault.Script RunFault.Write) → W.has_failed writer.new ≡ true }
 {
-    let address = match read_address(alloc, profile) {
-        Ok(address) => address,
-        Err(fault) => return Err(EngineFault::Load(LoadFault::from(fault))),
+    let normal = match load(alloc, profile) {
+        Ok(normal) => normal,
+        Err(fault) => return Err(EngineFault::Load(fault)),
     };
-    match run_address(address, reader, writer) {
+    match run_address(normal.address(), reader, writer) {
         Ok(events) => Ok(events),
         Err(fault) => Err(EngineFault::Script(fault)),
     }

@@ -11,3 +11,10 @@ pub enum Event {
     /// A gap: what came before it and what comes after it are not contiguous.
     Gap(Bus),
 }
+
+/// A gap on bus A, with which the room of a script of fixed length is filled.
+impl Default for Event {
+    fn default() -> Event {
+        Event::Gap(Bus::A)
+    }
+}

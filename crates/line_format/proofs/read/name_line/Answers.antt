@@ -1,0 +1,8 @@
+use Rattle.std.proofs.Common.{◌∙◌, ap, sym, arith, nat_le, true, codes, refl}
+use Rattle.std.proofs.lemmas.Bool.Decides.{nat_tests}
+use Rattle.line_format.specs.Views.{spot}
+use Rattle.line_format.proofs.Steps.{name_here}
+use Rattle.line_format.proofs.read.name_line.Goals as goal
+
+pub returns : goal.returns
+returns c = name_here c.args.name.now (spot c.args.lines) _ c.in-Some.rest.now c.in-Some.ensures.value c.behind.ensures

@@ -1,0 +1,38 @@
+-- Common shapes of lines.
+use Rattle.std.specs.Prelude.{ℕ, Bool, true, ◌==◌, List, [], ◌∷◌}
+use Rattle.line_format.specs.Format.{Field, Shape, Format, done, line}
+
+abbrev pub number_field : ℕ → ℕ → Field
+number_field base width = record { base = base; width = width }
+
+-- two decimal digits
+abbrev pub decimal : Field
+decimal = number_field 10 2
+
+-- four hexadecimal digits
+abbrev pub word : Field
+word = number_field 16 4
+
+-- eight hexadecimal digits
+abbrev pub mask : Field
+mask = number_field 16 8
+
+abbrev pub first : List ℕ → ℕ
+first [] = 0
+first (x ∷ xs) = x
+
+abbrev pub others : List ℕ → List ℕ
+others [] = []
+others (x ∷ xs) = xs
+
+-- a line that is just its name
+unfoldable pub name_line : List ℕ → Format Bool
+name_line name = line (record { name = name; fields = []; allowed = λ _. true }) (λ _. done true)
+
+-- a line with one number, which it means
+unfoldable pub number_line : List ℕ → Field → (ℕ → Bool) → Format ℕ
+number_line name f allowed = line (record { name = name; fields = f ∷ []; allowed = λ xs. allowed (first xs) }) (λ xs. done (first xs))
+
+-- a line with a 0 or a 1, which means a truth value
+unfoldable pub bit_line : List ℕ → Format Bool
+bit_line name = line (record { name = name; fields = number_field 2 1 ∷ []; allowed = λ _. true }) (λ xs. done (first xs == 1))

@@ -1,0 +1,11 @@
+//! Texts of lines, where what a line holds decides which lines follow: such a format is written once, as
+//! data, and reading, writing and the first wrong line are proved for all formats.
+#![tactic(auto)]
+
+mod lines;
+mod read;
+mod write;
+
+pub use lines::{Lines, WrongLine};
+pub use read::{field, name_line, number_line_of, number_of, numbered_line_of};
+pub use write::{put_digits, put_name_line, put_number_line, put_numbered_line};

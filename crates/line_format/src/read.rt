@@ -1,0 +1,131 @@
+//! Readers of what stands at the front of a text.
+ghost use Rattle.std.specs.Prelude.{◌≡◌, ◌*◌, ◌+◌, ◌<◌, ◌≤◌, ◌^◌, length, IfSome, option_map, [], ◌∷◌, true};
+ghost use Rattle.line_format.specs.Reading.{after, digit_at, digit_value, number_at, field_at, content_at, read};
+ghost use Rattle.line_format.specs.Shapes.{name_line, decimal, mask, number_field};
+ghost use Rattle.line_format.specs.Views.{Gives, spot};
+
+use crate::lines::{Lines, WrongLine};
+
+/// What comes after this text.
+fn after<'a>(bytes: &'a [u8], text: &[u8]) -> Option<&'a [u8]>
+    ensures value { option_map (λ r. r.now) result ≡ after text.now bytes.now }
+    ensures shorter { IfSome result (λ r. length r.now + length text.now ≤ length bytes.now) }
+{
+    bytes.strip_prefix(text)
+}
+
+fn digit_value(base: u32, byte: u8) -> Option<u32>
+    ensures value { result ≡ digit_value base byte }
+    ensures digit { IfSome result (λ d. d < base) }
+{
+    let digit = if byte < b'a' {
+        if !byte.is_ascii_digit() {
+            return None;
+        }
+        byte - b'0'
+    } else {
+        byte - 87
+    };
+    if (digit as u32) < base {
+        Some(digit as u32)
+    } else {
+        None
+    }
+}
+
+/// The digit at the front, and what comes after it.
+fn digit(bytes: &[u8], base: u32) -> Option<(u32, &[u8])>
+    ensures value { option_map (λ r. (r.0, r.1.now)) result ≡ digit_at base bytes.now }
+    ensures digit { IfSome result (λ r. r.0 < base) }
+    ensures shorter { IfSome result (λ r. length r.1.now ≤ length bytes.now) }
+{
+    let [byte, others @ ..] = bytes else {
+        return None;
+    };
+    let value = digit_value(base, *byte)?;
+    Some((value, others))
+}
+
+/// The number of `width` digits at the front, and what comes after it. Letters are small.
+pub fn number_of(bytes: &[u8], base: u32, width: usize) -> Option<(u32, &[u8])>
+    requires small { base ^ width ≤ 2 ^ 32 }
+    requires some { 1 < base }
+    ensures value { option_map (λ r. (r.0, r.1.now)) result ≡ number_at base width 0 bytes.now }
+    ensures shorter { IfSome result (λ r. length r.1.now ≤ length bytes.now) }
+    ensures small { IfSome result (λ r. r.0 < base ^ width) }
+{
+    let mut value = 0;
+    let mut rest = bytes;
+    for _step in 0..width {
+        let Some((next, others)) = digit(rest, base) else {
+            return None;
+        };
+        value = value * base + next;
+        rest = others;
+    }
+    Some((value, rest))
+}
+
+/// The same behind a space.
+pub fn field(bytes: &[u8], base: u32, width: usize) -> Option<(u32, &[u8])>
+    requires small { base ^ width ≤ 2 ^ 32 }
+    requires some { 1 < base }
+    ensures value { option_map (λ r. (r.0, r.1.now)) result ≡ field_at base width bytes.now }
+    ensures shorter { IfSome result (λ r. length r.1.now < length bytes.now) }
+    ensures small { IfSome result (λ r. r.0 < base ^ width) }
+{
+    number_of(after(bytes, b" ")?, base, width)
+}
+
+#[tactic(auto, unfolding(crate::specs::Reading::content_at))]
+fn name_line_of<'a>(bytes: &'a [u8], name: &[u8]) -> Option<&'a [u8]>
+    ensures value { option_map (λ r. ([], r.now)) result ≡ content_at name.now [] bytes.now }
+    ensures shorter { IfSome result (λ r. length r.now < length bytes.now) }
+{
+    after(after(bytes, name)?, b"\n")
+}
+
+/// What comes after a line with this name and one number, which it gives.
+#[tactic(auto, unfolding(crate::specs::Reading::content_at))]
+pub fn number_line_of<'a>(
+    bytes: &'a [u8],
+    name: &[u8],
+    base: u32,
+    width: usize,
+) -> Option<(u32, &'a [u8])>
+    requires small { base ^ width ≤ 2 ^ 32 }
+    requires some { 1 < base }
+    ensures value { option_map (λ r. (r.0 ∷ [], r.1.now)) result ≡ content_at name.now (number_field base width ∷ []) bytes.now }
+    ensures shorter { IfSome result (λ r. length r.1.now < length bytes.now) }
+    ensures small { IfSome result (λ r. r.0 < base ^ width) }
+{
+    let rest = after(bytes, name)?;
+    let (number, rest) = field(rest, base, width)?;
+    let rest = after(rest, b"\n")?;
+    Some((number, rest))
+}
+
+/// What comes after a line with this name, a number of two decimal digits and a mask of eight
+/// hexadecimal ones, which it gives.
+#[tactic(auto, unfolding(crate::specs::Reading::content_at))]
+pub fn numbered_line_of<'a>(bytes: &'a [u8], name: &[u8]) -> Option<(u32, u32, &'a [u8])>
+    ensures value { option_map (λ r. (r.0 ∷ r.1 ∷ [], r.2.now)) result ≡ content_at name.now (decimal ∷ mask ∷ []) bytes.now }
+    ensures shorter { IfSome result (λ r. length r.2.now < length bytes.now) }
+{
+    let rest = after(bytes, name)?;
+    let (number, rest) = field(rest, 10, 2)?;
+    let (mask, rest) = field(rest, 16, 8)?;
+    let rest = after(rest, b"\n")?;
+    Some((number, mask, rest))
+}
+
+/// Reads a line that is this name.
+#[tactic(auto, using(crate::proofs::Steps::name_here, crate::proofs::Steps::name_none))]
+pub fn name_line<'a>(lines: Lines<'a>, name: &[u8]) -> Result<Lines<'a>, WrongLine>
+    ensures { Gives (λ _. true) (λ r. r) result (read (name_line name.now) (spot lines.entry)) }
+{
+    let Some(rest) = name_line_of(lines.rest, name) else {
+        return Err(lines.wrong());
+    };
+    Ok(lines.behind(rest))
+}
