@@ -8,3 +8,4 @@ pub mod EngineLaws
 pub mod CanonLaws
 pub mod LoadLaws
 pub mod SameLaws
+pub mod DigitLaws

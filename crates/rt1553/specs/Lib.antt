@@ -10,6 +10,7 @@ pub mod Stands
 pub mod Text
 pub mod Reading
 pub mod Transcript
+pub mod EventLine
 pub mod Playing
 pub mod Played
 pub mod Same
