@@ -1,15 +1,17 @@
-//! The program `rt1553`: runs a remote terminal over the script that it reads.
+//! The program `rt1553`: what the words of its command line ask for, over files and the standard streams.
 #![tactic(auto)]
 
 mod fault;
+mod files;
 mod work;
 
 use std::process::ExitCode;
 
 fn main(rt: HostRuntime) -> ExitCode {
     match work::work(&rt, rt.stdin(), rt.stdout()) {
-        Ok(()) => ExitCode::SUCCESS,
+        Ok(status) => ExitCode::from(status),
         Err(fault) => {
+            // there is nowhere to tell that this could not be written
             let _ = eprintln!(rt; "{fault}");
             ExitCode::from(fault.status())
         }
