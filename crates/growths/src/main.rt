@@ -1,0 +1,75 @@
+//! Makes each public call of `rt1553` that is given a text once, and prints what it answered, a line a
+//! call. The sweep of refused growths runs it: with one growth of memory refused, just one line may say
+//! `Memory` in place of its answer.
+#![tactic(auto)]
+
+use rt1553::{LoadFault, MemorySink, MemorySource, Verdict, canonical, compare, load, run};
+use std::alloc::Global;
+use std::io;
+
+const FIVE: &[u8] = b"address = 5\n";
+const SIX: &[u8] = b"address = 6\n";
+const SCRIPT: &[u8] = b"A c 2c02\nA gap\n";
+
+fn loads(rt: &impl Print, alloc: Global, text: &[u8]) -> io::Result<()> {
+    match load(alloc, text) {
+        Ok(normal) => {
+            let address = normal.address();
+            println!(rt; "load {address}")
+        }
+        Err(fault) => println!(rt; "load {fault:?}"),
+    }
+}
+
+fn writes(rt: &impl Print, alloc: Global, text: &[u8]) -> io::Result<()> {
+    match canonical(alloc, text) {
+        Ok(bytes) => {
+            let length = bytes.len();
+            println!(rt; "canonical {length}")
+        }
+        Err(fault) => println!(rt; "canonical {fault:?}"),
+    }
+}
+
+fn compares(rt: &impl Print, alloc: Global, first: &[u8], second: &[u8]) -> io::Result<()> {
+    let answer: Result<Verdict, LoadFault> = compare(alloc, first, second);
+    match answer {
+        Ok(Verdict::Same) => println!(rt; "compare same"),
+        Ok(Verdict::Differ(script)) => {
+            let events = script.len();
+            println!(rt; "compare differ {events}")
+        }
+        Err(fault) => println!(rt; "compare {fault:?}"),
+    }
+}
+
+fn runs(rt: &impl Print, alloc: Global, text: &[u8]) -> io::Result<()> {
+    let mut reader = MemorySource::new(SCRIPT, 100, None);
+    let mut writer: MemorySink<64> = MemorySink::new(100, None);
+    let answer = run(alloc, text, &mut reader, &mut writer);
+    let written = writer.as_slice().len();
+    println!(rt; "run {answer:?} {written}")
+}
+
+/// The calls on canonical texts, which take no memory: none of these lines may say `Memory`.
+fn on_canonical_text(rt: &impl Print, alloc: Global, text: &[u8]) -> io::Result<()> {
+    print!(rt; "on canonical text: ")?;
+    loads(rt, alloc, text)?;
+    print!(rt; "on canonical text: ")?;
+    compares(rt, alloc, text, text)?;
+    print!(rt; "on canonical text: ")?;
+    runs(rt, alloc, text)
+}
+
+fn main(rt: HostRuntime) -> io::Result<()> {
+    let alloc = rt.alloc();
+    loads(&rt, alloc, FIVE)?;
+    writes(&rt, alloc, FIVE)?;
+    compares(&rt, alloc, FIVE, SIX)?;
+    compares(&rt, alloc, FIVE, b"address = 0x05")?;
+    runs(&rt, alloc, FIVE)?;
+    match canonical(alloc, FIVE) {
+        Ok(text) => on_canonical_text(&rt, alloc, text.as_slice()),
+        Err(fault) => println!(rt; "canonical {fault:?}"),
+    }
+}
