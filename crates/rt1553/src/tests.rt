@@ -10,6 +10,8 @@ use crate::{
     describe, run,
 };
 
+mod canonical;
+
 const FIVE: &[u8] = b"address = 5\n";
 
 /// What a run gives, and what it writes into a sink of 512 bytes.
