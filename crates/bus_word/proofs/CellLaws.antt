@@ -34,10 +34,10 @@ mode_allowed : (command : ℕ) (o : Option ModeRow) → mode_row (code_of comman
 mode_allowed command None e = tt
 mode_allowed command (Some row) e =
     chosen (same_bool (transmits command) row.transmit) _ _
-        (λ _. chosen (is_broadcast command) _ _
-            (λ _. chosen row.broadcast _ _ (λ by_broadcast. ap allows_broadcast e ∙ by_broadcast) (λ _. tt))
-            (λ _. ap is_some e))
-        (λ _. tt)
+    (λ _. chosen (is_broadcast command) _ _
+    (λ _. chosen row.broadcast _ _ (λ by_broadcast. ap allows_broadcast e ∙ by_broadcast) (λ _. tt))
+    (λ _. ap is_some e))
+    (λ _. tt)
 
 cell_allowed : (command : ℕ) → AllowsOf (cell_of command)
 cell_allowed command = chosen (is_mode command) _ _ (λ _. mode_allowed command (mode_row (code_of command)) refl) (λ no_mode. data_allowed command no_mode)

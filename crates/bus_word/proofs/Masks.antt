@@ -27,8 +27,8 @@ more n sum k is_set mask e zeros h = ap (λ m. bit_or m (mask_if is_set mask)) e
 -- the address and the masks of the bits that are set, set one by one
 pub status-by_or : (address : ℕ) (p : StatusParts) →
     bit_or (bit_or (bit_or (bit_or (bit_or (bit_or (bit_or (address * 2048)
-        (mask_if p.error 0x0400)) (mask_if p.service 0x0100)) (mask_if p.broadcast 0x0010)) (mask_if p.busy 0x0008))
-        (mask_if p.subsystem 0x0004)) (mask_if p.accept 0x0002)) (mask_if p.terminal 0x0001)
+    (mask_if p.error 0x0400)) (mask_if p.service 0x0100)) (mask_if p.broadcast 0x0010)) (mask_if p.busy 0x0008))
+    (mask_if p.subsystem 0x0004)) (mask_if p.accept 0x0002)) (mask_if p.terminal 0x0001)
     ≡ status_word address p
 status-by_or address p =
     let error : mask_if p.error 0x0400 ≡ bit_of p.error * 0x0400 = mask_if-times p.error 0x0400 in
@@ -38,15 +38,15 @@ status-by_or address p =
     let subsystem : mask_if p.subsystem 0x0004 ≡ bit_of p.subsystem * 0x0004 = mask_if-times p.subsystem 0x0004 in
     let accept : mask_if p.accept 0x0002 ≡ bit_of p.accept * 0x0002 = mask_if-times p.accept 0x0002 in
     more _ _ 1 p.terminal 0x0001
-        (more _ _ 2 p.accept 0x0002
-            (more _ _ 3 p.subsystem 0x0004
-                (more _ _ 4 p.busy 0x0008
-                    (more _ _ 5 p.broadcast 0x0010
-                        (more _ _ 9 p.service 0x0100
-                            (more _ _ 11 p.error 0x0400 refl (omega arith) (omega arith))
-                            (omega arith) (omega arith))
-                        (omega arith) (omega arith))
-                    (omega arith) (omega arith))
-                (omega arith) (omega arith))
-            (omega arith) (omega arith))
-        (omega arith) (omega arith)
+    (more _ _ 2 p.accept 0x0002
+    (more _ _ 3 p.subsystem 0x0004
+    (more _ _ 4 p.busy 0x0008
+    (more _ _ 5 p.broadcast 0x0010
+    (more _ _ 9 p.service 0x0100
+    (more _ _ 11 p.error 0x0400 refl (omega arith) (omega arith))
+    (omega arith) (omega arith))
+    (omega arith) (omega arith))
+    (omega arith) (omega arith))
+    (omega arith) (omega arith))
+    (omega arith) (omega arith))
+    (omega arith) (omega arith)

@@ -32,14 +32,22 @@ bits_of_sum status a e s b y u c t he hs hb hy hu hc ht is =
 sum_of_bits : (address : ℕ) (p : StatusParts) → status_word address p ≡ address * 2048 + bit_of p.error * 0x0400 + bit_of p.service * 0x0100 + bit_of p.broadcast * 0x0010
     + bit_of p.busy * 0x0008 + bit_of p.subsystem * 0x0004 + bit_of p.accept * 0x0002 + bit_of p.terminal
 sum_of_bits address p =
-    omega (arith, mask_if-times p.error 0x0400, mask_if-times p.service 0x0100, mask_if-times p.broadcast 0x0010, mask_if-times p.busy 0x0008,
-        mask_if-times p.subsystem 0x0004, mask_if-times p.accept 0x0002, mask_if-times p.terminal 0x0001)
+    omega (
+      arith,
+      mask_if-times p.error 0x0400,
+      mask_if-times p.service 0x0100,
+      mask_if-times p.broadcast 0x0010,
+      mask_if-times p.busy 0x0008,
+      mask_if-times p.subsystem 0x0004,
+      mask_if-times p.accept 0x0002,
+      mask_if-times p.terminal 0x0001,
+    )
 
 pub status_has_bits : StatusHasBits
 status_has_bits address p =
     let h = bits_of_sum (status_word address p) address (bit_of p.error) (bit_of p.service) (bit_of p.broadcast) (bit_of p.busy) (bit_of p.subsystem) (bit_of p.accept) (bit_of p.terminal)
-        (bit_of-below p.error) (bit_of-below p.service) (bit_of-below p.broadcast) (bit_of-below p.busy) (bit_of-below p.subsystem) (bit_of-below p.accept) (bit_of-below p.terminal)
-        (sum_of_bits address p) in
+    (bit_of-below p.error) (bit_of-below p.service) (bit_of-below p.broadcast) (bit_of-below p.busy) (bit_of-below p.subsystem) (bit_of-below p.accept) (bit_of-below p.terminal)
+    (sum_of_bits address p) in
     record {
       address_field = h.0;
       error = h.1;

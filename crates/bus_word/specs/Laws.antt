@@ -45,8 +45,10 @@ mask_where (suc n) test = mask_where n test + (if test n then 2 ^ n else 0)
 -- the own mode codes that may be legal, those that must be, and those that may be by broadcast
 abbrev pub OwnCodes : Type 0
 OwnCodes = mask_where 32 (λ code. is_some (mode_row code)) ≡ 0x000f01ff
+
 abbrev pub RequiredCodes : Type 0
 RequiredCodes = mask_where 32 is_required_code ≡ 0x00000134
+
 abbrev pub BroadcastCodes : Type 0
 BroadcastCodes = mask_where 32 (λ code. allows_broadcast (mode_row code)) ≡ 0x000201fa
 
@@ -59,5 +61,6 @@ pub record HasCommand (cell : Cell) : Type 0 where
 -- the allowed cells are those that some command has
 abbrev pub AllowedHaveCommands : Type 0
 AllowedHaveCommands = (cell : Cell) → is_allowed cell ≡ true → HasCommand cell
+
 abbrev pub CommandsHaveAllowed : Type 0
 CommandsHaveAllowed = (cell : Cell) → HasCommand cell → is_allowed cell ≡ true

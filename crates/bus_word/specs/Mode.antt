@@ -15,21 +15,21 @@ entry code row = record { code = code; row = row }
 -- The mode codes that may be legal. Every other code is always illegal.
 abbrev pub mode_table : List ModeEntry
 mode_table =
-  --            T/R   data  broadcast
-  entry 0 (row true false false)     -- dynamic bus control
-  ∷ entry 1 (row true false true)    -- synchronize
-  ∷ entry 2 (row true false false)   -- transmit status word
-  ∷ entry 3 (row true false true)    -- initiate self test
-  ∷ entry 4 (row true false true)    -- transmitter shutdown
-  ∷ entry 5 (row true false true)    -- override transmitter shutdown
-  ∷ entry 6 (row true false true)    -- inhibit terminal flag bit
-  ∷ entry 7 (row true false true)    -- override inhibit terminal flag bit
-  ∷ entry 8 (row true false true)    -- reset remote terminal
-  ∷ entry 16 (row true true false)   -- transmit vector word
-  ∷ entry 17 (row false true true)   -- synchronize with data word
-  ∷ entry 18 (row true true false)   -- transmit last command
-  ∷ entry 19 (row true true false)   -- transmit BIT word
-  ∷ []
+    --            T/R   data  broadcast
+    entry 0 (row true false false)  -- dynamic bus control
+    ∷ entry 1 (row true false true)  -- synchronize
+    ∷ entry 2 (row true false false)  -- transmit status word
+    ∷ entry 3 (row true false true)  -- initiate self test
+    ∷ entry 4 (row true false true)  -- transmitter shutdown
+    ∷ entry 5 (row true false true)  -- override transmitter shutdown
+    ∷ entry 6 (row true false true)  -- inhibit terminal flag bit
+    ∷ entry 7 (row true false true)  -- override inhibit terminal flag bit
+    ∷ entry 8 (row true false true)  -- reset remote terminal
+    ∷ entry 16 (row true true false)  -- transmit vector word
+    ∷ entry 17 (row false true true)  -- synchronize with data word
+    ∷ entry 18 (row true true false)  -- transmit last command
+    ∷ entry 19 (row true true false)  -- transmit BIT word
+    ∷ []
 
 abbrev pub row_in : List ModeEntry → ℕ → Option ModeRow
 row_in [] code = None

@@ -11,8 +11,11 @@ pub struct Command {
 
 impl Model for Command {
     ghost Value = { ℕ };
+
     ghost view = { λ c. c.word };
+
     ghost invariant = { λ c. c.word < 2 ^ 16 };
+
     ghost inverse = { λ n. record { word = n } };
 }
 

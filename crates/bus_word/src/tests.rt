@@ -108,9 +108,19 @@ fn parity_is_odd(rt: HostRuntime) {
         }
         for kind in [Kind::Com, Kind::Dat] {
             let word = Raw::of(kind, bits);
-            assert_eq!(rt; word, Raw { kind, bits, parity: !is_odd });
+            assert_eq!(rt;
+                word,
+                Raw {
+                    kind,
+                    bits,
+                    parity: !is_odd
+                }
+            );
             assert!(rt; word.is_valid(), "{bits}");
-            let damaged = Raw { parity: is_odd, ..word };
+            let damaged = Raw {
+                parity: is_odd,
+                ..word
+            };
             assert!(rt; !damaged.is_valid(), "{bits}");
         }
     }
@@ -154,7 +164,13 @@ fn words_are_for_the_terminal_by_its_address_or_by_broadcast(rt: HostRuntime) {
     assert!(rt; !own.is_for(6, true));
     assert!(rt; all.is_for(5, true));
     assert!(rt; !all.is_for(5, false));
-    assert!(rt; !Raw { parity: false, ..own }.is_for(5, true));
+    assert!(rt;
+        !Raw {
+            parity: false,
+            ..own
+        }
+        .is_for(5, true)
+    );
     assert!(rt; !Raw::of(Kind::Dat, 0x2c02).is_for(5, true));
     assert!(rt; own.is_command() && !own.is_data());
     assert!(rt; Raw::of(Kind::Dat, 0x2c02).is_data());

@@ -8,7 +8,9 @@ use std::alloc::Global;
 use std::io;
 
 const FIVE: &[u8] = b"address = 5\n";
+
 const SIX: &[u8] = b"address = 6\n";
+
 const SCRIPT: &[u8] = b"A c 2c02\nA gap\n";
 
 fn loads(rt: &impl Print, alloc: Global, text: &[u8]) -> io::Result<()> {

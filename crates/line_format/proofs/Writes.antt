@@ -33,4 +33,3 @@ first_digit base (suc k) n b f l w =
     let twice : 2 * base ^ k ≤ base ^ suc k = rw pow-suc (omega (arith, mul-le-mul_left {m = 2} {n = base} (base ^ k) (omega arith))) in
     let less : suc k - 1 ≡ k = omega arith in
     record { some = rw less some; unit = rw less (omega arith); digit_small = rw less (div_below n (base ^ k) base some (omega (arith, rw pow-suc at l))); rest_small = rw less (mod-lt n some); is = rw less refl }
-

@@ -94,11 +94,11 @@ number_text name f n = name ++ (spell_fields (f ∷ []) (n ∷ []) ++ 10 ∷ [])
 pub whole_spelled : (address : ℕ) (head receive transmit : List ℕ) → address ≤ 30 → Spells (name_line (codes "rt1553 1")) true head
     → Spells (empty_lines (codes "own-receive") 1 30) true receive → Spells (empty_lines (codes "own-transmit") 1 30) true transmit
     → Spells canon address (head ++ (number_text (codes "address") decimal address ++ (number_text (codes "broadcast") (number_field 2 1) 0
-      ++ (receive ++ (transmit ++ number_text (codes "own-mode") mask required_codes)))))
+    ++ (receive ++ (transmit ++ number_text (codes "own-mode") mask required_codes)))))
 unfolding canon
 whole_spelled address head receive transmit own h r t =
     let mode : Spells (number_line (codes "own-mode") mask (λ n. n == required_codes)) required_codes (number_text (codes "own-mode") mask required_codes) =
-      number_spelled (codes "own-mode") mask (λ n. n == required_codes) required_codes (lit< tt) refl in
+    number_spelled (codes "own-mode") mask (λ n. n == required_codes) required_codes (lit< tt) refl in
     spells-then _ _ true address head _ h
     (spells-then _ _ address address _ _ (number_spelled (codes "address") decimal (λ n. nat_le n 30) address (omega arith) (grind (arith, nat_tests)))
     (spells-then _ _ 0 address _ _ (number_spelled (codes "broadcast") (number_field 2 1) (λ n. n == 0) 0 (lit< tt) refl)

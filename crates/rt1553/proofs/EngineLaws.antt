@@ -20,15 +20,15 @@ ran-writes written address t t' w w' text es r s ran = record { says = ran.says;
 pub stopped : {W : Type 0} (written : W → Option (List ℕ)) (address : ℕ) (t t' : Terminal) (w w' : W) (left left' : Option (List ℕ)) (script : List ℕ) (f : RunFault)
     → StandsAt address [] t
     → ByFault f
-      ((es : List Event) × Ran (meaning address) written t t' w w' script es (stops f))
-      ((es : List Event) × (whole : List ℕ) × (part : List ℕ) × Consumes left left' (whole ++ part) × EndsLine whole × NoLineFeed part
-      × Ran (meaning address) written t t' w w' whole es nothing)
-      ((es : List Event) × (e : Event) × (others : Reading) × Broke (meaning address) written t t' w w' script es e others)
+    ((es : List Event) × Ran (meaning address) written t t' w w' script es (stops f))
+    ((es : List Event) × (whole : List ℕ) × (part : List ℕ) × Consumes left left' (whole ++ part) × EndsLine whole × NoLineFeed part
+    × Ran (meaning address) written t t' w w' whole es nothing)
+    ((es : List Event) × (e : Event) × (others : Reading) × Broke (meaning address) written t t' w w' script es e others)
     → StopsBy address script left left' (written w) (written w') f
 stopped written address t t' w w' left left' script f s known =
     ByFault-weaker f
     (λ k. (k.0, ran-writes written address t t' w w' script k.0 (stops f) s k.1))
     (λ k. record { events = k.0; whole = k.1; part = k.2; read = k.3; ends = k.4; unfinished = k.5; writes = ran-writes written address t t' w w' k.1 k.0 nothing s k.6 })
     (λ k. let text = k.3.plays.text address [] s in
-      record { events = k.0; event = k.1; others = k.2; part = text.0; more = text.1; says = k.3.says; splits = text.2; wrote = text.3 })
+    record { events = k.0; event = k.1; others = k.2; part = text.0; more = text.1; says = k.3.says; splits = text.2; wrote = text.3 })
     known

@@ -96,20 +96,20 @@ done_one address v x y (e, none) (e', none') = none ∙ sym none'
 behind_one : (address : ℕ) → HasOneText (behind address)
 behind_one address =
     one_then _ _ (number_one (codes "broadcast") (number_field 2 1) (λ n. n == 0)) (λ _.
-      one_then _ _ (empty_lines_one (codes "own-receive") 1 30) (λ _.
-        one_then _ _ (empty_lines_one (codes "own-transmit") 1 30) (λ _.
-          one_then _ _ (number_one (codes "own-mode") mask (λ n. n == required_codes)) (λ _. done_one address)
-          (λ a b v x y x' y' f r f' r'. fixed_value _ _ required_codes a x f ∙ sym (fixed_value _ _ required_codes b x' f')))
-        (λ a b v x y x' y' f r f' r'. empty_lines_value _ 1 30 a x f ∙ sym (empty_lines_value _ 1 30 b x' f')))
-      (λ a b v x y x' y' f r f' r'. empty_lines_value _ 1 30 a x f ∙ sym (empty_lines_value _ 1 30 b x' f')))
+    one_then _ _ (empty_lines_one (codes "own-receive") 1 30) (λ _.
+    one_then _ _ (empty_lines_one (codes "own-transmit") 1 30) (λ _.
+    one_then _ _ (number_one (codes "own-mode") mask (λ n. n == required_codes)) (λ _. done_one address)
+    (λ a b v x y x' y' f r f' r'. fixed_value _ _ required_codes a x f ∙ sym (fixed_value _ _ required_codes b x' f')))
+    (λ a b v x y x' y' f r f' r'. empty_lines_value _ 1 30 a x f ∙ sym (empty_lines_value _ 1 30 b x' f')))
+    (λ a b v x y x' y' f r f' r'. empty_lines_value _ 1 30 a x f ∙ sym (empty_lines_value _ 1 30 b x' f')))
     (λ a b v x y x' y' f r f' r'. fixed_value _ _ 0 a x f ∙ sym (fixed_value _ _ 0 b x' f'))
 
 canon_one : HasOneText canon
 unfolding canon
 canon_one =
     one_then _ _ (name_one (codes "rt1553 1")) (λ _.
-      one_then _ _ (number_one (codes "address") decimal (λ n. nat_le n 30)) (λ a. behind_one a)
-      (λ a b v x y x' y' f r f' r'. sym (behind_value a v y r) ∙ behind_value b v y' r'))
+    one_then _ _ (number_one (codes "address") decimal (λ n. nat_le n 30)) (λ a. behind_one a)
+    (λ a b v x y x' y' f r f' r'. sym (behind_value a v y r) ∙ behind_value b v y' r'))
     (λ a b v x y x' y' f r f' r'. name_value _ a x f ∙ sym (name_value _ b x' f'))
 
 -- ---- a text is of one terminal

@@ -10,19 +10,23 @@ ghost use Rattle.rt1553.specs.Canon.{empty_line, empty_lines, required_codes, ca
 ghost use Rattle.rt1553.specs.Normal.{address_of};
 ghost use Rattle.rt1553.specs.CanonAnswer.{canon_answer};
 
+use crate::{CanonFault, Normal};
 use line_format::{
     Lines, WrongLine, name_line, number_line_of, numbered_line_of, put_name_line, put_number_line,
     put_numbered_line,
 };
 use std::alloc::{AllocError, Global};
 
-use crate::{CanonFault, Normal};
-
 const HEAD: &[u8] = b"rt1553 1";
+
 const ADDRESS: &[u8] = b"address";
+
 const BROADCAST: &[u8] = b"broadcast";
+
 const OWN_RECEIVE: &[u8] = b"own-receive";
+
 const OWN_TRANSMIT: &[u8] = b"own-transmit";
+
 const OWN_MODE: &[u8] = b"own-mode";
 
 /// The own mode codes that must be legal: bit `c` stands for code `c`.
@@ -66,11 +70,7 @@ fn fixed_line<'a>(
 }
 
 /// Reads the line of a subaddress of which no count is legal.
-fn empty_line<'a>(
-    lines: Lines<'a>,
-    name: &[u8],
-    subaddress: u32,
-) -> Result<Lines<'a>, WrongLine>
+fn empty_line<'a>(lines: Lines<'a>, name: &[u8], subaddress: u32) -> Result<Lines<'a>, WrongLine>
     ensures { Gives (λ _. true) (λ r. r) result (read (empty_line name.now subaddress) (spot lines.entry)) }
 {
     let Some((number, counts, rest)) = numbered_line_of(lines.rest, name) else {

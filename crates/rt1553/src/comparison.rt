@@ -4,11 +4,10 @@ ghost use Rattle.rt1553.specs.Compare.{AreSame, AreDifferent, IsNotCompared};
 ghost use Rattle.rt1553.specs.Same.{ask};
 ghost use Rattle.rt1553.specs.Verdict.{IsRight};
 
+use crate::{Event, LoadFault, load};
 use arrayvec::ArrayVec;
 use bus_word::{Bus, Kind, Raw};
 use std::alloc::Global;
-
-use crate::{Event, LoadFault, load};
 
 /// Events that tell two terminals apart.
 pub type Script = ArrayVec<Event, 40>;

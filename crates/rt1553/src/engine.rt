@@ -3,11 +3,10 @@ ghost use Rattle.std.specs.Prelude.{◌≡◌, ◌≤◌, true, false, ℕ, IfOk
 ghost use Rattle.rt1553.specs.Load.{Of, IsNotLoaded};
 ghost use Rattle.rt1553.specs.Engine.{Completes, StopsBy, OnLoad, OnScript};
 
-use std::alloc::Global;
-
 use crate::script::run_script;
 use crate::terminal::Terminal;
 use crate::{EngineFault, RunFault, Sink, Source, load};
+use std::alloc::Global;
 
 /// Runs the terminal of this address over a script from power-up.
 fn run_address<R: Source, W: Sink>(

@@ -4,10 +4,9 @@ ghost use Rattle.arrayvec.specs.ArrayString.{array_string_len};
 ghost use Rattle.rt1553.specs.Transcript.{digits_of};
 ghost use Rattle.rt1553.specs.EventLine.{bus_letter, word_text, event_text};
 
+use crate::Event;
 use arrayvec::ArrayString;
 use bus_word::{Bus, Kind, Raw};
-
-use crate::Event;
 
 /// The four hexadecimal digits of a word, small, the highest first.
 fn digits_of(word: u16) -> [u8; 4]

@@ -2,9 +2,8 @@
 ghost use Rattle.std.specs.Prelude.{◌≡◌, [], ◌∷◌};
 ghost use Rattle.rt1553.specs.Line.{kind_of, parity_of, word_of, word_on, event_on, is_taken, meaning};
 
-use bus_word::{Bus, Cell, Command, Kind, Raw, cell_of};
-
 use crate::Event;
+use bus_word::{Bus, Cell, Command, Kind, Raw, cell_of};
 
 /// A line that is refused.
 #[derive(Clone, Copy, Debug, PartialEq, Eq)]

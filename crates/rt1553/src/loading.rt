@@ -3,11 +3,10 @@ ghost use Rattle.std.specs.Prelude.{◌≡◌, ◌⊎◌, IfOk, IfErr};
 ghost use Rattle.rt1553.specs.Load.{Of, IsNotLoaded, IsCanon, CanonIsItsOwn, OneCanon};
 ghost use Rattle.rt1553.specs.Normal.{address_of};
 
-use std::alloc::{AllocError, Global};
-
 use crate::canon::{read_canon, write_canon};
 use crate::profile::read_address;
 use crate::{LoadFault, Normal};
+use std::alloc::{AllocError, Global};
 
 /// How a canonical text begins. Any other text is a profile text, TOML.
 const CANON_HEAD: &[u8] = b"rt1553 1\n";
@@ -48,5 +47,4 @@ pub fn canonical(alloc: Global, text: &[u8]) -> Result<Vec<u8>, LoadFault>
 pub fn canonical_bytes()
     ensures own { CanonIsItsOwn }
     ensures one { OneCanon }
-{
-}
+{}

@@ -1,9 +1,8 @@
 //! A source and a sink over memory, which tell their bytes.
 ghost use Rattle.std.specs.Prelude.{◌≡◌, ◌≤◌, ◌<◌, Some, length, take, drop, [], ◌++◌, false};
 
-use arrayvec::ArrayVec;
-
 use crate::{IoFailed, Sink, Source};
+use arrayvec::ArrayVec;
 
 /// Gives the bytes of a slice.
 #[derive(Drop)]

@@ -2,10 +2,9 @@
 ghost use Rattle.std.specs.Prelude.{◌≡◌};
 ghost use Rattle.rt1553.specs.Report.{status_of};
 
+use crate::{EngineFault, LoadFault, RunFault};
 use arrayvec::ArrayString;
 use std::fmt::Write;
-
-use crate::{EngineFault, LoadFault, RunFault};
 
 /// The status that a program ends with: 2 for a profile or a script that is refused, 4 where a read or a
 /// write failed or memory was wanting.

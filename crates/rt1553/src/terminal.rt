@@ -1,9 +1,8 @@
 //! A terminal that knows transmit status word alone, on bus A.
 ghost use Rattle.std.specs.Prelude.{◌≡◌, ◌≤◌};
 
-use bus_word::{Bus, Raw, StatusParts, status_of};
-
 use crate::Event;
+use bus_word::{Bus, Raw, StatusParts, status_of};
 
 /// How far the message in progress has come.
 #[derive(Clone, Copy)]

@@ -1,21 +1,24 @@
 //! Worked rows, faults, limits, and devices that fail.
 ghost use Rattle.std.specs.Prelude.{◌≡◌, ◌≤◌, None, false};
 
-use arrayvec::ArrayVec;
-use bus_profile::{Key, Part, ProfileFault};
-use std::alloc::{AllocError, Global};
-
 use crate::{
     CanonFault, EngineFault, IoFailed, LoadFault, MemorySink, MemorySource, RunFault, Sink,
     describe, run,
 };
+use arrayvec::ArrayVec;
+use bus_profile::{Key, Part, ProfileFault};
+use std::alloc::{AllocError, Global};
 
 mod canonical;
 
 const FIVE: &[u8] = b"address = 5\n";
 
 /// What a run gives, and what it writes into a sink of 512 bytes.
-fn play(alloc: Global, profile: &[u8], script: &[u8]) -> (Result<u64, EngineFault>, MemorySink<512>) {
+fn play(
+    alloc: Global,
+    profile: &[u8],
+    script: &[u8],
+) -> (Result<u64, EngineFault>, MemorySink<512>) {
     let mut reader = MemorySource::new(script, 7, None);
     let mut writer = MemorySink::new(5, None);
     let result = run(alloc, profile, &mut reader, &mut writer);
@@ -35,7 +38,12 @@ fn worked_rows(rt: HostRuntime) {
             "A s 2c00\n",
         ),
         ("empty-script", "", 0, ""),
-        ("last line without its line feed", "A c 2C02\n\n# x\nA gap", 2, "A s 2800\n"),
+        (
+            "last line without its line feed",
+            "A c 2C02\n\n# x\nA gap",
+            2,
+            "A s 2800\n",
+        ),
     ];
     for (name, script, events, transcript) in rows {
         let (result, writer) = play(rt.alloc(), FIVE, script.as_bytes());
@@ -72,11 +80,26 @@ fn refused_scripts(rt: HostRuntime) {
 fn refused_profiles(rt: HostRuntime) {
     let rows: [(&str, ProfileFault); 10] = [
         ("", ProfileFault::Missing(Part::Root, Key::Address)),
-        ("address = 31", ProfileFault::OutOfRange(Part::Root, Key::Address)),
-        ("address = -1", ProfileFault::OutOfRange(Part::Root, Key::Address)),
-        ("address = \"5\"", ProfileFault::WrongKind(Part::Root, Key::Address)),
-        ("address = 5.0", ProfileFault::WrongKind(Part::Root, Key::Address)),
-        ("address = 31\nspeed = 1", ProfileFault::UnknownKey(Part::Root)),
+        (
+            "address = 31",
+            ProfileFault::OutOfRange(Part::Root, Key::Address),
+        ),
+        (
+            "address = -1",
+            ProfileFault::OutOfRange(Part::Root, Key::Address),
+        ),
+        (
+            "address = \"5\"",
+            ProfileFault::WrongKind(Part::Root, Key::Address),
+        ),
+        (
+            "address = 5.0",
+            ProfileFault::WrongKind(Part::Root, Key::Address),
+        ),
+        (
+            "address = 31\nspeed = 1",
+            ProfileFault::UnknownKey(Part::Root),
+        ),
         ("Address = 5", ProfileFault::UnknownKey(Part::Root)),
         ("address = 5\naddress = 6", ProfileFault::NotToml),
         ("address 5", ProfileFault::NotToml),
@@ -84,7 +107,11 @@ fn refused_profiles(rt: HostRuntime) {
     ];
     for (text, fault) in rows {
         let (result, writer) = play(rt.alloc(), text.as_bytes(), b"A c 2c02\nA gap\n");
-        assert_eq!(rt; result, Err(EngineFault::Load(LoadFault::Profile(fault))), "{text}");
+        assert_eq!(rt;
+            result,
+            Err(EngineFault::Load(LoadFault::Profile(fault))),
+            "{text}"
+        );
         assert!(rt; writer.as_slice().is_empty());
     }
 }
@@ -93,7 +120,11 @@ fn refused_profiles(rt: HostRuntime) {
 fn other_addresses(rt: HostRuntime) {
     for (profile, script, transcript) in [
         ("address = 0", "A c 0402\nA gap\n", "A s 0000\n"),
-        ("address = 0x1e", "A c f402\nA gap\nA c fc02\n", "A s f000\n"),
+        (
+            "address = 0x1e",
+            "A c f402\nA gap\nA c fc02\n",
+            "A s f000\n",
+        ),
     ] {
         let (result, writer) = play(rt.alloc(), profile.as_bytes(), script.as_bytes());
         assert!(rt; result.is_ok());
@@ -133,7 +164,11 @@ fn reads_that_fail(rt: HostRuntime) {
         };
         assert_eq!(rt; writer.as_slice(), whole, "call {call}");
         if call <= 30 {
-            assert_eq!(rt; result, Err(EngineFault::Script(RunFault::Read)), "call {call}");
+            assert_eq!(rt;
+                result,
+                Err(EngineFault::Script(RunFault::Read)),
+                "call {call}"
+            );
         } else {
             assert_eq!(rt; result, Ok(4));
         }
@@ -149,7 +184,11 @@ fn writes_that_fail(rt: HostRuntime) {
         let mut writer: MemorySink<512> = MemorySink::new(1, Some(call));
         let result = run(rt.alloc(), FIVE, &mut reader, &mut writer);
         if call < 18 {
-            assert_eq!(rt; result, Err(EngineFault::Script(RunFault::Write)), "call {call}");
+            assert_eq!(rt;
+                result,
+                Err(EngineFault::Script(RunFault::Write)),
+                "call {call}"
+            );
             assert_eq!(rt; writer.as_slice().len(), call as usize);
             assert!(rt; transcript.starts_with(writer.as_slice()));
         } else {
@@ -234,15 +273,31 @@ fn faults_are_told(rt: HostRuntime) {
             "canonical text: bytes after the end\n",
         ),
         (EngineFault::Load(LoadFault::Memory), 4, "out of memory\n"),
-        (EngineFault::Script(RunFault::Line(3)), 2, "script: line 3\n"),
+        (
+            EngineFault::Script(RunFault::Line(3)),
+            2,
+            "script: line 3\n",
+        ),
         (
             EngineFault::Script(RunFault::LongLine(7)),
             2,
             "script: line 7 is too long\n",
         ),
-        (EngineFault::Script(RunFault::TooLong), 2, "script: too many lines\n"),
-        (EngineFault::Script(RunFault::Read), 4, "input: read failed\n"),
-        (EngineFault::Script(RunFault::Write), 4, "output: write failed\n"),
+        (
+            EngineFault::Script(RunFault::TooLong),
+            2,
+            "script: too many lines\n",
+        ),
+        (
+            EngineFault::Script(RunFault::Read),
+            4,
+            "input: read failed\n",
+        ),
+        (
+            EngineFault::Script(RunFault::Write),
+            4,
+            "output: write failed\n",
+        ),
     ];
     for (fault, status, text) in rows {
         let (given, line) = describe(&fault);

@@ -1,9 +1,8 @@
 //! A source and a sink over std's readers and writers, which tell no bytes.
 ghost use Rattle.std.specs.Prelude.{◌≡◌, ◌≤◌, ◌<◌, None, length, not, is_ok, ◌||◌, false};
 
-use std::io::{Read, Write};
-
 use crate::{IoFailed, Sink, Source};
+use std::io::{Read, Write};
 
 /// How many bytes a `FromWrite` holds back at most.
 const HELD: usize = 8192;

@@ -1,9 +1,8 @@
 //! Profile files, read whole.
+use crate::fault::Fault;
 use std::fs;
 use std::io::{self, ErrorKind, Read};
 use std::rt::Files;
-
-use crate::fault::Fault;
 
 /// How many bytes a profile file may have.
 const MOST: usize = 1_048_576;

@@ -1,5 +1,8 @@
 //! What the program does.
 ghost use Rattle.std.specs.Prelude.{◌≡◌, false};
+
+use crate::fault::Fault;
+use crate::files::read_profile_file;
 use rt1553::{
     FromRead, FromWrite, Script, Sink, Verdict, canonical, compare, load, run, write_event,
 };
@@ -7,9 +10,6 @@ use rt1553_words::{Job, WordFault, read_words};
 use std::env;
 use std::io::{ErrorKind, Read, Write};
 use std::rt::{Env, Files};
-
-use crate::fault::Fault;
-use crate::files::read_profile_file;
 
 /// The profile that the program without words runs.
 const STANDARD_PROFILE: &[u8] = b"address = 5";

@@ -1,7 +1,6 @@
 //! Lists of words, and what is read of them.
-use std::alloc::AllocError;
-
 use crate::{Job, WordFault, read_words};
+use std::alloc::AllocError;
 
 const USAGE: Result<Job<'static>, WordFault> = Err(WordFault::Usage);
 

@@ -1,13 +1,9 @@
 //! Canonical texts, and texts compared.
-use std::alloc::{AllocError, Global};
-use std::test::Fail;
-
+use crate::{CanonFault, Event, LoadFault, Verdict, canonical, compare, load, write_event};
 use bus_profile::{Key, Part, ProfileFault};
 use bus_word::{Bus, Kind, Raw};
-
-use crate::{
-    CanonFault, Event, LoadFault, Verdict, canonical, compare, load, write_event,
-};
+use std::alloc::{AllocError, Global};
+use std::test::Fail;
 
 /// The canonical text of an address, put together line by line.
 fn text_of(alloc: Global, address: u8) -> Result<String, AllocError> {
@@ -56,7 +52,11 @@ fn damaged_texts(rt: HostRuntime) -> Result<(), Fail> {
         if let Some(cut) = bytes.get(..at) {
             let not_toml = LoadFault::Profile(ProfileFault::NotToml);
             if at > 8 {
-                assert_eq!(rt; canon_fault(rt.alloc(), cut), Some(CanonFault::Line(lines)), "cut at {at}");
+                assert_eq!(rt;
+                    canon_fault(rt.alloc(), cut),
+                    Some(CanonFault::Line(lines)),
+                    "cut at {at}"
+                );
             } else if at > 0 {
                 assert_eq!(rt; load(rt.alloc(), cut), Err(not_toml), "cut at {at}");
             }
@@ -77,7 +77,10 @@ fn damaged_texts(rt: HostRuntime) -> Result<(), Fail> {
         }
     }
     let more = format!(in rt.alloc(); "{text}\n")?;
-    assert_eq!(rt; canon_fault(rt.alloc(), more.as_str().as_bytes()), Some(CanonFault::Trailing));
+    assert_eq!(rt;
+        canon_fault(rt.alloc(), more.as_str().as_bytes()),
+        Some(CanonFault::Trailing)
+    );
     Ok(())
 }
 
@@ -140,7 +143,13 @@ fn events_as_lines(rt: HostRuntime) {
         (Event::Word(Bus::B, Raw::of(Kind::Dat, 0xBEEF)), "B d beef"),
         (Event::Word(Bus::A, wrong), "A d 3800 1"),
         (
-            Event::Word(Bus::B, Raw { parity: false, ..Raw::of(Kind::Com, 0x2c02) }),
+            Event::Word(
+                Bus::B,
+                Raw {
+                    parity: false,
+                    ..Raw::of(Kind::Com, 0x2c02)
+                },
+            ),
             "B c 2c02 0",
         ),
         (Event::Noise(Bus::A), "A noise"),

@@ -15,7 +15,7 @@ loop-subaddress-preserved c = λ tail h.
     let back : 31 - (s + 1) ≡ 31 - s - 1 = omega arith in
     let rest : Spells (empty_lines c.args.name.now (s + 1) (31 - s - 1)) true tail = rw back at h in
     let on : Spells (empty_lines c.args.name.now s (31 - s)) true (line ++ tail) =
-        empty_on c.args.name.now s (31 - s) line tail (omega arith) (empty_spelled c.args.name.now s (omega arith)) rest in
+    empty_on c.args.name.now s (31 - s) line tail (omega arith) (empty_spelled c.args.name.now s (omega arith)) rest in
     let all = c.loop-subaddress.invariant (line ++ tail) on in
     (all.0, ap (λ x. x ++ tail) c.in_ok-put_numbered_line.ensures ∙ append_assoc c.loop-subaddress.out.items line tail ∙ all.1, all.2)
 

@@ -19,4 +19,4 @@ returns-in-Some-clause-err g c = on_err_weaker c.send.result
 pub returns-in-None-clause-ok : goal.returns-in-None-clause-ok
 returns-in-None-clause-ok g c =
     Plays-one StandsAt text_at g.W.Sink.written _ _ _ _ c.args.event _ c.in-None.ensures.stands (λ P h s. ap answer_text (c.in-None.ensures.answer P h s))
-        (Appends-nil (g.W.Sink.written c.args.writer.now))
+    (Appends-nil (g.W.Sink.written c.args.writer.now))
