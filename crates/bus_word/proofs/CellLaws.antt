@@ -1,15 +1,15 @@
 -- The allowed cells are just those that some command has.
-use Rattle.std.proofs.Common.{◌≡◌, ℕ, zero, suc, ◌+◌, ◌*◌, ◌/◌, ◌%◌, ◌^◌, ◌<◌, ◌≤◌, Bool, true, false, not, ◌&&◌, ◌||◌, ◌==◌, nat_le, if◌then◌else◌, Option, Some, None, is_some, List, [], ◌∷◌, refl, sym, ◌∙◌, ap, ap₂, subst, arith}
+use Rattle.std.proofs.Common.{◌≡◌, ℕ, ◌%◌, ◌^◌, ◌<◌, ◌≤◌, Bool, true, false, ◌&&◌, ◌||◌, ◌==◌, nat_le, if◌then◌else◌, Option, Some, None, is_some, List, [], ◌∷◌, refl, sym, ◌∙◌, ap, subst, arith}
 use Rattle.std.proofs.lemmas.Bool.{and_parts}
 use Rattle.std.proofs.lemmas.Bool.Decides.{nat_tests}
 use Rattle.bus_word.specs.Word.{bit_of}
 use Rattle.bus_word.specs.declared.mode.ModeRow.{ModeRow}
 use Rattle.bus_word.specs.declared.cell.Cell.{Cell}
 use Rattle.bus_word.specs.declared.cell.Cell.TheVariants.{OwnReceive, OwnTransmit, BroadReceive, OwnMode, BroadMode}
-use Rattle.bus_word.specs.Command.{Fields, AreInRange, word_of, fields_of, address_of, transmits, subaddress_of, code_of, count_in, count_of, is_mode, is_broadcast}
+use Rattle.bus_word.specs.Command.{Fields, word_of, fields_of, address_of, transmits, subaddress_of, code_of, count_in, count_of, is_mode, is_broadcast}
 use Rattle.std.specs.List.{list_all}
 use Rattle.bus_word.specs.Mode.{ModeEntry, row_in, mode_table, mode_row}
-use Rattle.bus_word.specs.Cell.{data_cell, mode_cell, mode_cell_by, cell_of, is_data_place, is_allowed, allows_broadcast, same_bool}
+use Rattle.bus_word.specs.Cell.{data_cell, mode_cell_by, cell_of, is_data_place, is_allowed, allows_broadcast, same_bool}
 use Rattle.bus_word.specs.Laws.{HasCommand, AllowedHaveCommands, CommandsHaveAllowed}
 use Rattle.bus_word.proofs.WordLaws.{fields_are_unique, bit_of-below}
 

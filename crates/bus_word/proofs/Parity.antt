@@ -1,5 +1,5 @@
 -- Ones counted in a list of bits, and ones counted at once.
-use Rattle.std.proofs.Common.{◌≡◌, ℕ, zero, suc, ◌+◌, ◌*◌, ◌/◌, ◌%◌, ◌^◌, ◌<◌, ◌==◌, true, refl, sym, ◌∙◌, ap, ap₂, subst, arith, pow-suc}
+use Rattle.std.proofs.Common.{◌≡◌, ℕ, zero, suc, ◌+◌, ◌*◌, ◌/◌, ◌%◌, ◌^◌, ◌<◌, ◌==◌, true, refl, sym, ◌∙◌, ap, arith, pow-suc}
 use Rattle.std.proofs.lemmas.Nat.{ones_cat}
 use Rattle.std.specs.Int.RustNames.{count_ones}
 use Rattle.bus_word.specs.Word.{bit_of, low_bits, ones}

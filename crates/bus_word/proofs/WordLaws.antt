@@ -1,11 +1,10 @@
 -- Laws of words: their parity, their fields, the bits of a status word.
-use Rattle.std.proofs.Common.{◌≡◌, ℕ, ◌+◌, ◌*◌, ◌/◌, ◌%◌, ◌^◌, ◌<◌, ◌≤◌, Bool, true, false, ◌==◌, refl, sym, arith}
-use Rattle.bus_word.specs.declared.word.Raw.{Raw}
+use Rattle.std.proofs.Common.{◌≡◌, ℕ, ◌+◌, ◌*◌, ◌/◌, ◌%◌, ◌<◌, Bool, true, false, arith}
 use Rattle.bus_word.specs.declared.status.StatusParts.{StatusParts}
-use Rattle.bus_word.specs.Word.{bit_of, low_bits, ones, is_valid, valid_word}
-use Rattle.bus_word.specs.Command.{Fields, AreInRange, word_of, fields_of}
-use Rattle.bus_word.specs.Status.{mask_if, status_word}
-use Rattle.bus_word.specs.Laws.{OneValidWord, EachWordHasFields, FieldsAreUnique, HasBits, StatusHasBits}
+use Rattle.bus_word.specs.Word.{bit_of}
+use Rattle.bus_word.specs.Command.{word_of}
+use Rattle.bus_word.specs.Status.{status_word}
+use Rattle.bus_word.specs.Laws.{FieldsAreUnique, StatusHasBits}
 use Rattle.bus_word.proofs.Masks.{mask_if-times}
 
 pub fields_are_unique : FieldsAreUnique

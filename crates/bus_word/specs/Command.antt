@@ -1,5 +1,5 @@
 -- Command words (MIL-STD-1553B, 4.3.3.5.1). A command is the number of its 16 bits.
-use Rattle.std.specs.Prelude.{◌≡◌, ℕ, ◌+◌, ◌*◌, ◌/◌, ◌%◌, ◌≤◌, Bool, true, false, not, ◌&&◌, ◌||◌, ◌==◌, nat_le, if◌then◌else◌}
+use Rattle.std.specs.Prelude.{ℕ, ◌+◌, ◌*◌, ◌/◌, ◌%◌, ◌≤◌, Bool, not, ◌&&◌, ◌||◌, ◌==◌, nat_le, if◌then◌else◌}
 
 -- The fields of a command word: the address in bits 15 to 11, T/R in bit 10, the subaddress in bits
 -- 9 to 5, and in bits 4 to 0 the low field, which is a word count or a mode code.

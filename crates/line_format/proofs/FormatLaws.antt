@@ -1,9 +1,9 @@
 -- Reading a format finds what it spells, and the first wrong line.
-use Rattle.std.proofs.Common.{◌≡◌, ℕ, zero, suc, ◌+◌, ◌-◌, ◌*◌, ◌/◌, ◌%◌, ◌^◌, ◌<◌, ◌≤◌, ◌==◌, ◌&&◌, not, nat_le, nat_lt, Bool, true, false, cond, List, [], ◌∷◌, ◌++◌, Option, Some, None, Result, Ok, Err, refl, ap, ap₂, sym, ◌∙◌, subst, arith, inl, inr, ⊎_elim, append_assoc, append-nil}
+use Rattle.std.proofs.Common.{◌≡◌, ℕ, zero, suc, ◌+◌, ◌/◌, ◌%◌, ◌^◌, ◌≤◌, ◌==◌, ◌&&◌, not, nat_lt, Bool, true, false, cond, List, [], ◌∷◌, ◌++◌, Option, Some, None, Result, Ok, Err, refl, ap, sym, ◌∙◌, subst, arith, append_assoc, append-nil}
 use Rattle.std.proofs.lemmas.Bool.Decides.{nat_tests}
 use Rattle.std.specs.Option.{option_map}
-use Rattle.line_format.specs.Format.{Field, Shape, Format, done, line, digit, digits, spell_fields, Fit, Allows, spell, Spells, first_lines, Begins, is_plain, IsSound, and_then}
-use Rattle.line_format.specs.Reading.{◌>>=◌, after, number_at, fields_at, content_at, only, line_at, Spot, read}
+use Rattle.line_format.specs.Format.{Field, Shape, Format, done, line, digit, digits, spell_fields, Fit, Allows, spell, Spells, first_lines, Begins, is_plain, IsSound}
+use Rattle.line_format.specs.Reading.{fields_at, content_at, only, line_at, Spot, read}
 use Rattle.line_format.proofs.Digits.{bind_some, after-front, after-is, number_at-digits, number_at-is, Reads}
 
 -- ---- fields

@@ -1,7 +1,6 @@
 -- Formats in which a value has one text.
-use Rattle.std.proofs.Common.{◌≡◌, ℕ, ◌^◌, ◌<◌, ◌==◌, List, [], ◌∷◌, ◌++◌, Bool, true, refl, ap, ap₂, sym, ◌∙◌, subst, append_assoc, append-nil, arith}
-use Rattle.std.proofs.lemmas.Bool.Decides.{nat_tests}
-use Rattle.line_format.specs.Format.{Field, Shape, Format, done, line, and_then, Fit, Allows, spell, Spells}
+use Rattle.std.proofs.Common.{◌≡◌, ℕ, List, [], ◌∷◌, ◌++◌, Bool, true, refl, ap, ap₂, sym, ◌∙◌, subst, append_assoc}
+use Rattle.line_format.specs.Format.{Field, Format, done, line, and_then, Fit, spell, Spells}
 use Rattle.line_format.specs.Shapes.{name_line, number_line, first}
 
 abbrev pub HasOneText : {A : Type 0} → Format A → Type 0

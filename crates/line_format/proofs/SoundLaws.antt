@@ -1,7 +1,7 @@
 -- Laws of formats that are put together: each line may hold something, and a value has one text.
-use Rattle.std.proofs.Common.{◌≡◌, ℕ, ◌^◌, ◌<◌, List, [], ◌∷◌, ◌++◌, Bool, true, refl, ap, ap₂, sym, ◌∙◌, append_assoc, append-nil}
-use Rattle.line_format.specs.Format.{Field, Shape, Format, done, line, and_then, Allows, spell, Spells, IsSound, is_plain}
-use Rattle.line_format.specs.Shapes.{name_line, number_line, first}
+use Rattle.std.proofs.Common.{◌≡◌, ℕ, ◌^◌, ◌<◌, List, [], ◌∷◌, Bool, true, refl}
+use Rattle.line_format.specs.Format.{Field, Format, done, line, and_then, IsSound, is_plain}
+use Rattle.line_format.specs.Shapes.{name_line, number_line}
 
 pub sound_then : {A B : Type 0} (F : Format A) (g : A → Format B) → IsSound F → ((a : A) → IsSound (g a)) → IsSound (and_then F g)
 unfolding and_then

@@ -1,12 +1,11 @@
 -- Steps of the readers.
-use Rattle.std.proofs.Common.{◌≡◌, ◌≢◌, ℕ, zero, suc, ◌+◌, ◌-◌, ◌*◌, ◌^◌, ◌<◌, ◌≤◌, ◌==◌, List, [], ◌∷◌, ◌++◌, length, Bool, true, false, Result, Ok, Err, Option, Some, None, option_map, MatchOption, Bor, refl, ap, sym, ◌∙◌, arith, add-one, append_assoc, append-nil, replicate}
+use Rattle.std.proofs.Common.{◌≡◌, ◌≢◌, ℕ, zero, suc, ◌+◌, ◌-◌, ◌*◌, ◌^◌, ◌<◌, ◌≤◌, ◌==◌, List, [], ◌∷◌, ◌++◌, Bool, true, false, Result, Ok, Err, Option, Some, None, option_map, MatchOption, Bor, refl, ap, sym, ◌∙◌, arith, add-one, append_assoc, replicate}
 use Rattle.std.proofs.Math.Nat.{pow-suc, pow-le-pow_right}
 use Rattle.std.proofs.lemmas.Nat.{mul-add-lt}
-use Rattle.line_format.specs.Reading.{◌>>=◌, after, digit_at, digit_value, number_at, field_at, fields_at, content_at, only, line_at, Spot, read}
+use Rattle.line_format.specs.Reading.{◌>>=◌, after, digit_at, digit_value, number_at, field_at, fields_at, content_at, line_at, Spot, read}
 use Rattle.line_format.specs.Format.{Field, Shape, Format, done, line, and_then}
 use Rattle.line_format.specs.Shapes.{first, number_line, name_line, bit_line, number_field}
-use Rattle.std.proofs.lemmas.Bool.Decides.{nat_tests}
-use Rattle.line_format.proofs.Digits.{after-front, after-is, digit_value-is}
+use Rattle.line_format.proofs.Digits.{after-front, after-is}
 
 pub after_found : (cs bytes : List ℕ) (r : Option (Bor (List ℕ))) → MatchOption r ((rest : List ℕ) → bytes ≢ cs ++ rest) (λ x. bytes ≡ cs ++ x.now) → option_map (λ r. r.now) r ≡ after cs bytes
 after_found cs bytes None h = sym (none (after cs bytes) refl)

@@ -1,9 +1,8 @@
 -- Texts that are written.
-use Rattle.std.proofs.Common.{◌≡◌, ℕ, zero, suc, ◌+◌, ◌-◌, ◌*◌, ◌/◌, ◌%◌, ◌^◌, ◌<◌, ◌≤◌, ◌==◌, List, [], ◌∷◌, ◌++◌, Bool, true, refl, ap, sym, ◌∙◌, arith, append_assoc, append-nil, add-one}
-use Rattle.std.proofs.lemmas.Bool.Decides.{nat_tests}
+use Rattle.std.proofs.Common.{◌≡◌, ℕ, zero, suc, ◌-◌, ◌*◌, ◌/◌, ◌%◌, ◌^◌, ◌<◌, ◌≤◌, List, [], ◌∷◌, ◌++◌, true, refl, ap, sym, ◌∙◌, arith, append_assoc, append-nil}
 use Rattle.std.proofs.Math.Nat.{pow-suc, one-le-pow, mod-lt, mul-le-mul_left}
 use Rattle.std.proofs.lemmas.Nat.{div_below}
-use Rattle.line_format.specs.Format.{Field, Shape, Format, done, line, and_then, digit, digits, Fit, Allows, spell, Spells}
+use Rattle.line_format.specs.Format.{Shape, Format, done, line, and_then, digit, digits, Allows, spell, Spells}
 use Rattle.line_format.specs.Shapes.{name_line}
 
 pub spelled_line : {A : Type 0} (s : Shape) (f : List ℕ → A) (xs : List ℕ) → Allows s xs → Spells (line s (λ xs. done (f xs))) (f xs) (spell s xs)

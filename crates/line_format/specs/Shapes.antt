@@ -1,6 +1,6 @@
 -- Common shapes of lines.
 use Rattle.std.specs.Prelude.{ℕ, Bool, true, ◌==◌, List, [], ◌∷◌}
-use Rattle.line_format.specs.Format.{Field, Shape, Format, done, line}
+use Rattle.line_format.specs.Format.{Field, Format, done, line}
 
 abbrev pub number_field : ℕ → ℕ → Field
 number_field base width = record { base = base; width = width }

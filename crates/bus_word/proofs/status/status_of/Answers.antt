@@ -1,4 +1,4 @@
-use Rattle.std.proofs.Common.{◌≡◌, ℕ, ◌*◌, ◌%◌, ◌≤◌, arith}
+use Rattle.std.proofs.Common.{◌≡◌, ◌*◌, ◌%◌, arith}
 use Rattle.bus_word.proofs.Masks.{status-by_or}
 use Rattle.bus_word.proofs.status.status_of.Goals as goal
 

@@ -1,5 +1,3 @@
-use Rattle.std.proofs.Common.{◌∙◌, ap, sym, arith, nat_le, true, codes, refl}
-use Rattle.std.proofs.lemmas.Bool.Decides.{nat_tests}
 use Rattle.line_format.specs.Views.{spot}
 use Rattle.line_format.proofs.Steps.{name_here}
 use Rattle.line_format.proofs.read.name_line.Goals as goal

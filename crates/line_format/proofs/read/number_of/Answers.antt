@@ -1,5 +1,5 @@
-use Rattle.std.proofs.Common.{◌≡◌, ◌+◌, ◌<◌, ◌≤◌, ◌^◌, ◌-◌, ◌*◌, length, ℕ, Some, None, sym, ◌∙◌, ap, arith, option_map}
-use Rattle.line_format.specs.Reading.{digit_at, number_at}
+use Rattle.std.proofs.Common.{◌≡◌, ◌+◌, ◌<◌, ◌^◌, ◌-◌, ◌*◌, sym, ◌∙◌, ap, arith}
+use Rattle.line_format.specs.Reading.{number_at}
 use Rattle.line_format.proofs.Steps.{one_more, none_more, grows, fits}
 use Rattle.line_format.proofs.read.number_of.Goals as goal
 

@@ -1,6 +1,5 @@
-use Rattle.std.proofs.Common.{◌≡◌, ◌+◌, ◌-◌, ◌*◌, ◌/◌, ◌%◌, ◌<◌, ◌≤◌, ◌^◌, ◌∙◌, ap, sym, arith, append_assoc, OnOk, [], ◌∷◌, ◌++◌}
+use Rattle.std.proofs.Common.{◌∙◌, ap, sym, arith, append_assoc, ◌++◌}
 use Rattle.std.proofs.lemmas.Result.{IfOk-weaker}
-use Rattle.line_format.specs.Format.{digit, digits}
 use Rattle.line_format.proofs.Writes.{FirstDigit, first_digit}
 use Rattle.line_format.proofs.write.+put_digits.Goals as goal
 

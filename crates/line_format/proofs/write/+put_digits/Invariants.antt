@@ -1,4 +1,3 @@
-use Rattle.std.proofs.Common.{ℕ}
 use Rattle.line_format.proofs.write.+put_digits.Given as goal
 
 abbrev pub decreases-put_digits : goal.decreases-put_digits

@@ -1,4 +1,4 @@
-use Rattle.std.proofs.Common.{◌++◌, ◌∷◌, [], append_assoc, ◌∙◌, refl}
+use Rattle.std.proofs.Common.{◌++◌, ◌∷◌, [], append_assoc, refl}
 use Rattle.line_format.proofs.Writes.{name_spelled}
 use Rattle.line_format.proofs.write.put_name_line.Goals as goal
 

@@ -1,4 +1,4 @@
-use Rattle.std.proofs.Common.{◌≡◌, ℕ, ◌+◌, ◌%◌, ◌==◌, ap, arith, rules}
+use Rattle.std.proofs.Common.{◌≡◌, ◌+◌, ◌%◌, ◌==◌, ap, arith, rules}
 use Rattle.std.specs.Int.RustNames.{count_ones}
 use Rattle.bus_word.specs.Word.{bit_of, low_bits, ones}
 use Rattle.bus_word.proofs.Parity.{ones-low_bits}

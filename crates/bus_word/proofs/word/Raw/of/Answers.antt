@@ -1,6 +1,6 @@
-use Rattle.std.proofs.Common.{◌≡◌, ℕ, ◌==◌, ◌%◌, ap, sym, ◌∙◌, rules}
+use Rattle.std.proofs.Common.{ℕ, ◌==◌, ◌%◌, ap, sym, ◌∙◌, rules}
 use Rattle.bus_word.specs.declared.word.Raw.{Raw}
-use Rattle.bus_word.specs.Word.{low_bits, ones, valid_word, is_valid}
+use Rattle.bus_word.specs.Word.{low_bits, ones, is_valid}
 use Rattle.bus_word.proofs.Parity.{ones-low_bits, odd_with_parity}
 use Rattle.bus_word.proofs.word.Raw.of.Goals as goal
 
