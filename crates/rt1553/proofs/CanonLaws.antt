@@ -1,7 +1,7 @@
 -- Laws of the canonical text.
-use Rattle.std.proofs.Common.{◌≡◌, ◌≢◌, ℕ, zero, suc, ◌+◌, ◌-◌, ◌^◌, ◌<◌, ◌≤◌, lit<, ◌==◌, ◌&&◌, Bool, true, false, List, [], ◌∷◌, ◌++◌, Result, Ok, Err, Option, Some, None, refl, ap, sym, ◌∙◌, arith, append-nil, add-one, nat_le, codes}
+use Rattle.std.proofs.Common.{◌≡◌, ℕ, zero, suc, ◌+◌, ◌-◌, ◌^◌, ◌<◌, ◌≤◌, lit<, ◌==◌, ◌&&◌, Bool, true, false, List, [], ◌∷◌, ◌++◌, Ok, Err, Some, None, refl, ap, sym, ◌∙◌, arith, append-nil, add-one, nat_le, codes}
 use Rattle.std.proofs.lemmas.Bool.Decides.{nat_tests}
-use Rattle.line_format.specs.Format.{Field, Shape, Format, done, line, and_then, Allows, spell, spell_fields, Spells, IsSound, is_plain}
+use Rattle.line_format.specs.Format.{Field, Shape, done, spell, spell_fields, Spells, IsSound, is_plain}
 use Rattle.line_format.specs.Reading.{content_at, Spot, read}
 use Rattle.line_format.specs.Shapes.{decimal, mask, number_field, first, others, name_line, number_line}
 use Rattle.line_format.proofs.Steps.{line_here, line_none, line_not, then_ok, then_err}

@@ -1,9 +1,9 @@
 -- Laws of hexadecimal digits: they are ASCII.
-use Rattle.std.proofs.Common.{◌≡◌, ℕ, zero, suc, ◌<◌, ◌/◌, ◌%◌, ◌&&◌, nat_lt, List, [], ◌∷◌, Bool, true, slice_index, lit<, refl, arith}
+use Rattle.std.proofs.Common.{◌≡◌, ℕ, zero, suc, ◌<◌, ◌/◌, ◌%◌, nat_lt, List, [], ◌∷◌, Bool, true, slice_index, lit<, refl, arith}
 use Rattle.std.specs.List.{list_all}
 use Rattle.std.proofs.lemmas.Bool.{and_parts}
 use Rattle.std.proofs.lemmas.Bool.Decides.{nat_tests}
-use Rattle.hex.specs.Hex.{lower_digits, encode_with, encode_lower}
+use Rattle.hex.specs.Hex.{lower_digits, encode_with}
 use Rattle.rt1553.specs.Transcript.{digits_of}
 
 abbrev is_ascii : ℕ → Bool

@@ -1,5 +1,5 @@
 -- Laws of a run from power-up: what was played is what was written.
-use Rattle.std.proofs.Common.{ℕ, ◌≡◌, List, [], ◌∷◌, ◌++◌, Option}
+use Rattle.std.proofs.Common.{ℕ, List, [], ◌++◌, Option}
 use Rattle.std.specs.Io.KnownBytes.{Consumes}
 use Rattle.rt1553.specs.declared.event.Event.{Event}
 use Rattle.rt1553.specs.declared.fault.RunFault.{RunFault}

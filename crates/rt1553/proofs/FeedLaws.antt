@@ -1,9 +1,8 @@
 -- Laws of a chunk: its lines are played, one after another.
-use Rattle.std.proofs.Common.{ℕ, ◌≡◌, ◌≤◌, ◌+◌, ◌-◌, List, [], ◌∷◌, ◌++◌, length, take, drop, length-append, sym, arith, append-nil, take-append-drop, subst, Option, Result}
+use Rattle.std.proofs.Common.{ℕ, ◌≡◌, ◌≤◌, ◌+◌, ◌-◌, List, [], ◌∷◌, ◌++◌, length, take, drop, length-append, sym, arith, append-nil, take-append-drop, subst, Option}
 use Rattle.std.proofs.lemmas.Grind.{common_steps}
 use Rattle.std.proofs.Math.Seq.{take-add}
 use Rattle.rt1553.specs.declared.event.Event.{Event}
-use Rattle.rt1553.specs.declared.line.LineFault.{LineFault}
 use Rattle.rt1553.specs.declared.fault.RunFault.{RunFault}
 use Rattle.rt1553.specs.declared.fault.RunFault.TheVariants.{Line, LongLine, TooLong, Read, Write}
 use Rattle.rt1553.specs.Reading.{Meaning, ByFault}

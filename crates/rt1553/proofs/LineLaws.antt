@@ -1,5 +1,5 @@
 -- Laws of lines: the first line of a text, and the rest.
-use Rattle.std.proofs.Common.{ℕ, suc, ◌≡◌, ◌≢◌, ◌<◌, ◌+◌, List, [], ◌∷◌, ◌++◌, eq-eqb, length, get_or, take, drop, drop-cons, length-take, take-append-drop, get_or-take, refl, sym, ap, ◌∙◌, arith, Bool, true, false, ◌==◌}
+use Rattle.std.proofs.Common.{ℕ, suc, ◌≡◌, ◌≢◌, ◌<◌, ◌+◌, List, [], ◌∷◌, ◌++◌, length, get_or, take, drop, drop-cons, length-take, take-append-drop, get_or-take, refl, sym, ap, ◌∙◌, arith, Bool, true, false, ◌==◌}
 use Rattle.std.proofs.lemmas.Grind.{common_steps}
 use Rattle.std.proofs.lemmas.Bool.Decides.{nat_tests}
 use Rattle.std.proofs.lemmas.List.{take_more}

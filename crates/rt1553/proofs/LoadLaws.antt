@@ -1,16 +1,16 @@
 -- Laws of canonical bytes: they are their own, and a text has no others.
-use Rattle.std.proofs.Common.{◌≡◌, ℕ, zero, suc, ◌+◌, ◌==◌, ◌&&◌, nat_le, nat_eq, List, [], ◌∷◌, ◌++◌, Bool, true, false, Option, Some, None, refl, ap, ap₂, sym, ◌∙◌, subst, arith, append-nil, codes}
+use Rattle.std.proofs.Common.{◌≡◌, ℕ, zero, suc, ◌==◌, ◌&&◌, nat_le, nat_eq, List, [], ◌∷◌, ◌++◌, Bool, true, false, Some, refl, ap, ap₂, sym, ◌∙◌, subst, arith, append-nil, codes}
 use Rattle.std.proofs.lemmas.Bool.{and_parts}
 use Rattle.std.proofs.lemmas.Bool.Decides.{nat_tests}
 use Rattle.std.specs.List.{starts_with}
 use Rattle.toml.specs.Data.{Members}
-use Rattle.line_format.specs.Format.{Shape, Format, done, line, and_then, Fit, spell, Spells}
+use Rattle.line_format.specs.Format.{Format, done, and_then, Fit, spell, Spells}
 use Rattle.line_format.specs.Shapes.{decimal, mask, number_field, first, others, name_line, number_line}
-use Rattle.line_format.proofs.OneText.{HasOneText, Parted, parted, one_then, name_value, name_one, number_one, number_value}
+use Rattle.line_format.proofs.OneText.{HasOneText, parted, one_then, name_value, name_one, number_one, number_value}
 use Rattle.line_format.proofs.AnswerLaws.{one_front}
-use Rattle.rt1553.specs.Profile.{IsTree, HasAddress, address_in}
+use Rattle.rt1553.specs.Profile.{IsTree, address_in}
 use Rattle.rt1553.specs.Canon.{empty_line, empty_lines, required_codes, canon, Text}
-use Rattle.rt1553.specs.Load.{is_canon_text, Of, OfBy, IsCanon, CanonIsItsOwn, OneCanon}
+use Rattle.rt1553.specs.Load.{is_canon_text, OfBy, CanonIsItsOwn, OneCanon}
 use Rattle.rt1553.proofs.CanonLaws.{empty_shape}
 
 -- ---- a canonical text begins as such

@@ -1,9 +1,8 @@
 -- Laws of what a script says, piece by piece.
-use Rattle.std.proofs.Common.{ℕ, ◌≡◌, ◌<◌, ◌≤◌, ◌+◌, List, [], ◌∷◌, ◌++◌, length, refl, sym, ap, ◌∙◌, arith, append_assoc, append-nil, subst, Option, Result}
+use Rattle.std.proofs.Common.{ℕ, ◌≡◌, ◌<◌, ◌≤◌, ◌+◌, List, [], ◌∷◌, ◌++◌, length, refl, sym, ap, ◌∙◌, arith, append_assoc}
 use Rattle.std.proofs.lemmas.Grind.{common_steps}
 use Rattle.std.proofs.lemmas.Bool.Decides.{nat_tests}
 use Rattle.rt1553.specs.declared.event.Event.{Event}
-use Rattle.rt1553.specs.declared.line.LineFault.{LineFault}
 use Rattle.rt1553.specs.declared.fault.RunFault.{RunFault}
 use Rattle.rt1553.specs.declared.fault.RunFault.TheVariants.{LongLine, TooLong}
 use Rattle.rt1553.specs.Text.{lines_of, NoLineFeed}

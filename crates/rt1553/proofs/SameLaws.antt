@@ -1,5 +1,5 @@
 -- Laws of the script that asks for a status: it tells terminals of unlike addresses apart.
-use Rattle.std.proofs.Common.{◌≡◌, ◌≢◌, ℕ, ◌+◌, ◌*◌, ◌/◌, ◌%◌, ◌<◌, ◌≤◌, ◌==◌, ◌&&◌, ◌||◌, not, Bool, true, false, if◌then◌else◌, List, [], ◌∷◌, Option, Some, None, get_or, refl, ap, sym, ◌∙◌, arith}
+use Rattle.std.proofs.Common.{◌≡◌, ◌≢◌, ℕ, ◌+◌, ◌*◌, ◌/◌, ◌%◌, ◌≤◌, ◌==◌, ◌&&◌, ◌||◌, not, Bool, true, false, if◌then◌else◌, List, [], ◌∷◌, Option, Some, None, get_or, refl, ap, sym, ◌∙◌, arith}
 use Rattle.std.proofs.lemmas.Bool.Decides.{nat_tests}
 use Rattle.bus_word.specs.declared.word.Bus.TheVariants.{A}
 use Rattle.bus_word.specs.declared.word.Kind.TheVariants.{Com}
@@ -7,16 +7,15 @@ use Rattle.bus_word.specs.declared.word.Raw.{Raw}
 use Rattle.bus_word.specs.declared.cell.Cell.{Cell}
 use Rattle.bus_word.specs.declared.cell.Cell.TheVariants.{OwnMode}
 use Rattle.bus_word.specs.Word.{low_bits, ones, is_valid, valid_word, is_for}
-use Rattle.bus_word.specs.Command.{address_of, is_broadcast, subaddress_of, code_of, transmits, is_mode}
+use Rattle.bus_word.specs.Command.{address_of, is_broadcast, subaddress_of, code_of}
 use Rattle.bus_word.specs.Status.{status_word}
 use Rattle.bus_word.specs.Mode.{mode_row}
 use Rattle.bus_word.specs.Cell.{cell_of, data_cell, mode_cell_by, same_bool}
 use Rattle.bus_word.proofs.Parity.{odd_with_parity}
-use Rattle.rt1553.specs.declared.event.Event.{Event}
 use Rattle.rt1553.specs.declared.event.Event.TheVariants.{Word, Gap}
-use Rattle.rt1553.specs.Line.{is_taken, is_transmit_status}
+use Rattle.rt1553.specs.Line.{is_transmit_status}
 use Rattle.rt1553.specs.History.{Entry, open_of, gap_ends, answer_to, out, kept_parts}
-use Rattle.rt1553.specs.Same.{outs, are_taken, TellsApart, ask}
+use Rattle.rt1553.specs.Same.{TellsApart, ask}
 
 -- the command word that asks a terminal for its status
 abbrev command : ℕ → ℕ

@@ -1,7 +1,7 @@
 -- What the terminal sends, told from the history of its bus: as far as a terminal goes that knows
 -- transmit status word alone, on bus A.
 use Rattle.std.specs.Prelude.{ℕ, Bool, true, false, not, ◌&&◌, ◌||◌, if◌then◌else◌, Option, Some, None, List, [], ◌∷◌}
-use Rattle.bus_word.specs.declared.word.Bus.TheVariants.{A, B}
+use Rattle.bus_word.specs.declared.word.Bus.TheVariants.{A}
 use Rattle.bus_word.specs.declared.word.Raw.{Raw}
 use Rattle.bus_word.specs.declared.status.StatusParts.{StatusParts}
 use Rattle.bus_word.specs.Word.{is_for}

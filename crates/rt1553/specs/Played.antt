@@ -5,7 +5,7 @@ use Rattle.rt1553.specs.declared.terminal.Terminal.{Terminal}
 use Rattle.rt1553.specs.Stands.{StandsAt}
 use Rattle.rt1553.specs.Reading.{Meaning, Reading}
 use Rattle.rt1553.specs.Transcript.{text_at}
-use Rattle.rt1553.specs.Playing.{Plays, PlaysPart, Feeds, RunsTo, BreaksAt}
+use Rattle.rt1553.specs.Playing.{Plays, PlaysPart, RunsTo, BreaksAt}
 
 -- the terminal took these events, and just their transcript was written
 abbrev pub Played : {W : Type 0} → (W → Option (List ℕ)) → Terminal → Terminal → W → W → List Event → Type 0

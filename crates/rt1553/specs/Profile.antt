@@ -1,5 +1,5 @@
 -- The profile text, as far as it goes yet: the terminal's address alone.
-use Rattle.std.specs.Prelude.{◌≡◌, ℕ, ℤ, pos, negsuc, Bool, true, false, not, nat_le, if◌then◌else◌, List, Option, Some, None, is_none, Result, Ok, Err, codes, IsUtf8}
+use Rattle.std.specs.Prelude.{◌≡◌, ℕ, ℤ, pos, negsuc, Bool, not, nat_le, if◌then◌else◌, List, Option, Some, None, is_none, Result, Ok, Err, codes, IsUtf8}
 use Rattle.std.specs.Str.{bytes_eq}
 use Rattle.std.specs.List.{list_any}
 use Rattle.toml.specs.Data.{Data, integer, Members, get_member}

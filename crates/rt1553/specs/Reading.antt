@@ -1,5 +1,5 @@
 -- What a script says.
-use Rattle.std.specs.Prelude.{ℕ, ◌+◌, ◌≡◌, nat_le, nat_lt, if◌then◌else◌, List, [], ◌∷◌, ◌++◌, length, Option, Some, None, Result, Ok, Err}
+use Rattle.std.specs.Prelude.{ℕ, ◌+◌, nat_le, nat_lt, if◌then◌else◌, List, [], ◌∷◌, ◌++◌, length, Option, Some, None, Result, Ok, Err}
 use Rattle.rt1553.specs.declared.event.Event.{Event}
 use Rattle.rt1553.specs.declared.line.LineFault.{LineFault}
 use Rattle.rt1553.specs.declared.fault.RunFault.{RunFault}

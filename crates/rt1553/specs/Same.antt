@@ -1,7 +1,7 @@
 -- When two terminals are the same, and what tells two apart: as far as terminals go that know transmit status
 -- word alone.
 use Rattle.std.specs.Prelude.{◌≡◌, ℕ, ◌+◌, ◌*◌, Bool, true, false, ◌&&◌, List, [], ◌∷◌, Option}
-use Rattle.bus_word.specs.declared.word.Bus.TheVariants.{A, B}
+use Rattle.bus_word.specs.declared.word.Bus.TheVariants.{A}
 use Rattle.bus_word.specs.declared.word.Kind.TheVariants.{Com}
 use Rattle.bus_word.specs.Word.{valid_word}
 use Rattle.rt1553.specs.declared.event.Event.{Event}

@@ -1,4 +1,4 @@
-use Rattle.std.proofs.Common.{◌∙◌, ap, sym, arith, nat_le, true, false, Err}
+use Rattle.std.proofs.Common.{◌∙◌, ap, sym, arith, nat_le, Err}
 use Rattle.std.proofs.lemmas.Bool.Decides.{nat_tests}
 use Rattle.line_format.specs.Shapes.{decimal}
 use Rattle.line_format.specs.Views.{spot}

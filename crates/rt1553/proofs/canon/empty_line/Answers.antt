@@ -1,4 +1,4 @@
-use Rattle.std.proofs.Common.{◌≡◌, ◌==◌, ◌&&◌, ◌∙◌, ap, sym, arith, true, false, Err}
+use Rattle.std.proofs.Common.{◌∙◌, ap, sym, arith, Err}
 use Rattle.std.proofs.lemmas.Bool.Decides.{nat_tests}
 use Rattle.line_format.specs.Views.{spot}
 use Rattle.rt1553.proofs.CanonLaws.{empty_here, empty_none, empty_not}

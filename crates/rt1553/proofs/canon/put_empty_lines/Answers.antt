@@ -1,4 +1,4 @@
-use Rattle.std.proofs.Common.{◌≡◌, ◌+◌, ◌-◌, ◌++◌, [], ◌∷◌, List, ℕ, true, arith, append_assoc, append-nil, refl, ◌∙◌, ap, sym, subst}
+use Rattle.std.proofs.Common.{◌≡◌, ◌+◌, ◌-◌, ◌++◌, [], ◌∷◌, List, ℕ, true, arith, append_assoc, append-nil, refl, ◌∙◌, ap, sym}
 use Rattle.line_format.specs.Format.{Spells, spell_fields}
 use Rattle.line_format.specs.Shapes.{decimal, mask}
 use Rattle.rt1553.specs.Canon.{empty_lines}

@@ -1,4 +1,4 @@
-use Rattle.std.proofs.Common.{◌≡◌, ◌≤◌, ℕ, ◌∙◌, sym, subst, arith, append_assoc}
+use Rattle.std.proofs.Common.{◌≡◌, ◌≤◌, ◌∙◌, subst, arith, append_assoc}
 use Rattle.rt1553.specs.Canon.{Text}
 use Rattle.rt1553.specs.Normal.{address_of}
 use Rattle.rt1553.proofs.CanonLaws.{whole_spelled}

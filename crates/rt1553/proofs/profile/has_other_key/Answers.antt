@@ -1,4 +1,4 @@
-use Rattle.std.proofs.Common.{◌≡◌, not, List, ℕ, ap, sym, ◌∙◌}
+use Rattle.std.proofs.Common.{not, List, ℕ, ap, sym}
 use Rattle.std.specs.List.{list_any}
 use Rattle.std.specs.Str.{bytes_eq}
 use Rattle.rt1553.specs.Profile.{address_key}
