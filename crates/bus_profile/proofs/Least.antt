@@ -81,9 +81,6 @@ pub in_order_rises : (parts : List (List Check)) → AllRise parts → Rises (in
 unfolding in_order
 in_order_rises parts a = numbered_rise 0 parts a
 
-pub check_rises : (f : ProfileFault) (b : Bool) → f ≢ NotToml → Rises (check f b)
-check_rises f b other = (tt, tt, other)
-
 -- ---- the least place
 
 before_each : (p : List ℕ) (cs : List Check) → IsBeforeAll p cs → (d : Check) → IsAmong cs d → IsBefore p d.place

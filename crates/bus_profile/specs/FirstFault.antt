@@ -34,3 +34,8 @@ ReadsParts meaning parts value (Err fault) = fault_of_parts parts ≡ Some fault
 abbrev pub ReadsInMemory : {A B : Type 0} → (A → B) → List (List Check) → B → Result A ProfileFault → Type 0
 ReadsInMemory meaning parts value (Ok a) = (fault_of_parts parts ≡ None) × (meaning a ≡ value)
 ReadsInMemory meaning parts value (Err fault) = fault ≢ Memory → fault_of_parts parts ≡ Some fault
+
+-- the same of all the checks of a tree
+abbrev pub ReadsTree : {A B : Type 0} → (A → B) → List Check → B → Result A ProfileFault → Type 0
+ReadsTree meaning checks value (Ok a) = (first_fault checks ≡ None) × (meaning a ≡ value)
+ReadsTree meaning checks value (Err fault) = fault ≢ Memory → first_fault checks ≡ Some fault

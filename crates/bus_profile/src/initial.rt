@@ -21,7 +21,8 @@ const KEYS: [Key; 3] = [Key::Subaddress, Key::At, Key::Words];
 /// The initial entries that are the items of an array.
 pub fn initials_of(alloc: Global, values: &[Value]) -> Result<Initials, ProfileFault>
     requires { length values.now ≤ 256 }
-    ensures { ReadsInMemory (map plain_initial) (each_item initial_checks 1 (items_view values.now)) (each_of initial_in (items_view values.now)) result }
+    ensures reads { ReadsInMemory (map plain_initial) (each_item initial_checks 1 (items_view values.now)) (each_of initial_in (items_view values.now)) result }
+    ensures few { IfOk result (λ initials. length initials ≤ 256) }
 {
     let mut initials = Vec::new(alloc);
     for (index, value) in values.iter().enumerate() {

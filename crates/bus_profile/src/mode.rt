@@ -1,5 +1,5 @@
 //! The mode entries of a profile text.
-ghost use Rattle.std.specs.Prelude.{◌≡◌, ◌≤◌, ◌<◌, length};
+ghost use Rattle.std.specs.Prelude.{◌≡◌, ◌≤◌, ◌<◌, length, IfOk};
 ghost use Rattle.toml.specs.Data.{table as table_data};
 ghost use Rattle.toml.specs.View.{view, items_view, table_view};
 ghost use Rattle.bus_profile.specs.FirstFault.{Reads, ReadsInMemory};
@@ -18,7 +18,8 @@ const KEYS: [Key; 3] = [Key::To, Key::Codes, Key::Legal];
 /// The mode entries that are the items of an array.
 pub fn modes_of(alloc: Global, values: &[Value]) -> Result<ModeRules, ProfileFault>
     requires { length values.now ≤ 256 }
-    ensures { ReadsInMemory (λ modes. modes) (each_item mode_checks 1 (items_view values.now)) (each_of mode_in (items_view values.now)) result }
+    ensures reads { ReadsInMemory (λ modes. modes) (each_item mode_checks 1 (items_view values.now)) (each_of mode_in (items_view values.now)) result }
+    ensures few { IfOk result (λ modes. length modes ≤ 256) }
 {
     let mut modes = Vec::new(alloc);
     for (index, value) in values.iter().enumerate() {

@@ -1,5 +1,5 @@
 //! The rules of a profile text.
-ghost use Rattle.std.specs.Prelude.{◌≤◌, length, map};
+ghost use Rattle.std.specs.Prelude.{◌≤◌, length, IfOk, map};
 ghost use Rattle.toml.specs.Data.{table as table_data};
 ghost use Rattle.toml.specs.View.{view, items_view, table_view};
 ghost use Rattle.bus_profile.specs.FirstFault.{ReadsAs, ReadsInMemory};
@@ -24,7 +24,8 @@ const KEYS: [Key; 5] = [
 /// The rules that are the items of an array.
 pub fn rules_of(alloc: Global, values: &[Value]) -> Result<Rules, ProfileFault>
     requires { length values.now ≤ 256 }
-    ensures { ReadsInMemory (map plain_rule) (each_item rule_checks 1 (items_view values.now)) (each_of rule_in (items_view values.now)) result }
+    ensures reads { ReadsInMemory (map plain_rule) (each_item rule_checks 1 (items_view values.now)) (each_of rule_in (items_view values.now)) result }
+    ensures few { IfOk result (λ rules. length rules ≤ 256) }
 {
     let mut rules = Vec::new(alloc);
     for (index, value) in values.iter().enumerate() {
