@@ -11,7 +11,7 @@ use Rattle.bus_profile.specs.Checks.{Check, check}
 use Rattle.bus_profile.specs.Keys.{Row, setting_rows, rule_row, mode_row, initial_row, rule_rows, mode_rows, subaddress_row, at_row, words_row, initial_rows}
 use Rattle.bus_profile.specs.Kinds.{found, value, items}
 use Rattle.bus_profile.specs.Faults.{key_checks, row_checks, head_checks, array_checks, each_item, entry_checks, rule_checks, mode_checks, initial_checks, word_checks, words_checks, goes_beyond, is_too_long, entries_checks, key_faults, code_faults, faults}
-use Rattle.bus_profile.specs.FirstFault.{first_fault, ReadsTree}
+use Rattle.bus_profile.specs.FirstFault.{first_fault, ReadsInMemory}
 use Rattle.bus_profile.specs.Plain.{plain, profile_of}
 use Rattle.bus_profile.specs.Read.{IsTree, Accepts, HasFirst, Refuses}
 use Rattle.bus_profile.proofs.Least.{Rises, AllRise, in_order_rises, IsFirst-from, HasNoFault-from, first_fault-tree}
@@ -86,14 +86,14 @@ faults_rise ms = in_order_rises _ (key_faults_rise ms, (code_faults_rise ms, tt)
 
 -- ---- what the reader of a tree answers, said of its text
 
-pub accepts : (text : List ℕ) (tree : Members) (r : Result Profile ProfileFault) → IsTree text tree → ReadsTree plain (faults tree) (profile_of tree) r → IfOk r (Accepts text)
+pub accepts : (text : List ℕ) (tree : Members) (r : Result Profile ProfileFault) → IsTree text tree → ReadsInMemory plain (first_fault (faults tree)) (profile_of tree) r → IfOk r (Accepts text)
 accepts text tree (Ok profile) is reads = record { tree = tree; is = is; faultless = HasNoFault-from (faults tree) reads.0; gives = reads.1 }
 accepts text tree (Err fault) is reads = tt
 
 has_first : (text : List ℕ) (tree : Members) (fault : ProfileFault) → IsTree text tree → first_fault (faults tree) ≡ Some fault → HasFirst text fault
 has_first text tree fault is e = record { tree = tree; is = is; first = IsFirst-from (faults tree) fault (faults_rise tree) e }
 
-pub refuses : (text : List ℕ) (tree : Members) (r : Result Profile ProfileFault) → IsTree text tree → ReadsTree plain (faults tree) (profile_of tree) r → IfErr r (Refuses text)
+pub refuses : (text : List ℕ) (tree : Members) (r : Result Profile ProfileFault) → IsTree text tree → ReadsInMemory plain (first_fault (faults tree)) (profile_of tree) r → IfErr r (Refuses text)
 refuses text tree (Ok profile) is reads = tt
 refuses text tree (Err Memory) is reads = tt
 refuses text tree (Err NotToml) is reads = absurd (first_fault-tree (faults tree) (faults_rise tree) (reads (λ e. cc)))

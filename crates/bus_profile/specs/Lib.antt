@@ -10,4 +10,5 @@ pub mod Faults
 pub mod FirstFault
 pub mod Plain
 pub mod Read
+pub mod Section
 pub mod Words
