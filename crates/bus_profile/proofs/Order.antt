@@ -72,9 +72,11 @@ entries_rise row checks each ms = array_rises Root row is_too_long checks each m
 key_faults_rise : (ms : Members) → Rises (key_faults ms)
 unfolding key_faults
 key_faults_rise ms =
-    in_order_rises _ ((tt, tt, λ e. cc),
-    rows_rise Root ms setting_rows (entries_checks rule_row rule_checks ms ∷ entries_checks mode_row mode_checks ms ∷ entries_checks initial_row initial_checks ms ∷ [])
-    (entries_rise rule_row rule_checks rule_rises ms, (entries_rise mode_row mode_checks mode_rises ms, (entries_rise initial_row initial_checks initial_rises ms, tt))))
+    in_order_rises _ (
+      (tt, tt, λ e. cc),
+      rows_rise Root ms setting_rows (entries_checks rule_row rule_checks ms ∷ entries_checks mode_row mode_checks ms ∷ entries_checks initial_row initial_checks ms ∷ [])
+          (entries_rise rule_row rule_checks rule_rises ms, (entries_rise mode_row mode_checks mode_rises ms, (entries_rise initial_row initial_checks initial_rises ms, tt))),
+    )
 
 code_faults_rise : (ms : Members) → Rises (code_faults ms)
 unfolding code_faults

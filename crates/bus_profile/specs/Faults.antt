@@ -28,11 +28,11 @@ if_there test d = option_map_or test d false
 -- the checks of what stands at a key, or of its absence
 abbrev pub key_checks : Part → Row → Option Data → List Check
 key_checks part row d = in_order (
-  check (Missing part row.key) (is_required row.presence && is_none d)
-  ∷ check (WrongKind part row.key) (if_there (λ x. not (is_of_kind row.kind x)) d)
-  ∷ check (BadRanges part row.key) (if_there (is_bad_ranges row.kind) d)
-  ∷ check (OutOfRange part row.key) (if_there (is_out_of_range row.kind) d)
-  ∷ [])
+    check (Missing part row.key) (is_required row.presence && is_none d)
+    ∷ check (WrongKind part row.key) (if_there (λ x. not (is_of_kind row.kind x)) d)
+    ∷ check (BadRanges part row.key) (if_there (is_bad_ranges row.kind) d)
+    ∷ check (OutOfRange part row.key) (if_there (is_out_of_range row.kind) d)
+    ∷ [])
 
 abbrev pub row_checks : Part → Members → Row → List Check
 row_checks part ms row = key_checks part row (found row.key ms)
@@ -47,9 +47,9 @@ each_item checks n (item d ds) = checks n d ∷ each_item checks (suc n) ds
 -- the checks of an array as a whole
 abbrev pub head_checks : Part → Row → (Items → Bool) → Members → List Check
 head_checks part row is_too_long ms = in_order (
-  row_checks part ms row
-  ∷ check (TooMany part row.key) (is_too_long (items (value row ms)))
-  ∷ [])
+    row_checks part ms row
+    ∷ check (TooMany part row.key) (is_too_long (items (value row ms)))
+    ∷ [])
 
 -- the checks of an array: of the whole, and then of each item, from number 1
 unfoldable pub array_checks : Part → Row → (Items → Bool) → (ℕ → Data → List Check) → Members → List Check
@@ -59,9 +59,9 @@ array_checks part row is_too_long checks ms = in_order (head_checks part row is_
 -- its keys
 unfoldable pub entry_checks : Part → Row → List Row → (Members → List (List Check)) → Data → List Check
 entry_checks part row rows keys (table ms) = in_order (
-  check (WrongKind part row.key) false
-  ∷ check (UnknownKey part) (has_unknown (keys_of rows) ms)
-  ∷ keys ms)
+    check (WrongKind part row.key) false
+    ∷ check (UnknownKey part) (has_unknown (keys_of rows) ms)
+    ∷ keys ms)
 entry_checks part row rows keys _ = in_order (check (WrongKind part row.key) true ∷ [])
 
 -- ---- the entries
@@ -75,9 +75,9 @@ mode_checks n = entry_checks (part.Mode n) mode_row mode_rows (λ ms. map (row_c
 -- the checks of one word
 abbrev pub word_checks : Part → Data → List Check
 word_checks part d = in_order (
-  check (WrongKind part key.Words) (not (is_of_kind (whole 0 65535) d))
-  ∷ check (OutOfRange part key.Words) (is_out_of_range (whole 0 65535) d)
-  ∷ [])
+    check (WrongKind part key.Words) (not (is_of_kind (whole 0 65535) d))
+    ∷ check (OutOfRange part key.Words) (is_out_of_range (whole 0 65535) d)
+    ∷ [])
 
 -- The words from number `at` on go beyond number 32. Of an `at` with a fault this isn't asked.
 abbrev pub goes_beyond : Option Data → Items → Bool
@@ -107,12 +107,12 @@ entries_checks row checks ms = array_checks part.Root row is_too_long checks ms
 -- the checks of all that stands in the tree
 unfoldable pub key_faults : Members → List Check
 key_faults ms = in_order (
-  check (UnknownKey part.Root) (has_unknown (keys_of root_rows) ms)
-  ∷ (map (row_checks part.Root ms) setting_rows ++
-  entries_checks rule_row rule_checks ms
-  ∷ entries_checks mode_row mode_checks ms
-  ∷ entries_checks initial_row initial_checks ms
-  ∷ []))
+    check (UnknownKey part.Root) (has_unknown (keys_of root_rows) ms)
+    ∷ (map (row_checks part.Root ms) setting_rows ++
+    entries_checks rule_row rule_checks ms
+    ∷ entries_checks mode_row mode_checks ms
+    ∷ entries_checks initial_row initial_checks ms
+    ∷ []))
 
 -- no check fails
 abbrev pub all_pass : List Check → Bool

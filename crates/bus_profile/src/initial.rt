@@ -10,12 +10,11 @@ ghost use Rattle.bus_profile.specs.Plain.{plain_initial, initial_in, word_in, ea
 ghost use Rattle.bus_profile.specs.Section.{tree_of, value_at};
 ghost use Rattle.bus_profile.specs.Words.{IsPlace};
 
-use std::alloc::Global;
-use toml::{Table, Value};
-
 use crate::entries::{InitialWords, Initials};
 use crate::fault::{Key, Part, ProfileFault};
 use crate::section::{Section, in_range, items_of};
+use std::alloc::Global;
+use toml::{Table, Value};
 
 const KEYS: [Key; 3] = [Key::Subaddress, Key::At, Key::Words];
 

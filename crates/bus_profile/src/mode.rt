@@ -6,12 +6,11 @@ ghost use Rattle.bus_profile.specs.FirstFault.{first_fault, fault_of_parts, Read
 ghost use Rattle.bus_profile.specs.Faults.{mode_checks, each_item};
 ghost use Rattle.bus_profile.specs.Plain.{mode_in, each_of};
 
-use std::alloc::Global;
-use toml::{Table, Value};
-
 use crate::entries::{ModeRule, ModeRules};
 use crate::fault::{Key, Part, ProfileFault};
 use crate::section::Section;
+use std::alloc::Global;
+use toml::{Table, Value};
 
 const KEYS: [Key; 3] = [Key::To, Key::Codes, Key::Legal];
 

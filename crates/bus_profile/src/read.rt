@@ -6,9 +6,6 @@ ghost use Rattle.bus_profile.specs.FirstFault.{first_fault, ReadsInMemory};
 ghost use Rattle.bus_profile.specs.Plain.{plain, profile_of};
 ghost use Rattle.bus_profile.specs.Read.{Accepts, Refuses};
 
-use std::alloc::Global;
-use toml::Table;
-
 use crate::fault::{Key, Part, ProfileFault};
 use crate::initial::initials_of;
 use crate::mode::modes_of;
@@ -16,6 +13,8 @@ use crate::own_codes::missing_code;
 use crate::profile::Profile;
 use crate::rule::rules_of;
 use crate::section::Section;
+use std::alloc::Global;
+use toml::Table;
 
 const KEYS: [Key; 9] = [
     Key::Address,

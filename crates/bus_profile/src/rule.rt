@@ -6,12 +6,11 @@ ghost use Rattle.bus_profile.specs.FirstFault.{first_fault, fault_of_parts, Read
 ghost use Rattle.bus_profile.specs.Faults.{rule_checks, each_item};
 ghost use Rattle.bus_profile.specs.Plain.{plain_rule, rule_in, each_of};
 
-use std::alloc::Global;
-use toml::{Table, Value};
-
 use crate::entries::{Rule, Rules};
 use crate::fault::{Key, Part, ProfileFault};
 use crate::section::Section;
+use std::alloc::Global;
+use toml::{Table, Value};
 
 const KEYS: [Key; 5] = [
     Key::To,

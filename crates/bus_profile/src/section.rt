@@ -8,10 +8,9 @@ ghost use Rattle.bus_profile.specs.Keys.{row, whole, truth, ranges, tables, requ
 ghost use Rattle.bus_profile.specs.Kinds.{found, number, truth_value, set_from, items, in_range, is_known, has_unknown};
 ghost use Rattle.bus_profile.specs.Section.{tree_of, value_at, fault_at};
 
-use toml::{Table, Value};
-
 use crate::fault::{Key, Part, ProfileFault};
 use crate::ranges::{RangeFault, parse_ranges};
+use toml::{Table, Value};
 
 /// A table of the profile text, and which part of the profile it is.
 #[derive(Clone, Copy)]
@@ -84,7 +83,9 @@ impl Section<'_> {
         ensures { Reads (fault_at (row key truth (optional (boolean default))) self.now) (truth_value (value_at (row key truth (optional (boolean default))) self.now)) result }
     {
         match self.value(key) {
-            Some(value) => value.as_bool().ok_or(ProfileFault::WrongKind(self.part, key)),
+            Some(value) => value
+                .as_bool()
+                .ok_or(ProfileFault::WrongKind(self.part, key)),
             None => Ok(default),
         }
     }

@@ -16,4 +16,4 @@ returns-in_err-words c =
     let values = c.in_ok-values.ensures.reads in
     rw (p.1, p.2)
     (word_fails c.args.number (table_view c.args.table.now) c.in_ok-values.values.now _
-        c.if-has_unknown_key.ensures c.in_ok-subaddress.ensures.reads.0 c.in_ok-first.ensures.reads.0 values.0 values.1 c.in_err-words.ensures)
+    c.if-has_unknown_key.ensures c.in_ok-subaddress.ensures.reads.0 c.in_ok-first.ensures.reads.0 values.0 values.1 c.in_err-words.ensures)
