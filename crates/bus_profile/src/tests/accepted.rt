@@ -2,35 +2,104 @@
 use crate::{ModeRule, Rule, read_profile};
 use std::test::Fail;
 
-// Each key at the ends of its range, and each form that TOML gives a value.
+// In each block a profile text: each key at the ends of its range, and each form that TOML gives a
+// value.
+const LIMITS: &str = r#"address = 0
+
+address = 30
+
+address = 0x1e
+
+address = 0b00101
+
+address = +5
+
+address = -0
+
+"address" = 5
+
+'address' = 5
+
+# a comment
+address = 5 # and one more
+
+address = 5
+vector = 0
+bit = 0
+
+address = 5
+vector = 65535
+bit = 65535
+
+address = 5
+rule = []
+mode = []
+initial = []
+
+address = 5
+[[rule]]
+direction = "receive"
+subaddresses = 1
+counts = 1
+
+address = 5
+[[rule]]
+direction = "transmit"
+subaddresses = 30
+counts = 32
+
+address = 5
+[[rule]]
+direction = "both"
+subaddresses = "1-30"
+counts = "1-32"
+
+address = 5
+rule = [{direction = "both", subaddresses = 1}, {subaddresses = 2, direction = "receive"}]
+
+address = 5
+[[mode]]
+codes = 0
+[[mode]]
+codes = 31
+[[mode]]
+codes = "0-31"
+
+address = 5
+[[mode]]
+to = "broadcast"
+codes = "0-31"
+legal = false
+
+address = 5
+mode = [{codes = "0-31", legal = false}, {codes = "2,4-5,8"}]
+
+address = 5
+mode = [{codes = 2, legal = false}, {to = "both", codes = 2}]
+
+address = 5
+initial = [{subaddress = 1, at = 1, words = []}]
+
+address = 5
+initial = [{subaddress = 30, at = 32, words = []}]
+
+address = 5
+initial = [{subaddress = 30, at = 32, words = [65535]}]
+
+address = 5
+initial = [{subaddress = 30, words = [0,0,0,0,0,0,0,0,0,0,0,0,0,0,0,0,0,0,0,0,0,0,0,0,0,0,0,0,0,0,0,0]}]"#;
+
 #[test]
 fn texts_at_the_limits(rt: HostRuntime) {
+    for text in LIMITS.split("\n\n") {
+        assert!(rt;
+            read_profile(rt.alloc(), text.as_bytes()).is_ok(),
+            "at {text}"
+        );
+    }
     for text in [
-        b"address = 0".as_slice(),
-        b"address = 30",
-        b"address = 0x1e",
-        b"address = 0b00101",
-        b"address = +5",
-        b"address = -0",
-        b"\"address\" = 5",
-        b"'address' = 5",
-        b"\xef\xbb\xbfaddress = 5",
+        b"\xef\xbb\xbfaddress = 5".as_slice(),
         b"address = 5\r\nbroadcast = true\r\n",
-        b"# a comment\naddress = 5 # and one more\n\n",
-        b"address = 5\nvector = 0\nbit = 0",
-        b"address = 5\nvector = 65535\nbit = 65535",
-        b"address = 5\nrule = []\nmode = []\ninitial = []",
-        b"address = 5\n[[rule]]\ndirection = \"receive\"\nsubaddresses = 1\ncounts = 1",
-        b"address = 5\n[[rule]]\ndirection = \"transmit\"\nsubaddresses = 30\ncounts = 32",
-        b"address = 5\n[[rule]]\ndirection = \"both\"\nsubaddresses = \"1-30\"\ncounts = \"1-32\"",
-        b"address = 5\n[[mode]]\ncodes = 0\n[[mode]]\ncodes = 31\n[[mode]]\ncodes = \"0-31\"",
-        b"address = 5\n[[mode]]\nto = \"broadcast\"\ncodes = \"0-31\"\nlegal = false",
-        b"address = 5\nmode = [{codes = \"0-31\", legal = false}, {codes = \"2,4-5,8\"}]",
-        b"address = 5\nmode = [{codes = 2, legal = false}, {to = \"both\", codes = 2}]",
-        b"address = 5\ninitial = [{subaddress = 1, at = 1, words = []}]",
-        b"address = 5\ninitial = [{subaddress = 30, at = 32, words = []}]",
-        b"address = 5\ninitial = [{subaddress = 30, at = 32, words = [65535]}]",
-        b"address = 5\ninitial = [{subaddress = 30, words = [0,0,0,0,0,0,0,0,0,0,0,0,0,0,0,0,0,0,0,0,0,0,0,0,0,0,0,0,0,0,0,0]}]",
     ] {
         assert!(rt; read_profile(rt.alloc(), text).is_ok(), "at {text:?}");
     }
@@ -42,9 +111,9 @@ fn smallest_profile(rt: HostRuntime) -> Result<(), Fail> {
     assert_eq!(rt; profile.address, 5);
     assert!(rt; !profile.broadcast && profile.wrap && !profile.accept);
     assert!(rt; profile.vector == 0 && profile.bit == 0);
-    assert!(rt; profile.rules.as_slice().is_empty());
-    assert!(rt; profile.modes.as_slice().is_empty());
-    assert!(rt; profile.initials.as_slice().is_empty());
+    assert!(rt; profile.rules.into_vec().is_empty());
+    assert!(rt; profile.modes.into_vec().is_empty());
+    assert!(rt; profile.initials.into_vec().is_empty());
     Ok(())
 }
 
@@ -156,15 +225,5 @@ fn whole_profile(rt: HostRuntime) -> Result<(), Fail> {
     assert!(rt; first.subaddress == 3 && first.first == 31 && first.len == 2);
     assert_eq!(rt; &first.words[..2], [0x1234, 65535].as_slice());
     assert!(rt; second.subaddress == 7 && second.first == 1 && second.len == 0);
-    Ok(())
-}
-
-// The lists give their entries back.
-#[test]
-fn lists_of_a_profile(rt: HostRuntime) -> Result<(), Fail> {
-    let profile = read_profile(rt.alloc(), WHOLE)?;
-    assert_eq!(rt; profile.rules.into_vec().len(), 3);
-    assert_eq!(rt; profile.modes.into_vec().len(), 2);
-    assert_eq!(rt; profile.initials.into_vec().len(), 2);
     Ok(())
 }
