@@ -1,10 +1,10 @@
 -- The first check of a list that fails has the least place, where the list is made of parts in order.
-use Rattle.std.proofs.Common.{◌≡◌, ◌≢◌, ℕ, suc, ◌<◌, Bool, true, false, cond, List, [], ◌∷◌, ◌++◌, Option, Some, None, refl, ap, ◌∙◌, inl, inr, ⊎_elim, ◌⊎◌, arith}
+use Rattle.std.proofs.Common.{◌≡◌, ◌≢◌, ℕ, suc, ◌<◌, Bool, true, false, cond, List, [], ◌∷◌, ◌++◌, Some, None, refl, ap, ◌∙◌, inl, inr, ⊎_elim, arith}
 use Rattle.std.proofs.lemmas.Option.{same_Some}
 use Rattle.std.specs.Option.{option_or}
 use Rattle.bus_profile.specs.declared.fault.ProfileFault.{ProfileFault}
 use Rattle.bus_profile.specs.declared.fault.ProfileFault.TheVariants.{NotToml}
-use Rattle.bus_profile.specs.Checks.{Check, IsBefore, IsAmong, IsFirst, HasNoFault, check, under, numbered, in_order}
+use Rattle.bus_profile.specs.Checks.{Check, IsBefore, IsAmong, IsFirst, HasNoFault, under, numbered, in_order}
 use Rattle.bus_profile.specs.FirstFault.{first_fault, fault_of_parts}
 
 -- ---- the first of a list of parts

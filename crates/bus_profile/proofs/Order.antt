@@ -1,5 +1,5 @@
 -- The places of a tree's checks rise, so that the first check that fails has the least place.
-use Rattle.std.proofs.Common.{◌≡◌, ◌≢◌, ℕ, suc, Bool, List, [], ◌∷◌, ◌++◌, map, Option, Some, None, Result, Ok, Err, IfOk, IfErr}
+use Rattle.std.proofs.Common.{◌≡◌, ℕ, suc, Bool, List, [], ◌∷◌, ◌++◌, map, Option, Some, Result, Ok, Err, IfOk, IfErr}
 use Rattle.toml.specs.Data.{Data, string, integer, float, boolean, datetime, array, table, Items, no_items, item, Members}
 use Rattle.bus_profile.specs.declared.fault.Key.TheVariants as key
 use Rattle.bus_profile.specs.declared.fault.Part.{Part}
@@ -7,10 +7,10 @@ use Rattle.bus_profile.specs.declared.fault.Part.TheVariants.{Root, Rule, Mode, 
 use Rattle.bus_profile.specs.declared.fault.ProfileFault.{ProfileFault}
 use Rattle.bus_profile.specs.declared.fault.ProfileFault.TheVariants.{NotToml, UnknownKey, Missing, WrongKind, OutOfRange, BadRanges, TooMany, RequiredCode, Memory}
 use Rattle.bus_profile.specs.declared.profile.Profile.{Profile}
-use Rattle.bus_profile.specs.Checks.{Check, check}
+use Rattle.bus_profile.specs.Checks.{Check}
 use Rattle.bus_profile.specs.Keys.{Row, setting_rows, rule_row, mode_row, initial_row, rule_rows, mode_rows, subaddress_row, at_row, words_row, initial_rows}
-use Rattle.bus_profile.specs.Kinds.{found, value, items}
-use Rattle.bus_profile.specs.Faults.{key_checks, row_checks, head_checks, array_checks, each_item, entry_checks, rule_checks, mode_checks, initial_checks, word_checks, words_checks, goes_beyond, is_too_long, entries_checks, key_faults, code_faults, faults}
+use Rattle.bus_profile.specs.Kinds.{found, value, items, is_too_long}
+use Rattle.bus_profile.specs.Faults.{key_checks, row_checks, array_checks, each_item, entry_checks, rule_checks, mode_checks, initial_checks, word_checks, words_checks, goes_beyond, entries_checks, key_faults, code_faults, faults}
 use Rattle.bus_profile.specs.FirstFault.{first_fault, ReadsInMemory}
 use Rattle.bus_profile.specs.Plain.{plain, profile_of}
 use Rattle.bus_profile.specs.Read.{IsTree, Accepts, HasFirst, Refuses}
@@ -67,7 +67,7 @@ initial_rises n d =
 -- ---- the tree
 
 entries_rise : (row : Row) (checks : ℕ → Data → List Check) → ((n : ℕ) (d : Data) → Rises (checks n d)) → (ms : Members) → Rises (entries_checks row checks ms)
-entries_rise row checks each ms = array_rises Root row is_too_long checks each ms
+entries_rise row checks each ms = array_rises Root row (is_too_long row.kind) checks each ms
 
 key_faults_rise : (ms : Members) → Rises (key_faults ms)
 unfolding key_faults

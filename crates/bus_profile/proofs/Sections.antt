@@ -1,11 +1,11 @@
 -- The first fault of each section of a profile, key by key.
-use Rattle.std.proofs.Common.{◌≡◌, ℕ, false, cond, Option, Some, None, List, [], ◌∷◌, ◌∙◌}
+use Rattle.std.proofs.Common.{◌≡◌, ℕ, false, cond, Option, Some, None, List, ◌∷◌, ◌∙◌}
 use Rattle.std.specs.Option.{option_or}
 use Rattle.toml.specs.Data.{table, Members}
 use Rattle.toml.specs.View.{items_view}
 use Rattle.toml.specs.declared.value.Value.{Value}
 use Rattle.bus_profile.specs.declared.fault.Part.{Part}
-use Rattle.bus_profile.specs.declared.fault.Part.TheVariants.{Root, Rule, Mode, Initial}
+use Rattle.bus_profile.specs.declared.fault.Part.TheVariants.{Rule, Mode, Initial}
 use Rattle.bus_profile.specs.declared.fault.ProfileFault.{ProfileFault}
 use Rattle.bus_profile.specs.declared.fault.ProfileFault.TheVariants.{UnknownKey}
 use Rattle.bus_profile.specs.Keys.{Row, keys_of, rule_rows, mode_rows, initial_rows, to_row, direction_row, subaddresses_row, counts_row, legal_row, codes_row, subaddress_row, at_row, words_row}

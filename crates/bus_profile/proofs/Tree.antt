@@ -8,8 +8,8 @@ use Rattle.bus_profile.specs.declared.fault.ProfileFault.TheVariants.{RequiredCo
 use Rattle.bus_profile.specs.OwnCodes.{is_own_code_legal, missing_code}
 use Rattle.bus_profile.specs.Checks.{Check, in_order}
 use Rattle.bus_profile.specs.Keys.{Row, address_row, broadcast_row, wraparound_row, accept_row, vector_row, bit_row, rule_row, mode_row, initial_row, root_rows}
-use Rattle.bus_profile.specs.Kinds.{value, items}
-use Rattle.bus_profile.specs.Faults.{head_checks, array_checks, each_item, is_too_long, entries_checks, rule_checks, mode_checks, initial_checks, key_faults, all_pass, code_faults, faults}
+use Rattle.bus_profile.specs.Kinds.{value, items, is_too_long}
+use Rattle.bus_profile.specs.Faults.{head_checks, array_checks, each_item, entries_checks, rule_checks, mode_checks, initial_checks, key_faults, all_pass, code_faults, faults}
 use Rattle.bus_profile.specs.Plain.{modes_of}
 use Rattle.bus_profile.specs.FirstFault.{first_fault, fault_of_parts}
 use Rattle.bus_profile.proofs.Least.{first_fault-in_order}
@@ -17,7 +17,7 @@ use Rattle.bus_profile.proofs.Sections.{unknown_fault, row_fault}
 
 -- an array of entries: itself first, then its items
 abbrev pub entries_fault : Row → (ℕ → Data → List Check) → Members → Option ProfileFault
-entries_fault row checks ms = option_or (first_fault (head_checks Root row is_too_long ms)) (fault_of_parts (each_item checks 1 (items (value row ms))))
+entries_fault row checks ms = option_or (first_fault (head_checks Root row (is_too_long row.kind) ms)) (fault_of_parts (each_item checks 1 (items (value row ms))))
 
 entries_fault_is : (row : Row) (checks : ℕ → Data → List Check) (ms : Members) → first_fault (entries_checks row checks ms) ≡ entries_fault row checks ms
 unfolding array_checks

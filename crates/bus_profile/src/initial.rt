@@ -8,7 +8,7 @@ ghost use Rattle.bus_profile.specs.Keys.{at_row, words_row};
 ghost use Rattle.bus_profile.specs.Kinds.{items};
 ghost use Rattle.bus_profile.specs.Plain.{plain_initial, initial_in, word_in, each_of};
 ghost use Rattle.bus_profile.specs.Section.{tree_of, value_at};
-ghost use Rattle.bus_profile.specs.Words.{IsPlace};
+ghost use Rattle.bus_profile.specs.Initial.{IsPlace};
 
 use crate::entries::{InitialWords, Initials};
 use crate::fault::{Key, Part, ProfileFault};

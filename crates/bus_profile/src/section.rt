@@ -3,9 +3,9 @@ ghost use Rattle.std.specs.Prelude.{◌≡◌, ◌+◌, ◌-◌, ◌^◌, ◌<�
 ghost use Rattle.toml.specs.Data.{as_array, integer, boolean, array, no_items};
 ghost use Rattle.toml.specs.View.{view, items_view};
 ghost use Rattle.bus_profile.specs.FirstFault.{Reads, ReadsAs, first_fault};
-ghost use Rattle.bus_profile.specs.Faults.{key_checks, head_checks, is_too_long};
+ghost use Rattle.bus_profile.specs.Faults.{key_checks, head_checks};
 ghost use Rattle.bus_profile.specs.Keys.{row, whole, truth, ranges, tables, required, optional, counts_row};
-ghost use Rattle.bus_profile.specs.Kinds.{found, number, truth_value, set_from, items, in_range, is_known, has_unknown};
+ghost use Rattle.bus_profile.specs.Kinds.{found, number, truth_value, set_from, items, in_range, is_too_long, is_known, has_unknown};
 ghost use Rattle.bus_profile.specs.Section.{tree_of, value_at, fault_at};
 
 use crate::fault::{Key, Part, ProfileFault};
@@ -42,7 +42,7 @@ impl Section<'_> {
     /// A whole number from `low` to `high` that must be there.
     #[tactic(auto, unfolding(crate::specs::Checks::in_order))]
     pub fn required_whole(&self, key: Key, low: u16, high: u16) -> Result<u16, ProfileFault>
-        ensures reads { Reads (fault_at (row key (whole low high) required) self.now) (number (value_at (row key (whole low high) required) self.now)) result }
+        ensures reads { let line = row key (whole low high) required in Reads (fault_at line self.now) (number (value_at line self.now)) result }
         ensures range { IfOk result (λ n. (low ≤ n) × (n ≤ high)) }
     {
         let Some(value) = self.value(key) else {
@@ -65,7 +65,7 @@ impl Section<'_> {
     ) -> Result<u16, ProfileFault>
         requires low { low ≤ default }
         requires high { default ≤ high }
-        ensures reads { Reads (fault_at (row key (whole low high) (optional (integer (pos default)))) self.now) (number (value_at (row key (whole low high) (optional (integer (pos default)))) self.now)) result }
+        ensures reads { let line = row key (whole low high) (optional (integer (pos default))) in Reads (fault_at line self.now) (number (value_at line self.now)) result }
         ensures range { IfOk result (λ n. (low ≤ n) × (n ≤ high)) }
     {
         let Some(value) = self.value(key) else {
@@ -80,7 +80,7 @@ impl Section<'_> {
     /// A truth value, or the default.
     #[tactic(auto, unfolding(crate::specs::Checks::in_order))]
     pub fn optional_truth(&self, key: Key, default: bool) -> Result<bool, ProfileFault>
-        ensures { Reads (fault_at (row key truth (optional (boolean default))) self.now) (truth_value (value_at (row key truth (optional (boolean default))) self.now)) result }
+        ensures { let line = row key truth (optional (boolean default)) in Reads (fault_at line self.now) (truth_value (value_at line self.now)) result }
     {
         match self.value(key) {
             Some(value) => value
@@ -95,7 +95,7 @@ impl Section<'_> {
     pub fn required_ranges(&self, key: Key, low: u8, high: u8) -> Result<u32, ProfileFault>
         requires order { low ≤ high }
         requires width { high - low ≤ 31 }
-        ensures reads { Reads (fault_at (row key (ranges low high) required) self.now) (set_from low high (value_at (row key (ranges low high) required) self.now)) result }
+        ensures reads { let line = row key (ranges low high) required in Reads (fault_at line self.now) (set_from low high (value_at line self.now)) result }
         ensures small { IfOk result (λ set. set < 2 ^ (high - low + 1)) }
     {
         match self.value(key) {
@@ -140,7 +140,7 @@ impl Section<'_> {
     /// The items of an array of tables, at most 256: none where there is no such key.
     #[tactic(auto, unfolding(crate::specs::Checks::in_order))]
     pub fn entries(&self, key: Key) -> Result<&[Value], ProfileFault>
-        ensures reads { ReadsAs (λ values. items_view values.now) (first_fault (head_checks self.now.part (row key (tables 256) (optional (array no_items))) is_too_long (tree_of self.now))) (items (value_at (row key (tables 256) (optional (array no_items))) self.now)) result }
+        ensures reads { let line = row key (tables 256) (optional (array no_items)) in ReadsAs (λ values. items_view values.now) (first_fault (head_checks self.now.part line (is_too_long line.kind) (tree_of self.now))) (items (value_at line self.now)) result }
         ensures few { IfOk result (λ values. length values.now ≤ 256) }
     {
         let Some(value) = self.value(key) else {
