@@ -1,3 +1,6 @@
+pub use Rattle.bus_word.specs.Mode
+pub use Rattle.toml.specs.Data
+pub use Rattle.toml.specs.Parse
 pub mod Ranges
 pub mod RangesOf
 pub mod Keys
