@@ -19,12 +19,14 @@ pub enum Addressee {
 }
 
 impl Addressee {
+    /// Whether the own address is among them.
     pub fn is_own(self) -> bool
         ensures { result ≡ says (codes "own") (addressee_text self) }
     {
         self != Addressee::Broadcast
     }
 
+    /// Whether address 31, that of all terminals, is among them.
     pub fn is_broadcast(self) -> bool
         ensures { result ≡ says (codes "broadcast") (addressee_text self) }
     {
@@ -41,12 +43,14 @@ pub enum Direction {
 }
 
 impl Direction {
+    /// Whether commands to receive are meant.
     pub fn is_receive(self) -> bool
         ensures { result ≡ says (codes "receive") (direction_text self) }
     {
         self != Direction::Transmit
     }
 
+    /// Whether commands to transmit are meant.
     pub fn is_transmit(self) -> bool
         ensures { result ≡ says (codes "transmit") (direction_text self) }
     {
