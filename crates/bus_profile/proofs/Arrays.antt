@@ -12,10 +12,10 @@ use Rattle.bus_profile.specs.declared.fault.ProfileFault.{ProfileFault}
 use Rattle.bus_profile.specs.declared.fault.ProfileFault.TheVariants.{TooMany}
 use Rattle.bus_profile.specs.Checks.{check, in_order}
 use Rattle.bus_profile.specs.Keys.{row, tables, optional, at_row, words_row}
-use Rattle.bus_profile.specs.Kinds.{found, or_default, value, number, count_items}
-use Rattle.bus_profile.specs.Faults.{key_checks, row_checks, is_too_long, goes_beyond}
+use Rattle.bus_profile.specs.Kinds.{found, or_default, value, number, count_items, is_too_long}
+use Rattle.bus_profile.specs.Faults.{key_checks, row_checks, goes_beyond}
 use Rattle.bus_profile.specs.FirstFault.{first_fault}
-use Rattle.bus_profile.specs.Words.{IsPlace}
+use Rattle.bus_profile.specs.Initial.{IsPlace}
 
 pub count_items-view : (vs : List Value) → count_items (items_view vs) ≡ length vs
 count_items-view [] = refl
@@ -43,7 +43,7 @@ unfolding in_order
 words_head part ds b = refl
 
 -- an array of so many items is too long, or isn't
-pub is_too_long-view : (vs : List Value) → is_too_long (items_view vs) ≡ nat_lt 256 (length vs)
+pub is_too_long-view : (vs : List Value) → is_too_long (tables 256) (items_view vs) ≡ nat_lt 256 (length vs)
 is_too_long-view vs = rw (count_items-view vs)
 
 pub goes_beyond-view : (first : ℕ) (at : Option Data) (vs : List Value) → IsPlace first at → goes_beyond at (items_view vs) ≡ nat_lt 32 (first - 1 + length vs)

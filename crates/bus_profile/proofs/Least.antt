@@ -1,10 +1,10 @@
 -- The first check of a list that fails has the least place, where the list is made of parts in order.
-use Rattle.std.proofs.Common.{◌≡◌, ◌≢◌, ℕ, suc, ◌<◌, Bool, true, false, cond, List, [], ◌∷◌, ◌++◌, Option, Some, None, refl, ap, ◌∙◌, inl, inr, ⊎_elim, ◌⊎◌, arith}
+use Rattle.std.proofs.Common.{◌≡◌, ◌≢◌, ℕ, suc, ◌<◌, Bool, true, false, cond, List, [], ◌∷◌, ◌++◌, Some, None, refl, ap, ◌∙◌, inl, inr, ⊎_elim, arith}
 use Rattle.std.proofs.lemmas.Option.{same_Some}
 use Rattle.std.specs.Option.{option_or}
 use Rattle.bus_profile.specs.declared.fault.ProfileFault.{ProfileFault}
 use Rattle.bus_profile.specs.declared.fault.ProfileFault.TheVariants.{NotToml}
-use Rattle.bus_profile.specs.Checks.{Check, IsBefore, IsAmong, IsFirst, HasNoFault, check, under, numbered, in_order}
+use Rattle.bus_profile.specs.Checks.{Check, IsBefore, IsAmong, IsFirst, HasNoFault, under, numbered, in_order}
 use Rattle.bus_profile.specs.FirstFault.{first_fault, fault_of_parts}
 
 -- ---- the first of a list of parts
@@ -80,9 +80,6 @@ numbered_rise n (part ∷ parts) a = part_rises n part parts a.0 (numbered_rise 
 pub in_order_rises : (parts : List (List Check)) → AllRise parts → Rises (in_order parts)
 unfolding in_order
 in_order_rises parts a = numbered_rise 0 parts a
-
-pub check_rises : (f : ProfileFault) (b : Bool) → f ≢ NotToml → Rises (check f b)
-check_rises f b other = (tt, tt, other)
 
 -- ---- the least place
 

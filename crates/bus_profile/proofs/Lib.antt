@@ -3,9 +3,11 @@ pub mod Bits
 pub mod Defaults
 pub mod Items
 pub mod Least
+pub mod Order
 pub mod OwnCodes
 pub mod Parts
 pub mod RangesGrammar
 pub mod RangesMeaning
 pub mod RangesRest
 pub mod Sections
+pub mod Tree

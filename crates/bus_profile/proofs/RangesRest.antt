@@ -84,4 +84,3 @@ finish-start low high text = from (items_of text)
 pub finish-end : (low high : ℕ) (ok : Bool) (mask : ℕ) → mask < 2 ^ 32 → finish low high ok mask (Some []) ≡ cond ok (Ok mask) (Err Bounds)
 finish-end low high true mask small = ap Ok (bits_where-same 32 _ _ (λ i l. sym (or_false (has_bit mask i))) ∙ bits_where-whole 32 mask small)
 finish-end low high false mask small = refl
-

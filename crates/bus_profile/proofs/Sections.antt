@@ -1,11 +1,11 @@
 -- The first fault of each section of a profile, key by key.
-use Rattle.std.proofs.Common.{◌≡◌, ℕ, false, cond, Option, Some, None, List, [], ◌∷◌, ◌∙◌}
+use Rattle.std.proofs.Common.{◌≡◌, ℕ, false, cond, Option, Some, None, List, ◌∷◌, ◌∙◌}
 use Rattle.std.specs.Option.{option_or}
 use Rattle.toml.specs.Data.{table, Members}
 use Rattle.toml.specs.View.{items_view}
 use Rattle.toml.specs.declared.value.Value.{Value}
 use Rattle.bus_profile.specs.declared.fault.Part.{Part}
-use Rattle.bus_profile.specs.declared.fault.Part.TheVariants.{Root, Rule, Mode, Initial}
+use Rattle.bus_profile.specs.declared.fault.Part.TheVariants.{Rule, Mode, Initial}
 use Rattle.bus_profile.specs.declared.fault.ProfileFault.{ProfileFault}
 use Rattle.bus_profile.specs.declared.fault.ProfileFault.TheVariants.{UnknownKey}
 use Rattle.bus_profile.specs.Keys.{Row, keys_of, rule_rows, mode_rows, initial_rows, to_row, direction_row, subaddresses_row, counts_row, legal_row, codes_row, subaddress_row, at_row, words_row}
@@ -23,27 +23,27 @@ row_fault part ms row = first_fault (row_checks part ms row)
 
 pub mode_fault : (n : ℕ) (ms : Members) → first_fault (mode_checks n (table ms))
     ≡ option_or (unknown_fault (Mode n) mode_rows ms)
-      (option_or (row_fault (Mode n) ms to_row)
-      (option_or (row_fault (Mode n) ms codes_row)
-      (option_or (row_fault (Mode n) ms legal_row) None)))
+    (option_or (row_fault (Mode n) ms to_row)
+    (option_or (row_fault (Mode n) ms codes_row)
+    (option_or (row_fault (Mode n) ms legal_row) None)))
 unfolding entry_checks
 mode_fault n ms = first_fault-in_order _
 
 pub rule_fault : (n : ℕ) (ms : Members) → first_fault (rule_checks n (table ms))
     ≡ option_or (unknown_fault (Rule n) rule_rows ms)
-      (option_or (row_fault (Rule n) ms to_row)
-      (option_or (row_fault (Rule n) ms direction_row)
-      (option_or (row_fault (Rule n) ms subaddresses_row)
-      (option_or (row_fault (Rule n) ms counts_row)
-      (option_or (row_fault (Rule n) ms legal_row) None)))))
+    (option_or (row_fault (Rule n) ms to_row)
+    (option_or (row_fault (Rule n) ms direction_row)
+    (option_or (row_fault (Rule n) ms subaddresses_row)
+    (option_or (row_fault (Rule n) ms counts_row)
+    (option_or (row_fault (Rule n) ms legal_row) None)))))
 unfolding entry_checks
 rule_fault n ms = first_fault-in_order _
 
 pub initial_fault : (n : ℕ) (ms : Members) → first_fault (initial_checks n (table ms))
     ≡ option_or (unknown_fault (Initial n) initial_rows ms)
-      (option_or (row_fault (Initial n) ms subaddress_row)
-      (option_or (row_fault (Initial n) ms at_row)
-      (option_or (option_or (first_fault (head_checks (Initial n) words_row (goes_beyond (value at_row ms)) ms)) (fault_of_parts (each_item (λ _. word_checks (Initial n)) 1 (items (value words_row ms))))) None)))
+    (option_or (row_fault (Initial n) ms subaddress_row)
+    (option_or (row_fault (Initial n) ms at_row)
+    (option_or (option_or (first_fault (head_checks (Initial n) words_row (goes_beyond (value at_row ms)) ms)) (fault_of_parts (each_item (λ _. word_checks (Initial n)) 1 (items (value words_row ms))))) None)))
 unfolding entry_checks array_checks
 initial_fault n ms = first_fault-in_order _ ∙ rw (first_fault-in_order (head_checks (Initial n) words_row (goes_beyond (value at_row ms)) ms ∷ each_item (λ _. word_checks (Initial n)) 1 (items (value words_row ms))))
 

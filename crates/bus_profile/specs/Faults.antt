@@ -1,18 +1,17 @@
 -- The checks of a profile's tree. Each has its own condition on the tree; places are given by the
 -- order in which the checks of a level are listed.
-use Rattle.std.specs.Prelude.{ℕ, suc, ◌+◌, ◌-◌, nat_lt, Bool, true, false, not, ◌&&◌, List, [], ◌∷◌, ◌++◌, map, Option, Some, None, is_none, is_some}
+use Rattle.std.specs.Prelude.{ℕ, suc, ◌+◌, ◌-◌, nat_lt, Bool, true, false, not, ◌&&◌, List, [], ◌∷◌, ◌++◌, map, Option, Some, is_none, is_some}
 use Rattle.std.specs.Option.{option_map_or}
 use Rattle.std.specs.List.{list_all}
 use Rattle.toml.specs.Data.{Data, integer, table, Items, no_items, item, Members}
-use Rattle.bus_profile.specs.declared.fault.Key.{Key}
 use Rattle.bus_profile.specs.declared.fault.Key.TheVariants as key
 use Rattle.bus_profile.specs.declared.fault.Part.{Part}
 use Rattle.bus_profile.specs.declared.fault.Part.TheVariants as part
 use Rattle.bus_profile.specs.declared.fault.ProfileFault.TheVariants.{UnknownKey, Missing, WrongKind, OutOfRange, BadRanges, TooMany, RequiredCode}
 use Rattle.bus_profile.specs.OwnCodes.{is_own_code_legal}
 use Rattle.bus_profile.specs.Checks.{Check, check, in_order}
-use Rattle.bus_profile.specs.Keys.{whole, Presence, required, optional, Row, keys_of, rule_row, mode_row, initial_row, setting_rows, root_rows, rule_rows, mode_rows, subaddress_row, at_row, words_row, initial_rows}
-use Rattle.bus_profile.specs.Kinds.{found, has_unknown, is_of_kind, in_range, is_bad_ranges, is_out_of_range, value, number, items, count_items}
+use Rattle.bus_profile.specs.Keys.{Presence, required, optional, Row, keys_of, rule_row, mode_row, initial_row, setting_rows, root_rows, rule_rows, mode_rows, subaddress_row, at_row, words_row, initial_rows}
+use Rattle.bus_profile.specs.Kinds.{found, has_unknown, is_of_kind, in_range, is_bad_ranges, is_out_of_range, value, number, items, item_kind, count_items, is_too_long}
 use Rattle.bus_profile.specs.Plain.{modes_of}
 
 -- ---- one key
@@ -28,11 +27,11 @@ if_there test d = option_map_or test d false
 -- the checks of what stands at a key, or of its absence
 abbrev pub key_checks : Part → Row → Option Data → List Check
 key_checks part row d = in_order (
-  check (Missing part row.key) (is_required row.presence && is_none d)
-  ∷ check (WrongKind part row.key) (if_there (λ x. not (is_of_kind row.kind x)) d)
-  ∷ check (BadRanges part row.key) (if_there (is_bad_ranges row.kind) d)
-  ∷ check (OutOfRange part row.key) (if_there (is_out_of_range row.kind) d)
-  ∷ [])
+    check (Missing part row.key) (is_required row.presence && is_none d)
+    ∷ check (WrongKind part row.key) (if_there (λ x. not (is_of_kind row.kind x)) d)
+    ∷ check (BadRanges part row.key) (if_there (is_bad_ranges row.kind) d)
+    ∷ check (OutOfRange part row.key) (if_there (is_out_of_range row.kind) d)
+    ∷ [])
 
 abbrev pub row_checks : Part → Members → Row → List Check
 row_checks part ms row = key_checks part row (found row.key ms)
@@ -46,22 +45,22 @@ each_item checks n (item d ds) = checks n d ∷ each_item checks (suc n) ds
 
 -- the checks of an array as a whole
 abbrev pub head_checks : Part → Row → (Items → Bool) → Members → List Check
-head_checks part row is_too_long ms = in_order (
-  row_checks part ms row
-  ∷ check (TooMany part row.key) (is_too_long (items (value row ms)))
-  ∷ [])
+head_checks part row is_long ms = in_order (
+    row_checks part ms row
+    ∷ check (TooMany part row.key) (is_long (items (value row ms)))
+    ∷ [])
 
 -- the checks of an array: of the whole, and then of each item, from number 1
 unfoldable pub array_checks : Part → Row → (Items → Bool) → (ℕ → Data → List Check) → Members → List Check
-array_checks part row is_too_long checks ms = in_order (head_checks part row is_too_long ms ∷ each_item checks 1 (items (value row ms)))
+array_checks part row is_long checks ms = in_order (head_checks part row is_long ms ∷ each_item checks 1 (items (value row ms)))
 
 -- the checks of an entry of an array: that it is a table, that it has no unknown key, and those of
 -- its keys
 unfoldable pub entry_checks : Part → Row → List Row → (Members → List (List Check)) → Data → List Check
 entry_checks part row rows keys (table ms) = in_order (
-  check (WrongKind part row.key) false
-  ∷ check (UnknownKey part) (has_unknown (keys_of rows) ms)
-  ∷ keys ms)
+    check (WrongKind part row.key) false
+    ∷ check (UnknownKey part) (has_unknown (keys_of rows) ms)
+    ∷ keys ms)
 entry_checks part row rows keys _ = in_order (check (WrongKind part row.key) true ∷ [])
 
 -- ---- the entries
@@ -75,9 +74,9 @@ mode_checks n = entry_checks (part.Mode n) mode_row mode_rows (λ ms. map (row_c
 -- the checks of one word
 abbrev pub word_checks : Part → Data → List Check
 word_checks part d = in_order (
-  check (WrongKind part key.Words) (not (is_of_kind (whole 0 65535) d))
-  ∷ check (OutOfRange part key.Words) (is_out_of_range (whole 0 65535) d)
-  ∷ [])
+    check (WrongKind part key.Words) (not (is_of_kind (item_kind words_row.kind) d))
+    ∷ check (OutOfRange part key.Words) (is_out_of_range (item_kind words_row.kind) d)
+    ∷ [])
 
 -- The words from number `at` on go beyond number 32. Of an `at` with a fault this isn't asked.
 abbrev pub goes_beyond : Option Data → Items → Bool
@@ -96,23 +95,19 @@ initial_checks n = entry_checks (part.Initial n) initial_row initial_rows (λ ms
 
 -- ---- the tree
 
--- more entries than an array may have
-abbrev pub is_too_long : Items → Bool
-is_too_long ds = nat_lt 256 (count_items ds)
-
 -- the checks of an array of entries
 abbrev pub entries_checks : Row → (ℕ → Data → List Check) → Members → List Check
-entries_checks row checks ms = array_checks part.Root row is_too_long checks ms
+entries_checks row checks ms = array_checks part.Root row (is_too_long row.kind) checks ms
 
 -- the checks of all that stands in the tree
 unfoldable pub key_faults : Members → List Check
 key_faults ms = in_order (
-  check (UnknownKey part.Root) (has_unknown (keys_of root_rows) ms)
-  ∷ (map (row_checks part.Root ms) setting_rows ++
-  entries_checks rule_row rule_checks ms
-  ∷ entries_checks mode_row mode_checks ms
-  ∷ entries_checks initial_row initial_checks ms
-  ∷ []))
+    check (UnknownKey part.Root) (has_unknown (keys_of root_rows) ms)
+    ∷ (map (row_checks part.Root ms) setting_rows ++
+    entries_checks rule_row rule_checks ms
+    ∷ entries_checks mode_row mode_checks ms
+    ∷ entries_checks initial_row initial_checks ms
+    ∷ []))
 
 -- no check fails
 abbrev pub all_pass : List Check → Bool

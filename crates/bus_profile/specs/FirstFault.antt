@@ -15,22 +15,18 @@ abbrev pub fault_of_parts : List (List Check) → Option ProfileFault
 fault_of_parts [] = None
 fault_of_parts (part ∷ parts) = option_or (first_fault part) (fault_of_parts parts)
 
--- No check fails, and the value is this one; or the first fault.
-abbrev pub Reads : {A : Type 0} → List Check → A → Result A ProfileFault → Type 0
-Reads checks value (Ok a) = (first_fault checks ≡ None) × (a ≡ value)
-Reads checks value (Err fault) = first_fault checks ≡ Some fault
+-- What a reader answers where this is the first fault of what it reads, or none, and this the value:
+-- the value only where there is no fault, and only the first fault.
+abbrev pub Reads : {A : Type 0} → Option ProfileFault → A → Result A ProfileFault → Type 0
+Reads first value (Ok a) = (first ≡ None) × (a ≡ value)
+Reads first value (Err fault) = first ≡ Some fault
 
--- the same of what the answer means
-abbrev pub ReadsAs : {A B : Type 0} → (A → B) → List Check → B → Result A ProfileFault → Type 0
-ReadsAs meaning checks value (Ok a) = (first_fault checks ≡ None) × (meaning a ≡ value)
-ReadsAs meaning checks value (Err fault) = first_fault checks ≡ Some fault
-
--- the same of several parts
-abbrev pub ReadsParts : {A B : Type 0} → (A → B) → List (List Check) → B → Result A ProfileFault → Type 0
-ReadsParts meaning parts value (Ok a) = (fault_of_parts parts ≡ None) × (meaning a ≡ value)
-ReadsParts meaning parts value (Err fault) = fault_of_parts parts ≡ Some fault
+-- the same where the answer stands for the value
+abbrev pub ReadsAs : {A B : Type 0} → (A → B) → Option ProfileFault → B → Result A ProfileFault → Type 0
+ReadsAs meaning first value (Ok a) = (first ≡ None) × (meaning a ≡ value)
+ReadsAs meaning first value (Err fault) = first ≡ Some fault
 
 -- the same where a growth of memory may be refused
-abbrev pub ReadsInMemory : {A B : Type 0} → (A → B) → List (List Check) → B → Result A ProfileFault → Type 0
-ReadsInMemory meaning parts value (Ok a) = (fault_of_parts parts ≡ None) × (meaning a ≡ value)
-ReadsInMemory meaning parts value (Err fault) = fault ≢ Memory → fault_of_parts parts ≡ Some fault
+abbrev pub ReadsInMemory : {A B : Type 0} → (A → B) → Option ProfileFault → B → Result A ProfileFault → Type 0
+ReadsInMemory meaning first value (Ok a) = (first ≡ None) × (meaning a ≡ value)
+ReadsInMemory meaning first value (Err fault) = fault ≢ Memory → first ≡ Some fault

@@ -1,5 +1,5 @@
 -- The keys of a profile text: how each is written, what it holds, and what an absent one means.
-use Rattle.std.specs.Prelude.{ℕ, Bool, true, false, pos, List, [], ◌∷◌, ◌++◌, map, codes}
+use Rattle.std.specs.Prelude.{ℕ, true, false, pos, List, [], ◌∷◌, ◌++◌, map, codes}
 use Rattle.toml.specs.Data.{Data, string, integer, boolean, array, no_items}
 use Rattle.bus_profile.specs.declared.fault.Key.{Key}
 use Rattle.bus_profile.specs.declared.fault.Key.TheVariants.{Address, Broadcast, Wraparound, AcceptBusControl, Vector, Bit, Rule, Mode, Initial, To, Direction, Subaddresses, Counts, Legal, Codes, Subaddress, At, Words}

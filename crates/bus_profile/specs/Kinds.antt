@@ -1,10 +1,10 @@
 -- What a value of each kind of key is, when it is out of range, and what it gives.
-use Rattle.std.specs.Prelude.{ℕ, suc, ◌-◌, ◌^◌, nat_le, Bool, true, false, not, ◌&&◌, if◌then◌else◌, ℤ, pos, negsuc, List, [], ◌∷◌, Option, Some, None, is_none, Result, Ok, Err}
+use Rattle.std.specs.Prelude.{ℕ, suc, ◌-◌, ◌^◌, nat_le, nat_lt, Bool, true, false, not, ◌&&◌, if◌then◌else◌, ℤ, pos, negsuc, List, [], ◌∷◌, Option, Some, None, is_none, Result, Err}
 use Rattle.std.specs.List.{list_any}
 use Rattle.std.specs.Option.{option_or}
 use Rattle.std.specs.Str.{bytes_eq}
 use Rattle.std.specs.Result.{result_unwrap_or}
-use Rattle.toml.specs.Data.{Data, string, integer, boolean, array, table, Items, no_items, item, Members, no_members, member, get_member}
+use Rattle.toml.specs.Data.{Data, string, integer, boolean, array, Items, no_items, item, Members, no_members, member, get_member}
 use Rattle.bus_profile.specs.declared.ranges.RangeFault.{RangeFault}
 use Rattle.bus_profile.specs.declared.ranges.RangeFault.TheVariants.{Syntax, Bounds}
 use Rattle.bus_profile.specs.declared.fault.Key.{Key}
@@ -67,6 +67,20 @@ is_out_of_range (ranges low high) (string s) = is_bounds (ranges_of low high s)
 is_out_of_range (ranges low high) (integer z) = is_none (in_range low high z)
 is_out_of_range _ _ = false
 
+-- what each item of an array of numbers is to be
+abbrev pub item_kind : Kind → Kind
+item_kind (numbers low high) = whole low high
+item_kind kind = kind
+
+abbrev pub count_items : Items → ℕ
+count_items no_items = 0
+count_items (item d ds) = suc (count_items ds)
+
+-- an array of more tables than it may hold
+abbrev pub is_too_long : Kind → Items → Bool
+is_too_long (tables most) ds = nat_lt most (count_items ds)
+is_too_long _ ds = false
+
 -- ---- what a value gives
 
 -- the value that holds for a key: what stands there, or the default
@@ -99,7 +113,3 @@ set_from low high _ = 0
 abbrev pub items : Option Data → Items
 items (Some (array ds)) = ds
 items _ = no_items
-
-abbrev pub count_items : Items → ℕ
-count_items no_items = 0
-count_items (item d ds) = suc (count_items ds)

@@ -1,5 +1,5 @@
 -- What a tree without faults gives: a profile in plain values, apart from how the code keeps it.
-use Rattle.std.specs.Prelude.{ℕ, Bool, true, false, ◌||◌, List, [], ◌∷◌, map, take, Some, codes}
+use Rattle.std.specs.Prelude.{ℕ, Bool, ◌||◌, List, [], ◌∷◌, map, take, Some, codes}
 use Rattle.std.specs.Str.{bytes_eq}
 use Rattle.toml.specs.Data.{Data, table, Items, no_items, item, Members, no_members}
 use Rattle.bus_profile.specs.declared.entries.Rule.{Rule}

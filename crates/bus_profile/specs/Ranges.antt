@@ -5,11 +5,22 @@ use Rattle.bus_profile.specs.declared.ranges.RangeFault.{RangeFault}
 use Rattle.bus_profile.specs.declared.ranges.RangeFault.TheVariants.{Syntax, Bounds}
 use Rattle.bus_profile.specs.OwnCodes.{has_bit}
 
+-- the bytes of a space, a comma and a minus sign
+abbrev pub space : ℕ
+space = 32
+
+abbrev pub comma : ℕ
+comma = 44
+
+abbrev pub minus : ℕ
+minus = 45
+
 -- any number of spaces
 abbrev pub AreSpaces : List ℕ → Type 0
 AreSpaces [] = Unit {0}
-AreSpaces (b ∷ bs) = (b ≡ 32) × AreSpaces bs
+AreSpaces (b ∷ bs) = (b ≡ space) × AreSpaces bs
 
+-- a decimal digit, 0 to 9
 abbrev pub IsDigit : ℕ → Type 0
 IsDigit b = (48 ≤ b) × (b ≤ 57)
 
@@ -34,7 +45,7 @@ pub record IsNumber (text : List ℕ) (n : ℕ) : Type 0 where
 pub record IsPair (text : List ℕ) (low high : ℕ) : Type 0 where
   pub left : List ℕ
   pub right : List ℕ
-  pub is : text ≡ left ++ (45 ∷ right)
+  pub is : text ≡ left ++ (minus ∷ right)
   pub first : IsNumber left low
   pub last : IsNumber right high
 
@@ -46,7 +57,7 @@ IsItem text i = (IsNumber text i.first × (i.last ≡ i.first)) ⊎ IsPair text 
 abbrev pub Denotes : List ℕ → List Item → Type 0
 Denotes text [] = ⊥
 Denotes text (i ∷ []) = IsItem text i
-Denotes text (i ∷ j ∷ is) = (part : List ℕ) × (rest : List ℕ) × (text ≡ part ++ (44 ∷ rest)) × IsItem part i × Denotes rest (j ∷ is)
+Denotes text (i ∷ j ∷ more) = (part : List ℕ) × (rest : List ℕ) × (text ≡ part ++ (comma ∷ rest)) × IsItem part i × Denotes rest (j ∷ more)
 
 -- the item doesn't fall, and its numbers are in the range
 abbrev pub IsWithin : ℕ → ℕ → Item → Type 0
@@ -54,12 +65,12 @@ IsWithin low high i = (low ≤ i.first) × (i.first ≤ i.last) × (i.last ≤ h
 
 abbrev pub AreWithin : ℕ → ℕ → List Item → Type 0
 AreWithin low high [] = Unit {0}
-AreWithin low high (i ∷ is) = IsWithin low high i × AreWithin low high is
+AreWithin low high (i ∷ more) = IsWithin low high i × AreWithin low high more
 
 -- the number is one of those of the items
 abbrev pub Names : List Item → ℕ → Type 0
 Names [] n = ⊥
-Names (i ∷ is) n = ((i.first ≤ n) × (n ≤ i.last)) ⊎ Names is n
+Names (i ∷ more) n = ((i.first ≤ n) × (n ≤ i.last)) ⊎ Names more n
 
 -- The items of the text are in the range, and the mask is the set of the numbers that they name.
 pub record IsMask (text : List ℕ) (low high mask : ℕ) : Type 0 where

@@ -6,15 +6,16 @@ use Rattle.std.specs.Char.{is_ascii_digit}
 use Rattle.bus_profile.specs.declared.ranges.Item.{Item}
 use Rattle.bus_profile.specs.declared.ranges.RangeFault.{RangeFault}
 use Rattle.bus_profile.specs.declared.ranges.RangeFault.TheVariants.{Syntax, Bounds}
+use Rattle.bus_profile.specs.Ranges.{space, comma, minus}
 
 -- without the spaces at its front
 abbrev pub trim_start : List ℕ → List ℕ
 trim_start [] = []
-trim_start (b ∷ bs) = if b == 32 then trim_start bs else b ∷ bs
+trim_start (b ∷ bs) = if b == space then trim_start bs else b ∷ bs
 
 -- a byte before a text, left out where it is a space and the text is empty
 abbrev pub before_trimmed : ℕ → List ℕ → List ℕ
-before_trimmed b [] = if b == 32 then [] else b ∷ []
+before_trimmed b [] = if b == space then [] else b ∷ []
 before_trimmed b (c ∷ cs) = b ∷ c ∷ cs
 
 -- without the spaces at its end
@@ -41,21 +42,21 @@ pair_of _ = None
 
 -- the item of a text, by its parts between minus signs
 unfoldable pub item_of : List ℕ → Option Item
-item_of text = pair_of (map number_of (slice_split (λ b. b == 45) text))
+item_of text = pair_of (map number_of (slice_split (λ b. b == minus) text))
 
 -- an item in front of items, where both are there
 abbrev pub in_front : Option Item → Option (List Item) → Option (List Item)
-in_front (Some i) (Some is) = Some (i ∷ is)
+in_front (Some i) (Some more) = Some (i ∷ more)
 in_front _ _ = None
 
 -- all the items, where each is there
 abbrev pub all_of : List (Option Item) → Option (List Item)
 all_of [] = Some []
-all_of (i ∷ is) = in_front i (all_of is)
+all_of (i ∷ more) = in_front i (all_of more)
 
 -- the items of a text, by its parts between commas
 unfoldable pub items_of : List ℕ → Option (List Item)
-items_of text = all_of (map item_of (slice_split (λ b. b == 44) text))
+items_of text = all_of (map item_of (slice_split (λ b. b == comma) text))
 
 -- the parts of a text that follows such a byte, and none where there is no such text
 abbrev pub parts_after : ℕ → Option (List ℕ) → List (List ℕ)
@@ -68,7 +69,7 @@ is_within low high i = (nat_le low i.first && nat_le i.first i.last) && nat_le i
 
 -- the number is one of those of the items
 abbrev pub is_named : List Item → ℕ → Bool
-is_named is n = list_any (λ i. nat_le i.first n && nat_le n i.last) is
+is_named items n = list_any (λ i. nat_le i.first n && nat_le n i.last) items
 
 -- the number below 2 ^ k whose bit i is set exactly where the test passes at i
 abbrev pub bits_where : ℕ → (ℕ → Bool) → ℕ
@@ -77,11 +78,11 @@ bits_where (suc k) p = (if p k then 1 else 0) * 2 ^ k + bits_where k p
 
 -- the set of the numbers that the items name, as bits from low on
 unfoldable pub mask_of : ℕ → List Item → ℕ
-mask_of low is = bits_where 32 (λ i. is_named is (low + i))
+mask_of low items = bits_where 32 (λ i. is_named items (low + i))
 
 abbrev pub mask_within : ℕ → ℕ → Option (List Item) → Result ℕ RangeFault
 mask_within low high None = Err Syntax
-mask_within low high (Some is) = if list_all (is_within low high) is then Ok (mask_of low is) else Err Bounds
+mask_within low high (Some items) = if list_all (is_within low high) items then Ok (mask_of low items) else Err Bounds
 
 unfoldable pub ranges_of : ℕ → ℕ → List ℕ → Result ℕ RangeFault
 ranges_of low high text = mask_within low high (items_of text)

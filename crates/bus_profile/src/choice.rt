@@ -1,12 +1,11 @@
 //! The keys that take one of a few texts: `to` and `direction`.
 ghost use Rattle.std.specs.Prelude.{◌≡◌, codes};
-ghost use Rattle.toml.specs.View.{table_view};
 ghost use Rattle.bus_profile.specs.Choice.{addressee_text, direction_text};
 ghost use Rattle.bus_profile.specs.FirstFault.{ReadsAs};
-ghost use Rattle.bus_profile.specs.Faults.{row_checks};
 ghost use Rattle.bus_profile.specs.Keys.{to_row, direction_row};
-ghost use Rattle.bus_profile.specs.Kinds.{value, text};
+ghost use Rattle.bus_profile.specs.Kinds.{text};
 ghost use Rattle.bus_profile.specs.Plain.{says};
+ghost use Rattle.bus_profile.specs.Section.{value_at, fault_at};
 
 use crate::fault::{Key, ProfileFault};
 use crate::section::Section;
@@ -20,12 +19,14 @@ pub enum Addressee {
 }
 
 impl Addressee {
+    /// Whether the own address is among them.
     pub fn is_own(self) -> bool
         ensures { result ≡ says (codes "own") (addressee_text self) }
     {
         self != Addressee::Broadcast
     }
 
+    /// Whether address 31, that of all terminals, is among them.
     pub fn is_broadcast(self) -> bool
         ensures { result ≡ says (codes "broadcast") (addressee_text self) }
     {
@@ -42,12 +43,14 @@ pub enum Direction {
 }
 
 impl Direction {
+    /// Whether commands to receive are meant.
     pub fn is_receive(self) -> bool
         ensures { result ≡ says (codes "receive") (direction_text self) }
     {
         self != Direction::Transmit
     }
 
+    /// Whether commands to transmit are meant.
     pub fn is_transmit(self) -> bool
         ensures { result ≡ says (codes "transmit") (direction_text self) }
     {
@@ -59,7 +62,7 @@ impl Section<'_> {
     /// What `to` says: the own address where it is absent.
     #[tactic(auto, unfolding(crate::specs::Checks::in_order))]
     pub fn addressee(&self) -> Result<Addressee, ProfileFault>
-        ensures { ReadsAs addressee_text (row_checks self.now.part (table_view self.now.table.now) to_row) (text (value to_row (table_view self.now.table.now))) result }
+        ensures { ReadsAs addressee_text (fault_at to_row self.now) (text (value_at to_row self.now)) result }
     {
         let Some(value) = self.value(Key::To) else {
             return Ok(Addressee::Own);
@@ -78,7 +81,7 @@ impl Section<'_> {
     /// What `direction` says, which must be there.
     #[tactic(auto, unfolding(crate::specs::Checks::in_order))]
     pub fn direction(&self) -> Result<Direction, ProfileFault>
-        ensures { ReadsAs direction_text (row_checks self.now.part (table_view self.now.table.now) direction_row) (text (value direction_row (table_view self.now.table.now))) result }
+        ensures { ReadsAs direction_text (fault_at direction_row self.now) (text (value_at direction_row self.now)) result }
     {
         let Some(value) = self.value(Key::Direction) else {
             return Err(ProfileFault::Missing(self.part, Key::Direction));

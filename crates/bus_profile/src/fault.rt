@@ -30,7 +30,7 @@ impl fmt::Display for Part {
     }
 }
 
-/// A key of the profile text.
+/// A key of the profile text, written as `name` gives it.
 #[derive(Clone, Copy, Debug, PartialEq, Eq)]
 pub enum Key {
     Address,

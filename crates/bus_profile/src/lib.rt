@@ -10,6 +10,7 @@ mod mode;
 mod own_codes;
 mod profile;
 mod ranges;
+mod read;
 mod rule;
 mod section;
 
@@ -17,3 +18,7 @@ pub use entries::{InitialWords, Initials, ModeRule, ModeRules, Rule, Rules};
 pub use fault::{Key, Part, ProfileFault};
 pub use profile::Profile;
 pub use ranges::{RangeFault, parse_ranges};
+pub use read::read_profile;
+
+#[cfg(test)]
+mod tests;

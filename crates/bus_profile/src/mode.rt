@@ -1,24 +1,24 @@
 //! The mode entries of a profile text.
-ghost use Rattle.std.specs.Prelude.{◌≡◌, ◌≤◌, ◌<◌, length};
+ghost use Rattle.std.specs.Prelude.{◌≡◌, ◌≤◌, ◌<◌, length, IfOk};
 ghost use Rattle.toml.specs.Data.{table as table_data};
 ghost use Rattle.toml.specs.View.{view, items_view, table_view};
-ghost use Rattle.bus_profile.specs.FirstFault.{Reads, ReadsInMemory};
+ghost use Rattle.bus_profile.specs.FirstFault.{first_fault, fault_of_parts, Reads, ReadsInMemory};
 ghost use Rattle.bus_profile.specs.Faults.{mode_checks, each_item};
 ghost use Rattle.bus_profile.specs.Plain.{mode_in, each_of};
-
-use std::alloc::Global;
-use toml::{Table, Value};
 
 use crate::entries::{ModeRule, ModeRules};
 use crate::fault::{Key, Part, ProfileFault};
 use crate::section::Section;
+use std::alloc::Global;
+use toml::{Table, Value};
 
 const KEYS: [Key; 3] = [Key::To, Key::Codes, Key::Legal];
 
 /// The mode entries that are the items of an array.
 pub fn modes_of(alloc: Global, values: &[Value]) -> Result<ModeRules, ProfileFault>
     requires { length values.now ≤ 256 }
-    ensures { ReadsInMemory (λ modes. modes) (each_item mode_checks 1 (items_view values.now)) (each_of mode_in (items_view values.now)) result }
+    ensures reads { ReadsInMemory (λ modes. modes) (fault_of_parts (each_item mode_checks 1 (items_view values.now))) (each_of mode_in (items_view values.now)) result }
+    ensures few { IfOk result (λ modes. length modes ≤ 256) }
 {
     let mut modes = Vec::new(alloc);
     for (index, value) in values.iter().enumerate() {
@@ -30,7 +30,7 @@ pub fn modes_of(alloc: Global, values: &[Value]) -> Result<ModeRules, ProfileFau
 // The mode entry that a value is.
 #[tactic(auto, unfolding(crate::specs::Checks::in_order, crate::specs::Faults::entry_checks))]
 fn mode_of(value: &Value, number: u16) -> Result<ModeRule, ProfileFault>
-    ensures { Reads (mode_checks number (view value.now)) (mode_in (view value.now)) result }
+    ensures { Reads (first_fault (mode_checks number (view value.now))) (mode_in (view value.now)) result }
 {
     match value {
         Value::Table(table) => mode_from(table, number),
@@ -41,7 +41,7 @@ fn mode_of(value: &Value, number: u16) -> Result<ModeRule, ProfileFault>
 // The mode entry of a table.
 #[tactic(auto, using(crate::proofs::Sections::mode_fault))]
 fn mode_from(table: &Table, number: u16) -> Result<ModeRule, ProfileFault>
-    ensures { Reads (mode_checks number (table_data (table_view table.now))) (mode_in (table_data (table_view table.now))) result }
+    ensures { Reads (first_fault (mode_checks number (table_data (table_view table.now)))) (mode_in (table_data (table_view table.now))) result }
 {
     let section = Section {
         table,

@@ -2,9 +2,8 @@
 ghost use Rattle.std.specs.Prelude.{◌≡◌, ◌<◌};
 ghost use Rattle.bus_profile.specs.OwnCodes.{is_own_code_legal, missing_code};
 
-use bus_word::mode_row;
-
 use crate::entries::ModeRule;
+use bus_word::mode_row;
 
 // Transmit status word, transmitter shutdown and its override, reset remote terminal
 // (MIL-STD-1553B, 4.3.3.5.1.7).

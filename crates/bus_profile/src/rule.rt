@@ -1,17 +1,16 @@
 //! The rules of a profile text.
-ghost use Rattle.std.specs.Prelude.{◌≤◌, length, map};
+ghost use Rattle.std.specs.Prelude.{◌≤◌, length, IfOk, map};
 ghost use Rattle.toml.specs.Data.{table as table_data};
 ghost use Rattle.toml.specs.View.{view, items_view, table_view};
-ghost use Rattle.bus_profile.specs.FirstFault.{ReadsAs, ReadsInMemory};
+ghost use Rattle.bus_profile.specs.FirstFault.{first_fault, fault_of_parts, ReadsAs, ReadsInMemory};
 ghost use Rattle.bus_profile.specs.Faults.{rule_checks, each_item};
 ghost use Rattle.bus_profile.specs.Plain.{plain_rule, rule_in, each_of};
-
-use std::alloc::Global;
-use toml::{Table, Value};
 
 use crate::entries::{Rule, Rules};
 use crate::fault::{Key, Part, ProfileFault};
 use crate::section::Section;
+use std::alloc::Global;
+use toml::{Table, Value};
 
 const KEYS: [Key; 5] = [
     Key::To,
@@ -24,7 +23,8 @@ const KEYS: [Key; 5] = [
 /// The rules that are the items of an array.
 pub fn rules_of(alloc: Global, values: &[Value]) -> Result<Rules, ProfileFault>
     requires { length values.now ≤ 256 }
-    ensures { ReadsInMemory (map plain_rule) (each_item rule_checks 1 (items_view values.now)) (each_of rule_in (items_view values.now)) result }
+    ensures reads { ReadsInMemory (map plain_rule) (fault_of_parts (each_item rule_checks 1 (items_view values.now))) (each_of rule_in (items_view values.now)) result }
+    ensures few { IfOk result (λ rules. length rules ≤ 256) }
 {
     let mut rules = Vec::new(alloc);
     for (index, value) in values.iter().enumerate() {
@@ -36,7 +36,7 @@ pub fn rules_of(alloc: Global, values: &[Value]) -> Result<Rules, ProfileFault>
 // The rule that a value is.
 #[tactic(auto, unfolding(crate::specs::Checks::in_order, crate::specs::Faults::entry_checks))]
 fn rule_of(value: &Value, number: u16) -> Result<Rule, ProfileFault>
-    ensures { ReadsAs plain_rule (rule_checks number (view value.now)) (rule_in (view value.now)) result }
+    ensures { ReadsAs plain_rule (first_fault (rule_checks number (view value.now))) (rule_in (view value.now)) result }
 {
     match value {
         Value::Table(table) => rule_from(table, number),
@@ -47,7 +47,7 @@ fn rule_of(value: &Value, number: u16) -> Result<Rule, ProfileFault>
 // The rule of a table.
 #[tactic(auto, using(crate::proofs::Sections::rule_fault))]
 fn rule_from(table: &Table, number: u16) -> Result<Rule, ProfileFault>
-    ensures { ReadsAs plain_rule (rule_checks number (table_data (table_view table.now))) (rule_in (table_data (table_view table.now))) result }
+    ensures { ReadsAs plain_rule (first_fault (rule_checks number (table_data (table_view table.now)))) (rule_in (table_data (table_view table.now))) result }
 {
     let section = Section {
         table,

@@ -1,16 +1,16 @@
 //! A table of the profile text, and the readers of its keys: one for each kind of value.
 ghost use Rattle.std.specs.Prelude.{◌≡◌, ◌+◌, ◌-◌, ◌^◌, ◌<◌, ◌≤◌, pos, length, option_map, Some, IfOk, IfSome};
 ghost use Rattle.toml.specs.Data.{as_array, integer, boolean, array, no_items};
-ghost use Rattle.toml.specs.View.{view, items_view, table_view};
-ghost use Rattle.bus_profile.specs.FirstFault.{Reads, ReadsAs};
-ghost use Rattle.bus_profile.specs.Faults.{key_checks, row_checks, head_checks, is_too_long};
+ghost use Rattle.toml.specs.View.{view, items_view};
+ghost use Rattle.bus_profile.specs.FirstFault.{Reads, ReadsAs, first_fault};
+ghost use Rattle.bus_profile.specs.Faults.{key_checks, head_checks};
 ghost use Rattle.bus_profile.specs.Keys.{row, whole, truth, ranges, tables, required, optional, counts_row};
-ghost use Rattle.bus_profile.specs.Kinds.{found, value, number, truth_value, set_from, items, in_range, is_known, has_unknown};
-
-use toml::{Table, Value};
+ghost use Rattle.bus_profile.specs.Kinds.{found, number, truth_value, set_from, items, in_range, is_too_long, is_known, has_unknown};
+ghost use Rattle.bus_profile.specs.Section.{tree_of, value_at, fault_at};
 
 use crate::fault::{Key, Part, ProfileFault};
 use crate::ranges::{RangeFault, parse_ranges};
+use toml::{Table, Value};
 
 /// A table of the profile text, and which part of the profile it is.
 #[derive(Clone, Copy)]
@@ -22,7 +22,7 @@ pub struct Section<'a> {
 impl Section<'_> {
     /// Whether the table has a key that is none of these.
     pub fn has_unknown_key(&self, keys: &[Key]) -> bool
-        ensures { result ≡ has_unknown keys.now (table_view self.now.table.now) }
+        ensures { result ≡ has_unknown keys.now (tree_of self.now) }
     {
         for name in self.table.keys() {
             if !is_known(keys, name.as_str()) {
@@ -34,7 +34,7 @@ impl Section<'_> {
 
     /// The value of a key, where it is there.
     pub fn value(&self, key: Key) -> Option<&Value>
-        ensures { option_map (λ v. view v.now) result ≡ found key (table_view self.now.table.now) }
+        ensures { option_map (λ v. view v.now) result ≡ found key (tree_of self.now) }
     {
         self.table.get(key.name())
     }
@@ -42,7 +42,7 @@ impl Section<'_> {
     /// A whole number from `low` to `high` that must be there.
     #[tactic(auto, unfolding(crate::specs::Checks::in_order))]
     pub fn required_whole(&self, key: Key, low: u16, high: u16) -> Result<u16, ProfileFault>
-        ensures reads { Reads (row_checks self.now.part (table_view self.now.table.now) (row key (whole low high) required)) (number (found key (table_view self.now.table.now))) result }
+        ensures reads { let line = row key (whole low high) required in Reads (fault_at line self.now) (number (value_at line self.now)) result }
         ensures range { IfOk result (λ n. (low ≤ n) × (n ≤ high)) }
     {
         let Some(value) = self.value(key) else {
@@ -65,7 +65,7 @@ impl Section<'_> {
     ) -> Result<u16, ProfileFault>
         requires low { low ≤ default }
         requires high { default ≤ high }
-        ensures reads { Reads (row_checks self.now.part (table_view self.now.table.now) (row key (whole low high) (optional (integer (pos default))))) (number (value (row key (whole low high) (optional (integer (pos default)))) (table_view self.now.table.now))) result }
+        ensures reads { let line = row key (whole low high) (optional (integer (pos default))) in Reads (fault_at line self.now) (number (value_at line self.now)) result }
         ensures range { IfOk result (λ n. (low ≤ n) × (n ≤ high)) }
     {
         let Some(value) = self.value(key) else {
@@ -80,10 +80,12 @@ impl Section<'_> {
     /// A truth value, or the default.
     #[tactic(auto, unfolding(crate::specs::Checks::in_order))]
     pub fn optional_truth(&self, key: Key, default: bool) -> Result<bool, ProfileFault>
-        ensures { Reads (row_checks self.now.part (table_view self.now.table.now) (row key truth (optional (boolean default)))) (truth_value (value (row key truth (optional (boolean default))) (table_view self.now.table.now))) result }
+        ensures { let line = row key truth (optional (boolean default)) in Reads (fault_at line self.now) (truth_value (value_at line self.now)) result }
     {
         match self.value(key) {
-            Some(value) => value.as_bool().ok_or(ProfileFault::WrongKind(self.part, key)),
+            Some(value) => value
+                .as_bool()
+                .ok_or(ProfileFault::WrongKind(self.part, key)),
             None => Ok(default),
         }
     }
@@ -93,7 +95,7 @@ impl Section<'_> {
     pub fn required_ranges(&self, key: Key, low: u8, high: u8) -> Result<u32, ProfileFault>
         requires order { low ≤ high }
         requires width { high - low ≤ 31 }
-        ensures reads { Reads (row_checks self.now.part (table_view self.now.table.now) (row key (ranges low high) required)) (set_from low high (found key (table_view self.now.table.now))) result }
+        ensures reads { let line = row key (ranges low high) required in Reads (fault_at line self.now) (set_from low high (value_at line self.now)) result }
         ensures small { IfOk result (λ set. set < 2 ^ (high - low + 1)) }
     {
         match self.value(key) {
@@ -105,7 +107,7 @@ impl Section<'_> {
     /// The word counts of a rule, bit `n - 1` for `n`: 1 to 32 where there are none.
     #[tactic(auto, unfolding(crate::specs::Checks::in_order), using(crate::proofs::Defaults::all_counts))]
     pub fn counts(&self) -> Result<u32, ProfileFault>
-        ensures { Reads (row_checks self.now.part (table_view self.now.table.now) counts_row) (set_from 1 32 (value counts_row (table_view self.now.table.now))) result }
+        ensures { Reads (fault_at counts_row self.now) (set_from 1 32 (value_at counts_row self.now)) result }
     {
         match self.value(Key::Counts) {
             Some(value) => self.ranges_in(Key::Counts, value, 1, 32),
@@ -118,7 +120,7 @@ impl Section<'_> {
     fn ranges_in(&self, key: Key, value: &Value, low: u8, high: u8) -> Result<u32, ProfileFault>
         requires order { low ≤ high }
         requires width { high - low ≤ 31 }
-        ensures reads { Reads (key_checks self.now.part (row key (ranges low high) required) (Some (view value.now))) (set_from low high (Some (view value.now))) result }
+        ensures reads { Reads (first_fault (key_checks self.now.part (row key (ranges low high) required) (Some (view value.now)))) (set_from low high (Some (view value.now))) result }
         ensures small { IfOk result (λ set. set < 2 ^ (high - low + 1)) }
     {
         match value {
@@ -138,7 +140,7 @@ impl Section<'_> {
     /// The items of an array of tables, at most 256: none where there is no such key.
     #[tactic(auto, unfolding(crate::specs::Checks::in_order))]
     pub fn entries(&self, key: Key) -> Result<&[Value], ProfileFault>
-        ensures reads { ReadsAs (λ values. items_view values.now) (head_checks self.now.part (row key (tables 256) (optional (array no_items))) is_too_long (table_view self.now.table.now)) (items (value (row key (tables 256) (optional (array no_items))) (table_view self.now.table.now))) result }
+        ensures reads { let line = row key (tables 256) (optional (array no_items)) in ReadsAs (λ values. items_view values.now) (first_fault (head_checks self.now.part line (is_too_long line.kind) (tree_of self.now))) (items (value_at line self.now)) result }
         ensures few { IfOk result (λ values. length values.now ≤ 256) }
     {
         let Some(value) = self.value(key) else {

@@ -1,4 +1,3 @@
-use Rattle.std.proofs.Common.{sym}
 use Rattle.std.proofs.lemmas.Result.{err_from_is_err_and}
 use Rattle.toml.specs.View.{table_view}
 use Rattle.bus_profile.proofs.Arrays.{place_of}
@@ -16,4 +15,4 @@ returns-in_err-words c =
     let values = c.in_ok-values.ensures.reads in
     rw (p.1, p.2)
     (word_fails c.args.number (table_view c.args.table.now) c.in_ok-values.values.now _
-        c.if-has_unknown_key.ensures c.in_ok-subaddress.ensures.reads.0 c.in_ok-first.ensures.reads.0 values.0 values.1 c.in_err-words.ensures)
+    c.if-has_unknown_key.ensures c.in_ok-subaddress.ensures.reads.0 c.in_ok-first.ensures.reads.0 values.0 values.1 c.in_err-words.ensures)

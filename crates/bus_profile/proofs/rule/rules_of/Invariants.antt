@@ -1,4 +1,4 @@
-use Rattle.std.proofs.Common.{◌≡◌, ◌+◌, ◌++◌, drop, map}
+use Rattle.std.proofs.Common.{◌≡◌, ◌+◌, ◌++◌, length, drop, map}
 use Rattle.toml.specs.View.{items_view}
 use Rattle.bus_profile.specs.FirstFault.{fault_of_parts}
 use Rattle.bus_profile.specs.Faults.{rule_checks, each_item}
@@ -8,6 +8,7 @@ use Rattle.bus_profile.proofs.rule.rules_of.Given as goal
 -- what is left gives the fault of all, and the rest of the entries
 abbrev pub invariant-loop-index : goal.invariant-loop-index
 invariant-loop-index l = record {
+  count : length l.rules.items ≡ l.index;
   faults : fault_of_parts (each_item rule_checks (1 + l.index) (items_view (drop l.index l.values))) ≡ fault_of_parts (each_item rule_checks 1 (items_view l.values));
   entries : map plain_rule l.rules.items ++ each_of rule_in (items_view (drop l.index l.values)) ≡ each_of rule_in (items_view l.values);
 }

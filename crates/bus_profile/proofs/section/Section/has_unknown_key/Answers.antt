@@ -1,4 +1,4 @@
-use Rattle.std.proofs.Common.{◌≡◌, not, List, ℕ, ap, sym, ◌∙◌}
+use Rattle.std.proofs.Common.{not, List, ℕ, ap, sym}
 use Rattle.std.specs.List.{list_any}
 use Rattle.bus_profile.specs.Kinds.{is_known}
 use Rattle.bus_profile.proofs.Items.{names_of-view}

@@ -1,4 +1,4 @@
-use Rattle.std.proofs.Common.{◌≡◌, ◌+◌, ◌-◌, ◌<◌, arith}
+use Rattle.std.proofs.Common.{◌+◌, ◌-◌, ◌<◌, arith}
 use Rattle.std.proofs.lemmas.Nat.{pow_below}
 use Rattle.bus_profile.proofs.section.Section.ranges_in.Goals as goal
 

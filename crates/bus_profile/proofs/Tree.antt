@@ -1,0 +1,85 @@
+-- The first fault of a whole tree, section by section.
+use Rattle.std.proofs.Common.{◌≡◌, ℕ, ◌&&◌, Bool, true, false, not, cond, Option, Some, None, List, [], ◌∷◌, option_map, refl, ap, ◌∙◌}
+use Rattle.std.specs.Option.{option_or}
+use Rattle.toml.specs.Data.{Data, Members}
+use Rattle.bus_profile.specs.declared.fault.Part.TheVariants.{Root}
+use Rattle.bus_profile.specs.declared.fault.ProfileFault.{ProfileFault}
+use Rattle.bus_profile.specs.declared.fault.ProfileFault.TheVariants.{RequiredCode}
+use Rattle.bus_profile.specs.OwnCodes.{is_own_code_legal, missing_code}
+use Rattle.bus_profile.specs.Checks.{Check, in_order}
+use Rattle.bus_profile.specs.Keys.{Row, address_row, broadcast_row, wraparound_row, accept_row, vector_row, bit_row, rule_row, mode_row, initial_row, root_rows}
+use Rattle.bus_profile.specs.Kinds.{value, items, is_too_long}
+use Rattle.bus_profile.specs.Faults.{head_checks, array_checks, each_item, entries_checks, rule_checks, mode_checks, initial_checks, key_faults, all_pass, code_faults, faults}
+use Rattle.bus_profile.specs.Plain.{modes_of}
+use Rattle.bus_profile.specs.FirstFault.{first_fault, fault_of_parts}
+use Rattle.bus_profile.proofs.Least.{first_fault-in_order}
+use Rattle.bus_profile.proofs.Sections.{unknown_fault, row_fault}
+
+-- an array of entries: itself first, then its items
+abbrev pub entries_fault : Row → (ℕ → Data → List Check) → Members → Option ProfileFault
+entries_fault row checks ms = option_or (first_fault (head_checks Root row (is_too_long row.kind) ms)) (fault_of_parts (each_item checks 1 (items (value row ms))))
+
+entries_fault_is : (row : Row) (checks : ℕ → Data → List Check) (ms : Members) → first_fault (entries_checks row checks ms) ≡ entries_fault row checks ms
+unfolding array_checks
+entries_fault_is row checks ms = first_fault-in_order _
+
+abbrev pub key_fault : Members → Option ProfileFault
+key_fault ms =
+    option_or (unknown_fault Root root_rows ms)
+    (option_or (row_fault Root ms address_row)
+    (option_or (row_fault Root ms broadcast_row)
+    (option_or (row_fault Root ms wraparound_row)
+    (option_or (row_fault Root ms accept_row)
+    (option_or (row_fault Root ms vector_row)
+    (option_or (row_fault Root ms bit_row)
+    (option_or (entries_fault rule_row rule_checks ms)
+    (option_or (entries_fault mode_row mode_checks ms)
+    (option_or (entries_fault initial_row initial_checks ms) None)))))))))
+
+key_fault_is : (ms : Members) → first_fault (key_faults ms) ≡ key_fault ms
+unfolding key_faults
+key_fault_is ms =
+    first_fault-in_order _ ∙ rw (entries_fault_is rule_row rule_checks ms, entries_fault_is mode_row mode_checks ms, entries_fault_is initial_row initial_checks ms)
+
+-- ---- the codes that must be legal
+
+pass_all : (cs : List Check) → first_fault cs ≡ None → all_pass cs ≡ true
+pass_all [] e = refl
+pass_all (c ∷ cs) e = pick c.fails e (pass_all cs)
+  where
+    pick : (b : Bool) → cond b (Some c.fault) (first_fault cs) ≡ None → (first_fault cs ≡ None → all_pass cs ≡ true) → (not b && all_pass cs) ≡ true
+    pick true e later = absurd (cc)
+    pick false e later = later e
+
+abbrev pub code_fault : Members → Option ProfileFault
+code_fault ms = option_map RequiredCode (missing_code (modes_of ms))
+
+code_fault_is : (ms : Members) → all_pass (key_faults ms) ≡ true → first_fault (code_faults ms) ≡ code_fault ms
+unfolding code_faults in_order
+code_fault_is ms e = rw e (each (legal 2) (legal 4) (legal 5) (legal 8))
+  where
+    legal : ℕ → Bool
+    legal code = is_own_code_legal (modes_of ms) code
+
+    each : (a b c d : Bool) → cond (not a) (Some (RequiredCode 2)) (cond (not b) (Some (RequiredCode 4)) (cond (not c) (Some (RequiredCode 5)) (cond (not d) (Some (RequiredCode 8)) None)))
+        ≡ option_map RequiredCode (cond (not a) (Some 2) (cond (not b) (Some 4) (cond (not c) (Some 5) (cond (not d) (Some 8) None))))
+    each false b c d = refl
+    each true false c d = refl
+    each true true false d = refl
+    each true true true false = refl
+    each true true true true = refl
+
+-- ---- the tree
+
+pub tree_fault : (ms : Members) → first_fault (faults ms) ≡ option_or (key_fault ms) (code_fault ms)
+unfolding faults
+tree_fault ms =
+    first_fault-in_order _ ∙ pick (first_fault (key_faults ms)) refl ∙ ap (λ f. option_or f (code_fault ms)) (key_fault_is ms)
+  where
+    last : (f : Option ProfileFault) → option_or f None ≡ f
+    last None = refl
+    last (Some f) = refl
+
+    pick : (f : Option ProfileFault) → first_fault (key_faults ms) ≡ f → option_or f (option_or (first_fault (code_faults ms)) None) ≡ option_or f (code_fault ms)
+    pick None e = last (first_fault (code_faults ms)) ∙ code_fault_is ms (pass_all (key_faults ms) e)
+    pick (Some f) e = refl

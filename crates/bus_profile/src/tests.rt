@@ -1,0 +1,4 @@
+//! Texts with what reading them answers, row by row.
+mod accepted;
+mod ranges;
+mod refused;
