@@ -4,6 +4,8 @@
 
 mod lines;
 mod read;
+#[cfg(test)]
+mod tests;
 mod write;
 
 pub use lines::{Lines, WrongLine};
