@@ -2,8 +2,21 @@
 //! all that any bus controller can reach.
 #![tactic(auto)]
 
+mod initial;
+pub mod laws;
 mod legality;
+mod masks;
+mod normal;
+mod rule_list;
 mod setup;
+mod tables;
+#[cfg(test)]
+mod tests;
 
+pub use initial::setup_of;
 pub use legality::Legality;
+pub use masks::largest_count;
+pub use normal::{Normal, normalise};
+pub use rule_list::RuleList;
 pub use setup::Setup;
+pub use tables::{BROADCAST_CODES, OWN_CODES, REQUIRED_CODES, Tables};

@@ -1,0 +1,84 @@
+-- When two descriptions, or their reached parts, are equal.
+use Rattle.std.proofs.Common.{◌≡◌, ℕ, ◌≤◌, Bool, true, false, ◌&&◌, ◌||◌, cond, nat_le, refl, ap, ◌∙◌, arith}
+use Rattle.std.proofs.lemmas.Bool.Decides.{nat_tests}
+use Rattle.bus_word.specs.declared.cell.Cell.{Cell}
+use Rattle.bus_word.specs.declared.cell.Cell.TheVariants.{OwnReceive, OwnTransmit, BroadReceive, OwnMode}
+use Rattle.bus_word.specs.Cell.{is_data_place}
+use Rattle.bus_legal.specs.Description.{Description, wrap_subaddress}
+use Rattle.bus_legal.specs.Reach.{largest_to, any_to, largest_count, any_count, is_heard, transmits, receives, can_wrap, can_transmit, reach}
+use Rattle.bus_legal.proofs.Counts.{sent_place, largest_to-bounds, any_to-true}
+
+abbrev built : ℕ → Bool → Bool → Bool → ℕ → ℕ → (ℕ → ℕ → ℕ) → (Cell → Bool) → Description
+built address broadcast wrap accept vector bit initial legal = record { address = address; broadcast = broadcast; wrap = wrap; accept = accept; vector = vector; bit = bit; initial = initial; legal = legal }
+
+-- descriptions that agree in each part are equal
+pub same_description : (P Q : Description) → P.address ≡ Q.address → P.broadcast ≡ Q.broadcast → P.wrap ≡ Q.wrap → P.accept ≡ Q.accept →
+    P.vector ≡ Q.vector → P.bit ≡ Q.bit →
+    ((s i : ℕ) → P.initial s i ≡ Q.initial s i) → ((cell : Cell) → P.legal cell ≡ Q.legal cell) → P ≡ Q
+same_description P Q address broadcast wrap accept vector bit initial legal =
+    λ j. built (address j) (broadcast j) (wrap j) (accept j) (vector j) (bit j) (λ s i. initial s i j) (λ cell. legal cell j)
+
+pub and-twice : (a b : Bool) → (a && (a && b)) ≡ (a && b)
+and-twice true b = refl
+and-twice false b = refl
+
+cond-twice : (a : Bool) (n : ℕ) → cond a (cond a n 0) 0 ≡ cond a n 0
+cond-twice true n = refl
+cond-twice false n = refl
+
+pub cond-guarded : (t : Bool) (a b : ℕ) → (t ≡ true → a ≡ b) → cond t a 0 ≡ cond t b 0
+cond-guarded true a b h = h refl
+cond-guarded false a b h = refl
+
+receives-reach : (P : Description) (s n : ℕ) → receives (reach P) s n ≡ receives P s n
+receives-reach P s n = ap (λ b. P.legal (OwnReceive s n) || b) (and-twice P.broadcast (P.legal (BroadReceive s n)))
+
+can_wrap-reach : (P : Description) (s : ℕ) → can_wrap (reach P) s ≡ can_wrap P s
+can_wrap-reach P s = λ j. any_count (λ n. receives-reach P s n j) && any_count (transmits P s)
+
+-- to reach twice is to reach once
+pub reach-reach : (P : Description) → reach (reach P) ≡ reach P
+reach-reach P = same_description (reach (reach P)) (reach P) refl refl
+    (ap (λ b. b && (can_wrap P wrap_subaddress && P.wrap)) (can_wrap-reach P wrap_subaddress) ∙ and-twice (can_wrap P wrap_subaddress) P.wrap)
+    (and-twice (P.legal (OwnMode 0)) P.accept)
+    (cond-twice (P.legal (OwnMode 16)) P.vector)
+    (cond-twice (P.legal (OwnMode 19)) P.bit)
+    (λ s i. cond-twice (can_transmit P s i) (P.initial s i))
+    (λ cell. and-twice (is_heard P.broadcast cell) (P.legal cell))
+
+abbrev with_initial : Description → (ℕ → ℕ → ℕ) → Description
+with_initial P initial = built P.address P.broadcast P.wrap P.accept P.vector P.bit initial P.legal
+
+-- only the initial words at places of data count
+reach-with_initial : (P : Description) (initial : ℕ → ℕ → ℕ) → ((s n : ℕ) → P.legal (OwnTransmit s n) ≡ true → is_data_place s n ≡ true) →
+    ((s i : ℕ) → is_data_place s i ≡ true → P.initial s i ≡ initial s i) → reach P ≡ reach (with_initial P initial)
+reach-with_initial P initial places agree = same_description (reach P) (reach (with_initial P initial)) refl refl refl refl refl refl
+    (λ s i. cond-guarded (can_transmit P s i) (P.initial s i) (initial s i) (λ sent. agree s i (sent_place P places s i sent)))
+    (λ cell. refl)
+
+-- The reached parts of two descriptions are equal if they agree in all but the initial words, and in
+-- the initial words at places of data.
+pub same_reach : (P Q : Description) → P.address ≡ Q.address → P.broadcast ≡ Q.broadcast → P.wrap ≡ Q.wrap → P.accept ≡ Q.accept → P.vector ≡ Q.vector → P.bit ≡ Q.bit →
+    ((s i : ℕ) → is_data_place s i ≡ true → P.initial s i ≡ Q.initial s i) → ((cell : Cell) → P.legal cell ≡ Q.legal cell) →
+    ((s n : ℕ) → P.legal (OwnTransmit s n) ≡ true → is_data_place s n ≡ true) → reach P ≡ reach Q
+same_reach P Q address broadcast wrap accept vector bit initial legal places =
+    reach-with_initial P Q.initial places initial
+    ∙ ap reach (same_description (with_initial P Q.initial) Q address broadcast wrap accept vector bit (λ s i. refl) legal)
+
+-- the words that a legal command asks for are reached
+pub initial-reach : (P : Description) (s n i : ℕ) → transmits P s n ≡ true → n ≤ 32 → 1 ≤ i → i ≤ n → (reach P).initial s i ≡ P.initial s i
+unfolding largest_count
+initial-reach P s n i legal high from to =
+    let most : n ≤ largest_to 32 (transmits P s) = largest_to-bounds 32 (transmits P s) n legal (omega arith) high in
+    ap (λ t. cond t (P.initial s i) 0) (within i (largest_to 32 (transmits P s)) from (omega arith))
+  where
+    within : (i m : ℕ) → 1 ≤ i → i ≤ m → (nat_le 1 i && nat_le i m) ≡ true
+    within i m low high = grind (arith, nat_tests)
+
+-- wraparound is reached where legal commands show it
+pub wrap-reach : (P : Description) (m n : ℕ) → receives P wrap_subaddress m ≡ true → 1 ≤ m → m ≤ 32 → transmits P wrap_subaddress n ≡ true → 1 ≤ n →
+    n ≤ 32 → (reach P).wrap ≡ P.wrap
+unfolding any_count
+wrap-reach P m n receive low high transmit from to =
+    ap (λ t. (t && any_to 32 (transmits P wrap_subaddress)) && P.wrap) (any_to-true 32 (receives P wrap_subaddress) m receive low high)
+    ∙ ap (λ t. t && P.wrap) (any_to-true 32 (transmits P wrap_subaddress) n transmit from to)

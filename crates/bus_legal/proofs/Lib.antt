@@ -1,0 +1,17 @@
+pub mod Bools
+pub mod Places
+pub mod Bits
+pub mod Last
+pub mod Words
+pub mod TableSteps
+pub mod ModeMasks
+pub mod InitialSteps
+pub mod Counts
+pub mod Descriptions
+pub mod SameParts
+pub mod TopBit
+pub mod TablesReach
+pub mod PartsReach
+pub mod NormalLaws
+pub mod SameNormals
+pub mod LegalLaws

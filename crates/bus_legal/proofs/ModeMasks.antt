@@ -1,0 +1,35 @@
+-- The masks of the mode codes that a profile makes legal.
+use Rattle.std.proofs.Common.{◌≡◌, ℕ, ◌<◌, ◌==◌, Bool, true, false, ◌&&◌, ◌||◌, List, bit_and, refl, ap, sym, ◌∙◌, arith}
+use Rattle.std.proofs.lemmas.Bool.{eqb-true, eq-eqb}
+use Rattle.bus_word.specs.Mode.{is_required_code}
+use Rattle.bus_profile.specs.declared.entries.ModeRule.{ModeRule}
+use Rattle.bus_profile.specs.OwnCodes.{has_bit, is_own_code_legal, has_required_codes}
+use Rattle.bus_legal.specs.Tables.{is_own_mask}
+use Rattle.bus_legal.proofs.Bits.{and-contained}
+use Rattle.bus_legal.proofs.Bools.{left_of, right_of}
+use Rattle.bus_legal.proofs.TableSteps.{required_codes-bits}
+
+-- what holds of the codes 2, 4, 5 and 8 holds of each required code
+pub each_required : (p : ℕ → Bool) → p 2 ≡ true → p 4 ≡ true → p 5 ≡ true → p 8 ≡ true → (c : ℕ) → is_required_code c ≡ true → p c ≡ true
+each_required p two four five eight c e = by_code (c == 2) refl (c == 4) refl (c == 5) refl (c == 8) refl e
+  where
+    by_code : (t : Bool) → (c == 2) ≡ t → (f : Bool) → (c == 4) ≡ f → (v : Bool) → (c == 5) ≡ v → (g : Bool) → (c == 8) ≡ g → (t || (f || (v || g))) ≡ true → p c ≡ true
+    by_code true t f fe v ve g ge e = ap p (eqb-true c 2 t) ∙ two
+    by_code false t true fe v ve g ge e = ap p (eqb-true c 4 fe) ∙ four
+    by_code false t false fe true ve g ge e = ap p (eqb-true c 5 ve) ∙ five
+    by_code false t false fe false ve true ge e = ap p (eqb-true c 8 ge) ∙ eight
+    by_code false t false fe false ve false ge e = cc
+
+-- the mask of the own codes that are legal is such a mask
+pub own_mask : (modes : List ModeRule) (mask : ℕ) → ((c : ℕ) → c < 32 → has_bit mask c ≡ is_own_code_legal modes c) →
+    bit_and mask 0x000f01ff ≡ mask → has_required_codes modes ≡ true → is_own_mask mask ≡ true
+own_mask modes mask codes no_other required =
+    let others = right_of (is_own_code_legal modes 2) _ required in
+    let last = right_of (is_own_code_legal modes 4) _ others in
+    let has : (c : ℕ) → is_required_code c ≡ true → has_bit mask c ≡ true = each_required (has_bit mask)
+    (codes 2 (omega arith) ∙ left_of (is_own_code_legal modes 2) _ required)
+    (codes 4 (omega arith) ∙ left_of (is_own_code_legal modes 4) _ others)
+    (codes 5 (omega arith) ∙ left_of (is_own_code_legal modes 5) _ last)
+    (codes 8 (omega arith) ∙ right_of (is_own_code_legal modes 5) _ last) in
+    let all : bit_and mask 0x134 ≡ 0x134 = and-contained mask 0x134 (omega arith) (λ c l e. has c (sym (required_codes-bits c l) ∙ e)) in
+    ap (λ b. b && (bit_and mask 0x134 == 0x134)) (eq-eqb (bit_and mask 0x000f01ff) mask no_other) ∙ eq-eqb (bit_and mask 0x134) 0x134 all

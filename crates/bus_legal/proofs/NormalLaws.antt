@@ -1,0 +1,107 @@
+-- The laws of what a `Normal` is seen as.
+use Rattle.std.proofs.Common.{◌≡◌, ℕ, ◌-◌, ◌<◌, ◌==◌, ◌≤◌, bit_and, Bool, true, false, ◌&&◌, cond, nat_lt, List, get_or, refl, ap, sym, ◌∙◌, arith}
+use Rattle.std.proofs.lemmas.Bool.{eqb-true}
+use Rattle.std.proofs.lemmas.Bool.Decides.{nat_tests}
+use Rattle.bus_word.specs.declared.cell.Cell.{Cell}
+use Rattle.bus_word.specs.declared.cell.Cell.TheVariants.{OwnReceive, OwnTransmit, BroadReceive, OwnMode, BroadMode}
+use Rattle.bus_word.specs.Cell.{is_data_place, is_allowed}
+use Rattle.bus_word.specs.Mode.{is_required_code}
+use Rattle.bus_profile.specs.declared.profile.Profile.{Profile}
+use Rattle.bus_profile.specs.OwnCodes.{has_bit}
+use Rattle.bus_legal.specs.declared.setup.Setup.{Setup}
+use Rattle.bus_legal.specs.declared.tables.Tables.{Tables}
+use Rattle.bus_legal.specs.Description.{wrap_subaddress, word_at, described}
+use Rattle.bus_legal.specs.Legal.{is_legal, last_says}
+use Rattle.bus_legal.specs.Meaning.{description_of, SetsUp}
+use Rattle.bus_legal.specs.Reach.{is_heard, reach}
+use Rattle.bus_legal.specs.Tables.{has_cell, tables_say, largest_in, masks_wrap}
+use Rattle.bus_legal.specs.Parts.{Parts, parts_of, description_in, IsNormal}
+use Rattle.bus_legal.proofs.Bits.{has_bit-and}
+use Rattle.bus_legal.proofs.Bools.{left_of, right_of}
+use Rattle.bus_legal.proofs.ModeMasks.{each_required}
+use Rattle.bus_legal.proofs.Descriptions.{same_reach, and-twice}
+use Rattle.bus_legal.proofs.PartsReach.{description_in-made}
+use Rattle.bus_legal.proofs.Places.{place_low, place_high}
+use Rattle.bus_legal.proofs.TablesReach.{unheard-says}
+
+-- of a flag that stands only where a test passes
+flag-kept : (t flag : Bool) → (t ≡ false → flag ≡ false) → flag ≡ (t && flag)
+flag-kept true flag h = refl
+flag-kept false flag h = h refl
+
+-- of a word that is 0 unless a test passes
+word-kept : (t : Bool) (word : ℕ) → (t ≡ false → word ≡ 0) → word ≡ cond t word 0
+word-kept true word h = refl
+word-kept false word h = h refl
+
+-- every legal cell of a `Normal` is one that its terminal hears
+all-heard : (v : Parts) → IsNormal v → (cell : Cell) → tables_say v.tables cell ≡ (is_heard v.broadcast cell && tables_say v.tables cell)
+all-heard v is cell = by_option v.broadcast refl
+  where
+    built : Tables → List ℕ → ℕ → Tables
+    built t masks mask = record t { broadcast_receive = masks; broadcast_mode = mask }
+
+    by_option : (b : Bool) → v.broadcast ≡ b → tables_say v.tables cell ≡ (is_heard v.broadcast cell && tables_say v.tables cell)
+    by_option true e = sym (ap (λ b. is_heard b cell && tables_say v.tables cell) e ∙ all cell)
+      where
+        all : (cell : Cell) → (is_heard true cell && tables_say v.tables cell) ≡ tables_say v.tables cell
+        all (OwnReceive s n) = refl
+        all (OwnTransmit s n) = refl
+        all (BroadReceive s n) = refl
+        all (OwnMode c) = refl
+        all (BroadMode c) = refl
+    by_option false e =
+        (λ j. tables_say (record v.tables { broadcast_receive = is.unheard_receive e j; broadcast_mode = is.unheard_mode e j }) cell)
+        ∙ (unheard-says v.tables cell ∙ ap (λ b. is_heard b cell && tables_say v.tables cell) (sym e))
+
+-- the description of a `Normal` is its own reached part
+pub reach-normal : (v : Parts) → IsNormal v → reach (description_in v) ≡ description_in v
+reach-normal v is = sym (description_in-made (description_in v) v (record {
+  address = refl;
+  broadcast = refl;
+  own_receive = is.own_receive;
+  own_transmit = is.own_transmit;
+  broadcast_receive = is.broadcast_receive;
+  legal = all-heard v is;
+  wrap = flag-kept (masks_wrap v.tables wrap_subaddress) v.wrap is.unwrapped;
+  accept = flag-kept (has_bit v.tables.own_mode 0) v.accept is.unasked_accept;
+  vector = word-kept (has_bit v.tables.own_mode 16) v.vector is.unasked_vector;
+  bit = word-kept (has_bit v.tables.own_mode 19) v.bit is.unasked_bit;
+  initial = λ s i place.
+      word-kept (nat_lt (i - 1) (most s)) (word_at v.initial s i) (λ past. is.unsent (s - 1) (i - 1) (place_low s i place) (place_high s i place) (beyond (i - 1) (most s) past))
+      ∙ ap (λ w. cond (nat_lt (i - 1) (most s)) w 0) (sym (ap (λ b. cond b (word_at v.initial s i) 0) place));
+}))
+  where
+    most : ℕ → ℕ
+    most s = largest_in (get_or v.tables.own_transmit (s - 1) 0)
+
+    beyond : (i n : ℕ) → nat_lt i n ≡ false → n ≤ i
+    beyond i n e = grind (arith, nat_tests)
+
+-- A terminal that is set up by a profile, with any legality that is the profile's, has the reached
+-- part of the profile.
+pub reach-set_up : (p : Profile) (setup : Setup) (means : Cell → Bool) → SetsUp p setup → ((cell : Cell) →
+    means cell ≡ is_legal p.rules p.modes cell) → reach (described setup means) ≡ reach (description_of p)
+unfolding is_legal
+reach-set_up p setup means up legal = same_reach (described setup means) (description_of p) up.address up.broadcast up.wrap up.accept up.vector up.bit up.initial
+    (λ cell. ap (λ b. is_allowed cell && b) (legal cell) ∙ and-twice (is_allowed cell) (last_says p.rules p.modes cell))
+    (λ s n e. left_of (is_data_place s n) (means (OwnTransmit s n)) e)
+
+-- A terminal that is set up by a `Normal` has its description as reached part.
+pub reach-set_up_normal : (v : Parts) (setup : Setup) → IsNormal v → parts_of setup v.tables ≡ v → reach (described setup (tables_say v.tables)) ≡ description_in v
+reach-set_up_normal v setup is same = same_reach (described setup (tables_say v.tables)) (description_in v)
+    (ap (λ w. w.address) same) (ap (λ w. w.broadcast) same) (ap (λ w. w.wrap) same) (ap (λ w. w.accept) same) (ap (λ w. w.vector) same) (ap (λ w. w.bit) same)
+    (λ s i place. ap (λ w. word_at w.initial s i) same ∙ sym (ap (λ b. cond b (word_at v.initial s i) 0) place))
+    (λ cell. and-twice (is_allowed cell) (has_cell v.tables cell))
+    (λ s n e. left_of (is_data_place s n) (tables_say v.tables (OwnTransmit s n)) e)
+    ∙ reach-normal v is
+
+-- own mode codes 2, 4, 5 and 8 are legal in a `Normal`
+pub required-legal : (v : Parts) → IsNormal v → (c : ℕ) → is_required_code c ≡ true → tables_say v.tables (OwnMode c) ≡ true
+required-legal v is = each_required (λ c. tables_say v.tables (OwnMode c)) (has 2 (omega arith) refl) (has 4 (omega arith) refl) (has 5 (omega arith) refl) (has 8 (omega arith) refl)
+  where
+    all : bit_and v.tables.own_mode 0x134 ≡ 0x134
+    all = eqb-true (bit_and v.tables.own_mode 0x134) 0x134 (right_of (bit_and v.tables.own_mode 0x000f01ff == v.tables.own_mode) _ is.own_mode)
+
+    has : (c : ℕ) → c < 32 → has_bit 0x134 c ≡ true → has_bit v.tables.own_mode c ≡ true
+    has c l e = right_of (has_bit 0x134 c) (has_bit v.tables.own_mode c) (sym (has_bit-and v.tables.own_mode 0x134 c) ∙ (ap (λ m. has_bit m c) all ∙ e))

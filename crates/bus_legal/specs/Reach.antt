@@ -1,0 +1,87 @@
+-- What of a description any bus controller can reach.
+use Rattle.std.specs.Prelude.{ℕ, zero, suc, Bool, true, false, ◌&&◌, ◌||◌, nat_le, if◌then◌else◌}
+use Rattle.bus_word.specs.declared.cell.Cell.{Cell}
+use Rattle.bus_word.specs.declared.cell.Cell.TheVariants.{OwnReceive, OwnTransmit, BroadReceive, OwnMode, BroadMode}
+use Rattle.bus_legal.specs.Description.{Description, wrap_subaddress}
+
+-- the largest number from 1 to n that passes, or 0 where none does
+abbrev pub largest_to : ℕ → (ℕ → Bool) → ℕ
+largest_to zero p = 0
+largest_to (suc n) p = if p (suc n) then suc n else largest_to n p
+
+-- some number from 1 to n passes
+abbrev pub any_to : ℕ → (ℕ → Bool) → Bool
+any_to zero p = false
+any_to (suc n) p = p (suc n) || any_to n p
+
+-- the largest word count that passes, or 0 where none does
+unfoldable pub largest_count : (ℕ → Bool) → ℕ
+largest_count p = largest_to 32 p
+
+-- some word count passes
+unfoldable pub any_count : (ℕ → Bool) → Bool
+any_count p = any_to 32 p
+
+-- A cell of commands that a terminal takes as meant for it: by its own address, or by broadcast where
+-- it has the broadcast option.
+abbrev pub is_heard : Bool → Cell → Bool
+is_heard broadcast (OwnReceive s n) = true
+is_heard broadcast (OwnTransmit s n) = true
+is_heard broadcast (OwnMode c) = true
+is_heard broadcast (BroadReceive s n) = broadcast
+is_heard broadcast (BroadMode c) = broadcast
+
+-- the terminal can be made to transmit so many words of this subaddress
+abbrev pub transmits : Description → ℕ → ℕ → Bool
+transmits P subaddress count = P.legal (OwnTransmit subaddress count)
+
+-- the terminal can be made to receive so many words at this subaddress
+abbrev pub receives : Description → ℕ → ℕ → Bool
+receives P subaddress count = P.legal (OwnReceive subaddress count) || (P.broadcast && P.legal (BroadReceive subaddress count))
+
+-- words that were received at this subaddress can be transmitted from it
+abbrev pub can_wrap : Description → ℕ → Bool
+can_wrap P subaddress = any_count (receives P subaddress) && any_count (transmits P subaddress)
+
+-- word number i of subaddress s is among those that some legal command makes the terminal transmit
+abbrev pub can_transmit : Description → ℕ → ℕ → Bool
+can_transmit P s i = nat_le 1 i && nat_le i (largest_count (transmits P s))
+
+-- all of a description but its address and its broadcast option
+pub record Rest : Type 0 where
+  pub wrap : Bool
+  pub accept : Bool
+  pub vector : ℕ
+  pub bit : ℕ
+  pub initial : ℕ → ℕ → ℕ
+  pub legal : Cell → Bool
+
+abbrev pub with_rest : Description → Rest → Description
+with_rest P rest = record {
+  address = P.address;
+  broadcast = P.broadcast;
+  wrap = rest.wrap;
+  accept = rest.accept;
+  vector = rest.vector;
+  bit = rest.bit;
+  initial = rest.initial;
+  legal = rest.legal;
+}
+
+-- What can be reached beside address and option: the legal cells of commands that are meant for the
+-- terminal; acceptance, the vector word and the BIT word where own mode code 0, 16 or 19, which asks
+-- for it, is legal; the initial words that some legal command makes the terminal transmit; and
+-- wraparound where words can be received at the wraparound subaddress and transmitted from it.
+abbrev pub reached : Description → Rest
+reached P = record {
+  wrap = can_wrap P wrap_subaddress && P.wrap;
+  accept = P.legal (OwnMode 0) && P.accept;
+  vector = if P.legal (OwnMode 16) then P.vector else 0;
+  bit = if P.legal (OwnMode 19) then P.bit else 0;
+  initial = λ s i. if can_transmit P s i then P.initial s i else 0;
+  legal = λ cell. is_heard P.broadcast cell && P.legal cell;
+}
+
+-- The part of a description that can be reached; all else is false or 0.
+abbrev pub reach : Description → Description
+reach P = with_rest P (reached P)

@@ -1,0 +1,149 @@
+//! The reached part of a profile.
+ghost use Rattle.std.specs.Prelude.{◌≡◌, ◌↔◌, IsTrue};
+ghost use Rattle.bus_legal.specs.Tables.{tables_say};
+ghost use Rattle.bus_legal.specs.Parts.{parts_of, IsNormal};
+
+use crate::legality::Legality;
+use crate::setup::Setup;
+use crate::tables::Tables;
+use bus_word::Cell;
+pub use reached::normalise;
+
+mod reached;
+
+use std::marker::Model;
+
+/// What of a profile any bus controller can reach: a set-up and the masks of the legal cells, with
+/// nothing in them that can't be reached. A contract sees these parts.
+#[derive(Clone, Copy, PartialEq, Eq, Debug)]
+pub struct Normal {
+    address: u8,
+    broadcast: bool,
+    wrap: bool,
+    accept: bool,
+    vector: u16,
+    bit: u16,
+    initial: [[u16; 32]; 30],
+    tables: Tables,
+}
+
+impl Model for Normal {
+    ghost use Rattle.bus_legal.specs.Parts.{Parts};
+
+    ghost Value = { Parts };
+
+    ghost use Rattle.bus_legal.specs.NormalView.{parts_inside, inside_of, IsNormalInside};
+
+    ghost view = { parts_inside };
+
+    ghost invariant = { IsNormalInside };
+
+    ghost inverse = { inside_of };
+}
+
+impl Normal {
+    /// The `Normal` of this set-up and these tables, in which nothing is that can't be reached.
+    pub fn of(setup: Setup, tables: Tables) -> Normal
+        requires { IsNormal (parts_of setup tables) }
+        ensures { result ≡ parts_of setup tables }
+    {
+        let initial = setup.initial;
+        Normal {
+            address: setup.address,
+            broadcast: setup.broadcast,
+            wrap: setup.wrap,
+            accept: setup.accept,
+            vector: setup.vector,
+            bit: setup.bit,
+            initial,
+            tables,
+        }
+    }
+
+    /// The set-up. With these parts of a `Normal` go the laws of `laws`.
+    pub fn setup(&self) -> Setup
+        ensures parts { parts_of result self.now.tables ≡ self.now }
+        ensures normal { IsNormal self.now }
+    {
+        Setup {
+            address: self.address,
+            broadcast: self.broadcast,
+            wrap: self.wrap,
+            accept: self.accept,
+            vector: self.vector,
+            bit: self.bit,
+            initial: self.initial,
+        }
+    }
+
+    /// The address, 0 to 30.
+    pub fn address(&self) -> u8
+        ensures { result ≡ self.now.address }
+    {
+        self.address
+    }
+
+    /// The broadcast option.
+    pub fn broadcast(&self) -> bool
+        ensures { result ≡ self.now.broadcast }
+    {
+        self.broadcast
+    }
+
+    /// Whether words received at the wraparound subaddress, 30, replace those held there.
+    pub fn wrap(&self) -> bool
+        ensures { result ≡ self.now.wrap }
+    {
+        self.wrap
+    }
+
+    /// Whether dynamic bus control is accepted.
+    pub fn accept(&self) -> bool
+        ensures { result ≡ self.now.accept }
+    {
+        self.accept
+    }
+
+    /// The vector word.
+    pub fn vector(&self) -> u16
+        ensures { result ≡ self.now.vector }
+    {
+        self.vector
+    }
+
+    /// The BIT word.
+    pub fn bit(&self) -> u16
+        ensures { result ≡ self.now.bit }
+    {
+        self.bit
+    }
+
+    /// The words held: `initial()[s - 1][i - 1]` is number `i` of subaddress `s`.
+    pub fn initial(&self) -> &[[u16; 32]; 30]
+        ensures { result.now ≡ self.now.initial }
+    {
+        &self.initial
+    }
+
+    /// The masks of the legal cells.
+    pub fn tables(&self) -> &Tables
+        ensures { result.now ≡ self.now.tables }
+    {
+        &self.tables
+    }
+
+    /// Whether the two are the same in every part.
+    pub fn is_same(&self, other: &Normal) -> bool
+        ensures { IsTrue result ↔ (self.now ≡ other.now) }
+    {
+        self == other
+    }
+}
+
+impl Legality for Normal {
+    ghost is_legal = { λ normal. tables_say normal.tables };
+
+    fn legal(&self, cell: Cell) -> bool {
+        self.tables.legal(cell)
+    }
+}

@@ -1,0 +1,101 @@
+//! Making a `Normal` of a profile.
+ghost use Rattle.std.specs.Prelude.{◌≡◌, ◌<◌, ◌≤◌, ◌&&◌, ℕ, [], true, false, get_or, nat_lt, if◌then◌else◌, replicate};
+ghost use Rattle.bus_word.specs.declared.cell.Cell.{Cell};
+ghost use Rattle.bus_profile.specs.OwnCodes.{has_bit};
+ghost use Rattle.bus_legal.specs.Description.{wrap_subaddress};
+ghost use Rattle.bus_legal.specs.Legal.{is_legal};
+ghost use Rattle.bus_legal.specs.Meaning.{description_of};
+ghost use Rattle.bus_legal.specs.Reach.{is_heard, reach};
+ghost use Rattle.bus_legal.specs.Tables.{tables_say, is_own_mask, is_broadcast_mask, masks_wrap, largest_in};
+ghost use Rattle.bus_legal.specs.Parts.{description_in, IsRow, AreWords};
+
+use super::Normal;
+use crate::initial::put_initial;
+use crate::masks::{has_bit, largest_count};
+use crate::tables::Tables;
+use bus_profile::Profile;
+
+/// The wraparound subaddress.
+const WRAP_SUBADDRESS: u8 = 30;
+
+/// The masks of what a profile makes legal, without broadcast cells where its terminal hears none.
+fn heard_tables(profile: &Profile) -> Tables
+    ensures legal { (cell : Cell) → tables_say result cell ≡ (is_heard profile.now.broadcast cell && is_legal profile.now.rules profile.now.modes cell) }
+    ensures own_mode { is_own_mask result.own_mode ≡ true }
+    ensures broadcast_mode { is_broadcast_mask result.broadcast_mode ≡ true }
+    ensures unheard_receive { profile.now.broadcast ≡ false → result.broadcast_receive ≡ replicate 30 0 }
+    ensures unheard_mode { profile.now.broadcast ≡ false → result.broadcast_mode ≡ 0 }
+{
+    let mut tables = Tables::of(profile);
+    if !profile.broadcast {
+        tables.broadcast_receive = [0; 30];
+        tables.broadcast_mode = 0;
+    }
+    tables
+}
+
+/// Whether wraparound is on and can be reached.
+fn wraps(profile: &Profile, tables: &Tables) -> bool
+    ensures { result ≡ (masks_wrap tables.now wrap_subaddress && profile.now.wrap) }
+{
+    tables.can_wrap(WRAP_SUBADDRESS) && profile.wrap
+}
+
+/// Whether dynamic bus control is accepted and can be asked for.
+fn accepts(profile: &Profile, tables: &Tables) -> bool
+    ensures { result ≡ (has_bit tables.now.own_mode 0 && profile.now.accept) }
+{
+    has_bit(tables.own_mode, 0) && profile.accept
+}
+
+/// The word, where the own mode code that asks for it is legal, else 0.
+fn asked_word(tables: &Tables, code: u8, word: u16) -> u16
+    requires { code < 32 }
+    ensures { result ≡ (if has_bit tables.now.own_mode code then word else 0) }
+{
+    if has_bit(tables.own_mode, code) {
+        word
+    } else {
+        0
+    }
+}
+
+/// Leaves the first words of a row, as many as there are, and makes the others 0.
+fn keep_first(row: &mut [u16; 32], keep: usize)
+    ensures row { IsRow row.new }
+    ensures words { (i : ℕ) → i < 32 → get_or row.new i 0 ≡ (if nat_lt i keep then get_or row.old i 0 else 0) }
+{
+    if keep < 32 {
+        row[keep..].fill(0);
+    }
+}
+
+/// Leaves of each row the words up to the largest word count in the mask of its subaddress.
+fn keep_sent(words: &mut [[u16; 32]; 30], masks: &[u32; 30])
+    ensures rows { AreWords words.old → AreWords words.new }
+    ensures words { (s i : ℕ) → s < 30 → i < 32 → get_or (get_or words.new s []) i 0 ≡ (if nat_lt i (largest_in (get_or masks.now s 0)) then get_or (get_or words.old s []) i 0 else 0) }
+{
+    for s in 0..30 {
+        keep_first(&mut words[s], largest_count(masks[s]));
+    }
+}
+
+/// What of a profile any bus controller can reach.
+pub fn normalise(profile: &Profile) -> Normal
+    ensures { description_in result ≡ reach (description_of profile.now) }
+{
+    let tables = heard_tables(profile);
+    let mut initial = [[0; 32]; 30];
+    put_initial(&mut initial, profile.initials.as_slice());
+    keep_sent(&mut initial, &tables.own_transmit);
+    Normal {
+        address: profile.address,
+        broadcast: profile.broadcast,
+        wrap: wraps(profile, &tables),
+        accept: accepts(profile, &tables),
+        vector: asked_word(&tables, 16, profile.vector),
+        bit: asked_word(&tables, 19, profile.bit),
+        initial,
+        tables,
+    }
+}
