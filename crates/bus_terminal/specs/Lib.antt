@@ -1,0 +1,13 @@
+pub mod Place
+pub mod Buses
+pub mod LookBack
+pub mod History
+pub mod Open
+pub mod Starts
+pub mod Flags
+pub mod Ends
+pub mod SinceReset
+pub mod Status
+pub mod Past
+pub mod Out
+pub mod Same

@@ -1,0 +1,9 @@
+//! A MIL-STD-1553B remote terminal: what it sends and hands over, for every history of its two buses
+//! and its subsystem.
+#![tactic(auto)]
+
+mod answer;
+mod event;
+
+pub use answer::{Answer, Hand, Sent};
+pub use event::{Event, Flag, WordPlace};
