@@ -11,3 +11,7 @@ pub mod Status
 pub mod Past
 pub mod Out
 pub mod Same
+pub mod RowWords
+pub mod MessageRows
+pub mod TransferRows
+pub mod ModeRows

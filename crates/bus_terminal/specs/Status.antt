@@ -115,4 +115,4 @@ adds_error P _ = false
 abbrev pub kept_now : Description → List Noted → StatusParts
 kept_now P h =
     with_error_if (some (λ p. adds_error P p.ends) (since_with (kept_set P) h))
-        (or_else (latest_with (kept_set P) h) no_parts)
+    (or_else (latest_with (kept_set P) h) no_parts)

@@ -4,6 +4,7 @@
 
 mod answer;
 mod event;
+pub mod rows;
 
 pub use answer::{Answer, Hand, Sent};
 pub use event::{Event, Flag, WordPlace};
