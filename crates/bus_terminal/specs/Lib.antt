@@ -15,3 +15,7 @@ pub mod RowWords
 pub mod MessageRows
 pub mod TransferRows
 pub mod ModeRows
+pub mod Standing
+pub mod Message
+pub mod Ended
+pub mod Registers

@@ -3,7 +3,11 @@
 #![tactic(auto)]
 
 mod answer;
+mod buses;
+mod ended;
 mod event;
+mod message;
+mod registers;
 pub mod rows;
 
 pub use answer::{Answer, Hand, Sent};

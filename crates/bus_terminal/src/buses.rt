@@ -1,0 +1,46 @@
+//! What is kept for each of the two buses.
+ghost use Rattle.std.specs.Prelude.{◌≡◌, if◌then◌else◌};
+ghost use Rattle.bus_word.specs.declared.word.Bus.{Bus};
+ghost use Rattle.bus_terminal.specs.Buses.{same_bus};
+ghost use Rattle.bus_terminal.specs.Registers.{on_bus};
+
+use bus_word::Bus;
+
+/// A truth value for each bus.
+#[derive(Clone, Copy)]
+pub struct OnBuses {
+    pub a: bool,
+    pub b: bool,
+}
+
+impl OnBuses {
+    /// False on both.
+    pub const NONE: OnBuses = OnBuses { a: false, b: false };
+
+    pub fn on(&self, bus: Bus) -> bool
+        ensures { result ≡ on_bus bus self.now }
+    {
+        match bus {
+            Bus::A => self.a,
+            Bus::B => self.b,
+        }
+    }
+
+    pub fn set(&mut self, bus: Bus, value: bool)
+        ensures { (b : Bus) → on_bus b self.new ≡ (if same_bus b bus then value else on_bus b self.old) }
+    {
+        match bus {
+            Bus::A => self.a = value,
+            Bus::B => self.b = value,
+        }
+    }
+
+    pub fn set_other(&mut self, bus: Bus, value: bool)
+        ensures { (b : Bus) → on_bus b self.new ≡ (if same_bus b bus then on_bus b self.old else value) }
+    {
+        match bus {
+            Bus::A => self.b = value,
+            Bus::B => self.a = value,
+        }
+    }
+}

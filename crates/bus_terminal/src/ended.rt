@@ -1,0 +1,49 @@
+//! What an event ends, and what the cell of a command says of it.
+ghost use Rattle.std.specs.Prelude.{◌≡◌};
+ghost use Rattle.bus_terminal.specs.Ends.{is_blocked_by_busy};
+ghost use Rattle.bus_terminal.specs.SinceReset.{code_in};
+ghost use Rattle.bus_terminal.specs.Status.{reports_kept};
+
+use bus_word::{Cell, Command};
+
+/// How an event ends the message in progress. The words of a message that is done are in the buffer.
+#[derive(Clone, Copy)]
+pub enum Ended {
+    /// Not at all.
+    Nothing,
+    /// In error.
+    Badly(Command),
+    /// Well, and illegal.
+    Illegal(Command),
+    /// Well, and kept from being carried out by the busy flag.
+    Blocked(Command, Cell),
+    /// Well.
+    Done(Command, Cell),
+}
+
+/// Whether the busy flag keeps a terminal from what this cell means.
+pub fn is_blocked_by_busy(cell: Cell) -> bool
+    ensures { result ≡ is_blocked_by_busy cell }
+{
+    match cell {
+        Cell::OwnMode(code) | Cell::BroadMode(code) => matches!(code, 16 | 17),
+        _ => true,
+    }
+}
+
+/// Whether a cell is an own mode code that reports the kept status and spares it.
+pub fn reports_kept(cell: Cell) -> bool
+    ensures { result ≡ reports_kept cell }
+{
+    matches!(cell, Cell::OwnMode(2 | 18))
+}
+
+/// The mode code of a cell, own or by broadcast.
+pub fn code_in(cell: Cell) -> Option<u8>
+    ensures { result ≡ code_in cell }
+{
+    match cell {
+        Cell::OwnMode(code) | Cell::BroadMode(code) => Some(code),
+        _ => None,
+    }
+}
