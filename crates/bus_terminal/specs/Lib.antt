@@ -19,3 +19,4 @@ pub mod Standing
 pub mod Message
 pub mod Ended
 pub mod Registers
+pub mod Held

@@ -42,10 +42,14 @@ pub record Reply : Type 0 where
   pub parts : StatusParts
   pub words : List ℕ
 
--- n words held for subaddress s, from number i on
-abbrev pub held_from : Description → List Noted → ℕ → ℕ → ℕ → List ℕ
-held_from P h s i zero = []
-held_from P h s i (suc n) = held_now P h s i ∷ held_from P h s (i + 1) n
+-- n words from number i on, where a function gives the word of a number
+abbrev pub words_from : (ℕ → ℕ) → ℕ → ℕ → List ℕ
+words_from word i zero = []
+words_from word i (suc n) = word i ∷ words_from word (i + 1) n
+
+-- the first n words held for subaddress s
+abbrev pub first_held : Description → List Noted → ℕ → ℕ → List ℕ
+first_held P h s n = words_from (held_now P h s) 1 n
 
 -- the data word that goes with an own mode code: vector word, last command and BIT word
 abbrev pub code_words : Description → List Noted → ℕ → List ℕ
@@ -68,7 +72,7 @@ reply P h Nothing = None
 reply P h (Badly c) = None
 reply P h (Illegal c) = Some (just_status (formed_error h c))
 reply P h (Blocked c cell) = Some (just_status (formed_blocked h c))
-reply P h (Done c (OwnTransmit s n) ds) = Some (record { parts = formed_done P h c (OwnTransmit s n); words = held_from P h s 1 n })
+reply P h (Done c (OwnTransmit s n) ds) = Some (record { parts = formed_done P h c (OwnTransmit s n); words = first_held P h s n })
 reply P h (Done c (OwnMode code) ds) = Some (record { parts = code_parts P h c code; words = code_words P h code })
 reply P h (Done c cell ds) = Some (just_status (formed_done P h c cell))
 

@@ -11,6 +11,7 @@ use Rattle.bus_terminal.specs.declared.event.Event.{Event}
 use Rattle.bus_terminal.specs.declared.buses.OnBuses.{OnBuses}
 use Rattle.bus_terminal.specs.declared.registers.Flags.{Flags}
 use Rattle.bus_terminal.specs.declared.registers.Registers.{Registers}
+use Rattle.bus_terminal.specs.Buses.{same_bus}
 use Rattle.bus_terminal.specs.LookBack.{or_else}
 use Rattle.bus_terminal.specs.History.{Noted, Ending, Nothing, Badly, Illegal, Blocked, Done, is_gap_on}
 use Rattle.bus_terminal.specs.Flags.{flag_set, flag_now}
@@ -21,6 +22,14 @@ use Rattle.bus_terminal.specs.Status.{no_parts, with_error_if, accepts, inhibite
 abbrev pub on_bus : Bus → OnBuses → Bool
 on_bus A t = t.a
 on_bus B t = t.b
+
+abbrev pub with_bus : Bus → Bool → OnBuses → OnBuses
+with_bus A value t = record t { a = value }
+with_bus B value t = record t { b = value }
+
+abbrev pub with_other_bus : Bus → Bool → OnBuses → OnBuses
+with_other_bus A value t = record t { b = value }
+with_other_bus B value t = record t { a = value }
 
 -- what looking back over a noted history gives
 abbrev pub registers_now : Description → List Noted → Registers
@@ -69,16 +78,16 @@ error_from r c = formed_from r c true false r.inhibited
 abbrev pub blocked_from : Registers → ℕ → StatusParts
 blocked_from r c = formed_from r c false false r.inhibited
 
-abbrev pub done_from : Registers → Bool → ℕ → Cell → StatusParts
-done_from r accepted c cell = formed_from r c false accepted (inhibited_after r.inhibited cell)
+abbrev pub done_from : Bool → Registers → ℕ → Cell → StatusParts
+done_from accept r c cell = formed_from r c false (accepts accept cell) (inhibited_after r.inhibited cell)
 
 -- the status that goes with a message that ended well
-abbrev pub status_from : Description → Registers → Ending → Option StatusParts
-status_from P r Nothing = None
-status_from P r (Badly c) = None
-status_from P r (Illegal c) = Some (error_from r c)
-status_from P r (Blocked c cell) = Some (blocked_from r c)
-status_from P r (Done c cell ds) = Some (if reports_kept cell then r.kept else done_from r (accepts P cell) c cell)
+abbrev pub status_from : Bool → Registers → Ending → Option StatusParts
+status_from accept r Nothing = None
+status_from accept r (Badly c) = None
+status_from accept r (Illegal c) = Some (error_from r c)
+status_from accept r (Blocked c cell) = Some (blocked_from r c)
+status_from accept r (Done c cell ds) = Some (if reports_kept cell then r.kept else done_from accept r c cell)
 
 -- what an end sets the kept status to
 abbrev pub kept_from : Description → Registers → Ending → Option StatusParts
@@ -88,7 +97,7 @@ kept_from P r (Illegal c) = Some (error_from r c)
 kept_from P r (Blocked c cell) = Some (blocked_from r c)
 kept_from P r (Done c cell ds) =
     if reports_kept cell then None
-    else Some (if is_reset_cell cell then no_parts else done_from r (accepts P cell) c cell)
+    else Some (if is_reset_cell cell then no_parts else done_from P.accept r c cell)
 
 abbrev pub kept_after : Option StatusParts → Bool → StatusParts → StatusParts
 kept_after (Some s) adds kept = s
@@ -111,6 +120,50 @@ shuts_by b e x = if is_gap_on b e then None else switched 4 5 (done_code x)
 
 abbrev pub started_bits : Event → Bool → Option ℕ
 started_bits e starts = if starts then command_bits e else None
+
+-- the registers after a message of command c ended in error, by whether it spares the kept status
+abbrev pub failed : Bool → ℕ → Registers → Registers
+failed spares c r = record r { kept = if spares then with_error_if true r.kept else error_from r c }
+
+abbrev pub failed_by : Description → Option ℕ → Registers → Registers
+failed_by P None r = r
+failed_by P (Some c) r = failed (spares P c) c r
+
+-- after command c started a message
+abbrev pub started : Bool → ℕ → Registers → Registers
+started spares c r = record r {
+  last = or_else (recorded_by (Some c)) r.last;
+  kept = if spares then r.kept else record no_parts { broadcast = is_broadcast c };
+}
+
+-- after a status was sent, or would have been
+abbrev pub keeping : Option StatusParts → Registers → Registers
+keeping status r = record r { kept = or_else status r.kept }
+
+abbrev pub off_after : Bus → Bus → Option ℕ → Option Bool
+off_after b c code = if same_bus b c then None else switched 4 5 code
+
+-- after a mode code was carried out, on bus c, or none; the words are those to which a reset goes back
+abbrev pub carried : ℕ → ℕ → Bus → Option ℕ → Registers → Registers
+carried vector bit c code r =
+    let reset : Bool = is_code 8 code in
+    record {
+      flags = r.flags;
+      inhibited = unless_reset reset false (switched 6 7 code) r.inhibited;
+      off = record {
+        a = unless_reset reset false (off_after A c code) r.off.a;
+        b = unless_reset reset false (off_after B c code) r.off.b;
+      };
+      vector = if reset then vector else r.vector;
+      bit = if reset then bit else r.bit;
+      last = if reset then 0 else r.last;
+      kept = if reset then no_parts else r.kept;
+    }
+
+-- after a gap on bus b ended a message so, or none
+abbrev pub settled : Bool → Bool → ℕ → ℕ → Bus → Ending → Registers → Registers
+settled accept spares vector bit b (Badly c) r = failed spares c r
+settled accept spares vector bit b x r = carried vector bit b (done_code x) (keeping (status_from accept r x) r)
 
 -- the registers after an event, by what it starts and ends, from those before it
 abbrev pub registers_after : Description → Event → Bool → Ending → Registers → Registers

@@ -49,9 +49,9 @@ abbrev pub formed_blocked : List Noted → ℕ → StatusParts
 formed_blocked h c = formed h c false false (inhibited_now h)
 
 -- dynamic bus control is accepted, mode code 0 (4.3.3.5.1.7.1)
-abbrev pub accepts : Description → Cell → Bool
-accepts P (OwnMode code) = (code == 0) && P.accept
-accepts P _ = false
+abbrev pub accepts : Bool → Cell → Bool
+accepts accept (OwnMode code) = (code == 0) && accept
+accepts accept _ = false
 
 -- mode codes 6 and 7 have acted already where their own status is formed
 abbrev pub inhibited_after : Bool → Cell → Bool
@@ -59,7 +59,7 @@ inhibited_after inhibited cell = or_else (switched 6 7 (code_in cell)) inhibited
 
 -- for a message that is done
 abbrev pub formed_done : Description → List Noted → ℕ → Cell → StatusParts
-formed_done P h c cell = formed h c false (accepts P cell) (inhibited_after (inhibited_now h) cell)
+formed_done P h c cell = formed h c false (accepts P.accept cell) (inhibited_after (inhibited_now h) cell)
 
 -- own mode codes 2 and 18, transmit status word and transmit last command, report the kept status and leave
 -- it as it is (4.3.3.5.1.7.3, 4.3.3.5.1.7.13)

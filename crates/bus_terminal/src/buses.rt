@@ -1,8 +1,6 @@
 //! What is kept for each of the two buses.
-ghost use Rattle.std.specs.Prelude.{◌≡◌, if◌then◌else◌};
-ghost use Rattle.bus_word.specs.declared.word.Bus.{Bus};
-ghost use Rattle.bus_terminal.specs.Buses.{same_bus};
-ghost use Rattle.bus_terminal.specs.Registers.{on_bus};
+ghost use Rattle.std.specs.Prelude.{◌≡◌};
+ghost use Rattle.bus_terminal.specs.Registers.{on_bus, with_bus, with_other_bus};
 
 use bus_word::Bus;
 
@@ -27,7 +25,7 @@ impl OnBuses {
     }
 
     pub fn set(&mut self, bus: Bus, value: bool)
-        ensures { (b : Bus) → on_bus b self.new ≡ (if same_bus b bus then value else on_bus b self.old) }
+        ensures { self.new ≡ with_bus bus value self.old }
     {
         match bus {
             Bus::A => self.a = value,
@@ -36,7 +34,7 @@ impl OnBuses {
     }
 
     pub fn set_other(&mut self, bus: Bus, value: bool)
-        ensures { (b : Bus) → on_bus b self.new ≡ (if same_bus b bus then on_bus b self.old else value) }
+        ensures { self.new ≡ with_other_bus bus value self.old }
     {
         match bus {
             Bus::A => self.b = value,

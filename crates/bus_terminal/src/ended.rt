@@ -1,7 +1,10 @@
 //! What an event ends, and what the cell of a command says of it.
-ghost use Rattle.std.specs.Prelude.{◌≡◌};
+ghost use Rattle.std.specs.Prelude.{◌≡◌, List, ℕ};
 ghost use Rattle.bus_terminal.specs.Ends.{is_blocked_by_busy};
-ghost use Rattle.bus_terminal.specs.SinceReset.{code_in};
+ghost use Rattle.bus_terminal.specs.SinceReset.{code_in, done_code};
+ghost use Rattle.bus_word.specs.Command.{is_broadcast};
+ghost use Rattle.bus_terminal.specs.Out.{command_ended};
+ghost use Rattle.bus_terminal.specs.Ended.{ending_of};
 ghost use Rattle.bus_terminal.specs.Status.{reports_kept};
 
 use bus_word::{Cell, Command};
@@ -19,6 +22,31 @@ pub enum Ended {
     Blocked(Command, Cell),
     /// Well.
     Done(Command, Cell),
+}
+
+impl Ended {
+    /// The mode code that was carried out.
+    pub fn done_code(self) -> Option<u8>
+        ensures { (ds : List ℕ) → result ≡ done_code (ending_of self ds) }
+    {
+        match self {
+            Ended::Done(_, Cell::OwnMode(code) | Cell::BroadMode(code)) => Some(code),
+            _ => None,
+        }
+    }
+
+    /// Whether the message was a broadcast.
+    pub fn is_broadcast(self) -> bool
+        ensures { (ds : List ℕ) → result ≡ is_broadcast (command_ended (ending_of self ds)) }
+    {
+        match self {
+            Ended::Nothing => false,
+            Ended::Badly(command)
+            | Ended::Illegal(command)
+            | Ended::Blocked(command, _)
+            | Ended::Done(command, _) => command.is_broadcast(),
+        }
+    }
 }
 
 /// Whether the busy flag keeps a terminal from what this cell means.

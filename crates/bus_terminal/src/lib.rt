@@ -6,6 +6,7 @@ mod answer;
 mod buses;
 mod ended;
 mod event;
+mod held;
 mod message;
 mod registers;
 pub mod rows;
