@@ -20,3 +20,5 @@ pub mod Message
 pub mod Ended
 pub mod Registers
 pub mod Held
+pub mod Answer
+pub mod Stands

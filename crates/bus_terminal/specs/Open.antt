@@ -73,10 +73,13 @@ transfer P _ = None
 abbrev pub before_gap : List Noted → Bus → Option (List Noted)
 before_gap h b = before (λ p. is_gap_on b p.event) h
 
--- the transfer that stood when the last gap on the bus came
+abbrev pub transfer_at : Description → Bus → Option (List Noted) → Option (ℕ × ℕ)
+transfer_at P b None = None
+transfer_at P b (Some g) = transfer P (first_open g b)
+
+-- the transfer that stood when the last gap on the bus came, where the latest start of all is on this bus
 abbrev pub awaited_of : Description → Bus → Bool → Option (List Noted) → Option (ℕ × ℕ)
-awaited_of P b is_latest None = None
-awaited_of P b is_latest (Some g) = if is_latest then transfer P (first_open g b) else None
+awaited_of P b is_latest g = if is_latest then transfer_at P b g else None
 
 -- a valid word of command sync with this address is its status word, whatever its other bits
 abbrev pub status_at : ℕ → Option Raw → Bool

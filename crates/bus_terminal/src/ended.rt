@@ -1,6 +1,6 @@
 //! What an event ends, and what the cell of a command says of it.
-ghost use Rattle.std.specs.Prelude.{◌≡◌, List, ℕ};
-ghost use Rattle.bus_terminal.specs.Ends.{is_blocked_by_busy};
+ghost use Rattle.std.specs.Prelude.{◌≡◌, List, ℕ, Some};
+ghost use Rattle.bus_terminal.specs.Ends.{is_blocked_by_busy, verdict};
 ghost use Rattle.bus_terminal.specs.SinceReset.{code_in, done_code};
 ghost use Rattle.bus_word.specs.Command.{is_broadcast};
 ghost use Rattle.bus_terminal.specs.Out.{command_ended};
@@ -26,18 +26,18 @@ pub enum Ended {
 
 impl Ended {
     /// The mode code that was carried out.
-    pub fn done_code(self) -> Option<u8>
-        ensures { (ds : List ℕ) → result ≡ done_code (ending_of self ds) }
+    pub fn done_code(&self) -> Option<u8>
+        ensures { (ds : List ℕ) → result ≡ done_code (ending_of self.now ds) }
     {
         match self {
-            Ended::Done(_, Cell::OwnMode(code) | Cell::BroadMode(code)) => Some(code),
+            Ended::Done(_, Cell::OwnMode(code) | Cell::BroadMode(code)) => Some(*code),
             _ => None,
         }
     }
 
     /// Whether the message was a broadcast.
-    pub fn is_broadcast(self) -> bool
-        ensures { (ds : List ℕ) → result ≡ is_broadcast (command_ended (ending_of self ds)) }
+    pub fn is_broadcast(&self) -> bool
+        ensures { (ds : List ℕ) → result ≡ is_broadcast (command_ended (ending_of self.now ds)) }
     {
         match self {
             Ended::Nothing => false,
@@ -50,7 +50,7 @@ impl Ended {
 }
 
 /// Whether the busy flag keeps a terminal from what this cell means.
-pub fn is_blocked_by_busy(cell: Cell) -> bool
+fn is_blocked_by_busy(cell: Cell) -> bool
     ensures { result ≡ is_blocked_by_busy cell }
 {
     match cell {
@@ -73,5 +73,18 @@ pub fn code_in(cell: Cell) -> Option<u8>
     match cell {
         Cell::OwnMode(code) | Cell::BroadMode(code) => Some(code),
         _ => None,
+    }
+}
+
+/// How a message ends well, by whether its cell is legal and whether the busy flag stands.
+pub fn verdict_of(command: Command, cell: Cell, is_legal: bool, busy: bool) -> Ended
+    ensures { (ds : List ℕ) → ending_of result ds ≡ verdict (λ _. is_legal) busy command ds (Some cell) }
+{
+    if !is_legal {
+        Ended::Illegal(command)
+    } else if busy && is_blocked_by_busy(cell) {
+        Ended::Blocked(command, cell)
+    } else {
+        Ended::Done(command, cell)
     }
 }

@@ -1,6 +1,20 @@
 //! The words held ready for the subaddresses.
 ghost use Rattle.std.specs.Prelude.{◌≡◌, ℕ, ◌<◌, ◌≤◌, ◌-◌, ◌&&◌, ◌==◌, true, false, if◌then◌else◌, length, nat_le, nat_lt, get_or, List, []};
-ghost use Rattle.bus_terminal.specs.Held.{row_in, word_in};
+ghost use Rattle.bus_legal.specs.Description.{word_at};
+ghost use Rattle.bus_terminal.specs.LookBack.{or_else};
+ghost use Rattle.bus_terminal.specs.History.{Done};
+ghost use Rattle.bus_terminal.specs.SinceReset.{wrapped_at};
+ghost use Rattle.bus_terminal.specs.Ended.{ending_of};
+ghost use Rattle.bus_terminal.specs.Held.{row_in, word_in, held_after};
+
+use crate::ended::Ended;
+use bus_word::Cell;
+
+/// The subaddress at which words that are received wrap around.
+const WRAP_SUBADDRESS: u8 = 30;
+
+/// Mode code 8, reset remote terminal.
+const RESET: u8 = 8;
 
 /// A row of 32 words for each of the subaddresses 1 to 30.
 pub type Rows = [[u16; 32]; 30];
@@ -70,7 +84,7 @@ impl HeldWords {
     }
 
     /// The first words of a subaddress become these.
-    pub fn replace(&mut self, initial: &Rows, subaddress: u8, words: &[u16])
+    fn replace(&mut self, initial: &Rows, subaddress: u8, words: &[u16])
         requires low { 1 ≤ subaddress }
         requires high { subaddress ≤ 30 }
         requires few { length words.now ≤ 32 }
@@ -80,8 +94,53 @@ impl HeldWords {
         put_first(&mut self.rows[subaddress as usize - 1], words);
     }
 
+    /// A message ended so, with these words, or none did. With wraparound, words that were received at the
+    /// wraparound subaddress are held there; a reset brings the words of the set-up back.
+    pub fn settle(&mut self, initial: &Rows, wrap: bool, ended: Ended, words: &[u16])
+        requires { length words.now ≤ 32 }
+        ensures { (s i : ℕ) → 1 ≤ s → s ≤ 30 → 1 ≤ i → i ≤ 32 → word_in initial.now self.new s i ≡ held_after initial.now wrap s i (ending_of ended words.now) (word_in initial.now self.old s i) }
+    {
+        match ended {
+            Ended::Done(_, cell) => self.carry_out(initial, wrap, cell, words),
+            Ended::Nothing => {}
+            Ended::Badly(_) => {}
+            Ended::Illegal(_) => {}
+            Ended::Blocked(_, _) => {}
+        }
+    }
+
+    fn carry_out(&mut self, initial: &Rows, wrap: bool, cell: Cell, words: &[u16])
+        requires { length words.now ≤ 32 }
+        ensures { (c s i : ℕ) → 1 ≤ s → s ≤ 30 → 1 ≤ i → i ≤ 32 → word_in initial.now self.new s i ≡ held_after initial.now wrap s i (Done c cell words.now) (word_in initial.now self.old s i) }
+    {
+        match cell {
+            Cell::OwnReceive(subaddress, _) => self.wrap_around(initial, wrap, subaddress, words),
+            Cell::BroadReceive(subaddress, _) => self.wrap_around(initial, wrap, subaddress, words),
+            Cell::OwnTransmit(_, _) => {}
+            Cell::OwnMode(code) => self.reset_if(code == RESET),
+            Cell::BroadMode(code) => self.reset_if(code == RESET),
+        }
+    }
+
+    fn wrap_around(&mut self, initial: &Rows, wrap: bool, subaddress: u8, words: &[u16])
+        requires { length words.now ≤ 32 }
+        ensures { (s i : ℕ) → 1 ≤ s → s ≤ 30 → 1 ≤ i → i ≤ 32 → word_in initial.now self.new s i ≡ or_else (wrapped_at wrap s i subaddress words.now) (word_in initial.now self.old s i) }
+    {
+        if wrap && subaddress == WRAP_SUBADDRESS {
+            self.replace(initial, subaddress, words);
+        }
+    }
+
+    fn reset_if(&mut self, resets: bool)
+        ensures { (initial : List (List ℕ)) (s i : ℕ) → word_in initial self.new s i ≡ (if resets then word_at initial s i else word_in initial self.old s i) }
+    {
+        if resets {
+            self.reset();
+        }
+    }
+
     /// Those of the set-up again.
-    pub fn reset(&mut self)
+    fn reset(&mut self)
         ensures { (initial : List (List ℕ)) (s : ℕ) → row_in initial self.new s ≡ get_or initial (s - 1) [] }
     {
         self.changed = [false; 30];

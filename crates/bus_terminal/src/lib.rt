@@ -9,7 +9,9 @@ mod event;
 mod held;
 mod message;
 mod registers;
+mod terminal;
 pub mod rows;
 
 pub use answer::{Answer, Hand, Sent};
 pub use event::{Event, Flag, WordPlace};
+pub use terminal::Terminal;

@@ -5,6 +5,7 @@ ghost use Rattle.bus_terminal.specs.Buses.{same_bus};
 ghost use Rattle.bus_terminal.specs.Open.{transmitter_at, status_at};
 ghost use Rattle.bus_terminal.specs.Ends.{data_of};
 ghost use Rattle.bus_terminal.specs.Standing.{Collects, Words, Idle, next, entry_leaves, entry_fails, gap_leaves, stop_at_gap, stands_free, stands_fresh};
+ghost use Rattle.bus_terminal.specs.Out.{first_word};
 ghost use Rattle.bus_terminal.specs.Message.{collected_in, standing_on, stop_with, in_phase};
 
 use arrayvec::ArrayVec;
@@ -210,6 +211,16 @@ impl InProgress {
                 _ => None,
             },
             None => None,
+        }
+    }
+
+    /// The first word of the buffer, or 0000.
+    pub fn first_word(&self) -> u16
+        ensures { result ≡ first_word self.now.words.items }
+    {
+        match self.words.as_slice() {
+            [word, ..] => *word,
+            [] => 0,
         }
     }
 

@@ -1,0 +1,235 @@
+//! The remote terminal.
+
+use crate::answer::{Answer, Hand, Sent};
+use crate::buses::OnBuses;
+use crate::ended::{Ended, reports_kept, verdict_of};
+use crate::event::Event;
+use crate::held::HeldWords;
+use crate::message::{GapEnd, InProgress};
+use crate::registers::Registers;
+use arrayvec::ArrayVec;
+use bus_legal::{Legality, Setup};
+use bus_word::{Bus, Cell, Command, Raw, StatusParts, cell_of, status_of};
+
+/// A remote terminal, with its set-up and what answers whether a cell is legal. It stores no history: it
+/// keeps what of its history still matters.
+#[derive(Drop)]
+pub struct Terminal<L> {
+    setup: Setup,
+    legality: L,
+    /// On which buses the run holds a word for the terminal.
+    heard: OnBuses,
+    in_progress: InProgress,
+    registers: Registers,
+    held: HeldWords,
+}
+
+/// A copy of at most 32 words.
+fn copy_of(words: &[u16]) -> ArrayVec<u16, 32>
+    requires { length words.now ≤ 32 }
+    ensures { result.items ≡ words.now }
+{
+    let mut copy = ArrayVec::new();
+    let _ = copy.try_extend_from_slice(words);
+    copy
+}
+
+/// One word.
+fn one_word(word: u16) -> ArrayVec<u16, 32>
+    ensures { result.items ≡ word ∷ [] }
+{
+    let mut words = ArrayVec::new();
+    words.push(word);
+    words
+}
+
+ghost use Rattle.std.specs.Prelude.{◌≡◌, ◌≤◌, [], ◌∷◌, length};
+
+impl<L: Legality> Terminal<L> {
+    ghost use Rattle.std.specs.Prelude.{◌≡◌, ◌≤◌, true, Bool, ℕ, Option, Some, None, List, [], ◌∷◌, if◌then◌else◌, length};
+    ghost use Rattle.bus_word.specs.declared.word.Bus.{Bus};
+    ghost use Rattle.bus_word.specs.Cell.{is_data_place, is_allowed};
+    ghost use Rattle.bus_legal.specs.Description.{Description, described};
+    ghost use Rattle.bus_terminal.specs.declared.event.Event.{Event};
+    ghost use Rattle.bus_terminal.specs.History.{Done};
+    ghost use Rattle.bus_terminal.specs.Ends.{well};
+    ghost use Rattle.bus_terminal.specs.Status.{spares, adds_error};
+    ghost use Rattle.bus_terminal.specs.Out.{out, hands, code_hands, words_from, HandsReceived};
+    ghost use Rattle.bus_terminal.specs.Standing.{gap_ends, starts_by};
+    ghost use Rattle.bus_terminal.specs.Message.{standing_on};
+    ghost use Rattle.bus_terminal.specs.Ended.{ending_of};
+    ghost use Rattle.bus_terminal.specs.Registers.{on_bus, status_from};
+    ghost use Rattle.bus_terminal.specs.Answer.{shown_answer, shown_sent, shown_hand, words_sent, words_handed, IsSmall};
+    ghost use Rattle.bus_terminal.specs.Stands.{StandsAt, description_of, held_word, words_of_reply, sends_from, is_possible};
+
+    /// The terminal at power-up.
+    pub fn power_up(setup: Setup, legality: L) -> Terminal<L>
+        ensures { StandsAt L.is_legal (described setup (L.is_legal legality)) [] result }
+    {
+        Terminal {
+            registers: Registers::at_power_up(setup.vector, setup.bit),
+            setup,
+            legality,
+            heard: OnBuses::NONE,
+            in_progress: InProgress::none(),
+            held: HeldWords::at_power_up(),
+        }
+    }
+
+    /// Whether a command is a legal own mode code 2 or 18, which spares the kept status.
+    fn spares(&self, command: Command) -> bool
+        ensures { result ≡ spares (description_of L.is_legal self.now) command }
+    {
+        match cell_of(command) {
+            Some(cell) => reports_kept(cell) && self.legality.legal(cell),
+            None => false,
+        }
+    }
+
+    /// How a message ends that has the words that its command expects.
+    fn verdict(&self, command: Command) -> Ended
+        ensures ending { (ds : List ℕ) → ending_of result ds ≡ well (description_of L.is_legal self.now) self.now.registers.flags.busy command ds }
+        ensures possible { (ds : List ℕ) → is_possible (ending_of result ds) ≡ true }
+    {
+        match cell_of(command) {
+            Some(cell) => {
+                let is_legal = self.legality.legal(cell);
+                verdict_of(command, cell, is_legal, self.registers.flags.busy)
+            }
+            None => Ended::Illegal(command),
+        }
+    }
+
+    /// How a gap on this bus ends the message in progress.
+    fn end_at_gap(&self, bus: Bus) -> Ended
+        ensures ending { ending_of result self.now.in_progress.words.items ≡ gap_ends (description_of L.is_legal self.now) self.now.registers.flags.busy (standing_on bus self.now.in_progress) }
+        ensures possible { is_possible (ending_of result self.now.in_progress.words.items) ≡ true }
+    {
+        match self.in_progress.end_at_gap(bus) {
+            GapEnd::Whole(command) => self.verdict(command),
+            GapEnd::Error(command) => Ended::Badly(command),
+            GapEnd::Nothing => Ended::Nothing,
+        }
+    }
+
+    /// Whether a word for the terminal starts a message.
+    fn starts(&self, bus: Bus, word: Raw) -> bool
+        ensures { result ≡ starts_by (description_of L.is_legal self.now) word (on_bus bus self.now.heard) (standing_on bus self.now.in_progress) }
+    {
+        let command = Command::of(word.bits);
+        word.is_for(self.setup.address, self.setup.broadcast)
+            && ((!self.heard.on(bus) && self.in_progress.is_free(bus))
+                || (self.in_progress.is_fresh_broadcast(bus)
+                    && command.transmit()
+                    && command.address() == self.setup.address))
+    }
+
+    /// The first words held for a subaddress.
+    fn held_words(&self, subaddress: u8, count: u8) -> ArrayVec<u16, 32>
+        requires { is_data_place subaddress count ≡ true }
+        ensures { result.items ≡ words_from (held_word self.now subaddress) 1 count }
+    {
+        let row = self.held.row(&self.setup.initial, subaddress);
+        copy_of(&row[..count as usize])
+    }
+
+    /// The data words that go after the status, if one is sent.
+    fn data_words(&self, ended: Ended) -> ArrayVec<u16, 32>
+        requires { (ds : List ℕ) → is_possible (ending_of ended ds) ≡ true }
+        ensures words { (ds : List ℕ) → result.items ≡ words_of_reply self.now.registers (held_word self.now) (ending_of ended ds) }
+        ensures few { length result.items ≤ 32 }
+    {
+        match ended {
+            Ended::Done(_, cell) => self.words_of_cell(cell),
+            _ => ArrayVec::new(),
+        }
+    }
+
+    fn words_of_cell(&self, cell: Cell) -> ArrayVec<u16, 32>
+        requires { is_allowed cell ≡ true }
+        ensures words { (c : ℕ) (ds : List ℕ) → result.items ≡ words_of_reply self.now.registers (held_word self.now) (Done c cell ds) }
+        ensures few { length result.items ≤ 32 }
+    {
+        match cell {
+            Cell::OwnTransmit(subaddress, count) => self.held_words(subaddress, count),
+            Cell::OwnMode(16) => one_word(self.registers.vector),
+            Cell::OwnMode(18) => one_word(self.registers.last.bits()),
+            Cell::OwnMode(19) => one_word(self.registers.bit),
+            _ => ArrayVec::new(),
+        }
+    }
+
+    /// What is sent on this bus: nothing for a broadcast, nor where the transmitter is shut down.
+    fn sent(&self, bus: Bus, ended: Ended, status: Option<StatusParts>) -> Option<Sent>
+        requires possible { (ds : List ℕ) → is_possible (ending_of ended ds) ≡ true }
+        requires status { (ds : List ℕ) → status ≡ status_from self.now.setup.accept self.now.registers (ending_of ended ds) }
+        ensures sent { (ds : List ℕ) → shown_sent result ≡ sends_from self.now.setup.address self.now.setup.accept self.now.registers (held_word self.now) bus (ending_of ended ds) }
+        ensures few { length (words_sent (shown_sent result)) ≤ 32 }
+    {
+        if ended.is_broadcast() || self.registers.off.on(bus) {
+            None
+        } else {
+            match status {
+                Some(parts) => {
+                    let status = status_of(self.setup.address, parts);
+                    Some(self.sending(bus, status, ended))
+                }
+                None => None,
+            }
+        }
+    }
+
+    fn sending(&self, bus: Bus, status: u16, ended: Ended) -> Sent
+        requires { (ds : List ℕ) → is_possible (ending_of ended ds) ≡ true }
+        ensures bus { result.bus ≡ bus }
+        ensures status { result.status ≡ status }
+        ensures words { (ds : List ℕ) → result.words.items ≡ words_of_reply self.now.registers (held_word self.now) (ending_of ended ds) }
+        ensures few { length result.words.items ≤ 32 }
+    {
+        Sent {
+            bus,
+            status,
+            words: self.data_words(ended),
+        }
+    }
+
+    /// What is handed over.
+    fn hand(&self, ended: Ended) -> Option<Hand>
+        ensures hand { shown_hand result ≡ hands (description_of L.is_legal self.now) (ending_of ended self.now.in_progress.words.items) }
+        ensures few { length (words_handed (shown_hand result)) ≤ 32 }
+    {
+        match ended {
+            Ended::Done(_, Cell::OwnReceive(subaddress, _)) => Some(self.received(false, subaddress)),
+            Ended::Done(_, Cell::BroadReceive(subaddress, _)) => Some(self.received(true, subaddress)),
+            Ended::Done(_, Cell::OwnMode(code)) => self.hand_of_code(code, self.setup.accept),
+            Ended::Done(_, Cell::BroadMode(code)) => self.hand_of_code(code, false),
+            _ => None,
+        }
+    }
+
+    /// The words in the buffer, as received at this subaddress.
+    fn received(&self, broadcast: bool, subaddress: u8) -> Hand
+        ensures hand { shown_hand (Some result) ≡ Some (HandsReceived broadcast subaddress self.now.in_progress.words.items) }
+        ensures few { length (words_handed (shown_hand (Some result))) ≤ 32 }
+    {
+        Hand::Received {
+            broadcast,
+            subaddress,
+            words: copy_of(self.in_progress.words.as_slice()),
+        }
+    }
+
+    /// What a mode code hands over.
+    fn hand_of_code(&self, code: u8, accepts: bool) -> Option<Hand>
+        ensures hand { shown_hand result ≡ code_hands code accepts self.now.in_progress.words.items }
+        ensures few { length (words_handed (shown_hand result)) ≤ 1 }
+    {
+        match code {
+            0 if accepts => Some(Hand::BusControl),
+            1 => Some(Hand::Synchronize),
+            3 => Some(Hand::SelfTest),
+            17 => Some(Hand::SynchronizeWith(self.in_progress.first_word())),
+            _ => None,
+        }
+    }
+}
