@@ -18,7 +18,7 @@ use Rattle.bus_terminal.specs.History.{Noted, Ending, Nothing, Badly, Illegal, B
 use Rattle.bus_terminal.specs.Status.{spares, adds_error, reports_kept, is_reset_cell, no_parts, with_error_if, kept_by_start, kept_by_command, kept_by_end, start_first}
 use Rattle.bus_terminal.specs.SinceReset.{start_bits}
 use Rattle.bus_terminal.specs.Standing.{fails}
-use Rattle.bus_terminal.specs.Registers.{registers_now, power_up_registers, registers_after, kept_after, kept_from, status_from, error_from, done_from, failed, failed_by, started, settled}
+use Rattle.bus_terminal.specs.Registers.{registers_now, power_up_registers, registers_after, kept_after, kept_from, status_from, error_from, done_from, failed, failed_by, started, started_if, settled}
 use Rattle.bus_terminal.proofs.KeptLaw.{kept_step}
 use Rattle.bus_terminal.proofs.BackLaw.{flag_step, inhibited_step, off_step, vector_step, bit_step, last_step}
 
@@ -57,11 +57,6 @@ pub noise_law : (P : Description) (f : Option ℕ) (b : Bus) (r : Registers) →
 noise_law P None b r = refl
 noise_law P (Some c) b r =
     ap (with_kept r) (elim (spares P c) as (λ s. kept_after (if s then None else Some (error_from r c)) s r.kept ≡ (if s then with_error_if true r.kept else error_from r c)) [ true ↦ refl | false ↦ refl ])
-
--- after a word, by whether it starts a message
-abbrev pub started_if : Bool → Bool → ℕ → Registers → Registers
-started_if true spares c r = started spares c r
-started_if false spares c r = r
 
 started_kept : (k e : StatusParts) (c : ℕ) (a s : Bool) →
     kept_after (start_first (kept_by_command a c) (if s then None else Some e)) s k ≡ (if a then (if s then with_error_if true k else e) else record no_parts { broadcast = is_broadcast c })

@@ -136,6 +136,11 @@ started spares c r = record r {
   kept = if spares then r.kept else record no_parts { broadcast = is_broadcast c };
 }
 
+-- after a word, by whether it starts a message
+abbrev pub started_if : Bool → Bool → ℕ → Registers → Registers
+started_if true spares c r = started spares c r
+started_if false spares c r = r
+
 -- after a status was sent, or would have been
 abbrev pub keeping : Option StatusParts → Registers → Registers
 keeping status r = record r { kept = or_else status r.kept }

@@ -1,7 +1,8 @@
 -- When a terminal stands at a history.
-use Rattle.std.specs.Prelude.{◌≡◌, ℕ, ◌≤◌, Bool, true, ◌||◌, ◌==◌, if◌then◌else◌, Option, Some, None, List, [], ◌∷◌}
+use Rattle.std.specs.Prelude.{◌≡◌, ℕ, ◌≤◌, Bool, true, false, ◌||◌, ◌==◌, if◌then◌else◌, Option, Some, None, List, [], ◌∷◌}
 use Rattle.bus_word.specs.declared.word.Bus.{Bus}
 use Rattle.bus_word.specs.declared.word.Bus.TheVariants.{A, B}
+use Rattle.bus_word.specs.declared.word.Raw.{Raw}
 use Rattle.bus_word.specs.declared.status.StatusParts.{StatusParts}
 use Rattle.bus_word.specs.declared.cell.Cell.{Cell}
 use Rattle.bus_word.specs.declared.cell.Cell.TheVariants.{OwnTransmit, OwnMode}
@@ -14,14 +15,16 @@ use Rattle.bus_terminal.specs.declared.registers.Registers.{Registers}
 use Rattle.bus_terminal.specs.declared.terminal.Terminal.{Terminal}
 use Rattle.bus_terminal.specs.History.{Noted, Ending, Done}
 use Rattle.bus_terminal.specs.Open.{open_now}
-use Rattle.bus_terminal.specs.Starts.{heard_now}
+use Rattle.bus_terminal.specs.Buses.{same_bus}
+use Rattle.bus_terminal.specs.Starts.{heard_now, is_for}
+use Rattle.bus_terminal.specs.Status.{spares, adds_error}
 use Rattle.bus_terminal.specs.SinceReset.{held_now}
 use Rattle.bus_terminal.specs.Past.{past}
 use Rattle.bus_terminal.specs.Out.{Reply, Out, Sending, words_from, sent_on, command_ended, hands}
-use Rattle.bus_terminal.specs.Standing.{standing_of}
+use Rattle.bus_terminal.specs.Standing.{standing_of, word_leaves, entry_leaves, entry_fails, gap_leaves, gap_ends, starts_by}
 use Rattle.bus_terminal.specs.Message.{standing_on}
-use Rattle.bus_terminal.specs.Registers.{registers_now, on_bus, status_from}
-use Rattle.bus_terminal.specs.Held.{word_in}
+use Rattle.bus_terminal.specs.Registers.{registers_now, on_bus, with_bus, status_from, failed_by, started_if, settled}
+use Rattle.bus_terminal.specs.Held.{word_in, held_after}
 
 -- the description of a terminal, whose legality has this meaning
 abbrev pub description_of : {L : Type 0} → (L → Cell → Bool) → Terminal L → Description
@@ -79,3 +82,43 @@ answer_from P r held b x = record { sent = sends_from P.address P.accept r held 
 abbrev pub is_possible : Ending → Bool
 is_possible (Done c cell ds) = is_allowed cell
 is_possible _ = true
+
+-- what a word leaves of the terminal t, but for its message in progress, from what it was before
+abbrev pub heard_after_word : Description → Bus → Raw → OnBuses → OnBuses
+heard_after_word P b w heard = if is_for P w then with_bus b true heard else heard
+
+abbrev pub starts_in : {L : Type 0} → (L → Cell → Bool) → Terminal L → Bus → Raw → Bool
+starts_in is_legal t b w = starts_by (description_of is_legal t) w (on_bus b t.heard) (standing_on b t.in_progress)
+
+-- how a gap on this bus ends the message in progress
+abbrev pub ends_at_gap : {L : Type 0} → (L → Cell → Bool) → Terminal L → Bus → Ending
+ends_at_gap is_legal t b = gap_ends (description_of is_legal t) t.registers.flags.busy (standing_on b t.in_progress)
+
+-- the same set-up and legality
+pub record IsSameSetup {L : Type 0} (is_legal : L → Cell → Bool) (t u : Terminal L) : Type 0 where
+  pub description : description_of is_legal u ≡ description_of is_legal t
+  pub initial : u.setup.initial ≡ t.setup.initial
+
+-- what a word makes of a terminal t
+pub record TakesWord {L : Type 0} (is_legal : L → Cell → Bool) (b : Bus) (w : Raw) (t u : Terminal L) : Type 0 where
+  pub setup : IsSameSetup is_legal t u
+  pub heard : u.heard ≡ heard_after_word (description_of is_legal t) b w t.heard
+  pub standing : (c : Bus) → standing_on c u.in_progress ≡ word_leaves t.setup.address (starts_in is_legal t b w) (same_bus c b) w (standing_on c t.in_progress)
+  pub registers : u.registers ≡ started_if (starts_in is_legal t b w) (spares (description_of is_legal t) w.bits) w.bits (failed_by (description_of is_legal t) (entry_fails (Some w) (standing_on b t.in_progress)) t.registers)
+  pub held : u.held ≡ t.held
+
+-- what noise makes of it
+pub record TakesNoise {L : Type 0} (is_legal : L → Cell → Bool) (b : Bus) (t u : Terminal L) : Type 0 where
+  pub setup : IsSameSetup is_legal t u
+  pub heard : u.heard ≡ t.heard
+  pub standing : (c : Bus) → standing_on c u.in_progress ≡ (if same_bus c b then entry_leaves t.setup.address None (standing_on c t.in_progress) else standing_on c t.in_progress)
+  pub registers : u.registers ≡ failed_by (description_of is_legal t) (entry_fails None (standing_on b t.in_progress)) t.registers
+  pub held : u.held ≡ t.held
+
+-- what a gap makes of it that ends a message so, or none
+pub record TakesGap {L : Type 0} (is_legal : L → Cell → Bool) (b : Bus) (x : Ending) (t u : Terminal L) : Type 0 where
+  pub setup : IsSameSetup is_legal t u
+  pub heard : u.heard ≡ with_bus b false t.heard
+  pub standing : (c : Bus) → standing_on c u.in_progress ≡ (if same_bus c b then gap_leaves (standing_on c t.in_progress) else standing_on c t.in_progress)
+  pub registers : u.registers ≡ settled t.setup.accept (adds_error (description_of is_legal t) x) t.setup.vector t.setup.bit b x t.registers
+  pub held : (s i : ℕ) → 1 ≤ s → s ≤ 30 → 1 ≤ i → i ≤ 32 → held_word u s i ≡ held_after t.setup.initial t.setup.wrap s i x (held_word t s i)

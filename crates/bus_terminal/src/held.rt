@@ -96,12 +96,12 @@ impl HeldWords {
 
     /// A message ended so, with these words, or none did. With wraparound, words that were received at the
     /// wraparound subaddress are held there; a reset brings the words of the set-up back.
-    pub fn settle(&mut self, initial: &Rows, wrap: bool, ended: Ended, words: &[u16])
+    pub fn settle(&mut self, initial: &Rows, wrap: bool, ended: &Ended, words: &[u16])
         requires { length words.now ≤ 32 }
-        ensures { (s i : ℕ) → 1 ≤ s → s ≤ 30 → 1 ≤ i → i ≤ 32 → word_in initial.now self.new s i ≡ held_after initial.now wrap s i (ending_of ended words.now) (word_in initial.now self.old s i) }
+        ensures { (s i : ℕ) → 1 ≤ s → s ≤ 30 → 1 ≤ i → i ≤ 32 → word_in initial.now self.new s i ≡ held_after initial.now wrap s i (ending_of ended.now words.now) (word_in initial.now self.old s i) }
     {
         match ended {
-            Ended::Done(_, cell) => self.carry_out(initial, wrap, cell, words),
+            Ended::Done(_, cell) => self.carry_out(initial, wrap, *cell, words),
             Ended::Nothing => {}
             Ended::Badly(_) => {}
             Ended::Illegal(_) => {}

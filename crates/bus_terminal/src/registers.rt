@@ -114,18 +114,18 @@ impl Registers {
 
     /// The status that goes with a message that ended well. `accept` says whether dynamic bus control is
     /// accepted.
-    pub fn status_for(&self, ended: Ended, accept: bool) -> Option<StatusParts>
-        ensures { (ds : List ℕ) → result ≡ status_from accept self.now (ending_of ended ds) }
+    pub fn status_for(&self, ended: &Ended, accept: bool) -> Option<StatusParts>
+        ensures { (ds : List ℕ) → result ≡ status_from accept self.now (ending_of ended.now ds) }
     {
         match ended {
             Ended::Nothing | Ended::Badly(_) => None,
-            Ended::Illegal(command) => Some(self.formed_with_error(command)),
+            Ended::Illegal(command) => Some(self.formed_with_error(*command)),
             Ended::Blocked(command, _) =>
-                Some(self.formed(command, false, false, self.inhibited)),
-            Ended::Done(command, cell) => Some(if reports_kept(cell) {
+                Some(self.formed(*command, false, false, self.inhibited)),
+            Ended::Done(command, cell) => Some(if reports_kept(*cell) {
                 self.kept
             } else {
-                self.formed_done(command, cell, accept)
+                self.formed_done(*command, *cell, accept)
             }),
         }
     }
@@ -157,11 +157,11 @@ impl Registers {
     /// A gap on this bus ended a message so, with this status, or ended none. `spares` says whether the command
     /// of one that ended in error spares the kept status. A reset goes back to this vector word and this BIT
     /// word.
-    pub fn settle(&mut self, bus: Bus, ended: Ended, status: Option<StatusParts>, spares: bool, vector: u16, bit: u16)
-        ensures { (accept : Bool) (ds : List ℕ) → status ≡ status_from accept self.old (ending_of ended ds) → self.new ≡ settled accept spares vector bit bus (ending_of ended ds) self.old }
+    pub fn settle(&mut self, bus: Bus, ended: &Ended, status: Option<StatusParts>, spares: bool, vector: u16, bit: u16)
+        ensures { (accept : Bool) (ds : List ℕ) → status ≡ status_from accept self.old (ending_of ended.now ds) → self.new ≡ settled accept spares vector bit bus (ending_of ended.now ds) self.old }
     {
         match ended {
-            Ended::Badly(command) => self.fail(command, spares),
+            Ended::Badly(command) => self.fail(*command, spares),
             _ => {
                 self.keep(status);
                 self.carry_out(bus, ended.done_code(), vector, bit);

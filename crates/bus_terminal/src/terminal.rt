@@ -55,12 +55,13 @@ impl<L: Legality> Terminal<L> {
     ghost use Rattle.bus_terminal.specs.Ends.{well};
     ghost use Rattle.bus_terminal.specs.Status.{spares, adds_error};
     ghost use Rattle.bus_terminal.specs.Out.{out, hands, code_hands, words_from, HandsReceived};
-    ghost use Rattle.bus_terminal.specs.Standing.{gap_ends, starts_by};
+    ghost use Rattle.bus_terminal.specs.Buses.{same_bus};
+    ghost use Rattle.bus_terminal.specs.Standing.{gap_ends, starts_by, Collects, Words, Idle};
     ghost use Rattle.bus_terminal.specs.Message.{standing_on};
     ghost use Rattle.bus_terminal.specs.Ended.{ending_of};
-    ghost use Rattle.bus_terminal.specs.Registers.{on_bus, status_from};
+    ghost use Rattle.bus_terminal.specs.Registers.{on_bus, status_from, failed_by, started};
     ghost use Rattle.bus_terminal.specs.Answer.{shown_answer, shown_sent, shown_hand, words_sent, words_handed, IsSmall};
-    ghost use Rattle.bus_terminal.specs.Stands.{StandsAt, description_of, held_word, words_of_reply, sends_from, is_possible};
+    ghost use Rattle.bus_terminal.specs.Stands.{StandsAt, description_of, held_word, words_of_reply, sends_from, answer_from, is_possible, heard_after_word, ends_at_gap, IsSameSetup, TakesWord, TakesNoise, TakesGap};
 
     /// The terminal at power-up.
     pub fn power_up(setup: Setup, legality: L) -> Terminal<L>
@@ -134,13 +135,13 @@ impl<L: Legality> Terminal<L> {
     }
 
     /// The data words that go after the status, if one is sent.
-    fn data_words(&self, ended: Ended) -> ArrayVec<u16, 32>
-        requires { (ds : List ℕ) → is_possible (ending_of ended ds) ≡ true }
-        ensures words { (ds : List ℕ) → result.items ≡ words_of_reply self.now.registers (held_word self.now) (ending_of ended ds) }
+    fn data_words(&self, ended: &Ended) -> ArrayVec<u16, 32>
+        requires { (ds : List ℕ) → is_possible (ending_of ended.now ds) ≡ true }
+        ensures words { (ds : List ℕ) → result.items ≡ words_of_reply self.now.registers (held_word self.now) (ending_of ended.now ds) }
         ensures few { length result.items ≤ 32 }
     {
         match ended {
-            Ended::Done(_, cell) => self.words_of_cell(cell),
+            Ended::Done(_, cell) => self.words_of_cell(*cell),
             _ => ArrayVec::new(),
         }
     }
@@ -160,10 +161,10 @@ impl<L: Legality> Terminal<L> {
     }
 
     /// What is sent on this bus: nothing for a broadcast, nor where the transmitter is shut down.
-    fn sent(&self, bus: Bus, ended: Ended, status: Option<StatusParts>) -> Option<Sent>
-        requires possible { (ds : List ℕ) → is_possible (ending_of ended ds) ≡ true }
-        requires status { (ds : List ℕ) → status ≡ status_from self.now.setup.accept self.now.registers (ending_of ended ds) }
-        ensures sent { (ds : List ℕ) → shown_sent result ≡ sends_from self.now.setup.address self.now.setup.accept self.now.registers (held_word self.now) bus (ending_of ended ds) }
+    fn sent(&self, bus: Bus, ended: &Ended, status: Option<StatusParts>) -> Option<Sent>
+        requires possible { (ds : List ℕ) → is_possible (ending_of ended.now ds) ≡ true }
+        requires status { (ds : List ℕ) → status ≡ status_from self.now.setup.accept self.now.registers (ending_of ended.now ds) }
+        ensures sent { (ds : List ℕ) → shown_sent result ≡ sends_from self.now.setup.address self.now.setup.accept self.now.registers (held_word self.now) bus (ending_of ended.now ds) }
         ensures few { length (words_sent (shown_sent result)) ≤ 32 }
     {
         if ended.is_broadcast() || self.registers.off.on(bus) {
@@ -179,11 +180,11 @@ impl<L: Legality> Terminal<L> {
         }
     }
 
-    fn sending(&self, bus: Bus, status: u16, ended: Ended) -> Sent
-        requires { (ds : List ℕ) → is_possible (ending_of ended ds) ≡ true }
+    fn sending(&self, bus: Bus, status: u16, ended: &Ended) -> Sent
+        requires { (ds : List ℕ) → is_possible (ending_of ended.now ds) ≡ true }
         ensures bus { result.bus ≡ bus }
         ensures status { result.status ≡ status }
-        ensures words { (ds : List ℕ) → result.words.items ≡ words_of_reply self.now.registers (held_word self.now) (ending_of ended ds) }
+        ensures words { (ds : List ℕ) → result.words.items ≡ words_of_reply self.now.registers (held_word self.now) (ending_of ended.now ds) }
         ensures few { length result.words.items ≤ 32 }
     {
         Sent {
@@ -194,15 +195,15 @@ impl<L: Legality> Terminal<L> {
     }
 
     /// What is handed over.
-    fn hand(&self, ended: Ended) -> Option<Hand>
-        ensures hand { shown_hand result ≡ hands (description_of L.is_legal self.now) (ending_of ended self.now.in_progress.words.items) }
+    fn hand(&self, ended: &Ended) -> Option<Hand>
+        ensures hand { shown_hand result ≡ hands (description_of L.is_legal self.now) (ending_of ended.now self.now.in_progress.words.items) }
         ensures few { length (words_handed (shown_hand result)) ≤ 32 }
     {
         match ended {
-            Ended::Done(_, Cell::OwnReceive(subaddress, _)) => Some(self.received(false, subaddress)),
-            Ended::Done(_, Cell::BroadReceive(subaddress, _)) => Some(self.received(true, subaddress)),
-            Ended::Done(_, Cell::OwnMode(code)) => self.hand_of_code(code, self.setup.accept),
-            Ended::Done(_, Cell::BroadMode(code)) => self.hand_of_code(code, false),
+            Ended::Done(_, Cell::OwnReceive(subaddress, _)) => Some(self.received(false, *subaddress)),
+            Ended::Done(_, Cell::BroadReceive(subaddress, _)) => Some(self.received(true, *subaddress)),
+            Ended::Done(_, Cell::OwnMode(code)) => self.hand_of_code(*code, self.setup.accept),
+            Ended::Done(_, Cell::BroadMode(code)) => self.hand_of_code(*code, false),
             _ => None,
         }
     }
@@ -231,5 +232,112 @@ impl<L: Legality> Terminal<L> {
             17 => Some(Hand::SynchronizeWith(self.in_progress.first_word())),
             _ => None,
         }
+    }
+
+    /// What is answered on this bus to a message that ended so, with this status.
+    fn answer(&self, bus: Bus, ended: &Ended, status: Option<StatusParts>) -> Answer
+        requires possible { (ds : List ℕ) → is_possible (ending_of ended.now ds) ≡ true }
+        requires status { (ds : List ℕ) → status ≡ status_from self.now.setup.accept self.now.registers (ending_of ended.now ds) }
+        ensures answer { shown_answer result ≡ answer_from (description_of L.is_legal self.now) self.now.registers (held_word self.now) bus (ending_of ended.now self.now.in_progress.words.items) }
+        ensures small { IsSmall (shown_answer result) }
+    {
+        Answer {
+            sent: self.sent(bus, ended, status),
+            hand: self.hand(ended),
+        }
+    }
+
+    /// Whether a message that ended in error spares the kept status.
+    fn fails_sparing(&self, ended: &Ended) -> bool
+        ensures { (ds : List ℕ) → result ≡ adds_error (description_of L.is_legal self.now) (ending_of ended.now ds) }
+    {
+        match ended {
+            Ended::Badly(command) => self.spares(*command),
+            Ended::Nothing => false,
+            Ended::Illegal(_) => false,
+            Ended::Blocked(_, _) => false,
+            Ended::Done(_, _) => false,
+        }
+    }
+
+    /// A gap on this bus ended a message so, with this status, or ended none.
+    fn settle(&mut self, bus: Bus, ended: &Ended, status: Option<StatusParts>)
+        requires { (ds : List ℕ) → status ≡ status_from self.old.setup.accept self.old.registers (ending_of ended.now ds) }
+        ensures { TakesGap L.is_legal bus (ending_of ended.now self.old.in_progress.words.items) self.old self.new }
+    {
+        let spares = self.fails_sparing(ended);
+        self.registers.settle(bus, ended, status, spares, self.setup.vector, self.setup.bit);
+        self.held.settle(
+            &self.setup.initial,
+            self.setup.wrap,
+            ended,
+            self.in_progress.words.as_slice(),
+        );
+        self.heard.set(bus, false);
+        self.in_progress.gap(bus);
+    }
+
+    fn take_gap(&mut self, bus: Bus) -> Answer
+        ensures answer { shown_answer result ≡ answer_from (description_of L.is_legal self.old) self.old.registers (held_word self.old) bus (ends_at_gap L.is_legal self.old bus) }
+        ensures small { IsSmall (shown_answer result) }
+        ensures takes { TakesGap L.is_legal bus (ends_at_gap L.is_legal self.old bus) self.old self.new }
+    {
+        let ended = self.end_at_gap(bus);
+        let status = self.registers.status_for(&ended, self.setup.accept);
+        let answer = self.answer(bus, &ended, status);
+        self.settle(bus, &ended, status);
+        answer
+    }
+
+    /// A transfer that waits on this bus ended in error.
+    fn fail(&mut self, failed: Option<Command>)
+        ensures { self.new ≡ record self.old { registers = failed_by (description_of L.is_legal self.old) failed self.old.registers } }
+    {
+        if let Some(command) = failed {
+            let spares = self.spares(command);
+            self.registers.fail(command, spares);
+        }
+    }
+
+    fn take_noise(&mut self, bus: Bus)
+        ensures { TakesNoise L.is_legal bus self.old self.new }
+    {
+        let failed = self.in_progress.failed_by(bus, None);
+        self.fail(failed);
+        self.in_progress.follow(bus, self.setup.address, None);
+    }
+
+    fn take_word(&mut self, bus: Bus, word: Raw)
+        ensures { TakesWord L.is_legal bus word self.old self.new }
+    {
+        let starts = self.starts(bus, word);
+        let failed = self.in_progress.failed_by(bus, Some(word));
+        self.fail(failed);
+        self.hear(bus, word);
+        if starts {
+            self.start(bus, Command::of(word.bits));
+        } else {
+            self.in_progress.follow(bus, self.setup.address, Some(word));
+        }
+    }
+
+    fn hear(&mut self, bus: Bus, word: Raw)
+        ensures { self.new ≡ record self.old { heard = heard_after_word (description_of L.is_legal self.old) bus word self.old.heard } }
+    {
+        if word.is_for(self.setup.address, self.setup.broadcast) {
+            self.heard.set(bus, true);
+        }
+    }
+
+    fn start(&mut self, bus: Bus, command: Command)
+        ensures setup { IsSameSetup L.is_legal self.old self.new }
+        ensures heard { self.new.heard ≡ self.old.heard }
+        ensures standing { (b : Bus) → standing_on b self.new.in_progress ≡ (if same_bus b bus then Collects command (Words []) else Idle) }
+        ensures registers { self.new.registers ≡ started (spares (description_of L.is_legal self.old) command) command self.old.registers }
+        ensures held { self.new.held ≡ self.old.held }
+    {
+        self.in_progress.start(bus, command);
+        let spares = self.spares(command);
+        self.registers.start(command, spares);
     }
 }
