@@ -5,3 +5,5 @@ pub mod BackLaw
 pub mod RegistersLaw
 pub mod CollectedLaw
 pub mod CellLaw
+pub mod StandsLaw
+pub mod AnswerLaw

@@ -1,5 +1,5 @@
 -- When a terminal stands at a history.
-use Rattle.std.specs.Prelude.{◌≡◌, ℕ, ◌≤◌, Bool, true, false, ◌||◌, ◌==◌, if◌then◌else◌, Option, Some, None, List, [], ◌∷◌}
+use Rattle.std.specs.Prelude.{◌≡◌, ℕ, ◌≤◌, Bool, true, false, ◌&&◌, ◌||◌, ◌==◌, if◌then◌else◌, Option, Some, None, List, [], ◌∷◌}
 use Rattle.bus_word.specs.declared.word.Bus.{Bus}
 use Rattle.bus_word.specs.declared.word.Bus.TheVariants.{A, B}
 use Rattle.bus_word.specs.declared.word.Raw.{Raw}
@@ -9,6 +9,7 @@ use Rattle.bus_word.specs.declared.cell.Cell.TheVariants.{OwnTransmit, OwnMode}
 use Rattle.bus_word.specs.Command.{is_broadcast}
 use Rattle.bus_word.specs.Cell.{is_allowed}
 use Rattle.bus_legal.specs.Description.{Description, described}
+use Rattle.bus_terminal.specs.Place.{Place}
 use Rattle.bus_terminal.specs.declared.event.Event.{Event}
 use Rattle.bus_terminal.specs.declared.buses.OnBuses.{OnBuses}
 use Rattle.bus_terminal.specs.declared.registers.Registers.{Registers}
@@ -122,3 +123,11 @@ pub record TakesGap {L : Type 0} (is_legal : L → Cell → Bool) (b : Bus) (x :
   pub standing : (c : Bus) → standing_on c u.in_progress ≡ (if same_bus c b then gap_leaves (standing_on c t.in_progress) else standing_on c t.in_progress)
   pub registers : u.registers ≡ settled t.setup.accept (adds_error (description_of is_legal t) x) t.setup.vector t.setup.bit b x t.registers
   pub held : (s i : ℕ) → 1 ≤ s → s ≤ 30 → 1 ≤ i → i ≤ 32 → held_word u s i ≡ held_after t.setup.initial t.setup.wrap s i x (held_word t s i)
+
+-- what a write of the subsystem makes of it
+pub record TakesWrite {L : Type 0} (is_legal : L → Cell → Bool) (place : Place) (v : ℕ) (t u : Terminal L) : Type 0 where
+  pub setup : IsSameSetup is_legal t u
+  pub heard : u.heard ≡ t.heard
+  pub in_progress : u.in_progress ≡ t.in_progress
+  pub registers : u.registers ≡ t.registers
+  pub held : (s i : ℕ) → 1 ≤ s → s ≤ 30 → 1 ≤ i → i ≤ 32 → held_word u s i ≡ (if (place.subaddress == s) && (place.number == i) then v else held_word t s i)

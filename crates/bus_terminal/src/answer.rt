@@ -1,4 +1,6 @@
 //! What a remote terminal answers to an event.
+ghost use Rattle.std.specs.Prelude.{◌≡◌};
+
 use arrayvec::ArrayVec;
 use bus_word::Bus;
 
@@ -42,4 +44,19 @@ pub struct Answer {
     pub sent: Option<Sent>,
     /// What is handed over.
     pub hand: Option<Hand>,
+}
+
+impl Answer {
+    ghost use Rattle.bus_terminal.specs.Out.{silence};
+    ghost use Rattle.bus_terminal.specs.Answer.{shown_answer};
+
+    /// Nothing is sent, and nothing handed over.
+    pub(crate) fn silence() -> Answer
+        ensures { shown_answer result ≡ silence }
+    {
+        Answer {
+            sent: None,
+            hand: None,
+        }
+    }
 }

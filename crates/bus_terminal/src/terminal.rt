@@ -3,7 +3,7 @@
 use crate::answer::{Answer, Hand, Sent};
 use crate::buses::OnBuses;
 use crate::ended::{Ended, reports_kept, verdict_of};
-use crate::event::Event;
+use crate::event::{Event, WordPlace};
 use crate::held::HeldWords;
 use crate::message::{GapEnd, InProgress};
 use crate::registers::Registers;
@@ -61,7 +61,7 @@ impl<L: Legality> Terminal<L> {
     ghost use Rattle.bus_terminal.specs.Ended.{ending_of};
     ghost use Rattle.bus_terminal.specs.Registers.{on_bus, status_from, failed_by, started};
     ghost use Rattle.bus_terminal.specs.Answer.{shown_answer, shown_sent, shown_hand, words_sent, words_handed, IsSmall};
-    ghost use Rattle.bus_terminal.specs.Stands.{StandsAt, description_of, held_word, words_of_reply, sends_from, answer_from, is_possible, heard_after_word, ends_at_gap, IsSameSetup, TakesWord, TakesNoise, TakesGap};
+    ghost use Rattle.bus_terminal.specs.Stands.{StandsAt, description_of, held_word, words_of_reply, sends_from, answer_from, is_possible, heard_after_word, ends_at_gap, IsSameSetup, TakesWord, TakesNoise, TakesGap, TakesWrite};
 
     /// The terminal at power-up.
     pub fn power_up(setup: Setup, legality: L) -> Terminal<L>
@@ -75,6 +75,48 @@ impl<L: Legality> Terminal<L> {
             in_progress: InProgress::none(),
             held: HeldWords::at_power_up(),
         }
+    }
+
+    /// Takes one event, and answers it. Sent words and handed words never come together.
+    pub fn step(&mut self, event: Event) -> Answer
+        ensures answer { (P : Description) (h : List Event) → StandsAt L.is_legal P h self.old → shown_answer result ≡ out P h event }
+        ensures stands { (P : Description) (h : List Event) → StandsAt L.is_legal P h self.old → StandsAt L.is_legal P (event ∷ h) self.new }
+        ensures small { IsSmall (shown_answer result) }
+    {
+        match event {
+            Event::Word(bus, word) => {
+                self.take_word(bus, word);
+                Answer::silence()
+            }
+            Event::Noise(bus) => {
+                self.take_noise(bus);
+                Answer::silence()
+            }
+            Event::Gap(bus) => self.take_gap(bus),
+            Event::Write(place, value) => {
+                self.write(place, value);
+                Answer::silence()
+            }
+            Event::Vector(word) => {
+                self.registers.vector = word;
+                Answer::silence()
+            }
+            Event::Bit(word) => {
+                self.registers.bit = word;
+                Answer::silence()
+            }
+            Event::Flag(flag, value) => {
+                self.registers.flags.set(flag, value);
+                Answer::silence()
+            }
+        }
+    }
+
+    /// The subsystem writes a word that is held ready.
+    fn write(&mut self, place: WordPlace, value: u16)
+        ensures { TakesWrite L.is_legal place value self.old self.new }
+    {
+        self.held.write(&self.setup.initial, place.subaddress(), place.number(), value);
     }
 
     /// Whether a command is a legal own mode code 2 or 18, which spares the kept status.
@@ -280,6 +322,7 @@ impl<L: Legality> Terminal<L> {
     fn take_gap(&mut self, bus: Bus) -> Answer
         ensures answer { shown_answer result ≡ answer_from (description_of L.is_legal self.old) self.old.registers (held_word self.old) bus (ends_at_gap L.is_legal self.old bus) }
         ensures small { IsSmall (shown_answer result) }
+        ensures possible { is_possible (ends_at_gap L.is_legal self.old bus) ≡ true }
         ensures takes { TakesGap L.is_legal bus (ends_at_gap L.is_legal self.old bus) self.old self.new }
     {
         let ended = self.end_at_gap(bus);
