@@ -7,3 +7,5 @@ pub mod CollectedLaw
 pub mod CellLaw
 pub mod StandsLaw
 pub mod AnswerLaw
+pub mod LatestLaw
+pub mod ExchangeLaw

@@ -22,3 +22,5 @@ pub mod Registers
 pub mod Held
 pub mod Answer
 pub mod Stands
+pub mod Exchanges
+pub mod OpenLaws

@@ -7,6 +7,7 @@ mod buses;
 mod ended;
 mod event;
 mod held;
+pub mod laws;
 mod message;
 mod registers;
 mod terminal;
