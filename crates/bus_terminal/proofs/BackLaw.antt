@@ -7,7 +7,7 @@ use Rattle.bus_terminal.specs.LookBack.{latest, or_else, since}
 use Rattle.bus_terminal.specs.History.{Noted}
 use Rattle.bus_terminal.specs.Flags.{flag_set, flag_now}
 use Rattle.bus_terminal.specs.SinceReset.{is_reset, since_reset, inhibits, inhibited_now, shuts, off_now, vector_set, vector_now, bit_set, bit_now, held_set, held_now, recorded_by, start_bits, last_now}
-use Rattle.bus_terminal.specs.Registers.{unless_reset}
+use Rattle.bus_terminal.specs.Machine.Registers.{unless_reset}
 
 -- the latest answer, or that of the newest element
 pub newest : {Y : Type 0} (f : Noted → Option Y) (d : Y) (p : Noted) (h : List Noted) → or_else (latest f (p ∷ h)) d ≡ or_else (f p) (or_else (latest f h) d)

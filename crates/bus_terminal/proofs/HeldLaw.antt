@@ -8,7 +8,7 @@ use Rattle.bus_terminal.specs.LookBack.{or_else}
 use Rattle.bus_terminal.specs.SinceReset.{number, wrapped_at}
 use Rattle.bus_terminal.specs.Out.{words_from}
 use Rattle.bus_terminal.specs.declared.held.HeldWords.{HeldWords}
-use Rattle.bus_terminal.specs.Held.{row_in}
+use Rattle.bus_terminal.specs.Machine.Held.{row_in}
 
 -- nothing but the value that is read past the end
 pub get_or-all : {X : Type 0} (n i : ℕ) (x : X) → get_or (replicate n x) i x ≡ x

@@ -5,7 +5,7 @@ use Rattle.bus_legal.specs.Description.{Description}
 use Rattle.bus_terminal.specs.LookBack.{or_else, some, latest_with, since_with}
 use Rattle.bus_terminal.specs.History.{Noted}
 use Rattle.bus_terminal.specs.Status.{no_parts, with_error_if, adds_error, kept_set, kept_now}
-use Rattle.bus_terminal.specs.Registers.{kept_after}
+use Rattle.bus_terminal.specs.Machine.Registers.{kept_after}
 
 -- message error that is added twice
 twice : (a b : Bool) (s : StatusParts) → with_error_if (a || b) s ≡ with_error_if a (with_error_if b s)

@@ -17,8 +17,8 @@ use Rattle.bus_terminal.specs.LookBack.{or_else}
 use Rattle.bus_terminal.specs.History.{Noted, Ending, Nothing, Badly, Illegal, Blocked, Done}
 use Rattle.bus_terminal.specs.Status.{spares, adds_error, reports_kept, is_reset_cell, no_parts, with_error_if, kept_by_start, kept_by_command, kept_by_end, start_first}
 use Rattle.bus_terminal.specs.SinceReset.{start_bits}
-use Rattle.bus_terminal.specs.Standing.{fails}
-use Rattle.bus_terminal.specs.Registers.{registers_now, power_up_registers, registers_after, kept_after, kept_from, status_from, error_from, done_from, failed, failed_by, started, started_if, settled}
+use Rattle.bus_terminal.specs.Machine.Standing.{fails}
+use Rattle.bus_terminal.specs.Machine.Registers.{registers_now, power_up_registers, registers_after, kept_after, kept_from, status_from, error_from, done_from, failed, failed_by, started, started_if, settled}
 use Rattle.bus_terminal.proofs.KeptLaw.{kept_step}
 use Rattle.bus_terminal.proofs.BackLaw.{flag_step, inhibited_step, off_step, vector_step, bit_step, last_step}
 

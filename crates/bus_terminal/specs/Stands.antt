@@ -22,10 +22,10 @@ use Rattle.bus_terminal.specs.Status.{spares, adds_error}
 use Rattle.bus_terminal.specs.SinceReset.{held_now}
 use Rattle.bus_terminal.specs.Past.{past}
 use Rattle.bus_terminal.specs.Out.{Reply, Out, Sending, words_from, sent_on, command_ended, hands}
-use Rattle.bus_terminal.specs.Standing.{standing_of, word_leaves, entry_leaves, entry_fails, gap_leaves, gap_ends, starts_by}
-use Rattle.bus_terminal.specs.Message.{standing_on}
-use Rattle.bus_terminal.specs.Registers.{registers_now, on_bus, with_bus, status_from, failed_by, started_if, settled}
-use Rattle.bus_terminal.specs.Held.{word_in, held_after}
+use Rattle.bus_terminal.specs.Machine.Standing.{standing_of, word_leaves, entry_leaves, entry_fails, gap_leaves, gap_ends, starts_by}
+use Rattle.bus_terminal.specs.Machine.Message.{standing_on}
+use Rattle.bus_terminal.specs.Machine.Registers.{registers_now, on_bus, with_bus, status_from, failed_by, started_if, settled}
+use Rattle.bus_terminal.specs.Machine.Held.{word_in, held_after}
 
 -- the description of a terminal, whose legality has this meaning
 abbrev pub description_of : {L : Type 0} → (L → Cell → Bool) → Terminal L → Description

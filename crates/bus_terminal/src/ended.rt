@@ -4,7 +4,7 @@ ghost use Rattle.bus_terminal.specs.Ends.{is_blocked_by_busy, verdict};
 ghost use Rattle.bus_terminal.specs.SinceReset.{code_in, done_code};
 ghost use Rattle.bus_word.specs.Command.{is_broadcast};
 ghost use Rattle.bus_terminal.specs.Out.{command_ended};
-ghost use Rattle.bus_terminal.specs.Ended.{ending_of};
+ghost use Rattle.bus_terminal.specs.Machine.Ended.{ending_of};
 ghost use Rattle.bus_terminal.specs.Status.{reports_kept};
 
 use bus_word::{Cell, Command};

@@ -4,8 +4,8 @@ ghost use Rattle.bus_legal.specs.Description.{word_at};
 ghost use Rattle.bus_terminal.specs.LookBack.{or_else};
 ghost use Rattle.bus_terminal.specs.History.{Done};
 ghost use Rattle.bus_terminal.specs.SinceReset.{wrapped_at};
-ghost use Rattle.bus_terminal.specs.Ended.{ending_of};
-ghost use Rattle.bus_terminal.specs.Held.{row_in, word_in, held_after};
+ghost use Rattle.bus_terminal.specs.Machine.Ended.{ending_of};
+ghost use Rattle.bus_terminal.specs.Machine.Held.{row_in, word_in, held_after};
 
 use crate::ended::Ended;
 use bus_word::Cell;

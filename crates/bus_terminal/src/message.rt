@@ -4,9 +4,9 @@ ghost use Rattle.bus_word.specs.declared.word.Bus.{Bus};
 ghost use Rattle.bus_terminal.specs.Buses.{same_bus};
 ghost use Rattle.bus_terminal.specs.Open.{transmitter_at, status_at};
 ghost use Rattle.bus_terminal.specs.Ends.{data_of};
-ghost use Rattle.bus_terminal.specs.Standing.{Collects, Words, Idle, next, entry_leaves, entry_fails, gap_leaves, stop_at_gap, stands_free, stands_fresh};
+ghost use Rattle.bus_terminal.specs.Machine.Standing.{Collects, Words, Idle, next, entry_leaves, entry_fails, gap_leaves, stop_at_gap, stands_free, stands_fresh};
 ghost use Rattle.bus_terminal.specs.Out.{first_word};
-ghost use Rattle.bus_terminal.specs.Message.{collected_in, standing_on, stop_with, in_phase};
+ghost use Rattle.bus_terminal.specs.Machine.Message.{collected_in, standing_on, stop_with, in_phase};
 
 use arrayvec::ArrayVec;
 use bus_word::{Bus, Command, Raw};

@@ -1,8 +1,8 @@
 //! What a terminal remembers besides the message in progress and the words held ready.
 ghost use Rattle.std.specs.Prelude.{◌≡◌, Bool, List, ℕ};
 ghost use Rattle.bus_terminal.specs.declared.event.Event.TheVariants.{Flag as FlagIs};
-ghost use Rattle.bus_terminal.specs.Ended.{ending_of};
-ghost use Rattle.bus_terminal.specs.Registers.{power_up_registers, formed_from, error_from, done_from, status_from, flags_after, failed, started, keeping, carried, settled};
+ghost use Rattle.bus_terminal.specs.Machine.Ended.{ending_of};
+ghost use Rattle.bus_terminal.specs.Machine.Registers.{power_up_registers, formed_from, error_from, done_from, status_from, flags_after, failed, started, keeping, carried, settled};
 
 use crate::buses::OnBuses;
 use crate::ended::{Ended, code_in, reports_kept};

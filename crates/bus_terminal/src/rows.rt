@@ -1,9 +1,9 @@
 //! Worked rows. Each function does nothing, and its contract is a family of rows, under their names: a
 //! set-up, events from power-up on, and the answer to each.
 
-ghost use Rattle.bus_terminal.specs.MessageRows.{TransmitStatus, WrongParity, ModeBy31, ReceiveTwo, IllegalReceive, ShortMessage, Transmit32, BroadcastStatus, BroadcastUnheard, WordAfterMode, EmptyScript, NoiseBefore, NoiseInMessage};
-ghost use Rattle.bus_terminal.specs.TransferRows.{RtToRt, IllegalRtToRt, BroadcastRtToRt, RtToRtTimeout, CommandEndsWaiting, NoiseEndsWaiting, InvalidStatus, NoiseAfterStatus, BroadcastTransmitter, BroadcastThenMode, BroadcastWordBetween, Superseded, EarlierWordInRun, StatusThenSuperseded, WordThenSuperseded, ShutdownOtherBus, ReceivedInSilence, ResetInSilence};
-ghost use Rattle.bus_terminal.specs.ModeRows.{Wraparound, LastCommand, LastCommandAfterReset, BusyReceive, BusyBitWord, BusyVectorWord, BusyBusControl, InhibitFlag, InhibitedUntilReset, VectorAndReset, BusControl, BroadcastSync, WrittenWord, SparedByLastCommand, ClearedByIllegalLastCommand};
+ghost use Rattle.bus_terminal.specs.Rows.Messages.{TransmitStatus, WrongParity, ModeBy31, ReceiveTwo, IllegalReceive, ShortMessage, Transmit32, BroadcastStatus, BroadcastUnheard, WordAfterMode, EmptyScript, NoiseBefore, NoiseInMessage};
+ghost use Rattle.bus_terminal.specs.Rows.Transfers.{RtToRt, IllegalRtToRt, BroadcastRtToRt, RtToRtTimeout, CommandEndsWaiting, NoiseEndsWaiting, InvalidStatus, NoiseAfterStatus, BroadcastTransmitter, BroadcastThenMode, BroadcastWordBetween, Superseded, EarlierWordInRun, StatusThenSuperseded, WordThenSuperseded, ShutdownOtherBus, ReceivedInSilence, ResetInSilence};
+ghost use Rattle.bus_terminal.specs.Rows.Modes.{Wraparound, LastCommand, LastCommandAfterReset, BusyReceive, BusyBitWord, BusyVectorWord, BusyBusControl, InhibitFlag, InhibitedUntilReset, VectorAndReset, BusControl, BroadcastSync, WrittenWord, SparedByLastCommand, ClearedByIllegalLastCommand};
 
 /// Messages of a bus controller.
 pub fn messages()

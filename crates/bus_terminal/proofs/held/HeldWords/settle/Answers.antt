@@ -1,6 +1,6 @@
 use Rattle.std.proofs.Common.{ap, sym, ◌∙◌}
-use Rattle.bus_terminal.specs.Ended.{ending_of}
-use Rattle.bus_terminal.specs.Held.{word_in, held_after}
+use Rattle.bus_terminal.specs.Machine.Ended.{ending_of}
+use Rattle.bus_terminal.specs.Machine.Held.{word_in, held_after}
 use Rattle.bus_terminal.proofs.held.HeldWords.settle.Goals as goal
 
 pub returns-in-Done : goal.returns-in-Done

@@ -1,5 +1,5 @@
 use Rattle.std.proofs.Common.{◌∙◌}
-use Rattle.bus_terminal.specs.Held.{word_in}
+use Rattle.bus_terminal.specs.Machine.Held.{word_in}
 use Rattle.bus_terminal.proofs.HeldLaw.{wrapped_law}
 use Rattle.bus_terminal.proofs.held.HeldWords.wrap_around.Goals as goal
 

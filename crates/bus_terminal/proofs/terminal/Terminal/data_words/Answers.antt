@@ -1,5 +1,5 @@
 use Rattle.std.proofs.Common.{[], ap, sym, ◌∙◌}
-use Rattle.bus_terminal.specs.Ended.{ending_of}
+use Rattle.bus_terminal.specs.Machine.Ended.{ending_of}
 use Rattle.bus_terminal.specs.Stands.{is_possible, words_of_reply, held_word}
 use Rattle.bus_terminal.proofs.terminal.Terminal.data_words.Goals as goal
 

@@ -5,7 +5,7 @@ use Rattle.bus_word.specs.declared.cell.Cell.TheVariants.{OwnReceive, OwnTransmi
 use Rattle.bus_terminal.specs.declared.event.Event.TheVariants.{Vector, Flag as FlagIs}
 use Rattle.bus_terminal.specs.declared.event.Flag.TheVariants.{Busy, Terminal}
 use Rattle.bus_terminal.specs.Out.{HandsReceived, HandsSynchronizeWith, HandsBusControl}
-use Rattle.bus_terminal.specs.RowWords.{five, five_hearing_all, command, data_word, write, quiet, gap, gap_sends, gap_hands, gap_sends_and_hands, Answers}
+use Rattle.bus_terminal.specs.Rows.Words.{five, five_hearing_all, command, data_word, write, quiet, gap, gap_sends, gap_hands, gap_sends_and_hands, Answers}
 
 -- what is received at the wraparound subaddress is sent from there
 abbrev pub Wraparound : Type 0

@@ -4,7 +4,7 @@ use Rattle.bus_word.specs.declared.word.Bus.TheVariants.{A, B}
 use Rattle.bus_word.specs.declared.cell.Cell.TheVariants.{OwnReceive, OwnTransmit, BroadReceive, OwnMode, BroadMode}
 use Rattle.bus_terminal.specs.declared.event.Event.TheVariants.{Noise, Gap, Flag as FlagIs}
 use Rattle.bus_terminal.specs.Out.{HandsReceived}
-use Rattle.bus_terminal.specs.RowWords.{five, five_hearing_all, command, data_word, invalid, quiet, gap, gap_sends, gap_sends_and_hands, Answers}
+use Rattle.bus_terminal.specs.Rows.Words.{five, five_hearing_all, command, data_word, invalid, quiet, gap, gap_sends, gap_sends_and_hands, Answers}
 
 -- transmit status word is answered by the status
 abbrev pub TransmitStatus : Type 0

@@ -10,7 +10,7 @@ use Rattle.bus_terminal.specs.declared.message.InProgress.{InProgress}
 use Rattle.bus_terminal.specs.declared.message.GapEnd.{GapEnd}
 use Rattle.bus_terminal.specs.declared.message.GapEnd.TheVariants.{Nothing as GapEndNothing, Error as GapEndError, Whole as GapEndWhole}
 use Rattle.bus_terminal.specs.Buses.{same_bus}
-use Rattle.bus_terminal.specs.Standing.{Collected, Words, Transmitter, Spoilt, Standing, Idle, Collects, Waits, Resumes, Stop, NoStop, ErrorStop, WholeStop}
+use Rattle.bus_terminal.specs.Machine.Standing.{Collected, Words, Transmitter, Spoilt, Standing, Idle, Collects, Waits, Resumes, Stop, NoStop, ErrorStop, WholeStop}
 
 abbrev pub collected_in : Followed → List ℕ → Collected
 collected_in FollowedWords ds = Words ds

@@ -4,7 +4,7 @@ use Rattle.std.specs.Prelude.{ℕ, Bool, ◌-◌, false, if◌then◌else◌, Li
 use Rattle.bus_legal.specs.Description.{word_at}
 use Rattle.bus_terminal.specs.History.{Ending}
 use Rattle.bus_terminal.specs.SinceReset.{is_code, done_code, wrapped}
-use Rattle.bus_terminal.specs.Registers.{unless_reset}
+use Rattle.bus_terminal.specs.Machine.Registers.{unless_reset}
 use Rattle.bus_terminal.specs.declared.held.HeldWords.{HeldWords}
 
 -- the words of subaddress s
