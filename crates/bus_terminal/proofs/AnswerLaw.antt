@@ -19,8 +19,10 @@ use Rattle.bus_terminal.specs.SinceReset.{held_now, off_now}
 use Rattle.bus_terminal.specs.Past.{past}
 use Rattle.bus_terminal.specs.Out.{Reply, Out, words_from, reply, sent_on, command_ended, hands, out, out_of}
 use Rattle.bus_terminal.specs.Machine.Standing.{standing_of, gap_ends}
-use Rattle.bus_terminal.specs.Machine.Registers.{registers_now, on_bus, status_from}
-use Rattle.bus_terminal.specs.Stands.{StandsAt, held_word, words_of_reply, reply_with, answer_from, is_possible, ends_at_gap, description_of}
+use Rattle.bus_terminal.specs.Machine.Registers.{registers_now, status_from}
+use Rattle.bus_terminal.specs.Machine.Buses.{on_bus}
+use Rattle.bus_terminal.specs.Stands.{StandsAt, held_word, description_of}
+use Rattle.bus_terminal.specs.Machine.Terminal.{words_of_reply, reply_with, answer_from, is_possible, ends_at_gap}
 use Rattle.bus_terminal.proofs.HeldLaw.{words_from-same}
 use Rattle.bus_terminal.proofs.StandsLaw.{ends_gap_law}
 

@@ -9,7 +9,7 @@ use Rattle.bus_word.specs.Mode.{mode_row}
 use Rattle.bus_word.specs.Cell.{data_cell, same_bool, mode_cell_by, cell_of, is_data_place, allows_broadcast, is_allowed}
 use Rattle.bus_terminal.specs.History.{Ending, Illegal, Blocked, Done}
 use Rattle.bus_terminal.specs.Ends.{verdict, is_blocked_by_busy}
-use Rattle.bus_terminal.specs.Stands.{is_possible}
+use Rattle.bus_terminal.specs.Machine.Terminal.{is_possible}
 
 abbrev pub none_or_allowed : Option Cell → Bool
 none_or_allowed None = true

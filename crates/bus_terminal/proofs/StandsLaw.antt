@@ -24,10 +24,12 @@ use Rattle.bus_terminal.specs.SinceReset.{is_code, done_code, wrapped, written, 
 use Rattle.bus_terminal.specs.Status.{spares, adds_error}
 use Rattle.bus_terminal.specs.Past.{note, past}
 use Rattle.bus_terminal.specs.Machine.Standing.{Standing, Idle, Collects, Words, standing_of, word_leaves, entry_leaves, entry_fails, fails, gap_leaves, gap_ends, stands_free, stands_fresh, starts_by}
-use Rattle.bus_terminal.specs.Machine.Registers.{registers_now, registers_after, flags_after, unless_reset, on_bus, with_bus, failed_by, started_if, settled}
+use Rattle.bus_terminal.specs.Machine.Registers.{registers_now, registers_after, flags_after, unless_reset, failed_by, started_if, settled}
+use Rattle.bus_terminal.specs.Machine.Buses.{on_bus, with_bus}
 use Rattle.bus_terminal.specs.Machine.Message.{standing_on}
 use Rattle.bus_terminal.specs.Machine.Held.{word_in}
-use Rattle.bus_terminal.specs.Stands.{StandsAt, heard_on_buses, held_word, heard_after_word, ends_at_gap, TakesWord, TakesNoise, TakesGap, TakesWrite}
+use Rattle.bus_terminal.specs.Stands.{StandsAt, heard_on_buses, held_word}
+use Rattle.bus_terminal.specs.Machine.Terminal.{heard_after_word, ends_at_gap, TakesWord, TakesNoise, TakesGap, TakesWrite}
 use Rattle.bus_terminal.proofs.OpenLaw.{open_law, after_word, after_gap, after_entry, unheard}
 use Rattle.bus_terminal.proofs.CollectedLaw.{gap_ends_law, gap_leaves_law, entry_leaves_law, entry_ends_law, free_law, fresh_law}
 use Rattle.bus_terminal.proofs.BackLaw.{held_step}

@@ -1,6 +1,6 @@
 //! What is kept for each of the two buses.
 ghost use Rattle.std.specs.Prelude.{◌≡◌};
-ghost use Rattle.bus_terminal.specs.Machine.Registers.{on_bus, with_bus, with_other_bus};
+ghost use Rattle.bus_terminal.specs.Machine.Buses.{on_bus, with_bus, with_other_bus};
 
 use bus_word::Bus;
 

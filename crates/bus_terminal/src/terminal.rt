@@ -59,9 +59,11 @@ impl<L: Legality> Terminal<L> {
     ghost use Rattle.bus_terminal.specs.Machine.Standing.{gap_ends, starts_by, Collects, Words, Idle};
     ghost use Rattle.bus_terminal.specs.Machine.Message.{standing_on};
     ghost use Rattle.bus_terminal.specs.Machine.Ended.{ending_of};
-    ghost use Rattle.bus_terminal.specs.Machine.Registers.{on_bus, status_from, failed_by, started};
+    ghost use Rattle.bus_terminal.specs.Machine.Registers.{status_from, failed_by, started};
+    ghost use Rattle.bus_terminal.specs.Machine.Buses.{on_bus};
     ghost use Rattle.bus_terminal.specs.Answer.{shown_answer, shown_sent, shown_hand, words_sent, words_handed, IsSmall};
-    ghost use Rattle.bus_terminal.specs.Stands.{StandsAt, description_of, held_word, words_of_reply, sends_from, answer_from, is_possible, heard_after_word, ends_at_gap, IsSameSetup, TakesWord, TakesNoise, TakesGap, TakesWrite};
+    ghost use Rattle.bus_terminal.specs.Stands.{StandsAt, description_of, held_word};
+    ghost use Rattle.bus_terminal.specs.Machine.Terminal.{words_of_reply, sends_from, answer_from, is_possible, heard_after_word, ends_at_gap, IsSameSetup, TakesWord, TakesNoise, TakesGap, TakesWrite};
 
     /// The terminal at power-up.
     pub fn power_up(setup: Setup, legality: L) -> Terminal<L>

@@ -8,7 +8,6 @@ use Rattle.bus_word.specs.Command.{is_broadcast}
 use Rattle.bus_legal.specs.Description.{Description}
 use Rattle.bus_terminal.specs.declared.event.Flag.TheVariants.{Service, Busy, Subsystem, Terminal}
 use Rattle.bus_terminal.specs.declared.event.Event.{Event}
-use Rattle.bus_terminal.specs.declared.buses.OnBuses.{OnBuses}
 use Rattle.bus_terminal.specs.declared.registers.Flags.{Flags}
 use Rattle.bus_terminal.specs.declared.registers.Registers.{Registers}
 use Rattle.bus_terminal.specs.Buses.{same_bus}
@@ -17,19 +16,6 @@ use Rattle.bus_terminal.specs.History.{Noted, Ending, Nothing, Badly, Illegal, B
 use Rattle.bus_terminal.specs.Flags.{flag_set, flag_now}
 use Rattle.bus_terminal.specs.SinceReset.{switched, done_code, code_in, is_code, inhibited_now, off_now, vector_set, vector_now, bit_set, bit_now, command_bits, recorded_by, last_now}
 use Rattle.bus_terminal.specs.Status.{no_parts, with_error_if, accepts, inhibited_after, reports_kept, spares, is_reset_cell, kept_by_start, start_first, adds_error, kept_now}
-
--- a truth value for each bus
-abbrev pub on_bus : Bus → OnBuses → Bool
-on_bus A t = t.a
-on_bus B t = t.b
-
-abbrev pub with_bus : Bus → Bool → OnBuses → OnBuses
-with_bus A value t = record t { a = value }
-with_bus B value t = record t { b = value }
-
-abbrev pub with_other_bus : Bus → Bool → OnBuses → OnBuses
-with_other_bus A value t = record t { b = value }
-with_other_bus B value t = record t { a = value }
 
 -- what looking back over a noted history gives
 abbrev pub registers_now : Description → List Noted → Registers

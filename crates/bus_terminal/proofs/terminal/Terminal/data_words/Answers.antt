@@ -1,6 +1,7 @@
 use Rattle.std.proofs.Common.{[], ap, sym, ◌∙◌}
 use Rattle.bus_terminal.specs.Machine.Ended.{ending_of}
-use Rattle.bus_terminal.specs.Stands.{is_possible, words_of_reply, held_word}
+use Rattle.bus_terminal.specs.Stands.{held_word}
+use Rattle.bus_terminal.specs.Machine.Terminal.{is_possible, words_of_reply}
 use Rattle.bus_terminal.proofs.terminal.Terminal.data_words.Goals as goal
 
 pub words_of_cell-requires : goal.words_of_cell-requires

@@ -1,5 +1,5 @@
 use Rattle.std.proofs.Common.{sym, ap, ◌∙◌}
-use Rattle.bus_terminal.specs.Stands.{is_possible}
+use Rattle.bus_terminal.specs.Machine.Terminal.{is_possible}
 use Rattle.bus_terminal.proofs.CellLaw.{well_law, possible_law}
 use Rattle.bus_terminal.proofs.terminal.Terminal.verdict.Goals as goal
 
