@@ -80,8 +80,8 @@ pub gap_answers : {L : Type 0} (is_legal : L → Cell → Bool) (P : Description
 gap_answers is_legal P h b t s p =
     let x : Ending = ends_at_gap is_legal t b in
     let ends : x ≡ ends_now P (past P h) (Gap b) =
-        (λ j. gap_ends (s.description j) (s.registers j).flags.busy (s.standing b j)) ∙ sym (ends_gap_law P (past P h) b) in
+    (λ j. gap_ends (s.description j) (s.registers j).flags.busy (s.standing b j)) ∙ sym (ends_gap_law P (past P h) b) in
     ap (λ ws. record { sent = sent_on b t.setup.address (is_broadcast (command_ended x) || on_bus b t.registers.off) (reply_with (status_from t.setup.accept t.registers x) ws); hand = hands (description_of is_legal t) x })
-        (words_law t.registers (held_word t) (held_now P (past P h)) x p s.held)
+    (words_law t.registers (held_word t) (held_now P (past P h)) x p s.held)
     ∙ ((λ j. answer_from (s.description j) (s.registers j) (held_now P (past P h)) b (ends j))
     ∙ out_law P (past P h) b (ends_now P (past P h) (Gap b)))

@@ -47,7 +47,7 @@ data_tests s n false false e = e
 data_allowed : (c : ℕ) → is_mode c ≡ false → none_or_allowed (data_cell c) ≡ true
 data_allowed c e =
     data_tests (subaddress_of c) (count_of c) (transmits c) (is_broadcast c)
-        (data_place (subaddress_of c) (count_of c) e (omega arith) (count-ge (code_of c == 0) (code_of c) refl) (count-le (code_of c == 0) (code_of c) (omega arith)))
+    (data_place (subaddress_of c) (count_of c) e (omega arith) (count-ge (code_of c == 0) (code_of c) refl) (count-le (code_of c == 0) (code_of c) (omega arith)))
 
 by_mode : (c : ℕ) (m : Bool) → is_mode c ≡ m → none_or_allowed (if m then mode_cell_by c (mode_row (code_of c)) else data_cell c) ≡ true
 by_mode c true e = mode_allowed c (mode_row (code_of c)) refl

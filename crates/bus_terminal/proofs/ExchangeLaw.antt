@@ -214,8 +214,8 @@ words_silent P (d ∷ ds) h es = ap (λ os. silence ∷ os) (words_silent P ds (
 pub exchange_law : ExchangeLaw
 exchange_law P xs x es w =
     ap (λ os. silence ∷ os)
-        (words_silent P x.words (command_event x.command ∷ history_of xs) (Gap A ∷ es)
-        ∙ ap (λ o. silent_then x.words (o ∷ outs_from P (history_of (x ∷ xs)) es)) (answer_law P xs x w))
+    (words_silent P x.words (command_event x.command ∷ history_of xs) (Gap A ∷ es)
+    ∙ ap (λ o. silent_then x.words (o ∷ outs_from P (history_of (x ∷ xs)) es)) (answer_law P xs x w))
 
 pub unmeant_exchange_law : UnmeantExchangeLaw
 unmeant_exchange_law P h x e = ap (λ m. out_of P (notes_before_gap P x h) A (if m then well P false x.command x.words else Nothing)) e

@@ -40,9 +40,9 @@ words_from-take row zero h = refl
 words_from-take [] (suc n) h = absurd (omega arith)
 words_from-take (x ∷ xs) (suc n) h =
     ap (λ ys. x ∷ ys)
-        (words_from-shift (λ k. get_or (x ∷ xs) k 0) 0 n
-        ∙ (words_from-same (λ k. get_or (x ∷ xs) (k + 1) 0) (λ k. get_or xs k 0) 0 n (λ k low high. let e : k + 1 ≡ suc k = omega arith in ap (λ j. get_or (x ∷ xs) j 0) e)
-        ∙ words_from-take xs n (omega arith)))
+    (words_from-shift (λ k. get_or (x ∷ xs) k 0) 0 n
+    ∙ (words_from-same (λ k. get_or (x ∷ xs) (k + 1) 0) (λ k. get_or xs k 0) 0 n (λ k low high. let e : k + 1 ≡ suc k = omega arith in ap (λ j. get_or (x ∷ xs) j 0) e)
+    ∙ words_from-take xs n (omega arith)))
 
 -- the first words of a row, by their numbers
 pub words_from-row : (row : List ℕ) (n : ℕ) → n ≤ length row → take n row ≡ words_from (λ i. get_or row (i - 1) 0) 1 n

@@ -105,8 +105,8 @@ latest_start_law P [] b c e = empty b c e
     empty B c e = cc
 latest_start_law P (e ∷ h) b c i =
     by_start P b e (starts_now P (past P h) e) (open_now P (past P h) b) (latest start_of (past P h)) c (word_starts P (past P h) e)
-        (sym (ap command_open (open_law P (past P h) b e)) ∙ i)
-        (latest_start_law P h b)
+    (sym (ap command_open (open_law P (past P h) b e)) ∙ i)
+    (latest_start_law P h b)
 
 -- both buses at once
 closed_unless_latest : (P : Description) (h : List Noted) (b : Bus) → is_latest h b ≡ false → open_now P h b ≡ Closed

@@ -95,7 +95,7 @@ own_law : (P : Description) (c code : ℕ) (ds : List ℕ) (b : Bus) (r : Regist
     registers_after P (Gap b) false (Done c (OwnMode code) ds) r ≡ settled P.accept false P.vector P.bit b (Done c (OwnMode code) ds) r
 own_law P c code ds b r =
     ap (with_kept (settled P.accept false P.vector P.bit b (Done c (OwnMode code) ds) r))
-        (done_kept r.kept (done_from P.accept r c (OwnMode code)) (reports_kept (OwnMode code)) (code == 8) (no_reset code (reports_kept (OwnMode code)) refl))
+    (done_kept r.kept (done_from P.accept r c (OwnMode code)) (reports_kept (OwnMode code)) (code == 8) (no_reset code (reports_kept (OwnMode code)) refl))
 
 -- a gap: it ends a message, or none
 pub gap_law : (P : Description) (x : Ending) (b : Bus) (r : Registers) →

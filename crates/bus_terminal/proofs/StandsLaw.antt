@@ -182,16 +182,16 @@ word_stands is_legal P h b w t u s k = record {
   description = k.setup.description ∙ s.description;
   heard = k.heard ∙ ((λ j. heard_after_word (s.description j) b w (s.heard j)) ∙ sym (heard_word_law P (past P h) b w));
   standing = λ c.
-    k.standing c
-    ∙ (same₄ (λ D k l m. word_leaves D.address (starts_by D w (on_bus b k) l) (same_bus c b) w m) s.description s.heard (s.standing b) (s.standing c)
-    ∙ sym (standing_word_law P (past P h) c b w));
+      k.standing c
+      ∙ (same₄ (λ D k l m. word_leaves D.address (starts_by D w (on_bus b k) l) (same_bus c b) w m) s.description s.heard (s.standing b) (s.standing c)
+      ∙ sym (standing_word_law P (past P h) c b w));
   registers =
-    k.registers
-    ∙ (same₄ (λ D k l r. started_if (starts_by D w (on_bus b k) l) (spares D w.bits) w.bits (failed_by D (entry_fails (Some w) l) r)) s.description s.heard (s.standing b) s.registers
-    ∙ sym (registers_word P (past P h) b w));
+      k.registers
+      ∙ (same₄ (λ D k l r. started_if (starts_by D w (on_bus b k) l) (spares D w.bits) w.bits (failed_by D (entry_fails (Some w) l) r)) s.description s.heard (s.standing b) s.registers
+      ∙ sym (registers_word P (past P h) b w));
   held = λ m i low high first last.
-    (λ j. word_in (k.setup.initial j) (k.held j) m i)
-    ∙ (s.held m i low high first last ∙ sym (held_word_law P (past P h) b w m i));
+      (λ j. word_in (k.setup.initial j) (k.held j) m i)
+      ∙ (s.held m i low high first last ∙ sym (held_word_law P (past P h) b w m i));
 }
 
 pub noise_stands : {L : Type 0} (is_legal : L → Cell → Bool) (P : Description) (h : List Event) (b : Bus) (t u : Terminal L) →
@@ -200,16 +200,16 @@ noise_stands is_legal P h b t u s k = record {
   description = k.setup.description ∙ s.description;
   heard = k.heard ∙ (s.heard ∙ sym (heard_noise_law P (past P h) b));
   standing = λ c.
-    k.standing c
-    ∙ ((λ j. if same_bus c b then entry_leaves (s.description j).address None (s.standing c j) else s.standing c j)
-    ∙ sym (standing_noise_law P (past P h) c b));
+      k.standing c
+      ∙ ((λ j. if same_bus c b then entry_leaves (s.description j).address None (s.standing c j) else s.standing c j)
+      ∙ sym (standing_noise_law P (past P h) c b));
   registers =
-    k.registers
-    ∙ ((λ j. failed_by (s.description j) (entry_fails None (s.standing b j)) (s.registers j))
-    ∙ sym (registers_noise P (past P h) b));
+      k.registers
+      ∙ ((λ j. failed_by (s.description j) (entry_fails None (s.standing b j)) (s.registers j))
+      ∙ sym (registers_noise P (past P h) b));
   held = λ m i low high first last.
-    (λ j. word_in (k.setup.initial j) (k.held j) m i)
-    ∙ (s.held m i low high first last ∙ sym (held_noise_law P (past P h) b m i));
+      (λ j. word_in (k.setup.initial j) (k.held j) m i)
+      ∙ (s.held m i low high first last ∙ sym (held_noise_law P (past P h) b m i));
 }
 
 pub gap_stands : {L : Type 0} (is_legal : L → Cell → Bool) (P : Description) (h : List Event) (b : Bus) (t u : Terminal L) →
@@ -218,17 +218,17 @@ gap_stands is_legal P h b t u s k = record {
   description = k.setup.description ∙ s.description;
   heard = k.heard ∙ (ap (with_bus b false) s.heard ∙ sym (heard_gap_law P (past P h) b));
   standing = λ c.
-    k.standing c
-    ∙ ((λ j. if same_bus c b then gap_leaves (s.standing c j) else s.standing c j)
-    ∙ sym (standing_gap_law P (past P h) c b));
+      k.standing c
+      ∙ ((λ j. if same_bus c b then gap_leaves (s.standing c j) else s.standing c j)
+      ∙ sym (standing_gap_law P (past P h) c b));
   registers =
-    k.registers
-    ∙ ((λ j. settled_for (s.description j) b (gap_ends (s.description j) (s.registers j).flags.busy (s.standing b j)) (s.registers j))
-    ∙ sym (registers_gap P (past P h) b));
+      k.registers
+      ∙ ((λ j. settled_for (s.description j) b (gap_ends (s.description j) (s.registers j).flags.busy (s.standing b j)) (s.registers j))
+      ∙ sym (registers_gap P (past P h) b));
   held = λ m i low high first last.
-    k.held m i low high first last
-    ∙ ((λ j. held_by (s.description j) m i (Gap b) (gap_ends (s.description j) (s.registers j).flags.busy (s.standing b j)) (s.held m i low high first last j))
-    ∙ sym (held_gap_law P (past P h) b m i));
+      k.held m i low high first last
+      ∙ ((λ j. held_by (s.description j) m i (Gap b) (gap_ends (s.description j) (s.registers j).flags.busy (s.standing b j)) (s.held m i low high first last j))
+      ∙ sym (held_gap_law P (past P h) b m i));
 }
 
 pub write_stands : {L : Type 0} (is_legal : L → Cell → Bool) (P : Description) (h : List Event) (place : Place) (v : ℕ) (t u : Terminal L) →
@@ -239,9 +239,9 @@ write_stands is_legal P h place v t u s k = record {
   standing = λ c. ap (standing_on c) k.in_progress ∙ s.standing c;
   registers = k.registers ∙ (s.registers ∙ sym (registers_law P (note P (past P h) (Write place v)) (past P h)));
   held = λ m i low high first last.
-    k.held m i low high first last
-    ∙ ((λ j. if (place.subaddress == m) && (place.number == i) then v else s.held m i low high first last j)
-    ∙ sym (held_write_law P (past P h) place v m i));
+      k.held m i low high first last
+      ∙ ((λ j. if (place.subaddress == m) && (place.number == i) then v else s.held m i low high first last j)
+      ∙ sym (held_write_law P (past P h) place v m i));
 }
 
 -- a change of the registers alone, by an event that says nothing of the buses and of the words held ready
@@ -263,19 +263,19 @@ pub vector_stands : {L : Type 0} (is_legal : L → Cell → Bool) (P : Descripti
     StandsAt is_legal P h t → StandsAt is_legal P (Vector v ∷ h) (record t { registers = record t.registers { vector = v } })
 vector_stands is_legal P h v t s =
     setting_stands is_legal P h (Vector v) t (record t.registers { vector = v }) (λ b. refl) refl (λ m i. refl)
-        (registers_law P (note P (past P h) (Vector v)) (past P h) ∙ ap (λ (r : Registers). record r { vector = v }) (sym s.registers)) s
+    (registers_law P (note P (past P h) (Vector v)) (past P h) ∙ ap (λ (r : Registers). record r { vector = v }) (sym s.registers)) s
 
 pub bit_stands : {L : Type 0} (is_legal : L → Cell → Bool) (P : Description) (h : List Event) (v : ℕ) (t : Terminal L) →
     StandsAt is_legal P h t → StandsAt is_legal P (Bit v ∷ h) (record t { registers = record t.registers { bit = v } })
 bit_stands is_legal P h v t s =
     setting_stands is_legal P h (Bit v) t (record t.registers { bit = v }) (λ b. refl) refl (λ m i. refl)
-        (registers_law P (note P (past P h) (Bit v)) (past P h) ∙ ap (λ (r : Registers). record r { bit = v }) (sym s.registers)) s
+    (registers_law P (note P (past P h) (Bit v)) (past P h) ∙ ap (λ (r : Registers). record r { bit = v }) (sym s.registers)) s
 
 pub flag_stands : {L : Type 0} (is_legal : L → Cell → Bool) (P : Description) (h : List Event) (f : Flag) (v : Bool) (t : Terminal L) (k : Flags) →
     k ≡ flags_after (FlagIs f v) t.registers.flags →
     StandsAt is_legal P h t → StandsAt is_legal P (FlagIs f v ∷ h) (record t { registers = record t.registers { flags = k } })
 flag_stands is_legal P h f v t k e s =
     setting_stands is_legal P h (FlagIs f v) t (record t.registers { flags = k }) (λ b. refl) refl (λ m i. refl)
-        (registers_law P (note P (past P h) (FlagIs f v)) (past P h)
-        ∙ (ap (λ (r : Registers). record r { flags = flags_after (FlagIs f v) r.flags }) (sym s.registers)
-        ∙ ap (λ (k : Flags). record t.registers { flags = k }) (sym e))) s
+    (registers_law P (note P (past P h) (FlagIs f v)) (past P h)
+    ∙ (ap (λ (r : Registers). record r { flags = flags_after (FlagIs f v) r.flags }) (sym s.registers)
+    ∙ ap (λ (k : Flags). record t.registers { flags = k }) (sym e))) s

@@ -10,8 +10,10 @@ mod held;
 pub mod laws;
 mod message;
 mod registers;
-mod terminal;
 pub mod rows;
+mod terminal;
+#[cfg(test)]
+mod tests;
 
 pub use answer::{Answer, Hand, Sent};
 pub use event::{Event, Flag, WordPlace};

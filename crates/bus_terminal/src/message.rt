@@ -183,7 +183,9 @@ impl InProgress {
         if let Some(message) = self.message {
             if same_bus(bus, message.bus) {
                 let phase = match message.phase {
-                    Phase::Collects(followed) => Some(Phase::Collects(self.add(followed, own, word))),
+                    Phase::Collects(followed) => Some(Phase::Collects(self.add(
+                        followed, own, word,
+                    ))),
                     Phase::Resumes(followed) => Some(Phase::Resumes(self.add(followed, own, word))),
                     Phase::Waits(address) => {
                         self.words.clear();
@@ -206,8 +208,10 @@ impl InProgress {
     {
         match &self.message {
             Some(message) => match message.phase {
-                Phase::Waits(address) if same_bus(bus, message.bus) && !is_status_of(address, word) =>
-                    Some(message.command),
+                Phase::Waits(address)
+                    if same_bus(bus, message.bus) && !is_status_of(address, word) => Some(
+                    message.command,
+                ),
                 _ => None,
             },
             None => None,
@@ -237,7 +241,8 @@ impl InProgress {
                         GapEnd::Error(message.command)
                     }
                 }
-                Phase::Collects(Followed::Transmitter(_)) if message.command.is_receive() => GapEnd::Nothing,
+                Phase::Collects(Followed::Transmitter(_)) if message.command.is_receive() =>
+                    GapEnd::Nothing,
                 _ => GapEnd::Error(message.command),
             },
             _ => GapEnd::Nothing,
@@ -252,8 +257,8 @@ impl InProgress {
         if let Some(message) = self.message {
             if same_bus(bus, message.bus) {
                 let phase = match message.phase {
-                    Phase::Collects(Followed::Transmitter(address)) if message.command.is_receive() =>
-                        Some(Phase::Waits(address)),
+                    Phase::Collects(Followed::Transmitter(address))
+                        if message.command.is_receive() => Some(Phase::Waits(address)),
                     _ => None,
                 };
                 self.message = message.in_phase(phase);

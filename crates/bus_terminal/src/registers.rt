@@ -120,8 +120,7 @@ impl Registers {
         match ended {
             Ended::Nothing | Ended::Badly(_) => None,
             Ended::Illegal(command) => Some(self.formed_with_error(*command)),
-            Ended::Blocked(command, _) =>
-                Some(self.formed(*command, false, false, self.inhibited)),
+            Ended::Blocked(command, _) => Some(self.formed(*command, false, false, self.inhibited)),
             Ended::Done(command, cell) => Some(if reports_kept(*cell) {
                 self.kept
             } else {
@@ -157,7 +156,15 @@ impl Registers {
     /// A gap on this bus ended a message so, with this status, or ended none. `spares` says whether the command
     /// of one that ended in error spares the kept status. A reset goes back to this vector word and this BIT
     /// word.
-    pub fn settle(&mut self, bus: Bus, ended: &Ended, status: Option<StatusParts>, spares: bool, vector: u16, bit: u16)
+    pub fn settle(
+        &mut self,
+        bus: Bus,
+        ended: &Ended,
+        status: Option<StatusParts>,
+        spares: bool,
+        vector: u16,
+        bit: u16,
+    )
         ensures { (accept : Bool) (ds : List ℕ) → status ≡ status_from accept self.old (ending_of ended.now ds) → self.new ≡ settled accept spares vector bit bus (ending_of ended.now ds) self.old }
     {
         match ended {

@@ -118,7 +118,12 @@ impl<L: Legality> Terminal<L> {
     fn write(&mut self, place: WordPlace, value: u16)
         ensures { TakesWrite L.is_legal place value self.old self.new }
     {
-        self.held.write(&self.setup.initial, place.subaddress(), place.number(), value);
+        self.held.write(
+            &self.setup.initial,
+            place.subaddress(),
+            place.number(),
+            value,
+        );
     }
 
     /// Whether a command is a legal own mode code 2 or 18, which spares the kept status.
@@ -244,8 +249,14 @@ impl<L: Legality> Terminal<L> {
         ensures few { length (words_handed (shown_hand result)) ≤ 32 }
     {
         match ended {
-            Ended::Done(_, Cell::OwnReceive(subaddress, _)) => Some(self.received(false, *subaddress)),
-            Ended::Done(_, Cell::BroadReceive(subaddress, _)) => Some(self.received(true, *subaddress)),
+            Ended::Done(_, Cell::OwnReceive(subaddress, _)) => Some(self.received(
+                false,
+                *subaddress,
+            )),
+            Ended::Done(_, Cell::BroadReceive(subaddress, _)) => Some(self.received(
+                true,
+                *subaddress,
+            )),
             Ended::Done(_, Cell::OwnMode(code)) => self.hand_of_code(*code, self.setup.accept),
             Ended::Done(_, Cell::BroadMode(code)) => self.hand_of_code(*code, false),
             _ => None,
@@ -310,7 +321,14 @@ impl<L: Legality> Terminal<L> {
         ensures { TakesGap L.is_legal bus (ending_of ended.now self.old.in_progress.words.items) self.old self.new }
     {
         let spares = self.fails_sparing(ended);
-        self.registers.settle(bus, ended, status, spares, self.setup.vector, self.setup.bit);
+        self.registers.settle(
+            bus,
+            ended,
+            status,
+            spares,
+            self.setup.vector,
+            self.setup.bit,
+        );
         self.held.settle(
             &self.setup.initial,
             self.setup.wrap,
