@@ -21,7 +21,7 @@ pub type Rows = [[u16; 32]; 30];
 
 /// The rows that were changed since power-up or the latest reset. All others are those of the set-up, so
 /// that a reset copies no rows.
-#[derive(Clone, Copy)]
+#[derive(Drop)]
 pub struct HeldWords {
     pub rows: Rows,
     pub changed: [bool; 30],
