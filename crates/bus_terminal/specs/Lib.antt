@@ -1,3 +1,5 @@
+pub use Rattle.bus_word.specs.Cell
+pub use Rattle.bus_legal.specs.Description
 pub mod Place
 pub mod Buses
 pub mod LookBack

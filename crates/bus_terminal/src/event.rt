@@ -90,3 +90,10 @@ pub enum Event {
     /// The subsystem sets a flag or takes it back.
     Flag(Flag, bool),
 }
+
+/// A gap on bus A: the event that changes least.
+impl Default for Event {
+    fn default() -> Event {
+        Event::Gap(Bus::A)
+    }
+}

@@ -55,10 +55,11 @@ abbrev pub is_possible : Ending → Bool
 is_possible (Done c cell ds) = is_allowed cell
 is_possible _ = true
 
--- what a word leaves of the terminal t, but for its message in progress, from what it was before
+-- on which buses the run holds a word for the terminal, after a word
 abbrev pub heard_after_word : Description → Bus → Raw → OnBuses → OnBuses
 heard_after_word P b w heard = if is_for P w then with_bus b true heard else heard
 
+-- whether a word starts a message
 abbrev pub starts_in : {L : Type 0} → (L → Cell → Bool) → Terminal L → Bus → Raw → Bool
 starts_in is_legal t b w = starts_by (description_of is_legal t) w (on_bus b t.heard) (standing_on b t.in_progress)
 
