@@ -8,7 +8,7 @@ use crate::{Answer, Event, Flag, Terminal};
 use bus_legal::{Legality, Setup};
 use bus_word::{Bus, Cell, Kind, Raw};
 use legality::{Also, Every};
-use rows::{MESSAGES, MODE_CODES, TRANSFERS, TWO_BUSES};
+use rows::{MESSAGES, MODE_CODES, RESET, TRANSFERS, TWO_BUSES};
 use table::{Act, Handed, Profile, Row, Said, event_of, is_said};
 
 /// A terminal of address 5.
@@ -27,12 +27,17 @@ fn terminal_of<L: Legality>(profile: &Profile, legality: L) -> Terminal<L> {
     Terminal::power_up(setup, legality)
 }
 
-/// The number, from 1, of the first step of a row that is answered otherwise.
+/// The number, from 0, of the first step of a row that is answered otherwise.
 fn first_wrong(row: &Row) -> Option<usize> {
     let legality = Also {
         first: row.profile.first,
         second: row.profile.second,
     };
+    first_wrong_with(row, legality)
+}
+
+/// The same with another legality.
+fn first_wrong_with<L: Legality + Drop>(row: &Row, legality: L) -> Option<usize> {
     let mut terminal = terminal_of(&row.profile, legality);
     for (at, (act, said)) in row.steps.iter().enumerate() {
         if let Some(event) = event_of(act) {
@@ -58,6 +63,11 @@ fn worked_rows(rt: HostRuntime) {
     for row in &MODE_CODES {
         assert_eq!(rt; first_wrong(row), None, "row {}", row.name);
     }
+}
+
+#[test]
+fn reset_undoes_everything(rt: HostRuntime) {
+    assert_eq!(rt; first_wrong_with(&RESET, Every(true)), None);
 }
 
 /// What a mode code does where it is legal: its T/R, the data word that comes with it, whether it may be
