@@ -1,5 +1,5 @@
 -- What is answered, from the registers and the words held ready.
-use Rattle.std.proofs.Common.{◌≡◌, ℕ, ◌≤◌, ◌<◌, ◌+◌, Bool, true, false, ◌&&◌, ◌||◌, ◌==◌, nat_le, if◌then◌else◌, Option, Some, None, List, [], ◌∷◌, refl, ap, sym, ◌∙◌, arith}
+use Rattle.std.proofs.Common.{◌≡◌, ℕ, ◌≤◌, Bool, true, ◌||◌, List, refl, ap, sym, ◌∙◌, arith}
 use Rattle.std.proofs.lemmas.Bool.Decides.{nat_tests}
 use Rattle.bus_word.specs.declared.word.Bus.{Bus}
 use Rattle.bus_word.specs.declared.word.Bus.TheVariants.{A, B}
@@ -13,12 +13,11 @@ use Rattle.bus_terminal.specs.declared.event.Event.TheVariants.{Gap}
 use Rattle.bus_terminal.specs.declared.registers.Registers.{Registers}
 use Rattle.bus_terminal.specs.declared.terminal.Terminal.{Terminal}
 use Rattle.bus_terminal.specs.History.{Noted, Ending, Nothing, Badly, Illegal, Blocked, Done}
-use Rattle.bus_terminal.specs.Open.{open_now}
 use Rattle.bus_terminal.specs.Ends.{ends_now}
 use Rattle.bus_terminal.specs.SinceReset.{held_now, off_now}
 use Rattle.bus_terminal.specs.Past.{past}
-use Rattle.bus_terminal.specs.Out.{Reply, Out, words_from, reply, sent_on, command_ended, hands, out, out_of}
-use Rattle.bus_terminal.specs.Machine.Standing.{standing_of, gap_ends}
+use Rattle.bus_terminal.specs.Out.{reply, sent_on, command_ended, hands, out, out_of}
+use Rattle.bus_terminal.specs.Machine.Standing.{gap_ends}
 use Rattle.bus_terminal.specs.Machine.Registers.{registers_now, status_from}
 use Rattle.bus_terminal.specs.Machine.Buses.{on_bus}
 use Rattle.bus_terminal.specs.Stands.{StandsAt, held_word, description_of}

@@ -1,5 +1,5 @@
 -- What looking back gives after one event more.
-use Rattle.std.proofs.Common.{◌≡◌, ℕ, Bool, true, false, if◌then◌else◌, Option, Some, None, List, [], ◌∷◌, refl, ap}
+use Rattle.std.proofs.Common.{◌≡◌, ℕ, true, false, if◌then◌else◌, Option, Some, None, List, [], ◌∷◌, refl}
 use Rattle.bus_word.specs.declared.word.Bus.{Bus}
 use Rattle.bus_legal.specs.Description.{Description}
 use Rattle.bus_terminal.specs.declared.event.Flag.{Flag}

@@ -13,7 +13,7 @@ use Rattle.bus_terminal.specs.History.{Entry}
 use Rattle.bus_terminal.specs.Open.{Open, Closed, First, Waiting, Second, transmitter, is_status_of, transfer}
 use Rattle.bus_terminal.specs.Starts.{is_free, is_fresh_broadcast}
 use Rattle.bus_terminal.specs.Ends.{data_words, with_word, data_of, if_expected, complete, at_gap, at_entry, ends_with}
-use Rattle.bus_terminal.specs.Machine.Standing.{Collected, Words, Transmitter, Spoilt, lone_transmitter, transmitter_or_spoilt, few, collected_by, collected_of, Idle, Collects, Waits, Resumes, standing_of, next, whole_of, transfer_of, gap_ends, stop_of, stop_ends, waits_for, gap_leaves, entry_leaves, entry_fails, fails, stands_free, stands_fresh}
+use Rattle.bus_terminal.specs.Machine.Standing.{Collected, Words, Transmitter, Spoilt, lone_transmitter, transmitter_or_spoilt, few, collected_by, collected_of, Idle, Collects, Resumes, standing_of, next, whole_of, transfer_of, gap_ends, stop_of, stop_ends, waits_for, gap_leaves, entry_leaves, entry_fails, fails, stands_free, stands_fresh}
 use Rattle.bus_terminal.proofs.OpenLaw.{after_gap, after_entry, waits}
 
 few_more : (ds : List ℕ) (d : ℕ) (a : Option ℕ) → few (ds ++ d ∷ []) ≡ next (few ds) (Some d) a

@@ -1,11 +1,10 @@
 -- What an exchange notes and is answered, after exchanges alone.
-use Rattle.std.proofs.Common.{◌≡◌, ℕ, ◌%◌, Bool, true, false, not, ◌&&◌, ◌||◌, ◌==◌, if◌then◌else◌, Option, Some, None, List, [], ◌∷◌, ◌++◌, length, refl, ap, sym, ◌∙◌, append_assoc, append-nil, arith, ◌+◌}
+use Rattle.std.proofs.Common.{◌≡◌, ℕ, ◌%◌, Bool, true, false, ◌==◌, if◌then◌else◌, Option, Some, None, List, [], ◌∷◌, ◌++◌, length, refl, ap, ◌∙◌, append_assoc, append-nil, arith, ◌+◌}
 use Rattle.std.proofs.Math.Bool.{and-true}
 use Rattle.std.proofs.lemmas.Bool.{eq-eqb}
 use Rattle.std.proofs.lemmas.Bool.Decides.{nat_tests}
 use Rattle.bus_word.specs.declared.word.Kind.{Kind}
 use Rattle.bus_word.specs.declared.word.Kind.TheVariants.{Com, Dat}
-use Rattle.bus_word.specs.declared.word.Bus.{Bus}
 use Rattle.bus_word.specs.declared.word.Bus.TheVariants.{A}
 use Rattle.bus_word.specs.declared.word.Raw.{Raw}
 use Rattle.bus_word.specs.Word.{bit_of, ones, low_bits, is_valid, valid_word}
@@ -13,17 +12,17 @@ use Rattle.bus_word.specs.Command.{expected, is_receive}
 use Rattle.bus_word.proofs.Parity.{odd_with_parity}
 use Rattle.bus_legal.specs.Description.{Description}
 use Rattle.bus_terminal.specs.declared.event.Event.{Event}
-use Rattle.bus_terminal.specs.declared.event.Event.TheVariants.{Word, Gap}
+use Rattle.bus_terminal.specs.declared.event.Event.TheVariants.{Gap}
 use Rattle.bus_terminal.specs.declared.event.Flag.{Flag}
 use Rattle.bus_terminal.specs.declared.event.Flag.TheVariants.{Busy}
-use Rattle.bus_terminal.specs.History.{Noted, noted, Entry, Ending, Nothing}
+use Rattle.bus_terminal.specs.History.{Noted, noted, Entry, Nothing}
 use Rattle.bus_terminal.specs.Open.{Open, Closed, First, Waiting, Second, transfer, open_now}
 use Rattle.bus_terminal.specs.Starts.{heard_now, starts_now}
 use Rattle.bus_terminal.specs.Flags.{flag_now}
 use Rattle.bus_terminal.specs.Ends.{data_of, with_word, data_words, if_expected, complete, well, ends_with, at_gap, at_entry, ends_now}
 use Rattle.bus_terminal.specs.Past.{past}
-use Rattle.bus_terminal.specs.Out.{Out, silence, out, out_of, outs_from}
-use Rattle.bus_terminal.specs.Exchanges.{Exchange, IsWhole, AreWhole, command_event, data_event, words_then, exchange_then, after_words, before_its_gap, history_of, is_meant, word_note, word_notes, command_note, gap_note, notes_before_gap, ending_of_exchange, exchange_notes, exchange_answer, silent_then, ExchangeLaw, UnmeantExchangeLaw, ValidWordLaw}
+use Rattle.bus_terminal.specs.Out.{silence, out, out_of, outs_from}
+use Rattle.bus_terminal.specs.Exchanges.{Exchange, IsWhole, AreWhole, command_event, data_event, words_then, after_words, before_its_gap, history_of, is_meant, word_note, word_notes, command_note, gap_note, notes_before_gap, ending_of_exchange, exchange_notes, exchange_answer, silent_then, ExchangeLaw, UnmeantExchangeLaw, ValidWordLaw}
 use Rattle.bus_terminal.proofs.OpenLaw.{open_law, after_event, after_word, after_gap, after_entry, waits, unheard}
 
 -- a word that is made valid is valid

@@ -1,5 +1,5 @@
 -- The words held ready.
-use Rattle.std.proofs.Common.{◌≡◌, ℕ, zero, suc, ◌+◌, ◌-◌, ◌<◌, ◌≤◌, ◌==◌, ◌&&◌, nat_le, Bool, true, false, ltb, if◌then◌else◌, Option, Some, None, List, [], ◌∷◌, length, get_or, take, replicate, refl, ap, sym, ◌∙◌, arith, rules}
+use Rattle.std.proofs.Common.{◌≡◌, ℕ, zero, suc, ◌+◌, ◌-◌, ◌<◌, ◌≤◌, ◌==◌, ◌&&◌, nat_le, Bool, true, false, ltb, if◌then◌else◌, Some, None, List, [], ◌∷◌, length, get_or, take, replicate, refl, ap, sym, ◌∙◌, arith}
 use Rattle.std.proofs.lemmas.Bool.{ltb-true, ltb-false, eqb-true}
 use Rattle.std.proofs.lemmas.List.{get_or-replicate, get_or_past, length-replicate}
 use Rattle.std.proofs.lemmas.Bool.Decides.{nat_tests}
@@ -7,7 +7,6 @@ use Rattle.bus_word.specs.Cell.{is_data_place}
 use Rattle.bus_terminal.specs.LookBack.{or_else}
 use Rattle.bus_terminal.specs.SinceReset.{number, wrapped_at}
 use Rattle.bus_terminal.specs.Out.{words_from}
-use Rattle.bus_terminal.specs.declared.held.HeldWords.{HeldWords}
 use Rattle.bus_terminal.specs.Machine.Held.{row_in}
 
 -- nothing but the value that is read past the end

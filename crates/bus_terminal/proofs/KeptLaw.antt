@@ -1,5 +1,5 @@
 -- The kept status after one event more.
-use Rattle.std.proofs.Common.{◌≡◌, Bool, true, false, ◌||◌, if◌then◌else◌, Option, Some, None, List, [], ◌∷◌, refl}
+use Rattle.std.proofs.Common.{◌≡◌, Bool, true, false, ◌||◌, Option, Some, None, List, [], ◌∷◌, refl}
 use Rattle.bus_word.specs.declared.status.StatusParts.{StatusParts}
 use Rattle.bus_legal.specs.Description.{Description}
 use Rattle.bus_terminal.specs.LookBack.{or_else, some, latest_with, since_with}

@@ -12,7 +12,7 @@ use Rattle.bus_terminal.specs.LookBack.{latest}
 use Rattle.bus_terminal.specs.History.{Noted, Entry, run}
 use Rattle.bus_terminal.specs.Open.{Open, Closed, First, Waiting, Second, transfer, is_status_of, transmitter, is_on, is_latest, start_bus, first_of, awaited_of, open_of, open_now, before_gap}
 use Rattle.bus_terminal.specs.Starts.{starts_now}
-use Rattle.bus_terminal.specs.Past.{past, note}
+use Rattle.bus_terminal.specs.Past.{past}
 use Rattle.bus_terminal.specs.OpenLaws.{start_in, start_of, command_open, LatestStartLaw, OneMessageLaw}
 use Rattle.bus_terminal.proofs.OpenLaw.{open_law, after_word, after_gap, after_entry, after_event, waits, unheard}
 

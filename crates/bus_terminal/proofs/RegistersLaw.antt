@@ -1,24 +1,21 @@
 -- The registers after one event more.
-use Rattle.std.proofs.Common.{◌≡◌, ℕ, Bool, true, false, not, ◌&&◌, ◌||◌, ◌==◌, if◌then◌else◌, Option, Some, None, List, [], ◌∷◌, refl, ap, sym, ◌∙◌, arith}
+use Rattle.std.proofs.Common.{◌≡◌, ℕ, Bool, true, false, ◌||◌, ◌==◌, if◌then◌else◌, Option, Some, None, List, ◌∷◌, refl, ap, ◌∙◌, arith}
 use Rattle.std.proofs.lemmas.Bool.Decides.{nat_tests}
 use Rattle.bus_word.specs.declared.word.Bus.{Bus}
 use Rattle.bus_word.specs.declared.word.Bus.TheVariants.{A, B}
 use Rattle.bus_word.specs.declared.word.Raw.{Raw}
 use Rattle.bus_word.specs.declared.status.StatusParts.{StatusParts}
-use Rattle.bus_word.specs.declared.cell.Cell.{Cell}
 use Rattle.bus_word.specs.declared.cell.Cell.TheVariants.{OwnReceive, OwnTransmit, BroadReceive, OwnMode, BroadMode}
 use Rattle.bus_word.specs.Command.{is_broadcast}
 use Rattle.bus_legal.specs.Description.{Description}
 use Rattle.bus_terminal.specs.declared.event.Flag.TheVariants.{Service, Busy, Subsystem, Terminal}
-use Rattle.bus_terminal.specs.declared.event.Event.{Event}
-use Rattle.bus_terminal.specs.declared.event.Event.TheVariants.{Word, Noise, Gap, Write, Vector, Bit, Flag as FlagIs}
+use Rattle.bus_terminal.specs.declared.event.Event.TheVariants.{Word, Noise, Gap}
 use Rattle.bus_terminal.specs.declared.registers.Registers.{Registers}
-use Rattle.bus_terminal.specs.LookBack.{or_else}
 use Rattle.bus_terminal.specs.History.{Noted, Ending, Nothing, Badly, Illegal, Blocked, Done}
-use Rattle.bus_terminal.specs.Status.{spares, adds_error, reports_kept, is_reset_cell, no_parts, with_error_if, kept_by_start, kept_by_command, kept_by_end, start_first}
+use Rattle.bus_terminal.specs.Status.{spares, adds_error, reports_kept, no_parts, with_error_if, kept_by_start, kept_by_command, kept_by_end, start_first}
 use Rattle.bus_terminal.specs.SinceReset.{start_bits}
 use Rattle.bus_terminal.specs.Machine.Standing.{fails}
-use Rattle.bus_terminal.specs.Machine.Registers.{registers_now, power_up_registers, registers_after, kept_after, kept_from, status_from, error_from, done_from, failed, failed_by, started, started_if, settled}
+use Rattle.bus_terminal.specs.Machine.Registers.{registers_now, registers_after, kept_after, kept_from, error_from, done_from, failed, failed_by, started, started_if, settled}
 use Rattle.bus_terminal.proofs.KeptLaw.{kept_step}
 use Rattle.bus_terminal.proofs.BackLaw.{flag_step, inhibited_step, off_step, vector_step, bit_step, last_step}
 

@@ -1,5 +1,5 @@
 -- A terminal that stands at a history stands, after an event, at the history followed by that event.
-use Rattle.std.proofs.Common.{◌≡◌, ℕ, ◌≤◌, Bool, true, false, ◌&&◌, ◌||◌, ◌==◌, if◌then◌else◌, Option, Some, None, List, [], ◌∷◌, refl, ap, sym, ◌∙◌}
+use Rattle.std.proofs.Common.{◌≡◌, ℕ, Bool, true, false, ◌&&◌, ◌||◌, ◌==◌, if◌then◌else◌, Option, Some, None, List, [], ◌∷◌, refl, ap, sym, ◌∙◌}
 use Rattle.bus_word.specs.declared.word.Bus.{Bus}
 use Rattle.bus_word.specs.declared.word.Bus.TheVariants.{A, B}
 use Rattle.bus_word.specs.declared.word.Raw.{Raw}
@@ -15,20 +15,19 @@ use Rattle.bus_terminal.specs.declared.registers.Registers.{Registers}
 use Rattle.bus_terminal.specs.declared.terminal.Terminal.{Terminal}
 use Rattle.bus_terminal.specs.Buses.{same_bus}
 use Rattle.bus_terminal.specs.LookBack.{or_else}
-use Rattle.bus_terminal.specs.History.{Noted, Ending, Nothing}
+use Rattle.bus_terminal.specs.History.{Noted, Ending}
 use Rattle.bus_terminal.specs.Open.{Open, Closed, First, open_now}
 use Rattle.bus_terminal.specs.Starts.{is_for, is_free, is_fresh_broadcast, starts_message, heard_now, starts_now}
-use Rattle.bus_terminal.specs.Flags.{flag_now}
-use Rattle.bus_terminal.specs.Ends.{at_gap, ends_now}
+use Rattle.bus_terminal.specs.Ends.{ends_now}
 use Rattle.bus_terminal.specs.SinceReset.{is_code, done_code, wrapped, written, either_word, held_now}
 use Rattle.bus_terminal.specs.Status.{spares, adds_error}
 use Rattle.bus_terminal.specs.Past.{note, past}
-use Rattle.bus_terminal.specs.Machine.Standing.{Standing, Idle, Collects, Words, standing_of, word_leaves, entry_leaves, entry_fails, fails, gap_leaves, gap_ends, stands_free, stands_fresh, starts_by}
+use Rattle.bus_terminal.specs.Machine.Standing.{Standing, Idle, Collects, Words, standing_of, word_leaves, entry_leaves, entry_fails, fails, gap_leaves, gap_ends, stands_free, starts_by}
 use Rattle.bus_terminal.specs.Machine.Registers.{registers_now, registers_after, flags_after, unless_reset, failed_by, started_if, settled}
 use Rattle.bus_terminal.specs.Machine.Buses.{on_bus, with_bus}
 use Rattle.bus_terminal.specs.Machine.Message.{standing_on}
 use Rattle.bus_terminal.specs.Machine.Held.{word_in}
-use Rattle.bus_terminal.specs.Stands.{StandsAt, heard_on_buses, held_word}
+use Rattle.bus_terminal.specs.Stands.{StandsAt, heard_on_buses}
 use Rattle.bus_terminal.specs.Machine.Terminal.{heard_after_word, ends_at_gap, TakesWord, TakesNoise, TakesGap, TakesWrite}
 use Rattle.bus_terminal.proofs.OpenLaw.{open_law, after_word, after_gap, after_entry, unheard}
 use Rattle.bus_terminal.proofs.CollectedLaw.{gap_ends_law, gap_leaves_law, entry_leaves_law, entry_ends_law, free_law, fresh_law}

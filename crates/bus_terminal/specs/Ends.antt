@@ -1,8 +1,8 @@
 -- Which events end a message, and how (MIL-STD-1553B, 4.4.1.2, 4.4.3.3, 4.4.3.4, 4.4.3.6).
-use Rattle.std.specs.Prelude.{ℕ, Bool, true, false, ◌&&◌, ◌||◌, ◌==◌, if◌then◌else◌, Option, Some, None, List, [], ◌∷◌, ◌++◌, length}
+use Rattle.std.specs.Prelude.{ℕ, Bool, true, ◌&&◌, ◌||◌, ◌==◌, if◌then◌else◌, Option, Some, None, List, [], ◌∷◌, ◌++◌, length}
 use Rattle.bus_word.specs.declared.word.Raw.{Raw}
 use Rattle.bus_word.specs.declared.cell.Cell.{Cell}
-use Rattle.bus_word.specs.declared.cell.Cell.TheVariants.{OwnReceive, OwnTransmit, BroadReceive, OwnMode, BroadMode}
+use Rattle.bus_word.specs.declared.cell.Cell.TheVariants.{OwnMode, BroadMode}
 use Rattle.bus_word.specs.Word.{is_data}
 use Rattle.bus_word.specs.Command.{expected}
 use Rattle.bus_word.specs.Cell.{cell_of}

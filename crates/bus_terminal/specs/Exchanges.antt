@@ -1,7 +1,6 @@
 -- Exchanges: a command word with just the data words that it expects, and a gap, on bus A.
 use Rattle.std.specs.Prelude.{◌≡◌, ℕ, Bool, true, false, if◌then◌else◌, List, [], ◌∷◌, length}
 use Rattle.bus_word.specs.declared.word.Kind.TheVariants.{Com, Dat}
-use Rattle.bus_word.specs.declared.word.Bus.{Bus}
 use Rattle.bus_word.specs.declared.word.Bus.TheVariants.{A}
 use Rattle.bus_word.specs.declared.word.Raw.{Raw}
 use Rattle.bus_word.specs.Word.{is_valid, valid_word}

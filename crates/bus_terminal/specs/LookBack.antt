@@ -1,5 +1,5 @@
 -- Words to look back over a list whose latest element is the first.
-use Rattle.std.specs.Prelude.{Bool, true, false, ◌||◌, if◌then◌else◌, Option, Some, None, List, [], ◌∷◌}
+use Rattle.std.specs.Prelude.{Bool, false, ◌||◌, if◌then◌else◌, Option, Some, None, List, [], ◌∷◌}
 
 -- the latest element that answers, by its answer
 abbrev pub latest : {X Y : Type 0} → (X → Option Y) → List X → Option Y

@@ -1,5 +1,5 @@
 -- The message in progress on a bus (MIL-STD-1553B, 4.3.3.6, 4.4.3.2, 4.6.3).
-use Rattle.std.specs.Prelude.{ℕ, Bool, true, false, not, ◌&&◌, ◌==◌, if◌then◌else◌, Option, Some, None, List, [], ◌∷◌}
+use Rattle.std.specs.Prelude.{ℕ, Bool, false, not, ◌&&◌, ◌==◌, if◌then◌else◌, Option, Some, None, List, [], ◌∷◌}
 use Rattle.bus_word.specs.declared.word.Bus.{Bus}
 use Rattle.bus_word.specs.declared.word.Raw.{Raw}
 use Rattle.bus_word.specs.Word.{is_command}

@@ -2,10 +2,9 @@
 use Rattle.std.specs.Prelude.{ℕ, ◌-◌, Bool, true, false, ◌&&◌, ◌==◌, if◌then◌else◌, Option, Some, None, List, [], ◌∷◌}
 use Rattle.bus_word.specs.declared.word.Bus.{Bus}
 use Rattle.bus_word.specs.declared.cell.Cell.{Cell}
-use Rattle.bus_word.specs.declared.cell.Cell.TheVariants.{OwnReceive, OwnTransmit, BroadReceive, OwnMode, BroadMode}
+use Rattle.bus_word.specs.declared.cell.Cell.TheVariants.{OwnReceive, BroadReceive, OwnMode, BroadMode}
 use Rattle.bus_word.specs.Cell.{cell_of}
 use Rattle.bus_legal.specs.Description.{Description, wrap_subaddress}
-use Rattle.bus_terminal.specs.Place.{Place}
 use Rattle.bus_terminal.specs.declared.event.Event.{Event}
 use Rattle.bus_terminal.specs.declared.event.Event.TheVariants.{Word, Write, Vector, Bit}
 use Rattle.bus_terminal.specs.LookBack.{latest, or_else, since}

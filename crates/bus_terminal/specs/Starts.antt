@@ -8,8 +8,8 @@ use Rattle.bus_legal.specs.Description.{Description}
 use Rattle.bus_terminal.specs.declared.event.Event.{Event}
 use Rattle.bus_terminal.specs.declared.event.Event.TheVariants.{Word}
 use Rattle.bus_terminal.specs.LookBack.{some}
-use Rattle.bus_terminal.specs.History.{Noted, Entry, run}
-use Rattle.bus_terminal.specs.Open.{Open, Closed, First, Waiting, Second, open_now}
+use Rattle.bus_terminal.specs.History.{Noted, run}
+use Rattle.bus_terminal.specs.Open.{Open, Closed, First, Waiting, open_now}
 
 -- a word for the terminal: valid, of command sync, to its own address, or to all where it has the broadcast option
 abbrev pub is_for : Description → Raw → Bool

@@ -1,5 +1,5 @@
 -- The registers of a terminal: what looking back gives for its history, and how an event changes that.
-use Rattle.std.specs.Prelude.{ℕ, Bool, true, false, not, ◌&&◌, ◌||◌, ◌==◌, if◌then◌else◌, Option, Some, None, List}
+use Rattle.std.specs.Prelude.{ℕ, Bool, true, false, not, ◌&&◌, if◌then◌else◌, Option, Some, None, List}
 use Rattle.bus_word.specs.declared.word.Bus.{Bus}
 use Rattle.bus_word.specs.declared.word.Bus.TheVariants.{A, B}
 use Rattle.bus_word.specs.declared.status.StatusParts.{StatusParts}
@@ -14,7 +14,7 @@ use Rattle.bus_terminal.specs.Buses.{same_bus}
 use Rattle.bus_terminal.specs.LookBack.{or_else}
 use Rattle.bus_terminal.specs.History.{Noted, Ending, Nothing, Badly, Illegal, Blocked, Done, is_gap_on}
 use Rattle.bus_terminal.specs.Flags.{flag_set, flag_now}
-use Rattle.bus_terminal.specs.SinceReset.{switched, done_code, code_in, is_code, inhibited_now, off_now, vector_set, vector_now, bit_set, bit_now, command_bits, recorded_by, last_now}
+use Rattle.bus_terminal.specs.SinceReset.{switched, done_code, is_code, inhibited_now, off_now, vector_set, vector_now, bit_set, bit_now, command_bits, recorded_by, last_now}
 use Rattle.bus_terminal.specs.Status.{no_parts, with_error_if, accepts, inhibited_after, reports_kept, spares, is_reset_cell, kept_by_start, start_first, adds_error, kept_now}
 
 -- what looking back over a noted history gives

@@ -1,8 +1,8 @@
 -- Worked rows: messages, and the status that they leave.
-use Rattle.std.specs.Prelude.{[], ◌∷◌, List, ℕ, replicate, false}
-use Rattle.bus_word.specs.declared.word.Bus.TheVariants.{A, B}
-use Rattle.bus_word.specs.declared.cell.Cell.TheVariants.{OwnReceive, OwnTransmit, BroadReceive, OwnMode, BroadMode}
-use Rattle.bus_terminal.specs.declared.event.Event.TheVariants.{Noise, Gap, Flag as FlagIs}
+use Rattle.std.specs.Prelude.{[], ◌∷◌, replicate, false}
+use Rattle.bus_word.specs.declared.word.Bus.TheVariants.{A}
+use Rattle.bus_word.specs.declared.cell.Cell.TheVariants.{OwnReceive, OwnTransmit}
+use Rattle.bus_terminal.specs.declared.event.Event.TheVariants.{Noise}
 use Rattle.bus_terminal.specs.Out.{HandsReceived}
 use Rattle.bus_terminal.specs.Rows.Words.{five, five_hearing_all, command, data_word, invalid, quiet, gap, gap_sends, gap_sends_and_hands, Answers}
 

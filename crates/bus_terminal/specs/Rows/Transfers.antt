@@ -1,7 +1,7 @@
 -- Worked rows: transfers between two terminals, and the second bus.
-use Rattle.std.specs.Prelude.{[], ◌∷◌, List, ℕ, true, false}
+use Rattle.std.specs.Prelude.{[], ◌∷◌, true, false}
 use Rattle.bus_word.specs.declared.word.Bus.TheVariants.{A, B}
-use Rattle.bus_word.specs.declared.cell.Cell.TheVariants.{OwnReceive, OwnTransmit, BroadReceive, OwnMode, BroadMode}
+use Rattle.bus_word.specs.declared.cell.Cell.TheVariants.{OwnReceive, OwnTransmit, BroadReceive}
 use Rattle.bus_terminal.specs.declared.event.Event.TheVariants.{Noise}
 use Rattle.bus_terminal.specs.Out.{HandsReceived}
 use Rattle.bus_terminal.specs.Rows.Words.{five, five_hearing_all, command, data_word, invalid, quiet, gap, gap_sends, gap_hands, gap_sends_and_hands, Answers}

@@ -1,4 +1,4 @@
-use Rattle.std.proofs.Common.{◌≤◌, ◌-◌, length, get_or, take, ap, sym, ◌∙◌, arith}
+use Rattle.std.proofs.Common.{◌≤◌, ◌-◌, length, get_or, ap, ◌∙◌, arith}
 use Rattle.bus_terminal.specs.Out.{words_from}
 use Rattle.bus_terminal.proofs.HeldLaw.{words_from-row, place_count}
 use Rattle.bus_terminal.proofs.terminal.Terminal.held_words.Goals as goal
