@@ -1,6 +1,7 @@
 //! Tests through `step`: the worked rows, each mode code, and what takes long.
 
 mod legality;
+mod random;
 mod rows;
 mod table;
 
@@ -360,45 +361,23 @@ fn thirty_three_words(rt: HostRuntime) {
     assert!(rt; is_said(&asked, &status(0x2c00)));
 }
 
-/// The next number of a sequence that looks random.
-fn next(seed: u32) -> u32 {
-    seed.wrapping_mul(1_664_525).wrapping_add(1_013_904_223)
-}
-
-/// An event that depends on all bits of two numbers.
-fn random_event(kind: u32, bits: u16) -> Event {
-    let bus = if kind & 0x100 == 0 { Bus::A } else { Bus::B };
-    match (kind >> 16) % 16 {
-        0..=4 => command(bus, (bits & 0x07ff) | 0x2800),
-        5..=8 => Event::Word(bus, Raw::of(Kind::Dat, bits)),
-        9 => command(bus, bits),
-        10 => Event::Word(
-            bus,
-            Raw {
-                kind: Kind::Com,
-                bits,
-                parity: kind & 0x200 == 0,
-            },
-        ),
-        11 => Event::Noise(bus),
-        12 => Event::Vector(bits),
-        13 => Event::Flag(Flag::Busy, kind & 0x400 == 0),
-        _ => Event::Gap(bus),
-    }
-}
-
+/// The digests are those of `model/rules.py`, which is written apart from the program.
 #[test]
-fn random_events(rt: HostRuntime) {
-    let mut terminal = terminal_of(&EQUIPPED, Every(true));
-    let mut seed = 1553;
-    let mut answered: u32 = 0;
-    for _ in 0..10_000 {
-        let kind = next(seed);
-        seed = next(kind);
-        let answer = terminal.step(random_event(kind, (seed >> 16) as u16));
-        if answer.sent.is_some() && answered < 10_000 {
-            answered += 1;
-        }
-    }
-    assert!(rt; answered > 0);
+fn random_messages(rt: HostRuntime) {
+    assert_eq!(rt;
+        random::digest_of(terminal_of(&EQUIPPED, Every(true))),
+        0x4cb1_b80e
+    );
+    let some = Also {
+        first: Cell::OwnMode(18),
+        second: Cell::OwnMode(6),
+    };
+    assert_eq!(rt;
+        random::digest_of(terminal_of(&EQUIPPED, some)),
+        0x9b2d_dfab
+    );
+    assert_eq!(rt;
+        random::digest_of(terminal_of(&EQUIPPED, Every(false))),
+        0x4df0_7b2d
+    );
 }
