@@ -1,6 +1,6 @@
 //! Messages that look random, a few of whose events are lost or preceded by noise, and a digest of what is
 //! answered to them.
-ghost use Rattle.std.specs.Prelude.{◌<◌, ◌^◌};
+ghost use Rattle.std.specs.Prelude.{◌<◌};
 
 use crate::{Answer, Event, Flag, Hand, Terminal, WordPlace};
 use bus_legal::Legality;
@@ -32,12 +32,7 @@ impl<L: Legality> Run<L> {
         requires { 0 < below }
         ensures { result < below }
     {
-        self.seed = self
-            .seed
-            .wrapping_mul(1_664_525)
-            .wrapping_add(1_013_904_223);
-        let drawn = (self.seed >> 16) as u16;
-        drawn % below
+        self.word() % below
     }
 
     fn mix(&mut self, value: u16) {
