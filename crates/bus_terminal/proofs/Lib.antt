@@ -1,0 +1,11 @@
+pub mod HeldLaw
+pub mod OpenLaw
+pub mod KeptLaw
+pub mod BackLaw
+pub mod RegistersLaw
+pub mod CollectedLaw
+pub mod CellLaw
+pub mod StandsLaw
+pub mod AnswerLaw
+pub mod LatestLaw
+pub mod ExchangeLaw

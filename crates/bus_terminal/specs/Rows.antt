@@ -1,0 +1,5 @@
+-- Worked rows.
+pub mod Words
+pub mod Messages
+pub mod Transfers
+pub mod Modes

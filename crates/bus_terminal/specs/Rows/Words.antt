@@ -1,0 +1,95 @@
+-- Words in which the worked rows are written.
+use Rattle.std.specs.Prelude.{◌≡◌, ℕ, Bool, true, false, not, ◌&&◌, ◌||◌, ◌==◌, Option, Some, None, List, [], ◌∷◌}
+use Rattle.bus_word.specs.declared.word.Kind.TheVariants.{Com, Dat}
+use Rattle.bus_word.specs.declared.word.Bus.{Bus}
+use Rattle.bus_word.specs.declared.cell.Cell.{Cell}
+use Rattle.bus_word.specs.declared.cell.Cell.TheVariants.{OwnReceive, OwnTransmit, BroadReceive, OwnMode, BroadMode}
+use Rattle.bus_word.specs.Word.{valid_word}
+use Rattle.bus_word.specs.Mode.{is_required_code}
+use Rattle.bus_legal.specs.Description.{Description}
+use Rattle.bus_terminal.specs.declared.event.Event.{Event}
+use Rattle.bus_terminal.specs.declared.event.Event.TheVariants.{Word, Gap, Write}
+use Rattle.bus_terminal.specs.Out.{Handing, Sending, Out, silence, outs}
+
+abbrev pub same_cell : Cell → Cell → Bool
+same_cell (OwnReceive s n) (OwnReceive t m) = (s == t) && (n == m)
+same_cell (OwnTransmit s n) (OwnTransmit t m) = (s == t) && (n == m)
+same_cell (BroadReceive s n) (BroadReceive t m) = (s == t) && (n == m)
+same_cell (OwnMode c) (OwnMode d) = c == d
+same_cell (BroadMode c) (BroadMode d) = c == d
+same_cell _ _ = false
+
+-- the mode codes that are always legal, and these cells
+abbrev pub legal_also : List Cell → Cell → Bool
+legal_also [] (OwnMode code) = is_required_code code
+legal_also [] _ = false
+legal_also (c ∷ cs) cell = same_cell c cell || legal_also cs cell
+
+-- address 5 with wraparound, nothing else set up, and these cells legal
+abbrev pub five : List Cell → Description
+five cells = record {
+  address = 5;
+  broadcast = false;
+  wrap = true;
+  accept = false;
+  vector = 0;
+  bit = 0;
+  initial = λ s i. 0;
+  legal = legal_also cells;
+}
+
+-- the same with the broadcast option
+abbrev pub five_hearing_all : List Cell → Description
+five_hearing_all cells = record (five cells) { broadcast = true }
+
+abbrev pub command : Bus → ℕ → Event
+command b bits = Word b (valid_word Com bits)
+
+abbrev pub data_word : Bus → ℕ → Event
+data_word b bits = Word b (valid_word Dat bits)
+
+-- a word of command sync whose parity is wrong
+abbrev pub invalid : Bus → ℕ → Event
+invalid b bits = Word b (record (valid_word Com bits) { parity = not (valid_word Com bits).parity })
+
+-- the subsystem writes word i of subaddress s
+abbrev pub write : ℕ → ℕ → ℕ → Event
+write s i v = Write (record { subaddress = s; number = i }) v
+
+-- one line of a row: an event, and what answers it
+pub record Step : Type 0 where
+  pub event : Event
+  pub answer : Out
+
+abbrev pub quiet : Event → Step
+quiet e = record { event = e; answer = silence }
+
+abbrev pub gap : Bus → Step
+gap b = quiet (Gap b)
+
+abbrev pub sending : Bus → ℕ → List ℕ → Option Sending
+sending b status words = Some (record { bus = b; status = status; words = words })
+
+-- a gap, at which a status and words are sent
+abbrev pub gap_sends : Bus → ℕ → List ℕ → Step
+gap_sends b status words = record { event = Gap b; answer = record { sent = sending b status words; hand = None } }
+
+-- a gap, at which something is handed over
+abbrev pub gap_hands : Bus → Handing → Step
+gap_hands b handing = record { event = Gap b; answer = record { sent = None; hand = Some handing } }
+
+-- a gap, at which a status is sent and something is handed over
+abbrev pub gap_sends_and_hands : Bus → ℕ → Handing → Step
+gap_sends_and_hands b status handing = record { event = Gap b; answer = record { sent = sending b status []; hand = Some handing } }
+
+abbrev pub events_of : List Step → List Event
+events_of [] = []
+events_of (s ∷ steps) = s.event ∷ events_of steps
+
+abbrev pub answers_of : List Step → List Out
+answers_of [] = []
+answers_of (s ∷ steps) = s.answer ∷ answers_of steps
+
+-- a terminal of this description answers these events, from power-up, just so
+abbrev pub Answers : Description → List Step → Type 0
+Answers P steps = outs P (events_of steps) ≡ answers_of steps

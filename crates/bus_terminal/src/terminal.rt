@@ -1,0 +1,256 @@
+//! The remote terminal.
+
+mod reply;
+
+use crate::answer::Answer;
+use crate::buses::OnBuses;
+use crate::ended::{Ended, reports_kept, verdict_of};
+use crate::event::{Event, WordPlace};
+use crate::held::HeldWords;
+use crate::message::{GapEnd, InProgress};
+use crate::registers::Registers;
+use bus_legal::{Legality, Setup};
+use bus_word::{Bus, Command, Raw, StatusParts, cell_of};
+
+/// A remote terminal, with its set-up and what answers whether a cell is legal. It stores no history: it
+/// keeps what of its history still matters.
+#[derive(Drop)]
+pub struct Terminal<L> {
+    setup: Setup,
+    legality: L,
+    /// On which buses the run holds a word for the terminal.
+    heard: OnBuses,
+    in_progress: InProgress,
+    registers: Registers,
+    held: HeldWords,
+}
+
+impl<L: Legality> Terminal<L> {
+    ghost use Rattle.std.specs.Prelude.{◌≡◌, true, ℕ, List, [], ◌∷◌, if◌then◌else◌};
+    ghost use Rattle.bus_word.specs.declared.word.Bus.{Bus};
+    ghost use Rattle.bus_legal.specs.Description.{Description, described};
+    ghost use Rattle.bus_terminal.specs.declared.event.Event.{Event};
+    ghost use Rattle.bus_terminal.specs.Ends.{well};
+    ghost use Rattle.bus_terminal.specs.Status.{spares, adds_error};
+    ghost use Rattle.bus_terminal.specs.Out.{out};
+    ghost use Rattle.bus_terminal.specs.Buses.{same_bus};
+    ghost use Rattle.bus_terminal.specs.Machine.Standing.{gap_ends, starts_by, Collects, Words, Idle};
+    ghost use Rattle.bus_terminal.specs.Machine.Message.{standing_on};
+    ghost use Rattle.bus_terminal.specs.Machine.Ended.{ending_of};
+    ghost use Rattle.bus_terminal.specs.Machine.Registers.{status_from, failed_by, started};
+    ghost use Rattle.bus_terminal.specs.Machine.Buses.{on_bus};
+    ghost use Rattle.bus_terminal.specs.Answer.{shown_answer, IsSmall};
+    ghost use Rattle.bus_terminal.specs.Stands.{StandsAt, description_of, held_word};
+    ghost use Rattle.bus_terminal.specs.Machine.Terminal.{answer_from, is_possible, heard_after_word, ends_at_gap, IsSameSetup, TakesWord, TakesNoise, TakesGap, TakesWrite};
+
+    /// The terminal at power-up.
+    pub fn power_up(setup: Setup, legality: L) -> Terminal<L>
+        ensures { StandsAt L.is_legal (described setup (L.is_legal legality)) [] result }
+    {
+        Terminal {
+            registers: Registers::at_power_up(setup.vector, setup.bit),
+            setup,
+            legality,
+            heard: OnBuses::NONE,
+            in_progress: InProgress::none(),
+            held: HeldWords::at_power_up(),
+        }
+    }
+
+    /// Takes one event, and answers it. Sent words and handed words never come together.
+    pub fn step(&mut self, event: Event) -> Answer
+        ensures answer { (P : Description) (h : List Event) → StandsAt L.is_legal P h self.old → shown_answer result ≡ out P h event }
+        ensures stands { (P : Description) (h : List Event) → StandsAt L.is_legal P h self.old → StandsAt L.is_legal P (event ∷ h) self.new }
+        ensures small { IsSmall (shown_answer result) }
+    {
+        match event {
+            Event::Word(bus, word) => {
+                self.take_word(bus, word);
+                Answer::silence()
+            }
+            Event::Noise(bus) => {
+                self.take_noise(bus);
+                Answer::silence()
+            }
+            Event::Gap(bus) => self.take_gap(bus),
+            Event::Write(place, value) => {
+                self.write(place, value);
+                Answer::silence()
+            }
+            Event::Vector(word) => {
+                self.registers.vector = word;
+                Answer::silence()
+            }
+            Event::Bit(word) => {
+                self.registers.bit = word;
+                Answer::silence()
+            }
+            Event::Flag(flag, value) => {
+                self.registers.flags.set(flag, value);
+                Answer::silence()
+            }
+        }
+    }
+
+    /// The subsystem writes a word that is held ready.
+    fn write(&mut self, place: WordPlace, value: u16)
+        ensures { TakesWrite L.is_legal place value self.old self.new }
+    {
+        self.held.write(
+            &self.setup.initial,
+            place.subaddress(),
+            place.number(),
+            value,
+        );
+    }
+
+    /// Whether a command is a legal own mode code 2 or 18, which spares the kept status.
+    fn spares(&self, command: Command) -> bool
+        ensures { result ≡ spares (description_of L.is_legal self.now) command }
+    {
+        match cell_of(command) {
+            Some(cell) => reports_kept(cell) && self.legality.legal(cell),
+            None => false,
+        }
+    }
+
+    /// How a message ends that has the words that its command expects.
+    fn verdict(&self, command: Command) -> Ended
+        ensures ending { (ds : List ℕ) → ending_of result ds ≡ well (description_of L.is_legal self.now) self.now.registers.flags.busy command ds }
+        ensures possible { (ds : List ℕ) → is_possible (ending_of result ds) ≡ true }
+    {
+        match cell_of(command) {
+            Some(cell) => {
+                let is_legal = self.legality.legal(cell);
+                verdict_of(command, cell, is_legal, self.registers.flags.busy)
+            }
+            None => Ended::Illegal(command),
+        }
+    }
+
+    /// How a gap on this bus ends the message in progress.
+    fn end_at_gap(&self, bus: Bus) -> Ended
+        ensures ending { ending_of result self.now.in_progress.words.items ≡ gap_ends (description_of L.is_legal self.now) self.now.registers.flags.busy (standing_on bus self.now.in_progress) }
+        ensures possible { is_possible (ending_of result self.now.in_progress.words.items) ≡ true }
+    {
+        match self.in_progress.end_at_gap(bus) {
+            GapEnd::Whole(command) => self.verdict(command),
+            GapEnd::Error(command) => Ended::Badly(command),
+            GapEnd::Nothing => Ended::Nothing,
+        }
+    }
+
+    /// Whether a word for the terminal starts a message.
+    fn starts(&self, bus: Bus, word: Raw) -> bool
+        ensures { result ≡ starts_by (description_of L.is_legal self.now) word (on_bus bus self.now.heard) (standing_on bus self.now.in_progress) }
+    {
+        let command = Command::of(word.bits);
+        word.is_for(self.setup.address, self.setup.broadcast)
+            && ((!self.heard.on(bus) && self.in_progress.is_free(bus))
+                || (self.in_progress.is_fresh_broadcast(bus)
+                    && command.transmit()
+                    && command.address() == self.setup.address))
+    }
+
+    /// Whether a message that ended in error spares the kept status.
+    fn fails_sparing(&self, ended: &Ended) -> bool
+        ensures { (ds : List ℕ) → result ≡ adds_error (description_of L.is_legal self.now) (ending_of ended.now ds) }
+    {
+        match ended {
+            Ended::Badly(command) => self.spares(*command),
+            Ended::Nothing => false,
+            Ended::Illegal(_) => false,
+            Ended::Blocked(_, _) => false,
+            Ended::Done(_, _) => false,
+        }
+    }
+
+    /// A gap on this bus ended a message so, with this status, or ended none.
+    fn settle(&mut self, bus: Bus, ended: &Ended, status: Option<StatusParts>)
+        requires { (ds : List ℕ) → status ≡ status_from self.old.setup.accept self.old.registers (ending_of ended.now ds) }
+        ensures { TakesGap L.is_legal bus (ending_of ended.now self.old.in_progress.words.items) self.old self.new }
+    {
+        let spares = self.fails_sparing(ended);
+        self.registers.settle(
+            bus,
+            ended,
+            status,
+            spares,
+            self.setup.vector,
+            self.setup.bit,
+        );
+        self.held.settle(
+            &self.setup.initial,
+            self.setup.wrap,
+            ended,
+            self.in_progress.words.as_slice(),
+        );
+        self.heard.set(bus, false);
+        self.in_progress.gap(bus);
+    }
+
+    fn take_gap(&mut self, bus: Bus) -> Answer
+        ensures answer { shown_answer result ≡ answer_from (description_of L.is_legal self.old) self.old.registers (held_word self.old) bus (ends_at_gap L.is_legal self.old bus) }
+        ensures small { IsSmall (shown_answer result) }
+        ensures possible { is_possible (ends_at_gap L.is_legal self.old bus) ≡ true }
+        ensures takes { TakesGap L.is_legal bus (ends_at_gap L.is_legal self.old bus) self.old self.new }
+    {
+        let ended = self.end_at_gap(bus);
+        let status = self.registers.status_for(&ended, self.setup.accept);
+        let answer = self.answer(bus, &ended, status);
+        self.settle(bus, &ended, status);
+        answer
+    }
+
+    /// A transfer that waits on this bus ended in error.
+    fn fail(&mut self, failed: Option<Command>)
+        ensures { self.new ≡ record self.old { registers = failed_by (description_of L.is_legal self.old) failed self.old.registers } }
+    {
+        if let Some(command) = failed {
+            let spares = self.spares(command);
+            self.registers.fail(command, spares);
+        }
+    }
+
+    fn take_noise(&mut self, bus: Bus)
+        ensures { TakesNoise L.is_legal bus self.old self.new }
+    {
+        let failed = self.in_progress.failed_by(bus, None);
+        self.fail(failed);
+        self.in_progress.follow(bus, self.setup.address, None);
+    }
+
+    fn take_word(&mut self, bus: Bus, word: Raw)
+        ensures { TakesWord L.is_legal bus word self.old self.new }
+    {
+        let starts = self.starts(bus, word);
+        let failed = self.in_progress.failed_by(bus, Some(word));
+        self.fail(failed);
+        self.hear(bus, word);
+        if starts {
+            self.start(bus, Command::of(word.bits));
+        } else {
+            self.in_progress.follow(bus, self.setup.address, Some(word));
+        }
+    }
+
+    fn hear(&mut self, bus: Bus, word: Raw)
+        ensures { self.new ≡ record self.old { heard = heard_after_word (description_of L.is_legal self.old) bus word self.old.heard } }
+    {
+        if word.is_for(self.setup.address, self.setup.broadcast) {
+            self.heard.set(bus, true);
+        }
+    }
+
+    fn start(&mut self, bus: Bus, command: Command)
+        ensures setup { IsSameSetup L.is_legal self.old self.new }
+        ensures heard { self.new.heard ≡ self.old.heard }
+        ensures standing { (b : Bus) → standing_on b self.new.in_progress ≡ (if same_bus b bus then Collects command (Words []) else Idle) }
+        ensures registers { self.new.registers ≡ started (spares (description_of L.is_legal self.old) command) command self.old.registers }
+        ensures held { self.new.held ≡ self.old.held }
+    {
+        self.in_progress.start(bus, command);
+        let spares = self.spares(command);
+        self.registers.start(command, spares);
+    }
+}
