@@ -8,6 +8,7 @@ use crate::{
 use arrayvec::ArrayVec;
 use bus_profile::{Key, Part, ProfileFault};
 use std::alloc::{AllocError, Global};
+use std::process::Abort;
 
 mod canonical;
 
@@ -253,55 +254,49 @@ fn what_is_held_back_is_handed_on(rt: HostRuntime) {
     }
 }
 
+/// The status and the text of a fault.
+fn is_told(rt: &impl Abort, fault: EngineFault, status: u8, text: &str) {
+    let (given, line) = describe(&fault);
+    assert_eq!(rt; given, status, "{text}");
+    assert_eq!(rt; line.as_str(), text);
+}
+
 #[test]
-fn faults_are_told(rt: HostRuntime) {
-    let address = ProfileFault::Missing(Part::Root, Key::Address);
-    let rows: [(EngineFault, u8, &str); 9] = [
+fn faults_of_a_profile_are_told(rt: HostRuntime) {
+    let missing = ProfileFault::Missing(Part::Root, Key::Address);
+    let rows: [(LoadFault, u8, &str); 4] = [
         (
-            EngineFault::Load(LoadFault::Profile(address)),
+            LoadFault::Profile(missing),
             2,
             "profile: root: address is missing\n",
         ),
         (
-            EngineFault::Load(LoadFault::Canon(CanonFault::Line(64))),
+            LoadFault::Canon(CanonFault::Line(64)),
             2,
             "canonical text: line 64\n",
         ),
         (
-            EngineFault::Load(LoadFault::Canon(CanonFault::Trailing)),
+            LoadFault::Canon(CanonFault::Trailing),
             2,
             "canonical text: bytes after the end\n",
         ),
-        (EngineFault::Load(LoadFault::Memory), 4, "out of memory\n"),
-        (
-            EngineFault::Script(RunFault::Line(3)),
-            2,
-            "script: line 3\n",
-        ),
-        (
-            EngineFault::Script(RunFault::LongLine(7)),
-            2,
-            "script: line 7 is too long\n",
-        ),
-        (
-            EngineFault::Script(RunFault::TooLong),
-            2,
-            "script: too many lines\n",
-        ),
-        (
-            EngineFault::Script(RunFault::Read),
-            4,
-            "input: read failed\n",
-        ),
-        (
-            EngineFault::Script(RunFault::Write),
-            4,
-            "output: write failed\n",
-        ),
+        (LoadFault::Memory, 4, "out of memory\n"),
     ];
     for (fault, status, text) in rows {
-        let (given, line) = describe(&fault);
-        assert_eq!(rt; given, status, "{text}");
-        assert_eq!(rt; line.as_str(), text);
+        is_told(&rt, EngineFault::Load(fault), status, text);
+    }
+}
+
+#[test]
+fn faults_of_a_run_are_told(rt: HostRuntime) {
+    let rows: [(RunFault, u8, &str); 5] = [
+        (RunFault::Line(3), 2, "script: line 3\n"),
+        (RunFault::LongLine(7), 2, "script: line 7 is too long\n"),
+        (RunFault::TooLong, 2, "script: too many lines\n"),
+        (RunFault::Read, 4, "input: read failed\n"),
+        (RunFault::Write, 4, "output: write failed\n"),
+    ];
+    for (fault, status, text) in rows {
+        is_told(&rt, EngineFault::Script(fault), status, text);
     }
 }

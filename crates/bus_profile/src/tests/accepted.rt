@@ -160,6 +160,55 @@ subaddress = 7
 words = []
 ";
 
+/// The rules of `WHOLE`.
+fn whole_rules() -> [Rule; 3] {
+    [
+        Rule {
+            own: true,
+            broadcast: false,
+            receive: true,
+            transmit: false,
+            subaddresses: 0x2000_0007,
+            counts: 0xffff_ffff,
+            legal: true,
+        },
+        Rule {
+            own: true,
+            broadcast: true,
+            receive: false,
+            transmit: true,
+            subaddresses: 0x8,
+            counts: 0xffff_fffd,
+            legal: false,
+        },
+        Rule {
+            own: false,
+            broadcast: true,
+            receive: true,
+            transmit: true,
+            subaddresses: 0x3fff_ffff,
+            counts: 0x8000_0000,
+            legal: true,
+        },
+    ]
+}
+
+/// The mode entries of `WHOLE`.
+const WHOLE_MODES: [ModeRule; 2] = [
+    ModeRule {
+        own: true,
+        broadcast: false,
+        codes: 0x000f_01ff,
+        legal: true,
+    },
+    ModeRule {
+        own: false,
+        broadcast: true,
+        codes: 0x2,
+        legal: false,
+    },
+];
+
 #[test]
 fn whole_profile(rt: HostRuntime) -> Result<(), Fail> {
     let profile = read_profile(rt.alloc(), WHOLE)?;
@@ -167,57 +216,8 @@ fn whole_profile(rt: HostRuntime) -> Result<(), Fail> {
     assert!(rt; profile.broadcast && !profile.wrap && profile.accept);
     assert_eq!(rt; profile.vector, 0xaa);
     assert_eq!(rt; profile.bit, 0xffff);
-    assert_eq!(rt;
-        profile.rules.as_slice(),
-        [
-            Rule {
-                own: true,
-                broadcast: false,
-                receive: true,
-                transmit: false,
-                subaddresses: 0x2000_0007,
-                counts: 0xffff_ffff,
-                legal: true
-            },
-            Rule {
-                own: true,
-                broadcast: true,
-                receive: false,
-                transmit: true,
-                subaddresses: 0x8,
-                counts: 0xffff_fffd,
-                legal: false
-            },
-            Rule {
-                own: false,
-                broadcast: true,
-                receive: true,
-                transmit: true,
-                subaddresses: 0x3fff_ffff,
-                counts: 0x8000_0000,
-                legal: true
-            },
-        ]
-        .as_slice()
-    );
-    assert_eq!(rt;
-        profile.modes.as_slice(),
-        [
-            ModeRule {
-                own: true,
-                broadcast: false,
-                codes: 0x000f_01ff,
-                legal: true
-            },
-            ModeRule {
-                own: false,
-                broadcast: true,
-                codes: 0x2,
-                legal: false
-            },
-        ]
-        .as_slice()
-    );
+    assert_eq!(rt; profile.rules.as_slice(), whole_rules().as_slice());
+    assert_eq!(rt; profile.modes.as_slice(), WHOLE_MODES.as_slice());
     assert_eq!(rt; profile.initials.as_slice().len(), 2);
     let [first, second] = profile.initials.as_slice() else {
         return Ok(());
