@@ -100,7 +100,7 @@ call_growths() {
         fi
         while IFS= read -r line <&3 && IFS= read -r want <&4; do
             case $line in
-                "$want" | 'load Memory' | 'canonical Memory' | 'compare Memory' | 'run Err(Load(Memory)) 0') ;;
+                "$want" | 'load Memory' | 'canonical Memory' | 'compare Memory' | 'run Err(Load(Memory)) 0' | 'read_profile Memory') ;;
                 *) count "each call, growth $number refused: $line" 1; return ;;
             esac
         done 3<"$work/stdout" 4<"$work/ample"

@@ -1,8 +1,9 @@
-//! Makes each public call of `rt1553` that is given a text once, and prints what it answered, a line a
-//! call. The sweep of refused growths runs it: with one growth of memory refused, just one line may say
+//! Makes each public call that is given a text once, of `rt1553` and of `bus_profile`, and prints what it
+//! answered, a line a call. The sweep of refused growths runs it: with one growth of memory refused, just one line may say
 //! `Memory` in place of its answer.
 #![tactic(auto)]
 
+use bus_profile::read_profile;
 use rt1553::{LoadFault, MemorySink, MemorySource, Verdict, canonical, compare, load, run};
 use std::alloc::Global;
 use std::io;
@@ -12,6 +13,36 @@ const FIVE: &[u8] = b"address = 5\n";
 const SIX: &[u8] = b"address = 6\n";
 
 const SCRIPT: &[u8] = b"A c 2c02\nA gap\n";
+
+/// A profile with entries of each array.
+const WHOLE: &[u8] = b"address = 7
+[[rule]]
+direction = \"both\"
+subaddresses = \"1-3, 30\"
+[[rule]]
+direction = \"receive\"
+subaddresses = 3
+legal = false
+[[mode]]
+codes = \"1, 16\"
+[[initial]]
+subaddress = 1
+words = [1, 2, 3]
+[[initial]]
+subaddress = 2
+at = 32
+words = [4]
+";
+
+/// A profile whose first fault is in its last entry.
+const REFUSED: &[u8] = b"address = 7
+[[rule]]
+direction = \"both\"
+subaddresses = 1
+[[initial]]
+subaddress = 1
+words = [1, 65536]
+";
 
 fn loads(rt: &impl Print, alloc: Global, text: &[u8]) -> io::Result<()> {
     match load(alloc, text) {
@@ -53,6 +84,18 @@ fn runs(rt: &impl Print, alloc: Global, text: &[u8]) -> io::Result<()> {
     println!(rt; "run {answer:?} {written}")
 }
 
+fn reads(rt: &impl Print, alloc: Global, text: &[u8]) -> io::Result<()> {
+    match read_profile(alloc, text) {
+        Ok(profile) => {
+            let rules = profile.rules.as_slice().len();
+            let modes = profile.modes.as_slice().len();
+            let initials = profile.initials.as_slice().len();
+            println!(rt; "read_profile {rules} {modes} {initials}")
+        }
+        Err(fault) => println!(rt; "read_profile {fault:?}"),
+    }
+}
+
 /// The calls on canonical texts, which take no memory: none of these lines may say `Memory`.
 fn on_canonical_text(rt: &impl Print, alloc: Global, text: &[u8]) -> io::Result<()> {
     print!(rt; "on canonical text: ")?;
@@ -70,6 +113,8 @@ fn main(rt: HostRuntime) -> io::Result<()> {
     compares(&rt, alloc, FIVE, SIX)?;
     compares(&rt, alloc, FIVE, b"address = 0x05")?;
     runs(&rt, alloc, FIVE)?;
+    reads(&rt, alloc, WHOLE)?;
+    reads(&rt, alloc, REFUSED)?;
     match canonical(alloc, FIVE) {
         Ok(text) => on_canonical_text(&rt, alloc, text.as_slice()),
         Err(fault) => println!(rt; "canonical {fault:?}"),
