@@ -32,8 +32,8 @@ words_handed (Some (HandsReceived broadcast subaddress words)) = words
 words_handed (Some (HandsSynchronizeWith word)) = word ∷ []
 words_handed _ = []
 
--- an answer sends or hands over at most 32 data words, and never both
+-- an answer sends or hands over at most 32 data words, and where it sends some it hands nothing over
 pub record IsSmall (o : Out) : Type 0 where
   pub few_sent : length (words_sent o.sent) ≤ 32
   pub few_handed : length (words_handed o.hand) ≤ 32
-  pub apart : (words_sent o.sent ≡ []) ⊎ (words_handed o.hand ≡ [])
+  pub apart : (words_sent o.sent ≡ []) ⊎ (o.hand ≡ None)
