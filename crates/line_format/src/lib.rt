@@ -9,5 +9,5 @@ mod tests;
 mod write;
 
 pub use lines::{Lines, WrongLine};
-pub use read::{field, name_line, number_line_of, number_of, numbered_line_of};
+pub use read::{after, field, name_line, number_line_of, number_of, numbered_line_of};
 pub use write::{put_digits, put_name_line, put_number_line, put_numbered_line};

@@ -6,8 +6,8 @@ ghost use Rattle.line_format.specs.Views.{Gives, spot};
 
 use crate::lines::{Lines, WrongLine};
 
-/// What comes after this text.
-fn after<'a>(bytes: &'a [u8], text: &[u8]) -> Option<&'a [u8]>
+/// What comes after this text, where it stands first.
+pub fn after<'a>(bytes: &'a [u8], text: &[u8]) -> Option<&'a [u8]>
     ensures value { option_map (λ r. r.now) result ≡ after text.now bytes.now }
     ensures shorter { IfSome result (λ r. length r.now + length text.now ≤ length bytes.now) }
 {

@@ -1,0 +1,100 @@
+-- Laws of a chunk: its lines are played, one after another.
+use Rattle.std.proofs.Common.{ℕ, ◌≡◌, ◌≤◌, ◌+◌, ◌-◌, List, [], ◌∷◌, ◌++◌, length, take, drop, length-append, sym, arith, append-nil, take-append-drop, subst, Option}
+use Rattle.std.proofs.lemmas.Grind.{common_steps}
+use Rattle.std.proofs.Math.Seq.{take-add}
+use Rattle.bus_terminal.specs.declared.event.Event.{Event}
+use Rattle.bus_script.specs.declared.fault.RunFault.{RunFault}
+use Rattle.bus_script.specs.declared.fault.RunFault.TheVariants.{Line, LongLine, TooLong, Read, Write}
+use Rattle.bus_script.specs.Reading.{Meaning, ByFault}
+use Rattle.bus_script.specs.Playing.{Reads, Faults, Plays, PlaysPart, Means, IsRefused, StartsLine, Feeding}
+use Rattle.bus_script.proofs.ReadingLaws.{Reads-nil, Reads-trans, Reads-Faults, Reads-line, Faults-line}
+use Rattle.bus_script.proofs.PlayLaws.{Plays-nil, Plays-trans, Plays-part}
+
+pub ByFault-weaker : {S R W S' R' W' : Type 0} (f : RunFault) → (S → S') → (R → R') → (W → W') → ByFault f S R W → ByFault f S' R' W'
+ByFault-weaker (Line n) s r w x = s x
+ByFault-weaker (LongLine n) s r w x = s x
+ByFault-weaker TooLong s r w x = s x
+ByFault-weaker Read s r w x = r x
+ByFault-weaker Write s r w x = w x
+
+pub Reads-first : (meaning : Meaning) (n : ℕ) (rest : List ℕ) (i : ℕ) (es : List Event) → StartsLine n rest i → Means meaning (take i rest) n es
+    → Reads meaning n (take (i + 1) rest) es (n + 1)
+Reads-first meaning n rest i es s means =
+    let short : length (take i rest) ≤ 64 = grind (arith, common_steps, s.short) in
+    subst (λ xs. Reads meaning n xs es (n + 1)) (sym s.front) (Reads-line meaning n (take i rest) es s.room short s.none means)
+
+pub Faults-first : (meaning : Meaning) (n : ℕ) (rest : List ℕ) (i : ℕ) (f : RunFault) → StartsLine n rest i → IsRefused meaning (take i rest) n f
+    → Faults meaning n rest [] f
+Faults-first meaning n rest i f s refused =
+    let short : length (take i rest) ≤ 64 = grind (arith, common_steps, s.short) in
+    subst (λ xs. Faults meaning n xs [] f) (sym s.splits) (Faults-line meaning n (take i rest) (drop (i + 1) rest) f s.room short s.none refused)
+
+pub Feeding-nil : {D M W : Type 0} (meaning : Meaning) (stands : D → List Event → M → Type 0) (out : D → List Event → Event → List ℕ)
+    (written : W → Option (List ℕ)) (m : M) (w : W) (lines events : ℕ) (chunk : List ℕ) → lines ≤ 1048576 → events ≤ lines
+    → Feeding meaning stands out written m m w w lines events lines events chunk 0 []
+Feeding-nil meaning stands out written m w lines events chunk most few = record {
+  within = omega arith;
+  reads = Reads-nil meaning lines;
+  count = omega arith;
+  long = omega arith;
+  most = most;
+  few = few;
+  plays = Plays-nil stands out written m w;
+}
+
+-- one more line
+pub Feeding-line : {D M W : Type 0} {meaning : Meaning} {stands : D → List Event → M → Type 0} {out : D → List Event → Event → List ℕ}
+    {written : W → Option (List ℕ)} {m m' m'' : M} {w w' w'' : W} {lines events lines' events' : ℕ} {chunk : List ℕ} {at : ℕ} {es : List Event} (i : ℕ) (fs : List Event) (n : ℕ)
+    → Feeding meaning stands out written m m' w w' lines events lines' events' chunk at es
+    → StartsLine lines' (drop at chunk) i → length fs ≡ n → n ≤ 1 → Means meaning (take i (drop at chunk)) lines' fs
+    → Plays stands out written m' m'' w' w'' fs
+    → Feeding meaning stands out written m m'' w w'' lines events (lines' + 1) (events' + n) chunk (at + (i + 1)) (es ++ fs)
+Feeding-line {meaning = meaning} {lines = lines} {events = events} {lines' = lines'} {events' = events'} {chunk = chunk} {at = at} {es = es} i fs n p s len one means q =
+    let room = s.room in let short = s.short in let within = s.within in let count = p.count in let long = p.long in let few = p.few in let inside = p.within in record {
+      within = grind (arith, common_steps);
+      reads = subst (λ xs. Reads meaning lines xs (es ++ fs) (lines' + 1)) (sym (take-add at (i + 1) chunk))
+          (Reads-trans p.reads (Reads-first meaning lines' (drop at chunk) i fs s means));
+      count = omega (arith, length-append es fs);
+      long = omega arith;
+      most = omega arith;
+      few = omega arith;
+      plays = Plays-trans p.plays q;
+    }
+
+-- a fault behind what was played
+pub Feeding-fault : {D M W : Type 0} {meaning : Meaning} {stands : D → List Event → M → Type 0} {out : D → List Event → Event → List ℕ}
+    {written : W → Option (List ℕ)} {m m' m'' : M} {w w' w'' : W} {lines events lines' events' : ℕ} {chunk : List ℕ} {at : ℕ} {es : List Event} (f : RunFault)
+    → Feeding meaning stands out written m m' w w' lines events lines' events' chunk at es
+    → Faults meaning lines' (drop at chunk) [] f → Plays stands out written m' m'' w' w'' []
+    → (gs : List Event) × Faults meaning lines chunk gs f × Plays stands out written m m'' w w'' gs
+Feeding-fault {meaning = meaning} {lines = lines} {chunk = chunk} {at = at} {es = es} f p q r = (
+  es ++ [],
+  subst (λ xs. Faults meaning lines xs (es ++ []) f) (take-append-drop at chunk) (Reads-Faults p.reads q),
+  Plays-trans p.plays r,
+)
+
+-- a write that fails behind what was played
+pub Feeding-part : {D M W : Type 0} {meaning : Meaning} {stands : D → List Event → M → Type 0} {out : D → List Event → Event → List ℕ}
+    {written : W → Option (List ℕ)} {m m' m'' : M} {w w' w'' : W} {lines events lines' events' : ℕ} {chunk : List ℕ} {at : ℕ} {es : List Event} (i : ℕ) (e : Event) (F : Type 0)
+    → Feeding meaning stands out written m m' w w' lines events lines' events' chunk at es
+    → StartsLine lines' (drop at chunk) i → Means meaning (take i (drop at chunk)) lines' (e ∷ []) → F → PlaysPart stands out written m' m'' w' w'' [] e
+    → (gs : List Event) × (e : Event) × (whole : List ℕ) × (rest : List ℕ) × (n : ℕ) × (chunk ≡ whole ++ rest)
+    × Reads meaning lines whole (gs ++ e ∷ []) n × F
+    × PlaysPart stands out written m m'' w w'' gs e
+Feeding-part {meaning = meaning} {lines = lines} {lines' = lines'} {chunk = chunk} {at = at} {es = es} i e F p s means f q = (
+  es ++ [],
+  e,
+  take (at + (i + 1)) chunk,
+  drop (at + (i + 1)) chunk,
+  lines' + 1,
+  sym (take-append-drop (at + (i + 1)) chunk),
+  subst (λ xs. Reads meaning lines (take (at + (i + 1)) chunk) (xs ++ e ∷ []) (lines' + 1)) (sym (append-nil es))
+      (subst (λ xs. Reads meaning lines xs (es ++ e ∷ []) (lines' + 1)) (sym (take-add at (i + 1) chunk))
+      (Reads-trans p.reads (Reads-first meaning lines' (drop at chunk) i (e ∷ []) s means))),
+  f,
+  Plays-part p.plays q,
+)
+
+-- the value of `&chunk[at..]`
+pub from_there : (at : ℕ) (chunk : List ℕ) → take (length chunk - at) (drop at chunk) ≡ drop at chunk
+from_there at chunk = grind (arith, common_steps)

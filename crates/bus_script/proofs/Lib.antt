@@ -1,0 +1,8 @@
+pub mod DigitLaws
+pub mod RoundTrip
+pub mod TranscriptLaws
+pub mod LineLaws
+pub mod ReadingLaws
+pub mod PlayLaws
+pub mod FeedLaws
+pub mod RunLaws

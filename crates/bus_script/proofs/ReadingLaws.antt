@@ -1,0 +1,96 @@
+-- Laws of what a script says, piece by piece.
+use Rattle.std.proofs.Common.{ℕ, ◌≡◌, ◌<◌, ◌≤◌, ◌+◌, List, [], ◌∷◌, ◌++◌, length, refl, sym, ap, ◌∙◌, arith, append_assoc}
+use Rattle.std.proofs.lemmas.Grind.{common_steps}
+use Rattle.std.proofs.lemmas.Bool.Decides.{nat_tests}
+use Rattle.bus_terminal.specs.declared.event.Event.{Event}
+use Rattle.bus_script.specs.declared.fault.RunFault.{RunFault}
+use Rattle.bus_script.specs.declared.fault.RunFault.TheVariants.{LongLine, TooLong}
+use Rattle.bus_script.specs.Text.{lines_of, NoLineFeed}
+use Rattle.bus_script.specs.Reading.{Meaning, Reading, adds, stops, then_reads, reading}
+use Rattle.bus_script.specs.Playing.{Reads, Faults, IsRefused}
+use Rattle.bus_script.proofs.LineLaws.{EndsLine-append, EndsLine-line, lines-line, lines-some, lines-front}
+
+pub adds-nil : (r : Reading) → adds [] r ≡ r
+adds-nil r = refl
+
+pub adds-adds : (es fs : List Event) (r : Reading) → adds es (adds fs r) ≡ adds (es ++ fs) r
+adds-adds es fs r = ap (λ xs. record { events = xs; fault = r.fault }) (sym (append_assoc es fs r.events))
+
+pub Reads-nil : (meaning : Meaning) (n : ℕ) → Reads meaning n [] [] n
+Reads-nil meaning n = record { ends = tt; each = λ rest. refl }
+
+pub Reads-trans : {meaning : Meaning} {n m k : ℕ} {whole more : List ℕ} {es fs : List Event}
+    → Reads meaning n whole es m → Reads meaning m more fs k → Reads meaning n (whole ++ more) (es ++ fs) k
+Reads-trans {meaning = meaning} {n = n} {m = m} {k = k} {whole = whole} {more = more} {es = es} {fs = fs} p q = record {
+  ends = EndsLine-append whole more p.ends q.ends;
+  each = λ rest. ap (λ xs. reading meaning n (lines_of xs)) (append_assoc whole more rest)
+      ∙ p.each (more ++ rest) ∙ ap (adds es) (q.each rest) ∙ adds-adds es fs (reading meaning k (lines_of rest));
+}
+
+pub Reads-Faults : {meaning : Meaning} {n m : ℕ} {whole more : List ℕ} {es fs : List Event} {f : RunFault}
+    → Reads meaning n whole es m → Faults meaning m more fs f → Faults meaning n (whole ++ more) (es ++ fs) f
+Reads-Faults {meaning = meaning} {n = n} {whole = whole} {more = more} {es = es} {fs = fs} {f = f} p q = record {
+  each = λ rest. ap (λ xs. reading meaning n (lines_of xs)) (append_assoc whole more rest)
+      ∙ p.each (more ++ rest) ∙ ap (adds es) (q.each rest) ∙ adds-adds es fs (stops f);
+}
+
+-- a line in its place and of its length
+pub reading-line : (meaning : Meaning) (n : ℕ) (line : List ℕ) (lines : List (List ℕ)) → n < 1048576 → length line ≤ 64
+    → reading meaning n (line ∷ lines) ≡ then_reads (meaning line) n (reading meaning (n + 1) lines)
+unfolding reading
+reading-line meaning n line lines a b = grind (arith, nat_tests)
+
+pub reading-too_long : (meaning : Meaning) (n : ℕ) (line : List ℕ) (lines : List (List ℕ)) → 1048576 ≤ n
+    → reading meaning n (line ∷ lines) ≡ stops TooLong
+unfolding reading
+reading-too_long meaning n line lines a = grind (arith, nat_tests)
+
+pub reading-long_line : (meaning : Meaning) (n : ℕ) (line : List ℕ) (lines : List (List ℕ)) → n < 1048576 → 64 < length line
+    → reading meaning n (line ∷ lines) ≡ stops (LongLine (n + 1))
+unfolding reading
+reading-long_line meaning n line lines a b = grind (arith, nat_tests)
+
+-- one whole line
+pub Reads-line : (meaning : Meaning) (n : ℕ) (line : List ℕ) (es : List Event) → n < 1048576 → length line ≤ 64 → NoLineFeed line
+    → ((r : Reading) → then_reads (meaning line) n r ≡ adds es r) → Reads meaning n (line ++ 10 ∷ []) es (n + 1)
+Reads-line meaning n line es a b c means = record {
+  ends = EndsLine-line line;
+  each = λ rest. ap (λ xs. reading meaning n (lines_of xs)) (append_assoc line (10 ∷ []) rest)
+      ∙ ap (reading meaning n) (lines-line line rest c) ∙ reading-line meaning n line (lines_of rest) a b
+      ∙ means (reading meaning (n + 1) (lines_of rest));
+}
+
+pub Faults-line : (meaning : Meaning) (n : ℕ) (line rest : List ℕ) (f : RunFault) → n < 1048576 → length line ≤ 64 → NoLineFeed line
+    → IsRefused meaning line n f → Faults meaning n (line ++ 10 ∷ rest) [] f
+Faults-line meaning n line rest f a b c means = record {
+  each = λ more. ap (λ xs. reading meaning n (lines_of xs)) (append_assoc line (10 ∷ rest) more)
+      ∙ ap (reading meaning n) (lines-line line (rest ++ more) c) ∙ reading-line meaning n line (lines_of (rest ++ more)) a b
+      ∙ means (reading meaning (n + 1) (lines_of (rest ++ more)));
+}
+
+pub Faults-too_long : (meaning : Meaning) (n b : ℕ) (bytes : List ℕ) → 1048576 ≤ n → Faults meaning n (b ∷ bytes) [] TooLong
+Faults-too_long meaning n b bytes a = record {
+  each = λ rest. let s = lines-some b (bytes ++ rest) in
+      ap (reading meaning n) s.2 ∙ reading-too_long meaning n s.0 s.1 a;
+}
+
+pub Faults-long_line : (meaning : Meaning) (n : ℕ) (line rest : List ℕ) → n < 1048576 → 64 < length line → NoLineFeed line
+    → Faults meaning n (line ++ 10 ∷ rest) [] (LongLine (n + 1))
+Faults-long_line meaning n line rest a b c = record {
+  each = λ more. ap (λ xs. reading meaning n (lines_of xs)) (append_assoc line (10 ∷ rest) more)
+      ∙ ap (reading meaning n) (lines-line line (rest ++ more) c) ∙ reading-long_line meaning n line (lines_of (rest ++ more)) a b;
+}
+
+-- a line that has no end yet, and is too long already
+pub Faults-long_front : (meaning : Meaning) (n : ℕ) (front : List ℕ) → n < 1048576 → 64 < length front → NoLineFeed front
+    → Faults meaning n front [] (LongLine (n + 1))
+Faults-long_front meaning n [] a b c = absurd (omega arith)
+Faults-long_front meaning n (x ∷ front) a b c = record {
+  each = λ rest. let s = lines-front x front rest c in
+      ap (reading meaning n) s.2
+      ∙ reading-long_line meaning n (x ∷ front ++ s.0) s.1 a (grind (arith, common_steps));
+}
+
+pub Faults-too_long_at : (meaning : Meaning) (n : ℕ) (bytes : List ℕ) → 1048576 ≤ n → 0 < length bytes → Faults meaning n bytes [] TooLong
+Faults-too_long_at meaning n [] a b = absurd (omega arith)
+Faults-too_long_at meaning n (x ∷ bytes) a b = Faults-too_long meaning n x bytes a

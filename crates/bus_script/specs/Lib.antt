@@ -1,0 +1,9 @@
+pub mod Device
+pub mod Digits
+pub mod Line
+pub mod Text
+pub mod Reading
+pub mod Transcript
+pub mod EventLine
+pub mod Playing
+pub mod Played

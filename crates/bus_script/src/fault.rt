@@ -1,0 +1,22 @@
+//! Why a run ends early.
+use thiserror::Error;
+
+/// Why a script is not run to its end. Lines are numbered from 1.
+#[derive(Clone, Copy, Debug, PartialEq, Eq, Error)]
+pub enum RunFault {
+    /// This line, of at most 64 bytes, is none of a script.
+    #[error("script: line {0}")]
+    Line(u64),
+    /// This line has over 64 bytes before its line feed.
+    #[error("script: line {0} is too long")]
+    LongLine(u64),
+    /// Something follows line 1,048,576.
+    #[error("script: too many lines")]
+    TooLong,
+    /// The script could not be read.
+    #[error("input: read failed")]
+    Read,
+    /// The transcript could not be written.
+    #[error("output: write failed")]
+    Write,
+}

@@ -1,0 +1,24 @@
+//! Scripts of events and transcripts of answers as text, and the run of a terminal from the one to the other.
+#![tactic(auto)]
+
+mod chunk;
+mod device;
+mod digits;
+mod event_line;
+mod fault;
+mod feed;
+mod line;
+mod memory;
+mod play;
+mod run;
+mod transcript;
+mod wrapped;
+
+pub use device::{IoFailed, Sink, Source};
+pub use event_line::write_event;
+pub use fault::RunFault;
+pub use line::{LineFault, read_event};
+pub use memory::{MemorySink, MemorySource};
+pub use run::run_script;
+pub use transcript::write_answer;
+pub use wrapped::{FromRead, FromWrite};

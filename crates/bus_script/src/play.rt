@@ -1,0 +1,104 @@
+//! Events are played, and what the terminal answers is written.
+ghost use Rattle.std.specs.Prelude.{◌≡◌, ◌≤◌, ◌<◌, ◌∷◌, [], List, ℕ, true, length, IfOk, IfErr, OnOk, OnErr};
+ghost use Rattle.std.specs.Io.KnownBytes.{Appends};
+ghost use Rattle.bus_terminal.specs.declared.event.Event.{Event};
+ghost use Rattle.bus_script.specs.Line.{meaning};
+ghost use Rattle.bus_script.specs.Reading.{ByFault};
+ghost use Rattle.bus_terminal.specs.Answer.{shown_answer, IsSmall};
+ghost use Rattle.bus_script.specs.Transcript.{answer_text};
+ghost use Rattle.bus_script.specs.Playing.{IsPartWritten, Means, IsRefused};
+ghost use Rattle.bus_script.specs.Played.{Played, PlayedPart};
+
+use crate::line::read_event;
+use crate::transcript::write_answer;
+use crate::{IoFailed, RunFault, Sink};
+use bus_legal::Legality;
+use bus_terminal::{Answer, Event, Terminal};
+
+/// Writes all the bytes.
+fn put_all<W: Sink>(writer: &mut W, bytes: &[u8]) -> Result<(), IoFailed>
+    ensures ok { OnOk result (Appends (W.written writer.old) (W.written writer.new) bytes.now) }
+    ensures err { OnErr result (IsPartWritten (W.written writer.old) (W.written writer.new) bytes.now) }
+    ensures failed { OnErr result (W.has_failed writer.new ≡ true) }
+{
+    let mut rest = bytes;
+    while !rest.is_empty() {
+        let count = match writer.write(rest) {
+            Ok(count) => count,
+            Err(_) => return Err(IoFailed),
+        };
+        if count == 0 {
+            return Err(IoFailed);
+        }
+        rest = &rest[count..];
+    }
+    Ok(())
+}
+
+/// Whether an answer has no lines.
+fn is_silent(answer: &Answer) -> bool
+    ensures { result ≡ true → answer_text (shown_answer answer.now) ≡ [] }
+{
+    matches!(
+        answer,
+        Answer {
+            sent: None,
+            hand: None,
+        }
+    )
+}
+
+/// Writes the lines of an answer.
+fn send<W: Sink>(writer: &mut W, answer: &Answer) -> Result<(), IoFailed>
+    requires { IsSmall (shown_answer answer.now) }
+    ensures ok { OnOk result (Appends (W.written writer.old) (W.written writer.new) (answer_text (shown_answer answer.now))) }
+    ensures err { OnErr result (IsPartWritten (W.written writer.old) (W.written writer.new) (answer_text (shown_answer answer.now))) }
+    ensures failed { OnErr result (W.has_failed writer.new ≡ true) }
+{
+    let text = write_answer(answer);
+    put_all(writer, text.as_str().as_bytes())
+}
+
+/// Plays an event.
+fn play_event<L: Legality, W: Sink>(
+    terminal: &mut Terminal<L>,
+    writer: &mut W,
+    event: Event,
+) -> Result<(), IoFailed>
+    ensures ok { OnOk result (Played L.is_legal W.written terminal.old terminal.new writer.old writer.new (event ∷ [])) }
+    ensures err { OnErr result (PlayedPart L.is_legal W.written terminal.old terminal.new writer.old writer.new [] event) }
+    ensures failed { OnErr result (W.has_failed writer.new ≡ true) }
+{
+    let answer = terminal.step(event);
+    if is_silent(&answer) {
+        return Ok(());
+    }
+    send(writer, &answer)
+}
+
+/// Plays a line that follows `lines` lines, and gives the number of its events: none or one.
+pub fn play_line<L: Legality, W: Sink>(
+    terminal: &mut Terminal<L>,
+    writer: &mut W,
+    lines: u64,
+    line: &[u8],
+) -> Result<u64, RunFault>
+    requires { lines < 1048576 }
+    ensures few { IfOk result (λ n. n ≤ 1) }
+    ensures ok { IfOk result (λ n. (es : List Event) × (length es ≡ n) × Means meaning line.now lines es
+        × Played L.is_legal W.written terminal.old terminal.new writer.old writer.new es) }
+    ensures fault { IfErr result (λ f. ByFault f
+        (IsRefused meaning line.now lines f × Played L.is_legal W.written terminal.old terminal.new writer.old writer.new [])
+        ⊥
+        ((e : Event) × Means meaning line.now lines (e ∷ []) × (W.has_failed writer.new ≡ true)
+        × PlayedPart L.is_legal W.written terminal.old terminal.new writer.old writer.new [] e)) }
+{
+    match read_event(line) {
+        Ok(None) => Ok(0),
+        Ok(Some(event)) => match play_event(terminal, writer, event) {
+            Ok(()) => Ok(1),
+            Err(_) => Err(RunFault::Write),
+        },
+        Err(_) => Err(RunFault::Line(lines + 1)),
+    }
+}

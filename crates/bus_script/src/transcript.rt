@@ -1,0 +1,122 @@
+//! Answers as lines of a transcript.
+ghost use Rattle.std.specs.Prelude.{◌≡◌, ◌≤◌, ◌+◌, ◌*◌, ◌++◌, length, Some};
+ghost use Rattle.std.specs.List.{flat_map};
+ghost use Rattle.arrayvec.specs.ArrayString.{array_string_len};
+ghost use Rattle.bus_terminal.specs.Answer.{shown_answer, shown_sent, shown_hand};
+ghost use Rattle.bus_script.specs.Transcript.{data_line, sent_text, word_field, received_by, received_text, hand_text, answer_text};
+ghost use Rattle.bus_terminal.specs.Out.{HandsSynchronizeWith};
+
+use crate::digits::{push_number, push_word};
+use crate::event_line::bus_letter;
+use arrayvec::ArrayString;
+use bus_terminal::{Answer, Hand, Sent};
+use bus_word::Bus;
+
+/// Writes the lines of data words.
+fn push_data(text: &mut ArrayString<320>, bus: Bus, words: &[u16])
+    requires { array_string_len text.old + 9 * length words.now ≤ 320 }
+    ensures bytes { text.new.bytes ≡ text.old.bytes ++ flat_map (data_line bus) words.now }
+    ensures len { array_string_len text.new ≡ array_string_len text.old + 9 * length words.now }
+{
+    for word in words {
+        text.push_str(bus_letter(bus));
+        text.push_str(" d ");
+        push_word(text, *word);
+        text.push('\n');
+    }
+}
+
+/// Writes words as fields of a line.
+fn push_fields(text: &mut ArrayString<320>, words: &[u16])
+    requires { array_string_len text.old + 5 * length words.now ≤ 320 }
+    ensures bytes { text.new.bytes ≡ text.old.bytes ++ flat_map word_field words.now }
+    ensures len { array_string_len text.new ≡ array_string_len text.old + 5 * length words.now }
+{
+    for word in words {
+        text.push(' ');
+        push_word(text, *word);
+    }
+}
+
+/// Writes the lines of what was sent.
+fn push_sent(text: &mut ArrayString<320>, sent: &Sent)
+    requires { array_string_len text.old + (9 + 9 * length sent.now.words.items) ≤ 320 }
+    ensures bytes { text.new.bytes ≡ text.old.bytes ++ sent_text (shown_sent (Some sent.now)) }
+    ensures len { array_string_len text.new ≡ array_string_len text.old + (9 + 9 * length sent.now.words.items) }
+{
+    text.push_str(bus_letter(sent.bus));
+    text.push_str(" s ");
+    push_word(text, sent.status);
+    text.push('\n');
+    push_data(text, sent.bus, sent.words.as_slice());
+}
+
+fn received_by(broadcast: bool) -> &'static str
+    ensures { result.now ≡ received_by broadcast }
+{
+    if broadcast {
+        "hand receive broadcast "
+    } else {
+        "hand receive own "
+    }
+}
+
+/// Writes the line of data words that were received.
+fn push_received(
+    text: &mut ArrayString<320>,
+    broadcast: bool,
+    subaddress: u8,
+    words: &[u16],
+)
+    requires { array_string_len text.old + (length (received_by broadcast) + (3 + 5 * length words.now)) ≤ 320 }
+    ensures { text.new.bytes ≡ text.old.bytes ++ received_text broadcast subaddress words.now }
+{
+    text.push_str(received_by(broadcast));
+    push_number(text, subaddress);
+    push_fields(text, words);
+    text.push('\n');
+}
+
+/// Writes the line of synchronize with this data word.
+fn push_synchronize_with(text: &mut ArrayString<320>, word: u16)
+    requires { array_string_len text.old + 15 ≤ 320 }
+    ensures { text.new.bytes ≡ text.old.bytes ++ hand_text (Some (HandsSynchronizeWith word)) }
+{
+    text.push_str("hand sync ");
+    push_word(text, word);
+    text.push('\n');
+}
+
+/// Writes the line of what was handed over.
+fn push_hand(text: &mut ArrayString<320>, hand: &Hand)
+    requires { array_string_len text.old + length (hand_text (shown_hand (Some hand.now))) ≤ 320 }
+    ensures { text.new.bytes ≡ text.old.bytes ++ hand_text (shown_hand (Some hand.now)) }
+{
+    match hand {
+        Hand::Received {
+            broadcast,
+            subaddress,
+            words,
+        } => push_received(text, *broadcast, *subaddress, words.as_slice()),
+        Hand::Synchronize => text.push_str("hand sync\n"),
+        Hand::SynchronizeWith(word) => push_synchronize_with(text, *word),
+        Hand::SelfTest => text.push_str("hand self-test\n"),
+        Hand::BusControl => text.push_str("hand bus-control\n"),
+    }
+}
+
+/// The lines of an answer, each with its line feed: the status word that was sent, the data words, and
+/// what was handed over. Those of a terminal's answer have at most 297 bytes.
+pub fn write_answer(answer: &Answer) -> ArrayString<320>
+    requires { length (answer_text (shown_answer answer.now)) ≤ 320 }
+    ensures { result.bytes ≡ answer_text (shown_answer answer.now) }
+{
+    let mut text = ArrayString::new();
+    if let Some(sent) = &answer.sent {
+        push_sent(&mut text, sent);
+    }
+    if let Some(hand) = &answer.hand {
+        push_hand(&mut text, hand);
+    }
+    text
+}

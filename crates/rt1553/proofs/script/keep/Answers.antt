@@ -1,6 +1,0 @@
-use Rattle.std.proofs.Common.{ap, ◌∙◌, take, ◌-◌}
-use Rattle.rt1553.proofs.RunLaws.{kept_front}
-use Rattle.rt1553.proofs.script.keep.Goals as goal
-
-pub returns : goal.returns
-returns c = ap (take (c.args.total - c.args.done)) c.copy_within.ensures.after ∙ kept_front c.args.buffer.now c.args.done c.args.total c.requires.within c.requires.fits
