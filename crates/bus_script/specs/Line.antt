@@ -35,18 +35,18 @@ truth_of b = if b == 48 then Some false else if b == 49 then Some true else None
 -- `K XXXX` or `K XXXX P`: the sync, four digits, and perhaps a parity bit, which is the right one where none is given
 abbrev pub word_on : Bus → List ℕ → Option Event
 word_on bus (k ∷ s ∷ a ∷ b ∷ c ∷ d ∷ []) = if s == 32
-  then (do
-    kind ← kind_of k
-    bits ← word_of (a ∷ b ∷ c ∷ d ∷ [])
-    Some (event.Word bus (valid_word kind bits)))
-  else None
+    then (do
+      kind ← kind_of k
+      bits ← word_of (a ∷ b ∷ c ∷ d ∷ [])
+      Some (event.Word bus (valid_word kind bits)))
+    else None
 word_on bus (k ∷ s ∷ a ∷ b ∷ c ∷ d ∷ t ∷ p ∷ []) = if (s == 32) && (t == 32)
-  then (do
-    kind ← kind_of k
-    bits ← word_of (a ∷ b ∷ c ∷ d ∷ [])
-    parity ← truth_of p
-    Some (event.Word bus (record { kind = kind; bits = bits; parity = parity })))
-  else None
+    then (do
+      kind ← kind_of k
+      bits ← word_of (a ∷ b ∷ c ∷ d ∷ [])
+      parity ← truth_of p
+      Some (event.Word bus (record { kind = kind; bits = bits; parity = parity })))
+    else None
 word_on bus _ = None
 
 -- what follows the bus
@@ -62,13 +62,13 @@ place_at s i = if is_data_place s i then Some (record { subaddress = s; number =
 -- `SS II XXXX`: a place, and the word that is written there
 abbrev pub write_of : List ℕ → Option Event
 write_of (s ∷ t ∷ p ∷ i ∷ j ∷ q ∷ a ∷ b ∷ c ∷ d ∷ []) = if (p == 32) && (q == 32)
-  then (do
-    subaddress ← number_of s t
-    number ← number_of i j
-    place ← place_at subaddress number
-    word ← word_of (a ∷ b ∷ c ∷ d ∷ [])
-    Some (event.Write place word))
-  else None
+    then (do
+      subaddress ← number_of s t
+      number ← number_of i j
+      place ← place_at subaddress number
+      word ← word_of (a ∷ b ∷ c ∷ d ∷ [])
+      Some (event.Write place word))
+    else None
 write_of _ = None
 
 -- the new value of a flag, a 0 or a 1

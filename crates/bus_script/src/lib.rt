@@ -11,6 +11,8 @@ mod line;
 mod memory;
 mod play;
 mod run;
+#[cfg(test)]
+mod tests;
 mod transcript;
 mod wrapped;
 

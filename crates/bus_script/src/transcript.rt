@@ -62,12 +62,7 @@ fn received_by(broadcast: bool) -> &'static str
 }
 
 /// Writes the line of data words that were received.
-fn push_received(
-    text: &mut ArrayString<320>,
-    broadcast: bool,
-    subaddress: u8,
-    words: &[u16],
-)
+fn push_received(text: &mut ArrayString<320>, broadcast: bool, subaddress: u8, words: &[u16])
     requires { array_string_len text.old + (length (received_by broadcast) + (3 + 5 * length words.now)) ≤ 320 }
     ensures { text.new.bytes ≡ text.old.bytes ++ received_text broadcast subaddress words.now }
 {
