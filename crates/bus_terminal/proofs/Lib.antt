@@ -9,3 +9,4 @@ pub mod StandsLaw
 pub mod AnswerLaw
 pub mod LatestLaw
 pub mod ExchangeLaw
+pub mod Reach

@@ -1,7 +1,13 @@
 //! Laws over the definitions. Each function does nothing, and its contract is the law.
 
+ghost use Rattle.std.specs.Prelude.{◌≡◌, ◌≤◌, List};
+ghost use Rattle.bus_legal.specs.Description.{Description};
+ghost use Rattle.bus_legal.specs.Reach.{reach};
+ghost use Rattle.bus_terminal.specs.declared.event.Event.{Event};
 ghost use Rattle.bus_terminal.specs.Exchanges.{ExchangeLaw, UnmeantExchangeLaw, ValidWordLaw};
 ghost use Rattle.bus_terminal.specs.OpenLaws.{LatestStartLaw, OneMessageLaw};
+ghost use Rattle.bus_terminal.specs.Out.{out};
+ghost use Rattle.bus_terminal.specs.Same.{Same};
 
 /// What a terminal answers to a command with its data words and a gap, after nothing but such exchanges.
 pub fn one_exchange()
@@ -14,4 +20,14 @@ pub fn one_exchange()
 pub fn message_in_progress()
     ensures latest_start { LatestStartLaw }
     ensures one_message { OneMessageLaw }
+{}
+
+/// What can't be reached changes no answer.
+pub fn reach_keeps_answers()
+    ensures { (P : Description) (h : List Event) (e : Event) → P.address ≤ 30 → out (reach P) h e ≡ out P h e }
+{}
+
+/// Terminals that have the same in reach are the same.
+pub fn same_where_reached_alike()
+    ensures { (P Q : Description) → P.address ≤ 30 → Q.address ≤ 30 → reach P ≡ reach Q → Same P Q }
 {}
