@@ -154,7 +154,7 @@ before_open P x h i =
     ∙ (ap (with_data x.words) (command_open P x.command h i) ∙ collected-if (is_meant P x.command) x)
 
 -- words change no flag
-words_flag : (f : Flag) (ds : List ℕ) (h : List Noted) → flag_now (word_notes ds h) f ≡ flag_now h f
+pub words_flag : (f : Flag) (ds : List ℕ) (h : List Noted) → flag_now (word_notes ds h) f ≡ flag_now h f
 words_flag f [] h = refl
 words_flag f (d ∷ ds) h = words_flag f ds (word_note h d ∷ h)
 

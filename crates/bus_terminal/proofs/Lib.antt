@@ -10,3 +10,4 @@ pub mod AnswerLaw
 pub mod LatestLaw
 pub mod ExchangeLaw
 pub mod Reach
+pub mod Distinguish

@@ -19,3 +19,4 @@ pub mod Exchanges
 pub mod OpenLaws
 pub mod Machine
 pub mod Rows
+pub mod Distinguish

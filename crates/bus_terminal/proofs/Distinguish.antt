@@ -1,0 +1,5 @@
+-- The scripts that tell two terminals apart do so.
+pub mod Commands
+pub mod Last
+pub mod Quiet
+pub mod Own
