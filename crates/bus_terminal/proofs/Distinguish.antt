@@ -3,3 +3,5 @@ pub mod Commands
 pub mod Last
 pub mod Quiet
 pub mod Own
+pub mod Address
+pub mod Broadcast

@@ -1,0 +1,128 @@
+-- What a terminal answers when it is asked after a broadcast.
+use Rattle.std.proofs.Common.{◌≡◌, ℕ, ◌+◌, ◌*◌, ◌≤◌, Bool, true, false, ◌&&◌, ◌||◌, ◌==◌, ◌≢◌, if◌then◌else◌, Option, Some, None, List, [], ◌∷◌, length, replicate, refl, ap, sym, ◌∙◌, arith}
+use Rattle.std.proofs.lemmas.Bool.{ne_eqb}
+use Rattle.std.proofs.lemmas.List.{length-replicate}
+use Rattle.bus_word.specs.declared.status.StatusParts.{StatusParts}
+use Rattle.bus_word.specs.declared.cell.Cell.{Cell}
+use Rattle.bus_word.specs.declared.cell.Cell.TheVariants.{OwnReceive, OwnTransmit, BroadReceive, OwnMode, BroadMode}
+use Rattle.bus_word.specs.Command.{address_of, is_broadcast}
+use Rattle.bus_word.specs.Mode.{mode_row}
+use Rattle.bus_word.specs.Cell.{is_data_place, allows_broadcast}
+use Rattle.bus_word.specs.Status.{status_word}
+use Rattle.bus_legal.specs.Description.{Description}
+use Rattle.bus_terminal.specs.declared.event.Event.{Event}
+use Rattle.bus_terminal.specs.History.{Noted, noted, Ending, Nothing, Illegal, Done}
+use Rattle.bus_terminal.specs.Ends.{verdict, well}
+use Rattle.bus_terminal.specs.SinceReset.{inhibited_now}
+use Rattle.bus_terminal.specs.Status.{no_parts, inhibited_after, formed_done, is_reset_cell, kept_by_end, adds_error, kept_now}
+use Rattle.bus_terminal.specs.Machine.Registers.{kept_after}
+use Rattle.bus_terminal.specs.Exchanges.{Exchange, script_of, command_event, gap_note, is_meant, command_note, ending_of_exchange, exchange_notes}
+use Rattle.bus_terminal.specs.Distinguish.{Differ, all_terminals, receive_zeros, mode_code, ask, option_script, broadcast_receive_script, broadcast_code_script}
+use Rattle.bus_terminal.proofs.KeptLaw.{kept_step}
+use Rattle.bus_terminal.proofs.Distinguish.Commands.{IsTo, receive_to_all, code_to_all, code_to_own, ask_to_all, moved}
+use Rattle.bus_terminal.proofs.Distinguish.Last.{last_sent, last_of_two, differ_by, status_in}
+use Rattle.bus_terminal.proofs.Distinguish.Quiet.{notes_at, plain, formed_plain, words_kept}
+use Rattle.bus_terminal.proofs.Distinguish.Own.{ended, status_asked}
+
+-- the cell of a broadcast command, or none
+abbrev is_of_broadcast : Option Cell → Bool
+is_of_broadcast None = true
+is_of_broadcast (Some (BroadReceive s n)) = true
+is_of_broadcast (Some (BroadMode code)) = true
+is_of_broadcast (Some cell) = false
+
+abbrev has_legal : Description → Option Cell → Bool
+has_legal P None = false
+has_legal P (Some cell) = P.legal cell
+
+abbrev resets : Option Cell → Bool
+resets None = false
+resets (Some cell) = is_reset_cell cell
+
+-- what is kept after a broadcast, by whether it is heard, legal and a reset
+abbrev parts_after : Bool → Bool → Bool → StatusParts
+parts_after heard legal reset =
+    if heard then (if legal then (if reset then no_parts else plain false true false) else plain true true false) else no_parts
+
+meant_broadcast : (P : Description) (x : Exchange) (o : Option Cell) → P.address ≤ 30 → IsTo all_terminals o x → is_meant P x.command ≡ P.broadcast
+meant_broadcast P x o low to =
+    let other : (31 == P.address) ≡ false = ne_eqb 31 P.address (λ e. omega arith) in
+    (λ j. (to.address j == P.address) || ((to.address j == 31) && P.broadcast)) ∙ ap (λ b. b || P.broadcast) other
+
+unheard_kept : (P : Description) (x : Exchange) → is_meant P x.command ≡ false → kept_now P (exchange_notes P (x ∷ [])) ≡ no_parts
+unheard_kept P x unmeant =
+    ap (λ m. kept_now P (gap_note (notes_at P [] x) (if m then well P false x.command x.words else Nothing) ∷ notes_at P [] x)) unmeant
+    ∙ (kept_step P (gap_note (notes_at P [] x) Nothing) (notes_at P [] x)
+    ∙ (words_kept P x.words (command_note P [] x.command ∷ [])
+    ∙ ap (λ m. kept_now P (noted [] (command_event x.command) m Nothing ∷ [])) unmeant))
+
+abbrev kept_by : Description → Exchange → Ending → StatusParts
+kept_by P x e = kept_after (kept_by_end P (notes_at P [] x) e) (adds_error P e) (kept_now P (notes_at P [] x))
+
+illegal_kept : (P : Description) (x : Exchange) (o : Option Cell) → IsTo all_terminals o x → kept_by P x (Illegal x.command) ≡ plain true true false
+illegal_kept P x o to = formed_plain P [] x x.command true false (inhibited_now (notes_at P [] x)) ∙ ap (λ a. plain true (a == 31) false) to.address
+
+done_kept : (P : Description) (x : Exchange) (cell : Cell) → IsTo all_terminals (Some cell) x → is_of_broadcast (Some cell) ≡ true →
+    kept_by P x (Done x.command cell x.words) ≡ (if is_reset_cell cell then no_parts else plain false true false)
+done_kept P x (OwnReceive s n) to by_broadcast = cc
+done_kept P x (OwnTransmit s n) to by_broadcast = cc
+done_kept P x (OwnMode code) to by_broadcast = cc
+done_kept P x (BroadReceive s n) to by_broadcast =
+    formed_plain P [] x x.command false false (inhibited_after (inhibited_now (notes_at P [] x)) (BroadReceive s n)) ∙ ap (λ a. plain false (a == 31) false) to.address
+done_kept P x (BroadMode code) to by_broadcast =
+    ap (λ parts. if code == 8 then no_parts else parts)
+    (formed_plain P [] x x.command false false (inhibited_after (inhibited_now (notes_at P [] x)) (BroadMode code)) ∙ ap (λ a. plain false (a == 31) false) to.address)
+
+heard_kept : (P : Description) (x : Exchange) (o : Option Cell) → IsTo all_terminals o x → is_of_broadcast o ≡ true →
+    kept_by P x (verdict P.legal false x.command x.words o) ≡ parts_after true (has_legal P o) (resets o)
+heard_kept P x None to by_broadcast = illegal_kept P x None to
+heard_kept P x (Some cell) to by_broadcast = by_legal (P.legal cell)
+  where
+    by_legal : (l : Bool) → kept_by P x (ended l x cell) ≡ parts_after true l (is_reset_cell cell)
+    by_legal true = done_kept P x cell to by_broadcast
+    by_legal false = illegal_kept P x (Some cell) to
+
+kept_after_broadcast : (P : Description) (x : Exchange) (o : Option Cell) → P.address ≤ 30 → IsTo all_terminals o x → is_of_broadcast o ≡ true →
+    kept_now P (exchange_notes P (x ∷ [])) ≡ parts_after P.broadcast (has_legal P o) (resets o)
+kept_after_broadcast P x o low to by_broadcast = by_option P.broadcast (meant_broadcast P x o low to)
+  where
+    by_option : (b : Bool) → is_meant P x.command ≡ b → kept_now P (exchange_notes P (x ∷ [])) ≡ parts_after b (has_legal P o) (resets o)
+    by_option false m = unheard_kept P x m
+    by_option true m =
+        ap (λ e. kept_now P (gap_note (notes_at P [] x) e ∷ notes_at P [] x))
+        (ap (λ b. if b then well P false x.command x.words else Nothing) m ∙ ap (verdict P.legal false x.command x.words) to.cell)
+        ∙ (kept_step P (gap_note (notes_at P [] x) (verdict P.legal false x.command x.words o)) (notes_at P [] x)
+        ∙ heard_kept P x o to by_broadcast)
+
+status_after : (P : Description) (x y : Exchange) (o : Option Cell) → P.address ≤ 30 → P.legal (OwnMode 2) ≡ true → IsTo all_terminals o x → is_of_broadcast o ≡ true → IsTo P.address (Some (OwnMode 2)) y →
+    status_in (last_sent P (script_of (x ∷ y ∷ []))) ≡ status_word P.address (parts_after P.broadcast (has_legal P o) (resets o))
+status_after P x y o low legal to by_broadcast asks =
+    ap status_in (last_of_two P x y to.whole asks.whole)
+    ∙ (status_asked P (x ∷ []) y low asks legal
+    ∙ ap (status_word P.address) (kept_after_broadcast P x o low to by_broadcast))
+
+-- two terminals that are asked after the same broadcast, where what they keep differs
+asked_apart : (P Q : Description) (x : Exchange) (o : Option Cell) → P.address ≤ 30 → P.address ≡ Q.address → P.legal (OwnMode 2) ≡ true → Q.legal (OwnMode 2) ≡ true →
+    IsTo all_terminals o x → is_of_broadcast o ≡ true →
+    status_word P.address (parts_after P.broadcast (has_legal P o) (resets o)) ≢ status_word P.address (parts_after Q.broadcast (has_legal Q o) (resets o)) →
+    Differ P Q (script_of (x ∷ ask P.address ∷ []))
+asked_apart P Q x o low same p_legal q_legal to by_broadcast apart =
+    let asks : IsTo P.address (Some (OwnMode 2)) (ask P.address) = code_to_own P.address 2 low refl in
+    let low_q : Q.address ≤ 30 = omega arith in
+    differ_by status_in P Q (script_of (x ∷ ask P.address ∷ [])) _ _
+    (status_after P x (ask P.address) o low p_legal to by_broadcast asks)
+    (status_after Q x (ask P.address) o low_q q_legal to by_broadcast (moved P.address Q.address (Some (OwnMode 2)) (ask P.address) same asks)
+    ∙ ap (λ a. status_word a (parts_after Q.broadcast (has_legal Q o) (resets o))) (sym same))
+    apart
+
+-- 2: the broadcast option
+option_told : (a : ℕ) (p q : Bool) → status_word a (parts_after p false false) ≡ status_word a (parts_after q false false) → p ≡ q
+option_told a true true e = refl
+option_told a true false e = absurd (omega arith)
+option_told a false true e = absurd (omega arith)
+option_told a false false e = refl
+
+pub option_differs : (P Q : Description) → P.address ≤ 30 → P.address ≡ Q.address → P.legal (OwnMode 2) ≡ true → Q.legal (OwnMode 2) ≡ true → P.broadcast ≢ Q.broadcast →
+    Differ P Q (option_script P.address)
+option_differs P Q low same p_legal q_legal other =
+    asked_apart P Q (mode_code all_terminals 2) None low same p_legal q_legal ask_to_all refl (λ e. other (option_told P.address P.broadcast Q.broadcast e))
