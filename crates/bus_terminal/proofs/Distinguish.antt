@@ -5,3 +5,5 @@ pub mod Quiet
 pub mod Own
 pub mod Address
 pub mod Broadcast
+pub mod Cells
+pub mod Words

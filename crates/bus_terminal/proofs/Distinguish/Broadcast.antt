@@ -25,22 +25,22 @@ use Rattle.bus_terminal.proofs.Distinguish.Quiet.{notes_at, plain, formed_plain,
 use Rattle.bus_terminal.proofs.Distinguish.Own.{ended, status_asked}
 
 -- the cell of a broadcast command, or none
-abbrev is_of_broadcast : Option Cell → Bool
+abbrev pub is_of_broadcast : Option Cell → Bool
 is_of_broadcast None = true
 is_of_broadcast (Some (BroadReceive s n)) = true
 is_of_broadcast (Some (BroadMode code)) = true
 is_of_broadcast (Some cell) = false
 
-abbrev has_legal : Description → Option Cell → Bool
+abbrev pub has_legal : Description → Option Cell → Bool
 has_legal P None = false
 has_legal P (Some cell) = P.legal cell
 
-abbrev resets : Option Cell → Bool
+abbrev pub resets : Option Cell → Bool
 resets None = false
 resets (Some cell) = is_reset_cell cell
 
 -- what is kept after a broadcast, by whether it is heard, legal and a reset
-abbrev parts_after : Bool → Bool → Bool → StatusParts
+abbrev pub parts_after : Bool → Bool → Bool → StatusParts
 parts_after heard legal reset =
     if heard then (if legal then (if reset then no_parts else plain false true false) else plain true true false) else no_parts
 
@@ -102,7 +102,7 @@ status_after P x y o low legal to by_broadcast asks =
     ∙ ap (status_word P.address) (kept_after_broadcast P x o low to by_broadcast))
 
 -- two terminals that are asked after the same broadcast, where what they keep differs
-asked_apart : (P Q : Description) (x : Exchange) (o : Option Cell) → P.address ≤ 30 → P.address ≡ Q.address → P.legal (OwnMode 2) ≡ true → Q.legal (OwnMode 2) ≡ true →
+pub asked_apart : (P Q : Description) (x : Exchange) (o : Option Cell) → P.address ≤ 30 → P.address ≡ Q.address → P.legal (OwnMode 2) ≡ true → Q.legal (OwnMode 2) ≡ true →
     IsTo all_terminals o x → is_of_broadcast o ≡ true →
     status_word P.address (parts_after P.broadcast (has_legal P o) (resets o)) ≢ status_word P.address (parts_after Q.broadcast (has_legal Q o) (resets o)) →
     Differ P Q (script_of (x ∷ ask P.address ∷ []))
