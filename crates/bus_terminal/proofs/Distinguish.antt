@@ -7,3 +7,4 @@ pub mod Address
 pub mod Broadcast
 pub mod Cells
 pub mod Words
+pub mod Held

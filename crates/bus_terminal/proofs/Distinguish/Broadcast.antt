@@ -49,6 +49,12 @@ meant_broadcast P x o low to =
     let other : (31 == P.address) ≡ false = ne_eqb 31 P.address (λ e. omega arith) in
     (λ j. (to.address j == P.address) || ((to.address j == 31) && P.broadcast)) ∙ ap (λ b. b || P.broadcast) other
 
+-- a broadcast that is heard ends by the legality of its cell
+pub broadcast_ends : (P : Description) (x : Exchange) (cell : Cell) → P.address ≤ 30 → P.broadcast ≡ true → IsTo all_terminals (Some cell) x → ending_of_exchange P x ≡ ended (P.legal cell) x cell
+broadcast_ends P x cell low hears to =
+    ap (λ b. if b then well P false x.command x.words else Nothing) (meant_broadcast P x (Some cell) low to ∙ hears)
+    ∙ ap (verdict P.legal false x.command x.words) to.cell
+
 unheard_kept : (P : Description) (x : Exchange) → is_meant P x.command ≡ false → kept_now P (exchange_notes P (x ∷ [])) ≡ no_parts
 unheard_kept P x unmeant =
     ap (λ m. kept_now P (gap_note (notes_at P [] x) (if m then well P false x.command x.words else Nothing) ∷ notes_at P [] x)) unmeant
