@@ -1,14 +1,28 @@
 -- Scripts that tell two terminals apart: one for each kind of difference between what can be reached of them.
-use Rattle.std.specs.Prelude.{ℕ, ◌-◌, ◌%◌, ◌≢◌, ◌==◌, if◌then◌else◌, List, [], ◌∷◌, replicate}
+use Rattle.std.specs.Prelude.{ℕ, zero, suc, ◌-◌, ◌%◌, ◌≤◌, ◌≢◌, Bool, ◌==◌, if◌then◌else◌, List, [], ◌∷◌, length, replicate}
+use Rattle.bus_word.specs.declared.cell.Cell.TheVariants.{OwnReceive, BroadReceive}
 use Rattle.bus_word.specs.Command.{Fields, word_of}
 use Rattle.bus_legal.specs.Description.{Description, wrap_subaddress}
+use Rattle.bus_legal.specs.Reach.{any_to, any_count, largest_count, transmits}
 use Rattle.bus_terminal.specs.declared.event.Event.{Event}
 use Rattle.bus_terminal.specs.Out.{outs}
+use Rattle.bus_terminal.specs.Same.{AreProper}
 use Rattle.bus_terminal.specs.Exchanges.{Exchange, script_of}
 
--- two terminals answer otherwise on a script, from power-up
-abbrev pub Differ : Description → Description → List Event → Type 0
-Differ P Q script = outs P script ≢ outs Q script
+-- A script of few events, which can come, on which two terminals answer otherwise from power-up.
+pub record TellsApart (P Q : Description) (script : List Event) : Type 0 where
+  pub proper : AreProper script
+  pub short : length script ≤ 36
+  pub differ : outs P script ≢ outs Q script
+
+-- the least number from 1 to n that passes, or 0 where none does
+abbrev pub least_to : ℕ → (ℕ → Bool) → ℕ
+least_to zero p = 0
+least_to (suc n) p = if any_to n p then least_to n p else (if p (suc n) then suc n else 0)
+
+-- the least word count that passes, or 0 where none does
+unfoldable pub least_count : (ℕ → Bool) → ℕ
+least_count p = least_to 32 p
 
 -- the address of all terminals
 abbrev pub all_terminals : ℕ
@@ -79,12 +93,27 @@ vector_script address = script_of (mode_code address 16 ∷ [])
 abbrev pub bit_script : ℕ → List Event
 bit_script address = script_of (mode_code address 19 ∷ [])
 
--- 11: an initial word of a subaddress, where so many words of it are transmitted
-abbrev pub initial_script : ℕ → ℕ → ℕ → List Event
-initial_script address s count = script_of (transmit address s count ∷ [])
+-- 11: an initial word of a subaddress, with the longest legal transmit command
+abbrev pub initial_script : Description → ℕ → List Event
+initial_script P s = own_transmit_script P.address s (largest_count (transmits P s))
 
--- 12: wraparound, shown by n words received, by the own address or by broadcast, and so many transmitted: of
--- the words received the first is the complement of the one that is held at power-up
-abbrev pub wraparound_script : ℕ → ℕ → ℕ → ℕ → ℕ → List Event
-wraparound_script to address first n count =
-    script_of (receive to wrap_subaddress n ((65535 - first) ∷ replicate (n - 1) 0) ∷ transmit address wrap_subaddress count ∷ [])
+-- Wraparound is shown by n words received, by the own address or by broadcast, and m transmitted. Of the words
+-- received the first is the complement of the one that is held at power-up.
+abbrev pub shown_wraparound : Description → ℕ → ℕ → ℕ → List Event
+shown_wraparound P to n m =
+    script_of (receive to wrap_subaddress n ((65535 - P.initial wrap_subaddress 1) ∷ replicate (n - 1) 0) ∷ transmit P.address wrap_subaddress m ∷ [])
+
+abbrev pub receives_own : Description → ℕ → Bool
+receives_own P n = P.legal (OwnReceive wrap_subaddress n)
+
+abbrev pub receives_broadcast : Description → ℕ → Bool
+receives_broadcast P n = P.legal (BroadReceive wrap_subaddress n)
+
+-- 12: wraparound, by the shortest legal receive command, by broadcast only where there is no other, and the
+-- shortest legal transmit command
+abbrev pub wraparound_script : Description → List Event
+wraparound_script P =
+    let m : ℕ = least_count (transmits P wrap_subaddress) in
+    if any_count (receives_own P)
+    then shown_wraparound P P.address (least_count (receives_own P)) m
+    else shown_wraparound P all_terminals (least_count (receives_broadcast P)) m

@@ -16,11 +16,11 @@ use Rattle.bus_terminal.specs.Ends.{verdict, well}
 use Rattle.bus_terminal.specs.SinceReset.{inhibited_now}
 use Rattle.bus_terminal.specs.Status.{no_parts, inhibited_after, formed_done, is_reset_cell, kept_by_end, adds_error, kept_now}
 use Rattle.bus_terminal.specs.Machine.Registers.{kept_after}
-use Rattle.bus_terminal.specs.Exchanges.{Exchange, script_of, command_event, gap_note, is_meant, command_note, ending_of_exchange, exchange_notes}
-use Rattle.bus_terminal.specs.Distinguish.{Differ, all_terminals, receive_zeros, mode_code, ask, option_script, broadcast_receive_script, broadcast_code_script}
+use Rattle.bus_terminal.specs.Exchanges.{Exchange, script_of, command_event, gap_note, is_meant, command_note, ending_of_exchange, exchange_notes, exchange_answer}
+use Rattle.bus_terminal.specs.Distinguish.{TellsApart, all_terminals, receive_zeros, mode_code, ask, option_script, broadcast_receive_script, broadcast_code_script}
 use Rattle.bus_terminal.proofs.KeptLaw.{kept_step}
 use Rattle.bus_terminal.proofs.Distinguish.Commands.{IsTo, receive_to_all, code_to_all, code_to_own, ask_to_all, moved}
-use Rattle.bus_terminal.proofs.Distinguish.Last.{last_sent, last_of_two, differ_by, status_in}
+use Rattle.bus_terminal.proofs.Distinguish.Last.{apart_by_two, status_in}
 use Rattle.bus_terminal.proofs.Distinguish.Quiet.{notes_at, plain, formed_plain, words_kept}
 use Rattle.bus_terminal.proofs.Distinguish.Own.{ended, status_asked}
 
@@ -101,21 +101,23 @@ kept_after_broadcast P x o low to by_broadcast = by_option P.broadcast (meant_br
         ∙ heard_kept P x o to by_broadcast)
 
 status_after : (P : Description) (x y : Exchange) (o : Option Cell) → P.address ≤ 30 → P.legal (OwnMode 2) ≡ true → IsTo all_terminals o x → is_of_broadcast o ≡ true → IsTo P.address (Some (OwnMode 2)) y →
-    status_in (last_sent P (script_of (x ∷ y ∷ []))) ≡ status_word P.address (parts_after P.broadcast (has_legal P o) (resets o))
+    status_in (exchange_answer P (exchange_notes P (x ∷ [])) y).sent ≡ status_word P.address (parts_after P.broadcast (has_legal P o) (resets o))
 status_after P x y o low legal to by_broadcast asks =
-    ap status_in (last_of_two P x y to.whole asks.whole)
-    ∙ (status_asked P (x ∷ []) y low asks legal
-    ∙ ap (status_word P.address) (kept_after_broadcast P x o low to by_broadcast))
+    status_asked P (x ∷ []) y low asks legal
+    ∙ ap (status_word P.address) (kept_after_broadcast P x o low to by_broadcast)
 
 -- two terminals that are asked after the same broadcast, where what they keep differs
 pub asked_apart : (P Q : Description) (x : Exchange) (o : Option Cell) → P.address ≤ 30 → P.address ≡ Q.address → P.legal (OwnMode 2) ≡ true → Q.legal (OwnMode 2) ≡ true →
     IsTo all_terminals o x → is_of_broadcast o ≡ true →
     status_word P.address (parts_after P.broadcast (has_legal P o) (resets o)) ≢ status_word P.address (parts_after Q.broadcast (has_legal Q o) (resets o)) →
-    Differ P Q (script_of (x ∷ ask P.address ∷ []))
+    TellsApart P Q (script_of (x ∷ ask P.address ∷ []))
 asked_apart P Q x o low same p_legal q_legal to by_broadcast apart =
     let asks : IsTo P.address (Some (OwnMode 2)) (ask P.address) = code_to_own P.address 2 low refl in
     let low_q : Q.address ≤ 30 = omega arith in
-    differ_by status_in P Q (script_of (x ∷ ask P.address ∷ [])) _ _
+    apart_by_two status_in P Q all_terminals P.address o (Some (OwnMode 2)) x (ask P.address)
+    (status_word P.address (parts_after P.broadcast (has_legal P o) (resets o)))
+    (status_word P.address (parts_after Q.broadcast (has_legal Q o) (resets o)))
+    to asks refl
     (status_after P x (ask P.address) o low p_legal to by_broadcast asks)
     (status_after Q x (ask P.address) o low_q q_legal to by_broadcast (moved P.address Q.address (Some (OwnMode 2)) (ask P.address) same asks)
     ∙ ap (λ a. status_word a (parts_after Q.broadcast (has_legal Q o) (resets o))) (sym same))
@@ -128,7 +130,7 @@ option_told a true false e = absurd (omega arith)
 option_told a false true e = absurd (omega arith)
 option_told a false false e = refl
 
-pub option_differs : (P Q : Description) → P.address ≤ 30 → P.address ≡ Q.address → P.legal (OwnMode 2) ≡ true → Q.legal (OwnMode 2) ≡ true → P.broadcast ≢ Q.broadcast →
-    Differ P Q (option_script P.address)
-option_differs P Q low same p_legal q_legal other =
+pub option_tells : (P Q : Description) → P.address ≤ 30 → P.address ≡ Q.address → P.legal (OwnMode 2) ≡ true → Q.legal (OwnMode 2) ≡ true → P.broadcast ≢ Q.broadcast →
+    TellsApart P Q (option_script P.address)
+option_tells P Q low same p_legal q_legal other =
     asked_apart P Q (mode_code all_terminals 2) None low same p_legal q_legal ask_to_all refl (λ e. other (option_told P.address P.broadcast Q.broadcast e))

@@ -1,5 +1,5 @@
 -- What the commands of the scripts are.
-use Rattle.std.proofs.Common.{◌≡◌, ℕ, ◌+◌, ◌%◌, ◌≤◌, Bool, true, false, not, ◌&&◌, ◌||◌, ◌==◌, nat_le, if◌then◌else◌, Option, Some, None, is_some, List, [], ◌∷◌, length, replicate, refl, ap, sym, ◌∙◌, arith}
+use Rattle.std.proofs.Common.{◌≡◌, ℕ, zero, suc, ◌+◌, ◌%◌, ◌^◌, ◌<◌, ◌≤◌, Bool, true, false, not, ◌&&◌, ◌||◌, ◌==◌, nat_le, if◌then◌else◌, Option, Some, None, is_some, List, [], ◌∷◌, length, replicate, refl, ap, sym, ◌∙◌, arith}
 use Rattle.std.specs.List.{list_all}
 use Rattle.std.proofs.lemmas.Bool.{eqb-true, ne_eqb, and_parts}
 use Rattle.std.proofs.lemmas.Bool.Decides.{nat_tests}
@@ -15,11 +15,23 @@ use Rattle.bus_word.proofs.CellLaws.{data_by, mode_by}
 use Rattle.bus_terminal.specs.Exchanges.{Exchange, IsWhole}
 use Rattle.bus_terminal.specs.Distinguish.{all_terminals, command_of, receive, receive_zeros, transmit, mode_code}
 
+-- words of 16 bits
+abbrev pub AreSmall : List ℕ → Type 0
+AreSmall [] = Unit {0}
+AreSmall (d ∷ ds) = (d < 2 ^ 16) × AreSmall ds
+
+pub zeros_small : (n : ℕ) → AreSmall (replicate n 0)
+zeros_small zero = tt
+zeros_small (suc n) = (omega arith, zeros_small n)
+
 -- an exchange whose command goes to this address, and has this cell or none
 pub record IsTo (to : ℕ) (has : Option Cell) (x : Exchange) : Type 0 where
   pub address : address_of x.command ≡ to
   pub cell : cell_of x.command ≡ has
   pub whole : IsWhole x
+  pub small : x.command < 2 ^ 16
+  pub words_small : AreSmall x.words
+  pub few : length x.words ≤ 32
 
 -- the cell and the data words of a command, by its fields
 abbrev cell_by : Fields → Option Cell
@@ -45,13 +57,18 @@ abbrev fields : ℕ → ℕ → ℕ → ℕ → Fields
 fields address tr s low = record { address = address; tr = tr; subaddress = s; low = low }
 
 command_law : (address tr s low : ℕ) (words : List ℕ) (cell : Option Cell) → address ≤ 31 → tr ≤ 1 → s ≤ 31 → low ≤ 31 →
-    cell_by (fields address tr s low) ≡ cell → length words ≡ expected_by (fields address tr s low) → IsTo address cell (record { command = command_of address tr s low; words = words })
-command_law address tr s low words cell ha ht hs hl is n =
-    let law : fields_of (command_of address tr s low) ≡ fields address tr s low = (fields_are_unique (fields address tr s low) (record { address = ha; tr = ht; subaddress = hs; low = hl })).1 in
+    cell_by (fields address tr s low) ≡ cell → length words ≡ expected_by (fields address tr s low) → AreSmall words → length words ≤ 32 →
+    IsTo address cell (record { command = command_of address tr s low; words = words })
+command_law address tr s low words cell ha ht hs hl is n fit few =
+    let law : (command_of address tr s low < 2 ^ 16) × (fields_of (command_of address tr s low) ≡ fields address tr s low) =
+    fields_are_unique (fields address tr s low) (record { address = ha; tr = ht; subaddress = hs; low = hl }) in
     record {
-      address = ap (λ (f : Fields). f.address) law;
-      cell = cell_by_fields (command_of address tr s low) ∙ (ap cell_by law ∙ is);
-      whole = n ∙ sym (ap expected_by law);
+      address = ap (λ (f : Fields). f.address) law.1;
+      cell = cell_by_fields (command_of address tr s low) ∙ (ap cell_by law.1 ∙ is);
+      whole = n ∙ sym (ap expected_by law.1);
+      small = law.0;
+      words_small = fit;
+      few = few;
     }
 
 -- subaddresses of data, and their counts
@@ -70,23 +87,33 @@ not_all address low = ne_eqb address 31 (λ e. omega arith)
 abbrev cell_if : Bool → Bool → Bool → ℕ → ℕ → ℕ → Option Cell
 cell_if mode transmit by_broadcast s low n = if mode then mode_by (mode_row low) transmit by_broadcast low else data_by transmit by_broadcast s n
 
-pub receive_to_own : (address s n : ℕ) (words : List ℕ) → address ≤ 30 → is_data_place s n ≡ true → length words ≡ n → IsTo address (Some (OwnReceive s n)) (receive address s n words)
-receive_to_own address s n words low place l =
+place_few : (s n : ℕ) → is_data_place s n ≡ true → n ≤ 32
+place_few s n e = grind (arith, nat_tests)
+
+words_few : (s n : ℕ) (words : List ℕ) → is_data_place s n ≡ true → length words ≡ n → length words ≤ 32
+words_few s n words place l = let few : n ≤ 32 = place_few s n place in omega arith
+
+pub receive_to_own : (address s n : ℕ) (words : List ℕ) → address ≤ 30 → is_data_place s n ≡ true → length words ≡ n → AreSmall words → IsTo address (Some (OwnReceive s n)) (receive address s n words)
+receive_to_own address s n words low place l fit =
     command_law address 0 s (n % 32) words (Some (OwnReceive s n)) (omega arith) (omega arith) (place_small s n place) (omega arith)
     (λ j. cell_if (place_no_mode s n place j) false (not_all address low j) s (n % 32) (place_count_again s n place j))
     (l ∙ sym (λ j. if place_no_mode s n place j then (if nat_le 16 (n % 32) then 1 else 0) else place_count_again s n place j))
+    fit
+    (words_few s n words place l)
 
-pub receive_to_all : (s n : ℕ) (words : List ℕ) → is_data_place s n ≡ true → length words ≡ n → IsTo all_terminals (Some (BroadReceive s n)) (receive all_terminals s n words)
-receive_to_all s n words place l =
+pub receive_to_all : (s n : ℕ) (words : List ℕ) → is_data_place s n ≡ true → length words ≡ n → AreSmall words → IsTo all_terminals (Some (BroadReceive s n)) (receive all_terminals s n words)
+receive_to_all s n words place l fit =
     command_law all_terminals 0 s (n % 32) words (Some (BroadReceive s n)) (omega arith) (omega arith) (place_small s n place) (omega arith)
     (λ j. cell_if (place_no_mode s n place j) false true s (n % 32) (place_count_again s n place j))
     (l ∙ sym (λ j. if place_no_mode s n place j then (if nat_le 16 (n % 32) then 1 else 0) else place_count_again s n place j))
+    fit
+    (words_few s n words place l)
 
 pub transmit_from_own : (address s n : ℕ) → address ≤ 30 → is_data_place s n ≡ true → IsTo address (Some (OwnTransmit s n)) (transmit address s n)
 transmit_from_own address s n low place =
     command_law address 1 s (n % 32) [] (Some (OwnTransmit s n)) (omega arith) (omega arith) (place_small s n place) (omega arith)
     (λ j. cell_if (place_no_mode s n place j) true (not_all address low j) s (n % 32) (place_count_again s n place j))
-    refl
+    refl tt (omega arith)
 
 -- of the mode codes of the table just code 17 has T/R 0, and all are below 32
 abbrev is_as_scripted : ModeEntry → Bool
@@ -143,10 +170,11 @@ code_to address code row by_broadcast high all is allowed = by_17 (code == 17) r
         command_law address 0 0 code (0 ∷ []) (Some (mode_is by_broadcast code)) high (omega arith) (omega arith) (small_code code facts.0)
         (cell_at 0 (ap (λ b. same_bool (not b) row.transmit) (sym e) ∙ facts.1))
         (ap (λ k. if nat_le 16 k then 1 else 0) (sym (eqb-true code 17 e)))
+        (zeros_small 1) (omega arith)
     by_17 false e =
         command_law address 1 0 code [] (Some (mode_is by_broadcast code)) high (omega arith) (omega arith) (small_code code facts.0)
         (cell_at 1 (ap (λ b. same_bool (not b) row.transmit) (sym e) ∙ facts.1))
-        refl
+        refl tt (omega arith)
 
 pub code_to_own : (address code : ℕ) → address ≤ 30 → is_some (mode_row code) ≡ true → IsTo address (Some (OwnMode code)) (mode_code address code)
 code_to_own address code low known =
@@ -164,11 +192,11 @@ code_to_all code allowed =
 
 -- broadcast transmit status word has no cell
 pub ask_to_all : IsTo all_terminals None (mode_code all_terminals 2)
-ask_to_all = command_law all_terminals 1 0 2 [] None (omega arith) (omega arith) (omega arith) (omega arith) refl refl
+ask_to_all = command_law all_terminals 1 0 2 [] None (omega arith) (omega arith) (omega arith) (omega arith) refl refl tt (omega arith)
 
 pub own_no_broadcast : (address : ℕ) (cell : Option Cell) (x : Exchange) → address ≤ 30 → IsTo address cell x → is_broadcast x.command ≡ false
 own_no_broadcast address cell x low to = ap (λ a. a == 31) to.address ∙ not_all address low
 
 -- the same, said of an address that is equal
 pub moved : (address other : ℕ) (cell : Option Cell) (x : Exchange) → address ≡ other → IsTo address cell x → IsTo other cell x
-moved address other cell x same to = record { address = to.address ∙ same; cell = to.cell; whole = to.whole }
+moved address other cell x same to = record { address = to.address ∙ same; cell = to.cell; whole = to.whole; small = to.small; words_small = to.words_small; few = to.few }

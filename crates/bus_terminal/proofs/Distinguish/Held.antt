@@ -12,11 +12,11 @@ use Rattle.bus_terminal.specs.LookBack.{or_else}
 use Rattle.bus_terminal.specs.History.{Noted, Ending, Done}
 use Rattle.bus_terminal.specs.SinceReset.{held_set, held_now}
 use Rattle.bus_terminal.specs.Out.{words_from, sent_on, reply}
-use Rattle.bus_terminal.specs.Exchanges.{Exchange, script_of, gap_note, ending_of_exchange, exchange_notes}
-use Rattle.bus_terminal.specs.Distinguish.{Differ, all_terminals, receive, transmit, initial_script, wraparound_script}
+use Rattle.bus_terminal.specs.Exchanges.{Exchange, script_of, gap_note, ending_of_exchange, exchange_notes, exchange_answer}
+use Rattle.bus_terminal.specs.Distinguish.{TellsApart, all_terminals, receive, transmit, own_transmit_script, shown_wraparound}
 use Rattle.bus_terminal.proofs.BackLaw.{held_step}
-use Rattle.bus_terminal.proofs.Distinguish.Commands.{IsTo, receive_to_own, receive_to_all, transmit_from_own, moved}
-use Rattle.bus_terminal.proofs.Distinguish.Last.{last_sent, last_of_one, last_of_two, differ_by, words_in}
+use Rattle.bus_terminal.proofs.Distinguish.Commands.{IsTo, zeros_small, receive_to_own, receive_to_all, transmit_from_own, moved}
+use Rattle.bus_terminal.proofs.Distinguish.Last.{apart_by_one, apart_by_two, words_in}
 use Rattle.bus_terminal.proofs.Distinguish.Quiet.{notes_at, exchange_back}
 use Rattle.bus_terminal.proofs.Distinguish.Own.{ended, own_ends, own_sent}
 use Rattle.bus_terminal.proofs.Distinguish.Broadcast.{broadcast_ends}
@@ -39,18 +39,18 @@ held_at P xs x s i = ap (λ o. or_else o (P.initial s i)) (exchange_back P (held
 
 -- 11: an initial word
 initial_sent : (P : Description) (x : Exchange) (s n i : ℕ) → P.address ≤ 30 → IsTo P.address (Some (OwnTransmit s n)) x → P.legal (OwnTransmit s n) ≡ true → 1 ≤ i → i ≤ n →
-    word_in i (words_in (last_sent P (script_of (x ∷ [])))) ≡ P.initial s i
+    word_in i (words_in (exchange_answer P [] x).sent) ≡ P.initial s i
 initial_sent P x s n i low to legal from upto =
-    ap (λ o. word_in i (words_in o)) (last_of_one P x to.whole ∙ own_sent P [] x (OwnTransmit s n) true low to legal)
+    ap (λ o. word_in i (words_in o)) (own_sent P [] x (OwnTransmit s n) true low to legal)
     ∙ (held_word P (notes_at P [] x) s n i from upto ∙ held_at P [] x s i)
 
-pub initial_differs : (P Q : Description) (s n i : ℕ) → P.address ≤ 30 → P.address ≡ Q.address → is_data_place s n ≡ true →
-    P.legal (OwnTransmit s n) ≡ true → Q.legal (OwnTransmit s n) ≡ true → 1 ≤ i → i ≤ n → P.initial s i ≢ Q.initial s i → Differ P Q (initial_script P.address s n)
-initial_differs P Q s n i low same place p_legal q_legal from upto other =
+pub initial_tells : (P Q : Description) (s n i : ℕ) → P.address ≤ 30 → P.address ≡ Q.address → is_data_place s n ≡ true →
+    P.legal (OwnTransmit s n) ≡ true → Q.legal (OwnTransmit s n) ≡ true → 1 ≤ i → i ≤ n → P.initial s i ≢ Q.initial s i → TellsApart P Q (own_transmit_script P.address s n)
+initial_tells P Q s n i low same place p_legal q_legal from upto other =
     let x : Exchange = transmit P.address s n in
     let to : IsTo P.address (Some (OwnTransmit s n)) x = transmit_from_own P.address s n low place in
     let low_q : Q.address ≤ 30 = omega arith in
-    differ_by (λ o. word_in i (words_in o)) P Q (initial_script P.address s n) (P.initial s i) (Q.initial s i)
+    apart_by_one (λ o. word_in i (words_in o)) P Q P.address (Some (OwnTransmit s n)) x (P.initial s i) (Q.initial s i) to
     (initial_sent P x s n i low to p_legal from upto)
     (initial_sent Q x s n i low_q (moved P.address Q.address (Some (OwnTransmit s n)) x same to) q_legal from upto)
     other
@@ -87,9 +87,9 @@ done_held P h c (BroadReceive s n) d ds at =
 wrap_sent : (P : Description) (x y : Exchange) (to : ℕ) (cell : Cell) (m d : ℕ) (ds : List ℕ) → P.address ≤ 30 → IsTo to (Some cell) x →
     ending_of_exchange P x ≡ Done x.command cell (d ∷ ds) → IsReceived cell →
     IsTo P.address (Some (OwnTransmit wrap_subaddress m)) y → 1 ≤ m → P.legal (OwnTransmit wrap_subaddress m) ≡ true →
-    word_in 1 (words_in (last_sent P (script_of (x ∷ y ∷ [])))) ≡ held_first P.wrap d (P.initial wrap_subaddress 1)
+    word_in 1 (words_in (exchange_answer P (exchange_notes P (x ∷ [])) y).sent) ≡ held_first P.wrap d (P.initial wrap_subaddress 1)
 wrap_sent P x y to cell m d ds low first ends received second some legal =
-    ap (λ o. word_in 1 (words_in o)) (last_of_two P x y first.whole second.whole ∙ own_sent P (x ∷ []) y (OwnTransmit wrap_subaddress m) true low second legal)
+    ap (λ o. word_in 1 (words_in o)) (own_sent P (x ∷ []) y (OwnTransmit wrap_subaddress m) true low second legal)
     ∙ (held_word P (notes_at P (x ∷ []) y) wrap_subaddress m 1 (omega arith) some
     ∙ (held_at P (x ∷ []) y wrap_subaddress 1
     ∙ (ap (λ e. held_now P (gap_note (notes_at P [] x) e ∷ notes_at P [] x) wrap_subaddress 1) ends
@@ -106,14 +106,14 @@ wrap_told false false w e = refl
 wrap_apart : (P Q : Description) (x : Exchange) (to : ℕ) (cell : Cell) (m : ℕ) (ds : List ℕ) → P.address ≤ 30 → P.address ≡ Q.address → IsTo to (Some cell) x → IsReceived cell →
     ending_of_exchange P x ≡ Done x.command cell ((65535 - P.initial wrap_subaddress 1) ∷ ds) → ending_of_exchange Q x ≡ Done x.command cell ((65535 - P.initial wrap_subaddress 1) ∷ ds) →
     is_data_place wrap_subaddress m ≡ true → P.legal (OwnTransmit wrap_subaddress m) ≡ true → Q.legal (OwnTransmit wrap_subaddress m) ≡ true →
-    P.initial wrap_subaddress 1 ≡ Q.initial wrap_subaddress 1 → P.wrap ≢ Q.wrap → Differ P Q (script_of (x ∷ transmit P.address wrap_subaddress m ∷ []))
+    P.initial wrap_subaddress 1 ≡ Q.initial wrap_subaddress 1 → P.wrap ≢ Q.wrap → TellsApart P Q (script_of (x ∷ transmit P.address wrap_subaddress m ∷ []))
 wrap_apart P Q x to cell m ds low same first received p_ends q_ends place p_legal q_legal initial other =
     let w : ℕ = P.initial wrap_subaddress 1 in
     let y : Exchange = transmit P.address wrap_subaddress m in
     let second : IsTo P.address (Some (OwnTransmit wrap_subaddress m)) y = transmit_from_own P.address wrap_subaddress m low place in
     let some : 1 ≤ m = count_from m place in
     let low_q : Q.address ≤ 30 = omega arith in
-    differ_by (λ o. word_in 1 (words_in o)) P Q (script_of (x ∷ y ∷ [])) (held_first P.wrap (65535 - w) w) (held_first Q.wrap (65535 - w) w)
+    apart_by_two (λ o. word_in 1 (words_in o)) P Q to P.address (Some cell) (Some (OwnTransmit wrap_subaddress m)) x y (held_first P.wrap (65535 - w) w) (held_first Q.wrap (65535 - w) w) first second refl
     (wrap_sent P x y to cell m (65535 - w) ds low first p_ends received second some p_legal)
     (wrap_sent Q x y to cell m (65535 - w) ds low_q first q_ends received (moved P.address Q.address (Some (OwnTransmit wrap_subaddress m)) y same second) some q_legal
     ∙ ap (held_first Q.wrap (65535 - w)) (sym initial))
@@ -133,31 +133,31 @@ words_length n d place =
     again : (n : ℕ) → 1 ≤ n → suc (n - 1) ≡ n
     again n some = omega arith
 
-pub own_wraparound_differs : (P Q : Description) (n m : ℕ) → P.address ≤ 30 → P.address ≡ Q.address →
+pub own_wraparound_tells : (P Q : Description) (n m : ℕ) → P.address ≤ 30 → P.address ≡ Q.address →
     is_data_place wrap_subaddress n ≡ true → P.legal (OwnReceive wrap_subaddress n) ≡ true → Q.legal (OwnReceive wrap_subaddress n) ≡ true →
     is_data_place wrap_subaddress m ≡ true → P.legal (OwnTransmit wrap_subaddress m) ≡ true → Q.legal (OwnTransmit wrap_subaddress m) ≡ true →
     P.initial wrap_subaddress 1 ≡ Q.initial wrap_subaddress 1 → P.wrap ≢ Q.wrap →
-    Differ P Q (wraparound_script P.address P.address (P.initial wrap_subaddress 1) n m)
-own_wraparound_differs P Q n m low same place p_receives q_receives place_m p_legal q_legal initial other =
+    TellsApart P Q (shown_wraparound P P.address n m)
+own_wraparound_tells P Q n m low same place p_receives q_receives place_m p_legal q_legal initial other =
     let d : ℕ = 65535 - P.initial wrap_subaddress 1 in
     let x : Exchange = receive P.address wrap_subaddress n (d ∷ replicate (n - 1) 0) in
     let cell : Cell = OwnReceive wrap_subaddress n in
-    let first : IsTo P.address (Some cell) x = receive_to_own P.address wrap_subaddress n (d ∷ replicate (n - 1) 0) low place (words_length n d place) in
+    let first : IsTo P.address (Some cell) x = receive_to_own P.address wrap_subaddress n (d ∷ replicate (n - 1) 0) low place (words_length n d place) (omega arith, zeros_small (n - 1)) in
     wrap_apart P Q x P.address cell m (replicate (n - 1) 0) low same first refl
     (own_ends P x cell first ∙ ap (λ l. ended l x cell) p_receives)
     (own_ends Q x cell (moved P.address Q.address (Some cell) x same first) ∙ ap (λ l. ended l x cell) q_receives)
     place_m p_legal q_legal initial other
 
-pub broadcast_wraparound_differs : (P Q : Description) (n m : ℕ) → P.address ≤ 30 → P.address ≡ Q.address → P.broadcast ≡ true → Q.broadcast ≡ true →
+pub broadcast_wraparound_tells : (P Q : Description) (n m : ℕ) → P.address ≤ 30 → P.address ≡ Q.address → P.broadcast ≡ true → Q.broadcast ≡ true →
     is_data_place wrap_subaddress n ≡ true → P.legal (BroadReceive wrap_subaddress n) ≡ true → Q.legal (BroadReceive wrap_subaddress n) ≡ true →
     is_data_place wrap_subaddress m ≡ true → P.legal (OwnTransmit wrap_subaddress m) ≡ true → Q.legal (OwnTransmit wrap_subaddress m) ≡ true →
     P.initial wrap_subaddress 1 ≡ Q.initial wrap_subaddress 1 → P.wrap ≢ Q.wrap →
-    Differ P Q (wraparound_script all_terminals P.address (P.initial wrap_subaddress 1) n m)
-broadcast_wraparound_differs P Q n m low same p_hears q_hears place p_receives q_receives place_m p_legal q_legal initial other =
+    TellsApart P Q (shown_wraparound P all_terminals n m)
+broadcast_wraparound_tells P Q n m low same p_hears q_hears place p_receives q_receives place_m p_legal q_legal initial other =
     let d : ℕ = 65535 - P.initial wrap_subaddress 1 in
     let x : Exchange = receive all_terminals wrap_subaddress n (d ∷ replicate (n - 1) 0) in
     let cell : Cell = BroadReceive wrap_subaddress n in
-    let first : IsTo all_terminals (Some cell) x = receive_to_all wrap_subaddress n (d ∷ replicate (n - 1) 0) place (words_length n d place) in
+    let first : IsTo all_terminals (Some cell) x = receive_to_all wrap_subaddress n (d ∷ replicate (n - 1) 0) place (words_length n d place) (omega arith, zeros_small (n - 1)) in
     let low_q : Q.address ≤ 30 = omega arith in
     wrap_apart P Q x all_terminals cell m (replicate (n - 1) 0) low same first refl
     (broadcast_ends P x cell low p_hears first ∙ ap (λ l. ended l x cell) p_receives)
