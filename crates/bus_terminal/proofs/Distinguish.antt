@@ -8,3 +8,4 @@ pub mod Broadcast
 pub mod Cells
 pub mod Words
 pub mod Held
+pub mod Reached
