@@ -9,3 +9,5 @@ pub mod Cells
 pub mod Words
 pub mod Held
 pub mod Reached
+pub mod Apart
+pub mod Scripts

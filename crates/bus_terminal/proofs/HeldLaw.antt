@@ -88,3 +88,6 @@ wrapped_law wrap s i t ds old w e h =
 
 pub place_count : (s n : ℕ) → is_data_place s n ≡ true → n ≤ 32
 place_count s n e = grind (arith, nat_tests)
+
+pub place_some : (s n : ℕ) → is_data_place s n ≡ true → 1 ≤ n
+place_some s n e = grind (arith, nat_tests)

@@ -1,7 +1,7 @@
 -- Scripts that tell two terminals apart: one for each kind of difference between what can be reached of them.
 use Rattle.std.specs.Prelude.{ℕ, zero, suc, ◌-◌, ◌%◌, ◌≤◌, ◌≢◌, Bool, ◌==◌, if◌then◌else◌, List, [], ◌∷◌, length, replicate}
 use Rattle.bus_word.specs.declared.cell.Cell.TheVariants.{OwnReceive, BroadReceive}
-use Rattle.bus_word.specs.Command.{Fields, word_of}
+use Rattle.bus_word.specs.Command.{word_of}
 use Rattle.bus_legal.specs.Description.{Description, wrap_subaddress}
 use Rattle.bus_legal.specs.Reach.{any_to, any_count, largest_count, transmits}
 use Rattle.bus_terminal.specs.declared.event.Event.{Event}

@@ -1,8 +1,8 @@
 -- Terminals of two addresses are told apart by asking the one.
-use Rattle.std.proofs.Common.{◌≡◌, ℕ, ◌≤◌, Bool, true, false, ◌&&◌, ◌||◌, ◌==◌, ◌≢◌, Option, Some, None, List, [], ◌∷◌, refl, ap, sym, ◌∙◌}
+use Rattle.std.proofs.Common.{◌≡◌, ◌≤◌, Bool, true, false, ◌&&◌, ◌||◌, ◌≢◌, Option, Some, None, [], refl, ap, sym, ◌∙◌}
 use Rattle.std.proofs.lemmas.Bool.{ne_eqb}
 use Rattle.bus_word.specs.declared.cell.Cell.TheVariants.{OwnMode}
-use Rattle.bus_word.specs.Command.{address_of, is_broadcast}
+use Rattle.bus_word.specs.Command.{address_of}
 use Rattle.bus_legal.specs.Description.{Description}
 use Rattle.bus_terminal.specs.Out.{Out, Sending}
 use Rattle.bus_terminal.specs.Exchanges.{Exchange, is_meant}

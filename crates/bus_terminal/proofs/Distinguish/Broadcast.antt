@@ -1,25 +1,20 @@
 -- What a terminal answers when it is asked after a broadcast.
-use Rattle.std.proofs.Common.{◌≡◌, ℕ, ◌+◌, ◌*◌, ◌≤◌, Bool, true, false, ◌&&◌, ◌||◌, ◌==◌, ◌≢◌, if◌then◌else◌, Option, Some, None, List, [], ◌∷◌, length, replicate, refl, ap, sym, ◌∙◌, arith}
+use Rattle.std.proofs.Common.{◌≡◌, ℕ, ◌≤◌, Bool, true, false, ◌&&◌, ◌||◌, ◌==◌, ◌≢◌, if◌then◌else◌, Option, Some, None, [], ◌∷◌, refl, ap, sym, ◌∙◌, arith}
 use Rattle.std.proofs.lemmas.Bool.{ne_eqb}
-use Rattle.std.proofs.lemmas.List.{length-replicate}
 use Rattle.bus_word.specs.declared.status.StatusParts.{StatusParts}
 use Rattle.bus_word.specs.declared.cell.Cell.{Cell}
 use Rattle.bus_word.specs.declared.cell.Cell.TheVariants.{OwnReceive, OwnTransmit, BroadReceive, OwnMode, BroadMode}
-use Rattle.bus_word.specs.Command.{address_of, is_broadcast}
-use Rattle.bus_word.specs.Mode.{mode_row}
-use Rattle.bus_word.specs.Cell.{is_data_place, allows_broadcast}
 use Rattle.bus_word.specs.Status.{status_word}
 use Rattle.bus_legal.specs.Description.{Description}
-use Rattle.bus_terminal.specs.declared.event.Event.{Event}
-use Rattle.bus_terminal.specs.History.{Noted, noted, Ending, Nothing, Illegal, Done}
+use Rattle.bus_terminal.specs.History.{noted, Ending, Nothing, Illegal, Done}
 use Rattle.bus_terminal.specs.Ends.{verdict, well}
 use Rattle.bus_terminal.specs.SinceReset.{inhibited_now}
-use Rattle.bus_terminal.specs.Status.{no_parts, inhibited_after, formed_done, is_reset_cell, kept_by_end, adds_error, kept_now}
+use Rattle.bus_terminal.specs.Status.{no_parts, inhibited_after, is_reset_cell, kept_by_end, adds_error, kept_now}
 use Rattle.bus_terminal.specs.Machine.Registers.{kept_after}
 use Rattle.bus_terminal.specs.Exchanges.{Exchange, script_of, command_event, gap_note, is_meant, command_note, ending_of_exchange, exchange_notes, exchange_answer}
-use Rattle.bus_terminal.specs.Distinguish.{TellsApart, all_terminals, receive_zeros, mode_code, ask, option_script, broadcast_receive_script, broadcast_code_script}
+use Rattle.bus_terminal.specs.Distinguish.{TellsApart, all_terminals, mode_code, ask, option_script}
 use Rattle.bus_terminal.proofs.KeptLaw.{kept_step}
-use Rattle.bus_terminal.proofs.Distinguish.Commands.{IsTo, receive_to_all, code_to_all, code_to_own, ask_to_all, moved}
+use Rattle.bus_terminal.proofs.Distinguish.Commands.{IsTo, code_to_own, ask_to_all, moved}
 use Rattle.bus_terminal.proofs.Distinguish.Last.{apart_by_two, status_in}
 use Rattle.bus_terminal.proofs.Distinguish.Quiet.{notes_at, plain, formed_plain, words_kept}
 use Rattle.bus_terminal.proofs.Distinguish.Own.{ended, status_asked}

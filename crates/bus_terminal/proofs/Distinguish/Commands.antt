@@ -1,19 +1,19 @@
 -- What the commands of the scripts are.
-use Rattle.std.proofs.Common.{◌≡◌, ℕ, zero, suc, ◌+◌, ◌%◌, ◌^◌, ◌<◌, ◌≤◌, Bool, true, false, not, ◌&&◌, ◌||◌, ◌==◌, nat_le, if◌then◌else◌, Option, Some, None, is_some, List, [], ◌∷◌, length, replicate, refl, ap, sym, ◌∙◌, arith}
+use Rattle.std.proofs.Common.{◌≡◌, ℕ, zero, suc, ◌%◌, ◌^◌, ◌<◌, ◌≤◌, Bool, true, false, not, ◌&&◌, ◌||◌, ◌==◌, nat_le, if◌then◌else◌, Option, Some, None, is_some, List, [], ◌∷◌, length, replicate, refl, ap, sym, ◌∙◌, arith}
 use Rattle.std.specs.List.{list_all}
 use Rattle.std.proofs.lemmas.Bool.{eqb-true, ne_eqb, and_parts}
 use Rattle.std.proofs.lemmas.Bool.Decides.{nat_tests}
-use Rattle.std.proofs.lemmas.List.{length-replicate}
 use Rattle.bus_word.specs.declared.mode.ModeRow.{ModeRow}
 use Rattle.bus_word.specs.declared.cell.Cell.{Cell}
 use Rattle.bus_word.specs.declared.cell.Cell.TheVariants.{OwnReceive, OwnTransmit, BroadReceive, OwnMode, BroadMode}
-use Rattle.bus_word.specs.Command.{Fields, word_of, fields_of, address_of, transmits, code_of, count_in, count_of, is_mode, is_broadcast, expected}
+use Rattle.bus_word.specs.Command.{Fields, fields_of, address_of, transmits, code_of, count_in, is_mode, is_broadcast}
 use Rattle.bus_word.specs.Mode.{ModeEntry, entry, row_in, mode_table, mode_row}
 use Rattle.bus_word.specs.Cell.{data_cell, same_bool, mode_cell_by, cell_of, is_data_place, allows_broadcast}
 use Rattle.bus_word.proofs.WordLaws.{fields_are_unique}
 use Rattle.bus_word.proofs.CellLaws.{data_by, mode_by}
 use Rattle.bus_terminal.specs.Exchanges.{Exchange, IsWhole}
-use Rattle.bus_terminal.specs.Distinguish.{all_terminals, command_of, receive, receive_zeros, transmit, mode_code}
+use Rattle.bus_terminal.specs.Distinguish.{all_terminals, command_of, receive, transmit, mode_code}
+use Rattle.bus_terminal.proofs.HeldLaw.{place_count}
 
 -- words of 16 bits
 abbrev pub AreSmall : List ℕ → Type 0
@@ -24,7 +24,8 @@ pub zeros_small : (n : ℕ) → AreSmall (replicate n 0)
 zeros_small zero = tt
 zeros_small (suc n) = (omega arith, zeros_small n)
 
--- an exchange whose command goes to this address, and has this cell or none
+-- An exchange whose command goes to this address, and has this cell or none. It is whole, its words are of 16 bits,
+-- and its data words are few.
 pub record IsTo (to : ℕ) (has : Option Cell) (x : Exchange) : Type 0 where
   pub address : address_of x.command ≡ to
   pub cell : cell_of x.command ≡ has
@@ -87,11 +88,8 @@ not_all address low = ne_eqb address 31 (λ e. omega arith)
 abbrev cell_if : Bool → Bool → Bool → ℕ → ℕ → ℕ → Option Cell
 cell_if mode transmit by_broadcast s low n = if mode then mode_by (mode_row low) transmit by_broadcast low else data_by transmit by_broadcast s n
 
-place_few : (s n : ℕ) → is_data_place s n ≡ true → n ≤ 32
-place_few s n e = grind (arith, nat_tests)
-
 words_few : (s n : ℕ) (words : List ℕ) → is_data_place s n ≡ true → length words ≡ n → length words ≤ 32
-words_few s n words place l = let few : n ≤ 32 = place_few s n place in omega arith
+words_few s n words place l = let few : n ≤ 32 = place_count s n place in omega arith
 
 pub receive_to_own : (address s n : ℕ) (words : List ℕ) → address ≤ 30 → is_data_place s n ≡ true → length words ≡ n → AreSmall words → IsTo address (Some (OwnReceive s n)) (receive address s n words)
 receive_to_own address s n words low place l fit =
@@ -129,6 +127,7 @@ scripted_in (e ∷ entries) code row all is = by_here (code == e.code) refl is (
   where
     parts : (is_as_scripted e ≡ true) × (list_all is_as_scripted entries ≡ true)
     parts = and_parts (is_as_scripted e) (list_all is_as_scripted entries) all
+
     by_here : (here : Bool) → (code == e.code) ≡ here → (if here then Some e.row else row_in entries code) ≡ Some row → (row_in entries code ≡ Some row → is_as_scripted (entry code row) ≡ true) →
         is_as_scripted (entry code row) ≡ true
     by_here true at is later =
@@ -162,8 +161,10 @@ code_to address code row by_broadcast high all is allowed = by_17 (code == 17) r
   where
     facts : (nat_le code 31 ≡ true) × (same_bool (not (code == 17)) row.transmit ≡ true)
     facts = scripted code row is
+
     cell_at : (tr : ℕ) → same_bool (tr == 1) row.transmit ≡ true → cell_by (fields address tr 0 code) ≡ Some (mode_is by_broadcast code)
     cell_at tr e = (λ j. mode_by (is j) (tr == 1) (all j) code) ∙ mode_chosen row (tr == 1) by_broadcast code e allowed
+
     by_17 : (t : Bool) → (code == 17) ≡ t →
         IsTo address (Some (mode_is by_broadcast code)) (if t then (record { command = command_of address 0 0 code; words = 0 ∷ [] }) else (record { command = command_of address 1 0 code; words = [] }))
     by_17 true e =

@@ -1,20 +1,18 @@
 -- Terminals that differ in a word that they hold at power-up, or in wraparound.
-use Rattle.std.proofs.Common.{◌≡◌, ℕ, zero, suc, ◌+◌, ◌-◌, ◌≤◌, ◌<◌, Bool, true, false, ◌≢◌, ◌||◌, ◌&&◌, nat_le, if◌then◌else◌, Option, Some, None, List, [], ◌∷◌, length, replicate, get_or, refl, ap, sym, ◌∙◌, arith}
-use Rattle.std.proofs.lemmas.Bool.Decides.{nat_tests}
+use Rattle.std.proofs.Common.{◌≡◌, ℕ, zero, suc, ◌+◌, ◌-◌, ◌≤◌, ◌<◌, Bool, true, false, ◌≢◌, ◌&&◌, if◌then◌else◌, Some, None, List, [], ◌∷◌, length, replicate, get_or, refl, ap, sym, ◌∙◌, arith}
 use Rattle.std.proofs.lemmas.List.{length-replicate}
-use Rattle.bus_word.specs.declared.word.Bus.TheVariants.{A}
 use Rattle.bus_word.specs.declared.cell.Cell.{Cell}
 use Rattle.bus_word.specs.declared.cell.Cell.TheVariants.{OwnReceive, OwnTransmit, BroadReceive, OwnMode, BroadMode}
 use Rattle.bus_word.specs.Cell.{is_data_place}
 use Rattle.bus_legal.specs.Description.{Description, wrap_subaddress}
-use Rattle.bus_terminal.specs.declared.event.Event.{Event}
 use Rattle.bus_terminal.specs.LookBack.{or_else}
-use Rattle.bus_terminal.specs.History.{Noted, Ending, Done}
+use Rattle.bus_terminal.specs.History.{Noted, Done}
 use Rattle.bus_terminal.specs.SinceReset.{held_set, held_now}
-use Rattle.bus_terminal.specs.Out.{words_from, sent_on, reply}
+use Rattle.bus_terminal.specs.Out.{words_from}
 use Rattle.bus_terminal.specs.Exchanges.{Exchange, script_of, gap_note, ending_of_exchange, exchange_notes, exchange_answer}
 use Rattle.bus_terminal.specs.Distinguish.{TellsApart, all_terminals, receive, transmit, own_transmit_script, shown_wraparound}
 use Rattle.bus_terminal.proofs.BackLaw.{held_step}
+use Rattle.bus_terminal.proofs.HeldLaw.{place_some}
 use Rattle.bus_terminal.proofs.Distinguish.Commands.{IsTo, zeros_small, receive_to_own, receive_to_all, transmit_from_own, moved}
 use Rattle.bus_terminal.proofs.Distinguish.Last.{apart_by_one, apart_by_two, words_in}
 use Rattle.bus_terminal.proofs.Distinguish.Quiet.{notes_at, exchange_back}
@@ -75,13 +73,13 @@ done_held P h c (OwnReceive s n) d ds at =
     ap (λ s. held_now P (gap_note h (Done c (OwnReceive s n) (d ∷ ds)) ∷ h) wrap_subaddress 1) at
     ∙ (held_step P wrap_subaddress 1 (gap_note h (Done c (OwnReceive wrap_subaddress n) (d ∷ ds))) h
     ∙ wrapped_first P.wrap d (held_now P h wrap_subaddress 1))
-done_held P h c (OwnTransmit s n) d ds at = absurd at
-done_held P h c (OwnMode code) d ds at = absurd at
-done_held P h c (BroadMode code) d ds at = absurd at
 done_held P h c (BroadReceive s n) d ds at =
     ap (λ s. held_now P (gap_note h (Done c (BroadReceive s n) (d ∷ ds)) ∷ h) wrap_subaddress 1) at
     ∙ (held_step P wrap_subaddress 1 (gap_note h (Done c (BroadReceive wrap_subaddress n) (d ∷ ds))) h
     ∙ wrapped_first P.wrap d (held_now P h wrap_subaddress 1))
+done_held P h c (OwnTransmit s n) d ds at = absurd at
+done_held P h c (OwnMode code) d ds at = absurd at
+done_held P h c (BroadMode code) d ds at = absurd at
 
 -- the first word sent after a receive message, and then a transmit message
 wrap_sent : (P : Description) (x y : Exchange) (to : ℕ) (cell : Cell) (m d : ℕ) (ds : List ℕ) → P.address ≤ 30 → IsTo to (Some cell) x →
@@ -111,27 +109,20 @@ wrap_apart P Q x to cell m ds low same first received p_ends q_ends place p_lega
     let w : ℕ = P.initial wrap_subaddress 1 in
     let y : Exchange = transmit P.address wrap_subaddress m in
     let second : IsTo P.address (Some (OwnTransmit wrap_subaddress m)) y = transmit_from_own P.address wrap_subaddress m low place in
-    let some : 1 ≤ m = count_from m place in
+    let some : 1 ≤ m = place_some wrap_subaddress m place in
     let low_q : Q.address ≤ 30 = omega arith in
     apart_by_two (λ o. word_in 1 (words_in o)) P Q to P.address (Some cell) (Some (OwnTransmit wrap_subaddress m)) x y (held_first P.wrap (65535 - w) w) (held_first Q.wrap (65535 - w) w) first second refl
     (wrap_sent P x y to cell m (65535 - w) ds low first p_ends received second some p_legal)
     (wrap_sent Q x y to cell m (65535 - w) ds low_q first q_ends received (moved P.address Q.address (Some (OwnTransmit wrap_subaddress m)) y same second) some q_legal
     ∙ ap (held_first Q.wrap (65535 - w)) (sym initial))
     (λ e. other (wrap_told P.wrap Q.wrap w e))
-  where
-    count_from : (m : ℕ) → is_data_place wrap_subaddress m ≡ true → 1 ≤ m
-    count_from m place = grind (arith, nat_tests)
 
 -- so many data words, the first of them this one
 words_length : (n d : ℕ) → is_data_place wrap_subaddress n ≡ true → length (d ∷ replicate (n - 1) 0) ≡ n
 words_length n d place =
-    let some : 1 ≤ n = count_from n place in
-    ap suc (length-replicate (n - 1) 0) ∙ again n some
-  where
-    count_from : (n : ℕ) → is_data_place wrap_subaddress n ≡ true → 1 ≤ n
-    count_from n place = grind (arith, nat_tests)
-    again : (n : ℕ) → 1 ≤ n → suc (n - 1) ≡ n
-    again n some = omega arith
+    let some : 1 ≤ n = place_some wrap_subaddress n place in
+    let again : suc (n - 1) ≡ n = omega arith in
+    ap suc (length-replicate (n - 1) 0) ∙ again
 
 pub own_wraparound_tells : (P Q : Description) (n m : ℕ) → P.address ≤ 30 → P.address ≡ Q.address →
     is_data_place wrap_subaddress n ≡ true → P.legal (OwnReceive wrap_subaddress n) ≡ true → Q.legal (OwnReceive wrap_subaddress n) ≡ true →

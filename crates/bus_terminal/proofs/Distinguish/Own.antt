@@ -1,24 +1,23 @@
 -- What a command to the own address is answered.
-use Rattle.std.proofs.Common.{◌≡◌, ℕ, ◌+◌, ◌*◌, ◌≤◌, Bool, true, false, not, ◌&&◌, ◌||◌, ◌==◌, if◌then◌else◌, Option, Some, None, List, [], ◌∷◌, refl, ap, sym, ◌∙◌, arith}
+use Rattle.std.proofs.Common.{◌≡◌, ℕ, ◌≤◌, Bool, true, false, ◌&&◌, ◌||◌, ◌==◌, if◌then◌else◌, Some, None, List, [], ◌∷◌, refl, ap, sym, ◌∙◌}
 use Rattle.std.proofs.lemmas.Bool.{eq-eqb, eqb-true}
 use Rattle.bus_word.specs.declared.word.Bus.TheVariants.{A}
 use Rattle.bus_word.specs.declared.status.StatusParts.{StatusParts}
 use Rattle.bus_word.specs.declared.cell.Cell.{Cell}
 use Rattle.bus_word.specs.declared.cell.Cell.TheVariants.{OwnReceive, OwnTransmit, BroadReceive, OwnMode, BroadMode}
 use Rattle.bus_word.specs.Command.{address_of, is_broadcast}
-use Rattle.bus_word.specs.Cell.{cell_of}
 use Rattle.bus_word.specs.Status.{status_word}
 use Rattle.bus_legal.specs.Description.{Description}
 use Rattle.bus_terminal.specs.History.{Noted, noted, Ending, Nothing, Illegal, Done}
 use Rattle.bus_terminal.specs.Ends.{verdict, well}
 use Rattle.bus_terminal.specs.SinceReset.{inhibited_now}
-use Rattle.bus_terminal.specs.Status.{no_parts, accepts, inhibited_after, formed_done, reports_kept, spares, spares_kept, kept_by_command, start_first, kept_now}
+use Rattle.bus_terminal.specs.Status.{accepts, inhibited_after, formed_done, reports_kept, spares, spares_kept, kept_by_command, start_first, kept_now}
 use Rattle.bus_terminal.specs.Machine.Registers.{kept_after}
-use Rattle.bus_terminal.specs.Out.{Reply, reply, command_ended, sent_on, sends}
-use Rattle.bus_terminal.specs.Exchanges.{Exchange, is_meant, command_event, command_note, notes_before_gap, ending_of_exchange, exchange_notes, exchange_answer}
+use Rattle.bus_terminal.specs.Out.{reply, command_ended, sent_on, sends}
+use Rattle.bus_terminal.specs.Exchanges.{Exchange, is_meant, command_event, command_note, ending_of_exchange, exchange_notes, exchange_answer}
 use Rattle.bus_terminal.proofs.KeptLaw.{kept_step}
 use Rattle.bus_terminal.proofs.Distinguish.Commands.{IsTo, own_no_broadcast}
-use Rattle.bus_terminal.proofs.Distinguish.Last.{status_in, words_in}
+use Rattle.bus_terminal.proofs.Distinguish.Last.{status_in}
 use Rattle.bus_terminal.proofs.Distinguish.Quiet.{notes_at, plain, formed_plain, on_at, words_kept}
 
 -- an exchange that is for the terminal ends by the legality of its cell

@@ -1,13 +1,13 @@
 -- Two descriptions with nothing in them that can't be reached, alike in what comes before and different in one
 -- thing, are told apart by its script.
-use Rattle.std.proofs.Common.{◌≡◌, ℕ, zero, suc, ◌≤◌, Bool, true, false, ◌≢◌, ◌&&◌, ◌||◌, cond, nat_le, if◌then◌else◌, ◌⊎◌, inl, inr, List, [], ◌∷◌, refl, ap, sym, ◌∙◌, arith}
+use Rattle.std.proofs.Common.{◌≡◌, ℕ, zero, suc, ◌≤◌, Bool, true, false, ◌≢◌, ◌&&◌, ◌||◌, cond, nat_le, if◌then◌else◌, ◌⊎◌, inl, inr, refl, ap, sym, ◌∙◌, arith}
 use Rattle.std.proofs.lemmas.Bool.{and_parts}
 use Rattle.std.proofs.lemmas.Bool.Decides.{nat_tests}
 use Rattle.bus_word.specs.declared.cell.Cell.{Cell}
 use Rattle.bus_word.specs.declared.cell.Cell.TheVariants.{OwnReceive, OwnTransmit, BroadReceive, OwnMode, BroadMode}
-use Rattle.bus_word.specs.Cell.{is_data_place, is_allowed}
+use Rattle.bus_word.specs.Cell.{is_allowed}
 use Rattle.bus_legal.specs.Description.{Description, wrap_subaddress}
-use Rattle.bus_legal.specs.Reach.{any_to, any_count, largest_to, largest_count, is_heard, transmits, receives, can_wrap, can_transmit, reach}
+use Rattle.bus_legal.specs.Reach.{any_to, any_count, largest_count, is_heard, transmits, receives, can_wrap, can_transmit, reach}
 use Rattle.bus_legal.specs.Parts.{Parts, description_in, IsNormal}
 use Rattle.bus_legal.proofs.Counts.{largest_to-passes, any_to-or, any_to-and}
 use Rattle.bus_legal.proofs.NormalLaws.{reach-normal, required-legal}
@@ -142,6 +142,7 @@ apart_by_initial P Q s i p q same alike other =
   where
     at_least : (i m : ℕ) → nat_le 1 i && nat_le i m ≡ true → 1 ≤ i
     at_least i m e = grind (arith, nat_tests)
+
     at_most : (i m : ℕ) → nat_le 1 i && nat_le i m ≡ true → i ≤ m
     at_most i m e = grind (arith, nat_tests)
 
@@ -188,8 +189,10 @@ apart_by_wraparound P Q p q same alike other = by_own (any_count (receives_own P
     both =
         and_parts (any_count (receives P wrap_subaddress)) (any_count (transmits P wrap_subaddress))
         (asked_for P.wrap Q.wrap (can_wrap P wrap_subaddress) (can_wrap Q wrap_subaddress) other (can_wrap-alike P Q alike) (wrap_asked P p) (wrap_asked Q q))
+
     sends : P.legal (OwnTransmit wrap_subaddress (least_count (transmits P wrap_subaddress))) ≡ true
     sends = least_passes (transmits P wrap_subaddress) both.1
+
     by_own : (b : Bool) → any_count (receives_own P) ≡ b →
         TellsApart P Q (if b then shown_wraparound P P.address (least_count (receives_own P)) (least_count (transmits P wrap_subaddress)) else shown_wraparound P all_terminals (least_count (receives_broadcast P)) (least_count (transmits P wrap_subaddress)))
     by_own true e =

@@ -1,19 +1,15 @@
--- Terminals that differ in acceptance, in a word that they transmit, or in wraparound.
-use Rattle.std.proofs.Common.{◌≡◌, ℕ, ◌+◌, ◌*◌, ◌≤◌, Bool, true, false, ◌≢◌, ◌||◌, ◌&&◌, Option, Some, None, List, [], ◌∷◌, refl, ap, sym, ◌∙◌, arith}
-use Rattle.bus_word.specs.declared.word.Bus.TheVariants.{A}
-use Rattle.bus_word.specs.declared.cell.Cell.{Cell}
-use Rattle.bus_word.specs.declared.cell.Cell.TheVariants.{OwnReceive, OwnTransmit, BroadReceive, OwnMode}
+-- Terminals that differ in acceptance, in the vector word or in the BIT word.
+use Rattle.std.proofs.Common.{◌≡◌, ℕ, ◌≤◌, Bool, true, false, ◌≢◌, Some, List, [], ◌∷◌, refl, ap, sym, ◌∙◌, arith}
+use Rattle.bus_word.specs.declared.cell.Cell.TheVariants.{OwnMode}
 use Rattle.bus_word.specs.Status.{status_word}
 use Rattle.bus_legal.specs.Description.{Description}
 use Rattle.bus_terminal.specs.LookBack.{or_else}
-use Rattle.bus_terminal.specs.History.{Noted, Done}
-use Rattle.bus_terminal.specs.SinceReset.{vector_set, vector_now, bit_set, bit_now}
-use Rattle.bus_terminal.specs.Out.{sent_on, reply}
+use Rattle.bus_terminal.specs.SinceReset.{vector_set, bit_set}
 use Rattle.bus_terminal.specs.Exchanges.{Exchange, exchange_answer}
 use Rattle.bus_terminal.specs.Distinguish.{TellsApart, mode_code, acceptance_script, vector_script, bit_script}
 use Rattle.bus_terminal.proofs.Distinguish.Commands.{IsTo, code_to_own, moved}
 use Rattle.bus_terminal.proofs.Distinguish.Last.{apart_by_one, status_in, words_in}
-use Rattle.bus_terminal.proofs.Distinguish.Quiet.{notes_at, plain, exchange_back}
+use Rattle.bus_terminal.proofs.Distinguish.Quiet.{plain, exchange_back}
 use Rattle.bus_terminal.proofs.Distinguish.Own.{parts_by, own_sent, status_at_power_up}
 
 -- 8: acceptance of dynamic bus control

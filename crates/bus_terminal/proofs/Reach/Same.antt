@@ -1,19 +1,14 @@
 -- What can't be reached changes no answer.
-use Rattle.std.proofs.Common.{◌≡◌, ℕ, ◌≤◌, true, ◌&&◌, cond, List, [], ◌∷◌, refl, ap, sym, ◌∙◌, arith}
-use Rattle.std.proofs.lemmas.Bool.Decides.{nat_tests}
-use Rattle.bus_word.specs.Cell.{is_data_place}
+use Rattle.std.proofs.Common.{◌≡◌, ◌≤◌, ◌&&◌, cond, List, [], ◌∷◌, refl, ap, sym, ◌∙◌}
 use Rattle.bus_legal.specs.Description.{Description}
 use Rattle.bus_legal.specs.Reach.{reached, reach}
 use Rattle.bus_legal.proofs.Descriptions.{initial-reach, wrap-reach}
 use Rattle.bus_terminal.specs.declared.event.Event.{Event}
 use Rattle.bus_terminal.specs.Out.{out, outs_from, outs}
 use Rattle.bus_terminal.specs.Same.{Same}
-use Rattle.bus_terminal.proofs.HeldLaw.{place_count}
+use Rattle.bus_terminal.proofs.HeldLaw.{place_count, place_some}
 use Rattle.bus_terminal.proofs.Reach.Agrees.{Agrees}
 use Rattle.bus_terminal.proofs.Reach.Answers.{out_alike}
-
-count_from : (s n : ℕ) → is_data_place s n ≡ true → 1 ≤ n
-count_from s n e = grind (arith, nat_tests)
 
 -- what can be reached agrees where it can be asked for
 reached_agrees : (P : Description) → Agrees P (reached P)
@@ -23,7 +18,7 @@ reached_agrees P = record {
   vector = λ legal. ap (λ b. cond b P.vector 0) legal;
   bit = λ legal. ap (λ b. cond b P.bit 0) legal;
   initial = λ s n i sent place low high. initial-reach P s n i sent (place_count s n place) low high;
-  wrap = λ m n received place sent place_of_it. wrap-reach P m n received (count_from 30 m place) (place_count 30 m place) sent (count_from 30 n place_of_it) (place_count 30 n place_of_it);
+  wrap = λ m n received place sent place_of_it. wrap-reach P m n received (place_some 30 m place) (place_count 30 m place) sent (place_some 30 n place_of_it) (place_count 30 n place_of_it);
 }
 
 pub out-reach : (P : Description) (h : List Event) (e : Event) → P.address ≤ 30 → out (reach P) h e ≡ out P h e
