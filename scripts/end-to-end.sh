@@ -35,6 +35,9 @@ row() {
 # what the program reads in the rows that follow
 input() { printf %b "$1" >"$work/stdin"; }
 
+# the script that `run` plays in the rows that follow
+script() { printf %b "$1" >"$work/script"; }
+
 # the cases of a folder: the words of NAME.args, the input NAME.stdin, and what the program must give
 vectors() {
     local folder=$1 args case status words
@@ -60,6 +63,26 @@ answers_at_once() {
     printf '# done\n' >&"${terminal[1]}"
     eval "exec ${terminal[1]}>&-"
     wait "$terminal_PID" 2>/dev/null
+}
+
+# the same where the script is a pipe with a name, for two answers, the first of them with half of the next
+# line already there
+run_answers_at_once() {
+    local first second script answers
+    mkfifo "$work/pipe" "$work/answers"
+    (cd "$work" && exec "$program" run five pipe <stdin >answers 2>stderr) &
+    # opened in both directions, a pipe doesn't wait for its other end
+    exec {script}<>"$work/pipe" {answers}<>"$work/answers"
+    printf 'A c 2c02\nA gap\nB c 2c' >&"$script"
+    read -r -t 10 first <&"$answers"
+    printf '02\nB gap\n' >&"$script"
+    read -r -t 10 second <&"$answers"
+    [[ $first == 'A s 2800' && $second == 'B s 2800' ]]
+    count 'run, an answer comes before the next line' $?
+    exec {script}>&-
+    wait "$!"
+    exec {answers}>&-
+    rm "$work/pipe" "$work/answers"
 }
 
 # runs the program with WORD.. and its input, each growth of memory refused in turn until a run meets no
@@ -119,6 +142,59 @@ failing() {
     count "$variable=$number $*" $?
 }
 
+# runs `five` over `script` with one read or write that fails: strike VARIABLE NUMBER. Sets `given`, the status,
+# and `struck`, 0 if one has failed; $work holds what the run gave
+strike() {
+    rm -f "$work/mark"
+    (cd "$work" && env LD_PRELOAD="$work/refuse.so" REFUSE_MARK="$work/mark" "$1=$2" "$program" run five script <stdin >stdout 2>stderr)
+    given=$?
+    [[ -e $work/mark ]]
+    struck=$?
+}
+
+length_of() { stat -c %s "$work/$1"; }
+
+# whether what the program gave begins what it should give, which is $work/want-stdout
+is_beginning() { cmp -s -n "$(length_of stdout)" "$work/stdout" "$work/want-stdout"; }
+
+# each read of a run fails in turn until a run meets no failure. The first reads are those of the profile
+# file. Those after them are of the script: the answers to the lines before stand, and at the last one, which
+# finds the end, that is the whole transcript.
+run_with_failing_reads() {
+    local number=1 files=0 scripts=0 length=0 given struck=0
+    for ((number = 1; number < 500; number++)); do
+        strike REFUSE_READ "$number"
+        [[ $struck -eq 0 ]] || break
+        case $given,$(cat "$work/stderr") in
+            '4,file: cannot read five')
+                [[ $scripts -eq 0 && ! -s $work/stdout ]] || break
+                files=$((files + 1))
+                ;;
+            '4,input: read failed')
+                [[ $(length_of stdout) -ge $length && -z $(tail -c 1 "$work/stdout") ]] && is_beginning || break
+                length=$(length_of stdout)
+                scripts=$((scripts + 1))
+                ;;
+            *) break ;;
+        esac
+    done
+    [[ $struck -ne 0 && $given -eq 0 && $files -ge 1 && $scripts -ge 2 && $length -eq $(length_of want-stdout) ]]
+    count "run, failing reads, $files of the profile and $scripts of the script" $?
+}
+
+# each write of the transcript fails in turn until a run meets no failure: not all of it stands
+run_with_failing_writes() {
+    local number given struck=0
+    for ((number = 1; number < 500; number++)); do
+        strike REFUSE_WRITE "$number"
+        [[ $struck -eq 0 ]] || break
+        [[ $given -eq 4 && $(cat "$work/stderr") == 'output: write failed' ]] || break
+        [[ $(length_of stdout) -lt $(length_of want-stdout) ]] && is_beginning || break
+    done
+    [[ $struck -ne 0 && $given -eq 0 && $number -gt 2 ]] && cmp -s "$work/stdout" "$work/want-stdout"
+    count "run, $((number - 1)) failing writes" $?
+}
+
 usage='usage: rt1553 [check P, canon P, run P SCRIPT, compare P Q]'
 
 usage_rows() {
@@ -158,7 +234,9 @@ run five script x
 compare five six x
 check five -- six
 -- check five
-run five script
+RUN five script
+run five script -- x
+run -x script
 WORDS
     row 'usage: an empty word' 3 '' "$usage"$'\n' ''
     row 'usage: two words in one' 3 '' "$usage"$'\n' 'check five'
@@ -175,6 +253,8 @@ standard_input_rows() {
     row refused-line 2 $'A s 2800\n' $'script: line 3\n'
     input 'A c 2c02\nA gap\nA x'
     row 'refused line without a line feed' 2 $'A s 2800\n' $'script: line 3\n'
+    input 'A c 2861\nA d 0007\nA gap\nflag service 1\nB c 2c05\nB gap\nwrite 30 32 ffff\nvector 00aa\nbit 00BB\nB noise\nB c 2fe2\nB gap\n'
+    row 'every kind of line' 0 $'A s 2c00\nB s 2900\nB s 2900\n' ''
 
     printf 'A c 2c02\nA gap\n' | "$program" >/dev/full 2>"$work/stderr"
     [[ ${PIPESTATUS[1]} -eq 4 && $(cat "$work/stderr") == 'output: write failed' ]]
@@ -225,6 +305,218 @@ file_rows() {
     done
 }
 
+# profiles and scripts by their names, and what a run says of them
+run_file_rows() {
+    script 'A c 2c02\nA gap\n'
+    input 'A x\n'
+    row 'run' 0 $'A s 2800\n' '' run five script
+    row 'run --' 0 $'A s 2800\n' '' run -- five script
+    row 'run of a canonical text' 0 $'A s 2800\n' '' run canonical script
+    row 'run of the largest profile file' 0 $'A s 2800\n' '' run largest script
+    row 'run of the empty file' 0 '' '' run five /dev/null
+    row 'run, an absent profile' 4 '' $'file: cannot read missing\n' run missing script
+    row 'run, an absent script' 4 '' $'file: cannot read absent\n' run five absent
+    row 'run, both absent' 4 '' $'file: cannot read missing\n' run missing absent
+    row 'run, a profile that is a folder' 4 '' $'file: cannot read folder\n' run folder script
+    row 'run, an empty name of a profile' 4 '' $'file: cannot read \n' run '' script
+    row 'run, an empty name of a script' 4 '' $'file: cannot read \n' run five ''
+    row 'run, a profile file too large' 4 '' $'file: too large over\n' run over script
+    row 'run, too large before absent' 4 '' $'file: too large over\n' run over absent
+    row 'run, absent before refused' 4 '' $'file: cannot read absent\n' run bad absent
+    row 'run, a refused profile' 2 '' $'profile: root: address is out of range\n' run bad script
+    row 'run, a refused canonical text' 2 '' $'canonical text: line 64\n' run cut script
+    row 'run, bytes after a canonical text' 2 '' $'canonical text: bytes after the end\n' run trailing script
+    script 'A x\n'
+    row 'run, the profile is refused first' 2 '' $'profile: root: address is out of range\n' run bad script
+    script 'A c 2c02\nA gap\n'
+    (cd "$work" && "$program" run five script >/dev/full 2>stderr)
+    [[ $? -eq 4 && $(cat "$work/stderr") == 'output: write failed' ]]
+    count 'run on a full device' $?
+}
+
+# each fault that a whole profile may have, as a run tells it
+run_profile_rows() {
+    local text fault
+    while IFS='|' read -r text fault; do
+        printf %b "$text" >"$work/refused"
+        row "run, profile: $fault" 2 '' "profile: $fault"$'\n' run refused script
+    done <<'PROFILES'
+address = 5\naddress = 6|not TOML
+address = 5 # \0377|not TOML
+|root: address is missing
+address = 5\nspeed = 3|root: unknown key
+address = "5"|root: address has the wrong kind
+address = 5\nbroadcast = 1|root: broadcast has the wrong kind
+address = 5\nbit = 65536|root: bit is out of range
+address = 5\n[rule]|root: rule has the wrong kind
+address = 5\nrule = [[]]|rule 1: rule has the wrong kind
+address = 5\n[[rule]]\nsubaddresses = 3|rule 1: direction is missing
+address = 5\n[[rule]]\ndirection = "receive"\nsubaddresses = "1,,2"|rule 1: subaddresses is not a list of ranges
+address = 5\n[[rule]]\ndirection = "receive"\nsubaddresses = 3\ncounts = "4-2"|rule 1: counts is out of range
+address = 5\n[[mode]]\ncodes = 1\n[[mode]]\nto = "all"\ncodes = 1|mode 2: to is out of range
+address = 5\n[[mode]]\ncode = 1|mode 1: unknown key
+address = 5\n[[mode]]\ncodes = "0-31"\nlegal = false|mode code 2 must be legal
+address = 5\n[[initial]]\nsubaddress = 3\nat = 32\nwords = [1, 2]|initial 1: words has too many items
+address = 5\n[[initial]]\nsubaddress = 3\nwords = [70000, "x"]|initial 1: words is out of range
+PROFILES
+    { printf 'address = 5\n'; printf '[[mode]]\ncodes = 1\n%.0s' {1..257}; } >"$work/refused"
+    row 'run, profile: 257 mode entries' 2 '' $'profile: root: mode has too many items\n' run refused script
+    head -n -2 "$work/refused" >"$work/most"
+    row 'run, profile: 256 mode entries' 0 $'A s 2800\n' '' run most script
+}
+
+# a script of one exchange and then a line, which is taken (status 0) or refused: line NAME STATUS ERRORS TEXT
+line() {
+    script "A c 2c02\nA gap\n$4"
+    row "run, $1" "$2" $'A s 2800\n' "$3" run five script
+}
+
+run_line_rows() {
+    local text
+    while IFS= read -r text; do
+        line "a line taken: $text" 0 '' "$text\n"
+        line "a last line taken: $text" 0 '' "$text"
+    done <<'LINES'
+
+#
+# any bytes: \t \r \0 \0377 \0303\0244
+#23456789-123456789-123456789-123456789-123456789-123456789-1234
+A gap
+B noise
+A d FFff 0
+B c 2C02 1
+write 01 01 0000
+write 30 32 ffff
+vector 00aa
+bit 00AA
+flag service 1
+flag busy 0
+flag subsystem 1
+flag terminal 0
+LINES
+    while IFS= read -r text; do
+        line "a line refused: $text" 2 $'script: line 3\n' "$text\n"
+        line "a last line refused: $text" 2 $'script: line 3\n' "$text"
+    done <<'LINES'
+\r
+\0
+\0377
+ # no comment
+A
+A x
+A gap\r
+A gap\0
+A\tgap
+A  gap
+A gap 
+ A gap
+a gap
+C gap
+A GAP
+A gap 0
+A noise 1
+A c
+A c 2c0
+A c 2c022
+A c 0x2c
+A c +c02
+A c 2g02
+A c 2c02 2
+A c 2c02 01
+A c 2c02 0 0
+A c 2c02\0303\0244
+A e 2c02
+slot
+write 3 01 0000
+write 00 01 0000
+write 31 01 0000
+write 03 00 0000
+write 03 33 0000
+write 03 01
+write +3 01 0000
+vector
+vector 00a
+bit 00aaa
+flag busy
+flag busy 2
+flag Busy 1
+flag accept 1
+rt1553 1
+A23456789-123456789-123456789-123456789-123456789-123456789-1234
+LINES
+    line 'a comment of 65 bytes' 2 $'script: line 3 is too long\n' '#23456789-123456789-123456789-123456789-123456789-123456789-12345\n'
+    line 'a comment of 65 bytes with its CR' 2 $'script: line 3 is too long\n' '#23456789-123456789-123456789-123456789-123456789-123456789-1234\r\n'
+    line 'a bad line of 65 bytes' 2 $'script: line 3 is too long\n' 'A23456789-123456789-123456789-123456789-123456789-123456789-12345\n'
+    line 'a last line of 65 bytes' 2 $'script: line 3 is too long\n' '#23456789-123456789-123456789-123456789-123456789-123456789-12345'
+    line 'the first of two faults' 2 $'script: line 4\n' '# right\nA x\nA y\n'
+    line 'a line of 100,000 bytes' 2 $'script: line 3 is too long\n' "$(printf '%0100000d' 0)"
+    script 'A c 2c02\r\nA gap\r\n'
+    row 'run, lines that end in CR LF' 2 '' $'script: line 1\n' run five script
+    script 'A c 2c02\nA gap'
+    row 'run, a last line without its line feed' 0 $'A s 2800\n' '' run five script
+}
+
+# most lines, one more, and faults about there
+run_length_rows() {
+    local most=1048576
+    yes '' | head -n "$most" >"$work/script"
+    row 'run, 1,048,576 lines' 0 '' '' run five script
+    cp "$work/script" "$work/stdin"
+    row '1,048,576 lines on the standard input' 0 '' ''
+    { cat "$work/stdin"; echo; } >"$work/script"
+    row 'run, a line feed more' 2 '' $'script: too many lines\n' run five script
+    cp "$work/script" "$work/stdin"
+    row 'a line feed more on the standard input' 2 '' $'script: too many lines\n'
+    input ''
+    { printf 'A c 2c02\nA gap\n'; yes '#' | head -n "$((most - 4))"; printf 'B c 2c02\nB gap'; } >"$work/script"
+    row 'run, 1,048,576 lines of which the last lacks its line feed' 0 $'A s 2800\nB s 2800\n' '' run five script
+    { printf 'A c 2c02\nA gap\n'; yes '#' | head -n "$((most - 2))"; printf 'A'; } >"$work/script"
+    row 'run, a byte more' 2 $'A s 2800\n' $'script: too many lines\n' run five script
+    { printf 'A c 2c02\nA gap\n'; yes '#' | head -n "$((most - 2))"; printf '%080d\n' 0; } >"$work/script"
+    row 'run, a long line more' 2 $'A s 2800\n' $'script: too many lines\n' run five script
+    { printf 'A c 2c02\nA gap\n'; yes '#' | head -n "$((most - 3))"; printf 'A x\nA gap\n'; } >"$work/script"
+    row 'run, a bad line before too many' 2 $'A s 2800\n' $'script: line 1048576\n' run five script
+}
+
+# the longest answers: 32 words sent, 32 words handed over
+run_answer_rows() {
+    local words number
+    printf 'address = 5\n[[rule]]\ndirection = "both"\nsubaddresses = 3\n' >"$work/whole"
+    words=
+    for number in {1..32}; do words+=$(printf 'write 03 %02d ff%02x\\n' "$number" "$number"); done
+    script "${words}A c 2c60\nA gap\n"
+    words=$(printf 'A d ff%02x\\n' {1..32})
+    row 'run, 32 words sent' 0 "$(printf %b "A s 2800\n$words")"$'\n' '' run whole script
+    script "B c 2860\n${words//A/B}B gap\n"
+    words=$(printf ' ff%02x' {1..32})
+    row 'run, 32 words received' 0 $'B s 2800\nhand receive own 03'"$words"$'\n' '' run whole script
+}
+
+run_fault_rows() {
+    input ''
+    script 'A c 2c02\nA gap\n'
+    growths 'run' run five script
+    growths 'run of a whole profile' run whole script
+    growths 'run of a canonical text' run canonical script
+    growths 'run of a refused profile' run bad script
+    growths 'run, an absent script' run five absent
+    yes $'A c 2c02\nA gap' | head -n 32000 >"$work/script"
+    yes 'A s 2800' | head -n 16000 >"$work/want-stdout"
+    run_with_failing_reads
+    run_with_failing_writes
+    run_answers_at_once
+}
+
+run_rows() {
+    run_file_rows
+    input ''
+    run_profile_rows
+    run_line_rows
+    run_length_rows
+    run_answer_rows
+    run_fault_rows
+}
+
 fault_rows() {
     input 'A c 2c02\nA gap\n'
     growths 'no words'
@@ -246,7 +538,8 @@ rows() {
     standard_input_rows
     file_rows
     fault_rows
-    vectors "$top/tests/vectors/standard-input"
+    run_rows
+    vectors "$top/tests/vectors/scripts"
     vectors "$top/tests/vectors/address-profiles"
 }
 

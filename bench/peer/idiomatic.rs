@@ -27,10 +27,15 @@ fn play(
         script,
         transcript: &transcript,
     };
-    let result = play_lines(&mut terminal, BufReader::new(script), &transcript);
-    // what was answered before a fault stands
-    let flushed = transcript.borrow_mut().flush();
-    result.and(flushed.map_err(|_| Fault::Output))
+    let mut result = play_lines(&mut terminal, BufReader::new(script), &transcript);
+    let mut transcript = transcript.into_inner();
+    if !matches!(result, Err(Fault::Output)) {
+        // what was answered before a fault stands
+        result = result.and(transcript.flush().map_err(|_| Fault::Output));
+    }
+    // what a failed write has left is not tried again
+    let _ = transcript.into_parts();
+    result
 }
 
 fn play_lines(

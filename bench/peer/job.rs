@@ -1,4 +1,6 @@
 //! What both programs have in common: the words of the command line, the files, and how the program ends.
+//! Of the program rt1553 they do what takes a script: no words, and `run P SCRIPT`. A profile is read as
+//! TOML alone, and no canonical text.
 use crate::fault::Fault;
 use crate::profile::read_profile;
 use crate::terminal::Terminal;
