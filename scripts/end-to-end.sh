@@ -507,6 +507,18 @@ run_fault_rows() {
     run_answers_at_once
 }
 
+# each script of the examples, over the profile that its first line names
+example_rows() {
+    local example name profile
+    for example in "$top"/examples/scripts/*.script; do
+        name=${example%.script}
+        profile=$(sed -n '1s/^# Profile: //p' "$example")
+        "$program" run "$top/examples/profiles/$profile" "$example" <"$work/stdin" >"$work/stdout" 2>"$work/stderr"
+        [[ $? -eq 0 && ! -s $work/stderr ]] && cmp -s "$work/stdout" "$name.transcript"
+        count "${name#"$top"/}" $?
+    done
+}
+
 run_rows() {
     run_file_rows
     input ''
@@ -539,6 +551,7 @@ rows() {
     file_rows
     fault_rows
     run_rows
+    example_rows
     vectors "$top/tests/vectors/scripts"
     vectors "$top/tests/vectors/address-profiles"
 }
