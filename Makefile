@@ -15,4 +15,8 @@ install: build
 test:
 	bash scripts/gate.sh
 
-.PHONY: build install test
+# the program's speed beside that of two programs in plain Rust; no test
+bench:
+	bash bench/run.sh
+
+.PHONY: build install test bench

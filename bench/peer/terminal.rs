@@ -170,6 +170,8 @@ impl Command {
 struct Message {
     bus: Bus,
     command: Command,
+    /// How many data words are to follow its command.
+    expected: usize,
     is_legal: bool,
     phase: Phase,
     followed: Followed,
@@ -215,6 +217,7 @@ pub struct Terminal {
     profile: Profile,
     /// For each bus, whether the words since its last gap hold one for the terminal.
     heard: [bool; 2],
+    /// The message in progress: there is at most one on both buses.
     message: Option<Message>,
     /// The data words of the message in progress, as far as they came.
     received: [u16; WORDS],
@@ -254,7 +257,7 @@ impl Terminal {
     pub fn step(&mut self, event: Event) -> Answer<'_> {
         match event {
             Event::Word(bus, word) => self.take_word(bus, word),
-            Event::Noise(bus) => self.take_noise(bus),
+            Event::Noise(bus) => self.take_other(bus, None),
             Event::Gap(bus) => return self.take_gap(bus),
             Event::Write(subaddress, number, word) => {
                 self.held[usize::from(subaddress)][usize::from(number) - 1] = word;
@@ -266,21 +269,43 @@ impl Terminal {
         Answer::default()
     }
 
-    /// The message in progress on this bus. There is at most one on both.
-    fn message_on(&self, bus: Bus) -> Option<Message> {
-        self.message.filter(|message| message.bus == bus)
+    fn take_word(&mut self, bus: Bus, word: Word) {
+        match (word.is_valid, word.is_command) {
+            (true, true) => self.take_command(bus, Command(word.bits)),
+            (true, false) => self.take_other(bus, Some(word.bits)),
+            (false, _) => self.take_other(bus, None),
+        }
     }
 
-    fn take_word(&mut self, bus: Bus, word: Word) {
-        let command = Command(word.bits);
-        let is_command = word.is_command && word.is_valid;
-        let is_for_us = is_command && self.is_address_heard(command);
+    /// Takes what is neither a command nor a status word: the bits of a data word, or None for noise and
+    /// for words that are not valid, which are the same to a terminal.
+    #[inline]
+    fn take_other(&mut self, bus: Bus, data: Option<u16>) {
+        let Some(message) = self.message.as_mut().filter(|message| message.bus == bus) else {
+            return;
+        };
+        match (message.phase, message.followed, data) {
+            (Phase::Waiting(_), ..) => {
+                let message = *message;
+                self.end_in_error(message);
+            }
+            (_, Followed::Data(count), Some(bits)) if count < message.expected => {
+                self.received[count] = bits;
+                message.followed = Followed::Data(count + 1);
+            }
+            _ => message.followed = Followed::Wrong,
+        }
+    }
+
+    /// Takes a valid word with the sync of commands and status words.
+    fn take_command(&mut self, bus: Bus, command: Command) {
+        let is_for_us = self.is_address_heard(command);
         let was_heard = self.heard[bus as usize];
         self.heard[bus as usize] |= is_for_us;
-        let starts = match self.message_on(bus) {
+        let starts = match self.message.filter(|message| message.bus == bus) {
             None => is_for_us && !was_heard,
             Some(mut message) => match message.phase {
-                Phase::Waiting(address) if is_command && command.address() == address => {
+                Phase::Waiting(address) if command.address() == address => {
                     message.phase = Phase::Status;
                     self.message = Some(message);
                     false
@@ -290,9 +315,9 @@ impl Terminal {
                     self.end_in_error(message);
                     is_for_us
                 }
-                _ if is_for_us && self.is_broadcast_transmitter(message, command) => true,
+                _ if self.is_broadcast_transmitter(message, command) => true,
                 _ => {
-                    message.followed = self.follow(message, word);
+                    message.followed = self.follow(message, command);
                     self.message = Some(message);
                     false
                 }
@@ -321,58 +346,27 @@ impl Terminal {
             )
     }
 
-    /// What has followed in this message with this word as well.
-    fn follow(&mut self, message: Message, word: Word) -> Followed {
-        let Followed::Data(count) = message.followed else {
-            return Followed::Wrong;
-        };
-        if !word.is_valid {
-            return Followed::Wrong;
-        }
-        if word.is_command {
-            return match message.phase {
-                Phase::Command if count == 0 => self.other_transmitter(message, Command(word.bits)),
-                _ => Followed::Wrong,
-            };
-        }
-        if count == message.command.expected() {
-            return Followed::Wrong;
-        }
-        self.received[count] = word.bits;
-        Followed::Data(count + 1)
-    }
-
-    /// What a second command makes of a message: the transmitter of a transfer between two terminals, if
-    /// it is one (4.3.3.6.3).
-    fn other_transmitter(&self, message: Message, second: Command) -> Followed {
+    /// What a second word with the sync of commands makes of a message: a transfer from another terminal,
+    /// if it tells that terminal to transmit and nothing else has come (4.3.3.6.3).
+    fn follow(&self, message: Message, second: Command) -> Followed {
         let is_other = second.address() != self.profile.address && !second.is_broadcast();
-        if message.command.receives_data() && second.is_transmit() && is_other {
-            Followed::Transmitter(second.address())
-        } else {
-            Followed::Wrong
-        }
-    }
-
-    fn take_noise(&mut self, bus: Bus) {
-        let Some(mut message) = self.message_on(bus) else {
-            return;
-        };
-        if let Phase::Waiting(_) = message.phase {
-            self.end_in_error(message);
-        } else {
-            message.followed = Followed::Wrong;
-            self.message = Some(message);
+        let is_transfer = message.command.receives_data() && second.is_transmit() && is_other;
+        match (message.phase, message.followed) {
+            (Phase::Command, Followed::Data(0)) if is_transfer => {
+                Followed::Transmitter(second.address())
+            }
+            _ => Followed::Wrong,
         }
     }
 
     fn take_gap(&mut self, bus: Bus) -> Answer<'_> {
         self.heard[bus as usize] = false;
-        let Some(mut message) = self.message_on(bus) else {
+        let Some(mut message) = self.message.filter(|message| message.bus == bus) else {
             return Answer::default();
         };
         match (message.phase, message.followed) {
             (Phase::Command | Phase::Status, Followed::Data(count))
-                if count == message.command.expected() =>
+                if count == message.expected =>
             {
                 self.message = None;
                 return self.complete(message);
@@ -393,6 +387,7 @@ impl Terminal {
         let message = Message {
             bus,
             command,
+            expected: command.expected(),
             is_legal,
             phase: Phase::Command,
             followed: Followed::Data(0),

@@ -19,6 +19,9 @@ const BLOCK: usize = 65_536;
 /// handed over with a status 193.
 const LONGEST_ANSWER: usize = 512;
 
+/// How many bytes a line of a word has, in a script and in a transcript.
+const WORD_LINE: usize = 9;
+
 fn main() -> ExitCode {
     job::work(play)
 }
@@ -53,11 +56,11 @@ fn play_blocks(
             .read(&mut block[length..])
             .map_err(|_| Fault::Input)?;
         length += count;
-        let mut lines_of_block = Lines {
+        let mut in_block = Lines {
             rest: &block[..length],
             lines,
         };
-        while let Some(line) = lines_of_block.next_line(count == 0)? {
+        while let Some(line) = in_block.next_line(count == 0)? {
             if let Line::Event(event) = line {
                 transcript.put_answer(&terminal.step(event))?;
             }
@@ -65,8 +68,8 @@ fn play_blocks(
         if count == 0 {
             return Ok(());
         }
-        lines = lines_of_block.lines;
-        let left = lines_of_block.rest.len();
+        lines = in_block.lines;
+        let left = in_block.rest.len();
         block.copy_within(length - left..length, 0);
         length = left;
     }
@@ -156,7 +159,7 @@ fn usual_event(bytes: &[u8]) -> Option<(Event, usize)> {
                 bits: read_bits([a, b, c, d])?,
                 is_valid: true,
             };
-            Some((Event::Word(read_bus(bus)?, word), 9))
+            Some((Event::Word(read_bus(bus)?, word), WORD_LINE))
         }
         [bus, b' ', b'g', b'a', b'p', b'\n', ..] => Some((Event::Gap(read_bus(bus)?), 6)),
         _ => None,
@@ -326,10 +329,16 @@ impl Transcript<'_> {
             Bus::A => b'A',
             Bus::B => b'B',
         };
-        self.put_word_line(bus, b's', sent.status);
-        for word in sent.words {
-            self.put_word_line(bus, b'd', *word);
+        let room = &mut self.block[self.length..][..WORD_LINE * (1 + sent.words.len())];
+        let (lines, _) = room.as_chunks_mut::<WORD_LINE>();
+        let [first, rest @ ..] = lines else {
+            return;
+        };
+        *first = word_line(bus, b's', sent.status);
+        for (line, word) in rest.iter_mut().zip(sent.words) {
+            *line = word_line(bus, b'd', *word);
         }
+        self.length += WORD_LINE * (1 + sent.words.len());
     }
 
     fn put_hand(&mut self, hand: &Hand) {
@@ -360,13 +369,6 @@ impl Transcript<'_> {
         self.put(b"\n");
     }
 
-    /// A line `A s XXXX` or `A d XXXX`.
-    #[inline]
-    fn put_word_line(&mut self, bus: u8, kind: u8, word: u16) {
-        let [a, b, c, d] = digits_of(word);
-        self.put(&[bus, b' ', kind, b' ', a, b, c, d, b'\n']);
-    }
-
     /// A space and four digits.
     fn put_word(&mut self, word: u16) {
         let [a, b, c, d] = digits_of(word);
@@ -385,4 +387,11 @@ fn digits_of(word: u16) -> [u8; 4] {
     let [high, low] = word.to_be_bytes();
     let ([a, b], [c, d]) = (DIGITS[usize::from(high)], DIGITS[usize::from(low)]);
     [a, b, c, d]
+}
+
+/// A line `A s XXXX` or `A d XXXX`.
+#[inline]
+fn word_line(bus: u8, kind: u8, word: u16) -> [u8; WORD_LINE] {
+    let [a, b, c, d] = digits_of(word);
+    [bus, b' ', kind, b' ', a, b, c, d, b'\n']
 }

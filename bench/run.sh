@@ -1,0 +1,53 @@
+#!/usr/bin/env bash
+# The benchmark: the least processor time, user and system together, that the program and its two peers take
+# for scripts of 1,000,000 lines, and what `wc -l` takes for them. They run in turns, several rounds, and
+# write their transcripts to /dev/null. Nothing here is a test: times differ from run to run.
+#
+#   LINES_EACH   how many lines a script has      ROUNDS   how many rounds
+#   RUNS         how many runs are timed at once  PROGRAM  another program than bin/rt1553
+set -euo pipefail
+cd "$(dirname "$0")/.."
+source bench/prepare.sh
+lines=${LINES_EACH:-1000000} rounds=${ROUNDS:-9} runs=${RUNS:-3}
+
+repeat() {
+    local number
+    for ((number = 0; number < runs; number++)); do "$@"; done
+}
+
+# the processor time of `runs` runs of a command, in milliseconds
+processor_time() {
+    local TIMEFORMAT='%3U %3S' spent
+    spent=$({ time repeat "$@" >/dev/null; } 2>&1)
+    awk '{ printf "%d", ($1 + $2) * 1000 + 0.5 }' <<<"$spent"
+}
+
+# measures each contender once for a script, and keeps the least of its times: measure SCRIPT
+measure() {
+    local contender spent
+    for contender in "${contenders[@]}" lines; do
+        if [[ $contender == lines ]]; then
+            spent=$(processor_time wc -l "$work/$1.script")
+        else
+            spent=$(processor_time play "$contender" "$1")
+        fi
+        if [[ -z ${least[$contender]:-} || $spent -lt ${least[$contender]} ]]; then least[$contender]=$spent; fi
+    done
+}
+
+in_milliseconds() { quotient "$1" "$runs"; }
+
+prepare "$lines"
+echo "milliseconds of processor time for $lines lines, the least of $rounds rounds"
+row='%-10s %10s %10s %10s %10s %14s %18s\n'
+# shellcheck disable=SC2059
+printf "$row" script program tuned idiomatic 'wc -l' program/tuned program/idiomatic
+for script in "${scripts[@]}"; do
+    demand_same_transcript "$script"
+    declare -A least=()
+    for ((round = 0; round < rounds; round++)); do measure "$script"; done
+    # shellcheck disable=SC2059
+    printf "$row" "$script" "$(in_milliseconds "${least[program]}")" "$(in_milliseconds "${least[tuned]}")" \
+        "$(in_milliseconds "${least[idiomatic]}")" "$(in_milliseconds "${least[lines]}")" \
+        "$(quotient "${least[program]}" "${least[tuned]}")" "$(quotient "${least[program]}" "${least[idiomatic]}")"
+done
