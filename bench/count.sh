@@ -3,6 +3,7 @@
 # callgrind (of valgrind) counts them. The counts hardly differ from run to run; they are no times.
 #
 #   LINES_EACH   how many lines a script has      PROGRAM  another program than bin/rt1553
+#   SCRIPTS      some of the scripts, by name
 set -euo pipefail
 cd "$(dirname "$0")/.."
 source bench/prepare.sh

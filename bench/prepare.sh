@@ -1,13 +1,13 @@
 # shellcheck shell=bash disable=SC2034
 # Sourced by the two benchmarks: builds the program and its peers and makes the scripts. It sets `work`, a
 # temporary folder that holds the peers, the scripts and their profile, and `program`. PROGRAM names another
-# program to measure, and then nothing is built but the peers.
+# program to measure, and then nothing is built but the peers. SCRIPTS names some of the scripts.
 
 work=$(mktemp -d)
 trap 'rm -rf "$work"' EXIT
 
 contenders=(program tuned idiomatic)
-scripts=(receive transmit mixed comments)
+read -ra scripts <<<"${SCRIPTS:-receive transmit mixed comments}"
 
 # makes all that is measured, with scripts of so many lines: prepare LINES
 prepare() {

@@ -5,6 +5,7 @@
 #
 #   LINES_EACH   how many lines a script has      ROUNDS   how many rounds
 #   RUNS         how many runs are timed at once  PROGRAM  another program than bin/rt1553
+#   SCRIPTS      some of the scripts, by name
 set -euo pipefail
 cd "$(dirname "$0")/.."
 source bench/prepare.sh
