@@ -28,7 +28,10 @@ play() { "$work/$1" run "$work/profile.toml" "$work/$2.script"; }
 demand_same_transcript() {
     local contender sum first=
     for contender in "${contenders[@]}"; do
-        sum=$(play "$contender" "$1" | sha256sum)
+        if ! sum=$(play "$contender" "$1" | sha256sum); then
+            echo "$1: $contender does not play it" >&2
+            exit 1
+        fi
         if [[ $sum != "${first:=$sum}" ]]; then
             echo "$1: $contender does not give the transcript that ${contenders[0]} gives" >&2
             exit 1
