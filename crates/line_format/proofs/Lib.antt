@@ -5,3 +5,4 @@ pub mod Writes
 pub mod AnswerLaws
 pub mod SoundLaws
 pub mod OneText
+pub mod SizeLaws

@@ -1,7 +1,8 @@
 -- Laws of formats that are put together: each line may hold something, and a value has one text.
-use Rattle.std.proofs.Common.{◌≡◌, ℕ, ◌^◌, ◌<◌, List, [], ◌∷◌, Bool, true, refl}
-use Rattle.line_format.specs.Format.{Field, Format, done, line, and_then, IsSound, is_plain}
-use Rattle.line_format.specs.Shapes.{name_line, number_line}
+use Rattle.std.proofs.Common.{◌≡◌, ℕ, zero, suc, ◌^◌, ◌<◌, ◌==◌, List, [], ◌∷◌, Bool, true, refl, replicate, lit<, arith}
+use Rattle.std.proofs.lemmas.Bool.Decides.{nat_tests}
+use Rattle.line_format.specs.Format.{Field, Fit, Format, done, line, and_then, IsSound, is_plain}
+use Rattle.line_format.specs.Shapes.{name_line, number_line, bit_line, numbered_line, words_line, word}
 
 pub sound_then : {A B : Type 0} (F : Format A) (g : A → Format B) → IsSound F → ((a : A) → IsSound (g a)) → IsSound (and_then F g)
 unfolding and_then
@@ -16,3 +17,19 @@ sound_name name e = (e, [], record { fit = tt; allowed = refl }, λ ys a. tt)
 pub sound_number : (name : List ℕ) (f : Field) (allowed : ℕ → Bool) (n : ℕ) → is_plain name ≡ true → n < f.base ^ f.width → allowed n ≡ true → IsSound (number_line name f allowed)
 unfolding number_line
 sound_number name f allowed n e l ok = (e, n ∷ [], record { fit = (l, tt); allowed = ok }, λ ys a. tt)
+
+pub sound_bit : (name : List ℕ) → is_plain name ≡ true → IsSound (bit_line name)
+unfolding bit_line
+sound_bit name e = (e, 0 ∷ [], record { fit = (lit< tt, tt); allowed = refl }, λ ys a. tt)
+
+pub sound_numbered : (name : List ℕ) (s : ℕ) → s < 100 → is_plain name ≡ true → IsSound (numbered_line name s)
+unfolding numbered_line
+sound_numbered name s l e = (e, s ∷ 0 ∷ [], record { fit = (l, (lit< tt, tt)); allowed = grind (arith, nat_tests) }, λ ys a. tt)
+
+zeros_fit : (count : ℕ) → Fit (replicate count word) (replicate count 0)
+zeros_fit zero = tt
+zeros_fit (suc count) = (lit< tt, zeros_fit count)
+
+pub sound_words : (name : List ℕ) (s count : ℕ) → s < 100 → is_plain name ≡ true → IsSound (words_line name s count)
+unfolding words_line
+sound_words name s count l e = (e, s ∷ replicate count 0, record { fit = (l, zeros_fit count); allowed = grind (arith, nat_tests) }, λ ys a. tt)

@@ -4,8 +4,9 @@ use Rattle.std.proofs.Math.Nat.{pow-suc, pow-le-pow_right}
 use Rattle.std.proofs.lemmas.Nat.{mul-add-lt}
 use Rattle.line_format.specs.Reading.{◌>>=◌, after, digit_at, digit_value, number_at, field_at, fields_at, content_at, line_at, Spot, read}
 use Rattle.line_format.specs.Format.{Field, Shape, Format, done, line, and_then}
-use Rattle.line_format.specs.Shapes.{first, number_line, name_line, bit_line, number_field}
+use Rattle.line_format.specs.Shapes.{first, others, number_line, name_line, bit_line, numbered_line, words_line, number_field, decimal, word, mask}
 use Rattle.line_format.proofs.Digits.{after-front, after-is}
+use Rattle.std.proofs.lemmas.Bool.Decides.{nat_tests}
 
 pub after_found : (cs bytes : List ℕ) (r : Option (Bor (List ℕ))) → MatchOption r ((rest : List ℕ) → bytes ≢ cs ++ rest) (λ x. bytes ≡ cs ++ x.now) → option_map (λ r. r.now) r ≡ after cs bytes
 after_found cs bytes None h = sym (none (after cs bytes) refl)
@@ -115,6 +116,30 @@ bit_here name p q n rest e at = line_here _ (λ xs. done (first xs == 1)) p (n �
 pub bit_none : (name : List ℕ) (p : Spot) → None ≡ content_at name (number_field 2 1 ∷ []) p.rest → read (bit_line name) p ≡ Err p.number
 unfolding bit_line
 bit_none name p e = line_none _ (λ xs. done (first xs == 1)) p e
+
+pub numbered_here : (name : List ℕ) (s : ℕ) (p q : Spot) (t n : ℕ) (rest : List ℕ) → Some (t ∷ n ∷ [], rest) ≡ content_at name (decimal ∷ mask ∷ []) p.rest → t ≡ s → q ≡ record { number = p.number + 1; rest = rest } → read (numbered_line name s) p ≡ Ok (n, q)
+unfolding numbered_line
+numbered_here name s p q t n rest e same at = line_here _ (λ xs. done (first (others xs))) p (t ∷ n ∷ []) rest e (grind (arith, nat_tests)) ∙ ap (λ q. Ok (n, q)) (sym at)
+
+pub numbered_none : (name : List ℕ) (s : ℕ) (p : Spot) → None ≡ content_at name (decimal ∷ mask ∷ []) p.rest → read (numbered_line name s) p ≡ Err p.number
+unfolding numbered_line
+numbered_none name s p e = line_none _ (λ xs. done (first (others xs))) p e
+
+pub numbered_not : (name : List ℕ) (s : ℕ) (p : Spot) (t n : ℕ) (rest : List ℕ) → Some (t ∷ n ∷ [], rest) ≡ content_at name (decimal ∷ mask ∷ []) p.rest → t ≢ s → read (numbered_line name s) p ≡ Err p.number
+unfolding numbered_line
+numbered_not name s p t n rest e other = line_not _ (λ xs. done (first (others xs))) p (t ∷ n ∷ []) rest e (grind (arith, nat_tests))
+
+pub words_here : (name : List ℕ) (s count : ℕ) (p q : Spot) (t : ℕ) (ws rest : List ℕ) → content_at name (decimal ∷ replicate count word) p.rest ≡ Some (t ∷ ws, rest) → t ≡ s → q ≡ record { number = p.number + 1; rest = rest } → read (words_line name s count) p ≡ Ok (ws, q)
+unfolding words_line
+words_here name s count p q t ws rest e same at = line_here _ (λ xs. done (others xs)) p (t ∷ ws) rest (sym e) (grind (arith, nat_tests)) ∙ ap (λ q. Ok (ws, q)) (sym at)
+
+pub words_none : (name : List ℕ) (s count : ℕ) (p : Spot) → content_at name (decimal ∷ replicate count word) p.rest ≡ None → read (words_line name s count) p ≡ Err p.number
+unfolding words_line
+words_none name s count p e = line_none _ (λ xs. done (others xs)) p (sym e)
+
+pub words_not : (name : List ℕ) (s count : ℕ) (p : Spot) (t : ℕ) (ws rest : List ℕ) → content_at name (decimal ∷ replicate count word) p.rest ≡ Some (t ∷ ws, rest) → t ≢ s → read (words_line name s count) p ≡ Err p.number
+unfolding words_line
+words_not name s count p t ws rest e other = line_not _ (λ xs. done (others xs)) p (t ∷ ws) rest (sym e) (grind (arith, nat_tests))
 
 pub ruleset reading = (read-then)
 

@@ -1,5 +1,5 @@
 -- Common shapes of lines.
-use Rattle.std.specs.Prelude.{ℕ, Bool, true, ◌==◌, List, [], ◌∷◌}
+use Rattle.std.specs.Prelude.{ℕ, Bool, true, ◌==◌, List, [], ◌∷◌, replicate}
 use Rattle.line_format.specs.Format.{Field, Format, done, line}
 
 abbrev pub number_field : ℕ → ℕ → Field
@@ -36,3 +36,11 @@ number_line name f allowed = line (record { name = name; fields = f ∷ []; allo
 -- a line with a 0 or a 1, which means a truth value
 unfoldable pub bit_line : List ℕ → Format Bool
 bit_line name = line (record { name = name; fields = number_field 2 1 ∷ []; allowed = λ _. true }) (λ xs. done (first xs == 1))
+
+-- a line with this number in two decimal digits and a mask, which it means
+unfoldable pub numbered_line : List ℕ → ℕ → Format ℕ
+numbered_line name number = line (record { name = name; fields = decimal ∷ mask ∷ []; allowed = λ xs. first xs == number }) (λ xs. done (first (others xs)))
+
+-- a line with this number in two decimal digits and so many words, which it means
+unfoldable pub words_line : List ℕ → ℕ → ℕ → Format (List ℕ)
+words_line name number count = line (record { name = name; fields = decimal ∷ replicate count word; allowed = λ xs. first xs == number }) (λ xs. done (others xs))

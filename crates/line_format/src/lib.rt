@@ -9,5 +9,10 @@ mod tests;
 mod write;
 
 pub use lines::{Lines, WrongLine};
-pub use read::{after, field, name_line, number_line_of, number_of, numbered_line_of};
-pub use write::{put_digits, put_name_line, put_number_line, put_numbered_line};
+pub use read::{
+    after, bit_line, field, name_line, number_line_of, number_of, numbered_line, numbered_line_of,
+    word_line, words_line,
+};
+pub use write::{
+    put_bit_line, put_digits, put_name_line, put_number_line, put_numbered_line, put_words_line,
+};

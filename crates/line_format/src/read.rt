@@ -1,7 +1,7 @@
 //! Readers of what stands at the front of a text.
-ghost use Rattle.std.specs.Prelude.{◌≡◌, ◌*◌, ◌+◌, ◌<◌, ◌≤◌, ◌^◌, length, IfSome, option_map, [], ◌∷◌, true};
-ghost use Rattle.line_format.specs.Reading.{after, digit_at, digit_value, number_at, field_at, content_at, read};
-ghost use Rattle.line_format.specs.Shapes.{name_line, decimal, mask, number_field};
+ghost use Rattle.std.specs.Prelude.{◌≡◌, ◌*◌, ◌+◌, ◌<◌, ◌≤◌, ◌^◌, length, IfSome, MatchOption, option_map, [], ◌∷◌, true, replicate};
+ghost use Rattle.line_format.specs.Reading.{after, digit_at, digit_value, number_at, field_at, fields_at, content_at, read};
+ghost use Rattle.line_format.specs.Shapes.{name_line, number_line, bit_line, numbered_line, words_line, decimal, word, mask, number_field};
 ghost use Rattle.line_format.specs.Views.{Gives, spot};
 
 use crate::lines::{Lines, WrongLine};
@@ -127,5 +127,90 @@ pub fn name_line<'a>(lines: Lines<'a>, name: &[u8]) -> Result<Lines<'a>, WrongLi
     let Some(rest) = name_line_of(lines.rest, name) else {
         return Err(lines.wrong());
     };
+    Ok(lines.behind(rest))
+}
+
+/// Reads a line with a 0 or a 1.
+pub fn bit_line<'a>(lines: Lines<'a>, name: &[u8]) -> Result<(bool, Lines<'a>), WrongLine>
+    ensures { Gives (λ r. r.0) (λ r. r.1) result (read (bit_line name.now) (spot lines.entry)) }
+{
+    let Some((number, rest)) = number_line_of(lines.rest, name, 2, 1) else {
+        return Err(lines.wrong());
+    };
+    Ok((number == 1, lines.behind(rest)))
+}
+
+/// Reads a line with a word of four hexadecimal digits.
+pub fn word_line<'a>(lines: Lines<'a>, name: &[u8]) -> Result<(u16, Lines<'a>), WrongLine>
+    ensures { Gives (λ r. r.0) (λ r. r.1) result (read (number_line name.now word (λ _. true)) (spot lines.entry)) }
+{
+    let Some((number, rest)) = number_line_of(lines.rest, name, 16, 4) else {
+        return Err(lines.wrong());
+    };
+    Ok((number as u16, lines.behind(rest)))
+}
+
+/// Reads a line with this number, of two decimal digits, and a mask.
+pub fn numbered_line<'a>(
+    lines: Lines<'a>,
+    name: &[u8],
+    wanted: u32,
+) -> Result<(u32, Lines<'a>), WrongLine>
+    ensures { Gives (λ r. r.0) (λ r. r.1) result (read (numbered_line name.now wanted) (spot lines.entry)) }
+{
+    let Some((number, bits, rest)) = numbered_line_of(lines.rest, name) else {
+        return Err(lines.wrong());
+    };
+    if number != wanted {
+        return Err(lines.wrong());
+    }
+    Ok((bits, lines.behind(rest)))
+}
+
+/// Reads as many words as there is room for, each behind a space.
+fn words<'a>(bytes: &'a [u8], to: &mut [u16]) -> Option<&'a [u8]>
+    ensures value { MatchOption result (fields_at (replicate (length to.old) word) bytes.entry.now ≡ None) (λ r. fields_at (replicate (length to.old) word) bytes.entry.now ≡ Some (to.new, r.now)) }
+    ensures shorter { IfSome result (λ r. length r.now ≤ length bytes.entry.now) }
+{
+    let mut rest = bytes;
+    for index in 0..to.len() {
+        let Some((word, others)) = field(rest, 16, 4) else {
+            return None;
+        };
+        to[index] = word as u16;
+        rest = others;
+    }
+    Some(rest)
+}
+
+/// What comes after a line with this name, a number of two decimal digits, which it gives, and as many
+/// words as there is room for.
+#[tactic(auto, unfolding(crate::specs::Reading::content_at))]
+fn words_line_of<'a>(bytes: &'a [u8], name: &[u8], to: &mut [u16]) -> Option<(u32, &'a [u8])>
+    ensures value { MatchOption result (content_at name.now (decimal ∷ replicate (length to.old) word) bytes.entry.now ≡ None) (λ r. content_at name.now (decimal ∷ replicate (length to.old) word) bytes.entry.now ≡ Some (r.0 ∷ to.new, r.1.now)) }
+    ensures shorter { IfSome result (λ r. length r.1.now < length bytes.entry.now) }
+{
+    let rest = after(bytes, name)?;
+    let (number, rest) = field(rest, 10, 2)?;
+    let rest = words(rest, to)?;
+    let rest = after(rest, b"\n")?;
+    Some((number, rest))
+}
+
+/// Reads a line with this number, of two decimal digits, and as many words as there is room for.
+pub fn words_line<'a>(
+    lines: Lines<'a>,
+    name: &[u8],
+    wanted: u32,
+    to: &mut [u16],
+) -> Result<Lines<'a>, WrongLine>
+    ensures { Gives (λ _. to.new) (λ r. r) result (read (words_line name.now wanted (length to.old)) (spot lines.entry)) }
+{
+    let Some((number, rest)) = words_line_of(lines.rest, name, to) else {
+        return Err(lines.wrong());
+    };
+    if number != wanted {
+        return Err(lines.wrong());
+    }
     Ok(lines.behind(rest))
 }

@@ -1,7 +1,7 @@
 //! Writers of lines.
-ghost use Rattle.std.specs.Prelude.{◌≡◌, ◌+◌, ◌-◌, ◌*◌, ◌/◌, ◌%◌, ◌<◌, ◌≤◌, ◌^◌, ℕ, length, OnOk, [], ◌∷◌, ◌++◌, true};
+ghost use Rattle.std.specs.Prelude.{◌≡◌, ◌+◌, ◌-◌, ◌*◌, ◌/◌, ◌%◌, ◌<◌, ◌≤◌, ◌^◌, ℕ, length, OnOk, [], ◌∷◌, ◌++◌, true, replicate, if◌then◌else◌};
 ghost use Rattle.line_format.specs.Format.{digit, digits, spell_fields};
-ghost use Rattle.line_format.specs.Shapes.{name_line, decimal, mask, number_field};
+ghost use Rattle.line_format.specs.Shapes.{name_line, bit_line, words_line, decimal, word, mask, number_field};
 ghost use Rattle.line_format.specs.Writing.{Adds};
 
 use std::alloc::AllocError;
@@ -74,6 +74,48 @@ pub fn put_numbered_line(
     put_digits(out, 10, 2, number)?;
     out.push(b' ')?;
     put_digits(out, 16, 8, bits)?;
+    out.push(b'\n')?;
+    Ok(())
+}
+
+fn bit_number(bit: bool) -> u32
+    ensures { result ≡ (if bit then 1 else 0) }
+{
+    if bit { 1 } else { 0 }
+}
+
+/// Writes a line with a 0 or a 1.
+pub fn put_bit_line(out: &mut Vec<u8>, name: &[u8], bit: bool) -> Result<(), AllocError>
+    ensures { OnOk result (Adds (bit_line name.now) bit out.old.items out.new.items) }
+{
+    put_number_line(out, name, 2, 1, bit_number(bit))
+}
+
+/// Writes words, each behind a space.
+fn put_words(out: &mut Vec<u8>, words: &[u16]) -> Result<(), AllocError>
+    ensures { OnOk result (out.new.items ≡ out.old.items ++ spell_fields (replicate (length words.now) word) words.now) }
+{
+    for word in words {
+        out.push(b' ')?;
+        put_digits(out, 16, 4, u32::from(*word))?;
+    }
+    Ok(())
+}
+
+/// Writes a line with this name, a number of two decimal digits and these words.
+pub fn put_words_line(
+    out: &mut Vec<u8>,
+    name: &[u8],
+    number: u32,
+    words: &[u16],
+) -> Result<(), AllocError>
+    requires { number < 100 }
+    ensures { OnOk result (Adds (words_line name.now number (length words.now)) words.now out.old.items out.new.items) }
+{
+    out.extend_from_slice(name)?;
+    out.push(b' ')?;
+    put_digits(out, 10, 2, number)?;
+    put_words(out, words)?;
     out.push(b'\n')?;
     Ok(())
 }
