@@ -1,0 +1,41 @@
+//! Laws of the canonical text. Each is a function that does nothing, and whose contract is the law.
+ghost use Rattle.std.specs.Prelude.{◌≡◌, ◌≤◌, ◌++◌, ℕ, List, [], length};
+ghost use Rattle.line_format.specs.Answers.{Answer, Answers};
+ghost use Rattle.bus_legal.specs.Parts.{Parts, IsNormal};
+ghost use Rattle.bus_canon.specs.Canon.{canon, Text};
+
+/// Every `Normal` has a canonical text.
+pub fn normals_have_texts()
+    ensures { (v : Parts) → IsNormal v → (bytes : List ℕ) × Text v bytes }
+{}
+
+/// A canonical text is that of a `Normal`.
+pub fn texts_are_of_normals()
+    ensures { (v : Parts) (bytes : List ℕ) → Text v bytes → IsNormal v }
+{}
+
+/// A canonical text means one value.
+pub fn texts_mean_one_value()
+    ensures { (v w : Parts) (bytes : List ℕ) → Text v bytes → Text w bytes → v ≡ w }
+{}
+
+/// A value has one canonical text.
+pub fn values_have_one_text()
+    ensures { (v : Parts) (a b : List ℕ) → Text v a → Text v b → a ≡ b }
+{}
+
+/// No canonical text is a proper prefix of another.
+pub fn no_text_begins_another()
+    ensures { (v w : Parts) (bytes more : List ℕ) → Text v bytes → Text w (bytes ++ more) → more ≡ [] }
+{}
+
+/// Canonical texts have from 1,520 to 7,617 bytes.
+pub fn texts_are_short()
+    ensures least { (v : Parts) (bytes : List ℕ) → Text v bytes → 1520 ≤ length bytes }
+    ensures most { (v : Parts) (bytes : List ℕ) → Text v bytes → length bytes ≤ 7617 }
+{}
+
+/// Some bytes have one answer.
+pub fn bytes_have_one_answer()
+    ensures { (bytes : List ℕ) (r s : Answer Parts) → Answers canon bytes r → Answers canon bytes s → r ≡ s }
+{}
