@@ -72,13 +72,9 @@ fn own_codes(lines: Lines<'_>) -> Result<(u32, Lines<'_>), WrongLine>
     Ok((number, lines.behind(rest)))
 }
 
-/// Reads this line where the terminal has the broadcast option.
-fn broadcast_codes(lines: Lines<'_>, broadcast: bool) -> Result<(u32, Lines<'_>), WrongLine>
-    ensures { Gives (λ r. r.0) (λ r. r.1) result (read (when broadcast 0 (number_line (codes "broadcast-mode") mask is_broadcast_mask)) (spot lines.entry)) }
+fn broadcast_code_line(lines: Lines<'_>) -> Result<(u32, Lines<'_>), WrongLine>
+    ensures { Gives (λ r. r.0) (λ r. r.1) result (read (number_line (codes "broadcast-mode") mask is_broadcast_mask) (spot lines.entry)) }
 {
-    if !broadcast {
-        return Ok((0, lines));
-    }
     let Some((number, rest)) = number_line_of(lines.rest, BROADCAST_MODE, 16, 8) else {
         return Err(lines.wrong());
     };
@@ -86,6 +82,17 @@ fn broadcast_codes(lines: Lines<'_>, broadcast: bool) -> Result<(u32, Lines<'_>)
         return Err(lines.wrong());
     }
     Ok((number, lines.behind(rest)))
+}
+
+/// Reads this line where the terminal has the broadcast option.
+fn broadcast_codes(lines: Lines<'_>, broadcast: bool) -> Result<(u32, Lines<'_>), WrongLine>
+    ensures { Gives (λ r. r.0) (λ r. r.1) result (read (when broadcast 0 (number_line (codes "broadcast-mode") mask is_broadcast_mask)) (spot lines.entry)) }
+{
+    if broadcast {
+        broadcast_code_line(lines)
+    } else {
+        Ok((0, lines))
+    }
 }
 
 /// Reads the lines of the legal cells.
@@ -141,6 +148,13 @@ fn put_own_codes(out: &mut Vec<u8>, legal: u32) -> Result<(), AllocError>
     put_number_line(out, OWN_MODE, 16, 8, legal)
 }
 
+fn put_broadcast_code_line(out: &mut Vec<u8>, legal: u32) -> Result<(), AllocError>
+    requires { is_broadcast_mask legal ≡ true }
+    ensures { OnOk result (Adds (number_line (codes "broadcast-mode") mask is_broadcast_mask) legal out.old.items out.new.items) }
+{
+    put_number_line(out, BROADCAST_MODE, 16, 8, legal)
+}
+
 /// Writes this line where the terminal has the broadcast option.
 fn put_broadcast_codes(out: &mut Vec<u8>, broadcast: bool, legal: u32) -> Result<(), AllocError>
     requires mask { is_broadcast_mask legal ≡ true }
@@ -150,7 +164,7 @@ fn put_broadcast_codes(out: &mut Vec<u8>, broadcast: bool, legal: u32) -> Result
     if !broadcast {
         return Ok(());
     }
-    put_number_line(out, BROADCAST_MODE, 16, 8, legal)
+    put_broadcast_code_line(out, legal)
 }
 
 /// Writes the lines of the legal cells.

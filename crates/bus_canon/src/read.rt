@@ -4,6 +4,9 @@ ghost use Rattle.line_format.specs.Reading.{read};
 ghost use Rattle.line_format.specs.Shapes.{decimal, word, number_line, bit_line};
 ghost use Rattle.line_format.specs.Views.{Gives, spot};
 ghost use Rattle.line_format.specs.Answers.{Answer, Answers};
+ghost use Rattle.bus_word.specs.declared.cell.Cell.TheVariants.{OwnMode};
+ghost use Rattle.bus_legal.specs.Description.{wrap_subaddress};
+ghost use Rattle.bus_legal.specs.Tables.{tables_say, masks_wrap};
 ghost use Rattle.bus_canon.specs.Canon.{when, canon};
 ghost use Rattle.bus_canon.specs.CanonAnswer.{canon_answer};
 
@@ -11,7 +14,7 @@ use crate::cell_lines::cells;
 use crate::fault::CanonFault;
 use crate::names::{ACCEPT, ADDRESS, BIT, BROADCAST, HEAD, VECTOR, WRAPAROUND};
 use crate::rows::rows;
-use bus_legal::{Legality, Normal, Setup};
+use bus_legal::{Legality, Normal, Setup, Tables};
 use bus_word::Cell;
 use line_format::{Lines, WrongLine, bit_line, name_line, number_line_of, word_line};
 
@@ -61,6 +64,32 @@ fn word_where<'a>(
     }
 }
 
+/// Reads whether dynamic bus control is accepted, which the text tells where it can be asked for.
+fn acceptance<'a>(lines: Lines<'a>, tables: &Tables) -> Result<(bool, Lines<'a>), WrongLine>
+    ensures { Gives (λ r. r.0) (λ r. r.1) result (read (when (tables_say tables.now (OwnMode 0)) false (bit_line (codes "accept"))) (spot lines.entry)) }
+{
+    bit_where(lines, tables.legal(Cell::OwnMode(0)), ACCEPT)
+}
+
+/// Reads the word that an own mode code asks for, which the text tells where the code is legal.
+fn asked_word<'a>(
+    lines: Lines<'a>,
+    tables: &Tables,
+    code: u8,
+    name: &[u8],
+) -> Result<(u16, Lines<'a>), WrongLine>
+    ensures { Gives (λ r. r.0) (λ r. r.1) result (read (when (tables_say tables.now (OwnMode code)) 0 (number_line name.now word (λ _. true))) (spot lines.entry)) }
+{
+    word_where(lines, tables.legal(Cell::OwnMode(code)), name)
+}
+
+/// Reads whether wraparound is on, which the text tells where it can be reached.
+fn wraparound<'a>(lines: Lines<'a>, tables: &Tables) -> Result<(bool, Lines<'a>), WrongLine>
+    ensures { Gives (λ r. r.0) (λ r. r.1) result (read (when (masks_wrap tables.now wrap_subaddress) false (bit_line (codes "wraparound"))) (spot lines.entry)) }
+{
+    bit_where(lines, tables.can_wrap(WRAP_SUBADDRESS), WRAPAROUND)
+}
+
 fn text(lines: Lines<'_>) -> Result<(Normal, Lines<'_>), WrongLine>
     ensures { Gives (λ r. r.0) (λ r. r.1) result (read canon (spot lines.entry)) }
 {
@@ -68,10 +97,10 @@ fn text(lines: Lines<'_>) -> Result<(Normal, Lines<'_>), WrongLine>
     let (address, lines) = address_line(lines)?;
     let (broadcast, lines) = bit_line(lines, BROADCAST)?;
     let (tables, lines) = cells(lines, broadcast)?;
-    let (accept, lines) = bit_where(lines, tables.legal(Cell::OwnMode(0)), ACCEPT)?;
-    let (vector, lines) = word_where(lines, tables.legal(Cell::OwnMode(16)), VECTOR)?;
-    let (bit, lines) = word_where(lines, tables.legal(Cell::OwnMode(19)), BIT)?;
-    let (wrap, lines) = bit_where(lines, tables.can_wrap(WRAP_SUBADDRESS), WRAPAROUND)?;
+    let (accept, lines) = acceptance(lines, &tables)?;
+    let (vector, lines) = asked_word(lines, &tables, 16, VECTOR)?;
+    let (bit, lines) = asked_word(lines, &tables, 19, BIT)?;
+    let (wrap, lines) = wraparound(lines, &tables)?;
     let (initial, lines) = rows(lines, &tables.own_transmit)?;
     let setup = Setup {
         address,

@@ -2,6 +2,9 @@
 ghost use Rattle.std.specs.Prelude.{◌≡◌, ◌≤◌, Bool, true, false, codes, length, IfOk, OnOk};
 ghost use Rattle.line_format.specs.Shapes.{word, number_line, bit_line};
 ghost use Rattle.line_format.specs.Writing.{Adds};
+ghost use Rattle.bus_word.specs.declared.cell.Cell.TheVariants.{OwnMode};
+ghost use Rattle.bus_legal.specs.Description.{wrap_subaddress};
+ghost use Rattle.bus_legal.specs.Tables.{tables_say, masks_wrap};
 ghost use Rattle.bus_legal.specs.Parts.{parts_of, IsNormal};
 ghost use Rattle.bus_canon.specs.Canon.{when, canon, Text};
 
@@ -35,6 +38,12 @@ fn put_bit_where(
     put_bit_line(out, name, bit)
 }
 
+fn put_word_line(out: &mut Vec<u8>, name: &[u8], number: u16) -> Result<(), AllocError>
+    ensures { OnOk result (Adds (number_line name.now word (λ _. true)) number out.old.items out.new.items) }
+{
+    put_number_line(out, name, 16, 4, u32::from(number))
+}
+
 /// Writes a line with a word, if the text has it.
 fn put_word_where(
     out: &mut Vec<u8>,
@@ -48,7 +57,37 @@ fn put_word_where(
     if !given {
         return Ok(());
     }
-    put_number_line(out, name, 16, 4, u32::from(number))
+    put_word_line(out, name, number)
+}
+
+/// Writes whether dynamic bus control is accepted, where it can be asked for.
+fn put_acceptance(out: &mut Vec<u8>, tables: &Tables, accept: bool) -> Result<(), AllocError>
+    requires { tables_say tables.now (OwnMode 0) ≡ false → accept ≡ false }
+    ensures { OnOk result (Adds (when (tables_say tables.now (OwnMode 0)) false (bit_line (codes "accept"))) accept out.old.items out.new.items) }
+{
+    put_bit_where(out, tables.legal(Cell::OwnMode(0)), ACCEPT, accept)
+}
+
+/// Writes the word that an own mode code asks for, where the code is legal.
+fn put_asked_word(
+    out: &mut Vec<u8>,
+    tables: &Tables,
+    code: u8,
+    name: &[u8],
+    number: u16,
+) -> Result<(), AllocError>
+    requires { tables_say tables.now (OwnMode code) ≡ false → number ≡ 0 }
+    ensures { OnOk result (Adds (when (tables_say tables.now (OwnMode code)) 0 (number_line name.now word (λ _. true))) number out.old.items out.new.items) }
+{
+    put_word_where(out, tables.legal(Cell::OwnMode(code)), name, number)
+}
+
+/// Writes whether wraparound is on, where it can be reached.
+fn put_wraparound(out: &mut Vec<u8>, tables: &Tables, wrap: bool) -> Result<(), AllocError>
+    requires { masks_wrap tables.now wrap_subaddress ≡ false → wrap ≡ false }
+    ensures { OnOk result (Adds (when (masks_wrap tables.now wrap_subaddress) false (bit_line (codes "wraparound"))) wrap out.old.items out.new.items) }
+{
+    put_bit_where(out, tables.can_wrap(WRAP_SUBADDRESS), WRAPAROUND, wrap)
 }
 
 fn put_text(out: &mut Vec<u8>, setup: &Setup, tables: &Tables) -> Result<(), AllocError>
@@ -59,10 +98,10 @@ fn put_text(out: &mut Vec<u8>, setup: &Setup, tables: &Tables) -> Result<(), All
     put_number_line(out, ADDRESS, 10, 2, u32::from(setup.address))?;
     put_bit_line(out, BROADCAST, setup.broadcast)?;
     put_cells(out, setup.broadcast, tables)?;
-    put_bit_where(out, tables.legal(Cell::OwnMode(0)), ACCEPT, setup.accept)?;
-    put_word_where(out, tables.legal(Cell::OwnMode(16)), VECTOR, setup.vector)?;
-    put_word_where(out, tables.legal(Cell::OwnMode(19)), BIT, setup.bit)?;
-    put_bit_where(out, tables.can_wrap(WRAP_SUBADDRESS), WRAPAROUND, setup.wrap)?;
+    put_acceptance(out, tables, setup.accept)?;
+    put_asked_word(out, tables, 16, VECTOR, setup.vector)?;
+    put_asked_word(out, tables, 19, BIT, setup.bit)?;
+    put_wraparound(out, tables, setup.wrap)?;
     put_rows(out, &tables.own_transmit, &setup.initial)?;
     Ok(())
 }

@@ -1,13 +1,20 @@
 -- Laws of formats that are put together: each line may hold something, and a value has one text.
-use Rattle.std.proofs.Common.{◌≡◌, ℕ, zero, suc, ◌^◌, ◌<◌, ◌==◌, List, [], ◌∷◌, Bool, true, refl, replicate, lit<, arith}
+use Rattle.std.proofs.Common.{◌≡◌, ℕ, zero, suc, ◌^◌, ◌<◌, ◌==◌, List, [], ◌∷◌, ◌++◌, Bool, true, refl, replicate, lit<, arith}
 use Rattle.std.proofs.lemmas.Bool.Decides.{nat_tests}
-use Rattle.line_format.specs.Format.{Field, Fit, Format, done, line, and_then, IsSound, is_plain}
+use Rattle.line_format.specs.Format.{Field, Fit, Format, done, line, and_then, spell, Spells, IsSound, is_plain}
 use Rattle.line_format.specs.Shapes.{name_line, number_line, bit_line, numbered_line, words_line, word}
 
 pub sound_then : {A B : Type 0} (F : Format A) (g : A → Format B) → IsSound F → ((a : A) → IsSound (g a)) → IsSound (and_then F g)
 unfolding and_then
 sound_then (done a) g f h = h a
 sound_then (line s next) g (plain, xs, allows, later) h = (plain, xs, allows, λ ys a. sound_then (next ys) g (later ys a) h)
+
+-- the same, where what the first may mean decides
+pub sound_after : {A B : Type 0} (F : Format A) (g : A → Format B) → IsSound F → ((a : A) (x : List ℕ) → Spells F a x → IsSound (g a)) → IsSound (and_then F g)
+unfolding and_then
+sound_after (done a) g f h = h a [] (refl, refl)
+sound_after (line s next) g (plain, xs, allows, later) h =
+    (plain, xs, allows, λ ys allowed. sound_after (next ys) g (later ys allowed) (λ a x t. h a (spell s ys ++ x) (ys, x, allowed, refl, t)))
 
 pub sound_name : (name : List ℕ) → is_plain name ≡ true → IsSound (name_line name)
 unfolding name_line

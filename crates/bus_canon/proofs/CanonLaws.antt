@@ -1,0 +1,222 @@
+-- Laws of the canonical text.
+use Rattle.std.proofs.Common.{◌≡◌, ℕ, ◌+◌, ◌*◌, ◌^◌, ◌<◌, ◌≤◌, Bool, true, false, nat_le, List, [], ◌∷◌, ◌++◌, codes, replicate, length, get_or, refl, ap, ap₂, sym, ◌∙◌, subst, append-nil, length-append, arith, lit<}
+use Rattle.std.proofs.lemmas.Bool.Decides.{nat_tests}
+use Rattle.bus_word.specs.declared.cell.Cell.TheVariants.{OwnMode}
+use Rattle.bus_legal.specs.declared.tables.Tables.{Tables}
+use Rattle.bus_legal.specs.Description.{wrap_subaddress}
+use Rattle.bus_legal.specs.Tables.{tables_say, masks_wrap, is_own_mask, is_broadcast_mask}
+use Rattle.bus_legal.specs.Parts.{Parts, AreMasks, AreWords, IsNormal}
+use Rattle.line_format.specs.Format.{Format, done, and_then, Spells, IsSound}
+use Rattle.line_format.specs.Reading.{Spot, read}
+use Rattle.line_format.specs.Shapes.{decimal, word, mask, name_line, number_line, bit_line, number_field}
+use Rattle.line_format.proofs.SoundLaws.{sound_then, sound_after, sound_name, sound_number, sound_bit}
+use Rattle.line_format.proofs.Writes.{spells-then, name_spelled, number_spelled, number_text, bit_spelled}
+use Rattle.line_format.proofs.FormatLaws.{read-is, read-again, Meets}
+use Rattle.line_format.proofs.AnswerLaws.{one_front}
+use Rattle.line_format.proofs.OneText.{HasOneText, parted, name_one, name_value, number_one, number_value, number_fits, bit_one}
+use Rattle.line_format.proofs.SizeLaws.{HasSize, size_name, size_number, size_bit}
+use Rattle.bus_canon.specs.Canon.{when, masks, cells, rows, canon, Text}
+use Rattle.bus_canon.proofs.Several.{when_sound, when_one, when_size, when_absent, when_holds, when_spelled}
+use Rattle.bus_canon.proofs.MaskLaws.{AreSoMany, masks_are, are_masks, masks_some}
+use Rattle.bus_canon.proofs.RowLaws.{FitsRow, FitRows, rows_sound, rows_one, rows_size, rows_fit, rows_some}
+use Rattle.bus_canon.proofs.CellLaws.{CellLines, cells_cut, cells_spelled, cells_sound, cells_one, cells_size, own_codes_line, broadcast_codes_line, broadcast_masks}
+
+abbrev head_line : Format Bool
+head_line = name_line (codes "rt1553 1")
+
+abbrev address_line : Format ℕ
+address_line = number_line (codes "address") decimal (λ n. nat_le n 30)
+
+abbrev accept_line : Format Bool
+accept_line = bit_line (codes "accept")
+
+abbrev vector_line : Format ℕ
+vector_line = number_line (codes "vector") word (λ _. true)
+
+abbrev bit_word_line : Format ℕ
+bit_word_line = number_line (codes "bit") word (λ _. true)
+
+abbrev wrap_line : Format Bool
+wrap_line = bit_line (codes "wraparound")
+
+-- the lines of each kind
+pub record TextLines (v : Parts) (bytes : List ℕ) : Type 0 where
+  pub head : List ℕ
+  pub address : List ℕ
+  pub broadcast : List ℕ
+  pub cells : List ℕ
+  pub accept : List ℕ
+  pub vector : List ℕ
+  pub bit : List ℕ
+  pub wrap : List ℕ
+  pub initial : List ℕ
+  pub is : bytes ≡ head ++ (address ++ (broadcast ++ (cells ++ (accept ++ (vector ++ (bit ++ (wrap ++ initial)))))))
+  pub head_is : Spells (name_line (codes "rt1553 1")) true head
+  pub address_is : Spells (number_line (codes "address") decimal (λ n. nat_le n 30)) v.address address
+  pub broadcast_is : Spells (bit_line (codes "broadcast")) v.broadcast broadcast
+  pub cells_are : Spells (Rattle.bus_canon.specs.Canon.cells v.broadcast) v.tables cells
+  pub accept_is : Spells (when (tables_say v.tables (OwnMode 0)) false (bit_line (codes "accept"))) v.accept accept
+  pub vector_is : Spells (when (tables_say v.tables (OwnMode 16)) 0 (number_line (codes "vector") word (λ _. true))) v.vector vector
+  pub bit_is : Spells (when (tables_say v.tables (OwnMode 19)) 0 (number_line (codes "bit") word (λ _. true))) v.bit bit
+  pub wrap_is : Spells (when (masks_wrap v.tables wrap_subaddress) false (bit_line (codes "wraparound"))) v.wrap wrap
+  pub initial_is : Spells (rows 1 v.tables.own_transmit) v.initial initial
+
+abbrev made : ℕ → Bool → Tables → Bool → ℕ → ℕ → Bool → List (List ℕ) → Parts
+made address broadcast tables accept vector bit wrap initial =
+    record { address = address; broadcast = broadcast; wrap = wrap; accept = accept; vector = vector; bit = bit; initial = initial; tables = tables }
+
+pub text_cut : (v : Parts) (bytes : List ℕ) → Text v bytes → TextLines v bytes
+unfolding canon
+text_cut v bytes h =
+    let a = parted _ _ v bytes h in
+    let b = parted _ _ v a.rest a.spells_rest in
+    let c = parted _ _ v b.rest b.spells_rest in
+    let d = parted _ _ v c.rest c.spells_rest in
+    let e = parted _ _ v d.rest d.spells_rest in
+    let f = parted _ _ v e.rest e.spells_rest in
+    let g = parted _ _ v f.rest f.spells_rest in
+    let i = parted _ _ v g.rest g.spells_rest in
+    let j = parted _ _ v i.rest i.spells_rest in
+    let (same, none) = j.spells_rest in
+    let lines : TextLines (made b.value c.value d.value e.value f.value g.value i.value j.value) bytes = record {
+      head = a.front;
+      address = b.front;
+      broadcast = c.front;
+      cells = d.front;
+      accept = e.front;
+      vector = f.front;
+      bit = g.front;
+      wrap = i.front;
+      initial = j.front;
+      is =
+          a.is ∙ ap (λ x. a.front ++ x) (b.is ∙ ap (λ x. b.front ++ x) (c.is ∙ ap (λ x. c.front ++ x) (d.is ∙ ap (λ x. d.front ++ x)
+          (e.is ∙ ap (λ x. e.front ++ x) (f.is ∙ ap (λ x. f.front ++ x) (g.is ∙ ap (λ x. g.front ++ x) (i.is ∙ ap (λ x. i.front ++ x)
+          (j.is ∙ ap (λ x. j.front ++ x) none ∙ append-nil j.front))))))));
+      head_is = subst (λ t. Spells (name_line (codes "rt1553 1")) t a.front) (name_value (codes "rt1553 1") a.value a.front a.spells_front) a.spells_front;
+      address_is = b.spells_front;
+      broadcast_is = c.spells_front;
+      cells_are = d.spells_front;
+      accept_is = e.spells_front;
+      vector_is = f.spells_front;
+      bit_is = g.spells_front;
+      wrap_is = i.spells_front;
+      initial_is = j.spells_front;
+    } in
+    subst (λ w. TextLines w bytes) (sym same) lines
+
+pub text_spelled : (v : Parts) (bytes : List ℕ) → TextLines v bytes → Text v bytes
+unfolding canon
+text_spelled v bytes l =
+    subst (λ x. Spells canon v x)
+    (sym (l.is ∙ ap (λ x. l.head ++ (l.address ++ (l.broadcast ++ (l.cells ++ (l.accept ++ (l.vector ++ (l.bit ++ (l.wrap ++ x)))))))) (sym (append-nil l.initial))))
+    (spells-then _ _ true v l.head _ l.head_is
+    (spells-then _ _ v.address v l.address _ l.address_is
+    (spells-then _ _ v.broadcast v l.broadcast _ l.broadcast_is
+    (spells-then _ _ v.tables v l.cells _ l.cells_are
+    (spells-then _ _ v.accept v l.accept _ l.accept_is
+    (spells-then _ _ v.vector v l.vector _ l.vector_is
+    (spells-then _ _ v.bit v l.bit _ l.bit_is
+    (spells-then _ _ v.wrap v l.wrap _ l.wrap_is
+    (spells-then _ _ v.initial v l.initial [] l.initial_is (refl, refl))))))))))
+
+transmit_long : (broadcast : Bool) (t : Tables) (x : List ℕ) → Spells (cells broadcast) t x → length t.own_transmit ≡ 30
+transmit_long broadcast t x h =
+    let l : CellLines broadcast t x = cells_cut broadcast t x h in
+    let are : AreSoMany 30 t.own_transmit = masks_are (codes "own-transmit") 1 30 t.own_transmit l.transmit l.transmit_is in
+    are.long
+
+-- every line may hold something
+pub canon_sound : IsSound canon
+unfolding canon
+canon_sound =
+    sound_then _ _ (sound_name _ refl) (λ a. sound_then _ _ (sound_number _ decimal _ 0 refl (lit< tt) refl) (λ address.
+    sound_then _ _ (sound_bit _ refl) (λ broadcast. sound_after _ _ (cells_sound broadcast) (λ t x h.
+    let long : length t.own_transmit ≡ 30 = transmit_long broadcast t x h in
+    sound_then _ _ (when_sound _ _ _ (sound_bit _ refl)) (λ accept. sound_then _ _ (when_sound _ _ _ (sound_number _ word _ 0 refl (lit< tt) refl)) (λ vector.
+    sound_then _ _ (when_sound _ _ _ (sound_number _ word _ 0 refl (lit< tt) refl)) (λ bit. sound_then _ _ (when_sound _ _ _ (sound_bit _ refl)) (λ wrap.
+    sound_then _ _ (rows_sound 1 t.own_transmit (omega arith)) (λ initial. tt)))))))))
+
+-- a value has one text
+pub text_one : (v : Parts) (x y : List ℕ) → Text v x → Text v y → x ≡ y
+text_one v x y h k =
+    let a : TextLines v x = text_cut v x h in
+    let b : TextLines v y = text_cut v y k in
+    a.is
+    ∙ ap₂ (λ u w. u ++ w) (name_one _ true a.head b.head a.head_is b.head_is)
+    (ap₂ (λ u w. u ++ w) (number_one _ decimal (λ n. nat_le n 30) v.address a.address b.address a.address_is b.address_is)
+    (ap₂ (λ u w. u ++ w) (bit_one _ v.broadcast a.broadcast b.broadcast a.broadcast_is b.broadcast_is)
+    (ap₂ (λ u w. u ++ w) (cells_one v.broadcast v.tables a.cells b.cells a.cells_are b.cells_are)
+    (ap₂ (λ u w. u ++ w) (when_one (tables_say v.tables (OwnMode 0)) false accept_line (bit_one _) v.accept a.accept b.accept a.accept_is b.accept_is)
+    (ap₂ (λ u w. u ++ w) (when_one (tables_say v.tables (OwnMode 16)) 0 vector_line (number_one _ word (λ _. true)) v.vector a.vector b.vector a.vector_is b.vector_is)
+    (ap₂ (λ u w. u ++ w) (when_one (tables_say v.tables (OwnMode 19)) 0 bit_word_line (number_one _ word (λ _. true)) v.bit a.bit b.bit a.bit_is b.bit_is)
+    (ap₂ (λ u w. u ++ w) (when_one (masks_wrap v.tables wrap_subaddress) false wrap_line (bit_one _) v.wrap a.wrap b.wrap a.wrap_is b.wrap_is)
+    (rows_one 1 v.tables.own_transmit v.initial a.initial b.initial a.initial_is b.initial_is))))))))
+    ∙ sym b.is
+
+-- bytes are the text of one value
+pub value_one : (v w : Parts) (bytes : List ℕ) → Text v bytes → Text w bytes → v ≡ w
+value_one v w bytes h k = (one_front canon bytes v w bytes bytes [] [] h k (sym (append-nil bytes)) (sym (append-nil bytes))).0
+
+-- no text is a proper prefix of another
+pub text_whole : (v w : Parts) (bytes more : List ℕ) → Text v bytes → Text w (bytes ++ more) → more ≡ []
+text_whole v w bytes more h k = (one_front canon (bytes ++ more) v w bytes (bytes ++ more) more [] h k refl (sym (append-nil (bytes ++ more)))).1
+
+-- how long a text is
+pub text_size : (v : Parts) (x : List ℕ) → Text v x → (1520 ≤ length x) × (length x ≤ 7617)
+text_size v x h =
+    let l : TextLines v x = text_cut v x h in
+    let head : HasSize head_line 9 9 = size_name (codes "rt1553 1") 9 refl in
+    let address : HasSize address_line 11 11 = size_number (codes "address") decimal _ 11 refl in
+    let broadcast : HasSize (bit_line (codes "broadcast")) 12 12 = size_bit (codes "broadcast") 12 refl in
+    let tables : HasSize (cells v.broadcast) 1488 2412 = cells_size v.broadcast in
+    let accept : HasSize (when (tables_say v.tables (OwnMode 0)) false accept_line) 0 9 = when_size _ _ _ 9 9 (size_bit (codes "accept") 9 refl) in
+    let vector : HasSize (when (tables_say v.tables (OwnMode 16)) 0 vector_line) 0 12 = when_size _ _ _ 12 12 (size_number (codes "vector") word _ 12 refl) in
+    let bit : HasSize (when (tables_say v.tables (OwnMode 19)) 0 bit_word_line) 0 9 = when_size _ _ _ 9 9 (size_number (codes "bit") word _ 9 refl) in
+    let wrap : HasSize (when (masks_wrap v.tables wrap_subaddress) false wrap_line) 0 13 = when_size _ _ _ 13 13 (size_bit (codes "wraparound") 13 refl) in
+    let initial : HasSize (rows 1 v.tables.own_transmit) 0 (171 * length v.tables.own_transmit) = rows_size 1 v.tables.own_transmit in
+    let long : length v.tables.own_transmit ≡ 30 = transmit_long v.broadcast v.tables l.cells l.cells_are in
+    let sum : length x ≡ length l.head + (length l.address + (length l.broadcast + (length l.cells + (length l.accept + (length l.vector + (length l.bit + (length l.wrap + length l.initial))))))) =
+    ap length l.is ∙ simp length-append in
+    let low : 1520 ≤ length x = omega (arith, head.least _ _ l.head_is, address.least _ _ l.address_is, broadcast.least _ _ l.broadcast_is, tables.least _ _ l.cells_are) in
+    let high : length x ≤ 7617 =
+    omega (arith, head.most _ _ l.head_is, address.most _ _ l.address_is, broadcast.most _ _ l.broadcast_is, tables.most _ _ l.cells_are, accept.most _ _ l.accept_is, vector.most _ _ l.vector_is,
+    bit.most _ _ l.bit_is, wrap.most _ _ l.wrap_is, initial.most _ _ l.initial_is) in
+    (low, high)
+
+-- a text is that of a `Normal`
+pub text_normal : (v : Parts) (x : List ℕ) → Text v x → IsNormal v
+text_normal v x h =
+    let l : TextLines v x = text_cut v x h in
+    let t = v.tables in
+    let cs : CellLines v.broadcast t l.cells = cells_cut v.broadcast t l.cells l.cells_are in
+    let transmit : AreSoMany 30 t.own_transmit = masks_are _ 1 30 t.own_transmit cs.transmit cs.transmit_is in
+    let receive : AreSoMany 30 t.own_receive = masks_are _ 1 30 t.own_receive cs.receive cs.receive_is in
+    let none : AreSoMany 30 (replicate 30 0) = zeros_are in
+    let heard : AreSoMany 30 t.broadcast_receive = when_holds (AreSoMany 30) v.broadcast (replicate 30 0) broadcast_masks (masks_are _ 1 30) none t.broadcast_receive cs.heard cs.heard_is in
+    let fit : FitRows t.own_transmit v.initial = rows_fit 1 t.own_transmit v.initial l.initial l.initial_is in
+    let own : nat_le v.address 30 ≡ true = number_value _ decimal (λ n. nat_le n 30) v.address l.address l.address_is in
+    record {
+      address = grind (arith, nat_tests, own);
+      vector = when_holds (λ n. n < 2 ^ 16) (tables_say t (OwnMode 16)) 0 vector_line (number_fits _ word (λ _. true)) (lit< tt) v.vector l.vector l.vector_is;
+      bit = when_holds (λ n. n < 2 ^ 16) (tables_say t (OwnMode 19)) 0 bit_word_line (number_fits _ word (λ _. true)) (lit< tt) v.bit l.bit l.bit_is;
+      words = record { thirty = fit.long ∙ transmit.long; rows = λ s k. (fit.fit s (omega (arith, transmit.long))).is_row };
+      own_receive = are_masks t.own_receive receive;
+      own_transmit = are_masks t.own_transmit transmit;
+      broadcast_receive = are_masks t.broadcast_receive heard;
+      own_mode = number_value _ mask is_own_mask t.own_mode cs.own cs.own_is;
+      broadcast_mode = when_holds (λ n. is_broadcast_mask n ≡ true) v.broadcast 0 broadcast_codes_line (number_value _ mask is_broadcast_mask) refl t.broadcast_mode cs.all cs.all_is;
+      unheard_receive = when_absent v.broadcast (replicate 30 0) broadcast_masks t.broadcast_receive cs.heard cs.heard_is;
+      unheard_mode = when_absent v.broadcast 0 broadcast_codes_line t.broadcast_mode cs.all cs.all_is;
+      unasked_accept = when_absent (tables_say t (OwnMode 0)) false accept_line v.accept l.accept l.accept_is;
+      unasked_vector = when_absent (tables_say t (OwnMode 16)) 0 vector_line v.vector l.vector l.vector_is;
+      unasked_bit = when_absent (tables_say t (OwnMode 19)) 0 bit_word_line v.bit l.bit l.bit_is;
+      unwrapped = when_absent (masks_wrap t wrap_subaddress) false wrap_line v.wrap l.wrap l.wrap_is;
+      unsent = λ s i k m le. (fit.fit s (omega (arith, transmit.long))).unsent i m le;
+    }
+  where
+    zeros_are : AreSoMany 30 (replicate 30 0)
+    zeros_are = ?
+
+-- every `Normal` has a text
+pub normal_text : (v : Parts) → IsNormal v → (x : List ℕ) × Text v x
+normal_text v is = ?

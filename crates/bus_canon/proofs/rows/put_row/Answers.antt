@@ -1,0 +1,15 @@
+use Rattle.std.proofs.Common.{◌≡◌, ◌≤◌, [], take, append-nil, refl, sym}
+use Rattle.std.proofs.lemmas.Result.{IfOk-weaker}
+use Rattle.bus_canon.proofs.RowLaws.{FitsRow, row_absent, row_given}
+use Rattle.bus_canon.proofs.rows.put_row.Goals as goal
+
+pub returns-then-counts-eq0 : goal.returns-then-counts-eq0
+returns-then-counts-eq0 c =
+    let fits : FitsRow c.args.counts c.args.words.now = record { is_row = record { long = c.told-words; fit = c.fits-words }; unsent = c.requires.unsent } in
+    ([], sym (append-nil c.args.out.now.items), row_absent c.args.subaddress c.args.counts c.args.words.now c.if-counts-eq0.true fits)
+
+pub returns : goal.returns
+returns c =
+    let fits : FitsRow c.args.counts c.args.words.now = record { is_row = record { long = c.told-words; fit = c.fits-words }; unsent = c.requires.unsent } in
+    IfOk-weaker c.put_words_line.result _ _
+    (λ _ h. (h.0, h.1, row_given c.args.subaddress c.args.counts c.largest_count.result c.args.words.now h.0 c.if-counts-eq0.false c.largest_count.ensures.count fits h.2)) c.put_words_line.ensures
