@@ -1,8 +1,10 @@
 -- Laws of the canonical text.
-use Rattle.std.proofs.Common.{◌≡◌, ℕ, ◌+◌, ◌*◌, ◌^◌, ◌<◌, ◌≤◌, Bool, true, false, nat_le, List, [], ◌∷◌, ◌++◌, codes, replicate, length, get_or, refl, ap, ap₂, sym, ◌∙◌, subst, append-nil, length-append, arith, lit<}
+use Rattle.std.proofs.Common.{◌≡◌, ℕ, ◌+◌, ◌*◌, ◌^◌, ◌<◌, ◌≤◌, ◌==◌, ◌&&◌, bit_and, cond, Bool, true, false, nat_le, Ok, List, [], ◌∷◌, ◌++◌, codes, replicate, length, get_or, refl, ap, ap₂, sym, ◌∙◌, subst, append-nil, length-append, arith, lit<}
 use Rattle.std.proofs.lemmas.Bool.Decides.{nat_tests}
+use Rattle.std.proofs.lemmas.Nat.{and_le_r}
 use Rattle.bus_word.specs.declared.cell.Cell.TheVariants.{OwnMode}
 use Rattle.bus_legal.specs.declared.tables.Tables.{Tables}
+use Rattle.bus_legal.specs.declared.tables.TheConstants.{OWN_CODES, BROADCAST_CODES}
 use Rattle.bus_legal.specs.Description.{wrap_subaddress}
 use Rattle.bus_legal.specs.Tables.{tables_say, masks_wrap, is_own_mask, is_broadcast_mask}
 use Rattle.bus_legal.specs.Parts.{Parts, AreMasks, AreWords, IsNormal}
@@ -18,7 +20,7 @@ use Rattle.line_format.proofs.SizeLaws.{HasSize, size_name, size_number, size_bi
 use Rattle.bus_canon.specs.Canon.{when, masks, cells, rows, canon, Text}
 use Rattle.bus_canon.proofs.Several.{when_sound, when_one, when_size, when_absent, when_holds, when_spelled}
 use Rattle.bus_canon.proofs.MaskLaws.{AreSoMany, masks_are, are_masks, masks_some}
-use Rattle.bus_canon.proofs.RowLaws.{FitsRow, FitRows, rows_sound, rows_one, rows_size, rows_fit, rows_some}
+use Rattle.bus_canon.proofs.RowLaws.{zero_words, zero_at, FitsRow, FitRows, rows_sound, rows_one, rows_size, rows_fit, rows_some}
 use Rattle.bus_canon.proofs.CellLaws.{CellLines, cells_cut, cells_spelled, cells_sound, cells_one, cells_size, own_codes_line, broadcast_codes_line, broadcast_masks}
 
 abbrev head_line : Format Bool
@@ -215,8 +217,99 @@ text_normal v x h =
     }
   where
     zeros_are : AreSoMany 30 (replicate 30 0)
-    zeros_are = ?
+    zeros_are = record { long = refl; fit = λ i. (let none : get_or (zero_words 30) i 0 ≡ 0 = zero_at 30 i in omega arith) }
+
+-- what is read is a `Normal`
+pub read_normal : (p q : Spot) (v : Parts) → read canon p ≡ Ok (v, q) → IsNormal v
+read_normal p q v e = let m : Meets canon p.rest v q.rest = read-is canon p (v, q) e in text_normal v m.front m.spells
+
+-- a mask that holds no bit but those of another is no larger
+masked : (n most : ℕ) → (bit_and n most == n) ≡ true → n ≤ most
+masked n most e = let same : bit_and n most ≡ n = grind (arith, nat_tests) in omega (arith, and_le_r n most)
+
+left_test : (a b : Bool) → (a && b) ≡ true → a ≡ true
+left_test true b e = refl
+left_test false b e = e
+
+own_fits : (n : ℕ) → is_own_mask n ≡ true → n < 2 ^ 32
+own_fits n e = let le : n ≤ OWN_CODES = masked n OWN_CODES (left_test (bit_and n OWN_CODES == n) _ e) in omega arith
+
+broadcast_fits : (n : ℕ) → is_broadcast_mask n ≡ true → n < 2 ^ 32
+broadcast_fits n e = let le : n ≤ BROADCAST_CODES = masked n BROADCAST_CODES e in omega arith
+
+so_many : (ms : List ℕ) → AreMasks ms → AreSoMany 30 ms
+so_many ms are = record { long = are.thirty; fit = are.fit }
+
+bit_some : (name : List ℕ) (b : Bool) → (x : List ℕ) × Spells (bit_line name) b x
+bit_some name b = (_, bit_spelled name b (cond b 1 0) refl)
+
+word_some : (name : List ℕ) (n : ℕ) → n < 2 ^ 16 → (x : List ℕ) × Spells (number_line name word (λ _. true)) n x
+word_some name n l = (number_text name word n, number_spelled name word (λ _. true) n l refl)
+
+-- the lines of the cells of a `Normal`
+cells_some : (v : Parts) → IsNormal v → (x : List ℕ) × Spells (cells v.broadcast) v.tables x
+cells_some v is =
+    let t = v.tables in
+    let receive = masks_some (codes "own-receive") 1 30 t.own_receive (lit< tt) (so_many t.own_receive is.own_receive) in
+    let transmit = masks_some (codes "own-transmit") 1 30 t.own_transmit (lit< tt) (so_many t.own_transmit is.own_transmit) in
+    let heard = when_spelled v.broadcast (replicate 30 0) broadcast_masks t.broadcast_receive
+    (masks_some (codes "broadcast-receive") 1 30 t.broadcast_receive (lit< tt) (so_many t.broadcast_receive is.broadcast_receive)) is.unheard_receive in
+    let own = number_spelled (codes "own-mode") mask is_own_mask t.own_mode (own_fits t.own_mode is.own_mode) is.own_mode in
+    let all = when_spelled v.broadcast 0 broadcast_codes_line t.broadcast_mode
+    (number_text (codes "broadcast-mode") mask t.broadcast_mode, number_spelled (codes "broadcast-mode") mask is_broadcast_mask t.broadcast_mode (broadcast_fits t.broadcast_mode is.broadcast_mode) is.broadcast_mode)
+    is.unheard_mode in
+    let lines : CellLines v.broadcast t (receive.0 ++ (transmit.0 ++ (heard.0 ++ (number_text (codes "own-mode") mask t.own_mode ++ all.0)))) = record {
+      receive = receive.0;
+      transmit = transmit.0;
+      heard = heard.0;
+      own = number_text (codes "own-mode") mask t.own_mode;
+      all = all.0;
+      is = refl;
+      receive_is = receive.1;
+      transmit_is = transmit.1;
+      heard_is = heard.1;
+      own_is = own;
+      all_is = all.1;
+    } in
+    (_, cells_spelled v.broadcast t _ lines)
+
+fit_rows : (v : Parts) → IsNormal v → FitRows v.tables.own_transmit v.initial
+fit_rows v is = record {
+  long = is.words.thirty ∙ sym is.own_transmit.thirty;
+  fit = λ s l. (let place : s < 30 = omega (arith, is.own_transmit.thirty) in record { is_row = is.words.rows s place; unsent = λ i k le. is.unsent s i place k le });
+}
 
 -- every `Normal` has a text
 pub normal_text : (v : Parts) → IsNormal v → (x : List ℕ) × Text v x
-normal_text v is = ?
+normal_text v is =
+    let own : nat_le v.address 30 ≡ true = grind (arith, nat_tests, is.address) in
+    let address = number_spelled (codes "address") decimal (λ n. nat_le n 30) v.address (omega (arith, is.address)) own in
+    let broadcast = bit_some (codes "broadcast") v.broadcast in
+    let tables = cells_some v is in
+    let accept = when_spelled (tables_say v.tables (OwnMode 0)) false accept_line v.accept (bit_some (codes "accept") v.accept) is.unasked_accept in
+    let vector = when_spelled (tables_say v.tables (OwnMode 16)) 0 vector_line v.vector (word_some (codes "vector") v.vector is.vector) is.unasked_vector in
+    let bit = when_spelled (tables_say v.tables (OwnMode 19)) 0 bit_word_line v.bit (word_some (codes "bit") v.bit is.bit) is.unasked_bit in
+    let wrap = when_spelled (masks_wrap v.tables wrap_subaddress) false wrap_line v.wrap (bit_some (codes "wraparound") v.wrap) is.unwrapped in
+    let initial = rows_some 1 v.tables.own_transmit v.initial (omega (arith, is.own_transmit.thirty)) (fit_rows v is) in
+    let lines : TextLines v ((codes "rt1553 1" ++ 10 ∷ []) ++ (number_text (codes "address") decimal v.address ++ (broadcast.0 ++ (tables.0 ++ (accept.0 ++ (vector.0 ++ (bit.0 ++ (wrap.0 ++ initial.0)))))))) = record {
+      head = codes "rt1553 1" ++ 10 ∷ [];
+      address = number_text (codes "address") decimal v.address;
+      broadcast = broadcast.0;
+      cells = tables.0;
+      accept = accept.0;
+      vector = vector.0;
+      bit = bit.0;
+      wrap = wrap.0;
+      initial = initial.0;
+      is = refl;
+      head_is = name_spelled (codes "rt1553 1");
+      address_is = address;
+      broadcast_is = broadcast.1;
+      cells_are = tables.1;
+      accept_is = accept.1;
+      vector_is = vector.1;
+      bit_is = bit.1;
+      wrap_is = wrap.1;
+      initial_is = initial.1;
+    } in
+    (_, text_spelled v _ lines)

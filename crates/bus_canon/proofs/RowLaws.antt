@@ -31,7 +31,7 @@ largest_none = refl
 abbrev pub zero_words : ℕ → List ℕ
 zero_words n = replicate n 0
 
-zero_at : (n i : ℕ) → get_or (zero_words n) i 0 ≡ 0
+pub zero_at : (n i : ℕ) → get_or (zero_words n) i 0 ≡ 0
 zero_at n i = ⊎_elim (λ lt. get_or-replicate {A = ℕ} n i 0 0 lt) (λ le. get_or_past (zero_words n) i 0 (omega (arith, length-replicate {A = ℕ} n 0))) (cases_lt i n)
 
 pub zeros : (n : ℕ) (xs : List ℕ) → length xs ≡ n → ((i : ℕ) → i < n → get_or xs i 0 ≡ 0) → xs ≡ replicate n 0

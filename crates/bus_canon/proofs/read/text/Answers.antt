@@ -1,7 +1,10 @@
-use Rattle.std.proofs.Common.{◌∙◌}
+use Rattle.std.proofs.Common.{◌∙◌, ap, sym, Ok}
 use Rattle.std.proofs.lemmas.Result.{err_from_is_err_and}
 use Rattle.line_format.proofs.Steps.{then_ok, then_err}
+use Rattle.line_format.specs.Views.{spot}
+use Rattle.bus_legal.specs.Parts.{Parts}
 use Rattle.bus_canon.specs.Canon.{canon}
+use Rattle.bus_canon.proofs.CanonLaws.{read_normal}
 use Rattle.bus_canon.proofs.read.text.Goals as goal
 
 -- the lines before were read, and what comes next is
@@ -69,8 +72,27 @@ returns-in_err-initial c =
     rw (p.1, p.2) (then_ok _ _ _ _ _ c.in_ok-lines.ensures ∙ then_ok _ _ _ _ _ c.in_ok-address.ensures.answer ∙ then_ok _ _ _ _ _ c.in_ok-broadcast.ensures ∙ then_ok _ _ _ _ _ c.in_ok-tables.ensures ∙ then_ok _ _ _ _ _ c.in_ok-accept.ensures ∙ then_ok _ _ _ _ _ c.in_ok-vector.ensures ∙ then_ok _ _ _ _ _ c.in_ok-bit.ensures ∙ then_ok _ _ _ _ _ c.in_ok-wrap.ensures ∙ then_err _ _ _ _ c.in_err-initial.ensures)
 
 pub of-requires : goal.of-requires
-of-requires c = ?
+unfolding canon
+of-requires c = read_normal _ _ _
+    (then_ok _ _ _ _ _ c.in_ok-lines.ensures
+    ∙ then_ok _ _ _ _ _ c.in_ok-address.ensures.answer
+    ∙ then_ok _ _ _ _ _ c.in_ok-broadcast.ensures
+    ∙ then_ok _ _ _ _ _ c.in_ok-tables.ensures
+    ∙ then_ok _ _ _ _ _ c.in_ok-accept.ensures
+    ∙ then_ok _ _ _ _ _ c.in_ok-vector.ensures
+    ∙ then_ok _ _ _ _ _ c.in_ok-bit.ensures
+    ∙ then_ok _ _ _ _ _ c.in_ok-wrap.ensures
+    ∙ then_ok _ _ _ _ _ c.in_ok-initial.ensures)
 
 pub returns : goal.returns
 unfolding canon
-returns c = ?
+returns c = then_ok _ _ _ _ _ c.in_ok-lines.ensures
+    ∙ then_ok _ _ _ _ _ c.in_ok-address.ensures.answer
+    ∙ then_ok _ _ _ _ _ c.in_ok-broadcast.ensures
+    ∙ then_ok _ _ _ _ _ c.in_ok-tables.ensures
+    ∙ then_ok _ _ _ _ _ c.in_ok-accept.ensures
+    ∙ then_ok _ _ _ _ _ c.in_ok-vector.ensures
+    ∙ then_ok _ _ _ _ _ c.in_ok-bit.ensures
+    ∙ then_ok _ _ _ _ _ c.in_ok-wrap.ensures
+    ∙ then_ok _ _ _ _ _ c.in_ok-initial.ensures
+    ∙ ap (λ (v : Parts). Ok (v, spot c.in_ok-initial.lines)) (sym c.of.ensures)
