@@ -119,14 +119,13 @@ fn text(lines: Lines<'_>) -> Result<(Normal, Lines<'_>), WrongLine>
 pub fn read_canon(bytes: &[u8]) -> Result<Normal, CanonFault>
     ensures { Answers canon bytes.now (canon_answer result) }
 {
-    match text(Lines::of(bytes)) {
-        Ok((normal, after)) => {
-            if after.rest.is_empty() {
-                Ok(normal)
-            } else {
-                Err(CanonFault::Trailing)
-            }
-        }
-        Err(wrong) => Err(CanonFault::Line(wrong.line)),
+    let (normal, after) = match text(Lines::of(bytes)) {
+        Ok(found) => found,
+        Err(wrong) => return Err(CanonFault::Line(wrong.line)),
+    };
+    if after.rest.is_empty() {
+        Ok(normal)
+    } else {
+        Err(CanonFault::Trailing)
     }
 }

@@ -10,12 +10,12 @@ use Rattle.bus_canon.proofs.read.read_canon.Goals as goal
 
 pub returns-then-is_empty : goal.returns-then-is_empty
 returns-then-is_empty c =
-    read_whole canon c.args.bytes.now c.in-Ok.normal (spot c.in-Ok.after) (ap (read canon) (sym c.of.ensures) ∙ c.in-Ok.ensures)
-    (nil_from_length c.in-Ok.after.rest.now (grind (arith, nat_tests, c.if-is_empty.ensures)))
+    read_whole canon c.args.bytes.now c.in-Ok.found.0 (spot c.in-Ok.found.1) (ap (read canon) (sym c.of.ensures) ∙ c.in-Ok.ensures)
+    (nil_from_length c.in-Ok.found.1.rest.now (grind (arith, nat_tests, c.if-is_empty.ensures)))
 
 pub returns-else-is_empty : goal.returns-else-is_empty
 returns-else-is_empty c =
-    read_more canon c.args.bytes.now c.in-Ok.normal (spot c.in-Ok.after) (ap (read canon) (sym c.of.ensures) ∙ c.in-Ok.ensures) (grind (arith, nat_tests, c.if-is_empty.ensures))
+    read_more canon c.args.bytes.now c.in-Ok.found.0 (spot c.in-Ok.found.1) (ap (read canon) (sym c.of.ensures) ∙ c.in-Ok.ensures) (grind (arith, nat_tests, c.if-is_empty.ensures))
 
 pub returns-in-Err : goal.returns-in-Err
 returns-in-Err c = read_err canon canon_sound c.args.bytes.now c.in-Err.wrong.line (ap (read canon) (sym c.of.ensures) ∙ c.in-Err.ensures)
