@@ -181,8 +181,18 @@ text_size v x h =
     ap length l.is ∙ simp length-append in
     let low : 1520 ≤ length x = omega (arith, head.least _ _ l.head_is, address.least _ _ l.address_is, broadcast.least _ _ l.broadcast_is, tables.least _ _ l.cells_are) in
     let high : length x ≤ 7617 =
-    omega (arith, head.most _ _ l.head_is, address.most _ _ l.address_is, broadcast.most _ _ l.broadcast_is, tables.most _ _ l.cells_are, accept.most _ _ l.accept_is, vector.most _ _ l.vector_is,
-    bit.most _ _ l.bit_is, wrap.most _ _ l.wrap_is, initial.most _ _ l.initial_is) in
+    omega (
+      arith,
+      head.most _ _ l.head_is,
+      address.most _ _ l.address_is,
+      broadcast.most _ _ l.broadcast_is,
+      tables.most _ _ l.cells_are,
+      accept.most _ _ l.accept_is,
+      vector.most _ _ l.vector_is,
+      bit.most _ _ l.bit_is,
+      wrap.most _ _ l.wrap_is,
+      initial.most _ _ l.initial_is,
+    ) in
     (low, high)
 
 -- a text is that of a `Normal`

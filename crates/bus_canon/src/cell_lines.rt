@@ -33,10 +33,7 @@ fn masks<'a>(lines: Lines<'a>, name: &[u8]) -> Result<([u32; 30], Lines<'a>), Wr
 }
 
 /// Reads these lines where the terminal has the broadcast option.
-fn broadcast_masks(
-    lines: Lines<'_>,
-    broadcast: bool,
-) -> Result<([u32; 30], Lines<'_>), WrongLine>
+fn broadcast_masks(lines: Lines<'_>, broadcast: bool) -> Result<([u32; 30], Lines<'_>), WrongLine>
     ensures { Gives (λ r. r.0) (λ r. r.1) result (read (when broadcast (replicate 30 0) (masks (codes "broadcast-receive") 1 30)) (spot lines.entry)) }
 {
     if broadcast {

@@ -1,6 +1,7 @@
 //! The canonical text of what of a profile can be reached: written, and read back.
 #![tactic(auto)]
 
+mod asked;
 mod cell_lines;
 mod fault;
 pub mod laws;

@@ -20,7 +20,12 @@ fn row(lines: Lines<'_>, subaddress: u32, counts: u32) -> Result<([u16; 32], Lin
     if counts == 0 {
         return Ok((words, lines));
     }
-    match words_line(lines, INITIAL, subaddress, &mut words[..largest_count(counts)]) {
+    match words_line(
+        lines,
+        INITIAL,
+        subaddress,
+        &mut words[..largest_count(counts)],
+    ) {
         Ok(behind) => Ok((words, behind)),
         Err(wrong) => Err(wrong),
     }

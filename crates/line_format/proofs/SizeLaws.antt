@@ -1,7 +1,7 @@
 -- How long texts are.
-use Rattle.std.proofs.Common.{◌≡◌, ℕ, zero, suc, ◌+◌, ◌*◌, ◌≤◌, ◌<◌, List, [], ◌∷◌, ◌++◌, Bool, length, length-append, replicate, refl, ap, sym, ◌∙◌, subst, arith}
+use Rattle.std.proofs.Common.{◌≡◌, ℕ, zero, suc, ◌+◌, ◌*◌, ◌≤◌, List, [], ◌∷◌, ◌++◌, Bool, length, length-append, replicate, refl, ap, ◌∙◌, arith}
 use Rattle.line_format.specs.Format.{Field, Shape, Format, done, line, and_then, digits, Fit, spell_fields, spell, Spells}
-use Rattle.line_format.specs.Shapes.{name_line, number_line, bit_line, numbered_line, words_line, number_field, decimal, word, mask}
+use Rattle.line_format.specs.Shapes.{name_line, number_line, bit_line, numbered_line, words_line, word}
 use Rattle.line_format.proofs.OneText.{Parted, parted}
 
 -- every text has a length between these

@@ -1,5 +1,5 @@
 -- Laws of formats that are put together: each line may hold something, and a value has one text.
-use Rattle.std.proofs.Common.{◌≡◌, ℕ, zero, suc, ◌^◌, ◌<◌, ◌==◌, List, [], ◌∷◌, ◌++◌, Bool, true, refl, replicate, lit<, arith}
+use Rattle.std.proofs.Common.{◌≡◌, ℕ, zero, suc, ◌^◌, ◌<◌, List, [], ◌∷◌, ◌++◌, Bool, true, refl, replicate, lit<, arith}
 use Rattle.std.proofs.lemmas.Bool.Decides.{nat_tests}
 use Rattle.line_format.specs.Format.{Field, Fit, Format, done, line, and_then, spell, Spells, IsSound, is_plain}
 use Rattle.line_format.specs.Shapes.{name_line, number_line, bit_line, numbered_line, words_line, word}

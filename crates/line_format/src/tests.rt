@@ -1,7 +1,8 @@
 //! Fields and lines, read and written.
 use crate::{
-    Lines, field, name_line, number_line_of, number_of, numbered_line_of, put_digits,
-    put_name_line, put_number_line, put_numbered_line,
+    Lines, WrongLine, bit_line, field, name_line, number_line_of, number_of, numbered_line,
+    numbered_line_of, put_bit_line, put_digits, put_name_line, put_number_line, put_numbered_line,
+    put_words_line, word_line, words_line,
 };
 use std::test::Fail;
 
@@ -70,6 +71,43 @@ fn lines_are_read_and_written(rt: HostRuntime) -> Result<(), Fail> {
     match name_line(Lines::of(bytes), b"head") {
         Ok(lines) => assert_eq!(rt; lines.number, 0),
         Err(wrong) => assert_eq!(rt; wrong.line, 1),
+    }
+    Ok(())
+}
+
+/// Reads a bit, a word, a mask of number 3 and two words of number 7, one line after another.
+fn four_lines<'a>(
+    lines: Lines<'a>,
+    words: &mut [u16; 2],
+) -> Result<(bool, u16, u32, Lines<'a>), WrongLine> {
+    let (bit, lines) = bit_line(lines, b"bit")?;
+    let (word, lines) = word_line(lines, b"word")?;
+    let (mask, lines) = numbered_line(lines, b"row", 3)?;
+    let lines = words_line(lines, b"words", 7, words.as_mut_slice())?;
+    Ok((bit, word, mask, lines))
+}
+
+#[test]
+fn four_lines_are_read_and_written(rt: HostRuntime) -> Result<(), Fail> {
+    let mut text = Vec::new(rt.alloc());
+    put_bit_line(&mut text, b"bit", true)?;
+    put_number_line(&mut text, b"word", 16, 4, 0xbeef)?;
+    put_numbered_line(&mut text, b"row", 3, 0x8000_0001)?;
+    put_words_line(&mut text, b"words", 7, &[1, 0xfffe])?;
+    let bytes = text.as_slice();
+    assert_eq!(rt;
+        bytes,
+        b"bit 1\nword beef\nrow 03 80000001\nwords 07 0001 fffe\n".as_slice()
+    );
+    let mut words = [0; 2];
+    match four_lines(Lines::of(bytes), &mut words) {
+        Ok((bit, word, mask, lines)) => {
+            assert!(rt; bit && lines.rest.is_empty());
+            assert_eq!(rt; word, 0xbeef);
+            assert_eq!(rt; mask, 0x8000_0001);
+            assert_eq!(rt; words, [1, 0xfffe]);
+        }
+        Err(wrong) => assert_eq!(rt; wrong.line, 0),
     }
     Ok(())
 }

@@ -1,8 +1,7 @@
-use Rattle.std.proofs.Common.{◌≡◌, ◌+◌, ◌-◌, ◌≤◌, ◌∙◌, ap, sym, arith, take, length, length-set, replicate, refl}
+use Rattle.std.proofs.Common.{◌≡◌, ◌+◌, ◌-◌, ◌∙◌, sym, arith, take, length, length-set, refl}
 use Rattle.std.proofs.lemmas.List.{take_more_set}
-use Rattle.line_format.specs.Reading.{fields_at}
 use Rattle.line_format.specs.Shapes.{word}
-use Rattle.line_format.proofs.Steps.{fields_front, fields_more}
+use Rattle.line_format.proofs.Steps.{fields_more}
 use Rattle.line_format.proofs.read.words.Goals as goal
 
 pub loop-index-preserved : goal.loop-index-preserved

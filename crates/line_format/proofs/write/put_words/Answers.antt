@@ -1,6 +1,4 @@
-use Rattle.std.proofs.Common.{◌∙◌, sym, ap, ◌++◌, ◌∷◌, ◌+◌, ◌-◌, [], drop, length, replicate, get_or, ℕ, List, ◌≡◌, arith}
-use Rattle.line_format.specs.Format.{spell_fields, digits}
-use Rattle.line_format.specs.Shapes.{word}
+use Rattle.std.proofs.Common.{◌∙◌, sym, arith}
 use Rattle.line_format.proofs.Writes.{words_more}
 use Rattle.line_format.proofs.write.put_words.Goals as goal
 
