@@ -1,5 +1,5 @@
 //! The entries of a profile's three arrays, and the lists of them.
-ghost use Rattle.std.specs.Prelude.{◌≡◌, ◌≤◌, ◌<◌, ◌^◌, ◌+◌};
+ghost use Rattle.std.specs.Prelude.{◌≡◌, ◌≤◌, ◌<◌, ◌^◌, ◌+◌, length};
 
 use std::marker::Model;
 
@@ -48,6 +48,7 @@ pub struct InitialWords {
     ghost first_low: { 1 ≤ first },
     ghost first_high: { first ≤ 32 },
     ghost room: { first + len ≤ 33 },
+    ghost whole: { length words ≡ 32 },
 }
 
 /// The rules of a profile. A contract sees the list.
