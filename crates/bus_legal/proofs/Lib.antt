@@ -15,3 +15,4 @@ pub mod PartsReach
 pub mod NormalLaws
 pub mod SameNormals
 pub mod LegalLaws
+pub mod PlainLaws

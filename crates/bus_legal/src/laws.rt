@@ -8,6 +8,7 @@ ghost use Rattle.bus_profile.specs.declared.entries.Rule.{Rule};
 ghost use Rattle.bus_profile.specs.declared.entries.ModeRule.{ModeRule};
 ghost use Rattle.bus_profile.specs.declared.profile.Profile.{Profile};
 ghost use Rattle.bus_profile.specs.OwnCodes.{is_own_code_legal};
+ghost use Rattle.bus_profile.specs.Plain.{plain};
 ghost use Rattle.bus_legal.specs.declared.setup.Setup.{Setup};
 ghost use Rattle.bus_legal.specs.Description.{Description, wrap_subaddress, described};
 ghost use Rattle.bus_legal.specs.Legal.{is_legal};
@@ -29,6 +30,11 @@ pub fn own_codes_are_legal_alike()
 /// In every profile own mode codes 2, 4, 5 and 8 are legal.
 pub fn required_codes_are_legal()
     ensures { (p : Profile) (code : ℕ) → is_required_code code ≡ true → is_legal p.rules p.modes (OwnMode code) ≡ true }
+{}
+
+/// A profile's description depends on its plain values alone.
+pub fn plain_profiles_describe_alike()
+    ensures { (p q : Profile) → plain p ≡ plain q → description_of p ≡ description_of q }
 {}
 
 /// What can be reached of what can be reached is all of it.
