@@ -5,11 +5,12 @@ use Rattle.std.proofs.lemmas.Bool.{and_parts}
 use Rattle.std.proofs.lemmas.Bool.Decides.{nat_tests}
 use Rattle.bus_word.specs.declared.cell.Cell.{Cell}
 use Rattle.bus_word.specs.declared.cell.Cell.TheVariants.{OwnReceive, OwnTransmit, BroadReceive, OwnMode, BroadMode}
-use Rattle.bus_word.specs.Cell.{is_allowed}
+use Rattle.bus_word.specs.Cell.{is_data_place, is_allowed}
 use Rattle.bus_legal.specs.Description.{Description, wrap_subaddress}
 use Rattle.bus_legal.specs.Reach.{any_to, any_count, largest_count, is_heard, transmits, receives, can_wrap, can_transmit, reach}
 use Rattle.bus_legal.specs.Parts.{Parts, description_in, IsNormal}
-use Rattle.bus_legal.proofs.Counts.{largest_to-passes, any_to-or, any_to-and}
+use Rattle.bus_legal.proofs.Descriptions.{same_description}
+use Rattle.bus_legal.proofs.Counts.{sent_place, largest_to-passes, any_to-or, any_to-and}
 use Rattle.bus_legal.proofs.NormalLaws.{reach-normal, required-legal}
 use Rattle.bus_terminal.specs.Distinguish.{TellsApart, all_terminals, least_to, least_count, address_script, option_script, own_receive_script, own_transmit_script, broadcast_receive_script, own_code_script, broadcast_code_script, acceptance_script, vector_script, bit_script, initial_script, shown_wraparound, receives_own, receives_broadcast, wraparound_script}
 use Rattle.bus_terminal.proofs.Distinguish.Address.{address_tells}
@@ -211,3 +212,34 @@ apart_by_wraparound P Q p q same alike other = by_own (any_count (receives_own P
         broadcast_wraparound_tells P Q n m p.low same parts.0 (sym alike.broadcast ∙ parts.0)
         (p.allowed (BroadReceive wrap_subaddress n) legal) legal (sym (alike.broadcast_receive n) ∙ legal)
         (p.allowed (OwnTransmit wrap_subaddress m) sends) sends (sym (alike.own_transmit m) ∙ sends) alike.initial other
+
+-- where nothing differs that a script tells, the descriptions are equal
+unallowed : (P : Description) (cell : Cell) → IsReached P → is_allowed cell ≡ false → P.legal cell ≡ false
+unallowed P cell p e = by_legal (P.legal cell) refl
+  where
+    by_legal : (l : Bool) → P.legal cell ≡ l → l ≡ false
+    by_legal true l = sym (p.allowed cell l) ∙ e
+    by_legal false l = refl
+
+unplaced : (P : Description) (s i : ℕ) → IsReached P → is_data_place s i ≡ false → P.initial s i ≡ 0
+unplaced P s i p e = by_sent (can_transmit P s i) refl
+  where
+    by_sent : (b : Bool) → can_transmit P s i ≡ b → P.initial s i ≡ 0
+    by_sent true sent = let wrong : true ≡ false = sym (sent_place P (λ s n legal. p.allowed (OwnTransmit s n) legal) s i sent) ∙ e in cc
+    by_sent false sent = initial_unsent P s i p sent
+
+pub equal_where_alike : (P Q : Description) → IsReached P → IsReached Q → P.address ≡ Q.address → P.broadcast ≡ Q.broadcast →
+    ((cell : Cell) → is_allowed cell ≡ true → P.legal cell ≡ Q.legal cell) → P.accept ≡ Q.accept → P.vector ≡ Q.vector → P.bit ≡ Q.bit →
+    ((s i : ℕ) → is_data_place s i ≡ true → P.initial s i ≡ Q.initial s i) → P.wrap ≡ Q.wrap → P ≡ Q
+equal_where_alike P Q p q address broadcast legal accept vector bit initial wrap =
+    same_description P Q address broadcast wrap accept vector bit
+    (λ s i. by_place s i (is_data_place s i) refl)
+    (λ cell. by_allowed cell (is_allowed cell) refl)
+  where
+    by_place : (s i : ℕ) (b : Bool) → is_data_place s i ≡ b → P.initial s i ≡ Q.initial s i
+    by_place s i true e = initial s i e
+    by_place s i false e = unplaced P s i p e ∙ sym (unplaced Q s i q e)
+
+    by_allowed : (cell : Cell) (b : Bool) → is_allowed cell ≡ b → P.legal cell ≡ Q.legal cell
+    by_allowed cell true e = legal cell e
+    by_allowed cell false e = unallowed P cell p e ∙ sym (unallowed Q cell q e)
