@@ -7,21 +7,21 @@ use Rattle.bus_legal.specs.declared.tables.Tables.{Tables}
 use Rattle.bus_legal.specs.declared.tables.TheConstants.{OWN_CODES, BROADCAST_CODES}
 use Rattle.bus_legal.specs.Description.{wrap_subaddress}
 use Rattle.bus_legal.specs.Tables.{tables_say, masks_wrap, is_own_mask, is_broadcast_mask}
-use Rattle.bus_legal.specs.Parts.{Parts, AreMasks, AreWords, IsNormal}
-use Rattle.line_format.specs.Format.{Format, done, and_then, Spells, IsSound}
+use Rattle.bus_legal.specs.Parts.{Parts, AreMasks, IsNormal}
+use Rattle.line_format.specs.Format.{Format, Spells, IsSound}
 use Rattle.line_format.specs.Reading.{Spot, read}
-use Rattle.line_format.specs.Shapes.{decimal, word, mask, name_line, number_line, bit_line, number_field}
+use Rattle.line_format.specs.Shapes.{decimal, word, mask, name_line, number_line, bit_line}
 use Rattle.line_format.proofs.SoundLaws.{sound_then, sound_after, sound_name, sound_number, sound_bit}
 use Rattle.line_format.proofs.Writes.{spells-then, name_spelled, number_spelled, number_text, bit_spelled}
-use Rattle.line_format.proofs.FormatLaws.{read-is, read-again, Meets}
+use Rattle.line_format.proofs.FormatLaws.{read-is, Meets}
 use Rattle.line_format.proofs.AnswerLaws.{one_front}
-use Rattle.line_format.proofs.OneText.{HasOneText, parted, name_one, name_value, number_one, number_value, number_fits, bit_one}
+use Rattle.line_format.proofs.OneText.{parted, name_one, name_value, number_one, number_value, number_fits, bit_one}
 use Rattle.line_format.proofs.SizeLaws.{HasSize, size_name, size_number, size_bit}
 use Rattle.bus_canon.specs.Canon.{when, masks, cells, rows, canon, Text}
 use Rattle.bus_canon.proofs.Several.{when_sound, when_one, when_size, when_absent, when_holds, when_spelled}
 use Rattle.bus_canon.proofs.MaskLaws.{AreSoMany, masks_are, are_masks, masks_some}
-use Rattle.bus_canon.proofs.RowLaws.{zero_words, zero_at, FitsRow, FitRows, rows_sound, rows_one, rows_size, rows_fit, rows_some}
-use Rattle.bus_canon.proofs.CellLaws.{CellLines, cells_cut, cells_spelled, cells_sound, cells_one, cells_size, own_codes_line, broadcast_codes_line, broadcast_masks}
+use Rattle.bus_canon.proofs.RowLaws.{zero_words, zero_at, FitRows, rows_sound, rows_one, rows_size, rows_fit, rows_some}
+use Rattle.bus_canon.proofs.CellLaws.{CellLines, cells_cut, cells_spelled, cells_sound, cells_one, cells_size, broadcast_codes_line, broadcast_masks}
 
 abbrev head_line : Format Bool
 head_line = name_line (codes "rt1553 1")

@@ -1,8 +1,8 @@
 -- The lines of the legal cells.
-use Rattle.std.proofs.Common.{◌≡◌, ℕ, ◌+◌, ◌≤◌, Bool, true, false, List, [], ◌∷◌, ◌++◌, codes, replicate, length, refl, ap, ap₂, sym, ◌∙◌, subst, append-nil, length-append, arith, lit<}
+use Rattle.std.proofs.Common.{◌≡◌, ℕ, ◌+◌, ◌≤◌, Bool, List, [], ◌++◌, codes, replicate, length, refl, ap, ap₂, sym, ◌∙◌, subst, append-nil, length-append, arith, lit<}
 use Rattle.bus_legal.specs.declared.tables.Tables.{Tables}
 use Rattle.bus_legal.specs.Tables.{is_own_mask, is_broadcast_mask}
-use Rattle.line_format.specs.Format.{Format, done, and_then, Spells, IsSound}
+use Rattle.line_format.specs.Format.{Format, Spells, IsSound}
 use Rattle.line_format.specs.Shapes.{mask, number_line}
 use Rattle.line_format.proofs.SoundLaws.{sound_then, sound_number}
 use Rattle.line_format.proofs.Writes.{spells-then}

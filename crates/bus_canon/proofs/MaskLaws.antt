@@ -1,5 +1,5 @@
 -- The lines of masks.
-use Rattle.std.proofs.Common.{◌≡◌, ℕ, zero, suc, ◌+◌, ◌-◌, ◌*◌, ◌^◌, ◌<◌, ◌≤◌, List, [], ◌∷◌, ◌++◌, true, length, get_or, refl, ap, sym, ◌∙◌, subst, arith, lit<, add-one}
+use Rattle.std.proofs.Common.{◌≡◌, ℕ, zero, suc, ◌+◌, ◌-◌, ◌*◌, ◌^◌, ◌<◌, List, [], ◌∷◌, ◌++◌, true, length, get_or, refl, ap, sym, ◌∙◌, subst, arith, lit<, add-one}
 use Rattle.line_format.specs.Format.{Spells, IsSound, is_plain, spell_fields}
 use Rattle.line_format.specs.Shapes.{numbered_line, decimal, mask}
 use Rattle.line_format.proofs.SoundLaws.{sound_numbered}
@@ -8,7 +8,7 @@ use Rattle.line_format.proofs.OneText.{HasOneText, numbered_one, numbered_fits}
 use Rattle.line_format.proofs.SizeLaws.{HasSize, size_done, size_numbered}
 use Rattle.bus_legal.specs.Parts.{AreMasks}
 use Rattle.bus_canon.specs.Canon.{masks}
-use Rattle.bus_canon.proofs.Several.{OneAnd, one_and, one_and_cut, one_and_spelled, one_and_sound, one_and_one, one_and_size}
+use Rattle.bus_canon.proofs.Several.{OneAnd, one_and_cut, one_and_spelled, one_and_sound, one_and_one, one_and_size}
 
 pub masks_sound : (name : List ℕ) (s k : ℕ) → s + k < 100 → is_plain name ≡ true → IsSound (masks name s k)
 unfolding masks

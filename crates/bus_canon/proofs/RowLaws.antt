@@ -7,16 +7,16 @@ use Rattle.std.proofs.Math.ListN.{get_or-append}
 use Rattle.std.specs.Int.{bit_at}
 use Rattle.bus_legal.specs.Reach.{largest_count}
 use Rattle.bus_legal.specs.Tables.{has_any, largest_in}
-use Rattle.bus_legal.specs.Parts.{IsRow, AreWords}
+use Rattle.bus_legal.specs.Parts.{IsRow}
 use Rattle.bus_legal.proofs.Counts.{largest_to-le}
-use Rattle.line_format.specs.Format.{Format, done, and_then, Spells, IsSound, is_plain}
+use Rattle.line_format.specs.Format.{done, Spells, IsSound}
 use Rattle.line_format.specs.Shapes.{words_line}
 use Rattle.line_format.proofs.SoundLaws.{sound_then, sound_words}
 use Rattle.line_format.proofs.Writes.{words_spelled, spells-then}
 use Rattle.line_format.proofs.OneText.{HasOneText, Parted, parted, words_one, words_fit, AreSoManyWords}
 use Rattle.line_format.proofs.SizeLaws.{HasSize, size_done, size_then, size_words}
 use Rattle.bus_canon.specs.Canon.{row, rows, sent_words}
-use Rattle.bus_canon.proofs.Several.{OneAnd, one_and, one_and_cut, one_and_spelled, one_and_sound, one_and_one, one_and_size, when_sound, when_one, when_size}
+use Rattle.bus_canon.proofs.Several.{OneAnd, one_and_cut, one_and_spelled, one_and_sound, one_and_one, one_and_size, when_sound, when_one, when_size}
 
 pub largest_room : (counts : ℕ) → largest_in counts ≤ 32
 unfolding largest_count

@@ -1,5 +1,5 @@
 -- Lines of one kind after another, and lines that stand only under a test.
-use Rattle.std.proofs.Common.{◌≡◌, ℕ, ◌+◌, ◌≤◌, Bool, true, false, List, [], ◌∷◌, ◌++◌, length, refl, ap, ap₂, sym, ◌∙◌, subst, append-nil, arith}
+use Rattle.std.proofs.Common.{◌≡◌, ℕ, ◌+◌, Bool, true, false, List, [], ◌∷◌, ◌++◌, length, refl, ap, ap₂, sym, ◌∙◌, subst, append-nil, arith}
 use Rattle.line_format.specs.Format.{Format, done, and_then, Spells, IsSound}
 use Rattle.line_format.proofs.SoundLaws.{sound_then}
 use Rattle.line_format.proofs.Writes.{spells-then}

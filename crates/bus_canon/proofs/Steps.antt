@@ -1,7 +1,7 @@
 -- Steps of the readers.
-use Rattle.std.proofs.Common.{◌≡◌, ◌≢◌, ℕ, zero, suc, ◌+◌, ◌-◌, ◌<◌, ◌==◌, List, [], ◌∷◌, ◌++◌, Bool, true, false, not, cond, codes, Result, Ok, Err, refl, ap, sym, ◌∙◌, arith, add-one, append_assoc, append-nil, replicate}
+use Rattle.std.proofs.Common.{◌≡◌, ◌≢◌, ℕ, zero, suc, ◌+◌, ◌-◌, ◌<◌, ◌==◌, List, [], ◌∷◌, ◌++◌, true, false, not, codes, Result, Ok, Err, refl, ap, sym, ◌∙◌, arith, add-one, append_assoc, append-nil, replicate}
 use Rattle.std.proofs.lemmas.Bool.Decides.{nat_tests}
-use Rattle.bus_legal.specs.Tables.{has_any, largest_in}
+use Rattle.bus_legal.specs.Tables.{largest_in}
 use Rattle.line_format.specs.Format.{Format, done, and_then}
 use Rattle.line_format.specs.Shapes.{numbered_line, words_line}
 use Rattle.line_format.specs.Reading.{Spot, read}

@@ -1,9 +1,7 @@
-use Rattle.std.proofs.Common.{◌≡◌, ◌+◌, ◌-◌, ◌∙◌, ap, sym, arith, Ok, Err, take, refl, length, length-set}
+use Rattle.std.proofs.Common.{◌≡◌, ◌+◌, ◌-◌, ◌∙◌, sym, arith, take, length-set}
 use Rattle.std.proofs.lemmas.List.{take_more_set, take_all}
-use Rattle.line_format.specs.Reading.{read}
 use Rattle.line_format.specs.Views.{spot}
-use Rattle.bus_canon.specs.Canon.{masks}
-use Rattle.bus_canon.proofs.Steps.{with_front, masks_more, masks_err, masks_end}
+use Rattle.bus_canon.proofs.Steps.{masks_more, masks_err, masks_end}
 use Rattle.bus_canon.proofs.cell_lines.masks.Goals as goal
 
 pub returns-in-Err : goal.returns-in-Err

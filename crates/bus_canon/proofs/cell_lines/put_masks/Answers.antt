@@ -1,4 +1,4 @@
-use Rattle.std.proofs.Common.{◌≡◌, ◌+◌, ◌-◌, ◌++◌, ◌∷◌, [], List, ℕ, drop, length, get_or, arith, append_assoc, append-nil, refl, ◌∙◌, sym}
+use Rattle.std.proofs.Common.{◌≡◌, ◌+◌, ◌-◌, ◌++◌, ◌∷◌, [], List, ℕ, drop, get_or, arith, append_assoc, append-nil, refl, ◌∙◌, sym}
 use Rattle.std.proofs.lemmas.List.{drop_more, drop_all}
 use Rattle.line_format.specs.Format.{Spells, spell_fields}
 use Rattle.line_format.specs.Shapes.{decimal, mask}

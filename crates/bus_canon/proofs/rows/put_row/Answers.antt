@@ -1,4 +1,4 @@
-use Rattle.std.proofs.Common.{◌≡◌, ◌≤◌, [], take, append-nil, refl, sym}
+use Rattle.std.proofs.Common.{[], append-nil, sym}
 use Rattle.std.proofs.lemmas.Result.{IfOk-weaker}
 use Rattle.bus_canon.proofs.RowLaws.{FitsRow, row_absent, row_given}
 use Rattle.bus_canon.proofs.rows.put_row.Goals as goal

@@ -1,7 +1,7 @@
-use Rattle.std.proofs.Common.{◌≡◌, ◌+◌, ◌++◌, ◌∷◌, [], List, ℕ, drop, length, get_or, arith, append_assoc, append-nil, refl, ◌∙◌, sym}
+use Rattle.std.proofs.Common.{◌≡◌, ◌+◌, ◌++◌, ◌∷◌, [], drop, get_or, arith, append_assoc, append-nil, refl, ◌∙◌, sym}
 use Rattle.std.proofs.lemmas.List.{drop_more, drop_all}
 use Rattle.line_format.specs.Format.{Spells}
-use Rattle.bus_canon.specs.Canon.{row, rows}
+use Rattle.bus_canon.specs.Canon.{rows}
 use Rattle.bus_canon.proofs.RowLaws.{rows_on, rows_none}
 use Rattle.bus_canon.proofs.rows.put_rows.Goals as goal
 

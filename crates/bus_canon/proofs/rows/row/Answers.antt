@@ -1,4 +1,4 @@
-use Rattle.std.proofs.Common.{◌≡◌, ◌-◌, ◌++◌, ◌∙◌, ap, sym, ℕ, List, take, length, length-take-le, replicate, arith, Ok, codes}
+use Rattle.std.proofs.Common.{◌≡◌, ◌-◌, ◌++◌, ◌∙◌, ap, sym, ℕ, List, take, length, length-take-le, replicate, Ok, codes}
 use Rattle.std.proofs.lemmas.List.{drop-replicate}
 use Rattle.bus_legal.specs.Tables.{largest_in}
 use Rattle.line_format.specs.Reading.{read}

@@ -1,4 +1,4 @@
-use Rattle.std.proofs.Common.{◌≡◌, ◌+◌, ◌∷◌, [], ◌∙◌, ap, sym, arith, take, drop, get_or, refl, length, length-set, List, ℕ}
+use Rattle.std.proofs.Common.{◌≡◌, ◌+◌, ◌∷◌, [], ◌∙◌, sym, arith, take, drop, get_or, refl, length-set}
 use Rattle.std.proofs.lemmas.List.{take_more_set, take_all, drop_more, drop_all}
 use Rattle.line_format.specs.Reading.{read}
 use Rattle.line_format.specs.Views.{spot}

@@ -1,6 +1,5 @@
 use Rattle.std.proofs.Common.{◌≡◌, ◌++◌, ℕ, List, subst, sym, ◌∙◌, ap, length, ◌≤◌}
 use Rattle.bus_legal.specs.Parts.{parts_of}
-use Rattle.bus_canon.specs.Canon.{canon}
 use Rattle.bus_canon.proofs.CanonLaws.{text_size}
 use Rattle.bus_canon.proofs.write.write_canon.Goals as goal
 
