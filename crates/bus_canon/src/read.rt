@@ -3,7 +3,7 @@ ghost use Rattle.std.specs.Prelude.{◌≤◌, nat_le, codes, IfOk};
 ghost use Rattle.line_format.specs.Reading.{read};
 ghost use Rattle.line_format.specs.Shapes.{decimal, number_line};
 ghost use Rattle.line_format.specs.Views.{Gives, spot};
-ghost use Rattle.line_format.specs.Answers.{Answer, Answers};
+ghost use Rattle.line_format.specs.Answers.{Answers};
 ghost use Rattle.bus_canon.specs.Canon.{canon};
 ghost use Rattle.bus_canon.specs.CanonAnswer.{canon_answer};
 

@@ -4,7 +4,6 @@ ghost use Rattle.line_format.specs.Reading.{read};
 ghost use Rattle.line_format.specs.Views.{Gives, spot};
 ghost use Rattle.line_format.specs.Writing.{Adds};
 ghost use Rattle.bus_legal.specs.Tables.{largest_in};
-ghost use Rattle.bus_legal.specs.Parts.{IsRow, AreWords};
 ghost use Rattle.bus_canon.specs.Canon.{row, rows};
 
 use crate::names::INITIAL;
