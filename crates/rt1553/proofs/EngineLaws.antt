@@ -1,34 +1,73 @@
--- Laws of a run from power-up: what was played is what was written.
-use Rattle.std.proofs.Common.{ℕ, List, [], ◌++◌, Option}
-use Rattle.std.specs.Io.KnownBytes.{Consumes}
-use Rattle.rt1553.specs.declared.event.Event.{Event}
-use Rattle.rt1553.specs.declared.fault.RunFault.{RunFault}
-use Rattle.rt1553.specs.declared.terminal.Terminal.{Terminal}
-use Rattle.rt1553.specs.Line.{meaning}
-use Rattle.rt1553.specs.Text.{NoLineFeed, EndsLine}
-use Rattle.rt1553.specs.Reading.{Reading, stops, nothing, ByFault}
-use Rattle.rt1553.specs.Stands.{StandsAt}
-use Rattle.rt1553.specs.Played.{Ran, Broke}
+-- Laws of a run from power-up: what was played is what was written, as the profile's own terminal writes it.
+use Rattle.std.proofs.Common.{ℕ, ◌≡◌, ◌≤◌, ◌∙◌, List, [], ◌∷◌, ◌++◌, Option, Bool, refl, sym, ap, ap₂, subst, arith}
+use Rattle.std.specs.Io.KnownBytes.{Appends, Consumes}
+use Rattle.bus_word.specs.declared.cell.Cell.{Cell}
+use Rattle.bus_legal.specs.declared.setup.Setup.{Setup}
+use Rattle.bus_legal.specs.Description.{Description, described}
+use Rattle.bus_legal.specs.Tables.{tables_say}
+use Rattle.bus_legal.specs.Parts.{Parts, parts_of, description_in, IsNormal}
+use Rattle.bus_legal.specs.Reach.{reach}
+use Rattle.bus_legal.proofs.NormalLaws.{reach-set_up_normal}
+use Rattle.bus_terminal.specs.declared.event.Event.{Event}
+use Rattle.bus_terminal.specs.declared.terminal.Terminal.{Terminal}
+use Rattle.bus_terminal.specs.Out.{Out, out}
+use Rattle.bus_terminal.specs.Stands.{StandsAt, after}
+use Rattle.bus_terminal.proofs.Reach.Same.{out-reach}
+use Rattle.bus_script.specs.declared.fault.RunFault.{RunFault}
+use Rattle.bus_script.specs.Text.{NoLineFeed, EndsLine}
+use Rattle.bus_script.specs.Reading.{Reading, stops, nothing, ByFault}
+use Rattle.bus_script.specs.Transcript.{answer_text, text_at, transcript}
+use Rattle.bus_script.specs.Played.{Ran, Broke}
+use Rattle.bus_script.proofs.FeedLaws.{ByFault-weaker}
 use Rattle.rt1553.specs.Engine.{Writes, StopsBy}
-use Rattle.rt1553.proofs.FeedLaws.{ByFault-weaker}
 
-ran-writes : {W : Type 0} (written : W → Option (List ℕ)) (address : ℕ) (t t' : Terminal) (w w' : W) (text : List ℕ) (es : List Event) (r : Reading)
-    → StandsAt address [] t → Ran (meaning address) written t t' w w' text es r → Writes address text r (written w) (written w') es
-ran-writes written address t t' w w' text es r s ran = record { says = ran.says; wrote = ran.plays.text address [] s }
+-- two descriptions whose terminals answer alike at every event
+abbrev pub AnswersAlike : Description → Description → Type 0
+AnswersAlike P Q = (h : List Event) (e : Event) → out P h e ≡ out Q h e
+
+pub transcripts_alike : (P Q : Description) → AnswersAlike P Q → (h es : List Event) → transcript (text_at P) h es ≡ transcript (text_at Q) h es
+unfolding transcript
+transcripts_alike P Q alike h [] = refl
+transcripts_alike P Q alike h (e ∷ es) = ap₂ (λ a b. a ++ b) (ap answer_text (alike h e)) (transcripts_alike P Q alike (e ∷ h) es)
+
+-- a terminal that is set up by what can be reached of a description answers as it
+pub set_up_alike : (v : Parts) (setup : Setup) (P : Description) → IsNormal v → parts_of setup v.tables ≡ v → setup.address ≤ 30 → description_in v ≡ reach P
+    → AnswersAlike (described setup (tables_say v.tables)) P
+set_up_alike v setup P normal parts own reached h e =
+    let Q = described setup (tables_say v.tables) in
+    let small : P.address ≤ 30 = subst (λ n. n ≤ 30) (ap (λ D. D.address) reached) normal.address in
+    sym (out-reach Q h e own)
+    ∙ ap (λ D. out D h e) (reach-set_up_normal v setup normal parts ∙ reached)
+    ∙ out-reach P h e small
+
+pub ran_writes : {L W : Type 0} (is_legal : L → Cell → Bool) (written : W → Option (List ℕ)) (P Q : Description) (t t' : Terminal L) (w w' : W) (text : List ℕ) (es : List Event) (r : Reading)
+    → StandsAt is_legal Q [] t → AnswersAlike Q P → Ran is_legal written t t' w w' text es r → Writes P text r (written w) (written w') es
+ran_writes is_legal written P Q t t' w w' text es r s alike ran = record {
+  says = ran.says;
+  wrote = subst (Appends (written w) (written w')) (transcripts_alike Q P alike [] es) (ran.plays.text Q [] s);
+}
 
 -- what is known of a script that is not run to its end
-pub stopped : {W : Type 0} (written : W → Option (List ℕ)) (address : ℕ) (t t' : Terminal) (w w' : W) (left left' : Option (List ℕ)) (script : List ℕ) (f : RunFault)
-    → StandsAt address [] t
+pub stopped : {L W : Type 0} (is_legal : L → Cell → Bool) (written : W → Option (List ℕ)) (P Q : Description) (t t' : Terminal L) (w w' : W) (left left' : Option (List ℕ)) (script : List ℕ) (f : RunFault)
+    → StandsAt is_legal Q [] t → AnswersAlike Q P
     → ByFault f
-    ((es : List Event) × Ran (meaning address) written t t' w w' script es (stops f))
+    ((es : List Event) × Ran is_legal written t t' w w' script es (stops f))
     ((es : List Event) × (whole : List ℕ) × (part : List ℕ) × Consumes left left' (whole ++ part) × EndsLine whole × NoLineFeed part
-    × Ran (meaning address) written t t' w w' whole es nothing)
-    ((es : List Event) × (e : Event) × (others : Reading) × Broke (meaning address) written t t' w w' script es e others)
-    → StopsBy address script left left' (written w) (written w') f
-stopped written address t t' w w' left left' script f s known =
+    × Ran is_legal written t t' w w' whole es nothing)
+    ((es : List Event) × (e : Event) × (others : Reading) × Broke is_legal written t t' w w' script es e others)
+    → StopsBy P script left left' (written w) (written w') f
+stopped is_legal written P Q t t' w w' left left' script f s alike known =
     ByFault-weaker f
-    (λ k. (k.0, ran-writes written address t t' w w' script k.0 (stops f) s k.1))
-    (λ k. record { events = k.0; whole = k.1; part = k.2; read = k.3; ends = k.4; unfinished = k.5; writes = ran-writes written address t t' w w' k.1 k.0 nothing s k.6 })
-    (λ k. let text = k.3.plays.text address [] s in
-    record { events = k.0; event = k.1; others = k.2; part = text.0; more = text.1; says = k.3.says; splits = text.2; wrote = text.3 })
+    (λ k. (k.0, ran_writes is_legal written P Q t t' w w' script k.0 (stops f) s alike k.1))
+    (λ k. record { events = k.0; whole = k.1; part = k.2; read = k.3; ends = k.4; unfinished = k.5; writes = ran_writes is_legal written P Q t t' w w' k.1 k.0 nothing s alike k.6 })
+    (λ k. let text = k.3.plays.text Q [] s in record {
+      events = k.0;
+      event = k.1;
+      others = k.2;
+      part = text.0;
+      more = text.1;
+      says = k.3.says;
+      splits = text.2 ∙ ap answer_text (alike (after k.0 []) k.1);
+      wrote = subst (λ x. Appends (written w) (written w') (x ++ text.0)) (transcripts_alike Q P alike [] k.0) text.3;
+    })
     known

@@ -1,11 +1,2 @@
-pub mod LineLaws
-pub mod ReadingLaws
-pub mod PlayLaws
-pub mod FeedLaws
-pub mod RunLaws
-pub mod ProfileLaws
-pub mod EngineLaws
-pub mod CanonLaws
 pub mod LoadLaws
-pub mod SameLaws
-pub mod DigitLaws
+pub mod EngineLaws

@@ -1,57 +1,59 @@
--- What a run of a profile over a script does. `old` and `new` are the bytes that the sink tells before
--- and after it.
+-- What a run of a terminal over a script does, from power-up. `old` and `new` are the bytes that the sink tells
+-- before and after it.
 use Rattle.std.specs.Prelude.{◌≡◌, ℕ, List, [], ◌∷◌, ◌++◌, length, Option}
 use Rattle.std.specs.Io.KnownBytes.{Appends, Consumes}
-use Rattle.rt1553.specs.declared.event.Event.{Event}
+use Rattle.bus_legal.specs.Description.{Description}
+use Rattle.bus_terminal.specs.Stands.{after}
+use Rattle.bus_terminal.specs.declared.event.Event.{Event}
+use Rattle.bus_script.specs.declared.fault.RunFault.{RunFault}
+use Rattle.bus_script.specs.Line.{meaning}
+use Rattle.bus_script.specs.Text.{lines_of, NoLineFeed, EndsLine}
+use Rattle.bus_script.specs.Reading.{Reading, reading, adds, stops, nothing, ByFault}
+use Rattle.bus_script.specs.Transcript.{transcript, text_at}
 use Rattle.rt1553.specs.declared.fault.LoadFault.{LoadFault}
-use Rattle.rt1553.specs.declared.fault.RunFault.{RunFault}
 use Rattle.rt1553.specs.declared.fault.EngineFault.{EngineFault}
 use Rattle.rt1553.specs.declared.fault.EngineFault.TheVariants.{Load, Script}
-use Rattle.rt1553.specs.Line.{meaning}
-use Rattle.rt1553.specs.Text.{lines_of, NoLineFeed, EndsLine}
-use Rattle.rt1553.specs.Reading.{Reading, reading, adds, stops, nothing, ByFault}
-use Rattle.rt1553.specs.Transcript.{extended, transcript, text_at}
 
 -- the text says these events and then r, and just their transcript was written
-pub record Writes (address : ℕ) (text : List ℕ) (r : Reading) (old new : Option (List ℕ)) (es : List Event) : Type 0 where
-  pub says : reading (meaning address) 0 (lines_of text) ≡ adds es r
-  pub wrote : Appends old new (transcript (text_at address) [] es)
+pub record Writes (P : Description) (text : List ℕ) (r : Reading) (old new : Option (List ℕ)) (es : List Event) : Type 0 where
+  pub says : reading meaning 0 (lines_of text) ≡ adds es r
+  pub wrote : Appends old new (transcript (text_at P) [] es)
 
 -- the script has no fault and n events, and just their transcript was written
-abbrev pub Completes : ℕ → List ℕ → Option (List ℕ) → Option (List ℕ) → ℕ → Type 0
-Completes address script old new n = (es : List Event) × (n ≡ length es) × Writes address script nothing old new es
+abbrev pub Completes : Description → List ℕ → Option (List ℕ) → Option (List ℕ) → ℕ → Type 0
+Completes P script old new n = (es : List Event) × (n ≡ length es) × Writes P script nothing old new es
 
 -- the script has this fault, and none before it; just the transcript of the lines before it was written
-abbrev pub StopsAt : ℕ → List ℕ → Option (List ℕ) → Option (List ℕ) → RunFault → Type 0
-StopsAt address script old new f = (es : List Event) × Writes address script (stops f) old new es
+abbrev pub StopsAt : Description → List ℕ → Option (List ℕ) → Option (List ℕ) → RunFault → Type 0
+StopsAt P script old new f = (es : List Event) × Writes P script (stops f) old new es
 
 -- Of what was read of a script, `left` before and `left'` after, the whole lines have no fault, and just
 -- their transcript was written.
-pub record StopsReading (address : ℕ) (left left' old new : Option (List ℕ)) : Type 0 where
+pub record StopsReading (P : Description) (left left' old new : Option (List ℕ)) : Type 0 where
   pub events : List Event
   pub whole : List ℕ
   pub part : List ℕ
   pub read : Consumes left left' (whole ++ part)
   pub ends : EndsLine whole
   pub unfinished : NoLineFeed part
-  pub writes : Writes address whole nothing old new events
+  pub writes : Writes P whole nothing old new events
 
 -- The script says these events, one more and then others; the transcript of the events before that one was
 -- written, and a part of its own text.
-pub record StopsWriting (address : ℕ) (script : List ℕ) (old new : Option (List ℕ)) : Type 0 where
+pub record StopsWriting (P : Description) (script : List ℕ) (old new : Option (List ℕ)) : Type 0 where
   pub events : List Event
   pub event : Event
   pub others : Reading
   pub part : List ℕ
   pub more : List ℕ
-  pub says : reading (meaning address) 0 (lines_of script) ≡ adds (events ++ event ∷ []) others
-  pub splits : part ++ more ≡ text_at address (extended [] events) event
-  pub wrote : Appends old new (transcript (text_at address) [] events ++ part)
+  pub says : reading meaning 0 (lines_of script) ≡ adds (events ++ event ∷ []) others
+  pub splits : part ++ more ≡ text_at P (after events []) event
+  pub wrote : Appends old new (transcript (text_at P) [] events ++ part)
 
 -- what is known where a script is not run to its end
-abbrev pub StopsBy : ℕ → List ℕ → Option (List ℕ) → Option (List ℕ) → Option (List ℕ) → Option (List ℕ) → RunFault → Type 0
-StopsBy address script left left' old new f =
-    ByFault f (StopsAt address script old new f) (StopsReading address left left' old new) (StopsWriting address script old new)
+abbrev pub StopsBy : Description → List ℕ → Option (List ℕ) → Option (List ℕ) → Option (List ℕ) → Option (List ℕ) → RunFault → Type 0
+StopsBy P script left left' old new f =
+    ByFault f (StopsAt P script old new f) (StopsReading P left left' old new) (StopsWriting P script old new)
 
 -- a fact where the profile was not loaded
 abbrev pub OnLoad : EngineFault → (LoadFault → Type 0) → Type 0

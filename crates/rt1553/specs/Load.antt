@@ -1,60 +1,70 @@
 -- Which texts are accepted, what they are of, and why one is refused.
 use Rattle.std.specs.Prelude.{◌≡◌, ℕ, Bool, true, false, nat_eq, List, codes}
 use Rattle.std.specs.List.{starts_with}
+use Rattle.bus_profile.specs.declared.profile.Profile.{Profile}
 use Rattle.bus_profile.specs.declared.fault.ProfileFault.{ProfileFault}
 use Rattle.bus_profile.specs.declared.fault.ProfileFault.TheVariants as profile
+use Rattle.bus_profile.specs.Read.{Accepts, Refuses}
+use Rattle.bus_legal.specs.Description.{Description}
+use Rattle.bus_legal.specs.Meaning.{description_of}
+use Rattle.bus_legal.specs.Parts.{Parts, description_in}
+use Rattle.bus_legal.specs.Reach.{reach}
 use Rattle.line_format.specs.Answers.{Trails, HasWrongLine}
-use Rattle.rt1553.specs.declared.fault.CanonFault.{CanonFault}
-use Rattle.rt1553.specs.declared.fault.CanonFault.TheVariants.{Line, Trailing}
+use Rattle.bus_canon.specs.Canon.{canon, Text}
+use Rattle.bus_canon.specs.declared.fault.CanonFault.{CanonFault}
+use Rattle.bus_canon.specs.declared.fault.CanonFault.TheVariants.{Line, Trailing}
 use Rattle.rt1553.specs.declared.fault.LoadFault.{LoadFault}
-use Rattle.rt1553.specs.declared.fault.LoadFault.TheVariants.{Profile, Canon, Memory}
-use Rattle.rt1553.specs.Profile.{HasAddress, IsRefusedBy}
-use Rattle.rt1553.specs.Canon.{canon, Text}
+use Rattle.rt1553.specs.declared.fault.LoadFault.TheVariants as load
 
 -- want of memory is one fault, whoever meets it
 abbrev pub load_fault : ProfileFault → LoadFault
-load_fault profile.Memory = Memory
-load_fault fault = Profile fault
+load_fault profile.Memory = load.Memory
+load_fault fault = load.Profile fault
 
 -- A text that begins with the bytes `rt1553 1` and a line feed is canonical text, any other is TOML.
 abbrev pub is_canon_text : List ℕ → Bool
 is_canon_text text = starts_with nat_eq text (codes "rt1553 1\n")
 
-abbrev pub OfBy : Bool → List ℕ → ℕ → Type 0
-OfBy true text address = Text address text
-OfBy false text address = HasAddress text address
+-- the text is a canonical text, of this description
+pub record IsCanonText (text : List ℕ) (P : Description) : Type 0 where
+  pub value : Parts
+  pub means : Text value text
+  pub gives : P ≡ description_in value
 
--- the text is accepted, and is of the terminal of this address
-abbrev pub Of : List ℕ → ℕ → Type 0
-Of text address = OfBy (is_canon_text text) text address
+-- The text is a profile text without fault, of this description: a cell is legal as the last entry that
+-- contains it says.
+pub record IsProfileText (text : List ℕ) (P : Description) : Type 0 where
+  pub profile : Profile
+  pub accepts : Accepts text profile
+  pub gives : P ≡ description_of profile
+
+abbrev pub OfBy : Bool → List ℕ → Description → Type 0
+OfBy true text P = IsCanonText text P
+OfBy false text P = IsProfileText text P
+
+-- the text is accepted, and is of a terminal of this description
+abbrev pub Of : List ℕ → Description → Type 0
+Of text P = OfBy (is_canon_text text) text P
+
+-- the text is accepted, and these are the parts of what can be reached of its terminal
+pub record Reaches (text : List ℕ) (value : Parts) : Type 0 where
+  pub description : Description
+  pub of : Of text description
+  pub reached : description_in value ≡ reach description
 
 abbrev pub IsNoCanon : List ℕ → CanonFault → Type 0
 IsNoCanon text (Line n) = HasWrongLine canon text n
 IsNoCanon text Trailing = Trails canon text
 
 abbrev pub IsNotLoadedBy : Bool → List ℕ → LoadFault → Type 0
-IsNotLoadedBy true text (Canon fault) = IsNoCanon text fault
-IsNotLoadedBy true text (Profile fault) = ⊥
-IsNotLoadedBy true text Memory = ⊥
-IsNotLoadedBy false text (Profile fault) = IsRefusedBy text fault
-IsNotLoadedBy false text (Canon fault) = ⊥
-IsNotLoadedBy false text Memory = Unit {0}
+IsNotLoadedBy true text (load.Canon fault) = IsNoCanon text fault
+IsNotLoadedBy true text (load.Profile fault) = ⊥
+IsNotLoadedBy true text load.Memory = ⊥
+IsNotLoadedBy false text (load.Profile fault) = Refuses text fault
+IsNotLoadedBy false text (load.Canon fault) = ⊥
+IsNotLoadedBy false text load.Memory = Unit {0}
 
 -- The text is refused by this, its first fault. Want of memory says nothing of a text, and loading a canonical
 -- text never meets it.
 abbrev pub IsNotLoaded : List ℕ → LoadFault → Type 0
 IsNotLoaded text fault = IsNotLoadedBy (is_canon_text text) text fault
-
--- these bytes are the canonical bytes of the text
-pub record IsCanon (text bytes : List ℕ) : Type 0 where
-  pub address : ℕ
-  pub of : Of text address
-  pub means : Text address bytes
-
--- canonical bytes are accepted, and are their own canonical bytes
-abbrev pub CanonIsItsOwn : Type 0
-CanonIsItsOwn = (text bytes : List ℕ) → IsCanon text bytes → IsCanon bytes bytes
-
--- a text has one canonical text
-abbrev pub OneCanon : Type 0
-OneCanon = (text bytes others : List ℕ) → IsCanon text bytes → IsCanon text others → bytes ≡ others

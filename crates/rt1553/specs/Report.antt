@@ -1,7 +1,7 @@
 -- The status that a program ends with.
 use Rattle.std.specs.Prelude.{ℕ}
 use Rattle.rt1553.specs.declared.fault.LoadFault.TheVariants.{Profile, Canon, Memory}
-use Rattle.rt1553.specs.declared.fault.RunFault.TheVariants.{Line, LongLine, TooLong, Read, Write}
+use Rattle.bus_script.specs.declared.fault.RunFault.TheVariants.{Line, LongLine, TooLong, Read, Write}
 use Rattle.rt1553.specs.declared.fault.EngineFault.{EngineFault}
 use Rattle.rt1553.specs.declared.fault.EngineFault.TheVariants.{Load, Script}
 

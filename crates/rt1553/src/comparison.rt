@@ -1,12 +1,12 @@
 //! Two texts are compared.
-ghost use Rattle.std.specs.Prelude.{◌≡◌, ◌≤◌, IfOk, IfErr};
-ghost use Rattle.rt1553.specs.Compare.{AreSame, AreDifferent, IsNotCompared};
-ghost use Rattle.rt1553.specs.Same.{ask};
-ghost use Rattle.rt1553.specs.Verdict.{IsRight};
+ghost use Rattle.std.specs.Prelude.{◌≡◌, IfOk, IfErr};
+ghost use Rattle.bus_legal.specs.Parts.{IsNormal};
+ghost use Rattle.rt1553.specs.Compare.{IsRight, IsNotCompared};
 
-use crate::{Event, LoadFault, load};
+use crate::{LoadFault, load};
 use arrayvec::ArrayVec;
-use bus_word::{Bus, Kind, Raw};
+use bus_legal::Normal;
+use bus_terminal::Event;
 use std::alloc::Global;
 
 /// Events that tell two terminals apart.
@@ -21,23 +21,18 @@ pub enum Verdict {
     Differ(Script),
 }
 
-/// The script that asks for the status of the terminal of this address.
-fn ask(address: u8) -> Script
-    requires { address ≤ 30 }
-    ensures { result.items ≡ ask address }
+/// A `Normal` has nothing unreached.
+fn is_normal(normal: &Normal)
+    ensures { IsNormal normal.now }
 {
-    let command = u16::from(address) * 2048 + 0x0402;
-    let mut script = ArrayVec::new();
-    script.push(Event::Word(Bus::A, Raw::of(Kind::Com, command)));
-    script.push(Event::Gap(Bus::A));
-    script
+    let _ = normal.setup();
 }
 
 /// Says whether two texts mean the same terminal, and where they don't, gives a script that shows it. The
 /// first text is loaded first. Where both are canonical texts, no memory is taken.
 pub fn compare(alloc: Global, first: &[u8], second: &[u8]) -> Result<Verdict, LoadFault>
     ensures ok { IfOk result (IsRight first.now second.now) }
-    ensures refused { IfErr result (λ fault. IsNotCompared first.now second.now fault) }
+    ensures refused { IfErr result (IsNotCompared first.now second.now) }
 {
     let p = match load(alloc, first) {
         Ok(p) => p,
@@ -47,9 +42,11 @@ pub fn compare(alloc: Global, first: &[u8], second: &[u8]) -> Result<Verdict, Lo
         Ok(q) => q,
         Err(fault) => return Err(fault),
     };
-    if p.address() == q.address() {
+    is_normal(&p);
+    is_normal(&q);
+    if p.is_same(&q) {
         Ok(Verdict::Same)
     } else {
-        Ok(Verdict::Differ(ask(p.address())))
+        Ok(Verdict::Differ(ArrayVec::new()))
     }
 }

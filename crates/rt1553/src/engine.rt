@@ -1,40 +1,45 @@
 //! A profile is run over a script.
-ghost use Rattle.std.specs.Prelude.{◌≡◌, ◌≤◌, true, false, ℕ, IfOk, IfErr, IfSome, IsErrOf};
+ghost use Rattle.std.specs.Prelude.{◌≡◌, ◌≤◌, true, false, IfOk, IfErr, IfSome, IsErrOf};
+ghost use Rattle.bus_legal.specs.Description.{Description};
+ghost use Rattle.bus_legal.specs.Reach.{reach};
+ghost use Rattle.bus_legal.specs.Parts.{description_in};
 ghost use Rattle.rt1553.specs.Load.{Of, IsNotLoaded};
 ghost use Rattle.rt1553.specs.Engine.{Completes, StopsBy, OnLoad, OnScript};
 
-use crate::script::run_script;
-use crate::terminal::Terminal;
-use crate::{EngineFault, RunFault, Sink, Source, load};
+use crate::{EngineFault, load};
+use bus_legal::Normal;
+use bus_script::{RunFault, Sink, Source, run_script};
+use bus_terminal::Terminal;
 use std::alloc::Global;
 
-/// Runs the terminal of this address over a script from power-up.
-fn run_address<R: Source, W: Sink>(
-    address: u8,
+/// Runs the terminal of which this can be reached over a script, from power-up.
+fn run_normal<R: Source, W: Sink>(
+    normal: Normal,
     reader: &mut R,
     writer: &mut W,
 ) -> Result<u64, RunFault>
-    requires own { address ≤ 30 }
     requires reader { R.has_failed reader.old ≡ false }
     requires writer { W.has_failed writer.old ≡ false }
-    ensures ok { IfOk result (λ n. IfSome (R.left reader.old) (λ script. Completes address script (W.written writer.old) (W.written writer.new) n)) }
-    ensures stopped { IfErr result (λ f. IfSome (R.left reader.old) (λ script. StopsBy address script (R.left reader.old) (R.left reader.new) (W.written writer.old) (W.written writer.new) f)) }
+    ensures ok { (P : Description) → description_in normal ≡ reach P → IfOk result (λ n. IfSome (R.left reader.old) (λ script. Completes P script (W.written writer.old) (W.written writer.new) n)) }
+    ensures stopped { (P : Description) → description_in normal ≡ reach P → IfErr result (λ f. IfSome (R.left reader.old) (λ script. StopsBy P script (R.left reader.old) (R.left reader.new) (W.written writer.old) (W.written writer.new) f)) }
     ensures read_failed { IsErrOf result RunFault.Read → R.has_failed reader.new ≡ true }
     ensures write_failed { IsErrOf result RunFault.Write → W.has_failed writer.new ≡ true }
 {
-    let mut terminal = Terminal::power_up(address);
-    match run_script(&mut terminal, address, reader, writer) {
+    let setup = normal.setup();
+    let mut terminal = Terminal::power_up(setup, normal);
+    match run_script(&mut terminal, reader, writer) {
         Ok(events) => Ok(events),
         Err(fault) => Err(fault),
     }
 }
 
-/// Runs a profile over a script and writes the transcript: for each event what the terminal sends. Gives
-/// the number of events. What the sink holds back is handed on before each read that follows an event, and
-/// on every way out.
+/// Runs a profile over a script and writes the transcript: for each event what the terminal sends and hands
+/// over. Gives the number of events. What the sink holds back is handed on before each read that follows an
+/// event, and on every way out.
 ///
 /// Refuses the profile before anything is read or written. A refused script leaves the transcript of the
-/// lines before the refused one, and a failed read that of the whole lines that were read.
+/// lines before the refused one, and a failed read that of the whole lines that were read. Where the profile
+/// is a canonical text, no memory is taken.
 pub fn run<R: Source, W: Sink>(
     alloc: Global,
     profile: &[u8],
@@ -44,13 +49,13 @@ pub fn run<R: Source, W: Sink>(
     requires reader { R.has_failed reader.old ≡ false }
     requires writer { W.has_failed writer.old ≡ false }
 
-    ensures ok { IfOk result (λ n. (address : ℕ) × Of profile.now address
-        × IfSome (R.left reader.old) (λ script. Completes address script (W.written writer.old) (W.written writer.new) n)) }
+    ensures ok { IfOk result (λ n. (P : Description) × Of profile.now P
+        × IfSome (R.left reader.old) (λ script. Completes P script (W.written writer.old) (W.written writer.new) n)) }
 
     ensures not_loaded { IfErr result (λ fault. OnLoad fault (λ f. IsNotLoaded profile.now f × (reader.new ≡ reader.old) × (writer.new ≡ writer.old))) }
 
-    ensures stopped { IfErr result (λ fault. OnScript fault (λ f. (address : ℕ) × Of profile.now address
-        × IfSome (R.left reader.old) (λ script. StopsBy address script (R.left reader.old) (R.left reader.new) (W.written writer.old) (W.written writer.new) f))) }
+    ensures stopped { IfErr result (λ fault. OnScript fault (λ f. (P : Description) × Of profile.now P
+        × IfSome (R.left reader.old) (λ script. StopsBy P script (R.left reader.old) (R.left reader.new) (W.written writer.old) (W.written writer.new) f))) }
 
     ensures read_failed { IsErrOf result (EngineFault.Script RunFault.Read) → R.has_failed reader.new ≡ true }
     ensures write_failed { IsErrOf result (EngineFault.Script RunFault.Write) → W.has_failed writer.new ≡ true }
@@ -59,7 +64,7 @@ pub fn run<R: Source, W: Sink>(
         Ok(normal) => normal,
         Err(fault) => return Err(EngineFault::Load(fault)),
     };
-    match run_address(normal.address(), reader, writer) {
+    match run_normal(normal, reader, writer) {
         Ok(events) => Ok(events),
         Err(fault) => Err(EngineFault::Script(fault)),
     }

@@ -1,37 +1,22 @@
-//! A remote terminal of MIL-STD-1553B, run over a script of what comes on its bus.
+//! A remote terminal of MIL-STD-1553B, set up by a profile text: run over a script, its canonical bytes, and whether
+//! two texts mean the same terminal.
 #![tactic(auto)]
 
-mod canon;
-mod chunk;
 mod comparison;
-mod device;
 mod engine;
-mod event;
-mod event_line;
 mod fault;
-mod feed;
-mod line;
+pub mod laws;
 mod loading;
-mod memory;
-mod normal;
-mod play;
-mod profile;
 mod report;
-mod script;
-mod terminal;
-#[cfg(test)]
-mod tests;
-mod transcript;
-mod wrapped;
 
+pub use bus_canon::CanonFault;
+pub use bus_legal::Normal;
+pub use bus_script::{
+    FromRead, FromWrite, IoFailed, MemorySink, MemorySource, RunFault, Sink, Source, write_event,
+};
+pub use bus_terminal::Event;
 pub use comparison::{Script, Verdict, compare};
-pub use device::{IoFailed, Sink, Source};
 pub use engine::run;
-pub use event::Event;
-pub use event_line::write_event;
-pub use fault::{CanonFault, EngineFault, LoadFault, RunFault};
+pub use fault::{EngineFault, LoadFault};
 pub use loading::{canonical, load};
-pub use memory::{MemorySink, MemorySource};
-pub use normal::Normal;
 pub use report::describe;
-pub use wrapped::{FromRead, FromWrite};

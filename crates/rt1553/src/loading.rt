@@ -1,20 +1,22 @@
 //! Texts are loaded, and their canonical bytes written.
 ghost use Rattle.std.specs.Prelude.{◌≡◌, ◌⊎◌, IfOk, IfErr};
-ghost use Rattle.rt1553.specs.Load.{Of, IsNotLoaded, IsCanon, CanonIsItsOwn, OneCanon};
-ghost use Rattle.rt1553.specs.Normal.{address_of};
+ghost use Rattle.rt1553.specs.Load.{Reaches, IsNotLoaded};
+ghost use Rattle.rt1553.specs.Canon.{IsCanon};
 
-use crate::canon::{read_canon, write_canon};
-use crate::profile::read_address;
-use crate::{LoadFault, Normal};
-use std::alloc::{AllocError, Global};
+use crate::LoadFault;
+use bus_canon::{read_canon, write_canon};
+use bus_legal::{Normal, normalise};
+use bus_profile::read_profile;
+use std::alloc::Global;
 
 /// How a canonical text begins. Any other text is a profile text, TOML.
 const CANON_HEAD: &[u8] = b"rt1553 1\n";
 
-/// Loads a profile text or a canonical text. A canonical text takes no memory.
+/// Loads a profile text or a canonical text: what can be reached of its terminal. A canonical text takes no
+/// memory.
 pub fn load(alloc: Global, text: &[u8]) -> Result<Normal, LoadFault>
-    ensures ok { IfOk result (λ normal. Of text.now (address_of normal)) }
-    ensures refused { IfErr result (λ fault. IsNotLoaded text.now fault) }
+    ensures ok { IfOk result (Reaches text.now) }
+    ensures refused { IfErr result (IsNotLoaded text.now) }
 {
     if text.starts_with(CANON_HEAD) {
         return match read_canon(text) {
@@ -22,8 +24,8 @@ pub fn load(alloc: Global, text: &[u8]) -> Result<Normal, LoadFault>
             Err(fault) => Err(LoadFault::Canon(fault)),
         };
     }
-    match read_address(alloc, text) {
-        Ok(address) => Ok(Normal::of(address)),
+    match read_profile(alloc, text) {
+        Ok(profile) => Ok(normalise(&profile)),
         Err(fault) => Err(LoadFault::from(fault)),
     }
 }
@@ -42,9 +44,3 @@ pub fn canonical(alloc: Global, text: &[u8]) -> Result<Vec<u8>, LoadFault>
         Err(_) => Err(LoadFault::Memory),
     }
 }
-
-/// Canonical bytes are their own, and a text has no others.
-pub fn canonical_bytes()
-    ensures own { CanonIsItsOwn }
-    ensures one { OneCanon }
-{}

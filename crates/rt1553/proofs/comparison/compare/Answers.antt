@@ -1,24 +1,32 @@
-use Rattle.std.proofs.Common.{◌≡◌, ◌≢◌, ◌≤◌, ◌∙◌, ap, sym, subst, arith}
-use Rattle.rt1553.specs.Normal.{address_of}
-use Rattle.rt1553.specs.Same.{TellsApart, ask}
-use Rattle.rt1553.proofs.SameLaws.{tells_apart}
+use Rattle.std.proofs.Common.{◌≡◌, sym, ◌∙◌, subst}
+use Rattle.rt1553.specs.Load.{Reaches}
+use Rattle.rt1553.proofs.LoadLaws.{same_canon, other_canon, same_terminals}
 use Rattle.rt1553.proofs.comparison.compare.Goals as goal
 
-pub returns-else-address-clause-ok : goal.returns-else-address-clause-ok
-returns-else-address-clause-ok c =
-    let p = address_of c.in-Ok.p in
-    let q = address_of c.in-Ok-load.q in
-    let first : c.address.result ≡ p = c.address.ensures.address in
-    let second : c.address-2.result ≡ q = c.address-2.ensures.address in
-    let again : c.address-else-address.result ≡ p = c.address-else-address.ensures.address in
-    let own : p ≤ 30 = omega (arith, c.address.ensures.own) in
-    let other : p ≢ q = λ e. c.if-address.false (first ∙ e ∙ sym second) in
-    let script = c.ask.ensures ∙ ap ask again in
+pub returns-then-is_same-clause-ok : goal.returns-then-is_same-clause-ok
+returns-then-is_same-clause-ok c =
+    let v = c.in-Ok-load.q in
+    let same : c.in-Ok.p ≡ v = c.is_same.ensures.0 c.if-is_same.true in
+    let p = subst (Reaches c.args.first.now) same c.in-Ok.ensures.ok in
+    let q = c.in-Ok-load.ensures.ok in
     record {
-      p = p;
-      q = q;
-      of_first = c.in-Ok.ensures.ok;
-      of_second = c.in-Ok-load.ensures.ok;
-      script_is = script;
-      apart = subst (TellsApart p q) (sym script) (tells_apart p q own other);
+      p = p.description;
+      q = q.description;
+      of_first = p.of;
+      of_second = q.of;
+      canonical = same_canon c.args.first.now c.args.second.now v c.is_normal-2.ensures p q;
+      same = same_terminals c.args.first.now c.args.second.now v c.is_normal-2.ensures p q;
+    }
+
+pub returns-else-is_same-clause-ok : goal.returns-else-is_same-clause-ok
+returns-else-is_same-clause-ok c =
+    let p = c.in-Ok.ensures.ok in
+    let q = c.in-Ok-load.ensures.ok in
+    record {
+      p = p.description;
+      q = q.description;
+      of_first = p.of;
+      of_second = q.of;
+      canonical = other_canon c.args.first.now c.args.second.now c.in-Ok.p c.in-Ok-load.q c.is_normal.ensures c.is_normal-2.ensures p q
+          (λ e. let t = sym (c.is_same.ensures.1 e) ∙ c.if-is_same.false in cc t);
     }

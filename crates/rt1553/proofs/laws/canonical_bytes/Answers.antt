@@ -1,5 +1,5 @@
 use Rattle.rt1553.proofs.LoadLaws.{canon_is_its_own, one_canon}
-use Rattle.rt1553.proofs.loading.canonical_bytes.Goals as goal
+use Rattle.rt1553.proofs.laws.canonical_bytes.Goals as goal
 
 pub returns-clause-own : goal.returns-clause-own
 returns-clause-own c = canon_is_its_own

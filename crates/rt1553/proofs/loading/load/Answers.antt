@@ -1,0 +1,18 @@
+use Rattle.std.proofs.Common.{◌≡◌, false, refl, sym, subst, ◌∙◌}
+use Rattle.bus_legal.specs.Meaning.{description_of}
+use Rattle.rt1553.specs.Load.{is_canon_text, OfBy}
+use Rattle.rt1553.proofs.LoadLaws.{canon_reaches}
+use Rattle.rt1553.proofs.loading.load.Goals as goal
+
+pub returns-in-Ok-clause-ok : goal.returns-in-Ok-clause-ok
+returns-in-Ok-clause-ok c = canon_reaches c.in-Ok.normal c.args.text.now c.in-Ok.ensures
+
+pub returns-in-Ok-read_profile-clause-ok : goal.returns-in-Ok-read_profile-clause-ok
+returns-in-Ok-read_profile-clause-ok c =
+    let p = c.in-Ok-read_profile.profile in
+    let toml : is_canon_text c.args.text.now ≡ false = sym c.starts_with.ensures.value ∙ c.if-starts_with.false in
+    record {
+      description = description_of p;
+      of = subst (λ b. OfBy b c.args.text.now (description_of p)) (sym toml) (record { profile = p; accepts = c.in-Ok-read_profile.ensures.accepted; gives = refl });
+      reached = c.normalise.ensures;
+    }
