@@ -1,4 +1,4 @@
-//! Profile files, read whole.
+//! Files that are read: profiles whole, scripts piece by piece.
 use crate::fault::Fault;
 use std::fs;
 use std::io::{self, ErrorKind, Read};
@@ -26,12 +26,17 @@ fn file_fault<R: AllocGlobal>(rt: &R, error: &io::Error, name: &str) -> Fault {
     }
 }
 
+/// The file of this name, opened to be read.
+pub fn open_file<R: Files + AllocGlobal>(rt: &R, name: &str) -> Result<R::File, Fault> {
+    match fs::open(rt, name) {
+        Ok(file) => Ok(file),
+        Err(error) => Err(file_fault(rt, &error, name)),
+    }
+}
+
 /// The bytes of a profile file, of at most 1,048,576 bytes.
 pub fn read_profile_file<R: Files + AllocGlobal>(rt: &R, name: &str) -> Result<Vec<u8>, Fault> {
-    let file = match fs::open(rt, name) {
-        Ok(file) => file,
-        Err(error) => return Err(file_fault(rt, &error, name)),
-    };
+    let file = open_file(rt, name)?;
     let mut bytes = Vec::new(rt.alloc());
     // one byte more tells a file that is too large
     let mut part = file.take(1_048_577);

@@ -2,7 +2,7 @@
 ghost use Rattle.std.specs.Prelude.{◌≡◌, false};
 
 use crate::fault::Fault;
-use crate::files::read_profile_file;
+use crate::files::{open_file, read_profile_file};
 use rt1553::{
     FromRead, FromWrite, Script, Sink, Verdict, canonical, compare, load, run, write_event,
 };
@@ -44,18 +44,35 @@ fn say_script<W: Sink>(writer: &mut W, script: &Script) -> Result<(), Fault> {
     say(writer, b"")
 }
 
-fn run_standard<R: AllocGlobal, I: Read + Drop, W: Sink>(
+/// Runs a profile over the script that an input gives.
+fn run_over<R: AllocGlobal, I: Read + Drop, W: Sink>(
     rt: &R,
+    profile: &[u8],
     input: I,
     writer: &mut W,
 ) -> Result<(), Fault>
     requires { W.has_failed writer.old ≡ false }
 {
     let mut reader = FromRead::new(input);
-    match run(rt.alloc(), STANDARD_PROFILE, &mut reader, writer) {
+    match run(rt.alloc(), profile, &mut reader, writer) {
         Ok(_) => Ok(()),
         Err(fault) => Err(Fault::Engine(fault)),
     }
+}
+
+/// Runs a profile over a script, both files. The profile is read and the script is opened before anything
+/// is loaded.
+fn run_files<R: Files + AllocGlobal, W: Sink>(
+    rt: &R,
+    profile: &str,
+    script: &str,
+    writer: &mut W,
+) -> Result<(), Fault>
+    requires { W.has_failed writer.old ≡ false }
+{
+    let text = read_profile_file(rt, profile)?;
+    let input = open_file(rt, script)?;
+    run_over(rt, text.as_slice(), input, writer)
 }
 
 fn compare_files<R: Files + AllocGlobal, W: Sink>(
@@ -88,7 +105,7 @@ fn do_job<R: Files + AllocGlobal, I: Read + Drop, W: Sink>(
     requires { W.has_failed writer.old ≡ false }
 {
     match job {
-        Job::Standard => run_standard(rt, input, writer)?,
+        Job::Standard => run_over(rt, STANDARD_PROFILE, input, writer)?,
         Job::Check(name) => {
             let text = read_profile_file(rt, name)?;
             load(rt.alloc(), text.as_slice())?;
@@ -99,8 +116,7 @@ fn do_job<R: Files + AllocGlobal, I: Read + Drop, W: Sink>(
             let bytes = canonical(rt.alloc(), text.as_slice())?;
             say(writer, bytes.as_slice())?;
         }
-        // scripts are not run over files yet
-        Job::Run(_, _) => return Err(Fault::Usage),
+        Job::Run(profile, script) => run_files(rt, profile, script, writer)?,
         Job::Compare(first, second) => return compare_files(rt, first, second, writer),
     }
     Ok(0)
