@@ -3,10 +3,13 @@ use Rattle.std.proofs.Common.{ℕ, ◌≡◌, ◌≤◌, ◌+◌, ◌*◌, ◌�
 use Rattle.hex.specs.Hex.{encode_with}
 use Rattle.bus_word.specs.declared.word.Bus.{Bus}
 use Rattle.bus_word.specs.declared.word.Bus.TheVariants.{A, B}
+use Rattle.bus_legal.specs.Description.{Description}
+use Rattle.bus_terminal.specs.declared.event.Event.{Event}
+use Rattle.bus_terminal.specs.declared.event.Event.TheVariants as event
 use Rattle.bus_terminal.specs.Out.{Sending, Handing, HandsReceived, HandsSynchronize, HandsSynchronizeWith, HandsSelfTest, HandsBusControl, Out}
 use Rattle.bus_terminal.specs.Answer.{words_sent, words_handed, IsSmall}
 use Rattle.bus_script.specs.Digits.{digits_of, decimal_digits}
-use Rattle.bus_script.specs.Transcript.{data_line, sent_text, word_field, received_by, received_text, hand_text, answer_text}
+use Rattle.bus_script.specs.Transcript.{data_line, sent_text, word_field, received_by, received_text, hand_text, answer_text, text_at, is_gap}
 
 pub four_digits : (word : ℕ) → length (digits_of word) ≡ 4
 unfolding encode_with
@@ -65,3 +68,13 @@ small_text o s = omega (arith, length-append (sent_text o.sent) (hand_text o.han
     both : (words_sent o.sent ≡ []) ⊎ (o.hand ≡ None) → length (sent_text o.sent) + length (hand_text o.hand) ≤ 297
     both (inl none) = let n : length (words_sent o.sent) ≡ 0 = ap length none in let few = s.few_handed in omega (arith, sent_most o.sent, hand_most o.hand)
     both (inr none) = let few = s.few_sent in let n : length (hand_text o.hand) ≡ 0 = ap (λ h. length (hand_text h)) none in omega (arith, sent_most o.sent)
+
+-- what is no gap is not answered
+pub unanswered : (P : Description) (h : List Event) (e : Event) → is_gap e ≡ false → [] ≡ text_at P h e
+unanswered P h (event.Word bus w) none = refl
+unanswered P h (event.Noise bus) none = refl
+unanswered P h (event.Gap bus) none = cc none
+unanswered P h (event.Write place word) none = refl
+unanswered P h (event.Vector word) none = refl
+unanswered P h (event.Bit word) none = refl
+unanswered P h (event.Flag f value) none = refl

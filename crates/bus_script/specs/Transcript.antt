@@ -5,6 +5,7 @@ use Rattle.bus_word.specs.declared.word.Bus.{Bus}
 use Rattle.bus_word.specs.declared.word.Bus.TheVariants.{A, B}
 use Rattle.bus_legal.specs.Description.{Description}
 use Rattle.bus_terminal.specs.declared.event.Event.{Event}
+use Rattle.bus_terminal.specs.declared.event.Event.TheVariants.{Gap}
 use Rattle.bus_terminal.specs.Out.{Sending, Handing, HandsReceived, HandsSynchronize, HandsSynchronizeWith, HandsSelfTest, HandsBusControl, Out, out}
 use Rattle.bus_script.specs.Digits.{digits_of, decimal_digits}
 
@@ -48,6 +49,11 @@ answer_text o = sent_text o.sent ++ hand_text o.hand
 -- what is written at an event that follows a history
 abbrev pub text_at : Description → List Event → Event → List ℕ
 text_at P h e = answer_text (out P h e)
+
+-- only a gap is answered
+abbrev pub is_gap : Event → Bool
+is_gap (Gap bus) = true
+is_gap _ = false
 
 -- what is written for these events, from a history on, where `text` is what is written at each
 unfoldable pub transcript : (List Event → Event → List ℕ) → List Event → List Event → List ℕ

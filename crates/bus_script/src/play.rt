@@ -5,7 +5,7 @@ ghost use Rattle.bus_terminal.specs.declared.event.Event.{Event};
 ghost use Rattle.bus_script.specs.Line.{meaning};
 ghost use Rattle.bus_script.specs.Reading.{ByFault};
 ghost use Rattle.bus_terminal.specs.Answer.{shown_answer, IsSmall};
-ghost use Rattle.bus_script.specs.Transcript.{answer_text};
+ghost use Rattle.bus_script.specs.Transcript.{answer_text, is_gap};
 ghost use Rattle.bus_script.specs.Playing.{IsPartWritten, Means, IsRefused};
 ghost use Rattle.bus_script.specs.Played.{Played, PlayedPart};
 
@@ -59,6 +59,13 @@ fn send<W: Sink>(writer: &mut W, answer: &Answer) -> Result<(), IoFailed>
     put_all(writer, text.as_str().as_bytes())
 }
 
+/// Whether the event is one that may be answered.
+fn is_gap(event: &Event) -> bool
+    ensures { result ≡ is_gap event.now }
+{
+    matches!(event, Event::Gap(_))
+}
+
 /// Plays an event.
 fn play_event<L: Legality, W: Sink>(
     terminal: &mut Terminal<L>,
@@ -69,6 +76,10 @@ fn play_event<L: Legality, W: Sink>(
     ensures err { OnErr result (PlayedPart L.is_legal W.written terminal.old terminal.new writer.old writer.new [] event) }
     ensures failed { OnErr result (W.has_failed writer.new ≡ true) }
 {
+    if !is_gap(&event) {
+        terminal.take(event);
+        return Ok(());
+    }
     let answer = terminal.step(event);
     if is_silent(&answer) {
         return Ok(());

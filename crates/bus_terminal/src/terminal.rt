@@ -64,31 +64,28 @@ impl<L: Legality> Terminal<L> {
         ensures small { IsSmall (shown_answer result) }
     {
         match event {
-            Event::Word(bus, word) => {
-                self.take_word(bus, word);
-                Answer::silence()
-            }
-            Event::Noise(bus) => {
-                self.take_noise(bus);
-                Answer::silence()
-            }
             Event::Gap(bus) => self.take_gap(bus),
-            Event::Write(place, value) => {
-                self.write(place, value);
+            _ => {
+                self.take(event);
                 Answer::silence()
             }
-            Event::Vector(word) => {
-                self.registers.vector = word;
-                Answer::silence()
+        }
+    }
+
+    /// Takes one event and drops its answer, which only a gap has.
+    pub fn take(&mut self, event: Event)
+        ensures { (P : Description) (h : List Event) → StandsAt L.is_legal P h self.old → StandsAt L.is_legal P (event ∷ h) self.new }
+    {
+        match event {
+            Event::Word(bus, word) => self.take_word(bus, word),
+            Event::Noise(bus) => self.take_noise(bus),
+            Event::Gap(bus) => {
+                self.take_gap(bus);
             }
-            Event::Bit(word) => {
-                self.registers.bit = word;
-                Answer::silence()
-            }
-            Event::Flag(flag, value) => {
-                self.registers.flags.set(flag, value);
-                Answer::silence()
-            }
+            Event::Write(place, value) => self.write(place, value),
+            Event::Vector(word) => self.registers.vector = word,
+            Event::Bit(word) => self.registers.bit = word,
+            Event::Flag(flag, value) => self.registers.flags.set(flag, value),
         }
     }
 

@@ -3,6 +3,7 @@ use Rattle.std.proofs.lemmas.Result.{on_ok_weaker, on_err_weaker}
 use Rattle.std.proofs.KnownBytes.{Appends-nil}
 use Rattle.bus_terminal.specs.Stands.{StandsAt}
 use Rattle.bus_script.specs.Transcript.{answer_text, text_at}
+use Rattle.bus_script.proofs.TranscriptLaws.{unanswered}
 use Rattle.bus_script.proofs.PlayLaws.{Plays-one, PlaysPart-one}
 use Rattle.bus_script.proofs.play.play_event.Goals as goal
 
@@ -20,4 +21,10 @@ pub returns-then-is_silent-clause-ok : goal.returns-then-is_silent-clause-ok
 returns-then-is_silent-clause-ok g c =
     Plays-one (StandsAt g.L.Legality.is_legal) text_at g.W.Sink.written _ _ _ _ c.args.event [] c.step-answer.ensures.stands
     (λ P h s. sym (c.is_silent.ensures c.if-is_silent.true) ∙ ap answer_text (c.step-answer.ensures.answer P h s))
+    (Appends-nil (g.W.Sink.written c.args.writer.now))
+
+pub returns-then-not-is_gap-clause-ok : goal.returns-then-not-is_gap-clause-ok
+returns-then-not-is_gap-clause-ok g c =
+    Plays-one (StandsAt g.L.Legality.is_legal) text_at g.W.Sink.written _ _ _ _ c.args.event [] c.take.ensures
+    (λ P h s. unanswered P h c.args.event (sym c.is_gap.ensures ∙ c.if-not-is_gap.true))
     (Appends-nil (g.W.Sink.written c.args.writer.now))
