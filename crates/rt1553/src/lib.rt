@@ -8,6 +8,8 @@ mod fault;
 pub mod laws;
 mod loading;
 mod report;
+#[cfg(test)]
+mod tests;
 
 pub use bus_canon::CanonFault;
 pub use bus_legal::Normal;
