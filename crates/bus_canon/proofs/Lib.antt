@@ -4,3 +4,8 @@ pub mod MaskLaws
 pub mod RowLaws
 pub mod CellLaws
 pub mod CanonLaws
+pub mod PlaceLaws
+pub mod FirstLaws
+pub mod CellSteps
+pub mod ApartLaws
+pub mod CellFound

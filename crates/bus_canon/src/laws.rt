@@ -1,7 +1,8 @@
-//! Laws of the canonical text. Each is a function that does nothing, and whose contract is the law.
+//! Laws of the canonical text, and of terminals that are the same. Each is a function that does nothing, and whose contract is the law.
 ghost use Rattle.std.specs.Prelude.{◌≡◌, ◌≤◌, ◌++◌, ℕ, List, [], length};
 ghost use Rattle.line_format.specs.Answers.{Answer, Answers};
-ghost use Rattle.bus_legal.specs.Parts.{Parts, IsNormal};
+ghost use Rattle.bus_legal.specs.Parts.{Parts, description_in, IsNormal};
+ghost use Rattle.bus_terminal.specs.Same.{Same};
 ghost use Rattle.bus_canon.specs.Canon.{canon, Text};
 
 /// Every `Normal` has a canonical text.
@@ -38,4 +39,9 @@ pub fn texts_are_short()
 /// Some bytes have one answer.
 pub fn bytes_have_one_answer()
     ensures { (bytes : List ℕ) (r s : Answer Parts) → Answers canon bytes r → Answers canon bytes s → r ≡ s }
+{}
+
+/// Terminals that are the same have the same in reach.
+pub fn same_terminals_are_equal()
+    ensures { (v w : Parts) → IsNormal v → IsNormal w → Same (description_in v) (description_in w) → v ≡ w }
 {}

@@ -1,17 +1,24 @@
-//! The canonical text of what of a profile can be reached: written, and read back.
+//! The canonical text of what of a profile can be reached, written and read back, and the script that
+//! tells two terminals apart.
 #![tactic(auto)]
 
+mod apart;
 mod asked;
 mod cell_lines;
+mod difference;
 mod fault;
 pub mod laws;
 mod names;
+mod places;
 mod read;
 mod rows;
+mod script;
 #[cfg(test)]
 mod tests;
 mod write;
 
+pub use apart::distinguish;
 pub use fault::CanonFault;
 pub use read::read_canon;
+pub use script::Script;
 pub use write::write_canon;

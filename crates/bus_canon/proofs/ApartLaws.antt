@@ -1,0 +1,69 @@
+-- The script of the first difference tells apart, and `Normal`s that are alike are equal.
+use Rattle.std.proofs.Common.{◌≡◌, ℕ, ◌<◌, inl, arith}
+use Rattle.bus_word.specs.declared.cell.Cell.{Cell}
+use Rattle.bus_word.specs.declared.cell.Cell.TheVariants.{OwnReceive, OwnTransmit, BroadReceive, OwnMode, BroadMode}
+use Rattle.bus_legal.specs.Description.{Description, wrap_subaddress}
+use Rattle.bus_legal.specs.Parts.{Parts, description_in, IsNormal}
+use Rattle.bus_legal.proofs.Descriptions.{same_description}
+use Rattle.bus_legal.proofs.SameNormals.{same_normals}
+use Rattle.bus_terminal.specs.Distinguish.{TellsApart}
+use Rattle.bus_terminal.proofs.Distinguish.Reached.{IsReached, normal-reached, apart_by_address, apart_by_option, apart_by_own_receive, apart_by_own_transmit, apart_by_broadcast_receive, apart_by_own_code, apart_by_broadcast_code, apart_by_acceptance, apart_by_vector, apart_by_bit, apart_by_initial, apart_by_wraparound}
+use Rattle.bus_canon.specs.declared.difference.Difference.{Difference}
+use Rattle.bus_canon.specs.declared.difference.Difference.TheVariants.{Address, BroadcastOption, ReceiveCell, TransmitCell, BroadcastReceiveCell, OwnCode, BroadcastCode, Acceptance, VectorWord, BitWord, InitialWord, Wraparound}
+use Rattle.bus_canon.specs.Difference.{kind_of, AreAlike, IsFirst, script_for}
+use Rattle.bus_canon.specs.FirstPlace.{AlikeBefore}
+
+earlier : (P Q : Description) (d c : Difference) → IsFirst P Q d → kind_of c < kind_of d → AreAlike P Q c
+earlier P Q d c first l = first.alike c (inl l)
+
+apart_where_reached : (P Q : Description) (d : Difference) → IsReached P → IsReached Q → IsFirst P Q d → TellsApart P Q (script_for P d)
+apart_where_reached P Q Address p q first = apart_by_address P Q p q first.differ
+apart_where_reached P Q BroadcastOption p q first = apart_by_option P Q p q (earlier P Q BroadcastOption Address first (omega arith)) first.differ
+apart_where_reached P Q (ReceiveCell s n) p q first = apart_by_own_receive P Q s n p q (earlier P Q (ReceiveCell s n) Address first (omega arith)) first.differ
+apart_where_reached P Q (TransmitCell s n) p q first = apart_by_own_transmit P Q s n p q (earlier P Q (TransmitCell s n) Address first (omega arith)) first.differ
+apart_where_reached P Q (BroadcastReceiveCell s n) p q first =
+    apart_by_broadcast_receive P Q s n p q
+    (earlier P Q (BroadcastReceiveCell s n) Address first (omega arith)) (earlier P Q (BroadcastReceiveCell s n) BroadcastOption first (omega arith)) first.differ
+apart_where_reached P Q (OwnCode code) p q first = apart_by_own_code P Q code p q (earlier P Q (OwnCode code) Address first (omega arith)) first.differ
+apart_where_reached P Q (BroadcastCode code) p q first =
+    apart_by_broadcast_code P Q code p q
+    (earlier P Q (BroadcastCode code) Address first (omega arith)) (earlier P Q (BroadcastCode code) BroadcastOption first (omega arith)) first.differ
+apart_where_reached P Q Acceptance p q first =
+    apart_by_acceptance P Q p q (earlier P Q Acceptance Address first (omega arith)) (earlier P Q Acceptance (OwnCode 0) first (omega arith)) first.differ
+apart_where_reached P Q VectorWord p q first =
+    apart_by_vector P Q p q (earlier P Q VectorWord Address first (omega arith)) (earlier P Q VectorWord (OwnCode 16) first (omega arith)) first.differ
+apart_where_reached P Q BitWord p q first =
+    apart_by_bit P Q p q (earlier P Q BitWord Address first (omega arith)) (earlier P Q BitWord (OwnCode 19) first (omega arith)) first.differ
+apart_where_reached P Q (InitialWord s i) p q first =
+    apart_by_initial P Q s i p q
+    (earlier P Q (InitialWord s i) Address first (omega arith)) (λ n. earlier P Q (InitialWord s i) (TransmitCell s n) first (omega arith)) first.differ
+apart_where_reached P Q Wraparound p q first =
+    apart_by_wraparound P Q p q (earlier P Q Wraparound Address first (omega arith))
+    (record {
+      broadcast = earlier P Q Wraparound BroadcastOption first (omega arith);
+      own_receive = λ n. earlier P Q Wraparound (ReceiveCell wrap_subaddress n) first (omega arith);
+      own_transmit = λ n. earlier P Q Wraparound (TransmitCell wrap_subaddress n) first (omega arith);
+      broadcast_receive = λ n. earlier P Q Wraparound (BroadcastReceiveCell wrap_subaddress n) first (omega arith);
+      initial = earlier P Q Wraparound (InitialWord wrap_subaddress 1) first (omega arith);
+    })
+    first.differ
+
+pub apart_by_first : (v w : Parts) (d : Difference) → IsNormal v → IsNormal w → IsFirst (description_in v) (description_in w) d →
+    TellsApart (description_in v) (description_in w) (script_for (description_in v) d)
+apart_by_first v w d p q first = apart_where_reached (description_in v) (description_in w) d (normal-reached v p) (normal-reached w q) first
+
+legal_alike : (P Q : Description) → AlikeBefore 13 P Q → (cell : Cell) → P.legal cell ≡ Q.legal cell
+legal_alike P Q alike (OwnReceive s n) = alike (ReceiveCell s n) (omega arith)
+legal_alike P Q alike (OwnTransmit s n) = alike (TransmitCell s n) (omega arith)
+legal_alike P Q alike (BroadReceive s n) = alike (BroadcastReceiveCell s n) (omega arith)
+legal_alike P Q alike (OwnMode c) = alike (OwnCode c) (omega arith)
+legal_alike P Q alike (BroadMode c) = alike (BroadcastCode c) (omega arith)
+
+pub equal_by_all : (v w : Parts) → IsNormal v → IsNormal w → AlikeBefore 13 (description_in v) (description_in w) → v ≡ w
+equal_by_all v w p q alike =
+    same_normals v w p q
+    (same_description (description_in v) (description_in w)
+    (alike Address (omega arith)) (alike BroadcastOption (omega arith)) (alike Wraparound (omega arith)) (alike Acceptance (omega arith))
+    (alike VectorWord (omega arith)) (alike BitWord (omega arith))
+    (λ s i. alike (InitialWord s i) (omega arith))
+    (legal_alike (description_in v) (description_in w) alike))

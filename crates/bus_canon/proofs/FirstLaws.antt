@@ -1,0 +1,84 @@
+-- What is found of one kind, and what is so known of the kinds up to it.
+use Rattle.std.proofs.Common.{◌≡◌, ℕ, zero, suc, ◌+◌, ◌<◌, ◌≤◌, ◌⊎◌, inl, inr, sym, ap, subst, ◌∙◌, arith}
+use Rattle.std.proofs.lemmas.Bool.{cases_lt}
+use Rattle.bus_word.specs.declared.cell.Cell.TheVariants.{OwnReceive, OwnTransmit, BroadReceive, OwnMode, BroadMode}
+use Rattle.bus_legal.specs.Description.{Description}
+use Rattle.bus_canon.specs.declared.difference.Difference.{Difference}
+use Rattle.bus_canon.specs.declared.difference.Difference.TheVariants.{Address, BroadcastOption, ReceiveCell, TransmitCell, BroadcastReceiveCell, OwnCode, BroadcastCode, Acceptance, VectorWord, BitWord, InitialWord, Wraparound}
+use Rattle.bus_canon.specs.Difference.{kind_of, first_number, second_number, IsLower, AreAlike, IsFirst}
+use Rattle.bus_canon.specs.FirstPlace.{AlikeBefore}
+
+-- alike in what is of a kind, at the numbers that are meant
+abbrev pub AlikeIn : ℕ → Description → Description → (ℕ → ℕ → Type 0) → Type 0
+AlikeIn zero P Q meant = Unit {0}
+AlikeIn (suc zero) P Q meant = meant 0 0 → P.address ≡ Q.address
+AlikeIn (suc (suc zero)) P Q meant = meant 0 0 → P.broadcast ≡ Q.broadcast
+AlikeIn (suc (suc (suc zero))) P Q meant = (s n : ℕ) → meant s n → P.legal (OwnReceive s n) ≡ Q.legal (OwnReceive s n)
+AlikeIn (suc (suc (suc (suc zero)))) P Q meant = (s n : ℕ) → meant s n → P.legal (OwnTransmit s n) ≡ Q.legal (OwnTransmit s n)
+AlikeIn (suc (suc (suc (suc (suc zero))))) P Q meant = (s n : ℕ) → meant s n → P.legal (BroadReceive s n) ≡ Q.legal (BroadReceive s n)
+AlikeIn (suc (suc (suc (suc (suc (suc zero)))))) P Q meant = (c : ℕ) → meant c 0 → P.legal (OwnMode c) ≡ Q.legal (OwnMode c)
+AlikeIn (suc (suc (suc (suc (suc (suc (suc zero))))))) P Q meant = (c : ℕ) → meant c 0 → P.legal (BroadMode c) ≡ Q.legal (BroadMode c)
+AlikeIn (suc (suc (suc (suc (suc (suc (suc (suc zero)))))))) P Q meant = meant 0 0 → P.accept ≡ Q.accept
+AlikeIn (suc (suc (suc (suc (suc (suc (suc (suc (suc zero))))))))) P Q meant = meant 0 0 → P.vector ≡ Q.vector
+AlikeIn (suc (suc (suc (suc (suc (suc (suc (suc (suc (suc zero)))))))))) P Q meant = meant 0 0 → P.bit ≡ Q.bit
+AlikeIn (suc (suc (suc (suc (suc (suc (suc (suc (suc (suc (suc zero))))))))))) P Q meant = (s i : ℕ) → meant s i → P.initial s i ≡ Q.initial s i
+AlikeIn (suc (suc (suc (suc (suc (suc (suc (suc (suc (suc (suc (suc n)))))))))))) P Q meant = meant 0 0 → P.wrap ≡ Q.wrap
+
+abbrev pub All : ℕ → ℕ → Type 0
+All s n = Unit {0}
+
+-- the numbers that come before those of a difference
+abbrev pub Lower : Difference → ℕ → ℕ → Type 0
+Lower d s n = IsLower s n (first_number d) (second_number d)
+
+alike_in : (P Q : Description) (meant : ℕ → ℕ → Type 0) (c : Difference) → AlikeIn (kind_of c) P Q meant → meant (first_number c) (second_number c) → AreAlike P Q c
+alike_in P Q meant Address f m = f m
+alike_in P Q meant BroadcastOption f m = f m
+alike_in P Q meant (ReceiveCell s n) f m = f s n m
+alike_in P Q meant (TransmitCell s n) f m = f s n m
+alike_in P Q meant (BroadcastReceiveCell s n) f m = f s n m
+alike_in P Q meant (OwnCode code) f m = f code m
+alike_in P Q meant (BroadcastCode code) f m = f code m
+alike_in P Q meant Acceptance f m = f m
+alike_in P Q meant VectorWord f m = f m
+alike_in P Q meant BitWord f m = f m
+alike_in P Q meant (InitialWord s i) f m = f s i m
+alike_in P Q meant Wraparound f m = f m
+
+-- nothing is of a kind before the first
+pub before_all : (P Q : Description) → AlikeBefore 1 P Q
+before_all P Q Address l = absurd (omega arith)
+before_all P Q BroadcastOption l = absurd (omega arith)
+before_all P Q (ReceiveCell s n) l = absurd (omega arith)
+before_all P Q (TransmitCell s n) l = absurd (omega arith)
+before_all P Q (BroadcastReceiveCell s n) l = absurd (omega arith)
+before_all P Q (OwnCode code) l = absurd (omega arith)
+before_all P Q (BroadcastCode code) l = absurd (omega arith)
+before_all P Q Acceptance l = absurd (omega arith)
+before_all P Q VectorWord l = absurd (omega arith)
+before_all P Q BitWord l = absurd (omega arith)
+before_all P Q (InitialWord s i) l = absurd (omega arith)
+before_all P Q Wraparound l = absurd (omega arith)
+
+-- alike in one more kind
+pub alike_to : (kind next : ℕ) (P Q : Description) → next ≡ kind + 1 → AlikeBefore kind P Q → AlikeIn kind P Q All → AlikeBefore next P Q
+alike_to kind next P Q is before f c l = by_kind (cases_lt (kind_of c) kind)
+  where
+    by_kind : (kind_of c < kind) ⊎ (kind ≤ kind_of c) → AreAlike P Q c
+    by_kind (inl lt) = before c lt
+    by_kind (inr le) =
+        let at : kind ≡ kind_of c = omega arith in
+        alike_in P Q All c (subst (λ k. AlikeIn k P Q All) at f) tt
+
+-- the first difference of a kind, where all of the kinds before it is alike
+pub first_of_kind : (P Q : Description) (d : Difference) → AlikeBefore (kind_of d) P Q → AlikeIn (kind_of d) P Q (Lower d) → (AreAlike P Q d → ⊥) → IsFirst P Q d
+first_of_kind P Q d before lower differ = record { differ = differ; alike = λ c b. by_order c b }
+  where
+    by_order : (c : Difference) → (kind_of c < kind_of d) ⊎ ((kind_of c ≡ kind_of d) × Lower d (first_number c) (second_number c)) → AreAlike P Q c
+    by_order c (inl lt) = before c lt
+    by_order c (inr b) = alike_in P Q (Lower d) c (subst (λ k. AlikeIn k P Q (Lower d)) (sym b.0) lower) b.1
+
+-- no numbers come before those of a kind that has one difference
+pub none_lower : (X : Type 0) → IsLower 0 0 0 0 → X
+none_lower X (inl l) = absurd (omega arith)
+none_lower X (inr b) = absurd (omega (arith, b.1))

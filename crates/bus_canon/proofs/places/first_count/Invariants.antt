@@ -1,0 +1,8 @@
+use Rattle.std.proofs.Common.{ℕ, ◌-◌, [], get_or}
+use Rattle.std.specs.Int.{bit_at}
+use Rattle.bus_canon.specs.FirstPlace.{is_set}
+use Rattle.bus_canon.proofs.PlaceLaws.{AlikeBelow}
+use Rattle.bus_canon.proofs.places.first_count.Given as goal
+
+abbrev pub invariant-loop-subaddress : goal.invariant-loop-subaddress
+invariant-loop-subaddress l = AlikeBelow (λ r i. is_set (get_or l.ours r 0) i) (λ r i. is_set (get_or l.theirs r 0) i) l.subaddress

@@ -1,0 +1,83 @@
+-- The first difference between two terminals, by what can be reached of them, and the script that shows it.
+use Rattle.std.specs.Prelude.{◌≡◌, ℕ, ◌<◌, ◌⊎◌, List}
+use Rattle.bus_word.specs.declared.cell.Cell.TheVariants.{OwnReceive, OwnTransmit, BroadReceive, OwnMode, BroadMode}
+use Rattle.bus_legal.specs.Description.{Description}
+use Rattle.bus_terminal.specs.declared.event.Event.{Event}
+use Rattle.bus_terminal.specs.Distinguish.{address_script, option_script, own_receive_script, own_transmit_script, broadcast_receive_script, own_code_script, broadcast_code_script, acceptance_script, vector_script, bit_script, initial_script, wraparound_script}
+use Rattle.bus_canon.specs.declared.difference.Difference.{Difference}
+use Rattle.bus_canon.specs.declared.difference.Difference.TheVariants.{Address, BroadcastOption, ReceiveCell, TransmitCell, BroadcastReceiveCell, OwnCode, BroadcastCode, Acceptance, VectorWord, BitWord, InitialWord, Wraparound}
+
+-- The order of the kinds.
+abbrev pub kind_of : Difference → ℕ
+kind_of Address = 1
+kind_of BroadcastOption = 2
+kind_of (ReceiveCell s n) = 3
+kind_of (TransmitCell s n) = 4
+kind_of (BroadcastReceiveCell s n) = 5
+kind_of (OwnCode code) = 6
+kind_of (BroadcastCode code) = 7
+kind_of Acceptance = 8
+kind_of VectorWord = 9
+kind_of BitWord = 10
+kind_of (InitialWord s i) = 11
+kind_of Wraparound = 12
+
+-- Within a kind: the subaddress or the mode code, and then the word count or the number of the word.
+abbrev pub first_number : Difference → ℕ
+first_number (ReceiveCell s n) = s
+first_number (TransmitCell s n) = s
+first_number (BroadcastReceiveCell s n) = s
+first_number (OwnCode code) = code
+first_number (BroadcastCode code) = code
+first_number (InitialWord s i) = s
+first_number _ = 0
+
+abbrev pub second_number : Difference → ℕ
+second_number (ReceiveCell s n) = n
+second_number (TransmitCell s n) = n
+second_number (BroadcastReceiveCell s n) = n
+second_number (InitialWord s i) = i
+second_number _ = 0
+
+-- two numbers come before two others
+abbrev pub IsLower : ℕ → ℕ → ℕ → ℕ → Type 0
+IsLower s n t m = (s < t) ⊎ ((s ≡ t) × (n < m))
+
+-- the first of two possible differences comes before the second
+abbrev pub IsBefore : Difference → Difference → Type 0
+IsBefore c d = (kind_of c < kind_of d) ⊎ ((kind_of c ≡ kind_of d) × IsLower (first_number c) (second_number c) (first_number d) (second_number d))
+
+-- the two are alike in this
+abbrev pub AreAlike : Description → Description → Difference → Type 0
+AreAlike P Q Address = P.address ≡ Q.address
+AreAlike P Q BroadcastOption = P.broadcast ≡ Q.broadcast
+AreAlike P Q (ReceiveCell s n) = P.legal (OwnReceive s n) ≡ Q.legal (OwnReceive s n)
+AreAlike P Q (TransmitCell s n) = P.legal (OwnTransmit s n) ≡ Q.legal (OwnTransmit s n)
+AreAlike P Q (BroadcastReceiveCell s n) = P.legal (BroadReceive s n) ≡ Q.legal (BroadReceive s n)
+AreAlike P Q (OwnCode code) = P.legal (OwnMode code) ≡ Q.legal (OwnMode code)
+AreAlike P Q (BroadcastCode code) = P.legal (BroadMode code) ≡ Q.legal (BroadMode code)
+AreAlike P Q Acceptance = P.accept ≡ Q.accept
+AreAlike P Q VectorWord = P.vector ≡ Q.vector
+AreAlike P Q BitWord = P.bit ≡ Q.bit
+AreAlike P Q (InitialWord s i) = P.initial s i ≡ Q.initial s i
+AreAlike P Q Wraparound = P.wrap ≡ Q.wrap
+
+-- the two differ in this, and in nothing that comes before it
+pub record IsFirst (P Q : Description) (d : Difference) : Type 0 where
+  pub differ : AreAlike P Q d → ⊥
+  pub alike : (c : Difference) → IsBefore c d → AreAlike P Q c
+
+-- the script that shows the difference between the first terminal and another
+abbrev pub script_for : Description → Difference → List Event
+script_for P Address = address_script P.address
+script_for P BroadcastOption = option_script P.address
+script_for P (ReceiveCell s n) = own_receive_script P.address s n
+script_for P (TransmitCell s n) = own_transmit_script P.address s n
+script_for P (BroadcastReceiveCell s n) = broadcast_receive_script P.address s n
+script_for P (OwnCode code) = own_code_script P.address code
+script_for P (BroadcastCode code) = broadcast_code_script P.address code
+script_for P Acceptance = acceptance_script P.address
+script_for P VectorWord = vector_script P.address
+script_for P BitWord = bit_script P.address
+script_for P (InitialWord s i) = initial_script P s
+script_for P Wraparound = wraparound_script P

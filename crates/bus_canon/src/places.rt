@@ -1,0 +1,68 @@
+//! Where masks and tables first differ, and the least word count of a mask.
+ghost use Rattle.std.specs.Prelude.{◌≡◌, ◌≤◌, ℕ, get_or};
+ghost use Rattle.bus_legal.specs.Description.{word_at};
+ghost use Rattle.bus_legal.specs.Tables.{has_count};
+ghost use Rattle.bus_canon.specs.FirstPlace.{FirstNumber, FirstPlace, is_set, least_in};
+
+/// The lowest bit in which two masks differ, 0 to 31.
+pub fn first_bit(ours: u32, theirs: u32) -> Option<u8>
+    ensures { FirstNumber 32 (is_set ours) (is_set theirs) result }
+{
+    if ours == theirs {
+        None
+    } else {
+        Some((ours ^ theirs).trailing_zeros() as u8)
+    }
+}
+
+/// The subaddress, 1 to 30, and the word count, 1 to 32, in which the tables first differ.
+pub fn first_count(ours: &[u32; 30], theirs: &[u32; 30]) -> Option<(u8, u8)>
+    ensures { FirstPlace (has_count ours.now) (has_count theirs.now) result }
+{
+    for subaddress in 1..31u8 {
+        let row = usize::from(subaddress) - 1;
+        if let Some(bit) = first_bit(ours[row], theirs[row]) {
+            return Some((subaddress, bit + 1));
+        }
+    }
+    None
+}
+
+/// The index, 0 to 31, at which the words first differ.
+fn first_index(ours: &[u16; 32], theirs: &[u16; 32]) -> Option<u8>
+    ensures { FirstNumber 32 (λ i. get_or ours.now i 0) (λ i. get_or theirs.now i 0) result }
+{
+    for index in 0..32u8 {
+        let at = usize::from(index);
+        if ours[at] != theirs[at] {
+            return Some(index);
+        }
+    }
+    None
+}
+
+/// The subaddress, 1 to 30, and the number, 1 to 32, of the first word that differs.
+pub fn first_word(ours: &[[u16; 32]; 30], theirs: &[[u16; 32]; 30]) -> Option<(u8, u8)>
+    ensures { FirstPlace (word_at ours.now) (word_at theirs.now) result }
+{
+    for subaddress in 1..31u8 {
+        let row = usize::from(subaddress) - 1;
+        if let Some(index) = first_index(&ours[row], &theirs[row]) {
+            return Some((subaddress, index + 1));
+        }
+    }
+    None
+}
+
+/// The least word count of a mask in which bit `n - 1` stands for a word count of `n`, or 0 where
+/// it has none.
+pub fn least_count(mask: u32) -> u8
+    ensures count { result ≡ least_in mask }
+    ensures room { result ≤ 32 }
+{
+    if mask == 0 {
+        0
+    } else {
+        mask.trailing_zeros() as u8 + 1
+    }
+}

@@ -1,0 +1,183 @@
+//! Scripts of command words, data words and gaps on bus A.
+ghost use Rattle.std.specs.Prelude.{◌≡◌, ◌+◌, ◌-◌, ◌%◌, ◌≤◌, ◌<◌, ◌++◌, [], ◌∷◌, replicate};
+ghost use Rattle.arrayvec.specs.ArrayVec.{array_vec_len};
+ghost use Rattle.bus_word.specs.declared.word.Bus.TheVariants.{A};
+ghost use Rattle.bus_word.specs.Word.{valid_word, bit_of};
+ghost use Rattle.bus_legal.specs.Parts.{description_in, IsNormal};
+ghost use Rattle.bus_terminal.specs.declared.event.Event.TheVariants.{Word, Gap};
+ghost use Rattle.bus_terminal.specs.Exchanges.{words_then, exchange_then, command_event, script_of};
+ghost use Rattle.bus_terminal.specs.Distinguish.{command_of, receive, transmit, mode_code, ask, initial_script, wraparound_script};
+ghost use Rattle.bus_canon.specs.Difference.{script_for};
+ghost use Rattle.bus_canon.specs.FirstPlace.{IsInRange};
+
+use crate::difference::Difference;
+use crate::places::least_count;
+use arrayvec::ArrayVec;
+use bus_legal::{Normal, largest_count};
+use bus_terminal::Event;
+use bus_word::{Bus, Kind, Raw};
+
+/// The events of a script that tells two terminals apart, in order: at most 36.
+pub type Script = ArrayVec<Event, 40>;
+
+/// The address of all terminals.
+const ALL_TERMINALS: u8 = 31;
+
+/// The wraparound subaddress.
+const WRAP_SUBADDRESS: u8 = 30;
+
+/// The command word of these fields (MIL-STD-1553B, 4.3.3.5.1).
+fn command(address: u8, transmit: bool, subaddress: u8, low: u8) -> u16
+    requires address { address < 32 }
+    requires subaddress { subaddress < 32 }
+    requires low { low < 32 }
+    ensures { result ≡ command_of address (bit_of transmit) subaddress low }
+{
+    let direction = if transmit { 1024 } else { 0 };
+    u16::from(address) * 2048 + direction + u16::from(subaddress) * 32 + u16::from(low)
+}
+
+fn push_word(script: &mut Script, kind: Kind, bits: u16)
+    requires { array_vec_len script.old < 40 }
+    ensures items { script.new.items ≡ script.old.items ++ Word A (valid_word kind bits) ∷ [] }
+    ensures len { array_vec_len script.new ≡ array_vec_len script.old + 1 }
+{
+    script.push(Event::Word(Bus::A, Raw::of(kind, bits)));
+}
+
+/// Adds data words: the first of them, and others of 0.
+fn push_data(script: &mut Script, first: u16, count: u8)
+    requires few { count ≤ 32 }
+    requires room { array_vec_len script.old ≤ 6 }
+    ensures items { script.new.items ≡ script.old.items ++ words_then (first ∷ replicate (count - 1) 0) [] }
+    ensures len { array_vec_len script.new ≤ array_vec_len script.old + 32 }
+{
+    push_word(script, Kind::Dat, first);
+    for _other in 1..count {
+        push_word(script, Kind::Dat, 0);
+    }
+}
+
+/// The script with a command added that no data words follow.
+fn with_command(mut script: Script, command: u16) -> Script
+    requires { array_vec_len script ≤ 38 }
+    ensures items { result.items ≡ script.items ++ command_event command ∷ Gap A ∷ [] }
+    ensures len { array_vec_len result ≡ array_vec_len script + 2 }
+{
+    push_word(&mut script, Kind::Com, command);
+    script.push(Event::Gap(Bus::A));
+    script
+}
+
+/// The script with the question for the status that is kept (transmit status word).
+fn with_ask(script: Script, address: u8) -> Script
+    requires address { address < 32 }
+    requires room { array_vec_len script ≤ 38 }
+    ensures { result.items ≡ script.items ++ exchange_then (ask address) [] }
+{
+    with_command(script, command(address, true, 0, 2))
+}
+
+/// The script with a command to transmit so many words.
+fn with_transmit(script: Script, address: u8, subaddress: u8, count: u8) -> Script
+    requires address { address < 32 }
+    requires subaddress { subaddress < 32 }
+    requires room { array_vec_len script ≤ 38 }
+    ensures { result.items ≡ script.items ++ exchange_then (transmit address subaddress count) [] }
+{
+    with_command(script, command(address, true, subaddress, count % 32))
+}
+
+/// So many words to a subaddress: the first of them, and others of 0.
+fn receive_script(address: u8, subaddress: u8, count: u8, first: u16) -> Script
+    requires address { address < 32 }
+    requires subaddress { subaddress < 32 }
+    requires count { count ≤ 32 }
+    ensures items { result.items ≡ exchange_then (receive address subaddress count (first ∷ replicate (count - 1) 0)) [] }
+    ensures len { array_vec_len result ≤ 34 }
+{
+    let mut script = ArrayVec::new();
+    push_word(
+        &mut script,
+        Kind::Com,
+        command(address, false, subaddress, count % 32),
+    );
+    push_data(&mut script, first, count);
+    script.push(Event::Gap(Bus::A));
+    script
+}
+
+/// A mode code. Code 17, synchronize with data word, goes with a data word of 0 (4.3.3.5.1.7.12).
+fn mode_script(address: u8, code: u8) -> Script
+    requires address { address < 32 }
+    requires code { code < 32 }
+    ensures items { result.items ≡ exchange_then (mode_code address code) [] }
+    ensures len { array_vec_len result ≤ 3 }
+{
+    if code != 17 {
+        return with_command(ArrayVec::new(), command(address, true, 0, code));
+    }
+    let mut script = ArrayVec::new();
+    push_word(&mut script, Kind::Com, command(address, false, 0, code));
+    push_word(&mut script, Kind::Dat, 0);
+    script.push(Event::Gap(Bus::A));
+    script
+}
+
+/// The longest legal transmit command of a subaddress, 1 to 30.
+fn initial_script(p: &Normal, subaddress: u8) -> Script
+    requires normal { IsNormal p.now }
+    requires low { 1 ≤ subaddress }
+    requires high { subaddress ≤ 30 }
+    ensures { result.items ≡ initial_script (description_in p.now) subaddress }
+{
+    let counts = p.tables().own_transmit[usize::from(subaddress) - 1];
+    let count = largest_count(counts) as u8;
+    with_transmit(ArrayVec::new(), p.address(), subaddress, count)
+}
+
+/// The shortest legal receive command of the wraparound subaddress, by broadcast only where there is
+/// no other, with the complement of the first word that is held there; then the shortest legal
+/// transmit command.
+fn wraparound_script(p: &Normal) -> Script
+    requires { IsNormal p.now }
+    ensures { result.items ≡ wraparound_script (description_in p.now) }
+{
+    let row = usize::from(WRAP_SUBADDRESS) - 1;
+    let tables = p.tables();
+    let first = !p.initial()[row][0];
+    let script = if tables.own_receive[row] != 0 {
+        let count = least_count(tables.own_receive[row]);
+        receive_script(p.address(), WRAP_SUBADDRESS, count, first)
+    } else {
+        let count = least_count(tables.broadcast_receive[row]);
+        receive_script(ALL_TERMINALS, WRAP_SUBADDRESS, count, first)
+    };
+    let count = least_count(tables.own_transmit[row]);
+    with_transmit(script, p.address(), WRAP_SUBADDRESS, count)
+}
+
+/// The script that shows this difference between the first terminal and another.
+pub fn script_for(p: &Normal, difference: Difference) -> Script
+    requires normal { IsNormal p.now }
+    requires range { IsInRange difference }
+    ensures { result.items ≡ script_for (description_in p.now) difference }
+{
+    let own = p.address();
+    match difference {
+        Difference::Address => mode_script(own, 2),
+        Difference::BroadcastOption => with_ask(mode_script(ALL_TERMINALS, 2), own),
+        Difference::ReceiveCell(s, n) => receive_script(own, s, n, 0),
+        Difference::TransmitCell(s, n) => with_transmit(ArrayVec::new(), own, s, n),
+        Difference::BroadcastReceiveCell(s, n) => {
+            with_ask(receive_script(ALL_TERMINALS, s, n, 0), own)
+        }
+        Difference::OwnCode(code) => mode_script(own, code),
+        Difference::BroadcastCode(code) => with_ask(mode_script(ALL_TERMINALS, code), own),
+        Difference::Acceptance => mode_script(own, 0),
+        Difference::VectorWord => mode_script(own, 16),
+        Difference::BitWord => mode_script(own, 19),
+        Difference::InitialWord(s, _) => initial_script(p, s),
+        Difference::Wraparound => wraparound_script(p),
+    }
+}
