@@ -9,3 +9,5 @@ pub mod FirstLaws
 pub mod CellSteps
 pub mod ApartLaws
 pub mod CellFound
+pub mod SameLaws
+pub mod ScriptLaws
