@@ -1,5 +1,6 @@
 //! Worked texts, and texts with one thing wrong.
 mod fixture;
+mod scripts;
 
 use crate::{CanonFault, read_canon, write_canon};
 use bus_legal::Normal;

@@ -63,3 +63,71 @@ pub fn put_zero_words(text: &mut String, alloc: Global) -> Result<(), AllocError
     }
     Ok(())
 }
+
+/// What a test chooses of a terminal: in each table one subaddress has a mask, and the others have
+/// none.
+#[derive(Clone, Copy)]
+pub struct Shape {
+    pub address: u8,
+    pub broadcast: bool,
+    pub receive: (u8, u32),
+    pub transmit: (u8, u32),
+    pub broadcast_receive: (u8, u32),
+    pub own_mode: u32,
+    pub broadcast_mode: u32,
+    /// The lines behind the masks.
+    pub end: &'static str,
+}
+
+/// A terminal of address 5 in which only the required mode codes are legal.
+pub const PLAIN: Shape = Shape {
+    address: 5,
+    broadcast: false,
+    receive: (1, 0),
+    transmit: (1, 0),
+    broadcast_receive: (1, 0),
+    own_mode: 0x134,
+    broadcast_mode: 0,
+    end: "",
+};
+
+/// The same with the broadcast option.
+pub const HEARING: Shape = Shape {
+    broadcast: true,
+    ..PLAIN
+};
+
+/// The canonical text of such a terminal.
+pub fn shape_text(alloc: Global, shape: &Shape) -> Result<String, AllocError> {
+    let address = shape.address;
+    let option = u8::from(shape.broadcast);
+    let mut text = format!(in alloc; "rt1553 1\naddress {address:02}\nbroadcast {option}\n")?;
+    put_masks(
+        &mut text,
+        alloc,
+        "own-receive",
+        shape.receive.0,
+        shape.receive.1,
+        0,
+    )?;
+    put_masks(
+        &mut text,
+        alloc,
+        "own-transmit",
+        shape.transmit.0,
+        shape.transmit.1,
+        0,
+    )?;
+    if shape.broadcast {
+        let (subaddress, mask) = shape.broadcast_receive;
+        put_masks(&mut text, alloc, "broadcast-receive", subaddress, mask, 0)?;
+    }
+    let own = shape.own_mode;
+    text.push_str(format!(in alloc; "own-mode {own:08x}\n")?.as_str())?;
+    if shape.broadcast {
+        let mask = shape.broadcast_mode;
+        text.push_str(format!(in alloc; "broadcast-mode {mask:08x}\n")?.as_str())?;
+    }
+    text.push_str(shape.end)?;
+    Ok(text)
+}
