@@ -1,5 +1,5 @@
 -- Laws of texts: what they are of, and their canonical bytes.
-use Rattle.std.proofs.Common.{◌≡◌, ℕ, nat_eq, List, [], ◌∷◌, ◌++◌, Bool, true, false, Some, refl, ap, sym, ◌∙◌, ◌≢◌, ◌≤◌, subst, append-nil, codes}
+use Rattle.std.proofs.Common.{◌≡◌, ℕ, nat_eq, List, [], ◌∷◌, ◌++◌, Bool, true, false, Some, refl, ap, sym, ◌∙◌, subst, append-nil, codes}
 use Rattle.std.specs.List.{starts_with}
 use Rattle.toml.specs.Data.{Members}
 use Rattle.line_format.specs.Format.{spell, Spells}
@@ -13,13 +13,10 @@ use Rattle.bus_legal.specs.Reach.{reach}
 use Rattle.bus_legal.proofs.NormalLaws.{reach-normal}
 use Rattle.bus_legal.proofs.SameNormals.{same_normals}
 use Rattle.bus_legal.proofs.PlainLaws.{described_alike}
-use Rattle.bus_terminal.specs.Same.{Same}
-use Rattle.bus_terminal.proofs.Reach.Same.{same_where_reached}
 use Rattle.bus_canon.specs.Canon.{canon, Text}
 use Rattle.bus_canon.proofs.CanonLaws.{text_normal, value_one, text_one}
 use Rattle.rt1553.specs.Load.{is_canon_text, OfBy, Of, Reaches}
 use Rattle.rt1553.specs.Canon.{IsCanon, CanonIsItsOwn, OneCanon, OneDescription}
-use Rattle.rt1553.specs.Compare.{HaveSameCanon}
 
 -- ---- a canonical text begins as such
 
@@ -78,25 +75,3 @@ pub one_canon : OneCanon
 one_canon text bytes others p q =
     let same : p.value ≡ q.value = one_value text p.value q.value (text_normal p.value bytes p.means) (text_normal q.value others q.means) p.reaches q.reaches in
     text_one q.value bytes others (subst (λ v. Text v bytes) same p.means) q.means
-
--- the canonical bytes of a text are the text of what can be reached of it
-canon_of : (text bytes : List ℕ) (v : Parts) → IsNormal v → Reaches text v → IsCanon text bytes → Text v bytes
-canon_of text bytes v normal p c = subst (λ w. Text w bytes) (one_value text c.value v (text_normal c.value bytes c.means) normal c.reaches p) c.means
-
-pub same_canon : (first second : List ℕ) (v : Parts) → IsNormal v → Reaches first v → Reaches second v → HaveSameCanon first second
-same_canon first second v normal p q a b c d = text_one v a b (canon_of first a v normal p c) (canon_of second b v normal q d)
-
-pub other_canon : (first second : List ℕ) (v w : Parts) → IsNormal v → IsNormal w → Reaches first v → Reaches second w → v ≢ w
-    → (a b : List ℕ) → IsCanon first a → IsCanon second b → a ≢ b
-other_canon first second v w normal normal' p q other a b c d e =
-    other (value_one v w b (subst (Text v) e (canon_of first a v normal p c)) (canon_of second b w normal' q d))
-
--- ---- the terminals of two texts
-
--- the address of an accepted text's terminal
-pub own_address : (text : List ℕ) (v : Parts) → IsNormal v → (p : Reaches text v) → p.description.address ≤ 30
-own_address text v normal p = subst (λ n. n ≤ 30) (ap (λ D. D.address) p.reached) normal.address
-
-pub same_terminals : (first second : List ℕ) (v : Parts) → IsNormal v → (p : Reaches first v) (q : Reaches second v) → Same p.description q.description
-same_terminals first second v normal p q =
-    same_where_reached p.description q.description (own_address first v normal p) (own_address second v normal q) (sym p.reached ∙ q.reached)

@@ -1,8 +1,12 @@
 -- What comparing two texts answers.
-use Rattle.std.specs.Prelude.{◌≡◌, ◌≢◌, ℕ, List, ◌⊎◌}
+use Rattle.std.specs.Prelude.{◌≡◌, ◌≢◌, ◌↔◌, ℕ, List, ◌⊎◌}
 use Rattle.bus_legal.specs.Description.{Description}
-use Rattle.bus_legal.specs.Parts.{Parts}
+use Rattle.bus_legal.specs.Reach.{reach}
+use Rattle.bus_terminal.specs.declared.event.Event.{Event}
 use Rattle.bus_terminal.specs.Same.{Same}
+use Rattle.bus_terminal.specs.Distinguish.{TellsApart}
+use Rattle.bus_canon.specs.declared.difference.Difference.{Difference}
+use Rattle.bus_canon.specs.Difference.{IsFirst, script_for}
 use Rattle.rt1553.specs.declared.comparison.Verdict.{Verdict}
 use Rattle.rt1553.specs.declared.comparison.Verdict.TheVariants as verdict
 use Rattle.rt1553.specs.declared.fault.LoadFault.{LoadFault}
@@ -22,19 +26,29 @@ pub record AreSame (first second : List ℕ) : Type 0 where
   pub canonical : HaveSameCanon first second
   pub same : Same p q
 
--- both texts are accepted, and their canonical bytes differ
-pub record AreDifferent (first second : List ℕ) : Type 0 where
+-- Both texts are accepted, and their canonical bytes differ. The script is the one of the first difference between
+-- what can be reached of their terminals, and the terminals answer it otherwise.
+pub record AreDifferent (first second : List ℕ) (script : List Event) : Type 0 where
   pub p : Description
   pub q : Description
   pub of_first : Of first p
   pub of_second : Of second q
   pub canonical : (a b : List ℕ) → IsCanon first a → IsCanon second b → a ≢ b
+  pub difference : Difference
+  pub first_difference : IsFirst (reach p) (reach q) difference
+  pub shows : script ≡ script_for (reach p) difference
+  pub apart : TellsApart p q script
 
 -- the verdict is right
 abbrev pub IsRight : List ℕ → List ℕ → Verdict → Type 0
 IsRight first second verdict.Same = AreSame first second
-IsRight first second (verdict.Differ script) = AreDifferent first second
+IsRight first second (verdict.Differ script) = AreDifferent first second script.items
 
 -- the first text that is not accepted is refused by this
 abbrev pub IsNotCompared : List ℕ → List ℕ → LoadFault → Type 0
 IsNotCompared first second fault = IsNotLoaded first fault ⊎ ((p : Description) × Of first p × IsNotLoaded second fault)
+
+-- For any two accepted texts the canonical bytes are equal exactly if, from power-up, over every list of events, both
+-- terminals send the same words and hand over the same things.
+abbrev pub Headline : Type 0
+Headline = (first second a b : List ℕ) (P Q : Description) → Of first P → Of second Q → IsCanon first a → IsCanon second b → (a ≡ b) ↔ Same P Q

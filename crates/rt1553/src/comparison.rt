@@ -1,16 +1,10 @@
 //! Two texts are compared.
-ghost use Rattle.std.specs.Prelude.{◌≡◌, IfOk, IfErr};
-ghost use Rattle.bus_legal.specs.Parts.{IsNormal};
+ghost use Rattle.std.specs.Prelude.{IfOk, IfErr};
 ghost use Rattle.rt1553.specs.Compare.{IsRight, IsNotCompared};
 
 use crate::{LoadFault, load};
-use arrayvec::ArrayVec;
-use bus_legal::Normal;
-use bus_terminal::Event;
+use bus_canon::{Script, distinguish};
 use std::alloc::Global;
-
-/// Events that tell two terminals apart.
-pub type Script = ArrayVec<Event, 40>;
 
 /// What comparing two texts says.
 #[derive(Debug, Drop)]
@@ -21,14 +15,8 @@ pub enum Verdict {
     Differ(Script),
 }
 
-/// A `Normal` has nothing unreached.
-fn is_normal(normal: &Normal)
-    ensures { IsNormal normal.now }
-{
-    let _ = normal.setup();
-}
-
-/// Says whether two texts mean the same terminal, and where they don't, gives a script that shows it. The
+/// Says whether two texts mean the same terminal: one that answers alike for ever. Where they don't, gives a script
+/// of at most 36 events on which the two answer otherwise from power-up, made for the address of the first. The
 /// first text is loaded first. Where both are canonical texts, no memory is taken.
 pub fn compare(alloc: Global, first: &[u8], second: &[u8]) -> Result<Verdict, LoadFault>
     ensures ok { IfOk result (IsRight first.now second.now) }
@@ -42,11 +30,8 @@ pub fn compare(alloc: Global, first: &[u8], second: &[u8]) -> Result<Verdict, Lo
         Ok(q) => q,
         Err(fault) => return Err(fault),
     };
-    is_normal(&p);
-    is_normal(&q);
-    if p.is_same(&q) {
-        Ok(Verdict::Same)
-    } else {
-        Ok(Verdict::Differ(ArrayVec::new()))
+    match distinguish(&p, &q) {
+        None => Ok(Verdict::Same),
+        Some(script) => Ok(Verdict::Differ(script)),
     }
 }

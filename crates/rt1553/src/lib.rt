@@ -11,13 +11,13 @@ mod report;
 #[cfg(test)]
 mod tests;
 
-pub use bus_canon::CanonFault;
+pub use bus_canon::{CanonFault, Script};
 pub use bus_legal::Normal;
 pub use bus_script::{
     FromRead, FromWrite, IoFailed, MemorySink, MemorySource, RunFault, Sink, Source, write_event,
 };
 pub use bus_terminal::Event;
-pub use comparison::{Script, Verdict, compare};
+pub use comparison::{Verdict, compare};
 pub use engine::run;
 pub use fault::{EngineFault, LoadFault};
 pub use loading::{canonical, load};
