@@ -115,7 +115,11 @@ fn main(rt: HostRuntime) -> io::Result<()> {
     runs(&rt, alloc, FIVE)?;
     reads(&rt, alloc, WHOLE)?;
     reads(&rt, alloc, REFUSED)?;
-    match canonical(alloc, FIVE) {
+    loads(&rt, alloc, WHOLE)?;
+    writes(&rt, alloc, WHOLE)?;
+    compares(&rt, alloc, WHOLE, FIVE)?;
+    runs(&rt, alloc, WHOLE)?;
+    match canonical(alloc, WHOLE) {
         Ok(text) => on_canonical_text(&rt, alloc, text.as_slice()),
         Err(fault) => println!(rt; "canonical {fault:?}"),
     }
