@@ -519,6 +519,55 @@ example_rows() {
     done
 }
 
+# each example profile and its canonical text: checked, written, compared
+canonical_rows() {
+    local profile name text
+    for profile in "$top"/examples/profiles/*.toml; do
+        name=$(basename "$profile" .toml)
+        text=$top/examples/canonical/$name.rt1553
+        cp "$profile" "$work/profile"
+        cp "$text" "$work/text"
+        row "check $name" 0 $'ok\n' '' check profile
+        row "canon $name" 0 "$(cat "$text")"$'\n' '' canon profile
+        row "canon of the canonical text of $name" 0 "$(cat "$text")"$'\n' '' canon text
+        row "compare $name with its canonical text" 0 $'same\n' '' compare profile text
+    done
+}
+
+# pairs of profiles of address 5 that differ in what stands in $1 and in $2, and the script that shows it
+pair() {
+    printf 'address = 5\n%b' "$2" >"$work/p"
+    printf 'address = 5\n%b' "$3" >"$work/q"
+    row "compare: $1" 1 "$(printf %b "$4")"$'\n' '' compare p q
+    row "compare, the other way round: $1" 1 "$(printf %b "$4")"$'\n' '' compare q p
+    # the script gives two transcripts
+    printf '%b' "$4" >"$work/script-of-two"
+    (cd "$work" && "$program" run p script-of-two >transcript-p && "$program" run q script-of-two >transcript-q)
+    [[ $? -eq 0 ]] && ! cmp -s "$work/transcript-p" "$work/transcript-q"
+    count "two transcripts: $1" $?
+}
+
+comparison_rows() {
+    local both='[[rule]]\ndirection = "both"\nsubaddresses = 30\ncounts = 1\n'
+    pair 'the broadcast option' 'broadcast = true\n' '' 'A c fc02\nA gap\nA c 2c02\nA gap\n'
+    pair 'an own receive cell' '[[rule]]\ndirection = "receive"\nsubaddresses = 3\ncounts = 2\n' '' \
+        'A c 2862\nA d 0000\nA d 0000\nA gap\n'
+    pair 'an own mode code' '[[mode]]\ncodes = "3, 7"\n' '' 'A c 2c03\nA gap\n'
+    pair 'a broadcast mode code' 'broadcast = true\n[[mode]]\nto = "broadcast"\ncodes = 4\n' 'broadcast = true\n' \
+        'A c fc04\nA gap\nA c 2c02\nA gap\n'
+    pair 'wraparound' "wraparound = false\n$both" "$both" 'A c 2bc1\nA d ffff\nA gap\nA c 2fc1\nA gap\n'
+    printf 'address = 5\nwraparound = false\nvector = 7\n' >"$work/p"
+    row 'what can not be reached' 0 $'same\n' '' compare p five
+}
+
+# each byte of three canonical texts changed to each other value
+changed_texts() {
+    [[ $("$1" each) == '1520 bytes: 3620 changed texts are accepted
+1556 bytes: 3935 changed texts are accepted
+2473 bytes: 7300 changed texts are accepted' ]]
+    count 'each byte of three canonical texts changed' $?
+}
+
 run_rows() {
     run_file_rows
     input ''
@@ -552,8 +601,10 @@ rows() {
     fault_rows
     run_rows
     example_rows
+    canonical_rows
+    comparison_rows
     vectors "$top/tests/vectors/scripts"
-    vectors "$top/tests/vectors/address-profiles"
+    vectors "$top/tests/vectors/profiles"
 }
 
 # the canonical text of address 5: 64 lines, 1,520 bytes
@@ -574,6 +625,8 @@ for program in "$top"/crates/rt1553_program/out/rt1553_program{,.by-rattle}; do
     rows
     probe=${program//rt1553_program/growths}
     if [[ -x $probe ]]; then call_growths "$probe"; fi
+    probe=${program//rt1553_program/changes}
+    if [[ -x $probe ]]; then changed_texts "$probe"; fi
 done
 [[ $ran -gt 0 ]]
 count 'a program was built' $?
