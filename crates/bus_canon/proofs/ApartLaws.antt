@@ -1,5 +1,5 @@
 -- The script of the first difference tells apart, and `Normal`s that are alike are equal.
-use Rattle.std.proofs.Common.{◌≡◌, ℕ, ◌<◌, inl, arith}
+use Rattle.std.proofs.Common.{◌≡◌, ◌<◌, inl, arith}
 use Rattle.bus_word.specs.declared.cell.Cell.{Cell}
 use Rattle.bus_word.specs.declared.cell.Cell.TheVariants.{OwnReceive, OwnTransmit, BroadReceive, OwnMode, BroadMode}
 use Rattle.bus_legal.specs.Description.{Description, wrap_subaddress}

@@ -1,7 +1,6 @@
 -- From masks, and tables of words, to what is legal and what is held.
-use Rattle.std.proofs.Common.{◌≡◌, ℕ, ◌<◌, ◌≤◌, ◌^◌, ◌==◌, Bool, true, false, ◌&&◌, cond, if◌then◌else◌, is_some, bit_and, Some, None, ◌⊎◌, inl, inr, refl, sym, ap, ◌∙◌, arith}
+use Rattle.std.proofs.Common.{◌≡◌, ℕ, ◌<◌, Bool, true, false, ◌&&◌, cond, if◌then◌else◌, is_some, bit_and, inl, inr, refl, sym, ap, ◌∙◌, arith}
 use Rattle.std.proofs.lemmas.Bool.{eqb-true, and_parts}
-use Rattle.std.specs.Int.{bit_at}
 use Rattle.bus_word.specs.Cell.{is_data_place, allows_broadcast}
 use Rattle.bus_word.specs.Mode.{mode_row}
 use Rattle.bus_legal.specs.Tables.{is_own_mask, is_broadcast_mask}
@@ -10,7 +9,7 @@ use Rattle.bus_legal.proofs.Bits.{has_bit-and}
 use Rattle.bus_legal.proofs.Descriptions.{cond-guarded}
 use Rattle.bus_legal.proofs.TableSteps.{own_codes-bits, broadcast_codes-bits, row_below, broadcast_row_below}
 use Rattle.bus_canon.specs.Difference.{IsLower}
-use Rattle.bus_canon.specs.FirstPlace.{IsFirstNumber, FirstNumber, IsFirstPlace, FirstPlace, is_set}
+use Rattle.bus_canon.specs.FirstPlace.{IsFirstNumber, IsFirstPlace, is_set}
 
 -- what a table of cells says at places of data
 abbrev pub said : (ℕ → ℕ → Bool) → ℕ → ℕ → Bool

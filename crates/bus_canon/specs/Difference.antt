@@ -7,7 +7,8 @@ use Rattle.bus_terminal.specs.Distinguish.{address_script, option_script, own_re
 use Rattle.bus_canon.specs.declared.difference.Difference.{Difference}
 use Rattle.bus_canon.specs.declared.difference.Difference.TheVariants.{Address, BroadcastOption, ReceiveCell, TransmitCell, BroadcastReceiveCell, OwnCode, BroadcastCode, Acceptance, VectorWord, BitWord, InitialWord, Wraparound}
 
--- The order of the kinds.
+-- The twelve kinds of difference, in their order: words that are held come before wraparound, so that for
+-- wraparound both terminals hold the same words at power-up.
 abbrev pub kind_of : Difference → ℕ
 kind_of Address = 1
 kind_of BroadcastOption = 2
@@ -39,11 +40,11 @@ second_number (BroadcastReceiveCell s n) = n
 second_number (InitialWord s i) = i
 second_number _ = 0
 
--- two numbers come before two others
+-- two numbers come before two others, by the first of them and then by the second
 abbrev pub IsLower : ℕ → ℕ → ℕ → ℕ → Type 0
 IsLower s n t m = (s < t) ⊎ ((s ≡ t) × (n < m))
 
--- the first of two possible differences comes before the second
+-- One possible difference comes before another: of kinds the earlier, and within a kind the lower numbers.
 abbrev pub IsBefore : Difference → Difference → Type 0
 IsBefore c d = (kind_of c < kind_of d) ⊎ ((kind_of c ≡ kind_of d) × IsLower (first_number c) (second_number c) (first_number d) (second_number d))
 

@@ -19,6 +19,7 @@ pub fn distinguish(p: &Normal, q: &Normal) -> Option<Script>
     ensures normal_first { IsNormal p.now }
     ensures normal_second { IsNormal q.now }
 {
+    // With a set-up comes the promise that nothing unreached is in the `Normal`.
     p.setup();
     q.setup();
     match first_difference(p, q) {

@@ -1,4 +1,3 @@
-use Rattle.std.proofs.Common.{◌≡◌}
 use Rattle.bus_legal.specs.Parts.{description_in}
 use Rattle.bus_canon.specs.FirstPlace.{AlikeBefore}
 use Rattle.bus_canon.proofs.CellFound.{receive_same, receive_first, transmit_same, transmit_first, broadcast_receive_same, broadcast_receive_first, own_code_same, own_code_first, broadcast_code_same, broadcast_code_first}

@@ -1,5 +1,4 @@
-use Rattle.std.proofs.Common.{ℕ, ◌-◌, [], get_or}
-use Rattle.std.specs.Int.{bit_at}
+use Rattle.std.proofs.Common.{get_or}
 use Rattle.bus_canon.specs.FirstPlace.{is_set}
 use Rattle.bus_canon.proofs.PlaceLaws.{AlikeBelow}
 use Rattle.bus_canon.proofs.places.first_count.Given as goal

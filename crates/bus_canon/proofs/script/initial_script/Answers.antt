@@ -1,4 +1,4 @@
-use Rattle.std.proofs.Common.{◌≡◌, ◌-◌, ◌≤◌, ℕ, Bool, true, ◌&&◌, nat_le, ap, arith}
+use Rattle.std.proofs.Common.{◌≡◌, ◌-◌, ◌≤◌, ℕ, true, ◌&&◌, nat_le, ap, arith}
 use Rattle.std.proofs.lemmas.Bool.Decides.{nat_tests}
 use Rattle.bus_canon.proofs.ScriptLaws.{initial_shown}
 use Rattle.bus_canon.proofs.script.initial_script.Goals as goal
