@@ -1,5 +1,5 @@
 -- An event that was written as a line is read from it.
-use Rattle.std.proofs.Common.{ℕ, zero, suc, lit<, Result, ◌≡◌, ◌<◌, ◌≤◌, ◌+◌, ◌-◌, ◌*◌, ◌/◌, ◌%◌, ◌^◌, ◌∙◌, Bool, true, false, ◌&&◌, ◌==◌, nat_le, nat_lt, if◌then◌else◌, List, [], ◌∷◌, ◌++◌, Option, Some, None, Ok, refl, ap, sym, subst, arith}
+use Rattle.std.proofs.Common.{ℕ, zero, suc, lit<, Result, ◌≡◌, ◌<◌, ◌+◌, ◌/◌, ◌%◌, ◌^◌, ◌∙◌, Bool, true, false, if◌then◌else◌, [], ◌∷◌, ◌++◌, Option, Some, Ok, refl, ap, sym, arith}
 use Rattle.std.proofs.lemmas.Bool.Decides.{nat_tests}
 use Rattle.hex.specs.Hex.{IsBytes, encode_with}
 use Rattle.hex.proofs.HexLemmas.{decode_of-encode_lower}

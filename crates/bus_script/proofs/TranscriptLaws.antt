@@ -1,5 +1,5 @@
 -- Laws of the lines of a transcript: how long they are.
-use Rattle.std.proofs.Common.{ℕ, ◌≡◌, ◌≤◌, ◌+◌, ◌*◌, ◌∙◌, List, [], ◌∷◌, ◌++◌, length, length-append, refl, ap, arith, flat_map, Bool, true, false, Option, Some, None, ◌⊎◌, inl, inr}
+use Rattle.std.proofs.Common.{ℕ, ◌≡◌, ◌≤◌, ◌+◌, ◌*◌, ◌∙◌, List, [], ◌∷◌, length, length-append, refl, ap, arith, flat_map, Bool, true, false, Option, Some, None, ◌⊎◌, inl, inr}
 use Rattle.hex.specs.Hex.{encode_with}
 use Rattle.bus_word.specs.declared.word.Bus.{Bus}
 use Rattle.bus_word.specs.declared.word.Bus.TheVariants.{A, B}
@@ -8,7 +8,7 @@ use Rattle.bus_terminal.specs.declared.event.Event.{Event}
 use Rattle.bus_terminal.specs.declared.event.Event.TheVariants as event
 use Rattle.bus_terminal.specs.Out.{Sending, Handing, HandsReceived, HandsSynchronize, HandsSynchronizeWith, HandsSelfTest, HandsBusControl, Out}
 use Rattle.bus_terminal.specs.Answer.{words_sent, words_handed, IsSmall}
-use Rattle.bus_script.specs.Digits.{digits_of, decimal_digits}
+use Rattle.bus_script.specs.Digits.{digits_of}
 use Rattle.bus_script.specs.Transcript.{data_line, sent_text, word_field, received_by, received_text, hand_text, answer_text, text_at, is_gap}
 
 pub four_digits : (word : ℕ) → length (digits_of word) ≡ 4

@@ -1,5 +1,5 @@
 -- Laws of a run from power-up: what was played is what was written, as the profile's own terminal writes it.
-use Rattle.std.proofs.Common.{ℕ, ◌≡◌, ◌≤◌, ◌∙◌, List, [], ◌∷◌, ◌++◌, Option, Bool, refl, sym, ap, ap₂, subst, arith}
+use Rattle.std.proofs.Common.{ℕ, ◌≡◌, ◌≤◌, ◌∙◌, List, [], ◌∷◌, ◌++◌, Option, Bool, refl, sym, ap, ap₂, subst}
 use Rattle.std.specs.Io.KnownBytes.{Appends, Consumes}
 use Rattle.bus_word.specs.declared.cell.Cell.{Cell}
 use Rattle.bus_legal.specs.declared.setup.Setup.{Setup}
@@ -10,7 +10,7 @@ use Rattle.bus_legal.specs.Reach.{reach}
 use Rattle.bus_legal.proofs.NormalLaws.{reach-set_up_normal}
 use Rattle.bus_terminal.specs.declared.event.Event.{Event}
 use Rattle.bus_terminal.specs.declared.terminal.Terminal.{Terminal}
-use Rattle.bus_terminal.specs.Out.{Out, out}
+use Rattle.bus_terminal.specs.Out.{out}
 use Rattle.bus_terminal.specs.Stands.{StandsAt, after}
 use Rattle.bus_terminal.proofs.Reach.Same.{out-reach}
 use Rattle.bus_script.specs.declared.fault.RunFault.{RunFault}

@@ -5,8 +5,8 @@ use Rattle.toml.specs.Data.{Members}
 use Rattle.line_format.specs.Format.{spell, Spells}
 use Rattle.line_format.specs.Shapes.{name_line}
 use Rattle.line_format.proofs.OneText.{parted}
-use Rattle.bus_profile.specs.Read.{IsTree, Accepts}
-use Rattle.bus_profile.specs.Plain.{plain, profile_of}
+use Rattle.bus_profile.specs.Read.{IsTree}
+use Rattle.bus_profile.specs.Plain.{profile_of}
 use Rattle.bus_legal.specs.Description.{Description}
 use Rattle.bus_legal.specs.Parts.{Parts, description_in, IsNormal}
 use Rattle.bus_legal.specs.Reach.{reach}
@@ -15,8 +15,8 @@ use Rattle.bus_legal.proofs.SameNormals.{same_normals}
 use Rattle.bus_legal.proofs.PlainLaws.{described_alike}
 use Rattle.bus_canon.specs.Canon.{canon, Text}
 use Rattle.bus_canon.proofs.CanonLaws.{text_normal, value_one, text_one}
-use Rattle.rt1553.specs.Load.{is_canon_text, OfBy, Of, Reaches}
-use Rattle.rt1553.specs.Canon.{IsCanon, CanonIsItsOwn, OneCanon, OneDescription}
+use Rattle.rt1553.specs.Load.{is_canon_text, OfBy, Reaches}
+use Rattle.rt1553.specs.Canon.{CanonIsItsOwn, OneCanon, OneDescription}
 
 -- ---- a canonical text begins as such
 
