@@ -36,8 +36,13 @@ impl fmt::Display for Fault {
 }
 
 impl Fault {
+    ghost use Rattle.std.specs.Prelude.{◌≡◌};
+    ghost use Rattle.rt1553_program.specs.Fault.{ends_with};
+
     /// The status that the program ends with.
-    pub fn status(&self) -> u8 {
+    pub fn status(&self) -> u8
+        ensures { result ≡ ends_with self.now }
+    {
         match self {
             Fault::Usage => 3,
             Fault::Memory | Fault::CannotRead(_) | Fault::TooLarge(_) | Fault::Output => 4,

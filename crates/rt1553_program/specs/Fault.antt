@@ -1,0 +1,14 @@
+-- The status that the program ends with.
+use Rattle.std.specs.Prelude.{ℕ}
+use Rattle.rt1553.specs.Report.{status_of}
+use Rattle.rt1553_program.specs.declared.fault.Fault.{Fault}
+use Rattle.rt1553_program.specs.declared.fault.Fault.TheVariants.{Usage, Memory, CannotRead, TooLarge, Output, Engine}
+
+-- 3 for words that are none of the program's; 4 for a file, want of memory or the output; else that of the fault
+abbrev pub ends_with : Fault → ℕ
+ends_with Usage = 3
+ends_with Memory = 4
+ends_with (CannotRead name) = 4
+ends_with (TooLarge name) = 4
+ends_with Output = 4
+ends_with (Engine fault) = status_of fault
