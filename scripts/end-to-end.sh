@@ -534,6 +534,68 @@ canonical_rows() {
     done
 }
 
+# the smallest text with line $2 in place of its own and what stands in $3 behind it is wrong in line $1
+damaged() {
+    local number=${4:-${2%%:*}} line=${2#*:}
+    { printf %s "$smallest" | sed "${number}s/.*/$line/" && printf %b "$3"; } >"$work/damaged"
+    row "damaged: $2" 2 '' "canonical text: line $1"$'\n' check damaged
+    row "damaged, canon: $2" 2 '' "canonical text: line $1"$'\n' canon damaged
+}
+
+damaged_rows() {
+    local k
+    damaged 2 '2:address 31' ''
+    damaged 3 '3:broadcast 2' ''
+    damaged 64 '3:broadcast 1' ''
+    damaged 4 '4:own-receive 01 0000000A' ''
+    damaged 64 '64:own-mode 00000034' ''
+    damaged 64 '64:own-mode 00200134' ''
+    damaged 65 '64:own-mode 00000135' ''
+    damaged 65 '64:own-mode 00010134' ''
+    damaged 65 '40:own-transmit 07 00000012' ''
+    damaged 65 '40:own-transmit 07 00000012' 'initial 07 0000 0000 0000 0000\n'
+    # cut after whole lines, and inside the line after them
+    for k in {1..63}; do
+        printf %s "$smallest" | head -n "$k" >"$work/damaged"
+        row "cut after $k lines" 2 '' "canonical text: line $((k + 1))"$'\n' check damaged
+        printf %s "$smallest" | head -n $((k + 1)) | head -c -3 >"$work/damaged"
+        row "cut inside line $((k + 1))" 2 '' "canonical text: line $((k + 1))"$'\n' check damaged
+    done
+    printf 'rt1553' >"$work/damaged"
+    row 'cut inside line 1' 2 '' $'profile: not TOML\n' check damaged
+}
+
+# rules for all subaddresses and counts, legal in turn and not: after 256 of them nothing is legal, after 255 all is
+alternating_rules() {
+    local k
+    printf 'address = 5\n'
+    for ((k = 1; k <= $1; k++)); do
+        printf '[[rule]]\ndirection = "both"\nsubaddresses = "1-30"\nlegal = %s\n' "$([[ $((k % 2)) -eq 1 ]] && echo true || echo false)"
+    done
+}
+
+many_rules() {
+    local name s
+    alternating_rules 256 >"$work/rules"
+    row '256 rules' 0 "$smallest" '' canon rules
+    alternating_rules 255 >"$work/rules"
+    {
+        printf 'rt1553 1\naddress 05\nbroadcast 0\n'
+        for name in own-receive own-transmit; do
+            for s in {01..30}; do printf '%s %s ffffffff\n' "$name" "$s"; done
+        done
+        printf 'own-mode 00000134\nwraparound 1\n'
+        for s in {01..30}; do
+            printf 'initial %s' "$s"
+            printf ' 0000%.0s' {1..32}
+            printf '\n'
+        done
+    } >"$work/text"
+    [[ $(wc -l <"$work/text") -eq 95 && $(wc -c <"$work/text") -eq 6663 ]]
+    count '255 rules, the size of the text' $?
+    row '255 rules' 0 "$(cat "$work/text")"$'\n' '' canon rules
+}
+
 # pairs of profiles of address 5 that differ in what stands in $1 and in $2, and the script that shows it
 pair() {
     printf 'address = 5\n%b' "$2" >"$work/p"
@@ -602,6 +664,8 @@ rows() {
     run_rows
     example_rows
     canonical_rows
+    damaged_rows
+    many_rules
     comparison_rows
     vectors "$top/tests/vectors/scripts"
     vectors "$top/tests/vectors/profiles"
