@@ -8,8 +8,8 @@ runs=${RUNS:-200}
 work=$(mktemp -d)
 trap 'rm -rf "$work"' EXIT
 
-make --silent build >/dev/null
-(cd crates/toml_alone && rt run </dev/null >/dev/null 2>&1)
+if [[ -z ${PROGRAM:-} ]]; then make --silent build >/dev/null; fi
+[[ -x crates/toml_alone/out/toml_alone ]] || (cd crates/toml_alone && rt run </dev/null >/dev/null 2>&1)
 program=$(realpath "${PROGRAM:-bin/rt1553}")
 toml_alone=$(realpath crates/toml_alone/out/toml_alone)
 
