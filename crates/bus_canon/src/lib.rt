@@ -13,8 +13,6 @@ mod places;
 mod read;
 mod rows;
 mod script;
-#[cfg(test)]
-mod tests;
 mod write;
 
 pub use apart::distinguish;

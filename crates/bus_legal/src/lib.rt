@@ -10,8 +10,6 @@ mod normal;
 mod rule_list;
 mod setup;
 mod tables;
-#[cfg(test)]
-mod tests;
 
 pub use initial::setup_of;
 pub use legality::Legality;

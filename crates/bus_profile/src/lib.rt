@@ -19,6 +19,3 @@ pub use fault::{Key, Part, ProfileFault};
 pub use profile::Profile;
 pub use ranges::{RangeFault, parse_ranges};
 pub use read::read_profile;
-
-#[cfg(test)]
-mod tests;

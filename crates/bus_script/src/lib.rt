@@ -11,8 +11,6 @@ mod line;
 mod memory;
 mod play;
 mod run;
-#[cfg(test)]
-mod tests;
 mod transcript;
 mod wrapped;
 

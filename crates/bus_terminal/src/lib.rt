@@ -12,8 +12,6 @@ mod message;
 mod registers;
 pub mod rows;
 mod terminal;
-#[cfg(test)]
-mod tests;
 
 pub use answer::{Answer, Hand, Sent};
 pub use event::{Event, Flag, WordPlace};

@@ -7,8 +7,6 @@ mod command;
 pub mod laws;
 mod mode;
 mod status;
-#[cfg(test)]
-mod tests;
 mod word;
 
 pub use cell::{Cell, cell_of};

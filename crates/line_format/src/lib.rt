@@ -4,8 +4,6 @@
 
 mod lines;
 mod read;
-#[cfg(test)]
-mod tests;
 mod write;
 
 pub use lines::{Lines, WrongLine};

@@ -8,8 +8,6 @@ mod fault;
 pub mod laws;
 mod loading;
 mod report;
-#[cfg(test)]
-mod tests;
 
 pub use bus_canon::{CanonFault, Script};
 pub use bus_legal::Normal;

@@ -1,8 +1,6 @@
 //! The words of the command line of `rt1553`, read by clap.
 #![tactic(auto)]
 
-#[cfg(test)]
-mod tests;
 mod words;
 
 pub use words::{Job, WordFault, read_words};

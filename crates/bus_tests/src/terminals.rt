@@ -1,0 +1,383 @@
+//! Tests through `step`: the worked rows, each mode code, and what takes long.
+
+mod legality;
+mod random;
+mod rows;
+mod table;
+
+use bus_terminal::{Answer, Event, Flag, Terminal};
+use bus_legal::{Legality, Setup};
+use bus_word::{Bus, Cell, Kind, Raw};
+use legality::{Also, Every};
+use rows::{MESSAGES, MODE_CODES, RESET, TRANSFERS, TWO_BUSES};
+use table::{Act, Handed, Profile, Row, Said, event_of, is_said};
+
+/// A terminal of address 5.
+fn terminal_of<L: Legality>(profile: &Profile, legality: L) -> Terminal<L> {
+    let mut initial = [[0; 32]; 30];
+    initial[2][0] = profile.first_of_three;
+    let setup = Setup {
+        address: 5,
+        broadcast: profile.broadcast,
+        wrap: true,
+        accept: profile.accept,
+        vector: profile.vector,
+        bit: profile.bit,
+        initial,
+    };
+    Terminal::power_up(setup, legality)
+}
+
+/// The number, from 0, of the first step of a row that is answered otherwise.
+fn first_wrong(row: &Row) -> Option<usize> {
+    let legality = Also {
+        first: row.profile.first,
+        second: row.profile.second,
+    };
+    first_wrong_with(row, legality)
+}
+
+/// The same with another legality.
+fn first_wrong_with<L: Legality + Drop>(row: &Row, legality: L) -> Option<usize> {
+    let mut terminal = terminal_of(&row.profile, legality);
+    for (at, (act, said)) in row.steps.iter().enumerate() {
+        if let Some(event) = event_of(act) {
+            if !is_said(&terminal.step(event), said) {
+                return Some(at);
+            }
+        }
+    }
+    None
+}
+
+#[test]
+fn worked_rows(rt: HostRuntime) {
+    for row in &MESSAGES {
+        assert_eq!(rt; first_wrong(row), None, "row {}", row.name);
+    }
+    for row in &TRANSFERS {
+        assert_eq!(rt; first_wrong(row), None, "row {}", row.name);
+    }
+    for row in &TWO_BUSES {
+        assert_eq!(rt; first_wrong(row), None, "row {}", row.name);
+    }
+    for row in &MODE_CODES {
+        assert_eq!(rt; first_wrong(row), None, "row {}", row.name);
+    }
+}
+
+#[test]
+fn reset_undoes_everything(rt: HostRuntime) {
+    assert_eq!(rt; first_wrong_with(&RESET, Every(true)), None);
+}
+
+/// What a mode code does where it is legal: its T/R, the data word that comes with it, whether it may be
+/// legal by broadcast, the bits and words of its status while the terminal is busy and while it is not, and
+/// what it hands over.
+struct Code {
+    code: u16,
+    transmit: bool,
+    word: Option<u16>,
+    broadcast: bool,
+    status: u16,
+    words: &'static [u16],
+    busy_status: u16,
+    busy_words: &'static [u16],
+    hand: Handed,
+}
+
+const PLAIN: Code = Code {
+    code: 0,
+    transmit: true,
+    word: None,
+    broadcast: true,
+    status: 0x2800,
+    words: &[],
+    busy_status: 0x2808,
+    busy_words: &[],
+    hand: Handed::Nothing,
+};
+
+static CODES: [Code; 13] = [
+    Code {
+        code: 0,
+        broadcast: false,
+        status: 0x2802,
+        busy_status: 0x280a,
+        hand: Handed::BusControl,
+        ..PLAIN
+    },
+    Code {
+        code: 1,
+        hand: Handed::Synchronize,
+        ..PLAIN
+    },
+    Code {
+        code: 2,
+        broadcast: false,
+        busy_status: 0x2800,
+        ..PLAIN
+    },
+    Code {
+        code: 3,
+        hand: Handed::SelfTest,
+        ..PLAIN
+    },
+    Code { code: 4, ..PLAIN },
+    Code { code: 5, ..PLAIN },
+    Code { code: 6, ..PLAIN },
+    Code { code: 7, ..PLAIN },
+    Code { code: 8, ..PLAIN },
+    Code {
+        code: 16,
+        broadcast: false,
+        words: &[0x00aa],
+        ..PLAIN
+    },
+    Code {
+        code: 17,
+        transmit: false,
+        word: Some(0x1234),
+        hand: Handed::SynchronizeWith(0x1234),
+        ..PLAIN
+    },
+    Code {
+        code: 18,
+        broadcast: false,
+        words: &[0],
+        busy_status: 0x2800,
+        busy_words: &[0],
+        ..PLAIN
+    },
+    Code {
+        code: 19,
+        broadcast: false,
+        words: &[0x00bb],
+        busy_words: &[0x00bb],
+        ..PLAIN
+    },
+];
+
+const EQUIPPED: Profile = Profile {
+    broadcast: true,
+    accept: true,
+    vector: 0x00aa,
+    bit: 0x00bb,
+    first_of_three: 0,
+    first: Cell::OwnMode(2),
+    second: Cell::OwnMode(2),
+};
+
+fn command(bus: Bus, bits: u16) -> Event {
+    Event::Word(bus, Raw::of(Kind::Com, bits))
+}
+
+/// What answers the gap after a mode code to this address field, from power-up.
+fn answer_to(code: &Code, address: u16, legality: Every, busy: bool) -> (Answer, Answer) {
+    let mut terminal = terminal_of(&EQUIPPED, legality);
+    terminal.step(Event::Flag(Flag::Busy, busy));
+    let tr = if code.transmit { 0x0400 } else { 0 };
+    terminal.step(command(Bus::A, address | tr | code.code));
+    if let Some(word) = code.word {
+        terminal.step(Event::Word(Bus::A, Raw::of(Kind::Dat, word)));
+    }
+    let answer = terminal.step(Event::Gap(Bus::A));
+    terminal.step(command(Bus::A, 0x2c02));
+    let asked = terminal.step(Event::Gap(Bus::A));
+    (answer, asked)
+}
+
+const SILENT: Said = Said {
+    sent: None,
+    hand: Handed::Nothing,
+};
+
+fn status(status: u16) -> Said {
+    Said {
+        sent: Some((Bus::A, status, &[])),
+        hand: Handed::Nothing,
+    }
+}
+
+#[test]
+fn own_mode_codes(rt: HostRuntime) {
+    for code in &CODES {
+        let (answer, _) = answer_to(code, 0x2800, Every(true), false);
+        let said = Said {
+            sent: Some((Bus::A, code.status, code.words)),
+            hand: code.hand,
+        };
+        assert!(rt; is_said(&answer, &said), "code {}", code.code);
+        let (answer, _) = answer_to(code, 0x2800, Every(true), true);
+        let hand = if code.code == 17 {
+            Handed::Nothing
+        } else {
+            code.hand
+        };
+        let said = Said {
+            sent: Some((Bus::A, code.busy_status, code.busy_words)),
+            hand,
+        };
+        assert!(rt; is_said(&answer, &said), "code {} while busy", code.code);
+        let (answer, _) = answer_to(code, 0x2800, Every(false), false);
+        assert!(rt;
+            is_said(&answer, &status(0x2c00)),
+            "code {} where it is illegal",
+            code.code
+        );
+        let (answer, _) = answer_to(code, 0x2800, Every(false), true);
+        assert!(rt;
+            is_said(&answer, &status(0x2c08)),
+            "code {} where it is illegal, while busy",
+            code.code
+        );
+    }
+}
+
+#[test]
+fn broadcast_mode_codes(rt: HostRuntime) {
+    for code in &CODES {
+        for busy in [false, true] {
+            let shown = if busy { 0x0008 } else { 0 };
+            let (answer, asked) = answer_to(code, 0xf800, Every(true), busy);
+            let hand = if !code.broadcast || (busy && code.code == 17) {
+                Handed::Nothing
+            } else {
+                code.hand
+            };
+            assert!(rt;
+                is_said(&answer, &Said { sent: None, hand }),
+                "code {} by broadcast",
+                code.code
+            );
+            let kept = if !code.broadcast {
+                0x2c10 + shown
+            } else if code.code == 8 {
+                0x2800
+            } else {
+                0x2810 + shown
+            };
+            assert!(rt;
+                is_said(&asked, &status(kept)),
+                "status after code {} by broadcast",
+                code.code
+            );
+            let (answer, _) = answer_to(code, 0xf800, Every(false), busy);
+            assert!(rt;
+                is_said(&answer, &SILENT),
+                "illegal code {} by broadcast",
+                code.code
+            );
+        }
+    }
+}
+
+/// Words on the bus that bring a message into each of its phases.
+static PHASES: [&[Act]; 6] = [
+    &[Act::Valid(Bus::A, Kind::Com, 0x2862)],
+    &[
+        Act::Valid(Bus::A, Kind::Com, 0x2862),
+        Act::Valid(Bus::A, Kind::Dat, 0x1111),
+    ],
+    &[
+        Act::Valid(Bus::A, Kind::Com, 0x2862),
+        Act::Valid(Bus::A, Kind::Com, 0x3c82),
+    ],
+    &[Act::Valid(Bus::A, Kind::Com, 0x2862), Act::Noise(Bus::A)],
+    &[
+        Act::Valid(Bus::A, Kind::Com, 0x2862),
+        Act::Valid(Bus::A, Kind::Com, 0x3c82),
+        Act::Gap(Bus::A),
+    ],
+    &[
+        Act::Valid(Bus::A, Kind::Com, 0x2862),
+        Act::Valid(Bus::A, Kind::Com, 0x3c82),
+        Act::Gap(Bus::A),
+        Act::Valid(Bus::A, Kind::Com, 0x3800),
+    ],
+];
+
+/// The same on the other bus.
+fn on_other_bus(act: &Act) -> Act {
+    match *act {
+        Act::Valid(_, kind, bits) => Act::Valid(Bus::B, kind, bits),
+        Act::Noise(_) => Act::Noise(Bus::B),
+        Act::Gap(_) => Act::Gap(Bus::B),
+        act => act,
+    }
+}
+
+/// Whether a command on one bus, in this phase of a message on the other, is answered alone.
+fn supersedes(phase: &[Act], first: Bus, second: Bus) -> bool {
+    let mut terminal = terminal_of(&EQUIPPED, Every(true));
+    for act in phase {
+        let act = if first == Bus::A {
+            *act
+        } else {
+            on_other_bus(act)
+        };
+        if let Some(event) = event_of(&act) {
+            terminal.step(event);
+        }
+    }
+    terminal.step(command(second, 0x2c02));
+    let dropped = terminal.step(Event::Gap(first));
+    let answer = terminal.step(Event::Gap(second));
+    let said = Said {
+        sent: Some((second, 0x2800, &[])),
+        hand: Handed::Nothing,
+    };
+    is_said(&dropped, &SILENT) && is_said(&answer, &said)
+}
+
+#[test]
+fn superseding_commands(rt: HostRuntime) {
+    for phase in &PHASES {
+        assert!(rt; supersedes(phase, Bus::A, Bus::B));
+        assert!(rt; supersedes(phase, Bus::B, Bus::A));
+    }
+}
+
+/// The answer to a receive command for 32 words that this many follow.
+fn answer_to_words(count: u16) -> (Answer, Answer) {
+    let mut terminal = terminal_of(&EQUIPPED, Every(true));
+    terminal.step(command(Bus::A, 0x2860));
+    for word in 0..count {
+        terminal.step(Event::Word(Bus::A, Raw::of(Kind::Dat, word)));
+    }
+    let answer = terminal.step(Event::Gap(Bus::A));
+    terminal.step(command(Bus::A, 0x2c02));
+    let asked = terminal.step(Event::Gap(Bus::A));
+    (answer, asked)
+}
+
+#[test]
+fn thirty_three_words(rt: HostRuntime) {
+    let (answer, asked) = answer_to_words(32);
+    assert!(rt; answer.hand.is_some());
+    assert!(rt; is_said(&asked, &status(0x2800)));
+    let (answer, asked) = answer_to_words(33);
+    assert!(rt; is_said(&answer, &SILENT));
+    assert!(rt; is_said(&asked, &status(0x2c00)));
+}
+
+/// The digests are those of `model/rules.py`, which is written apart from the program.
+#[test]
+fn random_messages(rt: HostRuntime) {
+    assert_eq!(rt;
+        random::digest_of(terminal_of(&EQUIPPED, Every(true))),
+        0x4cb1_b80e
+    );
+    let some = Also {
+        first: Cell::OwnMode(18),
+        second: Cell::OwnMode(6),
+    };
+    assert_eq!(rt;
+        random::digest_of(terminal_of(&EQUIPPED, some)),
+        0x9b2d_dfab
+    );
+    assert_eq!(rt;
+        random::digest_of(terminal_of(&EQUIPPED, Every(false))),
+        0x4df0_7b2d
+    );
+}

@@ -1,0 +1,201 @@
+//! Messages that look random, a few of whose events are lost or preceded by noise, and a digest of what is
+//! answered to them.
+ghost use Rattle.std.specs.Prelude.{◌<◌};
+
+use bus_terminal::{Answer, Event, Flag, Hand, Terminal, WordPlace};
+use bus_legal::Legality;
+use bus_word::{Bus, Kind, Raw};
+
+#[derive(Drop)]
+struct Run<L> {
+    terminal: Terminal<L>,
+    seed: u32,
+    digest: u32,
+}
+
+/// The digest after 10,000 messages.
+pub fn digest_of<L: Legality + Drop>(terminal: Terminal<L>) -> u32 {
+    let mut run = Run {
+        terminal,
+        seed: 1553,
+        digest: 2_166_136_261,
+    };
+    for _ in 0..10_000 {
+        run.message();
+    }
+    run.digest
+}
+
+impl<L: Legality> Run<L> {
+    /// A number below this one.
+    fn draw(&mut self, below: u16) -> u16
+        requires { 0 < below }
+        ensures { result < below }
+    {
+        self.word() % below
+    }
+
+    fn mix(&mut self, value: u16) {
+        self.digest = (self.digest ^ u32::from(value)).wrapping_mul(16_777_619);
+    }
+
+    fn mix_words(&mut self, words: &[u16]) {
+        for word in words {
+            self.mix(*word);
+        }
+    }
+
+    fn mix_answer(&mut self, answer: &Answer) {
+        if let Some(sent) = &answer.sent {
+            self.mix(if sent.bus == Bus::A { 1 } else { 2 });
+            self.mix(sent.status);
+            self.mix_words(sent.words.as_slice());
+        }
+        match &answer.hand {
+            Some(
+                Hand::Received {
+                    broadcast,
+                    subaddress,
+                    words,
+                },
+            ) => {
+                self.mix(3 + u16::from(*broadcast));
+                self.mix(u16::from(*subaddress));
+                self.mix_words(words.as_slice());
+            }
+            Some(Hand::Synchronize) => self.mix(5),
+            Some(Hand::SynchronizeWith(word)) => {
+                self.mix(6);
+                self.mix(*word);
+            }
+            Some(Hand::SelfTest) => self.mix(7),
+            Some(Hand::BusControl) => self.mix(8),
+            None => {}
+        }
+    }
+
+    fn take(&mut self, event: Event) {
+        let answer = self.terminal.step(event);
+        self.mix_answer(&answer);
+    }
+
+    /// An event on a bus, that may be lost or preceded by noise.
+    fn feed(&mut self, bus: Bus, event: Event) {
+        match self.draw(24) {
+            0 => {}
+            1 => {
+                self.take(Event::Noise(bus));
+                self.take(event);
+            }
+            _ => self.take(event),
+        }
+    }
+
+    fn command(&mut self, bus: Bus, bits: u16) {
+        self.feed(bus, Event::Word(bus, Raw::of(Kind::Com, bits)));
+    }
+
+    fn data(&mut self, bus: Bus, count: u16) {
+        for _ in 0..count {
+            let bits = self.word();
+            self.feed(bus, Event::Word(bus, Raw::of(Kind::Dat, bits)));
+        }
+    }
+
+    fn gap(&mut self, bus: Bus) {
+        self.feed(bus, Event::Gap(bus));
+    }
+
+    fn word(&mut self) -> u16 {
+        self.seed = self
+            .seed
+            .wrapping_mul(1_664_525)
+            .wrapping_add(1_013_904_223);
+        (self.seed >> 16) as u16
+    }
+
+    fn message(&mut self) {
+        let bus = if self.draw(4) == 0 { Bus::B } else { Bus::A };
+        let turn = self.draw(12);
+        let place = 32 * (29 + self.draw(2));
+        let count = 1 + self.draw(3);
+        match turn {
+            0 => self.receive(bus, 0x2800 + place + count, count),
+            1 => self.transmit(bus, 0x2c00 + place + count),
+            2 => {
+                let code = self.draw(20);
+                self.transmit(bus, 0x2c00 + code);
+            }
+            3 => self.receive(bus, 0xf800 + place + count, count),
+            4 => {
+                let code = self.draw(9);
+                self.transmit(bus, 0xfc00 + code);
+            }
+            5 => self.transfer(bus, place, count),
+            6 => {
+                self.command(bus, 0xf800 + place + count);
+                self.transmit(bus, 0x2c00 + place + count);
+            }
+            7 => {
+                let address = if self.draw(2) == 0 { 0x2811 } else { 0xf811 };
+                self.receive(bus, address, 1);
+            }
+            8 => self.set_flag(),
+            9 => self.write(count),
+            10 => self.command(bus, 0x2800 + place + count),
+            _ => {
+                let bits = self.word();
+                self.command(bus, bits);
+            }
+        }
+    }
+
+    fn receive(&mut self, bus: Bus, command: u16, count: u16) {
+        self.command(bus, command);
+        self.data(bus, count);
+        self.gap(bus);
+    }
+
+    fn transmit(&mut self, bus: Bus, command: u16) {
+        self.command(bus, command);
+        self.gap(bus);
+    }
+
+    fn transfer(&mut self, bus: Bus, place: u16, count: u16)
+        requires place_below { place < 1024 }
+        requires count_below { count < 32 }
+    {
+        let address = if self.draw(2) == 0 { 0x2800 } else { 0xf800 };
+        self.command(bus, address + place + count);
+        self.command(bus, 0x3c40 + count);
+        self.gap(bus);
+        self.command(bus, 0x3800);
+        self.data(bus, count);
+        self.gap(bus);
+    }
+
+    fn set_flag(&mut self) {
+        let flag = match self.draw(4) {
+            0 => Flag::Service,
+            1 => Flag::Busy,
+            2 => Flag::Subsystem,
+            _ => Flag::Terminal,
+        };
+        let value = self.draw(4) == 3;
+        self.take(Event::Flag(flag, value));
+    }
+
+    fn write(&mut self, number: u16)
+        requires { number < 32 }
+    {
+        let vector = self.word();
+        self.take(Event::Vector(vector));
+        let bit = self.word();
+        self.take(Event::Bit(bit));
+        let subaddress = 29 + self.draw(2);
+        let word = self.word();
+        if let Some(place) = WordPlace::of(subaddress as u8, number as u8) {
+            self.take(Event::Write(place, word));
+        }
+    }
+}

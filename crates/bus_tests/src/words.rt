@@ -1,0 +1,182 @@
+//! Tests against values from outside the code: sums, counts and the standard's own table.
+
+use bus_word::{Cell, Command, Kind, ModeRow, Raw, StatusParts, cell_of, mode_row, status_of};
+
+/// The assigned mode codes of a dual redundant system (MIL-STD-1553B, table I): code, T/R, whether
+/// a data word goes with it, whether broadcast is allowed.
+const MODE_CODES: [(u8, bool, bool, bool); 13] = [
+    (0, true, false, false),
+    (1, true, false, true),
+    (2, true, false, false),
+    (3, true, false, true),
+    (4, true, false, true),
+    (5, true, false, true),
+    (6, true, false, true),
+    (7, true, false, true),
+    (8, true, false, true),
+    (16, true, true, false),
+    (17, false, true, true),
+    (18, true, true, false),
+    (19, true, true, false),
+];
+
+fn standard_row(code: u8) -> Option<ModeRow> {
+    for (of, transmit, word, broadcast) in MODE_CODES {
+        if of == code {
+            return Some(ModeRow {
+                transmit,
+                word,
+                broadcast,
+            });
+        }
+    }
+    None
+}
+
+fn wanted_mode_cell(address: u8, transmit: bool, code: u8) -> Option<Cell> {
+    match standard_row(code) {
+        Some(row) if row.transmit != transmit => None,
+        Some(row) if address == 31 && row.broadcast => Some(Cell::BroadMode(code)),
+        Some(_) if address != 31 => Some(Cell::OwnMode(code)),
+        _ => None,
+    }
+}
+
+fn wanted_cell(address: u8, transmit: bool, subaddress: u8, low: u8) -> Option<Cell> {
+    let count = if low == 0 { 32 } else { low };
+    match (subaddress, transmit, address) {
+        (0 | 31, _, _) => wanted_mode_cell(address, transmit, low),
+        (_, true, 31) => None,
+        (_, true, _) => Some(Cell::OwnTransmit(subaddress, count)),
+        (_, false, 31) => Some(Cell::BroadReceive(subaddress, count)),
+        (_, false, _) => Some(Cell::OwnReceive(subaddress, count)),
+    }
+}
+
+fn wanted_expected(transmit: bool, subaddress: u8, low: u8) -> u8 {
+    match (transmit, subaddress, low) {
+        (true, _, _) => 0,
+        (false, 0 | 31, 0..=15) => 0,
+        (false, 0 | 31, _) => 1,
+        (false, _, 0) => 32,
+        (false, _, count) => count,
+    }
+}
+
+#[test]
+fn every_command_has_its_fields_and_its_cell(rt: HostRuntime) {
+    for address in 0..32u8 {
+        for transmit in [false, true] {
+            for subaddress in 0..32u8 {
+                for low in 0..32u8 {
+                    let bits = u16::from(address) * 2048
+                        + u16::from(transmit) * 1024
+                        + u16::from(subaddress) * 32
+                        + u16::from(low);
+                    let command = Command::of(bits);
+                    assert_eq!(rt; command.bits(), bits);
+                    assert_eq!(rt; command.address(), address, "of {bits}");
+                    assert_eq!(rt; command.transmit(), transmit, "of {bits}");
+                    assert_eq!(rt; command.subaddress(), subaddress, "of {bits}");
+                    assert_eq!(rt; command.code(), low, "of {bits}");
+                    assert_eq!(rt; command.is_broadcast(), address == 31, "of {bits}");
+                    let wanted = wanted_cell(address, transmit, subaddress, low);
+                    assert_eq!(rt; cell_of(command), wanted, "of {bits}");
+                    let expected = wanted_expected(transmit, subaddress, low);
+                    assert_eq!(rt; command.expected(), expected, "of {bits}");
+                }
+            }
+        }
+    }
+}
+
+#[test]
+fn every_code_has_its_row(rt: HostRuntime) {
+    for code in 0..=255u8 {
+        assert_eq!(rt; mode_row(code), standard_row(code), "of {code}");
+    }
+}
+
+#[test]
+fn parity_is_odd(rt: HostRuntime) {
+    for bits in 0..=0xffffu16 {
+        let mut is_odd = false;
+        for place in 0..16u16 {
+            if (bits >> place) & 1 == 1 {
+                is_odd = !is_odd;
+            }
+        }
+        for kind in [Kind::Com, Kind::Dat] {
+            let word = Raw::of(kind, bits);
+            assert_eq!(rt;
+                word,
+                Raw {
+                    kind,
+                    bits,
+                    parity: !is_odd
+                }
+            );
+            assert!(rt; word.is_valid(), "{bits}");
+            let damaged = Raw {
+                parity: is_odd,
+                ..word
+            };
+            assert!(rt; !damaged.is_valid(), "{bits}");
+        }
+    }
+    // 2c02 has four ones and 3800 has three
+    assert!(rt; Raw::of(Kind::Com, 0x2c02).parity);
+    assert!(rt; !Raw::of(Kind::Com, 0x3800).parity);
+}
+
+#[test]
+fn every_status_word_has_its_bits(rt: HostRuntime) {
+    let masks = [0x0400, 0x0100, 0x0010, 0x0008, 0x0004, 0x0002, 0x0001];
+    for address in [0, 5, 30u8] {
+        for choice in 0..128u8 {
+            let is_set = |place: u8| (choice >> (place % 7)) & 1 == 1;
+            let parts = StatusParts {
+                error: is_set(0),
+                service: is_set(1),
+                broadcast: is_set(2),
+                busy: is_set(3),
+                subsystem: is_set(4),
+                accept: is_set(5),
+                terminal: is_set(6),
+            };
+            let mut wanted = u16::from(address) << 11;
+            for (place, mask) in masks.iter().enumerate() {
+                if (choice >> place) & 1 == 1 {
+                    wanted |= *mask;
+                }
+            }
+            assert_eq!(rt; status_of(address, parts), wanted, "{choice} of {address}");
+        }
+    }
+}
+
+#[test]
+fn words_are_for_the_terminal_by_its_address_or_by_broadcast(rt: HostRuntime) {
+    let own = Raw::of(Kind::Com, 0x2c02);
+    let all = Raw::of(Kind::Com, 0xfc02);
+    assert!(rt; own.is_for(5, false));
+    assert!(rt; own.is_for(5, true));
+    assert!(rt; !own.is_for(6, true));
+    assert!(rt; all.is_for(5, true));
+    assert!(rt; !all.is_for(5, false));
+    assert!(rt;
+        !Raw {
+            parity: false,
+            ..own
+        }
+        .is_for(5, true)
+    );
+    assert!(rt; !Raw::of(Kind::Dat, 0x2c02).is_for(5, true));
+    assert!(rt; own.is_command() && !own.is_data());
+    assert!(rt; Raw::of(Kind::Dat, 0x2c02).is_data());
+    assert!(rt; Command::of(0x2862).is_receive());
+    assert!(rt; !Command::of(0x2c62).is_receive() && !Command::of(0x2811).is_receive());
+    assert!(rt; Command::of(0x2811).is_mode() && Command::of(0x2bf1).is_mode());
+    assert!(rt; Command::of(0x2860).count() == 32 && Command::of(0x2862).count() == 2);
+    assert!(rt; Command::of(0xf862).is_addressed_to(5, true));
+}

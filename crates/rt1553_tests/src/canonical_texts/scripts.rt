@@ -1,0 +1,208 @@
+//! Scripts that tell two terminals apart, worked out by hand from the fields of the commands.
+use super::fixture::{HEARING, PLAIN, Shape, shape_text};
+use bus_canon::{distinguish, read_canon};
+use bus_legal::Normal;
+use bus_terminal::Event;
+use bus_word::{Bus, Kind, Raw};
+use std::alloc::Global;
+use std::test::Fail;
+
+const GAP: Event = Event::Gap(Bus::A);
+
+fn command(bits: u16) -> Event {
+    Event::Word(Bus::A, Raw::of(Kind::Com, bits))
+}
+
+fn data(bits: u16) -> Event {
+    Event::Word(Bus::A, Raw::of(Kind::Dat, bits))
+}
+
+fn terminal(alloc: Global, shape: &Shape) -> Result<Normal, Fail> {
+    match read_canon(shape_text(alloc, shape)?.as_str().as_bytes()) {
+        Ok(normal) => Ok(normal),
+        Err(_) => Err(Fail::from("no canonical text")),
+    }
+}
+
+/// Checks that this is the script for the two terminals.
+fn expect(alloc: Global, p: &Shape, q: &Shape, events: &[Event]) -> Result<(), Fail> {
+    let (first, second) = (terminal(alloc, p)?, terminal(alloc, q)?);
+    match distinguish(&first, &second) {
+        Some(script) if script.as_slice() == events => Ok(()),
+        Some(_) => Err(Fail::from("another script")),
+        None => Err(Fail::from("no script")),
+    }
+}
+
+/// The row `address-and-option`.
+#[test]
+fn address_and_option(rt: HostRuntime) -> Result<(), Fail> {
+    let other = Shape {
+        address: 6,
+        ..PLAIN
+    };
+    expect(rt.alloc(), &PLAIN, &other, &[command(0x2c02), GAP])?;
+    let asked = [command(0xfc02), GAP, command(0x2c02), GAP];
+    expect(rt.alloc(), &HEARING, &PLAIN, &asked)?;
+    expect(rt.alloc(), &PLAIN, &HEARING, &asked)
+}
+
+/// Cells, of which the least is shown.
+#[test]
+fn cells(rt: HostRuntime) -> Result<(), Fail> {
+    let receives = Shape {
+        receive: (3, 0x12),
+        ..PLAIN
+    };
+    let other = Shape {
+        receive: (3, 0x04),
+        ..PLAIN
+    };
+    let received = [command(0x2862), data(0), data(0), GAP];
+    expect(rt.alloc(), &receives, &other, &received)?;
+    let transmits = Shape {
+        transmit: (7, 0x10),
+        end: "initial 07 0000 0000 0000 0000 0000\n",
+        ..PLAIN
+    };
+    expect(rt.alloc(), &PLAIN, &transmits, &[command(0x2ce5), GAP])?;
+    let hears = Shape {
+        broadcast_receive: (4, 1),
+        ..HEARING
+    };
+    let heard = [command(0xf881), data(0), GAP, command(0x2c02), GAP];
+    expect(rt.alloc(), &hears, &HEARING, &heard)
+}
+
+/// Mode codes.
+#[test]
+fn codes(rt: HostRuntime) -> Result<(), Fail> {
+    let selected = Shape {
+        own_mode: 0x40134,
+        ..PLAIN
+    };
+    expect(rt.alloc(), &selected, &PLAIN, &[command(0x2c12), GAP])?;
+    let synchronized = Shape {
+        own_mode: 0x20134,
+        ..PLAIN
+    };
+    let with_word = [command(0x2811), data(0), GAP];
+    expect(rt.alloc(), &synchronized, &PLAIN, &with_word)
+}
+
+/// Mode codes by broadcast, after which the status is asked for.
+#[test]
+fn broadcast_codes(rt: HostRuntime) -> Result<(), Fail> {
+    for (mask, word) in [(0x10u32, 0xfc04u16), (0x100, 0xfc08)] {
+        let hears = Shape {
+            broadcast_mode: mask,
+            ..HEARING
+        };
+        let asked = [command(word), GAP, command(0x2c02), GAP];
+        expect(rt.alloc(), &hears, &HEARING, &asked)?;
+    }
+    let synchronized = Shape {
+        broadcast_mode: 0x20000,
+        ..HEARING
+    };
+    let asked = [command(0xf811), data(0), GAP, command(0x2c02), GAP];
+    expect(rt.alloc(), &HEARING, &synchronized, &asked)
+}
+
+/// Acceptance, vector word, BIT word and initial words.
+#[test]
+fn asked_words(rt: HostRuntime) -> Result<(), Fail> {
+    for (own_mode, ends, word) in [
+        (0x135u32, ["accept 1\n", "accept 0\n"], 0x2c00u16),
+        (0x10134, ["vector beef\n", "vector 0000\n"], 0x2c10),
+        (0x80134, ["bit 0a01\n", "bit 0a02\n"], 0x2c13),
+    ] {
+        let shape = Shape { own_mode, ..PLAIN };
+        let first = Shape {
+            end: ends[0],
+            ..shape
+        };
+        let second = Shape {
+            end: ends[1],
+            ..shape
+        };
+        expect(rt.alloc(), &first, &second, &[command(word), GAP])?;
+    }
+    let shape = Shape {
+        transmit: (7, 0x12),
+        end: "initial 07 0001 0002 0003 0004 0005\n",
+        ..PLAIN
+    };
+    let other = Shape {
+        end: "initial 07 0001 0002 0003 0004 0006\n",
+        ..shape
+    };
+    expect(rt.alloc(), &shape, &other, &[command(0x2ce5), GAP])
+}
+
+/// The row `wraparound-reached`, and wraparound that only a broadcast shows.
+#[test]
+fn wraparound(rt: HostRuntime) -> Result<(), Fail> {
+    let wraps = Shape {
+        receive: (30, 1),
+        transmit: (30, 1),
+        end: "wraparound 1\ninitial 30 0000\n",
+        ..PLAIN
+    };
+    let other = Shape {
+        end: "wraparound 0\ninitial 30 0000\n",
+        ..wraps
+    };
+    let shown = [command(0x2bc1), data(0xffff), GAP, command(0x2fc1), GAP];
+    expect(rt.alloc(), &wraps, &other, &shown)?;
+    let hears = Shape {
+        transmit: (30, 0x8),
+        broadcast_receive: (30, 0x6),
+        end: "wraparound 0\ninitial 30 1234 0000 0000 0000\n",
+        ..HEARING
+    };
+    let other = Shape {
+        end: "wraparound 1\ninitial 30 1234 0000 0000 0000\n",
+        ..hears
+    };
+    let shown = [
+        command(0xfbc2),
+        data(0xedcb),
+        data(0),
+        GAP,
+        command(0x2fc4),
+        GAP,
+    ];
+    expect(rt.alloc(), &hears, &other, &shown)
+}
+
+/// Of two differences the first is shown; without one there is no script.
+#[test]
+fn first_of_two(rt: HostRuntime) -> Result<(), Fail> {
+    let other = Shape {
+        receive: (3, 2),
+        own_mode: 0x40134,
+        ..PLAIN
+    };
+    let received = [command(0x2862), data(0), data(0), GAP];
+    expect(rt.alloc(), &other, &PLAIN, &received)?;
+    let (first, second) = (terminal(rt.alloc(), &other)?, terminal(rt.alloc(), &other)?);
+    assert!(rt; distinguish(&first, &second).is_none());
+    Ok(())
+}
+
+/// The longest scripts have 36 events.
+#[test]
+fn longest_script(rt: HostRuntime) -> Result<(), Fail> {
+    let hears = Shape {
+        broadcast_receive: (4, 0x8000_0000),
+        ..HEARING
+    };
+    let (first, second) = (
+        terminal(rt.alloc(), &hears)?,
+        terminal(rt.alloc(), &HEARING)?,
+    );
+    let length = distinguish(&first, &second).map(|script| script.len());
+    assert_eq!(rt; length, Some(36));
+    Ok(())
+}

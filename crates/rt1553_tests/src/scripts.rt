@@ -1,0 +1,208 @@
+//! Tests of lines, transcripts, limits, and devices that fail.
+
+mod lines;
+mod transcripts;
+
+ghost use Rattle.std.specs.Prelude.{◌≡◌, None, true, false};
+
+use bus_script::{IoFailed, MemorySink, MemorySource, RunFault, Sink, run_script};
+use arrayvec::ArrayVec;
+use bus_legal::{Legality, Setup};
+use bus_terminal::Terminal;
+use bus_word::Cell;
+use std::alloc::AllocError;
+
+/// Every cell is legal.
+#[derive(Drop)]
+struct Every;
+
+impl Legality for Every {
+    ghost is_legal = { λ _ _. true };
+
+    fn legal(&self, _cell: Cell) -> bool {
+        true
+    }
+}
+
+/// The terminal of address 5, which hears broadcasts and accepts bus control.
+fn terminal() -> Terminal<Every> {
+    let setup = Setup {
+        address: 5,
+        broadcast: true,
+        wrap: false,
+        accept: true,
+        vector: 0x1234,
+        bit: 0xabcd,
+        initial: [[0; 32]; 30],
+    };
+    Terminal::power_up(setup, Every)
+}
+
+/// What a run gives, and what it writes into a sink of 512 bytes.
+fn play(script: &[u8]) -> (Result<u64, RunFault>, MemorySink<512>) {
+    let mut terminal = terminal();
+    let mut reader = MemorySource::new(script, 7, None);
+    let mut writer = MemorySink::new(5, None);
+    let result = run_script(&mut terminal, &mut reader, &mut writer);
+    (result, writer)
+}
+
+#[test]
+fn whole_scripts(rt: HostRuntime) {
+    let rows: [(&str, u64, &str); 6] = [
+        ("", 0, ""),
+        ("\n# a comment\n\n", 0, ""),
+        ("A c 2c02\nA gap\n", 2, "A s 2800\n"),
+        ("A c 2C02\nA gap", 2, "A s 2800\n"),
+        ("A c 2c02 0\nA gap\n", 2, ""),
+        (
+            "flag busy 1\nB c 2c61\nB gap\nvector 0f0f\nflag busy 0\nB c 2c10\nB gap\n",
+            7,
+            "B s 2808\nB s 2800\nB d 0f0f\n",
+        ),
+    ];
+    for (script, events, transcript) in rows {
+        let (result, writer) = play(script.as_bytes());
+        assert_eq!(rt; result, Ok(events), "{script}");
+        assert_eq!(rt; writer.as_slice(), transcript.as_bytes(), "{script}");
+    }
+}
+
+#[test]
+fn refused_scripts(rt: HostRuntime) {
+    let long = "#23456789012345678901234567890123456789012345678901234567890123456\n";
+    let rows: [(&str, RunFault, &str); 6] = [
+        ("A c 2c02\nA gap\nA x\n", RunFault::Line(3), "A s 2800\n"),
+        ("A c 2c02\nA gap\nA x", RunFault::Line(3), "A s 2800\n"),
+        ("A gap\r\n", RunFault::Line(1), ""),
+        ("\n\nslot\n", RunFault::Line(3), ""),
+        (long, RunFault::LongLine(1), ""),
+        (
+            "A c 2c02\nA gap\nA gap \n\n\n",
+            RunFault::Line(3),
+            "A s 2800\n",
+        ),
+    ];
+    for (script, fault, transcript) in rows {
+        let (result, writer) = play(script.as_bytes());
+        assert_eq!(rt; result, Err(fault), "{script}");
+        assert_eq!(rt; writer.as_slice(), transcript.as_bytes(), "{script}");
+    }
+}
+
+#[test]
+fn limits(rt: HostRuntime) -> Result<(), AllocError> {
+    let mut feeds = vec![in rt.alloc(); 10u8; 1_048_576]?;
+    let (most, _) = play(feeds.as_slice());
+    assert_eq!(rt; most, Ok(0));
+    feeds.push(10)?;
+    let (more, _) = play(feeds.as_slice());
+    assert_eq!(rt; more, Err(RunFault::TooLong));
+
+    let comment = [b'#'; 65];
+    let (fits, _) = play(&comment[..64]);
+    assert_eq!(rt; fits, Ok(0));
+    let (long, _) = play(&comment);
+    assert_eq!(rt; long, Err(RunFault::LongLine(1)));
+    Ok(())
+}
+
+#[test]
+fn reads_that_fail(rt: HostRuntime) {
+    let script = b"A c 2c02\nA gap\nA c 2c02\nA gap\n";
+    for call in 0..32u64 {
+        let mut reader = MemorySource::new(script, 1, Some(call));
+        let mut writer: MemorySink<512> = MemorySink::new(100, None);
+        let result = run_script(&mut terminal(), &mut reader, &mut writer);
+        // the answers of the messages whose last line feed was read
+        let whole: &[u8] = match call {
+            0..=14 => b"",
+            15..=29 => b"A s 2800\n",
+            _ => b"A s 2800\nA s 2800\n",
+        };
+        assert_eq!(rt; writer.as_slice(), whole, "call {call}");
+        let read_whole = call > 30;
+        assert_eq!(rt;
+            result,
+            if read_whole {
+                Ok(4)
+            } else {
+                Err(RunFault::Read)
+            }
+        );
+    }
+}
+
+#[test]
+fn writes_that_fail(rt: HostRuntime) {
+    let script = b"A c 2c02\nA gap\nA c 2c02\nA gap\n";
+    let transcript = b"A s 2800\nA s 2800\n";
+    for call in 0..19u64 {
+        let mut reader = MemorySource::new(script, 100, None);
+        let mut writer: MemorySink<512> = MemorySink::new(1, Some(call));
+        let result = run_script(&mut terminal(), &mut reader, &mut writer);
+        if call < 18 {
+            assert_eq!(rt; result, Err(RunFault::Write), "call {call}");
+            assert_eq!(rt; writer.as_slice().len(), call as usize);
+            assert!(rt; transcript.starts_with(writer.as_slice()));
+        } else {
+            assert_eq!(rt; result, Ok(4));
+        }
+    }
+    let mut reader = MemorySource::new(script, 100, None);
+    let mut full: MemorySink<10> = MemorySink::new(100, None);
+    let result = run_script(&mut terminal(), &mut reader, &mut full);
+    assert_eq!(rt; result, Err(RunFault::Write));
+    assert_eq!(rt; full.as_slice(), b"A s 2800\nA".as_slice());
+}
+
+/// A sink that holds back all until it is flushed, and counts.
+#[derive(Drop)]
+struct Holding {
+    held: ArrayVec<u8, 64>,
+    handed_on: usize,
+    flushes: u64,
+}
+
+impl Sink for Holding {
+    ghost written = { λ _. None };
+
+    ghost has_failed = { λ _. false };
+
+    fn write(&mut self, bytes: &[u8]) -> Result<usize, IoFailed> {
+        for byte in bytes {
+            let _ = self.held.try_push(*byte);
+        }
+        Ok(bytes.len())
+    }
+
+    fn flush(&mut self) -> Result<(), IoFailed> {
+        self.handed_on = self.held.len();
+        self.flushes = self.flushes.saturating_add(1);
+        Ok(())
+    }
+
+    fn failed(&self) -> bool {
+        false
+    }
+}
+
+#[test]
+fn what_is_held_back_is_handed_on(rt: HostRuntime) {
+    for (script, flushes) in [
+        // before the reads that follow events, at the end, and on the way out
+        (b"A c 2c02\nA gap\n".as_slice(), 4u64),
+        (b"A c 2c02\nA gap\nA x\n".as_slice(), 3),
+        (b"# nothing\n".as_slice(), 1),
+    ] {
+        let mut reader = MemorySource::new(script, 9, None);
+        let mut writer = Holding {
+            held: ArrayVec::new(),
+            handed_on: 0,
+            flushes: 0,
+        };
+        let _ = run_script(&mut terminal(), &mut reader, &mut writer);
+        assert_eq!(rt; writer.handed_on, writer.held.len());
+        assert_eq!(rt; writer.flushes, flushes);
+    }
+}
