@@ -13,9 +13,13 @@ abbrev pub bus_letter : Bus → List ℕ
 bus_letter A = codes "A"
 bus_letter B = codes "B"
 
+-- what the line of a data word begins with
+abbrev pub data_head : Bus → List ℕ
+data_head bus = bus_letter bus ++ codes " d "
+
 -- the line of a data word that was sent
 abbrev pub data_line : Bus → ℕ → List ℕ
-data_line bus word = bus_letter bus ++ (codes " d " ++ (digits_of word ++ codes "\n"))
+data_line bus word = data_head bus ++ (digits_of word ++ codes "\n")
 
 -- the lines of what was sent: the status word, and the data words after it
 abbrev pub sent_text : Option Sending → List ℕ

@@ -6,6 +6,7 @@ ghost use Rattle.bus_script.specs.Digits.{word_of, digits_of, number_of, decimal
 use arrayvec::ArrayString;
 
 /// The word of four hexadecimal digits, small or capital.
+#[inline(always)]
 pub fn read_word(a: u8, b: u8, c: u8, d: u8) -> Option<u16>
     ensures { result ≡ word_of (a ∷ b ∷ c ∷ d ∷ []) }
 {

@@ -138,11 +138,12 @@ fn read_subsystem(line: &[u8]) -> Option<Event>
 fn read_line(line: &[u8]) -> Option<Event>
     ensures { result ≡ event_of line.now }
 {
-    match line {
-        [b'A', b' ', rest @ ..] => read_on_bus(Bus::A, rest),
-        [b'B', b' ', rest @ ..] => read_on_bus(Bus::B, rest),
-        _ => read_subsystem(line),
-    }
+    let bus = match line {
+        [b'A', b' ', ..] => Bus::A,
+        [b'B', b' ', ..] => Bus::B,
+        _ => return read_subsystem(line),
+    };
+    read_on_bus(bus, &line[2..])
 }
 
 /// The event of a line without its line feed; None for an empty line and for a comment, which begins

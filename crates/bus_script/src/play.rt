@@ -10,8 +10,9 @@ ghost use Rattle.bus_script.specs.Playing.{IsPartWritten, Means, IsRefused};
 ghost use Rattle.bus_script.specs.Played.{Played, PlayedPart};
 
 use crate::line::read_event;
-use crate::transcript::write_answer;
+use crate::transcript::push_answer;
 use crate::{IoFailed, RunFault, Sink};
+use arrayvec::ArrayString;
 use bus_legal::Legality;
 use bus_terminal::{Answer, Event, Terminal};
 
@@ -55,7 +56,8 @@ fn send<W: Sink>(writer: &mut W, answer: &Answer) -> Result<(), IoFailed>
     ensures err { OnErr result (IsPartWritten (W.written writer.old) (W.written writer.new) (answer_text (shown_answer answer.now))) }
     ensures failed { OnErr result (W.has_failed writer.new ≡ true) }
 {
-    let text = write_answer(answer);
+    let mut text = ArrayString::new();
+    push_answer(&mut text, answer);
     put_all(writer, text.as_str().as_bytes())
 }
 

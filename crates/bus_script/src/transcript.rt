@@ -3,7 +3,7 @@ ghost use Rattle.std.specs.Prelude.{◌≡◌, ◌≤◌, ◌+◌, ◌*◌, ◌+
 ghost use Rattle.std.specs.List.{flat_map};
 ghost use Rattle.arrayvec.specs.ArrayString.{array_string_len};
 ghost use Rattle.bus_terminal.specs.Answer.{shown_answer, shown_sent, shown_hand};
-ghost use Rattle.bus_script.specs.Transcript.{data_line, sent_text, word_field, received_by, received_text, hand_text, answer_text};
+ghost use Rattle.bus_script.specs.Transcript.{data_head, data_line, sent_text, word_field, received_by, received_text, hand_text, answer_text};
 ghost use Rattle.bus_terminal.specs.Out.{HandsSynchronizeWith};
 
 use crate::digits::{push_number, push_word};
@@ -12,15 +12,25 @@ use arrayvec::ArrayString;
 use bus_terminal::{Answer, Hand, Sent};
 use bus_word::Bus;
 
+/// What a line of a data word begins with.
+fn data_head(bus: Bus) -> &'static str
+    ensures { result.now ≡ data_head bus }
+{
+    match bus {
+        Bus::A => "A d ",
+        Bus::B => "B d ",
+    }
+}
+
 /// Writes the lines of data words.
 fn push_data(text: &mut ArrayString<320>, bus: Bus, words: &[u16])
     requires { array_string_len text.old + 9 * length words.now ≤ 320 }
     ensures bytes { text.new.bytes ≡ text.old.bytes ++ flat_map (data_line bus) words.now }
     ensures len { array_string_len text.new ≡ array_string_len text.old + 9 * length words.now }
 {
+    let head = data_head(bus);
     for word in words {
-        text.push_str(bus_letter(bus));
-        text.push_str(" d ");
+        text.push_str(head);
         push_word(text, *word);
         text.push('\n');
     }
@@ -100,6 +110,19 @@ fn push_hand(text: &mut ArrayString<320>, hand: &Hand)
     }
 }
 
+/// Writes the lines of an answer behind what the text holds.
+pub fn push_answer(text: &mut ArrayString<320>, answer: &Answer)
+    requires { array_string_len text.old + length (answer_text (shown_answer answer.now)) ≤ 320 }
+    ensures { text.new.bytes ≡ text.old.bytes ++ answer_text (shown_answer answer.now) }
+{
+    if let Some(sent) = &answer.sent {
+        push_sent(text, sent);
+    }
+    if let Some(hand) = &answer.hand {
+        push_hand(text, hand);
+    }
+}
+
 /// The lines of an answer, each with its line feed: the status word that was sent, the data words, and
 /// what was handed over. Those of a terminal's answer have at most 297 bytes.
 pub fn write_answer(answer: &Answer) -> ArrayString<320>
@@ -107,11 +130,6 @@ pub fn write_answer(answer: &Answer) -> ArrayString<320>
     ensures { result.bytes ≡ answer_text (shown_answer answer.now) }
 {
     let mut text = ArrayString::new();
-    if let Some(sent) = &answer.sent {
-        push_sent(&mut text, sent);
-    }
-    if let Some(hand) = &answer.hand {
-        push_hand(&mut text, hand);
-    }
+    push_answer(&mut text, answer);
     text
 }

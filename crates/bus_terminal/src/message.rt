@@ -177,6 +177,7 @@ impl InProgress {
     }
 
     /// A word or noise that starts nothing.
+    #[inline(always)]
     pub fn follow(&mut self, bus: Bus, own: u8, word: Option<Raw>)
         ensures { (b : Bus) → standing_on b self.new ≡ (if same_bus b bus then entry_leaves own word (standing_on b self.old) else standing_on b self.old) }
     {

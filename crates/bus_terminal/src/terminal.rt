@@ -200,6 +200,7 @@ impl<L: Legality> Terminal<L> {
     }
 
     /// A transfer that waits on this bus ended in error.
+    #[inline(always)]
     fn fail(&mut self, failed: Option<Command>)
         ensures { self.new ≡ record self.old { registers = failed_by (description_of L.is_legal self.old) failed self.old.registers } }
     {

@@ -5,8 +5,8 @@ mod random;
 mod rows;
 mod table;
 
-use bus_terminal::{Answer, Event, Flag, Terminal};
 use bus_legal::{Legality, Setup};
+use bus_terminal::{Answer, Event, Flag, Terminal};
 use bus_word::{Bus, Cell, Kind, Raw};
 use legality::{Also, Every};
 use rows::{MESSAGES, MODE_CODES, RESET, TRANSFERS, TWO_BUSES};

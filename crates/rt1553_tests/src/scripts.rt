@@ -5,9 +5,9 @@ mod transcripts;
 
 ghost use Rattle.std.specs.Prelude.{◌≡◌, None, true, false};
 
-use bus_script::{IoFailed, MemorySink, MemorySource, RunFault, Sink, run_script};
 use arrayvec::ArrayVec;
 use bus_legal::{Legality, Setup};
+use bus_script::{IoFailed, MemorySink, MemorySource, RunFault, Sink, run_script};
 use bus_terminal::Terminal;
 use bus_word::Cell;
 use std::alloc::AllocError;

@@ -1,9 +1,9 @@
 //! Worked rows, and faults.
+use bus_profile::{Key, Part, ProfileFault};
+use rows::ROWS;
 use rt1553::{
     CanonFault, EngineFault, LoadFault, MemorySink, MemorySource, RunFault, describe, run,
 };
-use bus_profile::{Key, Part, ProfileFault};
-use rows::ROWS;
 use std::alloc::Global;
 use std::process::Abort;
 

@@ -2,8 +2,8 @@
 //! answered to them.
 ghost use Rattle.std.specs.Prelude.{◌<◌};
 
-use bus_terminal::{Answer, Event, Flag, Hand, Terminal, WordPlace};
 use bus_legal::Legality;
+use bus_terminal::{Answer, Event, Flag, Hand, Terminal, WordPlace};
 use bus_word::{Bus, Kind, Raw};
 
 #[derive(Drop)]

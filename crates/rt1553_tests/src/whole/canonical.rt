@@ -1,6 +1,6 @@
 //! Canonical texts.
-use rt1553::{CanonFault, LoadFault, canonical, load};
 use bus_profile::{Key, Part, ProfileFault};
+use rt1553::{CanonFault, LoadFault, canonical, load};
 use std::alloc::{AllocError, Global};
 use std::test::Fail;
 

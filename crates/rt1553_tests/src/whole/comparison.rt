@@ -1,7 +1,7 @@
 //! Texts that are compared.
 use super::play;
-use rt1553::{LoadFault, Verdict, canonical, compare, write_event};
 use bus_profile::ProfileFault;
+use rt1553::{LoadFault, Verdict, canonical, compare, write_event};
 use std::alloc::{AllocError, Global};
 use std::process::Abort;
 use std::test::Fail;

@@ -6,5 +6,5 @@ use Rattle.bus_script.proofs.transcript.push_data.Given as goal
 abbrev pub invariant-loop-word : goal.invariant-loop-word
 invariant-loop-word l = record {
   room : array_string_len l.text ≡ array_string_len l.fn.text + 9 * l.word-index;
-  text : l.text.bytes ≡ l.fn.text.bytes ++ flat_map (data_line l.bus) (take l.word-index l.words);
+  text : l.text.bytes ≡ l.fn.text.bytes ++ flat_map (data_line l.fn.bus) (take l.word-index l.words);
 }
