@@ -227,78 +227,62 @@ fn reached(alloc: Global, fields: Fields, own_codes: u32, legal: Commands) -> Re
     Ok(normalise(&p.ok_or("a profile")?))
 }
 
+/// Whether what can be reached of two profiles with these fields is the same, by `is_same` and by `==`.
+fn alike(
+    alloc: Global,
+    fields: (Fields, Fields),
+    own_codes: u32,
+    legal: Commands,
+) -> Result<(bool, bool), Fail> {
+    let one = reached(alloc, fields.0, own_codes, legal)?;
+    let other = reached(alloc, fields.1, own_codes, legal)?;
+    Ok((one.is_same(&other), one == other))
+}
+
 #[test]
-fn what_cannot_be_reached_does_not_count(rt: HostRuntime) -> Result<(), Fail> {
-    let (none, all) = (
-        legal_commands(false, false, false),
-        legal_commands(true, true, true),
-    );
-    let (own, broadcast) = (
-        legal_commands(true, true, false),
-        legal_commands(false, true, true),
-    );
-    let (transmit, receive) = (
-        legal_commands(false, true, false),
-        legal_commands(true, false, true),
-    );
+fn parts_of_mode_codes_count_where_the_code_is_legal(rt: HostRuntime) -> Result<(), Fail> {
+    let none = legal_commands(false, false, false);
+    let all = legal_commands(true, true, true);
     let accept = PLAIN.accepting();
-    let (vector, bit) = (PLAIN.with_words(1, 0), PLAIN.with_words(0, 1));
-    let no_wrap = PLAIN.without_wraparound();
+    let vector = PLAIN.with_words(1, 0);
+    let bit = PLAIN.with_words(0, 1);
+    for (name, fields, own_codes, legal, same) in [
+        ("acceptance without code 0", accept, 0, all, true),
+        ("acceptance", accept, 1, none, false),
+        ("vector word without code 16", vector, 1 << 19, all, true),
+        ("vector word", vector, 1 << 16, none, false),
+        ("BIT word without code 19", bit, 1 << 16, all, true),
+        ("BIT word", bit, 1 << 19, none, false),
+    ] {
+        let found = alike(rt.alloc(), (fields, PLAIN), own_codes, legal)?;
+        assert_eq!(rt; found, (same, same), "{name}");
+    }
+    Ok(())
+}
+
+#[test]
+fn wraparound_counts_where_legal_commands_show_it(rt: HostRuntime) -> Result<(), Fail> {
     let heard = PLAIN.hearing_broadcast();
-    let heard_no_wrap = heard.without_wraparound();
-    let rows = [
-        ("acceptance without code 0", accept, PLAIN, 0, all, true),
-        ("acceptance", accept, PLAIN, 1, none, false),
+    let broadcast = legal_commands(false, true, true);
+    for (name, fields, legal, same) in [
         (
-            "vector word without code 16",
-            vector,
+            "no receiving",
             PLAIN,
-            1 << 19,
-            all,
-            true,
-        ),
-        ("vector word", vector, PLAIN, 1 << 16, none, false),
-        ("BIT word without code 19", bit, PLAIN, 1 << 16, all, true),
-        ("BIT word", bit, PLAIN, 1 << 19, none, false),
-        (
-            "wraparound without receiving",
-            no_wrap,
-            PLAIN,
-            0,
-            transmit,
+            legal_commands(false, true, false),
             true,
         ),
         (
-            "wraparound without transmitting",
-            no_wrap,
+            "no transmitting",
             PLAIN,
-            0,
-            receive,
+            legal_commands(true, false, true),
             true,
         ),
-        ("wraparound", no_wrap, PLAIN, 0, own, false),
-        (
-            "wraparound by broadcast, unheard",
-            no_wrap,
-            PLAIN,
-            0,
-            broadcast,
-            true,
-        ),
-        (
-            "wraparound by broadcast",
-            heard_no_wrap,
-            heard,
-            0,
-            broadcast,
-            false,
-        ),
-    ];
-    for (name, one, other, own_codes, legal, same) in rows {
-        let one = reached(rt.alloc(), one, own_codes, legal)?;
-        let other = reached(rt.alloc(), other, own_codes, legal)?;
-        assert_eq!(rt; one.is_same(&other), same, "{name}");
-        assert_eq!(rt; one == other, same, "{name}");
+        ("both", PLAIN, legal_commands(true, true, false), false),
+        ("broadcast, unheard", PLAIN, broadcast, true),
+        ("broadcast", heard, broadcast, false),
+    ] {
+        let found = alike(rt.alloc(), (fields.without_wraparound(), fields), 0, legal)?;
+        assert_eq!(rt; found, (same, same), "{name}");
     }
     Ok(())
 }
