@@ -1,4 +1,6 @@
 //! Files that are read: profiles whole, scripts piece by piece.
+ghost use Rattle.std.specs.Prelude.{◌≤◌, length, IfOk};
+
 use crate::fault::Fault;
 use std::fs;
 use std::io::{self, ErrorKind, Read};
@@ -35,7 +37,9 @@ pub fn open_file<R: Files + AllocGlobal>(rt: &R, name: &str) -> Result<R::File, 
 }
 
 /// The bytes of a profile file, of at most 1,048,576 bytes.
-pub fn read_profile_file<R: Files + AllocGlobal>(rt: &R, name: &str) -> Result<Vec<u8>, Fault> {
+pub fn read_profile_file<R: Files + AllocGlobal>(rt: &R, name: &str) -> Result<Vec<u8>, Fault>
+    ensures few { IfOk result (λ bytes. length bytes.items ≤ 1048576) }
+{
     let file = open_file(rt, name)?;
     let mut bytes = Vec::new(rt.alloc());
     // one byte more tells a file that is too large
