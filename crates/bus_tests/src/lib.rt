@@ -1,5 +1,5 @@
-//! The tests of the crates from the words of the bus up to the terminal. They stand in a crate of their own,
-//! since a crate with tests is proved twice.
+//! The tests of the words of the bus, of texts of lines, of profiles and of what they mean. They stand in a crate
+//! of their own, since a crate with tests is proved twice.
 #![tactic(auto)]
 
 #[cfg(test)]
@@ -8,7 +8,5 @@ mod formats;
 mod legality;
 #[cfg(test)]
 mod profiles;
-#[cfg(test)]
-mod terminals;
 #[cfg(test)]
 mod words;
