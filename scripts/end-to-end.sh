@@ -1,8 +1,12 @@
 #!/usr/bin/env bash
 # The built program from end to end: what it prints, what it prints as errors, and its status, to the byte.
-# Runs over each program that `rt ci` or `make build` left: the one that LLVM built and the one that
-# Rattle's own compiler built. The last line is 'N passed, M failed'.
+#
+#     scripts/end-to-end.sh [BUILT]
+#
+# Runs over each program that `rt ci` or `make build` left in BUILT, a copy of this repository, or here: the
+# one that LLVM built and the one that Rattle's own compiler built. The last line is 'N passed, M failed'.
 set -u
+built=$(realpath "${1:-$(dirname "$0")/..}") || exit 1
 cd "$(dirname "$0")/.." || exit 1
 top=$PWD
 work=$(mktemp -d) || exit 1
@@ -683,7 +687,7 @@ smallest=$(
 "${CC:-cc}" -O1 -shared -fPIC -o "$work/refuse.so" scripts/refuse.c
 count 'the shim that refuses was built' $?
 ran=0
-for program in "$top"/crates/rt1553_program/out/rt1553_program{,.by-rattle}; do
+for program in "$built"/crates/rt1553_program/out/rt1553_program{,.by-rattle}; do
     [[ -x $program ]] || continue
     ran=$((ran + 1))
     rows

@@ -1,18 +1,25 @@
 #!/usr/bin/env bash
-# The gate: every proof, test, must-fail edit and program from nothing, then the built program from end to
-# end. The last line, 'N passed, M failed', adds the counts of both.
+# The gate: every proof, test and program from nothing, then the must-fail edits, then the built program from
+# end to end. The last line, 'N passed, M failed', adds the counts of the three.
 set -u
 cd "$(dirname "$0")/.." || exit 1
-log=$(mktemp) || exit 1
-trap 'rm -f "$log"' EXIT
+work=$(mktemp -d) || exit 1
+trap 'rm -rf "$work"' EXIT
 passed=0 failed=0
+
+# a copy of the crates without their must-fail edits, each of which `rt ci` would give a check of its own
+built=$work/built
+mkdir "$built" && cp -r HANDLES crates.txt crates "$built" && rm -rf "$built"/crates/*/{out,must-fail} || exit 1
+
+# proves, tests and builds the copy
+proved() { (cd "$built" && rt ci); }
 
 # runs a part, whose last line is to be a count, and adds it; a part with another last line has failed
 part() {
     local status line
-    "$@" </dev/null 2>&1 | tee "$log" | sed -E 's/^([0-9]+ passed, [0-9]+ failed)$/so far: \1 in this part/'
+    "$@" </dev/null 2>&1 | tee "$work/log" | sed -E 's/^([0-9]+ passed, [0-9]+ failed)$/so far: \1 in this part/'
     status=${PIPESTATUS[0]}
-    line=$(tail -n 1 "$log")
+    line=$(tail -n 1 "$work/log")
     if [[ $line =~ ^([0-9]+)\ passed,\ ([0-9]+)\ failed$ ]]; then
         passed=$((passed + BASH_REMATCH[1])) failed=$((failed + BASH_REMATCH[2]))
         [[ $status -eq 0 || ${BASH_REMATCH[2]} -gt 0 ]] || failed=$((failed + 1))
@@ -21,8 +28,11 @@ part() {
     fi
 }
 
-part rt ci
-# what was not proved is not run
-if [[ $failed -eq 0 ]]; then part bash scripts/end-to-end.sh; fi
+part proved
+# what was not proved is not edited, and not run
+if [[ $failed -eq 0 ]]; then
+    part python3 scripts/must-fail.py "$built"
+    part bash scripts/end-to-end.sh "$built"
+fi
 echo "$passed passed, $failed failed"
 [[ $failed -eq 0 && $passed -gt 0 ]]

@@ -54,7 +54,7 @@ pub struct InitialWords {
 /// The rules of a profile. A contract sees the list.
 #[derive(Debug, Drop)]
 pub struct Rules {
-    entries: Vec<Rule>,
+    rules: Vec<Rule>,
 }
 
 impl Model for Rules {
@@ -63,36 +63,36 @@ impl Model for Rules {
 
     ghost Value = { List Rule };
 
-    ghost view = { λ s. s.entries.items };
+    ghost view = { λ s. s.rules.items };
 }
 
 impl Rules {
     /// The list of these rules.
-    pub fn of(entries: Vec<Rule>) -> Rules
-        ensures { result ≡ entries.items }
+    pub fn of(rules: Vec<Rule>) -> Rules
+        ensures { result ≡ rules.items }
     {
-        Rules { entries }
+        Rules { rules }
     }
 
     /// The rules, in order.
     pub fn as_slice(&self) -> &[Rule]
         ensures { result.now ≡ self.now }
     {
-        self.entries.as_slice()
+        &self.rules
     }
 
     /// Gives the rules back.
     pub fn into_vec(self) -> Vec<Rule>
         ensures { result.items ≡ self }
     {
-        self.entries
+        self.rules
     }
 }
 
 /// The mode entries of a profile. A contract sees the list.
 #[derive(Debug, Drop)]
 pub struct ModeRules {
-    entries: Vec<ModeRule>,
+    modes: Vec<ModeRule>,
 }
 
 impl Model for ModeRules {
@@ -101,36 +101,36 @@ impl Model for ModeRules {
 
     ghost Value = { List ModeRule };
 
-    ghost view = { λ s. s.entries.items };
+    ghost view = { λ s. s.modes.items };
 }
 
 impl ModeRules {
     /// The list of these mode entries.
-    pub fn of(entries: Vec<ModeRule>) -> ModeRules
-        ensures { result ≡ entries.items }
+    pub fn of(modes: Vec<ModeRule>) -> ModeRules
+        ensures { result ≡ modes.items }
     {
-        ModeRules { entries }
+        ModeRules { modes }
     }
 
     /// The mode entries, in order.
     pub fn as_slice(&self) -> &[ModeRule]
         ensures { result.now ≡ self.now }
     {
-        self.entries.as_slice()
+        &self.modes
     }
 
     /// Gives the mode entries back.
     pub fn into_vec(self) -> Vec<ModeRule>
         ensures { result.items ≡ self }
     {
-        self.entries
+        self.modes
     }
 }
 
 /// The initial entries of a profile. A contract sees the list.
 #[derive(Debug, Drop)]
 pub struct Initials {
-    entries: Vec<InitialWords>,
+    initials: Vec<InitialWords>,
 }
 
 impl Model for Initials {
@@ -139,28 +139,28 @@ impl Model for Initials {
 
     ghost Value = { List InitialWords };
 
-    ghost view = { λ s. s.entries.items };
+    ghost view = { λ s. s.initials.items };
 }
 
 impl Initials {
     /// The list of these initial entries.
-    pub fn of(entries: Vec<InitialWords>) -> Initials
-        ensures { result ≡ entries.items }
+    pub fn of(initials: Vec<InitialWords>) -> Initials
+        ensures { result ≡ initials.items }
     {
-        Initials { entries }
+        Initials { initials }
     }
 
     /// The initial entries, in order.
     pub fn as_slice(&self) -> &[InitialWords]
         ensures { result.now ≡ self.now }
     {
-        self.entries.as_slice()
+        &self.initials
     }
 
     /// Gives the initial entries back.
     pub fn into_vec(self) -> Vec<InitialWords>
         ensures { result.items ≡ self }
     {
-        self.entries
+        self.initials
     }
 }
