@@ -1,7 +1,7 @@
 #!/usr/bin/env bash
 # The gate: every proof, test and program from nothing, then the must-fail edits, then the built program from
 # end to end. The last line, 'N passed, M failed', adds the counts of the three.
-set -u
+set -uo pipefail
 cd "$(dirname "$0")/.." || exit 1
 work=$(mktemp -d) || exit 1
 trap 'rm -rf "$work"' EXIT
@@ -9,7 +9,8 @@ passed=0 failed=0
 
 # a copy of the crates without their must-fail edits, each of which `rt ci` would give a check of its own
 built=$work/built
-mkdir "$built" && cp -r HANDLES crates.txt crates "$built" && rm -rf "$built"/crates/*/{out,must-fail} || exit 1
+mkdir "$built" || exit 1
+tar -c --exclude='crates/*/out' --exclude='crates/*/must-fail' HANDLES crates.txt crates | tar -x -C "$built" || exit 1
 
 # proves, tests and builds the copy
 proved() { (cd "$built" && rt ci); }
