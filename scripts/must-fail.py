@@ -17,6 +17,9 @@ proved or refused for its calls alone.
 An edit that changes more than one body, or a contract, a type or a constant, is tried with the other files as
 the last check of many left them: then a function with no wrong body must be refused. An edit that is not
 refused in one of these ways is tried on the crate as it is, and the prover must refuse the crate.
+
+An edit of a crate's must-not-compile/ is one that the compiler must refuse before the prover is asked: it begins
+with a line `error: NAME`, and the check must tell one error, of that name.
 """
 import os
 import re
@@ -60,13 +63,15 @@ class Function(NamedTuple):
 
 
 class Edit(NamedTuple):
-    """An edit: the files as it leaves them, or why it can't be applied. Where it changes one body: which, and to what."""
+    """An edit: the files as it leaves them, or why it can't be applied. Where it changes one body: which, and to what.
+    Where the compiler must refuse it: the name of the error."""
 
     label: str
     texts: dict
     fault: str
     function: Optional[Function]
     body: str
+    error: str
 
 
 def functions_of(file, text):
@@ -149,13 +154,16 @@ class Crate:
     def __init__(self, name, deps, built, kit, room):
         self.name, self.deps, self.built, self.kit, self.room = name, deps, built, kit, room
         self.folder = f"{TOP}/crates/{name}"
-        edits = f"{self.folder}/must-fail"
-        self.edits = [self.edit(f"{edits}/{it}") for it in sorted(os.listdir(edits) if os.path.isdir(edits) else [])]
+        folders = [f"{self.folder}/{it}" for it in ("must-fail", "must-not-compile")]
+        paths = [f"{edits}/{it}" for edits in folders if os.path.isdir(edits) for it in sorted(os.listdir(edits))]
+        self.edits = [self.edit(it) for it in paths]
 
     def edit(self, path):
         """The edit of a file."""
-        texts, fault = applied(read(path), self.folder)
-        return Edit(f"{self.name}/{os.path.basename(path)}", texts, fault, *changed_body(texts, self.folder))
+        text = read(path)
+        texts, fault = applied(text, self.folder)
+        error = text.split("\n")[0].removeprefix("error: ") if "/must-not-compile/" in path else ""
+        return Edit(f"{self.name}/{os.path.basename(path)}", texts, fault, *changed_body(texts, self.folder), error)
 
     def size(self):
         """How many bytes the crate has: how long its checks take, roughly."""
@@ -233,12 +241,22 @@ class Crate:
             return False, f"BAD EDIT: it came to no proof: {answer.unread or said}"
         return True, said
 
+    def not_compiled(self, edit):
+        """Whether the compiler refuses the crate with the edit, by the error that the edit names and no other."""
+        answer = self.checked(edit.texts)
+        errors = [it for it in answer.lines if re.match(r"(\./)?src/\S+: error", it)]
+        is_it = len(errors) == 1 and f"error[{edit.error}]" in errors[0] and not answer.is_proved and not answer.functions
+        return is_it, errors[0] if errors else answer.lines[-1]
+
     def tried(self):
         """Each edit's label, whether it is refused, and why."""
-        refused, wrong = self.tried_together([it for it in self.edits if it.function])
+        refused, wrong = self.tried_together([it for it in self.edits if it.function and not it.error])
         for it in self.edits:
             if it.fault:
                 yield it.label, False, f"BAD EDIT: {it.fault}"
+                continue
+            if it.error:
+                yield it.label, *self.not_compiled(it)
                 continue
             said = refused.get(it.label) or (not it.function and self.tried_in_its_files(it, wrong))
             yield it.label, *((True, said) if said else self.tried_alone(it))

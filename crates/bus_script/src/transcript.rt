@@ -50,15 +50,15 @@ fn push_fields(text: &mut ArrayString<320>, words: &[u16])
 
 /// Writes the lines of what was sent.
 fn push_sent(text: &mut ArrayString<320>, sent: &Sent)
-    requires { array_string_len text.old + (9 + 9 * length sent.now.words.items) ≤ 320 }
+    requires { array_string_len text.old + (9 + 9 * length sent.now.words.now) ≤ 320 }
     ensures bytes { text.new.bytes ≡ text.old.bytes ++ sent_text (shown_sent (Some sent.now)) }
-    ensures len { array_string_len text.new ≡ array_string_len text.old + (9 + 9 * length sent.now.words.items) }
+    ensures len { array_string_len text.new ≡ array_string_len text.old + (9 + 9 * length sent.now.words.now) }
 {
     text.push_str(bus_letter(sent.bus));
     text.push_str(" s ");
     push_word(text, sent.status);
     text.push('\n');
-    push_data(text, sent.bus, sent.words.as_slice());
+    push_data(text, sent.bus, sent.words);
 }
 
 fn received_by(broadcast: bool) -> &'static str
@@ -102,7 +102,7 @@ fn push_hand(text: &mut ArrayString<320>, hand: &Hand)
             broadcast,
             subaddress,
             words,
-        } => push_received(text, *broadcast, *subaddress, words.as_slice()),
+        } => push_received(text, *broadcast, *subaddress, words),
         Hand::Synchronize => text.push_str("hand sync\n"),
         Hand::SynchronizeWith(word) => push_synchronize_with(text, *word),
         Hand::SelfTest => text.push_str("hand self-test\n"),

@@ -8,11 +8,11 @@ use Rattle.bus_terminal.specs.Out.{Sending, Handing, HandsReceived, HandsSynchro
 
 abbrev pub shown_sent : Option Sent → Option Sending
 shown_sent None = None
-shown_sent (Some s) = Some (record { bus = s.bus; status = s.status; words = s.words.items })
+shown_sent (Some s) = Some (record { bus = s.bus; status = s.status; words = s.words.now })
 
 abbrev pub shown_hand : Option Hand → Option Handing
 shown_hand None = None
-shown_hand (Some (Received broadcast subaddress words)) = Some (HandsReceived broadcast subaddress words.items)
+shown_hand (Some (Received broadcast subaddress words)) = Some (HandsReceived broadcast subaddress words.now)
 shown_hand (Some Synchronize) = Some HandsSynchronize
 shown_hand (Some (SynchronizeWith word)) = Some (HandsSynchronizeWith word)
 shown_hand (Some SelfTest) = Some HandsSelfTest

@@ -1,31 +1,28 @@
 //! What a remote terminal answers to an event.
-ghost use Rattle.std.specs.Prelude.{◌≡◌};
-
-use arrayvec::ArrayVec;
 use bus_word::Bus;
 
 /// What a terminal sends on a bus: a status word, and data words after it.
-#[derive(Drop, Debug, PartialEq, Eq)]
-pub struct Sent {
+#[derive(Clone, Copy, Debug, PartialEq, Eq)]
+pub struct Sent<'a> {
     /// The bus: that on which the command came.
     pub bus: Bus,
     /// The status word.
     pub status: u16,
-    /// The data words, in order.
-    pub words: ArrayVec<u16, 32>,
+    /// The data words, in order: where the terminal holds them.
+    pub words: &'a [u16],
 }
 
 /// What a terminal hands over to its subsystem.
-#[derive(Drop, Debug, PartialEq, Eq)]
-pub enum Hand {
+#[derive(Clone, Copy, Debug, PartialEq, Eq)]
+pub enum Hand<'a> {
     /// Words that were received.
     Received {
         /// Whether they came by broadcast.
         broadcast: bool,
         /// The subaddress, 1 to 30.
         subaddress: u8,
-        /// The data words, in order.
-        words: ArrayVec<u16, 32>,
+        /// The data words, in order: where the terminal took them.
+        words: &'a [u16],
     },
     /// Synchronize (MIL-STD-1553B, 4.3.3.5.1.7.2).
     Synchronize,
@@ -37,26 +34,12 @@ pub enum Hand {
     BusControl,
 }
 
-/// What a terminal answers to an event: mostly nothing.
-#[derive(Drop, Debug, PartialEq, Eq)]
-pub struct Answer {
+/// What a terminal answers to an event: mostly nothing. The words are the terminal's own, so an answer is of use
+/// until the terminal's next event.
+#[derive(Clone, Copy, Debug, PartialEq, Eq)]
+pub struct Answer<'a> {
     /// What is sent.
-    pub sent: Option<Sent>,
+    pub sent: Option<Sent<'a>>,
     /// What is handed over.
-    pub hand: Option<Hand>,
-}
-
-impl Answer {
-    ghost use Rattle.bus_terminal.specs.Out.{silence};
-    ghost use Rattle.bus_terminal.specs.Answer.{shown_answer};
-
-    /// Nothing is sent, and nothing handed over.
-    pub(crate) fn silence() -> Answer
-        ensures { shown_answer result ≡ silence }
-    {
-        Answer {
-            sent: None,
-            hand: None,
-        }
-    }
+    pub hand: Option<Hand<'a>>,
 }

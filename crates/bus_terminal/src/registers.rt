@@ -51,8 +51,8 @@ pub struct Registers {
     pub off: OnBuses,
     pub vector: u16,
     pub bit: u16,
-    /// The last command.
-    pub last: Command,
+    /// The bits of the last command.
+    pub last: u16,
     /// The kept status.
     pub kept: StatusParts,
 }
@@ -73,7 +73,7 @@ impl Registers {
             off: OnBuses::NONE,
             vector,
             bit,
-            last: Command::of(0),
+            last: 0,
             kept: NO_PARTS,
         }
     }
@@ -145,7 +145,7 @@ impl Registers {
         ensures { self.new ≡ started spares command self.old }
     {
         if !matches!(cell_of(command), Some(Cell::OwnMode(18))) {
-            self.last = command;
+            self.last = command.bits();
         }
         if !spares {
             self.kept = NO_PARTS;

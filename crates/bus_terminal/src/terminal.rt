@@ -1,4 +1,6 @@
 //! The remote terminal.
+ghost use Rattle.std.specs.Borrow.{sem};
+ghost use Rattle.std.specs.Io.BufRead.{Rests};
 
 mod reply;
 
@@ -11,6 +13,7 @@ use crate::message::{GapEnd, InProgress};
 use crate::registers::Registers;
 use bus_legal::{Legality, Setup};
 use bus_word::{Bus, Command, Raw, StatusParts, cell_of};
+use reply::Reply;
 
 /// A remote terminal, with its set-up and what answers whether a cell is legal. It stores no history: it
 /// keeps what of its history still matters.
@@ -40,8 +43,9 @@ impl<L: Legality> Terminal<L> {
     ghost use Rattle.bus_terminal.specs.Machine.Registers.{status_from, failed_by, started};
     ghost use Rattle.bus_terminal.specs.Machine.Buses.{on_bus};
     ghost use Rattle.bus_terminal.specs.Answer.{shown_answer, IsSmall};
-    ghost use Rattle.bus_terminal.specs.Stands.{StandsAt, description_of, held_word};
-    ghost use Rattle.bus_terminal.specs.Machine.Terminal.{answer_from, is_possible, heard_after_word, ends_at_gap, IsSameSetup, TakesWord, TakesNoise, TakesGap, TakesWrite};
+    ghost use Rattle.bus_terminal.specs.Stands.{StandsAt, description_of};
+    ghost use Rattle.bus_terminal.specs.contracts.terminal.Terminal.{the_row};
+    ghost use Rattle.bus_terminal.specs.Machine.Terminal.{status_sent, is_possible, heard_after_word, ends_at_gap, IsSameSetup, TakesWord, TakesNoise, TakesGap, TakesWrite};
 
     /// The terminal at power-up.
     pub fn power_up(setup: Setup, legality: L) -> Terminal<L>
@@ -57,17 +61,24 @@ impl<L: Legality> Terminal<L> {
         }
     }
 
-    /// Takes one event, and answers it. Sent words and handed words never come together.
-    pub fn step(&mut self, event: Event) -> Answer
+    /// Takes one event, and answers it, with the terminal's own words. Sent words and handed words never come
+    /// together.
+    pub fn step(&mut self, event: Event) -> Answer<'_>
         ensures answer { (P : Description) (h : List Event) → StandsAt L.is_legal P h self.old → shown_answer result ≡ out P h event }
-        ensures stands { (P : Description) (h : List Event) → StandsAt L.is_legal P h self.old → StandsAt L.is_legal P (event ∷ h) self.new }
+        ensures* stands { sem 𝓛 (Rests (the_row L.row) self.entry (λ new. (P : Description) (h : List Event) → StandsAt L.is_legal P h self.old → StandsAt L.is_legal P (event ∷ h) new)) }
         ensures small { IsSmall (shown_answer result) }
     {
         match event {
-            Event::Gap(bus) => self.take_gap(bus),
+            Event::Gap(bus) => {
+                let reply = self.take_gap(bus);
+                self.answer(bus, &reply)
+            }
             _ => {
                 self.take(event);
-                Answer::silence()
+                Answer {
+                    sent: None,
+                    hand: None,
+                }
             }
         }
     }
@@ -128,7 +139,7 @@ impl<L: Legality> Terminal<L> {
     /// How a gap on this bus ends the message in progress.
     fn end_at_gap(&self, bus: Bus) -> Ended
         ensures ending { ending_of result self.now.in_progress.words.items ≡ gap_ends (description_of L.is_legal self.now) self.now.registers.flags.busy (standing_on bus self.now.in_progress) }
-        ensures possible { is_possible (ending_of result self.now.in_progress.words.items) ≡ true }
+        ensures possible { (ds : List ℕ) → is_possible (ending_of result ds) ≡ true }
     {
         match self.in_progress.end_at_gap(bus) {
             GapEnd::Whole(command) => self.verdict(command),
@@ -165,7 +176,8 @@ impl<L: Legality> Terminal<L> {
     /// A gap on this bus ended a message so, with this status, or ended none.
     fn settle(&mut self, bus: Bus, ended: &Ended, status: Option<StatusParts>)
         requires { (ds : List ℕ) → status ≡ status_from self.old.setup.accept self.old.registers (ending_of ended.now ds) }
-        ensures { TakesGap L.is_legal bus (ending_of ended.now self.old.in_progress.words.items) self.old self.new }
+        ensures takes { TakesGap L.is_legal bus (ending_of ended.now self.old.in_progress.words.items) self.old self.new }
+        ensures words { self.new.in_progress.words ≡ self.old.in_progress.words }
     {
         let spares = self.fails_sparing(ended);
         self.registers.settle(
@@ -186,17 +198,18 @@ impl<L: Legality> Terminal<L> {
         self.in_progress.gap(bus);
     }
 
-    fn take_gap(&mut self, bus: Bus) -> Answer
-        ensures answer { shown_answer result ≡ answer_from (description_of L.is_legal self.old) self.old.registers (held_word self.old) bus (ends_at_gap L.is_legal self.old bus) }
-        ensures small { IsSmall (shown_answer result) }
-        ensures possible { is_possible (ends_at_gap L.is_legal self.old bus) ≡ true }
+    /// Takes a gap on this bus: what it ends, and the status word that is sent.
+    fn take_gap(&mut self, bus: Bus) -> Reply
+        ensures ending { ending_of result.ended self.new.in_progress.words.items ≡ ends_at_gap L.is_legal self.old bus }
+        ensures status { result.status ≡ status_sent self.old.setup.address self.old.setup.accept self.old.registers bus (ends_at_gap L.is_legal self.old bus) }
+        ensures possible { (ds : List ℕ) → is_possible (ending_of result.ended ds) ≡ true }
         ensures takes { TakesGap L.is_legal bus (ends_at_gap L.is_legal self.old bus) self.old self.new }
     {
         let ended = self.end_at_gap(bus);
-        let status = self.registers.status_for(&ended, self.setup.accept);
-        let answer = self.answer(bus, &ended, status);
-        self.settle(bus, &ended, status);
-        answer
+        let parts = self.registers.status_for(&ended, self.setup.accept);
+        let status = self.status_sent(bus, &ended, parts);
+        self.settle(bus, &ended, parts);
+        Reply { ended, status }
     }
 
     /// A transfer that waits on this bus ended in error.

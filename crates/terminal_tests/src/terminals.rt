@@ -6,11 +6,11 @@ mod rows;
 mod table;
 
 use bus_legal::{Legality, Setup};
-use bus_terminal::{Answer, Event, Flag, Terminal};
+use bus_terminal::{Answer, Event, Flag, Hand, Sent, Terminal};
 use bus_word::{Bus, Cell, Kind, Raw};
 use legality::{Also, Every};
 use rows::{MESSAGES, MODE_CODES, RESET, TRANSFERS, TWO_BUSES};
-use table::{Act, Handed, Profile, Row, Said, event_of, is_said};
+use table::{Act, Profile, Row, event_of};
 
 /// A terminal of address 5.
 fn terminal_of<L: Legality>(profile: &Profile, legality: L) -> Terminal<L> {
@@ -42,7 +42,7 @@ fn first_wrong_with<L: Legality + Drop>(row: &Row, legality: L) -> Option<usize>
     let mut terminal = terminal_of(&row.profile, legality);
     for (at, (act, said)) in row.steps.iter().enumerate() {
         if let Some(event) = event_of(act) {
-            if !is_said(&terminal.step(event), said) {
+            if terminal.step(event) != *said {
                 return Some(at);
             }
         }
@@ -83,7 +83,7 @@ struct Code {
     words: &'static [u16],
     busy_status: u16,
     busy_words: &'static [u16],
-    hand: Handed,
+    hand: Option<Hand<'static>>,
 }
 
 const PLAIN: Code = Code {
@@ -95,7 +95,7 @@ const PLAIN: Code = Code {
     words: &[],
     busy_status: 0x2808,
     busy_words: &[],
-    hand: Handed::Nothing,
+    hand: None,
 };
 
 static CODES: [Code; 13] = [
@@ -104,12 +104,12 @@ static CODES: [Code; 13] = [
         broadcast: false,
         status: 0x2802,
         busy_status: 0x280a,
-        hand: Handed::BusControl,
+        hand: Some(Hand::BusControl),
         ..PLAIN
     },
     Code {
         code: 1,
-        hand: Handed::Synchronize,
+        hand: Some(Hand::Synchronize),
         ..PLAIN
     },
     Code {
@@ -120,7 +120,7 @@ static CODES: [Code; 13] = [
     },
     Code {
         code: 3,
-        hand: Handed::SelfTest,
+        hand: Some(Hand::SelfTest),
         ..PLAIN
     },
     Code { code: 4, ..PLAIN },
@@ -138,7 +138,7 @@ static CODES: [Code; 13] = [
         code: 17,
         transmit: false,
         word: Some(0x1234),
-        hand: Handed::SynchronizeWith(0x1234),
+        hand: Some(Hand::SynchronizeWith(0x1234)),
         ..PLAIN
     },
     Code {
@@ -172,8 +172,8 @@ fn command(bus: Bus, bits: u16) -> Event {
     Event::Word(bus, Raw::of(Kind::Com, bits))
 }
 
-/// What answers the gap after a mode code to this address field, from power-up.
-fn answer_to(code: &Code, address: u16, legality: Every, busy: bool) -> (Answer, Answer) {
+/// A terminal that has heard a mode code to this address field, from power-up.
+fn after_code(code: &Code, address: u16, legality: Every, busy: bool) -> Terminal<Every> {
     let mut terminal = terminal_of(&EQUIPPED, legality);
     terminal.step(Event::Flag(Flag::Busy, busy));
     let tr = if code.transmit { 0x0400 } else { 0 };
@@ -181,53 +181,71 @@ fn answer_to(code: &Code, address: u16, legality: Every, busy: bool) -> (Answer,
     if let Some(word) = code.word {
         terminal.step(Event::Word(Bus::A, Raw::of(Kind::Dat, word)));
     }
-    let answer = terminal.step(Event::Gap(Bus::A));
-    terminal.step(command(Bus::A, 0x2c02));
-    let asked = terminal.step(Event::Gap(Bus::A));
-    (answer, asked)
+    terminal
 }
 
-const SILENT: Said = Said {
+/// Whether a gap after such a mode code is answered so.
+fn is_answered(code: &Code, address: u16, legality: Every, busy: bool, said: &Answer<'_>) -> bool {
+    let mut terminal = after_code(code, address, legality, busy);
+    terminal.step(Event::Gap(Bus::A)) == *said
+}
+
+/// Whether a terminal that is asked for its status on bus A answers so.
+fn tells(terminal: &mut Terminal<Every>, said: &Answer<'_>) -> bool {
+    terminal.step(command(Bus::A, 0x2c02));
+    terminal.step(Event::Gap(Bus::A)) == *said
+}
+
+const SILENT: Answer<'static> = Answer {
     sent: None,
-    hand: Handed::Nothing,
+    hand: None,
 };
 
-fn status(status: u16) -> Said {
-    Said {
-        sent: Some((Bus::A, status, &[])),
-        hand: Handed::Nothing,
+fn status(status: u16) -> Answer<'static> {
+    Answer {
+        sent: sent(status, &[]),
+        hand: None,
     }
+}
+
+/// What is sent on bus A.
+fn sent(status: u16, words: &'static [u16]) -> Option<Sent<'static>> {
+    Some(Sent {
+        bus: Bus::A,
+        status,
+        words,
+    })
 }
 
 #[test]
 fn own_mode_codes(rt: HostRuntime) {
     for code in &CODES {
-        let (answer, _) = answer_to(code, 0x2800, Every(true), false);
-        let said = Said {
-            sent: Some((Bus::A, code.status, code.words)),
+        let said = Answer {
+            sent: sent(code.status, code.words),
             hand: code.hand,
         };
-        assert!(rt; is_said(&answer, &said), "code {}", code.code);
-        let (answer, _) = answer_to(code, 0x2800, Every(true), true);
-        let hand = if code.code == 17 {
-            Handed::Nothing
-        } else {
-            code.hand
-        };
-        let said = Said {
-            sent: Some((Bus::A, code.busy_status, code.busy_words)),
+        assert!(rt;
+            is_answered(code, 0x2800, Every(true), false, &said),
+            "code {}",
+            code.code
+        );
+        let hand = if code.code == 17 { None } else { code.hand };
+        let said = Answer {
+            sent: sent(code.busy_status, code.busy_words),
             hand,
         };
-        assert!(rt; is_said(&answer, &said), "code {} while busy", code.code);
-        let (answer, _) = answer_to(code, 0x2800, Every(false), false);
         assert!(rt;
-            is_said(&answer, &status(0x2c00)),
+            is_answered(code, 0x2800, Every(true), true, &said),
+            "code {} while busy",
+            code.code
+        );
+        assert!(rt;
+            is_answered(code, 0x2800, Every(false), false, &status(0x2c00)),
             "code {} where it is illegal",
             code.code
         );
-        let (answer, _) = answer_to(code, 0x2800, Every(false), true);
         assert!(rt;
-            is_said(&answer, &status(0x2c08)),
+            is_answered(code, 0x2800, Every(false), true, &status(0x2c08)),
             "code {} where it is illegal, while busy",
             code.code
         );
@@ -239,14 +257,14 @@ fn broadcast_mode_codes(rt: HostRuntime) {
     for code in &CODES {
         for busy in [false, true] {
             let shown = if busy { 0x0008 } else { 0 };
-            let (answer, asked) = answer_to(code, 0xf800, Every(true), busy);
             let hand = if !code.broadcast || (busy && code.code == 17) {
-                Handed::Nothing
+                None
             } else {
                 code.hand
             };
+            let mut terminal = after_code(code, 0xf800, Every(true), busy);
             assert!(rt;
-                is_said(&answer, &Said { sent: None, hand }),
+                terminal.step(Event::Gap(Bus::A)) == Answer { sent: None, hand },
                 "code {} by broadcast",
                 code.code
             );
@@ -258,13 +276,12 @@ fn broadcast_mode_codes(rt: HostRuntime) {
                 0x2810 + shown
             };
             assert!(rt;
-                is_said(&asked, &status(kept)),
+                tells(&mut terminal, &status(kept)),
                 "status after code {} by broadcast",
                 code.code
             );
-            let (answer, _) = answer_to(code, 0xf800, Every(false), busy);
             assert!(rt;
-                is_said(&answer, &SILENT),
+                is_answered(code, 0xf800, Every(false), busy, &SILENT),
                 "illegal code {} by broadcast",
                 code.code
             );
@@ -321,13 +338,16 @@ fn supersedes(phase: &[Act], first: Bus, second: Bus) -> bool {
         }
     }
     terminal.step(command(second, 0x2c02));
-    let dropped = terminal.step(Event::Gap(first));
-    let answer = terminal.step(Event::Gap(second));
-    let said = Said {
-        sent: Some((second, 0x2800, &[])),
-        hand: Handed::Nothing,
+    let is_dropped = terminal.step(Event::Gap(first)) == SILENT;
+    let said = Answer {
+        sent: Some(Sent {
+            bus: second,
+            status: 0x2800,
+            words: &[],
+        }),
+        hand: None,
     };
-    is_said(&dropped, &SILENT) && is_said(&answer, &said)
+    is_dropped && terminal.step(Event::Gap(second)) == said
 }
 
 #[test]
@@ -338,27 +358,24 @@ fn superseding_commands(rt: HostRuntime) {
     }
 }
 
-/// The answer to a receive command for 32 words that this many follow.
-fn answer_to_words(count: u16) -> (Answer, Answer) {
+/// A terminal that has heard a receive command for 32 words, and this many words.
+fn after_words(count: u16) -> Terminal<Every> {
     let mut terminal = terminal_of(&EQUIPPED, Every(true));
     terminal.step(command(Bus::A, 0x2860));
     for word in 0..count {
         terminal.step(Event::Word(Bus::A, Raw::of(Kind::Dat, word)));
     }
-    let answer = terminal.step(Event::Gap(Bus::A));
-    terminal.step(command(Bus::A, 0x2c02));
-    let asked = terminal.step(Event::Gap(Bus::A));
-    (answer, asked)
+    terminal
 }
 
 #[test]
 fn thirty_three_words(rt: HostRuntime) {
-    let (answer, asked) = answer_to_words(32);
-    assert!(rt; answer.hand.is_some());
-    assert!(rt; is_said(&asked, &status(0x2800)));
-    let (answer, asked) = answer_to_words(33);
-    assert!(rt; is_said(&answer, &SILENT));
-    assert!(rt; is_said(&asked, &status(0x2c00)));
+    let mut terminal = after_words(32);
+    assert!(rt; terminal.step(Event::Gap(Bus::A)).hand.is_some());
+    assert!(rt; tells(&mut terminal, &status(0x2800)));
+    let mut terminal = after_words(33);
+    assert!(rt; terminal.step(Event::Gap(Bus::A)) == SILENT);
+    assert!(rt; tells(&mut terminal, &status(0x2c00)));
 }
 
 /// The digests are those of `model/rules.py`, which is written apart from the program.

@@ -6,6 +6,7 @@ use Rattle.bus_word.specs.declared.status.StatusParts.{StatusParts}
 use Rattle.bus_word.specs.declared.cell.Cell.{Cell}
 use Rattle.bus_word.specs.declared.cell.Cell.TheVariants.{OwnTransmit, OwnMode}
 use Rattle.bus_word.specs.Command.{is_broadcast}
+use Rattle.bus_word.specs.Status.{status_word}
 use Rattle.bus_word.specs.Cell.{is_allowed}
 use Rattle.bus_legal.specs.Description.{Description}
 use Rattle.bus_terminal.specs.Place.{Place}
@@ -16,7 +17,7 @@ use Rattle.bus_terminal.specs.History.{Ending, Done}
 use Rattle.bus_terminal.specs.Buses.{same_bus}
 use Rattle.bus_terminal.specs.Starts.{is_for}
 use Rattle.bus_terminal.specs.Status.{spares, adds_error}
-use Rattle.bus_terminal.specs.Out.{Reply, Out, Sending, words_from, sent_on, command_ended, hands}
+use Rattle.bus_terminal.specs.Out.{Out, Sending, words_from, command_ended, hands}
 use Rattle.bus_terminal.specs.Machine.Standing.{word_leaves, entry_leaves, entry_fails, gap_leaves, gap_ends, starts_by}
 use Rattle.bus_terminal.specs.Machine.Message.{standing_on}
 use Rattle.bus_terminal.specs.Machine.Registers.{status_from, failed_by, started_if, settled}
@@ -38,17 +39,23 @@ words_of_reply r held (Done c (OwnTransmit s n) ds) = words_from (held s) 1 n
 words_of_reply r held (Done c (OwnMode code) ds) = code_word_from r code
 words_of_reply r held _ = []
 
-abbrev pub reply_with : Option StatusParts → List ℕ → Option Reply
-reply_with None words = None
-reply_with (Some parts) words = Some (record { parts = parts; words = words })
+-- the status word that is sent, by whether the bus stays quiet
+abbrev pub status_unless : Bool → ℕ → Option StatusParts → Option ℕ
+status_unless quiet address None = None
+status_unless quiet address (Some parts) = if quiet then None else Some (status_word address parts)
 
--- what is sent, from the registers and the words held ready
-abbrev pub sends_from : ℕ → Bool → Registers → (ℕ → ℕ → ℕ) → Bus → Ending → Option Sending
-sends_from address accept r held b x =
-    sent_on b address (is_broadcast (command_ended x) || on_bus b r.off) (reply_with (status_from accept r x) (words_of_reply r held x))
+-- the status word that is sent, from the registers before the gap
+abbrev pub status_sent : ℕ → Bool → Registers → Bus → Ending → Option ℕ
+status_sent address accept r b x = status_unless (is_broadcast (command_ended x) || on_bus b r.off) address (status_from accept r x)
 
-abbrev pub answer_from : Description → Registers → (ℕ → ℕ → ℕ) → Bus → Ending → Out
-answer_from P r held b x = record { sent = sends_from P.address P.accept r held b x; hand = hands P x }
+-- what is sent, with this status word
+abbrev pub sending_with : Bus → Option ℕ → List ℕ → Option Sending
+sending_with b None words = None
+sending_with b (Some status) words = Some (record { bus = b; status = status; words = words })
+
+-- the answer with this status word, from the registers and the words held ready
+abbrev pub answer_with : Description → Registers → (ℕ → ℕ → ℕ) → Bus → Option ℕ → Ending → Out
+answer_with P r held b status x = record { sent = sending_with b status (words_of_reply r held x); hand = hands P x }
 
 -- some command has the cell of what was done
 abbrev pub is_possible : Ending → Bool

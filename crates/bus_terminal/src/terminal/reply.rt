@@ -1,30 +1,17 @@
 //! What is answered to a message that ended.
-ghost use Rattle.std.specs.Prelude.{◌≡◌, ◌≤◌, [], ◌∷◌, length};
-
 use super::Terminal;
 use crate::answer::{Answer, Hand, Sent};
 use crate::ended::Ended;
-use arrayvec::ArrayVec;
 use bus_legal::Legality;
 use bus_word::{Bus, Cell, StatusParts, status_of};
+use std::slice::from_ref;
 
-/// A copy of at most 32 words.
-fn copy_of(words: &[u16]) -> ArrayVec<u16, 32>
-    requires { length words.now ≤ 32 }
-    ensures { result.items ≡ words.now }
-{
-    let mut copy = ArrayVec::new();
-    let _ = copy.try_extend_from_slice(words);
-    copy
-}
-
-/// One word.
-fn one_word(word: u16) -> ArrayVec<u16, 32>
-    ensures { result.items ≡ word ∷ [] }
-{
-    let mut words = ArrayVec::new();
-    words.push(word);
-    words
+/// How a gap ended the message on its bus, and the status word that is sent then. The words that go with them are
+/// where the terminal holds them.
+#[derive(Clone, Copy)]
+pub struct Reply {
+    pub ended: Ended,
+    pub status: Option<u16>,
 }
 
 impl<L: Legality> Terminal<L> {
@@ -36,79 +23,76 @@ impl<L: Legality> Terminal<L> {
     ghost use Rattle.bus_terminal.specs.Machine.Registers.{status_from};
     ghost use Rattle.bus_terminal.specs.Answer.{shown_answer, shown_sent, shown_hand, words_sent, words_handed, IsSmall};
     ghost use Rattle.bus_terminal.specs.Stands.{description_of, held_word};
-    ghost use Rattle.bus_terminal.specs.Machine.Terminal.{words_of_reply, sends_from, answer_from, is_possible};
+    ghost use Rattle.bus_terminal.specs.Machine.Terminal.{words_of_reply, status_sent, sending_with, answer_with, is_possible};
+
+    /// The status word that is sent on this bus: none for a broadcast, nor where the transmitter is shut down.
+    pub fn status_sent(&self, bus: Bus, ended: &Ended, status: Option<StatusParts>) -> Option<u16>
+        requires { (ds : List ℕ) → status ≡ status_from self.now.setup.accept self.now.registers (ending_of ended.now ds) }
+        ensures { (ds : List ℕ) → result ≡ status_sent self.now.setup.address self.now.setup.accept self.now.registers bus (ending_of ended.now ds) }
+    {
+        match status {
+            Some(parts) if !ended.is_broadcast() && !self.registers.off.on(bus) => Some(status_of(
+                self.setup.address,
+                parts,
+            )),
+            _ => None,
+        }
+    }
 
     /// The first words held for a subaddress.
-    fn held_words(&self, subaddress: u8, count: u8) -> ArrayVec<u16, 32>
+    fn held_words(&self, subaddress: u8, count: u8) -> &[u16]
         requires { is_data_place subaddress count ≡ true }
-        ensures { result.items ≡ words_from (held_word self.now subaddress) 1 count }
+        ensures words { result.now ≡ words_from (held_word self.now subaddress) 1 count }
+        ensures few { length result.now ≤ 32 }
     {
         let row = self.held.row(&self.setup.initial, subaddress);
-        copy_of(&row[..count as usize])
+        &row[..count as usize]
     }
 
     /// The data words that go after the status, if one is sent.
-    fn data_words(&self, ended: &Ended) -> ArrayVec<u16, 32>
+    fn data_words(&self, ended: &Ended) -> &[u16]
         requires { (ds : List ℕ) → is_possible (ending_of ended.now ds) ≡ true }
-        ensures words { (ds : List ℕ) → result.items ≡ words_of_reply self.now.registers (held_word self.now) (ending_of ended.now ds) }
-        ensures few { length result.items ≤ 32 }
+        ensures words { (ds : List ℕ) → result.now ≡ words_of_reply self.now.registers (held_word self.now) (ending_of ended.now ds) }
+        ensures few { length result.now ≤ 32 }
     {
         match ended {
             Ended::Done(_, cell) => self.words_of_cell(*cell),
-            _ => ArrayVec::new(),
+            _ => &[],
         }
     }
 
-    fn words_of_cell(&self, cell: Cell) -> ArrayVec<u16, 32>
+    fn words_of_cell(&self, cell: Cell) -> &[u16]
         requires { is_allowed cell ≡ true }
-        ensures words { (c : ℕ) (ds : List ℕ) → result.items ≡ words_of_reply self.now.registers (held_word self.now) (Done c cell ds) }
-        ensures few { length result.items ≤ 32 }
+        ensures words { (c : ℕ) (ds : List ℕ) → result.now ≡ words_of_reply self.now.registers (held_word self.now) (Done c cell ds) }
+        ensures few { length result.now ≤ 32 }
     {
         match cell {
             Cell::OwnTransmit(subaddress, count) => self.held_words(subaddress, count),
-            Cell::OwnMode(16) => one_word(self.registers.vector),
-            Cell::OwnMode(18) => one_word(self.registers.last.bits()),
-            Cell::OwnMode(19) => one_word(self.registers.bit),
-            _ => ArrayVec::new(),
+            Cell::OwnMode(16) => from_ref(&self.registers.vector),
+            Cell::OwnMode(18) => from_ref(&self.registers.last),
+            Cell::OwnMode(19) => from_ref(&self.registers.bit),
+            _ => &[],
         }
     }
 
-    /// What is sent on this bus: nothing for a broadcast, nor where the transmitter is shut down.
-    fn sent(&self, bus: Bus, ended: &Ended, status: Option<StatusParts>) -> Option<Sent>
-        requires possible { (ds : List ℕ) → is_possible (ending_of ended.now ds) ≡ true }
-        requires status { (ds : List ℕ) → status ≡ status_from self.now.setup.accept self.now.registers (ending_of ended.now ds) }
-        ensures sent { (ds : List ℕ) → shown_sent result ≡ sends_from self.now.setup.address self.now.setup.accept self.now.registers (held_word self.now) bus (ending_of ended.now ds) }
+    /// What is sent on this bus.
+    fn sent(&self, bus: Bus, reply: &Reply) -> Option<Sent<'_>>
+        requires { (ds : List ℕ) → is_possible (ending_of reply.now.ended ds) ≡ true }
+        ensures sent { (ds : List ℕ) → shown_sent result ≡ sending_with bus reply.now.status (words_of_reply self.now.registers (held_word self.now) (ending_of reply.now.ended ds)) }
         ensures few { length (words_sent (shown_sent result)) ≤ 32 }
     {
-        if ended.is_broadcast() || self.registers.off.on(bus) {
-            None
-        } else {
-            match status {
-                Some(parts) => {
-                    let status = status_of(self.setup.address, parts);
-                    Some(self.sending(bus, status, ended))
-                }
-                None => None,
-            }
-        }
-    }
-
-    fn sending(&self, bus: Bus, status: u16, ended: &Ended) -> Sent
-        requires { (ds : List ℕ) → is_possible (ending_of ended.now ds) ≡ true }
-        ensures bus { result.bus ≡ bus }
-        ensures status { result.status ≡ status }
-        ensures words { (ds : List ℕ) → result.words.items ≡ words_of_reply self.now.registers (held_word self.now) (ending_of ended.now ds) }
-        ensures few { length result.words.items ≤ 32 }
-    {
-        Sent {
-            bus,
-            status,
-            words: self.data_words(ended),
+        match reply.status {
+            Some(status) => Some(Sent {
+                bus,
+                status,
+                words: self.data_words(&reply.ended),
+            }),
+            None => None,
         }
     }
 
     /// What is handed over.
-    fn hand(&self, ended: &Ended) -> Option<Hand>
+    fn hand(&self, ended: &Ended) -> Option<Hand<'_>>
         ensures hand { shown_hand result ≡ hands (description_of L.is_legal self.now) (ending_of ended.now self.now.in_progress.words.items) }
         ensures few { length (words_handed (shown_hand result)) ≤ 32 }
     {
@@ -128,19 +112,19 @@ impl<L: Legality> Terminal<L> {
     }
 
     /// The words in the buffer, as received at this subaddress.
-    fn received(&self, broadcast: bool, subaddress: u8) -> Hand
+    fn received(&self, broadcast: bool, subaddress: u8) -> Hand<'_>
         ensures hand { shown_hand (Some result) ≡ Some (HandsReceived broadcast subaddress self.now.in_progress.words.items) }
         ensures few { length (words_handed (shown_hand (Some result))) ≤ 32 }
     {
         Hand::Received {
             broadcast,
             subaddress,
-            words: copy_of(self.in_progress.words.as_slice()),
+            words: self.in_progress.words.as_slice(),
         }
     }
 
     /// What a mode code hands over.
-    fn hand_of_code(&self, code: u8, accepts: bool) -> Option<Hand>
+    fn hand_of_code(&self, code: u8, accepts: bool) -> Option<Hand<'_>>
         ensures hand { shown_hand result ≡ code_hands code accepts self.now.in_progress.words.items }
         ensures few { length (words_handed (shown_hand result)) ≤ 1 }
     {
@@ -153,16 +137,15 @@ impl<L: Legality> Terminal<L> {
         }
     }
 
-    /// What is answered on this bus to a message that ended so, with this status.
-    pub fn answer(&self, bus: Bus, ended: &Ended, status: Option<StatusParts>) -> Answer
-        requires possible { (ds : List ℕ) → is_possible (ending_of ended.now ds) ≡ true }
-        requires status { (ds : List ℕ) → status ≡ status_from self.now.setup.accept self.now.registers (ending_of ended.now ds) }
-        ensures answer { shown_answer result ≡ answer_from (description_of L.is_legal self.now) self.now.registers (held_word self.now) bus (ending_of ended.now self.now.in_progress.words.items) }
+    /// What is answered on this bus to a gap that was taken so.
+    pub fn answer(&self, bus: Bus, reply: &Reply) -> Answer<'_>
+        requires { (ds : List ℕ) → is_possible (ending_of reply.now.ended ds) ≡ true }
+        ensures answer { shown_answer result ≡ answer_with (description_of L.is_legal self.now) self.now.registers (held_word self.now) bus reply.now.status (ending_of reply.now.ended self.now.in_progress.words.items) }
         ensures small { IsSmall (shown_answer result) }
     {
         Answer {
-            sent: self.sent(bus, ended, status),
-            hand: self.hand(ended),
+            sent: self.sent(bus, reply),
+            hand: self.hand(&reply.ended),
         }
     }
 }

@@ -10,7 +10,13 @@ use bus_word::{Bus, Kind, Raw};
 struct Run<L> {
     terminal: Terminal<L>,
     seed: u32,
-    digest: u32,
+    digest: Digest,
+}
+
+/// What is kept of all that was answered.
+#[derive(Clone, Copy)]
+struct Digest {
+    value: u32,
 }
 
 /// The digest after 10,000 messages.
@@ -18,25 +24,19 @@ pub fn digest_of<L: Legality + Drop>(terminal: Terminal<L>) -> u32 {
     let mut run = Run {
         terminal,
         seed: 1553,
-        digest: 2_166_136_261,
+        digest: Digest {
+            value: 2_166_136_261,
+        },
     };
     for _ in 0..10_000 {
         run.message();
     }
-    run.digest
+    run.digest.value
 }
 
-impl<L: Legality> Run<L> {
-    /// A number below this one.
-    fn draw(&mut self, below: u16) -> u16
-        requires { 0 < below }
-        ensures { result < below }
-    {
-        self.word() % below
-    }
-
+impl Digest {
     fn mix(&mut self, value: u16) {
-        self.digest = (self.digest ^ u32::from(value)).wrapping_mul(16_777_619);
+        self.value = (self.value ^ u32::from(value)).wrapping_mul(16_777_619);
     }
 
     fn mix_words(&mut self, words: &[u16]) {
@@ -45,11 +45,11 @@ impl<L: Legality> Run<L> {
         }
     }
 
-    fn mix_answer(&mut self, answer: &Answer) {
+    fn mix_answer(&mut self, answer: &Answer<'_>) {
         if let Some(sent) = &answer.sent {
             self.mix(if sent.bus == Bus::A { 1 } else { 2 });
             self.mix(sent.status);
-            self.mix_words(sent.words.as_slice());
+            self.mix_words(sent.words);
         }
         match &answer.hand {
             Some(
@@ -61,7 +61,7 @@ impl<L: Legality> Run<L> {
             ) => {
                 self.mix(3 + u16::from(*broadcast));
                 self.mix(u16::from(*subaddress));
-                self.mix_words(words.as_slice());
+                self.mix_words(words);
             }
             Some(Hand::Synchronize) => self.mix(5),
             Some(Hand::SynchronizeWith(word)) => {
@@ -73,10 +73,20 @@ impl<L: Legality> Run<L> {
             None => {}
         }
     }
+}
+
+impl<L: Legality> Run<L> {
+    /// A number below this one.
+    fn draw(&mut self, below: u16) -> u16
+        requires { 0 < below }
+        ensures { result < below }
+    {
+        self.word() % below
+    }
 
     fn take(&mut self, event: Event) {
         let answer = self.terminal.step(event);
-        self.mix_answer(&answer);
+        self.digest.mix_answer(&answer);
     }
 
     /// An event on a bus, that may be lost or preceded by noise.

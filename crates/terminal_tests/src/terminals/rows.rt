@@ -1,12 +1,12 @@
 //! The worked rows, as tables.
 
-use super::table::{Act, Handed, Profile, Row, Said};
-use bus_terminal::Flag;
+use super::table::{Act, Profile, Row};
+use bus_terminal::{Answer, Flag, Hand, Sent};
 use bus_word::{Bus, Cell, Kind};
 
-const QUIET: Said = Said {
+const QUIET: Answer<'static> = Answer {
     sent: None,
-    hand: Handed::Nothing,
+    hand: None,
 };
 
 /// Nothing set up, and no cell legal but the mode codes that always are.
@@ -44,18 +44,30 @@ macro_rules! quiet {
     };
 }
 
+macro_rules! sent {
+    ($bus:ident $status:literal $words:expr) => {
+        Some(Sent { bus: Bus::$bus, status: $status, words: &$words })
+    };
+}
+
+macro_rules! received {
+    ($broadcast:literal $subaddress:literal $words:expr) => {
+        Hand::Received { broadcast: $broadcast, subaddress: $subaddress, words: &$words }
+    };
+}
+
 macro_rules! gap {
     ($bus:ident) => {
         (Act::Gap(Bus::$bus), QUIET)
     };
     ($bus:ident sends $status:literal $words:expr) => {
-        gap!($bus sends $status $words, hands Handed::Nothing)
+        (Act::Gap(Bus::$bus), Answer { sent: sent!($bus $status $words), hand: None })
     };
     ($bus:ident sends $status:literal $words:expr, hands $hand:expr) => {
-        (Act::Gap(Bus::$bus), Said { sent: Some((Bus::$bus, $status, &$words)), hand: $hand })
+        (Act::Gap(Bus::$bus), Answer { sent: sent!($bus $status $words), hand: Some($hand) })
     };
     ($bus:ident hands $hand:expr) => {
-        (Act::Gap(Bus::$bus), Said { sent: None, hand: $hand })
+        (Act::Gap(Bus::$bus), Answer { sent: None, hand: Some($hand) })
     };
 }
 
@@ -82,7 +94,7 @@ pub static MESSAGES: [Row; 13] = [
             command!(A 0x2862),
             data!(A 0x1111),
             data!(A 0x2222),
-            gap!(A sends 0x2800 [], hands Handed::Received(false, 3, &[0x1111, 0x2222])),
+            gap!(A sends 0x2800 [], hands received!(false 3 [0x1111, 0x2222])),
         ],
     },
     Row {
@@ -155,7 +167,7 @@ pub static MESSAGES: [Row; 13] = [
             command!(A 0x2862),
             data!(A 0x1111),
             data!(A 0x2222),
-            gap!(A sends 0x2800 [], hands Handed::Received(false, 3, &[0x1111, 0x2222])),
+            gap!(A sends 0x2800 [], hands received!(false 3 [0x1111, 0x2222])),
         ],
     },
     Row {
@@ -182,7 +194,7 @@ pub static TRANSFERS: [Row; 12] = [
             gap!(A),
             command!(A 0x3800),
             data!(A 0x0007),
-            gap!(A sends 0x2800 [], hands Handed::Received(false, 3, &[0x0007])),
+            gap!(A sends 0x2800 [], hands received!(false 3 [0x0007])),
         ],
     },
     Row {
@@ -206,7 +218,7 @@ pub static TRANSFERS: [Row; 12] = [
             gap!(A),
             command!(A 0x3800),
             data!(A 0x0007),
-            gap!(A hands Handed::Received(true, 3, &[0x0007])),
+            gap!(A hands received!(true 3 [0x0007])),
         ],
     },
     Row {
@@ -388,7 +400,7 @@ pub static TWO_BUSES: [Row; 7] = [
             gap!(A sends 0x2800 []),
             command!(B 0x2861),
             data!(B 0x0009),
-            gap!(B hands Handed::Received(false, 3, &[0x0009])),
+            gap!(B hands received!(false 3 [0x0009])),
         ],
     },
     Row {
@@ -412,7 +424,7 @@ pub static MODE_CODES: [Row; 18] = [
         steps: &[
             command!(A 0x2bc1),
             data!(A 0xbeef),
-            gap!(A sends 0x2800 [], hands Handed::Received(false, 30, &[0xbeef])),
+            gap!(A sends 0x2800 [], hands received!(false 30 [0xbeef])),
             command!(A 0x2fc1),
             gap!(A sends 0x2800 [0xbeef]),
         ],
@@ -517,7 +529,7 @@ pub static MODE_CODES: [Row; 18] = [
         profile: with!(accept: true, first: Cell::OwnMode(0)),
         steps: &[
             command!(A 0x2c00),
-            gap!(A sends 0x2802 [], hands Handed::BusControl),
+            gap!(A sends 0x2802 [], hands Hand::BusControl),
         ],
     },
     Row {
@@ -526,7 +538,7 @@ pub static MODE_CODES: [Row; 18] = [
         steps: &[
             quiet!(Act::Flag(Flag::Busy, true)),
             command!(A 0x2c00),
-            gap!(A sends 0x280a [], hands Handed::BusControl),
+            gap!(A sends 0x280a [], hands Hand::BusControl),
         ],
     },
     Row {
@@ -535,7 +547,7 @@ pub static MODE_CODES: [Row; 18] = [
         steps: &[
             command!(A 0xf811),
             data!(A 0x00ff),
-            gap!(A hands Handed::SynchronizeWith(0x00ff)),
+            gap!(A hands Hand::SynchronizeWith(0x00ff)),
             command!(A 0x2c02),
             gap!(A sends 0x2810 []),
         ],
@@ -625,7 +637,7 @@ pub static RESET: Row = Row {
         quiet!(Act::Write(3, 1, 0x00cc)),
         command!(A 0x2bc1),
         data!(A 0xbeef),
-        gap!(A sends 0x2801 [], hands Handed::Received(false, 30, &[0xbeef])),
+        gap!(A sends 0x2801 [], hands received!(false 30 [0xbeef])),
         command!(A 0x2c04),
         gap!(A sends 0x2801 []),
         command!(A 0x2c06),

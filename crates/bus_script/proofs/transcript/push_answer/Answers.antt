@@ -7,4 +7,4 @@ use Rattle.bus_script.proofs.transcript.push_answer.Goals as goal
 pub push_sent-requires : goal.push_sent-requires
 push_sent-requires c =
     let room = rw c.in-Some.is at c.requires in
-    omega (arith, length-append (sent_text (shown_sent (Some c.in-Some.sent))) (hand_text (shown_hand c.args.answer.now.hand)), sent_length (record { bus = c.in-Some.sent.bus; status = c.in-Some.sent.status; words = c.in-Some.sent.words.items }))
+    omega (arith, length-append (sent_text (shown_sent (Some c.in-Some.sent))) (hand_text (shown_hand c.args.answer.now.hand)), sent_length (record { bus = c.in-Some.sent.bus; status = c.in-Some.sent.status; words = c.in-Some.sent.words.now }))

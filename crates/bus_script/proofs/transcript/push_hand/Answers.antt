@@ -5,8 +5,7 @@ use Rattle.bus_script.proofs.transcript.push_hand.Goals as goal
 pub push_received-requires : goal.push_received-requires
 push_received-requires c =
     let room = rw c.in-Received.is at c.requires in
-    let words : c.as_slice.result.now ≡ c.in-Received.words.items = c.as_slice.ensures.value in
-    rw words (omega (arith, received_length c.in-Received.broadcast c.in-Received.subaddress c.in-Received.words.items))
+    omega (arith, received_length c.in-Received.broadcast c.in-Received.subaddress c.in-Received.words.now)
 
 pub push_synchronize_with-requires : goal.push_synchronize_with-requires
 push_synchronize_with-requires c =
