@@ -2,11 +2,11 @@
 use Rattle.std.proofs.Common.{◌≡◌, ◌<◌, inl, arith}
 use Rattle.bus_word.specs.declared.cell.Cell.{Cell}
 use Rattle.bus_word.specs.declared.cell.Cell.TheVariants.{OwnReceive, OwnTransmit, BroadReceive, OwnMode, BroadMode}
-use Rattle.bus_legal.specs.Description.{Description, wrap_subaddress}
+use Rattle.bus_legal.specs.Description.{Description}
 use Rattle.bus_legal.specs.Parts.{Parts, description_in, IsNormal}
 use Rattle.bus_legal.proofs.Descriptions.{same_description}
 use Rattle.bus_legal.proofs.SameNormals.{same_normals}
-use Rattle.bus_terminal.specs.Distinguish.{TellsApart}
+use Rattle.bus_terminal.specs.Distinguish.{TellsApart, shown_subaddress}
 use Rattle.bus_terminal.proofs.Distinguish.Reached.{IsReached, normal-reached, apart_by_address, apart_by_option, apart_by_own_receive, apart_by_own_transmit, apart_by_broadcast_receive, apart_by_own_code, apart_by_broadcast_code, apart_by_acceptance, apart_by_vector, apart_by_bit, apart_by_initial, apart_by_wraparound}
 use Rattle.bus_canon.specs.declared.difference.Difference.{Difference}
 use Rattle.bus_canon.specs.declared.difference.Difference.TheVariants.{Address, BroadcastOption, ReceiveCell, TransmitCell, BroadcastReceiveCell, OwnCode, BroadcastCode, Acceptance, VectorWord, BitWord, InitialWord, Wraparound}
@@ -16,7 +16,7 @@ use Rattle.bus_canon.specs.FirstPlace.{AlikeBefore}
 earlier : (P Q : Description) (d c : Difference) → IsFirst P Q d → kind_of c < kind_of d → AreAlike P Q c
 earlier P Q d c first l = first.alike c (inl l)
 
-apart_where_reached : (P Q : Description) (d : Difference) → IsReached P → IsReached Q → IsFirst P Q d → TellsApart P Q (script_for P d)
+apart_where_reached : (P Q : Description) (d : Difference) → IsReached P → IsReached Q → IsFirst P Q d → TellsApart P Q (script_for P Q d)
 apart_where_reached P Q Address p q first = apart_by_address P Q p q first.differ
 apart_where_reached P Q BroadcastOption p q first = apart_by_option P Q p q (earlier P Q BroadcastOption Address first (omega arith)) first.differ
 apart_where_reached P Q (ReceiveCell s n) p q first = apart_by_own_receive P Q s n p q (earlier P Q (ReceiveCell s n) Address first (omega arith)) first.differ
@@ -41,15 +41,15 @@ apart_where_reached P Q Wraparound p q first =
     apart_by_wraparound P Q p q (earlier P Q Wraparound Address first (omega arith))
     (record {
       broadcast = earlier P Q Wraparound BroadcastOption first (omega arith);
-      own_receive = λ n. earlier P Q Wraparound (ReceiveCell wrap_subaddress n) first (omega arith);
-      own_transmit = λ n. earlier P Q Wraparound (TransmitCell wrap_subaddress n) first (omega arith);
-      broadcast_receive = λ n. earlier P Q Wraparound (BroadcastReceiveCell wrap_subaddress n) first (omega arith);
-      initial = earlier P Q Wraparound (InitialWord wrap_subaddress 1) first (omega arith);
+      own_receive = λ n. earlier P Q Wraparound (ReceiveCell (shown_subaddress P.wrap Q.wrap) n) first (omega arith);
+      own_transmit = λ n. earlier P Q Wraparound (TransmitCell (shown_subaddress P.wrap Q.wrap) n) first (omega arith);
+      broadcast_receive = λ n. earlier P Q Wraparound (BroadcastReceiveCell (shown_subaddress P.wrap Q.wrap) n) first (omega arith);
+      initial = earlier P Q Wraparound (InitialWord (shown_subaddress P.wrap Q.wrap) 1) first (omega arith);
     })
     first.differ
 
 pub apart_by_first : (v w : Parts) (d : Difference) → IsNormal v → IsNormal w → IsFirst (description_in v) (description_in w) d →
-    TellsApart (description_in v) (description_in w) (script_for (description_in v) d)
+    TellsApart (description_in v) (description_in w) (script_for (description_in v) (description_in w) d)
 apart_by_first v w d p q first = apart_where_reached (description_in v) (description_in w) d (normal-reached v p) (normal-reached w q) first
 
 legal_alike : (P Q : Description) → AlikeBefore 13 P Q → (cell : Cell) → P.legal cell ≡ Q.legal cell

@@ -3,13 +3,13 @@ use Rattle.std.proofs.Common.{◌≡◌, ◌≢◌, ℕ, ◌==◌, Bool, true, f
 use Rattle.std.proofs.lemmas.Bool.{eqb-true}
 use Rattle.bus_word.specs.declared.cell.Cell.{Cell}
 use Rattle.bus_word.specs.declared.cell.Cell.TheVariants.{OwnReceive, OwnTransmit, BroadReceive, OwnMode, BroadMode}
-use Rattle.bus_legal.specs.Description.{Description, wrap_subaddress}
+use Rattle.bus_legal.specs.Description.{Description}
 use Rattle.bus_legal.specs.Parts.{Parts, description_in, IsNormal}
 use Rattle.bus_legal.proofs.Descriptions.{same_description}
 use Rattle.bus_legal.proofs.SameNormals.{same_normals}
 use Rattle.bus_terminal.specs.declared.event.Event.{Event}
 use Rattle.bus_terminal.specs.Same.{Same}
-use Rattle.bus_terminal.specs.Distinguish.{TellsApart, address_script, option_script, own_receive_script, own_transmit_script, broadcast_receive_script, own_code_script, broadcast_code_script, acceptance_script, vector_script, bit_script, initial_script, wraparound_script}
+use Rattle.bus_terminal.specs.Distinguish.{TellsApart, address_script, option_script, own_receive_script, own_transmit_script, broadcast_receive_script, own_code_script, broadcast_code_script, acceptance_script, vector_script, bit_script, initial_script, wraparound_script, shown_subaddress}
 use Rattle.bus_terminal.proofs.Distinguish.Apart.{apart_not_same}
 use Rattle.bus_terminal.proofs.Distinguish.Reached.{IsReached, normal-reached, apart_by_address, apart_by_option, apart_by_own_receive, apart_by_own_transmit, apart_by_broadcast_receive, apart_by_own_code, apart_by_broadcast_code, apart_by_acceptance, apart_by_vector, apart_by_bit, apart_by_initial, apart_by_wraparound}
 
@@ -73,14 +73,14 @@ module _ (P Q : Description) (p : IsReached P) (q : IsReached Q) (same : Same P 
 
   wraparound : P.wrap ≡ Q.wrap
   wraparound =
-      same_truth P.wrap Q.wrap
-      (λ other. not_apart (wraparound_script P) (apart_by_wraparound P Q p q address
+      same_number P.wrap Q.wrap
+      (λ other. not_apart (wraparound_script P (shown_subaddress P.wrap Q.wrap)) (apart_by_wraparound P Q p q address
       (record {
         broadcast = broadcast;
-        own_receive = own_receive wrap_subaddress;
-        own_transmit = own_transmit wrap_subaddress;
-        broadcast_receive = broadcast_receive wrap_subaddress;
-        initial = initial wrap_subaddress 1;
+        own_receive = own_receive (shown_subaddress P.wrap Q.wrap);
+        own_transmit = own_transmit (shown_subaddress P.wrap Q.wrap);
+        broadcast_receive = broadcast_receive (shown_subaddress P.wrap Q.wrap);
+        initial = initial (shown_subaddress P.wrap Q.wrap) 1;
       })
       other))
 

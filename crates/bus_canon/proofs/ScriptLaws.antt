@@ -1,11 +1,11 @@
 -- Events that are put together to scripts.
-use Rattle.std.proofs.Common.{◌≡◌, ◌≢◌, ℕ, zero, suc, ◌+◌, ◌-◌, ◌≤◌, Bool, true, false, ◌&&◌, not, nat_le, if◌then◌else◌, List, [], ◌∷◌, ◌++◌, replicate, get_or, refl, sym, ap, ◌∙◌, arith, append_assoc}
+use Rattle.std.proofs.Common.{◌≡◌, ◌≢◌, ℕ, zero, suc, ◌+◌, ◌-◌, ◌≤◌, Bool, true, false, ◌&&◌, not, nat_le, cond, if◌then◌else◌, List, [], ◌∷◌, ◌++◌, replicate, get_or, refl, sym, ap, ◌∙◌, arith, append_assoc}
 use Rattle.std.proofs.lemmas.Bool.{ne_eqb}
 use Rattle.std.proofs.lemmas.Bool.Decides.{nat_tests}
 use Rattle.bus_word.specs.declared.word.Bus.TheVariants.{A}
 use Rattle.bus_word.specs.Cell.{is_data_place}
 use Rattle.bus_legal.specs.declared.tables.Tables.{Tables}
-use Rattle.bus_legal.specs.Description.{Description, wrap_subaddress}
+use Rattle.bus_legal.specs.Description.{Description, word_at}
 use Rattle.bus_legal.specs.Reach.{any_count, largest_count, transmits}
 use Rattle.bus_legal.specs.Tables.{has_count, has_any, largest_in, mask_at}
 use Rattle.bus_legal.specs.Parts.{Parts, description_in, IsNormal}
@@ -13,7 +13,7 @@ use Rattle.bus_legal.proofs.TablesReach.{any_count-said, largest_count-said}
 use Rattle.bus_terminal.specs.declared.event.Event.{Event}
 use Rattle.bus_terminal.specs.declared.event.Event.TheVariants.{Gap}
 use Rattle.bus_terminal.specs.Exchanges.{Exchange, command_event, data_event, words_then, exchange_then}
-use Rattle.bus_terminal.specs.Distinguish.{all_terminals, least_count, receive, transmit, ask, initial_script, shown_wraparound, receives_own, receives_broadcast, broadcast_receive_script, wraparound_script}
+use Rattle.bus_terminal.specs.Distinguish.{all_terminals, least_count, receive, transmit, ask, initial_script, own_receive_script, shown_wraparound, receives_own, receives_broadcast, broadcast_receive_script, wraparound_script}
 use Rattle.bus_canon.specs.FirstPlace.{least_in}
 use Rattle.bus_canon.proofs.PlaceLaws.{least_count-alike}
 
@@ -59,6 +59,13 @@ exchange_of none with_command with_words all c command words e0 e1 ec e2 e3 =
     ∙ (ap (λ a. a ++ Gap A ∷ []) (e2 ∙ ap (λ a. a ++ words_then words []) (e1 ∙ (λ j. e0 j ++ command_event (ec j) ∷ [])))
     ∙ ap (λ rest. command_event command ∷ rest) (words-append words [] (Gap A ∷ [])))
 
+-- words of 0 to the own address
+pub own_received : (own address s n : ℕ) (script : List Event) → 1 ≤ n → own ≡ address → script ≡ exchange_then (receive own s n (0 ∷ replicate (n - 1) 0)) [] → script ≡ own_receive_script address s n
+own_received own address s n script low same e =
+    e
+    ∙ ((λ j. exchange_then (receive (same j) s n (0 ∷ replicate (n - 1) 0)) [])
+    ∙ ap (λ words. exchange_then (receive address s n words) []) (all_zeros n low))
+
 -- words to all terminals, and then the question for the status
 pub broadcast_asked : (own address s n : ℕ) (script all : List Event) → 1 ≤ n → own ≡ address → script ≡ exchange_then (receive all_terminals s n (0 ∷ replicate (n - 1) 0)) [] →
     all ≡ script ++ exchange_then (ask own) [] → all ≡ broadcast_receive_script address s n
@@ -76,51 +83,59 @@ initial_shown v t own row s count none all tables address at place empty e f =
     e ∙ ((λ j. largest_in (get_or ((tables j).own_transmit) (at j) 0)) ∙ sym (largest_count-said v.tables.own_transmit s place)) in
     f ∙ (λ j. empty j ++ exchange_then (transmit (address j) s (counted j)) [])
 
-shown : (P : Description) (to own n m d : ℕ) (script all : List Event) → own ≡ P.address → d ≡ 65535 - P.initial wrap_subaddress 1 →
-    script ≡ exchange_then (receive to wrap_subaddress n (d ∷ replicate (n - 1) 0)) [] → all ≡ script ++ exchange_then (transmit own wrap_subaddress m) [] → all ≡ shown_wraparound P to n m
-shown P to own n m d script all same first e f =
+shown : (P : Description) (s to own n m d : ℕ) (script all : List Event) → own ≡ P.address → d ≡ 65535 - P.initial s 1 →
+    script ≡ exchange_then (receive to s n (d ∷ replicate (n - 1) 0)) [] → all ≡ script ++ exchange_then (transmit own s m) [] → all ≡ shown_wraparound P s to n m
+shown P s to own n m d script all same first e f =
     f
-    ∙ ((λ j. e j ++ exchange_then (transmit (same j) wrap_subaddress m) [])
-    ∙ (exchange-append (receive to wrap_subaddress n (d ∷ replicate (n - 1) 0)) (exchange_then (transmit P.address wrap_subaddress m) [])
-    ∙ ap (λ first. exchange_then (receive to wrap_subaddress n (first ∷ replicate (n - 1) 0)) (exchange_then (transmit P.address wrap_subaddress m) [])) first))
+    ∙ ((λ j. e j ++ exchange_then (transmit (same j) s m) [])
+    ∙ (exchange-append (receive to s n (d ∷ replicate (n - 1) 0)) (exchange_then (transmit P.address s m) [])
+    ∙ ap (λ first. exchange_then (receive to s n (first ∷ replicate (n - 1) 0)) (exchange_then (transmit P.address s m) [])) first))
 
-abbrev wraparound_by : Description → Bool → ℕ → ℕ → ℕ → List Event
-wraparound_by P own n k m = if own then shown_wraparound P P.address n m else shown_wraparound P all_terminals k m
+abbrev wraparound_by : Description → ℕ → Bool → ℕ → ℕ → ℕ → List Event
+wraparound_by P s own n k m = if own then shown_wraparound P s P.address n m else shown_wraparound P s all_terminals k m
 
-module _ (v : Parts) (normal : IsNormal v) (t : Tables) (words : List (List ℕ)) (row own m : ℕ) (tables : t ≡ v.tables) (held : words ≡ v.initial) (at : row ≡ 29) (address : own ≡ v.address)
+inside : (s : ℕ) → 1 ≤ s → s ≤ 30 → nat_le 1 s && nat_le s 30 ≡ true
+inside s low high = grind (arith, nat_tests)
+
+first_place : (s : ℕ) → 1 ≤ s → s ≤ 30 → is_data_place s 1 ≡ true
+first_place s low high = grind (arith, nat_tests)
+
+module _ (v : Parts) (normal : IsNormal v) (t : Tables) (words : List (List ℕ)) (row own m s : ℕ) (tables : t ≡ v.tables) (held : words ≡ v.initial) (at : row ≡ s - 1) (low : 1 ≤ s) (high : s ≤ 30) (address : own ≡ v.address)
     (sent : m ≡ least_in (get_or t.own_transmit row 0)) where
   abbrev P : Description
   P = description_in v
 
-  first : 65535 - get_or (get_or words row []) 0 0 ≡ 65535 - P.initial wrap_subaddress 1
-  first = λ j. 65535 - get_or (get_or (held j) (at j) []) 0 0
+  first : 65535 - get_or (get_or words row []) 0 0 ≡ 65535 - P.initial s 1
+  first =
+      (λ j. 65535 - get_or (get_or (held j) (at j) []) 0 0)
+      ∙ sym (ap (λ b. 65535 - cond b (word_at v.initial s 1) 0) (first_place s low high))
 
-  transmitted : m ≡ least_count (transmits P wrap_subaddress)
-  transmitted = sent ∙ ((λ j. least_in (get_or ((tables j).own_transmit) (at j) 0)) ∙ sym (least_count-said v.tables.own_transmit wrap_subaddress (omega arith) (omega arith)))
+  transmitted : m ≡ least_count (transmits P s)
+  transmitted = sent ∙ ((λ j. least_in (get_or ((tables j).own_transmit) (at j) 0)) ∙ sym (least_count-said v.tables.own_transmit s low high))
 
-  own_mask : get_or t.own_receive row 0 ≡ mask_at v.tables.own_receive wrap_subaddress
+  own_mask : get_or t.own_receive row 0 ≡ mask_at v.tables.own_receive s
   own_mask = λ j. get_or ((tables j).own_receive) (at j) 0
 
-  any_own : any_count (receives_own P) ≡ has_any (mask_at v.tables.own_receive wrap_subaddress)
-  any_own = any_count-said v.tables.own_receive wrap_subaddress refl normal.own_receive
+  any_own : any_count (receives_own P s) ≡ has_any (mask_at v.tables.own_receive s)
+  any_own = any_count-said v.tables.own_receive s (inside s low high) normal.own_receive
 
   pub own_wraparound : (to n : ℕ) (script all : List Event) → to ≡ v.address → get_or t.own_receive row 0 ≢ 0 → n ≡ least_in (get_or t.own_receive row 0) →
-      script ≡ exchange_then (receive to wrap_subaddress n ((65535 - get_or (get_or words row []) 0 0) ∷ replicate (n - 1) 0)) [] →
-      all ≡ script ++ exchange_then (transmit own wrap_subaddress m) [] → all ≡ wraparound_script P
+      script ≡ exchange_then (receive to s n ((65535 - get_or (get_or words row []) 0 0) ∷ replicate (n - 1) 0)) [] →
+      all ≡ script ++ exchange_then (transmit own s m) [] → all ≡ wraparound_script P s
   own_wraparound to n script all same some e f g =
-      let counted : n ≡ least_count (receives_own P) = e ∙ (ap least_in own_mask ∙ sym (least_count-said v.tables.own_receive wrap_subaddress (omega arith) (omega arith))) in
-      let any : any_count (receives_own P) ≡ true = any_own ∙ ap not (ne_eqb (mask_at v.tables.own_receive wrap_subaddress) 0 (λ none. some (own_mask ∙ none))) in
-      shown P to own n m (65535 - get_or (get_or words row []) 0 0) script all address first f g
-      ∙ ((λ j. shown_wraparound P (same j) (counted j) (transmitted j))
-      ∙ ap (λ b. wraparound_by P b (least_count (receives_own P)) (least_count (receives_broadcast P)) (least_count (transmits P wrap_subaddress))) (sym any))
+      let counted : n ≡ least_count (receives_own P s) = e ∙ (ap least_in own_mask ∙ sym (least_count-said v.tables.own_receive s low high)) in
+      let any : any_count (receives_own P s) ≡ true = any_own ∙ ap not (ne_eqb (mask_at v.tables.own_receive s) 0 (λ none. some (own_mask ∙ none))) in
+      shown P s to own n m (65535 - get_or (get_or words row []) 0 0) script all address first f g
+      ∙ ((λ j. shown_wraparound P s (same j) (counted j) (transmitted j))
+      ∙ ap (λ b. wraparound_by P s b (least_count (receives_own P s)) (least_count (receives_broadcast P s)) (least_count (transmits P s))) (sym any))
 
   pub broadcast_wraparound : (n : ℕ) (script all : List Event) → get_or t.own_receive row 0 ≡ 0 → n ≡ least_in (get_or t.broadcast_receive row 0) →
-      script ≡ exchange_then (receive all_terminals wrap_subaddress n ((65535 - get_or (get_or words row []) 0 0) ∷ replicate (n - 1) 0)) [] →
-      all ≡ script ++ exchange_then (transmit own wrap_subaddress m) [] → all ≡ wraparound_script P
+      script ≡ exchange_then (receive all_terminals s n ((65535 - get_or (get_or words row []) 0 0) ∷ replicate (n - 1) 0)) [] →
+      all ≡ script ++ exchange_then (transmit own s m) [] → all ≡ wraparound_script P s
   broadcast_wraparound n script all none e f g =
-      let counted : n ≡ least_count (receives_broadcast P) =
-      e ∙ ((λ j. least_in (get_or ((tables j).broadcast_receive) (at j) 0)) ∙ sym (least_count-said v.tables.broadcast_receive wrap_subaddress (omega arith) (omega arith))) in
-      let any : any_count (receives_own P) ≡ false = any_own ∙ ap has_any (sym own_mask ∙ none) in
-      shown P all_terminals own n m (65535 - get_or (get_or words row []) 0 0) script all address first f g
-      ∙ ((λ j. shown_wraparound P all_terminals (counted j) (transmitted j))
-      ∙ ap (λ b. wraparound_by P b (least_count (receives_own P)) (least_count (receives_broadcast P)) (least_count (transmits P wrap_subaddress))) (sym any))
+      let counted : n ≡ least_count (receives_broadcast P s) =
+      e ∙ ((λ j. least_in (get_or ((tables j).broadcast_receive) (at j) 0)) ∙ sym (least_count-said v.tables.broadcast_receive s low high)) in
+      let any : any_count (receives_own P s) ≡ false = any_own ∙ ap has_any (sym own_mask ∙ none) in
+      shown P s all_terminals own n m (65535 - get_or (get_or words row []) 0 0) script all address first f g
+      ∙ ((λ j. shown_wraparound P s all_terminals (counted j) (transmitted j))
+      ∙ ap (λ b. wraparound_by P s b (least_count (receives_own P s)) (least_count (receives_broadcast P s)) (least_count (transmits P s))) (sym any))

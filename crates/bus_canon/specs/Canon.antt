@@ -1,12 +1,11 @@
--- The canonical text, version 1, line by line.
-use Rattle.std.specs.Prelude.{ℕ, zero, suc, ◌-◌, Bool, true, false, nat_le, List, [], ◌∷◌, ◌++◌, codes, replicate}
+-- The canonical text, versions 1 and 2, line by line.
+use Rattle.std.specs.Prelude.{ℕ, zero, suc, ◌-◌, Bool, true, false, ◌==◌, ◌&&◌, ◌||◌, nat_le, if◌then◌else◌, List, [], ◌∷◌, ◌++◌, codes, replicate}
 use Rattle.bus_word.specs.declared.cell.Cell.TheVariants.{OwnMode}
 use Rattle.bus_legal.specs.declared.tables.Tables.{Tables}
-use Rattle.bus_legal.specs.Description.{wrap_subaddress}
-use Rattle.bus_legal.specs.Tables.{tables_say, has_any, largest_in, masks_wrap, is_own_mask, is_broadcast_mask}
+use Rattle.bus_legal.specs.Tables.{tables_say, has_any, largest_in, masks_wrap, any_wraps, is_own_mask, is_broadcast_mask}
 use Rattle.bus_legal.specs.Parts.{Parts}
-use Rattle.line_format.specs.Format.{Format, done, and_then, Spells}
-use Rattle.line_format.specs.Shapes.{decimal, word, mask, name_line, number_line, bit_line, numbered_line, words_line}
+use Rattle.line_format.specs.Format.{Field, Format, done, and_then, Spells}
+use Rattle.line_format.specs.Shapes.{number_field, decimal, word, mask, number_line, bit_line, numbered_line, words_line}
 
 infixl 10 ◌>>=◌
 abbrev pub ◌>>=◌ : {A B : Type 0} → Format A → (A → Format B) → Format B
@@ -54,22 +53,59 @@ rows s (counts ∷ masks) = do
   others ← rows (suc s) masks
   done (words ∷ others)
 
--- The lines of a canonical text, which means a `Normal`. There is a line for acceptance, the vector word and
--- the BIT word where own mode code 0, 16 or 19, which asks for it, is legal, and one for wraparound where
--- words can be received at the wraparound subaddress and transmitted from it.
-unfoldable pub canon : Format Parts
-canon = do
-  _ ← name_line (codes "rt1553 1")
+-- whether subaddress 30 is the wraparound subaddress
+abbrev pub wrap_bit : Format ℕ
+wrap_bit = do
+  on ← bit_line (codes "wraparound")
+  done (if on then 30 else 0)
+
+-- In version 1 no other can be. The line stands where words can be received at it and transmitted from it.
+unfoldable pub wrap_switch : Tables → Format ℕ
+wrap_switch tables = when (masks_wrap tables 30) 0 wrap_bit
+
+-- none, or a subaddress at which words can be received and from which they can be transmitted
+abbrev pub may_wrap : Tables → ℕ → Bool
+may_wrap tables s = (s == 0) || (nat_le s 30 && masks_wrap tables s)
+
+-- In version 2 a line names the wraparound subaddress, 00 for none, where words can be received at some subaddress and
+-- transmitted from it.
+unfoldable pub wrap_name : Tables → Format ℕ
+wrap_name tables = when (any_wraps tables) 0 (number_line (codes "wraparound") decimal (may_wrap tables))
+
+unfoldable pub wrap_lines : ℕ → Tables → Format ℕ
+wrap_lines version tables = if version == 1 then wrap_switch tables else wrap_name tables
+
+-- one decimal digit
+abbrev pub version_field : Field
+version_field = number_field 10 1
+
+-- the version that is written, and those that are read
+abbrev pub is_written : ℕ → Bool
+is_written version = version == 2
+
+abbrev pub is_read : ℕ → Bool
+is_read version = (version == 1) || (version == 2)
+
+-- The lines of a canonical text of one of these versions, which means a `Normal`. There is a line for acceptance, the
+-- vector word and the BIT word where own mode code 0, 16 or 19, which asks for it, is legal. What differs between the
+-- versions is the line of wraparound alone.
+unfoldable pub canon : (ℕ → Bool) → Format Parts
+canon versions = do
+  version ← number_line (codes "rt1553") version_field versions
   address ← number_line (codes "address") decimal (λ n. nat_le n 30)
   broadcast ← bit_line (codes "broadcast")
   tables ← cells broadcast
   accept ← when (tables_say tables (OwnMode 0)) false (bit_line (codes "accept"))
   vector ← when (tables_say tables (OwnMode 16)) 0 (number_line (codes "vector") word (λ _. true))
   bit ← when (tables_say tables (OwnMode 19)) 0 (number_line (codes "bit") word (λ _. true))
-  wrap ← when (masks_wrap tables wrap_subaddress) false (bit_line (codes "wraparound"))
+  wrap ← wrap_lines version tables
   initial ← rows 1 tables.own_transmit
   done (record { address = address; broadcast = broadcast; wrap = wrap; accept = accept; vector = vector; bit = bit; initial = initial; tables = tables })
 
 -- the bytes are the canonical text of this value
 abbrev pub Text : Parts → List ℕ → Type 0
-Text v bytes = Spells canon v bytes
+Text v bytes = Spells (canon is_written) v bytes
+
+-- the bytes are a canonical text of this value, of either version
+abbrev pub AnyText : Parts → List ℕ → Type 0
+AnyText v bytes = Spells (canon is_read) v bytes

@@ -3,7 +3,7 @@ use Rattle.std.specs.Prelude.{◌≡◌, ℕ, ◌<◌, ◌⊎◌, List}
 use Rattle.bus_word.specs.declared.cell.Cell.TheVariants.{OwnReceive, OwnTransmit, BroadReceive, OwnMode, BroadMode}
 use Rattle.bus_legal.specs.Description.{Description}
 use Rattle.bus_terminal.specs.declared.event.Event.{Event}
-use Rattle.bus_terminal.specs.Distinguish.{address_script, option_script, own_receive_script, own_transmit_script, broadcast_receive_script, own_code_script, broadcast_code_script, acceptance_script, vector_script, bit_script, initial_script, wraparound_script}
+use Rattle.bus_terminal.specs.Distinguish.{address_script, option_script, own_receive_script, own_transmit_script, broadcast_receive_script, own_code_script, broadcast_code_script, acceptance_script, vector_script, bit_script, initial_script, wraparound_script, shown_subaddress}
 use Rattle.bus_canon.specs.declared.difference.Difference.{Difference}
 use Rattle.bus_canon.specs.declared.difference.Difference.TheVariants.{Address, BroadcastOption, ReceiveCell, TransmitCell, BroadcastReceiveCell, OwnCode, BroadcastCode, Acceptance, VectorWord, BitWord, InitialWord, Wraparound}
 
@@ -68,17 +68,18 @@ pub record IsFirst (P Q : Description) (d : Difference) : Type 0 where
   pub differ : AreAlike P Q d → ⊥
   pub alike : (c : Difference) → IsBefore c d → AreAlike P Q c
 
--- the script that shows the difference between the first terminal and another
-abbrev pub script_for : Description → Difference → List Event
-script_for P Address = address_script P.address
-script_for P BroadcastOption = option_script P.address
-script_for P (ReceiveCell s n) = own_receive_script P.address s n
-script_for P (TransmitCell s n) = own_transmit_script P.address s n
-script_for P (BroadcastReceiveCell s n) = broadcast_receive_script P.address s n
-script_for P (OwnCode code) = own_code_script P.address code
-script_for P (BroadcastCode code) = broadcast_code_script P.address code
-script_for P Acceptance = acceptance_script P.address
-script_for P VectorWord = vector_script P.address
-script_for P BitWord = bit_script P.address
-script_for P (InitialWord s i) = initial_script P s
-script_for P Wraparound = wraparound_script P
+-- The script that shows the difference between the first terminal and another. The other is asked for its wraparound
+-- subaddress alone, where the first has none.
+abbrev pub script_for : Description → Description → Difference → List Event
+script_for P Q Address = address_script P.address
+script_for P Q BroadcastOption = option_script P.address
+script_for P Q (ReceiveCell s n) = own_receive_script P.address s n
+script_for P Q (TransmitCell s n) = own_transmit_script P.address s n
+script_for P Q (BroadcastReceiveCell s n) = broadcast_receive_script P.address s n
+script_for P Q (OwnCode code) = own_code_script P.address code
+script_for P Q (BroadcastCode code) = broadcast_code_script P.address code
+script_for P Q Acceptance = acceptance_script P.address
+script_for P Q VectorWord = vector_script P.address
+script_for P Q BitWord = bit_script P.address
+script_for P Q (InitialWord s i) = initial_script P s
+script_for P Q Wraparound = wraparound_script P (shown_subaddress P.wrap Q.wrap)

@@ -14,7 +14,7 @@ use bus_legal::Normal;
 /// bus A, made for the address of the first.
 pub fn distinguish(p: &Normal, q: &Normal) -> Option<Script>
     ensures same { IfNone result (p.now ≡ q.now) }
-    ensures first { IfSome result (λ script. (d : Difference) × IsFirst (description_in p.now) (description_in q.now) d × (script.items ≡ script_for (description_in p.now) d)) }
+    ensures first { IfSome result (λ script. (d : Difference) × IsFirst (description_in p.now) (description_in q.now) d × (script.items ≡ script_for (description_in p.now) (description_in q.now) d)) }
     ensures apart { IfSome result (λ script. TellsApart (description_in p.now) (description_in q.now) script.items) }
     ensures normal_first { IsNormal p.now }
     ensures normal_second { IsNormal q.now }
@@ -23,7 +23,7 @@ pub fn distinguish(p: &Normal, q: &Normal) -> Option<Script>
     p.setup();
     q.setup();
     match first_difference(p, q) {
-        Some(difference) => Some(script_for(p, difference)),
+        Some(difference) => Some(script_for(p, q, difference)),
         None => None,
     }
 }

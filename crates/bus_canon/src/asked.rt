@@ -1,22 +1,23 @@
 //! The lines that a text has only where a controller can ask for what they tell.
-ghost use Rattle.std.specs.Prelude.{◌≡◌, true, false, codes, OnOk};
+ghost use Rattle.std.specs.Prelude.{◌≡◌, ◌≤◌, true, false, codes, if◌then◌else◌, IfOk, OnOk};
 ghost use Rattle.line_format.specs.Reading.{read};
-ghost use Rattle.line_format.specs.Shapes.{word, number_line, bit_line};
+ghost use Rattle.line_format.specs.Shapes.{decimal, word, number_line, bit_line};
 ghost use Rattle.line_format.specs.Views.{Gives, spot};
 ghost use Rattle.line_format.specs.Writing.{Adds};
 ghost use Rattle.bus_word.specs.declared.cell.Cell.TheVariants.{OwnMode};
-ghost use Rattle.bus_legal.specs.Description.{wrap_subaddress};
 ghost use Rattle.bus_legal.specs.Tables.{tables_say, masks_wrap};
-ghost use Rattle.bus_canon.specs.Canon.{when};
+ghost use Rattle.bus_canon.specs.Canon.{when, wrap_bit, wrap_switch, may_wrap, wrap_name, wrap_lines};
 
 use crate::names::{ACCEPT, WRAPAROUND};
 use bus_legal::{Legality, Tables};
 use bus_word::Cell;
-use line_format::{Lines, WrongLine, bit_line, put_bit_line, put_number_line, word_line};
+use line_format::{
+    Lines, WrongLine, bit_line, number_line_of, put_bit_line, put_number_line, word_line,
+};
 use std::alloc::AllocError;
 
-/// The wraparound subaddress.
-const WRAP_SUBADDRESS: u8 = 30;
+/// The only wraparound subaddress that texts of version 1 know.
+const SWITCHED: u8 = 30;
 
 /// Reads a line with a 0 or a 1, if the text has it.
 fn bit_where<'a>(lines: Lines<'a>, given: bool, name: &[u8]) -> Result<(bool, Lines<'a>), WrongLine>
@@ -59,11 +60,84 @@ pub fn asked_word<'a>(
     word_where(lines, tables.legal(Cell::OwnMode(code)), name)
 }
 
-/// Reads whether wraparound is on, which the text tells where it can be reached.
-pub fn wraparound<'a>(lines: Lines<'a>, tables: &Tables) -> Result<(bool, Lines<'a>), WrongLine>
-    ensures { Gives (λ r. r.0) (λ r. r.1) result (read (when (masks_wrap tables.now wrap_subaddress) false (bit_line (codes "wraparound"))) (spot lines.entry)) }
+/// The wraparound subaddress that a text of version 1 tells by this bit.
+fn switched(on: bool) -> u8
+    ensures value { result ≡ (if on then 30 else 0) }
+    ensures own { result ≤ 30 }
 {
-    bit_where(lines, tables.can_wrap(WRAP_SUBADDRESS), WRAPAROUND)
+    if on { SWITCHED } else { 0 }
+}
+
+fn wrap_bit(lines: Lines<'_>) -> Result<(u8, Lines<'_>), WrongLine>
+    ensures answer { Gives (λ r. r.0) (λ r. r.1) result (read wrap_bit (spot lines.entry)) }
+    ensures own { IfOk result (λ r. r.0 ≤ 30) }
+{
+    let (on, lines) = bit_line(lines, WRAPAROUND)?;
+    Ok((switched(on), lines))
+}
+
+/// Reads whether 30 is the wraparound subaddress, as a text of version 1 tells it.
+#[tactic(auto, unfolding(crate::specs::Canon::wrap_switch))]
+fn wrap_switch<'a>(lines: Lines<'a>, tables: &Tables) -> Result<(u8, Lines<'a>), WrongLine>
+    ensures answer { Gives (λ r. r.0) (λ r. r.1) result (read (wrap_switch tables.now) (spot lines.entry)) }
+    ensures own { IfOk result (λ r. r.0 ≤ 30) }
+{
+    if tables.can_wrap(SWITCHED) {
+        wrap_bit(lines)
+    } else {
+        Ok((0, lines))
+    }
+}
+
+/// Whether this can be the wraparound subaddress, or is 0, for none.
+fn may_wrap(tables: &Tables, subaddress: u32) -> bool
+    ensures value { result ≡ may_wrap tables.now subaddress }
+    ensures own { result ≡ true → subaddress ≤ 30 }
+{
+    subaddress == 0 || subaddress <= 30 && tables.can_wrap(subaddress as u8)
+}
+
+fn wrap_line<'a>(lines: Lines<'a>, tables: &Tables) -> Result<(u8, Lines<'a>), WrongLine>
+    ensures answer { Gives (λ r. r.0) (λ r. r.1) result (read (number_line (codes "wraparound") decimal (may_wrap tables.now)) (spot lines.entry)) }
+    ensures own { IfOk result (λ r. r.0 ≤ 30) }
+{
+    let Some((number, rest)) = number_line_of(lines.rest, WRAPAROUND, 10, 2) else {
+        return Err(lines.wrong());
+    };
+    if !may_wrap(tables, number) {
+        return Err(lines.wrong());
+    }
+    Ok((number as u8, lines.behind(rest)))
+}
+
+/// Reads the wraparound subaddress, as a text of version 2 tells it.
+#[tactic(auto, unfolding(crate::specs::Canon::wrap_name))]
+fn wrap_name<'a>(lines: Lines<'a>, tables: &Tables) -> Result<(u8, Lines<'a>), WrongLine>
+    ensures answer { Gives (λ r. r.0) (λ r. r.1) result (read (wrap_name tables.now) (spot lines.entry)) }
+    ensures own { IfOk result (λ r. r.0 ≤ 30) }
+{
+    if tables.can_wrap_somewhere() {
+        wrap_line(lines, tables)
+    } else {
+        Ok((0, lines))
+    }
+}
+
+/// Reads the wraparound subaddress, 0 for none, which the text tells where one can be reached.
+#[tactic(auto, unfolding(crate::specs::Canon::wrap_lines))]
+pub fn wraparound<'a>(
+    lines: Lines<'a>,
+    version: u32,
+    tables: &Tables,
+) -> Result<(u8, Lines<'a>), WrongLine>
+    ensures answer { Gives (λ r. r.0) (λ r. r.1) result (read (wrap_lines version tables.now) (spot lines.entry)) }
+    ensures own { IfOk result (λ r. r.0 ≤ 30) }
+{
+    if version == 1 {
+        wrap_switch(lines, tables)
+    } else {
+        wrap_name(lines, tables)
+    }
 }
 
 /// Writes a line with a 0 or a 1, if the text has it.
@@ -121,10 +195,22 @@ pub fn put_asked_word(
     put_word_where(out, tables.legal(Cell::OwnMode(code)), name, number)
 }
 
-/// Writes whether wraparound is on, where it can be reached.
-pub fn put_wraparound(out: &mut Vec<u8>, tables: &Tables, wrap: bool) -> Result<(), AllocError>
-    requires { masks_wrap tables.now wrap_subaddress ≡ false → wrap ≡ false }
-    ensures { OnOk result (Adds (when (masks_wrap tables.now wrap_subaddress) false (bit_line (codes "wraparound"))) wrap out.old.items out.new.items) }
+fn put_wrap_line(out: &mut Vec<u8>, tables: &Tables, wrap: u8) -> Result<(), AllocError>
+    requires small { wrap ≤ 30 }
+    requires may { may_wrap tables.now wrap ≡ true }
+    ensures { OnOk result (Adds (number_line (codes "wraparound") decimal (may_wrap tables.now)) wrap out.old.items out.new.items) }
 {
-    put_bit_where(out, tables.can_wrap(WRAP_SUBADDRESS), WRAPAROUND, wrap)
+    put_number_line(out, WRAPAROUND, 10, 2, u32::from(wrap))
+}
+
+/// Writes the wraparound subaddress, where one can be reached.
+pub fn put_wraparound(out: &mut Vec<u8>, tables: &Tables, wrap: u8) -> Result<(), AllocError>
+    requires small { wrap ≤ 30 }
+    requires unwrapped { masks_wrap tables.now wrap ≡ false → wrap ≡ 0 }
+    ensures { OnOk result (Adds (wrap_name tables.now) wrap out.old.items out.new.items) }
+{
+    if !tables.can_wrap_somewhere() {
+        return Ok(());
+    }
+    put_wrap_line(out, tables, wrap)
 }

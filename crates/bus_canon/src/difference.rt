@@ -31,7 +31,7 @@ pub enum Difference {
     BitWord,
     /// The word of this subaddress and this number that is held at power-up.
     InitialWord(u8, u8),
-    /// Whether words received at the wraparound subaddress replace those held there.
+    /// The wraparound subaddress, at which words that are received replace those held there.
     Wraparound,
 }
 

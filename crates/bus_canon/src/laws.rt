@@ -3,42 +3,47 @@ ghost use Rattle.std.specs.Prelude.{◌≡◌, ◌≤◌, ◌++◌, ℕ, List, [
 ghost use Rattle.line_format.specs.Answers.{Answer, Answers};
 ghost use Rattle.bus_legal.specs.Parts.{Parts, description_in, IsNormal};
 ghost use Rattle.bus_terminal.specs.Same.{Same};
-ghost use Rattle.bus_canon.specs.Canon.{canon, Text};
+ghost use Rattle.bus_canon.specs.Canon.{is_read, canon, Text, AnyText};
 
-/// Every `Normal` has a canonical text.
+/// Every `Normal` has a canonical text, of version 2.
 pub fn normals_have_texts()
     ensures { (v : Parts) → IsNormal v → (bytes : List ℕ) × Text v bytes }
 {}
 
-/// A canonical text is that of a `Normal`.
+/// A canonical text of either version is that of a `Normal`.
 pub fn texts_are_of_normals()
-    ensures { (v : Parts) (bytes : List ℕ) → Text v bytes → IsNormal v }
+    ensures { (v : Parts) (bytes : List ℕ) → AnyText v bytes → IsNormal v }
 {}
 
-/// A canonical text means one value.
+/// A canonical text of either version means one value.
 pub fn texts_mean_one_value()
-    ensures { (v w : Parts) (bytes : List ℕ) → Text v bytes → Text w bytes → v ≡ w }
+    ensures { (v w : Parts) (bytes : List ℕ) → AnyText v bytes → AnyText w bytes → v ≡ w }
 {}
 
-/// A value has one canonical text.
+/// The text that is written is one that is read.
+pub fn written_texts_are_read()
+    ensures { (v : Parts) (bytes : List ℕ) → Text v bytes → AnyText v bytes }
+{}
+
+/// A value has one canonical text that is written.
 pub fn values_have_one_text()
     ensures { (v : Parts) (a b : List ℕ) → Text v a → Text v b → a ≡ b }
 {}
 
-/// No canonical text is a proper prefix of another.
+/// No canonical text is a proper prefix of another, of the same version or the other.
 pub fn no_text_begins_another()
-    ensures { (v w : Parts) (bytes more : List ℕ) → Text v bytes → Text w (bytes ++ more) → more ≡ [] }
+    ensures { (v w : Parts) (bytes more : List ℕ) → AnyText v bytes → AnyText w (bytes ++ more) → more ≡ [] }
 {}
 
-/// Canonical texts have from 1,520 to 7,617 bytes.
+/// Canonical texts have from 1,520 to 7,618 bytes.
 pub fn texts_are_short()
-    ensures least { (v : Parts) (bytes : List ℕ) → Text v bytes → 1520 ≤ length bytes }
-    ensures most { (v : Parts) (bytes : List ℕ) → Text v bytes → length bytes ≤ 7617 }
+    ensures least { (v : Parts) (bytes : List ℕ) → AnyText v bytes → 1520 ≤ length bytes }
+    ensures most { (v : Parts) (bytes : List ℕ) → AnyText v bytes → length bytes ≤ 7618 }
 {}
 
 /// Some bytes have one answer.
 pub fn bytes_have_one_answer()
-    ensures { (bytes : List ℕ) (r s : Answer Parts) → Answers canon bytes r → Answers canon bytes s → r ≡ s }
+    ensures { (bytes : List ℕ) (r s : Answer Parts) → Answers (canon is_read) bytes r → Answers (canon is_read) bytes s → r ≡ s }
 {}
 
 /// Terminals that are the same have the same in reach.

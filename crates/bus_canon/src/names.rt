@@ -1,6 +1,6 @@
 //! The names of the lines.
 
-pub const HEAD: &[u8] = b"rt1553 1";
+pub const HEAD: &[u8] = b"rt1553";
 
 pub const ADDRESS: &[u8] = b"address";
 

@@ -1,10 +1,10 @@
 //! The reader of canonical texts.
-ghost use Rattle.std.specs.Prelude.{◌≤◌, nat_le, codes, IfOk};
+ghost use Rattle.std.specs.Prelude.{◌≡◌, ◌≤◌, nat_le, codes, IfOk};
 ghost use Rattle.line_format.specs.Reading.{read};
 ghost use Rattle.line_format.specs.Shapes.{decimal, number_line};
 ghost use Rattle.line_format.specs.Views.{Gives, spot};
 ghost use Rattle.line_format.specs.Answers.{Answers};
-ghost use Rattle.bus_canon.specs.Canon.{canon};
+ghost use Rattle.bus_canon.specs.Canon.{version_field, is_read, canon};
 ghost use Rattle.bus_canon.specs.CanonAnswer.{canon_answer};
 
 use crate::asked::{acceptance, asked_word, wraparound};
@@ -13,7 +13,26 @@ use crate::fault::CanonFault;
 use crate::names::{ADDRESS, BIT, BROADCAST, HEAD, VECTOR};
 use crate::rows::rows;
 use bus_legal::{Normal, Setup};
-use line_format::{Lines, WrongLine, bit_line, name_line, number_line_of};
+use line_format::{Lines, WrongLine, bit_line, number_line_of};
+
+fn is_read(version: u32) -> bool
+    ensures { result ≡ is_read version }
+{
+    version == 1 || version == 2
+}
+
+/// Reads the first line, which tells the version.
+fn version_line(lines: Lines<'_>) -> Result<(u32, Lines<'_>), WrongLine>
+    ensures { Gives (λ r. r.0) (λ r. r.1) result (read (number_line (codes "rt1553") version_field is_read) (spot lines.entry)) }
+{
+    let Some((number, rest)) = number_line_of(lines.rest, HEAD, 10, 1) else {
+        return Err(lines.wrong());
+    };
+    if !is_read(number) {
+        return Err(lines.wrong());
+    }
+    Ok((number, lines.behind(rest)))
+}
 
 fn address_line(lines: Lines<'_>) -> Result<(u8, Lines<'_>), WrongLine>
     ensures answer { Gives (λ r. r.0) (λ r. r.1) result (read (number_line (codes "address") decimal (λ n. nat_le n 30)) (spot lines.entry)) }
@@ -29,16 +48,16 @@ fn address_line(lines: Lines<'_>) -> Result<(u8, Lines<'_>), WrongLine>
 }
 
 fn text(lines: Lines<'_>) -> Result<(Normal, Lines<'_>), WrongLine>
-    ensures { Gives (λ r. r.0) (λ r. r.1) result (read canon (spot lines.entry)) }
+    ensures { Gives (λ r. r.0) (λ r. r.1) result (read (canon is_read) (spot lines.entry)) }
 {
-    let lines = name_line(lines, HEAD)?;
+    let (version, lines) = version_line(lines)?;
     let (address, lines) = address_line(lines)?;
     let (broadcast, lines) = bit_line(lines, BROADCAST)?;
     let (tables, lines) = cells(lines, broadcast)?;
     let (accept, lines) = acceptance(lines, &tables)?;
     let (vector, lines) = asked_word(lines, &tables, 16, VECTOR)?;
     let (bit, lines) = asked_word(lines, &tables, 19, BIT)?;
-    let (wrap, lines) = wraparound(lines, &tables)?;
+    let (wrap, lines) = wraparound(lines, version, &tables)?;
     let (initial, lines) = rows(lines, &tables.own_transmit)?;
     let setup = Setup {
         address,
@@ -52,10 +71,10 @@ fn text(lines: Lines<'_>) -> Result<(Normal, Lines<'_>), WrongLine>
     Ok((Normal::of(setup, tables), lines))
 }
 
-/// Reads a canonical text. The first wrong line is told; one that lacks its line feed, or that isn't
+/// Reads a canonical text, of version 1 or 2. The first wrong line is told; one that lacks its line feed, or that isn't
 /// there, is wrong. Takes no memory.
 pub fn read_canon(bytes: &[u8]) -> Result<Normal, CanonFault>
-    ensures { Answers canon bytes.now (canon_answer result) }
+    ensures { Answers (canon is_read) bytes.now (canon_answer result) }
 {
     let (normal, after) = match text(Lines::of(bytes)) {
         Ok(found) => found,

@@ -1,13 +1,13 @@
 //! Scripts of command words, data words and gaps on bus A.
-ghost use Rattle.std.specs.Prelude.{◌≡◌, ◌+◌, ◌-◌, ◌%◌, ◌≤◌, ◌<◌, ◌++◌, [], ◌∷◌, replicate};
+ghost use Rattle.std.specs.Prelude.{◌≡◌, ◌≢◌, ◌+◌, ◌-◌, ◌%◌, ◌≤◌, ◌<◌, ◌++◌, [], ◌∷◌, replicate};
 ghost use Rattle.arrayvec.specs.ArrayVec.{array_vec_len};
 ghost use Rattle.bus_word.specs.declared.word.Bus.TheVariants.{A};
 ghost use Rattle.bus_word.specs.Word.{valid_word, bit_of};
 ghost use Rattle.bus_legal.specs.Parts.{description_in, IsNormal};
 ghost use Rattle.bus_terminal.specs.declared.event.Event.TheVariants.{Word, Gap};
 ghost use Rattle.bus_terminal.specs.Exchanges.{words_then, exchange_then, command_event, script_of};
-ghost use Rattle.bus_terminal.specs.Distinguish.{command_of, receive, transmit, mode_code, ask, initial_script, wraparound_script};
-ghost use Rattle.bus_canon.specs.Difference.{script_for};
+ghost use Rattle.bus_terminal.specs.Distinguish.{command_of, receive, transmit, mode_code, ask, initial_script, wraparound_script, shown_subaddress};
+ghost use Rattle.bus_canon.specs.Difference.{AreAlike, script_for};
 ghost use Rattle.bus_canon.specs.FirstPlace.{IsInRange};
 
 use crate::difference::Difference;
@@ -22,9 +22,6 @@ pub type Script = ArrayVec<Event, 40>;
 
 /// The address of all terminals.
 const ALL_TERMINALS: u8 = 31;
-
-/// The wraparound subaddress.
-const WRAP_SUBADDRESS: u8 = 30;
 
 /// The command word of these fields (MIL-STD-1553B, 4.3.3.5.1).
 fn command(address: u8, transmit: bool, subaddress: u8, low: u8) -> u16
@@ -136,32 +133,48 @@ fn initial_script(p: &Normal, subaddress: u8) -> Script
     with_transmit(ArrayVec::new(), p.address(), subaddress, count)
 }
 
-/// The shortest legal receive command of the wraparound subaddress, by broadcast only where there is
-/// no other, with the complement of the first word that is held there; then the shortest legal
-/// transmit command.
-fn wraparound_script(p: &Normal) -> Script
-    requires { IsNormal p.now }
-    ensures { result.items ≡ wraparound_script (description_in p.now) }
+/// The shortest legal receive command of a subaddress, 1 to 30, by broadcast only where there is no other, with
+/// the complement of the first word that is held there; then the shortest legal transmit command.
+fn wraparound_script(p: &Normal, subaddress: u8) -> Script
+    requires normal { IsNormal p.now }
+    requires low { 1 ≤ subaddress }
+    requires high { subaddress ≤ 30 }
+    ensures { result.items ≡ wraparound_script (description_in p.now) subaddress }
 {
-    let row = usize::from(WRAP_SUBADDRESS) - 1;
+    let row = usize::from(subaddress) - 1;
     let tables = p.tables();
     let first = !p.initial()[row][0];
     let script = if tables.own_receive[row] != 0 {
         let count = least_count(tables.own_receive[row]);
-        receive_script(p.address(), WRAP_SUBADDRESS, count, first)
+        receive_script(p.address(), subaddress, count, first)
     } else {
         let count = least_count(tables.broadcast_receive[row]);
-        receive_script(ALL_TERMINALS, WRAP_SUBADDRESS, count, first)
+        receive_script(ALL_TERMINALS, subaddress, count, first)
     };
     let count = least_count(tables.own_transmit[row]);
-    with_transmit(script, p.address(), WRAP_SUBADDRESS, count)
+    with_transmit(script, p.address(), subaddress, count)
+}
+
+/// The subaddress that shows that two terminals don't have the same wraparound subaddress: that of the first, or
+/// of the other where the first has none.
+fn shown_subaddress(p: &Normal, q: &Normal) -> u8
+    requires first { IsNormal p.now }
+    requires second { IsNormal q.now }
+    requires differ { p.now.wrap ≢ q.now.wrap }
+    ensures value { result ≡ shown_subaddress p.now.wrap q.now.wrap }
+    ensures low { 1 ≤ result }
+    ensures high { result ≤ 30 }
+{
+    if p.wrap() == 0 { q.wrap() } else { p.wrap() }
 }
 
 /// The script that shows this difference between the first terminal and another.
-pub fn script_for(p: &Normal, difference: Difference) -> Script
+pub fn script_for(p: &Normal, q: &Normal, difference: Difference) -> Script
     requires normal { IsNormal p.now }
+    requires other { IsNormal q.now }
+    requires differ { AreAlike (description_in p.now) (description_in q.now) difference → ⊥ }
     requires range { IsInRange difference }
-    ensures { result.items ≡ script_for (description_in p.now) difference }
+    ensures { result.items ≡ script_for (description_in p.now) (description_in q.now) difference }
 {
     let own = p.address();
     match difference {
@@ -178,6 +191,6 @@ pub fn script_for(p: &Normal, difference: Difference) -> Script
         Difference::VectorWord => mode_script(own, 16),
         Difference::BitWord => mode_script(own, 19),
         Difference::InitialWord(s, _) => initial_script(p, s),
-        Difference::Wraparound => wraparound_script(p),
+        Difference::Wraparound => wraparound_script(p, shown_subaddress(p, q)),
     }
 }

@@ -2,24 +2,27 @@
 ghost use Rattle.std.specs.Prelude.{◌≤◌, length, IfOk, OnOk};
 ghost use Rattle.line_format.specs.Writing.{Adds};
 ghost use Rattle.bus_legal.specs.Parts.{parts_of, IsNormal};
-ghost use Rattle.bus_canon.specs.Canon.{canon, Text};
+ghost use Rattle.bus_canon.specs.Canon.{is_written, canon, Text};
 
 use crate::asked::{put_acceptance, put_asked_word, put_wraparound};
 use crate::cell_lines::put_cells;
 use crate::names::{ADDRESS, BIT, BROADCAST, HEAD, VECTOR};
 use crate::rows::put_rows;
 use bus_legal::{Normal, Setup, Tables};
-use line_format::{put_bit_line, put_name_line, put_number_line};
+use line_format::{put_bit_line, put_number_line};
 use std::alloc::{AllocError, Global};
 
+/// The version of the texts that are written.
+const VERSION: u32 = 2;
+
 /// How many bytes the longest canonical text has.
-const LONGEST: usize = 7_617;
+const LONGEST: usize = 7_618;
 
 fn put_text(out: &mut Vec<u8>, setup: &Setup, tables: &Tables) -> Result<(), AllocError>
     requires { IsNormal (parts_of setup.now tables.now) }
-    ensures { OnOk result (Adds canon (parts_of setup.now tables.now) out.old.items out.new.items) }
+    ensures { OnOk result (Adds (canon is_written) (parts_of setup.now tables.now) out.old.items out.new.items) }
 {
-    put_name_line(out, HEAD)?;
+    put_number_line(out, HEAD, 10, 1, VERSION)?;
     put_number_line(out, ADDRESS, 10, 2, u32::from(setup.address))?;
     put_bit_line(out, BROADCAST, setup.broadcast)?;
     put_cells(out, setup.broadcast, tables)?;
@@ -34,7 +37,7 @@ fn put_text(out: &mut Vec<u8>, setup: &Setup, tables: &Tables) -> Result<(), All
 /// Writes the canonical text, asking once for the room of the longest.
 pub fn write_canon(alloc: Global, normal: &Normal) -> Result<Vec<u8>, AllocError>
     ensures text { IfOk result (λ bytes. Text normal.now bytes.items) }
-    ensures size { IfOk result (λ bytes. length bytes.items ≤ 7617) }
+    ensures size { IfOk result (λ bytes. length bytes.items ≤ 7618) }
 {
     let mut out = Vec::with_capacity(alloc, LONGEST)?;
     put_text(&mut out, &normal.setup(), normal.tables())?;

@@ -1,14 +1,15 @@
 -- When two descriptions, or their reached parts, are equal.
-use Rattle.std.proofs.Common.{◌≡◌, ℕ, ◌≤◌, Bool, true, false, ◌&&◌, ◌||◌, cond, nat_le, refl, ap, ◌∙◌, arith}
+use Rattle.std.proofs.Common.{◌≡◌, ℕ, ◌≤◌, ◌==◌, Bool, true, false, ◌&&◌, ◌||◌, cond, nat_le, refl, ap, sym, ◌∙◌, arith}
+use Rattle.std.proofs.lemmas.Bool.{eqb-true}
 use Rattle.std.proofs.lemmas.Bool.Decides.{nat_tests}
 use Rattle.bus_word.specs.declared.cell.Cell.{Cell}
 use Rattle.bus_word.specs.declared.cell.Cell.TheVariants.{OwnReceive, OwnTransmit, BroadReceive, OwnMode}
 use Rattle.bus_word.specs.Cell.{is_data_place}
-use Rattle.bus_legal.specs.Description.{Description, wrap_subaddress}
+use Rattle.bus_legal.specs.Description.{Description}
 use Rattle.bus_legal.specs.Reach.{largest_to, any_to, largest_count, any_count, is_heard, transmits, receives, can_wrap, can_transmit, reach}
 use Rattle.bus_legal.proofs.Counts.{sent_place, largest_to-bounds, any_to-true}
 
-abbrev built : ℕ → Bool → Bool → Bool → ℕ → ℕ → (ℕ → ℕ → ℕ) → (Cell → Bool) → Description
+abbrev built : ℕ → Bool → ℕ → Bool → ℕ → ℕ → (ℕ → ℕ → ℕ) → (Cell → Bool) → Description
 built address broadcast wrap accept vector bit initial legal = record { address = address; broadcast = broadcast; wrap = wrap; accept = accept; vector = vector; bit = bit; initial = initial; legal = legal }
 
 -- descriptions that agree in each part are equal
@@ -36,10 +37,18 @@ receives-reach P s n = ap (λ b. P.legal (OwnReceive s n) || b) (and-twice P.bro
 can_wrap-reach : (P : Description) (s : ℕ) → can_wrap (reach P) s ≡ can_wrap P s
 can_wrap-reach P s = λ j. any_count (λ n. receives-reach P s n j) && any_count (transmits P s)
 
+pub cond-none : (a : Bool) (n : ℕ) → n ≡ 0 → cond a n 0 ≡ 0
+cond-none true n e = e
+cond-none false n e = refl
+
+wrap-twice : (P : Description) (b : Bool) → can_wrap P P.wrap ≡ b → cond (can_wrap P (cond b P.wrap 0)) (cond b P.wrap 0) 0 ≡ cond b P.wrap 0
+wrap-twice P true e = ap (λ b. cond b P.wrap 0) e
+wrap-twice P false e = cond-none (can_wrap P 0) 0 refl
+
 -- to reach twice is to reach once
 pub reach-reach : (P : Description) → reach (reach P) ≡ reach P
 reach-reach P = same_description (reach (reach P)) (reach P) refl refl
-    (ap (λ b. b && (can_wrap P wrap_subaddress && P.wrap)) (can_wrap-reach P wrap_subaddress) ∙ and-twice (can_wrap P wrap_subaddress) P.wrap)
+    (ap (λ b. cond b (reach P).wrap 0) (can_wrap-reach P (reach P).wrap) ∙ wrap-twice P (can_wrap P P.wrap) refl)
     (and-twice (P.legal (OwnMode 0)) P.accept)
     (cond-twice (P.legal (OwnMode 16)) P.vector)
     (cond-twice (P.legal (OwnMode 19)) P.bit)
@@ -76,9 +85,20 @@ initial-reach P s n i legal high from to =
     within i m low high = grind (arith, nat_tests)
 
 -- wraparound is reached where legal commands show it
-pub wrap-reach : (P : Description) (m n : ℕ) → receives P wrap_subaddress m ≡ true → 1 ≤ m → m ≤ 32 → transmits P wrap_subaddress n ≡ true → 1 ≤ n →
-    n ≤ 32 → (reach P).wrap ≡ P.wrap
+pub wrap-reach : (P : Description) (s m n : ℕ) → 1 ≤ s → receives P s m ≡ true → 1 ≤ m → m ≤ 32 → transmits P s n ≡ true → 1 ≤ n →
+    n ≤ 32 → (s == (reach P).wrap) ≡ (s == P.wrap)
 unfolding any_count
-wrap-reach P m n receive low high transmit from to =
-    ap (λ t. (t && any_to 32 (transmits P wrap_subaddress)) && P.wrap) (any_to-true 32 (receives P wrap_subaddress) m receive low high)
-    ∙ ap (λ t. t && P.wrap) (any_to-true 32 (transmits P wrap_subaddress) n transmit from to)
+wrap-reach P s m n some receive low high transmit from to = by_place (s == P.wrap) refl
+  where
+    wraps : can_wrap P s ≡ true
+    wraps =
+        ap (λ t. t && any_to 32 (transmits P s)) (any_to-true 32 (receives P s) m receive low high)
+        ∙ any_to-true 32 (transmits P s) n transmit from to
+
+    other : (b : Bool) → (s == P.wrap) ≡ false → (s == cond b P.wrap 0) ≡ false
+    other true e = e
+    other false e = grind (arith, nat_tests)
+
+    by_place : (b : Bool) → (s == P.wrap) ≡ b → (s == (reach P).wrap) ≡ b
+    by_place true e = ap (λ t. s == cond t P.wrap 0) (ap (can_wrap P) (sym (eqb-true s P.wrap e)) ∙ wraps) ∙ e
+    by_place false e = other (can_wrap P P.wrap) e

@@ -10,7 +10,7 @@ use Rattle.bus_profile.specs.declared.profile.Profile.{Profile}
 use Rattle.bus_profile.specs.OwnCodes.{has_bit}
 use Rattle.bus_legal.specs.declared.setup.Setup.{Setup}
 use Rattle.bus_legal.specs.declared.tables.Tables.{Tables}
-use Rattle.bus_legal.specs.Description.{wrap_subaddress, word_at, described}
+use Rattle.bus_legal.specs.Description.{word_at, described}
 use Rattle.bus_legal.specs.Legal.{is_legal, last_says}
 use Rattle.bus_legal.specs.Meaning.{description_of, SetsUp}
 use Rattle.bus_legal.specs.Reach.{is_heard, reach}
@@ -63,7 +63,8 @@ reach-normal v is = sym (description_in-made (description_in v) v (record {
   own_transmit = is.own_transmit;
   broadcast_receive = is.broadcast_receive;
   legal = all-heard v is;
-  wrap = flag-kept (masks_wrap v.tables wrap_subaddress) v.wrap is.unwrapped;
+  small = is.wrap;
+  wrap = word-kept (masks_wrap v.tables v.wrap) v.wrap is.unwrapped;
   accept = flag-kept (has_bit v.tables.own_mode 0) v.accept is.unasked_accept;
   vector = word-kept (has_bit v.tables.own_mode 16) v.vector is.unasked_vector;
   bit = word-kept (has_bit v.tables.own_mode 19) v.bit is.unasked_bit;

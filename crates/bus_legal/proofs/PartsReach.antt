@@ -1,19 +1,19 @@
 -- The parts of a `Normal` and the reached part of a description.
-use Rattle.std.proofs.Common.{◌≡◌, ℕ, ◌-◌, ◌≤◌, Bool, true, false, ◌&&◌, ◌||◌, cond, nat_le, nat_lt, get_or, refl, ap, sym, ◌∙◌, arith}
+use Rattle.std.proofs.Common.{◌≡◌, ℕ, zero, suc, ◌-◌, ◌≤◌, Bool, true, false, ◌&&◌, ◌||◌, cond, nat_le, nat_lt, get_or, refl, ap, sym, ◌∙◌, arith}
 use Rattle.std.proofs.lemmas.Bool.Decides.{nat_tests}
 use Rattle.bus_word.specs.declared.cell.Cell.{Cell}
 use Rattle.bus_word.specs.declared.cell.Cell.TheVariants.{OwnReceive, OwnTransmit, BroadReceive, OwnMode}
 use Rattle.bus_word.specs.Cell.{is_data_place}
 use Rattle.bus_profile.specs.OwnCodes.{has_bit}
-use Rattle.bus_legal.specs.Description.{Description, wrap_subaddress, word_at}
+use Rattle.bus_legal.specs.Description.{Description, word_at}
 use Rattle.bus_legal.specs.Reach.{largest_count, any_count, is_heard, transmits, can_wrap, can_transmit, reach}
 use Rattle.bus_legal.specs.Tables.{tables_say, largest_in, masks_wrap}
 use Rattle.bus_legal.specs.Parts.{Parts, description_in, AreMasks}
 use Rattle.bus_legal.proofs.Bools.{left_of}
 use Rattle.bus_legal.proofs.Counts.{sent_place}
-use Rattle.bus_legal.proofs.Descriptions.{same_description}
+use Rattle.bus_legal.proofs.Descriptions.{same_description, cond-none}
 use Rattle.bus_legal.proofs.Places.{place_from}
-use Rattle.bus_legal.proofs.TablesReach.{masks_wrap-said, largest_count-said}
+use Rattle.bus_legal.proofs.TablesReach.{is_subaddress, masks_wrap-said, largest_count-said}
 
 -- how the parts were made of a description
 pub record AreMadeOf (P : Description) (v : Parts) : Type 0 where
@@ -23,7 +23,8 @@ pub record AreMadeOf (P : Description) (v : Parts) : Type 0 where
   pub own_transmit : AreMasks v.tables.own_transmit
   pub broadcast_receive : AreMasks v.tables.broadcast_receive
   pub legal : (cell : Cell) → tables_say v.tables cell ≡ (is_heard P.broadcast cell && P.legal cell)
-  pub wrap : v.wrap ≡ (masks_wrap v.tables wrap_subaddress && P.wrap)
+  pub small : P.wrap ≤ 30
+  pub wrap : v.wrap ≡ cond (masks_wrap v.tables P.wrap) P.wrap 0
   pub accept : v.accept ≡ (has_bit v.tables.own_mode 0 && P.accept)
   pub vector : v.vector ≡ cond (has_bit v.tables.own_mode 16) P.vector 0
   pub bit : v.bit ≡ cond (has_bit v.tables.own_mode 19) P.bit 0
@@ -31,10 +32,17 @@ pub record AreMadeOf (P : Description) (v : Parts) : Type 0 where
       word_at v.initial s i ≡ cond (nat_lt (i - 1) (largest_in (get_or v.tables.own_transmit (s - 1) 0))) (P.initial s i) 0
 
 -- wraparound by the masks and by the legal cells
-wraps : (P : Description) (v : Parts) → AreMadeOf P v → masks_wrap v.tables wrap_subaddress ≡ can_wrap P wrap_subaddress
-wraps P v made =
-    sym (masks_wrap-said v.tables wrap_subaddress refl made.own_receive made.own_transmit made.broadcast_receive)
-    ∙ (λ j. any_count (λ n. made.legal (OwnReceive wrap_subaddress n) j || made.legal (BroadReceive wrap_subaddress n) j) && any_count (λ n. made.legal (OwnTransmit wrap_subaddress n) j))
+wraps : (P : Description) (v : Parts) (s : ℕ) → is_subaddress s ≡ true → AreMadeOf P v → masks_wrap v.tables s ≡ can_wrap P s
+wraps P v s place made =
+    sym (masks_wrap-said v.tables s place made.own_receive made.own_transmit made.broadcast_receive)
+    ∙ (λ j. any_count (λ n. made.legal (OwnReceive s n) j || made.legal (BroadReceive s n) j) && any_count (λ n. made.legal (OwnTransmit s n) j))
+
+wrap_alike : (P : Description) (v : Parts) (s : ℕ) → s ≤ 30 → AreMadeOf P v → cond (masks_wrap v.tables s) s 0 ≡ cond (can_wrap P s) s 0
+wrap_alike P v zero small made = cond-none (masks_wrap v.tables 0) 0 refl ∙ sym (cond-none (can_wrap P 0) 0 refl)
+wrap_alike P v (suc s) small made = ap (λ b. cond b (suc s) 0) (wraps P v (suc s) (inside (suc s) (omega arith) small) made)
+  where
+    inside : (s : ℕ) → 1 ≤ s → s ≤ 30 → is_subaddress s ≡ true
+    inside s low high = grind (arith, nat_tests)
 
 -- the words that can be transmitted by the masks and by the legal cells
 sent : (P : Description) (v : Parts) → AreMadeOf P v → (s i : ℕ) → is_data_place s i ≡ true →
@@ -54,7 +62,7 @@ unsent false word h = refl
 -- the description of parts that were made so is the reached part
 pub description_in-made : (P : Description) (v : Parts) → AreMadeOf P v → description_in v ≡ reach P
 description_in-made P v made = same_description (description_in v) (reach P) made.address made.broadcast
-    (made.wrap ∙ ap (λ b. b && P.wrap) (wraps P v made))
+    (made.wrap ∙ wrap_alike P v P.wrap made.small made)
     (made.accept ∙ ap (λ b. b && P.accept) (made.legal (OwnMode 0)))
     (made.vector ∙ ap (λ b. cond b P.vector 0) (made.legal (OwnMode 16)))
     (made.bit ∙ ap (λ b. cond b P.bit 0) (made.legal (OwnMode 19)))

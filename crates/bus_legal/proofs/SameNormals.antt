@@ -67,7 +67,7 @@ same_codes : (a b codes : ℕ) (may_be : ℕ → Bool) → codes < 2 ^ 32 → bi
 same_codes a b codes may_be l e f table said =
     same_mask a b (codes_below a codes e l) (codes_below b codes f l) (λ c k. no_other a codes may_be e table c k ∙ (said c ∙ sym (no_other b codes may_be f table c k)))
 
-abbrev built : ℕ → Bool → Bool → Bool → ℕ → ℕ → List (List ℕ) → Tables → Parts
+abbrev built : ℕ → Bool → ℕ → Bool → ℕ → ℕ → List (List ℕ) → Tables → Parts
 built a b w c v t i l = record { address = a; broadcast = b; wrap = w; accept = c; vector = v; bit = t; initial = i; tables = l }
 
 own_only : (mask : ℕ) → is_own_mask mask ≡ true → bit_and mask 0x000f01ff ≡ mask

@@ -27,13 +27,13 @@ eq_tables t u =
 
 abbrev pub eq_parts : Parts → Parts → Bool
 eq_parts v w =
-    (v.address == w.address) && (beq v.broadcast w.broadcast && (beq v.wrap w.wrap && (beq v.accept w.accept
+    (v.address == w.address) && (beq v.broadcast w.broadcast && ((v.wrap == w.wrap) && (beq v.accept w.accept
     && ((v.vector == w.vector) && ((v.bit == w.bit) && (pointwise (pointwise (λ x y. x == y)) v.initial w.initial && eq_tables v.tables w.tables))))))
 
 abbrev tables_by : List ℕ → List ℕ → List ℕ → ℕ → ℕ → Tables
 tables_by r t b o m = record { own_receive = r; own_transmit = t; broadcast_receive = b; own_mode = o; broadcast_mode = m }
 
-abbrev parts_by : ℕ → Bool → Bool → Bool → ℕ → ℕ → List (List ℕ) → Tables → Parts
+abbrev parts_by : ℕ → Bool → ℕ → Bool → ℕ → ℕ → List (List ℕ) → Tables → Parts
 parts_by a b w c v t i l = record { address = a; broadcast = b; wrap = w; accept = c; vector = v; bit = t; initial = i; tables = l }
 
 same_tables : (t u : Tables) → Decides (eq_tables t u) (t ≡ u)
@@ -48,7 +48,7 @@ same_tables t u =
 pub same_parts : (v w : Parts) → Decides (eq_parts v w) (v ≡ w)
 same_parts v w =
     let fields =
-    Decides-and _ _ (Decides-eqb v.address w.address) (Decides-and _ _ (same_truth v.broadcast w.broadcast) (Decides-and _ _ (same_truth v.wrap w.wrap) (Decides-and _ _ (same_truth v.accept w.accept)
+    Decides-and _ _ (Decides-eqb v.address w.address) (Decides-and _ _ (same_truth v.broadcast w.broadcast) (Decides-and _ _ (Decides-eqb v.wrap w.wrap) (Decides-and _ _ (same_truth v.accept w.accept)
     (Decides-and _ _ (Decides-eqb v.vector w.vector) (Decides-and _ _ (Decides-eqb v.bit w.bit) (Decides-and _ _ (slice_eq-Decides same_words v.initial w.initial _ refl) (same_tables v.tables w.tables))))))) in (
       λ e. let (a, (b, (x, (c, (u, (t, (i, l))))))) = fields.0 e in λ j. parts_by (a j) (b j) (x j) (c j) (u j) (t j) (i j) (l j),
       λ e. fields.1 (ap (λ n. n.address) e, (ap (λ n. n.broadcast) e, (ap (λ n. n.wrap) e, (ap (λ n. n.accept) e, (ap (λ n. n.vector) e, (ap (λ n. n.bit) e, (ap (λ n. n.initial) e, ap (λ n. n.tables) e))))))),

@@ -8,8 +8,8 @@ pub record Description : Type 0 where
   -- the address, 0 to 30, and the broadcast option
   pub address : ℕ
   pub broadcast : Bool
-  -- whether words received at the wraparound subaddress replace those held there
-  pub wrap : Bool
+  -- the wraparound subaddress, at which words that are received replace those held there, or 0 for none
+  pub wrap : ℕ
   -- whether dynamic bus control is accepted
   pub accept : Bool
   -- the vector word and the BIT word at power-up
@@ -18,10 +18,6 @@ pub record Description : Type 0 where
   -- the words held at power-up, by subaddress (1 to 30) and number (1 to 32)
   pub initial : ℕ → ℕ → ℕ
   pub legal : Cell → Bool
-
--- the wraparound subaddress
-abbrev pub wrap_subaddress : ℕ
-wrap_subaddress = 30
 
 -- word number i of subaddress s, in a table by both, from 1
 abbrev pub word_at : List (List ℕ) → ℕ → ℕ → ℕ

@@ -4,14 +4,14 @@ use Rattle.bus_word.specs.Cell.{is_data_place}
 use Rattle.bus_profile.specs.OwnCodes.{has_bit}
 use Rattle.bus_legal.specs.declared.setup.Setup.{Setup}
 use Rattle.bus_legal.specs.declared.tables.Tables.{Tables}
-use Rattle.bus_legal.specs.Description.{Description, wrap_subaddress, word_at}
+use Rattle.bus_legal.specs.Description.{Description, word_at}
 use Rattle.bus_legal.specs.Tables.{tables_say, largest_in, masks_wrap, is_own_mask, is_broadcast_mask}
 
 -- the fields of a set-up, and tables: bits and words by subaddress as in `Setup` and `Tables`
 pub record Parts : Type 0 where
   pub address : ℕ
   pub broadcast : Bool
-  pub wrap : Bool
+  pub wrap : ℕ
   pub accept : Bool
   pub vector : ℕ
   pub bit : ℕ
@@ -61,6 +61,7 @@ pub record AreWords (words : List (List ℕ)) : Type 0 where
 -- Parts of their ranges in which nothing is that can't be reached, and the required own mode codes are.
 pub record IsNormal (v : Parts) : Type 0 where
   pub address : v.address ≤ 30
+  pub wrap : v.wrap ≤ 30
   pub vector : v.vector < 2 ^ 16
   pub bit : v.bit < 2 ^ 16
   pub words : AreWords v.initial
@@ -76,7 +77,7 @@ pub record IsNormal (v : Parts) : Type 0 where
   pub unasked_accept : has_bit v.tables.own_mode 0 ≡ false → v.accept ≡ false
   pub unasked_vector : has_bit v.tables.own_mode 16 ≡ false → v.vector ≡ 0
   pub unasked_bit : has_bit v.tables.own_mode 19 ≡ false → v.bit ≡ 0
-  -- wraparound only where words can be received and transmitted there
-  pub unwrapped : masks_wrap v.tables wrap_subaddress ≡ false → v.wrap ≡ false
+  -- a wraparound subaddress only where words can be received and transmitted
+  pub unwrapped : masks_wrap v.tables v.wrap ≡ false → v.wrap ≡ 0
   -- words only up to the largest legal transmit count
   pub unsent : (s i : ℕ) → s < 30 → i < 32 → largest_in (get_or v.tables.own_transmit s 0) ≤ i → get_or (get_or v.initial s []) i 0 ≡ 0

@@ -2,7 +2,7 @@
 use Rattle.std.specs.Prelude.{ℕ, zero, suc, Bool, true, false, ◌&&◌, ◌||◌, nat_le, if◌then◌else◌}
 use Rattle.bus_word.specs.declared.cell.Cell.{Cell}
 use Rattle.bus_word.specs.declared.cell.Cell.TheVariants.{OwnReceive, OwnTransmit, BroadReceive, OwnMode, BroadMode}
-use Rattle.bus_legal.specs.Description.{Description, wrap_subaddress}
+use Rattle.bus_legal.specs.Description.{Description}
 
 -- the largest number from 1 to n that passes, or 0 where none does
 abbrev pub largest_to : ℕ → (ℕ → Bool) → ℕ
@@ -49,7 +49,7 @@ can_transmit P s i = nat_le 1 i && nat_le i (largest_count (transmits P s))
 
 -- all of a description but its address and its broadcast option
 pub record Rest : Type 0 where
-  pub wrap : Bool
+  pub wrap : ℕ
   pub accept : Bool
   pub vector : ℕ
   pub bit : ℕ
@@ -70,11 +70,11 @@ with_rest P rest = record {
 
 -- What can be reached beside address and option: the legal cells of commands that are meant for the
 -- terminal; acceptance, the vector word and the BIT word where own mode code 0, 16 or 19, which asks
--- for it, is legal; the initial words that some legal command makes the terminal transmit; and
--- wraparound where words can be received at the wraparound subaddress and transmitted from it.
+-- for it, is legal; the initial words that some legal command makes the terminal transmit; and the
+-- wraparound subaddress where words can be received at it and transmitted from it.
 abbrev pub reached : Description → Rest
 reached P = record {
-  wrap = can_wrap P wrap_subaddress && P.wrap;
+  wrap = if can_wrap P P.wrap then P.wrap else 0;
   accept = P.legal (OwnMode 0) && P.accept;
   vector = if P.legal (OwnMode 16) then P.vector else 0;
   bit = if P.legal (OwnMode 19) then P.bit else 0;

@@ -9,7 +9,7 @@ use Rattle.bus_profile.specs.OwnCodes.{has_bit}
 use Rattle.bus_legal.specs.declared.tables.Tables.{Tables}
 use Rattle.bus_legal.specs.declared.tables.TheConstants.{OWN_CODES, BROADCAST_CODES, REQUIRED_CODES}
 use Rattle.bus_legal.specs.Legal.{rule_says}
-use Rattle.bus_legal.specs.Reach.{largest_count}
+use Rattle.bus_legal.specs.Reach.{largest_count, any_to}
 
 -- the mask of a subaddress, from 1, has the bit of a word count, from 1
 abbrev pub has_count : List ℕ → ℕ → ℕ → Bool
@@ -50,6 +50,10 @@ has_any mask = not (mask == 0)
 -- by the masks, words can be received at this subaddress and transmitted from it
 abbrev pub masks_wrap : Tables → ℕ → Bool
 masks_wrap t subaddress = (has_any (mask_at t.own_receive subaddress) || has_any (mask_at t.broadcast_receive subaddress)) && has_any (mask_at t.own_transmit subaddress)
+
+-- by the masks, some subaddress is such
+unfoldable pub any_wraps : Tables → Bool
+any_wraps t = any_to 30 (masks_wrap t)
 
 -- what is said of the bits of a table: for each mask, from 0, and each of its 32 bits
 abbrev pub HasBits : List ℕ → (ℕ → ℕ → Bool) → Type 0

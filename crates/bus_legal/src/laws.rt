@@ -1,5 +1,5 @@
 //! Laws over the definitions. Each is a function that does nothing, and whose contract is the law.
-ghost use Rattle.std.specs.Prelude.{◌≡◌, ◌≤◌, ℕ, List, Bool, true};
+ghost use Rattle.std.specs.Prelude.{◌≡◌, ◌≤◌, ◌==◌, ℕ, List, Bool, true};
 ghost use Rattle.bus_word.specs.declared.cell.Cell.{Cell};
 ghost use Rattle.bus_word.specs.declared.cell.Cell.TheVariants.{OwnMode};
 ghost use Rattle.bus_word.specs.Cell.{is_allowed};
@@ -10,7 +10,7 @@ ghost use Rattle.bus_profile.specs.declared.profile.Profile.{Profile};
 ghost use Rattle.bus_profile.specs.OwnCodes.{is_own_code_legal};
 ghost use Rattle.bus_profile.specs.Plain.{plain};
 ghost use Rattle.bus_legal.specs.declared.setup.Setup.{Setup};
-ghost use Rattle.bus_legal.specs.Description.{Description, wrap_subaddress, described};
+ghost use Rattle.bus_legal.specs.Description.{Description, described};
 ghost use Rattle.bus_legal.specs.Legal.{is_legal};
 ghost use Rattle.bus_legal.specs.Meaning.{description_of, SetsUp};
 ghost use Rattle.bus_legal.specs.Reach.{is_heard, transmits, receives, reach};
@@ -55,8 +55,8 @@ pub fn reach_keeps_sent_words()
 /// Wraparound stays in what can be reached where a legal receive command and a legal transmit
 /// command show it.
 pub fn reach_keeps_shown_wraparound()
-    ensures { (P : Description) (m n : ℕ) → receives P wrap_subaddress m ≡ true → 1 ≤ m → m ≤ 32
-        → transmits P wrap_subaddress n ≡ true → 1 ≤ n → n ≤ 32 → (reach P).wrap ≡ P.wrap }
+    ensures { (P : Description) (s m n : ℕ) → 1 ≤ s → receives P s m ≡ true → 1 ≤ m → m ≤ 32
+        → transmits P s n ≡ true → 1 ≤ n → n ≤ 32 → (s == (reach P).wrap) ≡ (s == P.wrap) }
 {}
 
 /// A terminal that is set up by a profile, with a legality that is the profile's, has in reach what

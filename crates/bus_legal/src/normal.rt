@@ -19,7 +19,7 @@ use std::marker::Model;
 pub struct Normal {
     address: u8,
     broadcast: bool,
-    wrap: bool,
+    wrap: u8,
     accept: bool,
     vector: u16,
     bit: u16,
@@ -90,8 +90,9 @@ impl Normal {
         self.broadcast
     }
 
-    /// Whether words received at the wraparound subaddress, 30, replace those held there.
-    pub fn wrap(&self) -> bool
+    /// The wraparound subaddress, 1 to 30, at which words that are received replace those held there; 0
+    /// where there is none.
+    pub fn wrap(&self) -> u8
         ensures { result ≡ self.now.wrap }
     {
         self.wrap

@@ -8,8 +8,9 @@ pub struct Setup {
     pub address: u8,
     /// The broadcast option: whether the terminal hears commands to address 31.
     pub broadcast: bool,
-    /// Whether words received at the wraparound subaddress, 30, replace those held there.
-    pub wrap: bool,
+    /// The wraparound subaddress, 1 to 30, at which words that are received replace those held there; 0
+    /// where there is none.
+    pub wrap: u8,
     /// Whether the terminal accepts dynamic bus control.
     pub accept: bool,
     /// The vector word.
@@ -19,4 +20,5 @@ pub struct Setup {
     /// The words held: `initial[s - 1][i - 1]` is number `i` of subaddress `s`.
     pub initial: [[u16; 32]; 30],
     ghost own_address: { address ≤ 30 },
+    ghost own_wrap: { wrap ≤ 30 },
 }

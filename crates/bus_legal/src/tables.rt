@@ -4,7 +4,7 @@ ghost use Rattle.bus_word.specs.declared.cell.Cell.{Cell};
 ghost use Rattle.bus_word.specs.Cell.{is_data_place};
 ghost use Rattle.bus_profile.specs.OwnCodes.{has_bit, is_own_code_legal};
 ghost use Rattle.bus_legal.specs.Legal.{is_broadcast_code_legal, is_legal};
-ghost use Rattle.bus_legal.specs.Tables.{has_count, tables_say, masks_wrap, is_own_mask, is_broadcast_mask, HasBits, has_bits, bit_said};
+ghost use Rattle.bus_legal.specs.Tables.{has_count, tables_say, masks_wrap, is_own_mask, is_broadcast_mask, any_wraps, HasBits, has_bits, bit_said};
 
 use crate::legality::{Legality, is_allowed};
 use crate::masks::{has_bit, with_bits};
@@ -134,6 +134,18 @@ impl Tables {
         let row = usize::from(subaddress) - 1;
         (self.own_receive[row] != 0 || self.broadcast_receive[row] != 0)
             && self.own_transmit[row] != 0
+    }
+
+    /// Whether some subaddress is such.
+    pub fn can_wrap_somewhere(&self) -> bool
+        ensures { result ≡ any_wraps self.now }
+    {
+        for subaddress in 1..31 {
+            if self.can_wrap(subaddress) {
+                return true;
+            }
+        }
+        false
     }
 }
 

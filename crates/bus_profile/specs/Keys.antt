@@ -10,6 +10,8 @@ pub data Kind : Type 0 where
   truth : Kind
   -- a whole number from low to high
   whole : (low high : ℕ) → Kind
+  -- true or false, or a whole number from low to high
+  truth_or_whole : (low high : ℕ) → Kind
   -- one of these texts
   choice : (texts : List (List ℕ)) → Kind
   -- numbers from low to high: a text of ranges, or one whole number
@@ -66,7 +68,7 @@ abbrev pub broadcast_row : Row
 broadcast_row = row Broadcast truth (optional (boolean false))
 
 abbrev pub wraparound_row : Row
-wraparound_row = row Wraparound truth (optional (boolean true))
+wraparound_row = row Wraparound (truth_or_whole 1 30) (optional (boolean true))
 
 abbrev pub accept_row : Row
 accept_row = row AcceptBusControl truth (optional (boolean false))

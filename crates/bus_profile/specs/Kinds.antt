@@ -8,7 +8,7 @@ use Rattle.toml.specs.Data.{Data, string, integer, boolean, array, Items, no_ite
 use Rattle.bus_profile.specs.declared.ranges.RangeFault.{RangeFault}
 use Rattle.bus_profile.specs.declared.ranges.RangeFault.TheVariants.{Syntax, Bounds}
 use Rattle.bus_profile.specs.declared.fault.Key.{Key}
-use Rattle.bus_profile.specs.Keys.{Kind, truth, whole, choice, ranges, numbers, tables, Presence, required, optional, Row, name_of}
+use Rattle.bus_profile.specs.Keys.{Kind, truth, whole, truth_or_whole, choice, ranges, numbers, tables, Presence, required, optional, Row, name_of}
 use Rattle.bus_profile.specs.RangesOf.{ranges_of}
 
 -- ---- the keys of a table
@@ -34,6 +34,8 @@ has_unknown keys ms = list_any (λ name. not (is_known keys name)) (names_of ms)
 abbrev pub is_of_kind : Kind → Data → Bool
 is_of_kind truth (boolean b) = true
 is_of_kind (whole low high) (integer z) = true
+is_of_kind (truth_or_whole low high) (boolean b) = true
+is_of_kind (truth_or_whole low high) (integer z) = true
 is_of_kind (choice texts) (string s) = true
 is_of_kind (ranges low high) (string s) = true
 is_of_kind (ranges low high) (integer z) = true
@@ -62,6 +64,7 @@ is_bad_ranges _ _ = false
 -- a value of the kind that is out of its range; what an array holds is looked at item by item
 abbrev pub is_out_of_range : Kind → Data → Bool
 is_out_of_range (whole low high) (integer z) = is_none (in_range low high z)
+is_out_of_range (truth_or_whole low high) (integer z) = is_none (in_range low high z)
 is_out_of_range (choice texts) (string s) = not (list_any (bytes_eq s) texts)
 is_out_of_range (ranges low high) (string s) = is_bounds (ranges_of low high s)
 is_out_of_range (ranges low high) (integer z) = is_none (in_range low high z)
@@ -98,6 +101,11 @@ number _ = 0
 abbrev pub truth_value : Option Data → Bool
 truth_value (Some (boolean b)) = b
 truth_value _ = false
+
+-- A wraparound subaddress: the number that stands there, 30 for true, and 0, that is none, for false.
+abbrev pub wrap_value : Option Data → ℕ
+wrap_value (Some (boolean b)) = if b then 30 else 0
+wrap_value d = number d
 
 abbrev pub text : Option Data → List ℕ
 text (Some (string s)) = s

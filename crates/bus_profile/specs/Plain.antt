@@ -7,7 +7,7 @@ use Rattle.bus_profile.specs.declared.entries.ModeRule.{ModeRule}
 use Rattle.bus_profile.specs.declared.entries.InitialWords.{InitialWords}
 use Rattle.bus_profile.specs.declared.profile.Profile.{Profile}
 use Rattle.bus_profile.specs.Keys.{address_row, broadcast_row, wraparound_row, accept_row, vector_row, bit_row, rule_row, mode_row, initial_row, to_row, direction_row, subaddresses_row, counts_row, legal_row, codes_row, subaddress_row, at_row, words_row}
-use Rattle.bus_profile.specs.Kinds.{value, number, truth_value, text, set_from, items}
+use Rattle.bus_profile.specs.Kinds.{value, number, truth_value, wrap_value, text, set_from, items}
 
 -- ---- plain values
 
@@ -29,7 +29,7 @@ pub record PlainInitial : Type 0 where
 pub record PlainProfile : Type 0 where
   pub address : ℕ
   pub broadcast : Bool
-  pub wrap : Bool
+  pub wrap : ℕ
   pub accept : Bool
   pub vector : ℕ
   pub bit : ℕ
@@ -116,7 +116,7 @@ abbrev pub profile_of : Members → PlainProfile
 profile_of ms = record {
   address = number (value address_row ms);
   broadcast = truth_value (value broadcast_row ms);
-  wrap = truth_value (value wraparound_row ms);
+  wrap = wrap_value (value wraparound_row ms);
   accept = truth_value (value accept_row ms);
   vector = number (value vector_row ms);
   bit = number (value bit_row ms);

@@ -11,8 +11,9 @@ pub struct Profile {
     pub address: u8,
     /// The broadcast option: whether the terminal hears commands to address 31.
     pub broadcast: bool,
-    /// Whether words received at the wraparound subaddress, 30, replace those held there.
-    pub wrap: bool,
+    /// The wraparound subaddress, 1 to 30, at which words that are received replace those held there; 0 where
+    /// there is none.
+    pub wrap: u8,
     /// Whether the terminal accepts dynamic bus control.
     pub accept: bool,
     /// The vector word at power-up.
@@ -26,6 +27,7 @@ pub struct Profile {
     /// At most 256.
     pub initials: Initials,
     ghost own_address: { address ≤ 30 },
+    ghost own_wrap: { wrap ≤ 30 },
     ghost few_rules: { length rules ≤ 256 },
     ghost few_modes: { length modes ≤ 256 },
     ghost few_initials: { length initials ≤ 256 },

@@ -57,7 +57,7 @@ fn profile_of(alloc: Global, table: &Table) -> Result<Profile, ProfileFault>
     }
     let address = root.required_whole(Key::Address, 0, 30)?;
     let broadcast = root.optional_truth(Key::Broadcast, false)?;
-    let wrap = root.optional_truth(Key::Wraparound, true)?;
+    let wrap = root.wraparound()?;
     let accept = root.optional_truth(Key::AcceptBusControl, false)?;
     let vector = root.optional_whole(Key::Vector, 0, 65535, 0)?;
     let bit = root.optional_whole(Key::Bit, 0, 65535, 0)?;

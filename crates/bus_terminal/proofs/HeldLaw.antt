@@ -71,20 +71,22 @@ number_law i (d ∷ ds) old h = by_test (i == 1) refl (number_law (i - 1) ds old
         ∙ (ap (λ b. if b then get_or ds (i - 1 - 1) 0 else old) fits
         ∙ ap (λ j. if nat_le i (suc (length ds)) then get_or (d ∷ ds) j 0 else old) (sym at))
 
-same_subaddress : (s t : ℕ) → t ≡ 30 → (t == s) ≡ ((s == 30) && (t == 30))
-same_subaddress s t e = grind (arith, nat_tests)
+same_subaddress : (s t wrap : ℕ) → t ≡ wrap → (t == s) ≡ ((s == t) && (t == wrap))
+same_subaddress s t wrap e = grind (arith, nat_tests)
 
 -- what is received at the wraparound subaddress is held there
-pub wrapped_law : (wrap : Bool) (s i t : ℕ) (ds : List ℕ) (old : ℕ) → wrap ≡ true → t ≡ 30 → 1 ≤ i →
+pub wrapped_law : (wrap s i t : ℕ) (ds : List ℕ) (old : ℕ) → t ≡ wrap → 1 ≤ i →
     (if (t == s) && nat_le i (length ds) then get_or ds (i - 1) 0 else old) ≡ or_else (wrapped_at wrap s i t ds) old
-wrapped_law wrap s i t ds old w e h =
-    ap (λ b. if b && nat_le i (length ds) then get_or ds (i - 1) 0 else old) (same_subaddress s t e)
-    ∙ (by_test ((s == 30) && (t == 30))
-    ∙ ap (λ w. or_else (if w && ((s == 30) && (t == 30)) then number i ds else None) old) (sym w))
+wrapped_law wrap s i t ds old e h =
+    ap (λ b. if b && nat_le i (length ds) then get_or ds (i - 1) 0 else old) (same_subaddress s t wrap e)
+    ∙ by_test ((s == t) && (t == wrap))
   where
     by_test : (b : Bool) → (if b && nat_le i (length ds) then get_or ds (i - 1) 0 else old) ≡ or_else (if b then number i ds else None) old
     by_test true = sym (number_law i ds old h)
     by_test false = refl
+
+pub place_above : (s n : ℕ) → is_data_place s n ≡ true → 1 ≤ s
+place_above s n e = grind (arith, nat_tests)
 
 pub place_count : (s n : ℕ) → is_data_place s n ≡ true → n ≤ 32
 place_count s n e = grind (arith, nat_tests)

@@ -2,7 +2,7 @@
 use Rattle.std.specs.Prelude.{ℕ, zero, suc, ◌-◌, ◌%◌, ◌≤◌, ◌≢◌, Bool, ◌==◌, if◌then◌else◌, List, [], ◌∷◌, length, replicate}
 use Rattle.bus_word.specs.declared.cell.Cell.TheVariants.{OwnReceive, BroadReceive}
 use Rattle.bus_word.specs.Command.{word_of}
-use Rattle.bus_legal.specs.Description.{Description, wrap_subaddress}
+use Rattle.bus_legal.specs.Description.{Description}
 use Rattle.bus_legal.specs.Reach.{any_to, any_count, largest_count, transmits}
 use Rattle.bus_terminal.specs.declared.event.Event.{Event}
 use Rattle.bus_terminal.specs.Out.{outs}
@@ -97,23 +97,27 @@ bit_script address = script_of (mode_code address 19 ∷ [])
 abbrev pub initial_script : Description → ℕ → List Event
 initial_script P s = own_transmit_script P.address s (largest_count (transmits P s))
 
--- Wraparound is shown by n words received, by the own address or by broadcast, and m transmitted. Of the words
--- received the first is the complement of the one that is held at power-up.
-abbrev pub shown_wraparound : Description → ℕ → ℕ → ℕ → List Event
-shown_wraparound P to n m =
-    script_of (receive to wrap_subaddress n ((65535 - P.initial wrap_subaddress 1) ∷ replicate (n - 1) 0) ∷ transmit P.address wrap_subaddress m ∷ [])
+-- Wraparound at subaddress s is shown by n words received, by the own address or by broadcast, and m transmitted.
+-- Of the words received the first is the complement of the one that is held at power-up.
+abbrev pub shown_wraparound : Description → ℕ → ℕ → ℕ → ℕ → List Event
+shown_wraparound P s to n m =
+    script_of (receive to s n ((65535 - P.initial s 1) ∷ replicate (n - 1) 0) ∷ transmit P.address s m ∷ [])
 
-abbrev pub receives_own : Description → ℕ → Bool
-receives_own P n = P.legal (OwnReceive wrap_subaddress n)
+abbrev pub receives_own : Description → ℕ → ℕ → Bool
+receives_own P s n = P.legal (OwnReceive s n)
 
-abbrev pub receives_broadcast : Description → ℕ → Bool
-receives_broadcast P n = P.legal (BroadReceive wrap_subaddress n)
+abbrev pub receives_broadcast : Description → ℕ → ℕ → Bool
+receives_broadcast P s n = P.legal (BroadReceive s n)
 
--- 12: wraparound, by the shortest legal receive command, by broadcast only where there is no other, and the
--- shortest legal transmit command
-abbrev pub wraparound_script : Description → List Event
-wraparound_script P =
-    let m : ℕ = least_count (transmits P wrap_subaddress) in
-    if any_count (receives_own P)
-    then shown_wraparound P P.address (least_count (receives_own P)) m
-    else shown_wraparound P all_terminals (least_count (receives_broadcast P)) m
+-- 12: wraparound at subaddress s, by the shortest legal receive command, by broadcast only where there is no other,
+-- and the shortest legal transmit command
+abbrev pub wraparound_script : Description → ℕ → List Event
+wraparound_script P s =
+    let m : ℕ = least_count (transmits P s) in
+    if any_count (receives_own P s)
+    then shown_wraparound P s P.address (least_count (receives_own P s)) m
+    else shown_wraparound P s all_terminals (least_count (receives_broadcast P s)) m
+
+-- the wraparound subaddress of P, or of Q where P has none
+abbrev pub shown_subaddress : ℕ → ℕ → ℕ
+shown_subaddress p q = if p == 0 then q else p

@@ -4,7 +4,7 @@ use Rattle.bus_word.specs.declared.word.Bus.{Bus}
 use Rattle.bus_word.specs.declared.cell.Cell.{Cell}
 use Rattle.bus_word.specs.declared.cell.Cell.TheVariants.{OwnReceive, BroadReceive, OwnMode, BroadMode}
 use Rattle.bus_word.specs.Cell.{cell_of}
-use Rattle.bus_legal.specs.Description.{Description, wrap_subaddress}
+use Rattle.bus_legal.specs.Description.{Description}
 use Rattle.bus_terminal.specs.declared.event.Event.{Event}
 use Rattle.bus_terminal.specs.declared.event.Event.TheVariants.{Word, Write, Vector, Bit}
 use Rattle.bus_terminal.specs.LookBack.{latest, or_else, since}
@@ -74,11 +74,11 @@ abbrev pub number : ℕ → List ℕ → Option ℕ
 number i [] = None
 number i (d ∷ ds) = if i == 1 then Some d else number (i - 1) ds
 
-abbrev pub wrapped_at : Bool → ℕ → ℕ → ℕ → List ℕ → Option ℕ
-wrapped_at wrap s i t ds = if wrap && ((s == wrap_subaddress) && (t == wrap_subaddress)) then number i ds else None
+abbrev pub wrapped_at : ℕ → ℕ → ℕ → ℕ → List ℕ → Option ℕ
+wrapped_at wrap s i t ds = if (s == t) && (t == wrap) then number i ds else None
 
--- with wraparound, words received at the wraparound subaddress, own or by broadcast, are held there
-abbrev pub wrapped : Bool → ℕ → ℕ → Ending → Option ℕ
+-- words received at the wraparound subaddress, own or by broadcast, are held there
+abbrev pub wrapped : ℕ → ℕ → ℕ → Ending → Option ℕ
 wrapped wrap s i (Done c (OwnReceive t n) ds) = wrapped_at wrap s i t ds
 wrapped wrap s i (Done c (BroadReceive t n) ds) = wrapped_at wrap s i t ds
 wrapped wrap s i _ = None

@@ -10,9 +10,6 @@ ghost use Rattle.bus_terminal.specs.Machine.Held.{row_in, word_in, held_after};
 use crate::ended::Ended;
 use bus_word::Cell;
 
-/// The subaddress at which words that are received wrap around.
-const WRAP_SUBADDRESS: u8 = 30;
-
 /// Mode code 8, reset remote terminal.
 const RESET: u8 = 8;
 
@@ -94,10 +91,11 @@ impl HeldWords {
         put_first(&mut self.rows[subaddress as usize - 1], words);
     }
 
-    /// A message ended so, with these words, or none did. With wraparound, words that were received at the
-    /// wraparound subaddress are held there; a reset brings the words of the set-up back.
-    pub fn settle(&mut self, initial: &Rows, wrap: bool, ended: &Ended, words: &[u16])
-        requires { length words.now ≤ 32 }
+    /// A message ended so, with these words, or none did. Words that were received at the wraparound
+    /// subaddress are held there; a reset brings the words of the set-up back.
+    pub fn settle(&mut self, initial: &Rows, wrap: u8, ended: &Ended, words: &[u16])
+        requires wrap { wrap ≤ 30 }
+        requires few { length words.now ≤ 32 }
         ensures { (s i : ℕ) → 1 ≤ s → s ≤ 30 → 1 ≤ i → i ≤ 32 → word_in initial.now self.new s i ≡ held_after initial.now wrap s i (ending_of ended.now words.now) (word_in initial.now self.old s i) }
     {
         match ended {
@@ -109,8 +107,9 @@ impl HeldWords {
         }
     }
 
-    fn carry_out(&mut self, initial: &Rows, wrap: bool, cell: Cell, words: &[u16])
-        requires { length words.now ≤ 32 }
+    fn carry_out(&mut self, initial: &Rows, wrap: u8, cell: Cell, words: &[u16])
+        requires wrap { wrap ≤ 30 }
+        requires few { length words.now ≤ 32 }
         ensures { (c s i : ℕ) → 1 ≤ s → s ≤ 30 → 1 ≤ i → i ≤ 32 → word_in initial.now self.new s i ≡ held_after initial.now wrap s i (Done c cell words.now) (word_in initial.now self.old s i) }
     {
         match cell {
@@ -122,11 +121,12 @@ impl HeldWords {
         }
     }
 
-    fn wrap_around(&mut self, initial: &Rows, wrap: bool, subaddress: u8, words: &[u16])
-        requires { length words.now ≤ 32 }
+    fn wrap_around(&mut self, initial: &Rows, wrap: u8, subaddress: u8, words: &[u16])
+        requires wrap { wrap ≤ 30 }
+        requires few { length words.now ≤ 32 }
         ensures { (s i : ℕ) → 1 ≤ s → s ≤ 30 → 1 ≤ i → i ≤ 32 → word_in initial.now self.new s i ≡ or_else (wrapped_at wrap s i subaddress words.now) (word_in initial.now self.old s i) }
     {
-        if wrap && subaddress == WRAP_SUBADDRESS {
+        if wrap != 0 && subaddress == wrap {
             self.replace(initial, subaddress, words);
         }
     }

@@ -3,7 +3,7 @@
 
 ghost use Rattle.bus_terminal.specs.Rows.Messages.{TransmitStatus, WrongParity, ModeBy31, ReceiveTwo, IllegalReceive, ShortMessage, Transmit32, BroadcastStatus, BroadcastUnheard, WordAfterMode, EmptyScript, NoiseBefore, NoiseInMessage};
 ghost use Rattle.bus_terminal.specs.Rows.Transfers.{RtToRt, IllegalRtToRt, BroadcastRtToRt, RtToRtTimeout, CommandEndsWaiting, NoiseEndsWaiting, InvalidStatus, NoiseAfterStatus, BroadcastTransmitter, BroadcastThenMode, BroadcastWordBetween, Superseded, EarlierWordInRun, StatusThenSuperseded, WordThenSuperseded, ShutdownOtherBus, ReceivedInSilence, ResetInSilence};
-ghost use Rattle.bus_terminal.specs.Rows.Modes.{Wraparound, LastCommand, LastCommandAfterReset, BusyReceive, BusyBitWord, BusyVectorWord, BusyBusControl, InhibitFlag, InhibitedUntilReset, VectorAndReset, BusControl, BroadcastSync, WrittenWord, SparedByLastCommand, ClearedByIllegalLastCommand};
+ghost use Rattle.bus_terminal.specs.Rows.Modes.{Wraparound, WraparoundAtSeven, LastCommand, LastCommandAfterReset, BusyReceive, BusyBitWord, BusyVectorWord, BusyBusControl, InhibitFlag, InhibitedUntilReset, VectorAndReset, BusControl, BroadcastSync, WrittenWord, SparedByLastCommand, ClearedByIllegalLastCommand};
 
 /// Messages of a bus controller.
 pub fn messages()
@@ -51,6 +51,7 @@ pub fn two_buses()
 /// Mode codes, flags, and what is held ready.
 pub fn mode_codes()
     ensures wraparound { Wraparound }
+    ensures wraparound_at_seven { WraparoundAtSeven }
     ensures last_command { LastCommand }
     ensures last_command_after_reset { LastCommandAfterReset }
     ensures busy_receive { BusyReceive }

@@ -66,7 +66,11 @@ fn the_last_of_many_rules_says(rt: HostRuntime) -> Result<(), Fail> {
         // No command of another address and no broadcast is heard.
         assert_eq!(rt; normal.tables().broadcast_receive, [0; 30], "{rules} rules");
         assert_eq!(rt; normal.tables().own_mode, 0x134, "{rules} rules");
-        assert_eq!(rt; normal.wrap(), mask != 0, "{rules} rules");
+        assert_eq!(rt;
+            normal.wrap(),
+            if mask != 0 { 30 } else { 0 },
+            "{rules} rules"
+        );
     }
     Ok(())
 }
@@ -129,7 +133,7 @@ fn a_later_initial_entry_wins_word_by_word(rt: HostRuntime) -> Result<(), Fail> 
     ];
     let fields = Fields {
         broadcast: true,
-        wrap: false,
+        wrap: 0,
         accept: true,
         vector: 0x00aa,
         bit: 0x0042,
@@ -148,7 +152,7 @@ fn a_later_initial_entry_wins_word_by_word(rt: HostRuntime) -> Result<(), Fail> 
     assert_eq!(rt; first, row(24, [0, 0, 91, 92, 93, 94, 95, 96]));
     assert_eq!(rt;
         (setup.address, setup.broadcast, setup.wrap, setup.accept),
-        (5, true, false, true)
+        (5, true, 0, true)
     );
     assert_eq!(rt; (setup.vector, setup.bit), (0x00aa, 0x0042));
     Ok(())
@@ -292,7 +296,7 @@ fn a_normal_gives_its_parts_back(rt: HostRuntime) -> Result<(), Fail> {
     let rules = [rule(To::All, 0x3fff_ffff, 0xffff_ffff, true)];
     let fields = Fields {
         broadcast: true,
-        wrap: true,
+        wrap: 7,
         accept: true,
         vector: 0x1234,
         bit: 0x5678,
@@ -316,7 +320,7 @@ fn a_normal_gives_its_parts_back(rt: HostRuntime) -> Result<(), Fail> {
             normal.wrap(),
             normal.accept()
         ),
-        (5, true, true, true)
+        (5, true, 7, true)
     );
     assert_eq!(rt; (normal.vector(), normal.bit()), (0x1234, 0x5678));
     assert!(rt; Normal::of(normal.setup(), *normal.tables()).is_same(&normal));

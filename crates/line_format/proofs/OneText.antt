@@ -72,6 +72,11 @@ pub number_value : (name : List ℕ) (f : Field) (allowed : ℕ → Bool) (v : �
 unfolding number_line
 number_value name f allowed v x (xs, rest, allows, is, (e, none)) = ap allowed e ∙ allows.allowed
 
+-- what spells a number on a line where this test passes, spells it where another passes it
+pub number_weaker : (name : List ℕ) (f : Field) (allowed others : ℕ → Bool) (v : ℕ) (x : List ℕ) → others v ≡ true → Spells (number_line name f allowed) v x → Spells (number_line name f others) v x
+unfolding number_line spell
+number_weaker name f allowed others v x ok (xs, rest, allows, is, (e, none)) = (xs, rest, record { fit = allows.fit; allowed = ap others (sym e) ∙ ok }, is, (e, none))
+
 -- a number line means a number of so many digits
 pub number_fits : (name : List ℕ) (f : Field) (allowed : ℕ → Bool) (v : ℕ) (x : List ℕ) → Spells (number_line name f allowed) v x → v < f.base ^ f.width
 unfolding number_line

@@ -12,7 +12,7 @@ use Rattle.bus_terminal.proofs.Distinguish.Apart.{apart-reach}
 use Rattle.bus_canon.specs.Canon.{Text}
 use Rattle.bus_canon.specs.declared.difference.Difference.{Difference}
 use Rattle.bus_canon.specs.Difference.{IsFirst, script_for}
-use Rattle.bus_canon.proofs.CanonLaws.{text_normal, value_one, text_one}
+use Rattle.bus_canon.proofs.CanonLaws.{written_normal, written_value_one, text_one}
 use Rattle.bus_canon.proofs.SameLaws.{equal_where_same}
 use Rattle.rt1553.specs.Load.{Of, Reaches}
 use Rattle.rt1553.specs.Canon.{IsCanon}
@@ -21,7 +21,7 @@ use Rattle.rt1553.proofs.LoadLaws.{one_description, one_value}
 
 -- the canonical bytes of a text are the text of what can be reached of it
 canon_of : (text bytes : List ℕ) (v : Parts) → IsNormal v → Reaches text v → IsCanon text bytes → Text v bytes
-canon_of text bytes v normal p c = subst (λ w. Text w bytes) (one_value text c.value v (text_normal c.value bytes c.means) normal c.reaches p) c.means
+canon_of text bytes v normal p c = subst (λ w. Text w bytes) (one_value text c.value v (written_normal c.value bytes c.means) normal c.reaches p) c.means
 
 pub same_canon : (first second : List ℕ) (v : Parts) → IsNormal v → Reaches first v → Reaches second v → HaveSameCanon first second
 same_canon first second v normal p q a b c d = text_one v a b (canon_of first a v normal p c) (canon_of second b v normal q d)
@@ -29,7 +29,7 @@ same_canon first second v normal p q a b c d = text_one v a b (canon_of first a 
 pub other_canon : (first second : List ℕ) (v w : Parts) → IsNormal v → IsNormal w → Reaches first v → Reaches second w → v ≢ w
     → (a b : List ℕ) → IsCanon first a → IsCanon second b → a ≢ b
 other_canon first second v w normal normal' p q other a b c d e =
-    other (value_one v w b (subst (Text v) e (canon_of first a v normal p c)) (canon_of second b w normal' q d))
+    other (written_value_one v w b (subst (Text v) e (canon_of first a v normal p c)) (canon_of second b w normal' q d))
 
 -- the address of an accepted text's terminal
 pub own_address : (text : List ℕ) (v : Parts) → IsNormal v → (p : Reaches text v) → p.description.address ≤ 30
@@ -57,7 +57,7 @@ of_reached : (X : Description → Description → Type 0) (v w : Parts) (P Q : D
 of_reached X v w P Q p q x = subst (λ D. X D (reach Q)) p (subst (λ D. X (description_in v) D) q x)
 
 pub are_different : (first second : List ℕ) (v w : Parts) (script : List Event) → IsNormal v → IsNormal w → Reaches first v → Reaches second w
-    → (d : Difference) × IsFirst (description_in v) (description_in w) d × (script ≡ script_for (description_in v) d)
+    → (d : Difference) × IsFirst (description_in v) (description_in w) d × (script ≡ script_for (description_in v) (description_in w) d)
     → TellsApart (description_in v) (description_in w) script → AreDifferent first second script
 are_different first second v w script normal normal' p q f t = record {
   p = p.description;
@@ -67,7 +67,7 @@ are_different first second v w script normal normal' p q f t = record {
   canonical = other_canon first second v w normal normal' p q (λ e. t.differ (ap (λ x. outs (description_in x) script) e));
   difference = f.0;
   first_difference = of_reached (λ A B. IsFirst A B f.0) v w p.description q.description p.reached q.reached f.1;
-  shows = f.2 ∙ ap (λ D. script_for D f.0) p.reached;
+  shows = f.2 ∙ (λ j. script_for (p.reached j) (q.reached j) f.0);
   apart = apart-reach p.description q.description script (own_address first v normal p) (own_address second w normal' q)
       (of_reached (λ A B. TellsApart A B script) v w p.description q.description p.reached q.reached t);
 }
@@ -88,13 +88,13 @@ pub headline : Headline
 headline first second a b P Q p q c d =
     let v = c.value in
     let w = d.value in
-    let normal = text_normal v a c.means in
-    let normal' = text_normal w b d.means in
+    let normal = written_normal v a c.means in
+    let normal' = written_normal w b d.means in
     let reached = parts_reached first a P c p in
     let reached' = parts_reached second b Q d q in
     let low = small_address v P normal reached in
     let low' = small_address w Q normal' reached' in (
-      λ e. same_where_reached P Q low low' (sym reached ∙ ap description_in (value_one v w b (subst (Text v) e c.means) d.means) ∙ reached'),
+      λ e. same_where_reached P Q low low' (sym reached ∙ ap description_in (written_value_one v w b (subst (Text v) e c.means) d.means) ∙ reached'),
       λ same.
           let parts : Same (description_in v) (description_in w) = subst (λ D. Same D (description_in w)) (sym reached) (subst (λ D. Same (reach P) D) (sym reached') (same_reached P Q low low' same)) in
           text_one w a b (subst (λ x. Text x a) (equal_where_same v w normal normal' parts) c.means) d.means,

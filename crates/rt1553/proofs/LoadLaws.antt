@@ -1,10 +1,10 @@
 -- Laws of texts: what they are of, and their canonical bytes.
-use Rattle.std.proofs.Common.{◌≡◌, ℕ, nat_eq, List, [], ◌∷◌, ◌++◌, Bool, true, false, Some, refl, ap, sym, ◌∙◌, subst, append-nil, codes}
-use Rattle.std.specs.List.{starts_with}
+use Rattle.std.proofs.Common.{◌≡◌, ℕ, ◌==◌, ◌||◌, List, ◌++◌, Bool, true, false, Some, refl, ap, sym, ◌∙◌, subst, codes}
 use Rattle.toml.specs.Data.{Members}
-use Rattle.line_format.specs.Format.{spell, Spells}
-use Rattle.line_format.specs.Shapes.{name_line}
-use Rattle.line_format.proofs.OneText.{parted}
+use Rattle.std.proofs.lemmas.Bool.{eqb-true}
+use Rattle.line_format.specs.Shapes.{number_line}
+use Rattle.line_format.proofs.OneText.{parted, number_one, number_value, number_fits}
+use Rattle.line_format.proofs.Writes.{number_text, number_spelled}
 use Rattle.bus_profile.specs.Read.{IsTree}
 use Rattle.bus_profile.specs.Plain.{profile_of}
 use Rattle.bus_legal.specs.Description.{Description}
@@ -13,27 +13,29 @@ use Rattle.bus_legal.specs.Reach.{reach}
 use Rattle.bus_legal.proofs.NormalLaws.{reach-normal}
 use Rattle.bus_legal.proofs.SameNormals.{same_normals}
 use Rattle.bus_legal.proofs.PlainLaws.{described_alike}
-use Rattle.bus_canon.specs.Canon.{canon, Text}
-use Rattle.bus_canon.proofs.CanonLaws.{text_normal, value_one, text_one}
+use Rattle.bus_canon.specs.Canon.{version_field, is_read, canon, Text, AnyText}
+use Rattle.bus_canon.proofs.CanonLaws.{text_read, text_normal, written_normal, value_one, text_one}
 use Rattle.rt1553.specs.Load.{is_canon_text, OfBy, Reaches}
 use Rattle.rt1553.specs.Canon.{CanonIsItsOwn, OneCanon, OneDescription}
 
 -- ---- a canonical text begins as such
 
-begins : (rest : List ℕ) → starts_with nat_eq (codes "rt1553 1\n" ++ rest) (codes "rt1553 1\n") ≡ true
-begins rest = refl
+begins : (version : ℕ) (rest : List ℕ) → is_read version ≡ true → is_canon_text (number_text (codes "rt1553") version_field version ++ rest) ≡ true
+begins version rest e = by_test (version == 1) refl
+  where
+    by_test : (b : Bool) → (version == 1) ≡ b → is_canon_text (number_text (codes "rt1553") version_field version ++ rest) ≡ true
+    by_test true f = ap (λ n. is_canon_text (number_text (codes "rt1553") version_field n ++ rest)) (eqb-true version 1 f)
+    by_test false f = ap (λ n. is_canon_text (number_text (codes "rt1553") version_field n ++ rest)) (eqb-true version 2 (ap (λ b. b || (version == 2)) (sym f) ∙ e))
 
-name_text : (name : List ℕ) (v : Bool) (x : List ℕ) → Spells (name_line name) v x → x ≡ name ++ 10 ∷ []
-unfolding name_line spell
-name_text name v x ([], rest, allows, is, (e, none)) = is ∙ ap (λ r. (name ++ 10 ∷ []) ++ r) none ∙ append-nil (name ++ 10 ∷ [])
-name_text name v x (n ∷ ns, rest, allows, is, (e, none)) = absurd allows.fit
-
-text_begins : (v : Parts) (bytes : List ℕ) → Text v bytes → is_canon_text bytes ≡ true
+text_begins : (v : Parts) (bytes : List ℕ) → AnyText v bytes → is_canon_text bytes ≡ true
 unfolding canon
 text_begins v bytes means =
-    let p = parted (name_line (codes "rt1553 1")) _ v bytes means in
-    let front : p.front ≡ codes "rt1553 1\n" = name_text (codes "rt1553 1") p.value p.front p.spells_front in
-    ap is_canon_text (p.is ∙ ap (λ x. x ++ p.rest) front) ∙ begins p.rest
+    let p = parted (number_line (codes "rt1553") version_field is_read) _ v bytes means in
+    let read : is_read p.value ≡ true = number_value (codes "rt1553") version_field is_read p.value p.front p.spells_front in
+    let front : p.front ≡ number_text (codes "rt1553") version_field p.value =
+    number_one (codes "rt1553") version_field is_read p.value p.front _ p.spells_front
+    (number_spelled (codes "rt1553") version_field is_read p.value (number_fits (codes "rt1553") version_field is_read p.value p.front p.spells_front) read) in
+    ap is_canon_text (p.is ∙ ap (λ x. x ++ p.rest) front) ∙ begins p.value p.rest read
 
 -- ---- a text is of one terminal
 
@@ -54,7 +56,7 @@ one_description text P Q p q = one_of (is_canon_text text) text P Q p q
 -- ---- what can be reached of a text
 
 -- a canonical text is of what can be reached of it
-pub canon_reaches : (v : Parts) (text : List ℕ) → Text v text → Reaches text v
+pub canon_reaches : (v : Parts) (text : List ℕ) → AnyText v text → Reaches text v
 canon_reaches v text means = record {
   description = description_in v;
   of = subst (λ b. OfBy b text (description_in v)) (sym (text_begins v text means)) (record { value = v; means = means; gives = refl });
@@ -69,9 +71,9 @@ one_value text v w a b p q =
 -- ---- canonical bytes
 
 pub canon_is_its_own : CanonIsItsOwn
-canon_is_its_own text bytes c = record { value = c.value; reaches = canon_reaches c.value bytes c.means; means = c.means }
+canon_is_its_own text bytes c = record { value = c.value; reaches = canon_reaches c.value bytes (text_read c.value bytes c.means); means = c.means }
 
 pub one_canon : OneCanon
 one_canon text bytes others p q =
-    let same : p.value ≡ q.value = one_value text p.value q.value (text_normal p.value bytes p.means) (text_normal q.value others q.means) p.reaches q.reaches in
+    let same : p.value ≡ q.value = one_value text p.value q.value (written_normal p.value bytes p.means) (written_normal q.value others q.means) p.reaches q.reaches in
     text_one q.value bytes others (subst (λ v. Text v bytes) same p.means) q.means

@@ -36,7 +36,7 @@ pub record AreDifferent (first second : List ℕ) (script : List Event) : Type 0
   pub canonical : (a b : List ℕ) → IsCanon first a → IsCanon second b → a ≢ b
   pub difference : Difference
   pub first_difference : IsFirst (reach p) (reach q) difference
-  pub shows : script ≡ script_for (reach p) difference
+  pub shows : script ≡ script_for (reach p) (reach q) difference
   pub apart : TellsApart p q script
 
 -- the verdict is right

@@ -1,5 +1,5 @@
 -- Which texts are accepted, what they are of, and why one is refused.
-use Rattle.std.specs.Prelude.{◌≡◌, ℕ, Bool, true, false, nat_eq, List, codes}
+use Rattle.std.specs.Prelude.{◌≡◌, ℕ, Bool, true, false, ◌||◌, nat_eq, List, codes}
 use Rattle.std.specs.List.{starts_with}
 use Rattle.bus_profile.specs.declared.profile.Profile.{Profile}
 use Rattle.bus_profile.specs.declared.fault.ProfileFault.{ProfileFault}
@@ -10,7 +10,7 @@ use Rattle.bus_legal.specs.Meaning.{description_of}
 use Rattle.bus_legal.specs.Parts.{Parts, description_in}
 use Rattle.bus_legal.specs.Reach.{reach}
 use Rattle.line_format.specs.Answers.{Trails, HasWrongLine}
-use Rattle.bus_canon.specs.Canon.{canon, Text}
+use Rattle.bus_canon.specs.Canon.{is_read, canon, AnyText}
 use Rattle.bus_canon.specs.declared.fault.CanonFault.{CanonFault}
 use Rattle.bus_canon.specs.declared.fault.CanonFault.TheVariants.{Line, Trailing}
 use Rattle.rt1553.specs.declared.fault.LoadFault.{LoadFault}
@@ -21,14 +21,14 @@ abbrev pub load_fault : ProfileFault → LoadFault
 load_fault profile.Memory = load.Memory
 load_fault fault = load.Profile fault
 
--- A text that begins with the bytes `rt1553 1` and a line feed is canonical text, any other is TOML.
+-- A text that begins with the bytes `rt1553 1` or `rt1553 2` and a line feed is canonical text, any other is TOML.
 abbrev pub is_canon_text : List ℕ → Bool
-is_canon_text text = starts_with nat_eq text (codes "rt1553 1\n")
+is_canon_text text = starts_with nat_eq text (codes "rt1553 1\n") || starts_with nat_eq text (codes "rt1553 2\n")
 
--- the text is a canonical text, of this description
+-- the text is a canonical text, of either version, of this description
 pub record IsCanonText (text : List ℕ) (P : Description) : Type 0 where
   pub value : Parts
-  pub means : Text value text
+  pub means : AnyText value text
   pub gives : P ≡ description_in value
 
 -- The text is a profile text without fault, of this description: a cell is legal as the last entry that
@@ -53,8 +53,8 @@ pub record Reaches (text : List ℕ) (value : Parts) : Type 0 where
   pub reached : description_in value ≡ reach description
 
 abbrev pub IsNoCanon : List ℕ → CanonFault → Type 0
-IsNoCanon text (Line n) = HasWrongLine canon text n
-IsNoCanon text Trailing = Trails canon text
+IsNoCanon text (Line n) = HasWrongLine (canon is_read) text n
+IsNoCanon text Trailing = Trails (canon is_read) text
 
 abbrev pub IsNotLoadedBy : Bool → List ℕ → LoadFault → Type 0
 IsNotLoadedBy true text (load.Canon fault) = IsNoCanon text fault

@@ -1,6 +1,6 @@
 //! Texts are loaded, and their canonical bytes written.
 ghost use Rattle.std.specs.Prelude.{◌≡◌, ◌⊎◌, IfOk, IfErr};
-ghost use Rattle.rt1553.specs.Load.{Reaches, IsNotLoaded};
+ghost use Rattle.rt1553.specs.Load.{is_canon_text, Reaches, IsNotLoaded};
 ghost use Rattle.rt1553.specs.Canon.{IsCanon};
 
 use crate::LoadFault;
@@ -9,8 +9,18 @@ use bus_legal::{Normal, normalise};
 use bus_profile::read_profile;
 use std::alloc::Global;
 
-/// How a canonical text begins. Any other text is a profile text, TOML.
-const CANON_HEAD: &[u8] = b"rt1553 1\n";
+/// How a canonical text of version 1 begins.
+const FIRST_HEAD: &[u8] = b"rt1553 1\n";
+
+/// How a canonical text of version 2 begins.
+const SECOND_HEAD: &[u8] = b"rt1553 2\n";
+
+/// Whether this is a canonical text. Any other text is a profile text, TOML.
+fn is_canon_text(text: &[u8]) -> bool
+    ensures { result ≡ is_canon_text text.now }
+{
+    text.starts_with(FIRST_HEAD) || text.starts_with(SECOND_HEAD)
+}
 
 /// Loads a profile text or a canonical text: what can be reached of its terminal. A canonical text takes no
 /// memory.
@@ -18,7 +28,7 @@ pub fn load(alloc: Global, text: &[u8]) -> Result<Normal, LoadFault>
     ensures ok { IfOk result (Reaches text.now) }
     ensures refused { IfErr result (IsNotLoaded text.now) }
 {
-    if text.starts_with(CANON_HEAD) {
+    if is_canon_text(text) {
         return match read_canon(text) {
             Ok(normal) => Ok(normal),
             Err(fault) => Err(LoadFault::Canon(fault)),

@@ -71,7 +71,7 @@ fn refused_profiles(rt: HostRuntime) {
         ("Address = 5", ProfileFault::UnknownKey(Part::Root)),
         ("address = 5\naddress = 6", ProfileFault::NotToml),
         ("address 5", ProfileFault::NotToml),
-        ("rt1553 2\n", ProfileFault::NotToml),
+        ("rt1553 3\n", ProfileFault::NotToml),
     ];
     for (text, fault) in rows {
         let (result, writer) = play(rt.alloc(), text.as_bytes(), b"A c 2c02\nA gap\n");

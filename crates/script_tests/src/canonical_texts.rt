@@ -76,17 +76,17 @@ fn initial_words(rt: HostRuntime) -> Result<(), Fail> {
 #[test]
 fn largest_canonical(rt: HostRuntime) -> Result<(), Fail> {
     let alloc = rt.alloc();
-    let mut text = format!(in alloc; "rt1553 1\naddress 05\nbroadcast 1\n")?;
+    let mut text = format!(in alloc; "rt1553 2\naddress 05\nbroadcast 1\n")?;
     for name in ["own-receive", "own-transmit", "broadcast-receive"] {
         put_masks(&mut text, alloc, name, 0, 0, 0xffff_ffff)?;
     }
     text.push_str("own-mode 000f01ff\nbroadcast-mode 000201fa\n")?;
-    text.push_str("accept 0\nvector 0000\nbit 0000\nwraparound 1\n")?;
+    text.push_str("accept 0\nvector 0000\nbit 0000\nwraparound 30\n")?;
     put_zero_words(&mut text, alloc)?;
     assert_eq!(rt; line_count(text.as_str()), 129);
-    assert_eq!(rt; text.len(), 7617);
+    assert_eq!(rt; text.len(), 7618);
     let normal = value_of(alloc, text.as_str())?;
-    assert!(rt; normal.broadcast() && normal.wrap() && !normal.accept());
+    assert!(rt; normal.broadcast() && normal.wrap() == 30 && !normal.accept());
     assert_eq!(rt; normal.tables().broadcast_receive, [0xffff_ffff; 30]);
     assert_eq!(rt; normal.tables().broadcast_mode, 0x0002_01fa);
     Ok(())
@@ -96,15 +96,15 @@ fn largest_canonical(rt: HostRuntime) -> Result<(), Fail> {
 #[test]
 fn wraparound_by_broadcast(rt: HostRuntime) -> Result<(), Fail> {
     let alloc = rt.alloc();
-    let mut text = format!(in alloc; "rt1553 1\naddress 05\nbroadcast 1\n")?;
+    let mut text = format!(in alloc; "rt1553 2\naddress 05\nbroadcast 1\n")?;
     put_masks(&mut text, alloc, "own-receive", 0, 0, 0)?;
     put_masks(&mut text, alloc, "own-transmit", 30, 1, 0)?;
     put_masks(&mut text, alloc, "broadcast-receive", 30, 1, 0)?;
     text.push_str("own-mode 00000134\nbroadcast-mode 00000000\n")?;
-    text.push_str("wraparound 1\ninitial 30 0000\n")?;
+    text.push_str("wraparound 30\ninitial 30 0000\n")?;
     assert_eq!(rt; line_count(text.as_str()), 97);
-    assert_eq!(rt; text.len(), 2473);
-    assert!(rt; value_of(alloc, text.as_str())?.wrap());
+    assert_eq!(rt; text.len(), 2474);
+    assert_eq!(rt; value_of(alloc, text.as_str())?.wrap(), 30);
     Ok(())
 }
 
@@ -112,15 +112,38 @@ fn wraparound_by_broadcast(rt: HostRuntime) -> Result<(), Fail> {
 #[test]
 fn all_own_counts(rt: HostRuntime) -> Result<(), Fail> {
     let alloc = rt.alloc();
-    let mut text = format!(in alloc; "rt1553 1\naddress 05\nbroadcast 0\n")?;
+    let mut text = format!(in alloc; "rt1553 2\naddress 05\nbroadcast 0\n")?;
     put_masks(&mut text, alloc, "own-receive", 0, 0, 0xffff_ffff)?;
     put_masks(&mut text, alloc, "own-transmit", 0, 0, 0xffff_ffff)?;
-    text.push_str("own-mode 00000134\nwraparound 1\n")?;
+    text.push_str("own-mode 00000134\nwraparound 30\n")?;
     put_zero_words(&mut text, alloc)?;
     assert_eq!(rt; line_count(text.as_str()), 95);
-    assert_eq!(rt; text.len(), 6663);
+    assert_eq!(rt; text.len(), 6664);
     let normal = value_of(alloc, text.as_str())?;
-    assert!(rt; normal.wrap() && !normal.broadcast());
+    assert!(rt; normal.wrap() == 30 && !normal.broadcast());
+    Ok(())
+}
+
+/// The row of wraparound at 7: receive 7 and transmit 7 are legal for 1.
+#[test]
+fn wraparound_at_seven(rt: HostRuntime) -> Result<(), Fail> {
+    let alloc = rt.alloc();
+    for (version, line, found) in [
+        (2u8, "wraparound 07", Ok(7)),
+        (2, "wraparound 00", Ok(0)),
+        (2, "wraparound 09", Err(CanonFault::Line(65))),
+        (2, "wraparound 30", Err(CanonFault::Line(65))),
+        (2, "wraparound 1", Err(CanonFault::Line(65))),
+        (1, "wraparound 07", Err(CanonFault::Line(65))),
+        (1, "wraparound 0", Err(CanonFault::Line(65))),
+    ] {
+        let mut text = format!(in alloc; "rt1553 {version}\naddress 05\nbroadcast 0\n")?;
+        put_masks(&mut text, alloc, "own-receive", 7, 1, 0)?;
+        put_masks(&mut text, alloc, "own-transmit", 7, 1, 0)?;
+        text.push_str(format!(in alloc; "own-mode 00000134\n{line}\ninitial 07 0000\n")?.as_str())?;
+        let read = read_canon(text.as_str().as_bytes()).map(|normal| normal.wrap());
+        assert_eq!(rt; read, found, "{version} {line}");
+    }
     Ok(())
 }
 
@@ -157,9 +180,10 @@ fn cut_texts(rt: HostRuntime) -> Result<(), Fail> {
 }
 
 /// Lines, each in place of another in the plain text, what is behind the end then, and the wrong line.
-const DAMAGED: [(u8, &str, &str, usize); 15] = [
-    (1, "rt1553 2", "", 1),
-    (1, "rt1553 1\r", "", 1),
+const DAMAGED: [(u8, &str, &str, usize); 16] = [
+    (1, "rt1553 3", "", 1),
+    (1, "rt1553 0", "", 1),
+    (1, "rt1553 2\r", "", 1),
     (2, "address 31", "", 2),
     (2, "address 5", "", 2),
     (2, "address  5", "", 2),

@@ -29,7 +29,7 @@ fn terminal() -> Terminal<Every> {
     let setup = Setup {
         address: 5,
         broadcast: true,
-        wrap: false,
+        wrap: 0,
         accept: true,
         vector: 0x1234,
         bit: 0xabcd,

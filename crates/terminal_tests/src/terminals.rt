@@ -19,7 +19,7 @@ fn terminal_of<L: Legality>(profile: &Profile, legality: L) -> Terminal<L> {
     let setup = Setup {
         address: 5,
         broadcast: profile.broadcast,
-        wrap: true,
+        wrap: 30,
         accept: profile.accept,
         vector: profile.vector,
         bit: profile.bit,

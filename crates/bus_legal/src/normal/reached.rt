@@ -2,7 +2,6 @@
 ghost use Rattle.std.specs.Prelude.{◌≡◌, ◌<◌, ◌≤◌, ◌&&◌, ℕ, [], true, false, get_or, nat_lt, if◌then◌else◌, replicate};
 ghost use Rattle.bus_word.specs.declared.cell.Cell.{Cell};
 ghost use Rattle.bus_profile.specs.OwnCodes.{has_bit};
-ghost use Rattle.bus_legal.specs.Description.{wrap_subaddress};
 ghost use Rattle.bus_legal.specs.Legal.{is_legal};
 ghost use Rattle.bus_legal.specs.Meaning.{description_of};
 ghost use Rattle.bus_legal.specs.Reach.{is_heard, reach};
@@ -14,9 +13,6 @@ use crate::initial::put_initial;
 use crate::masks::{has_bit, largest_count};
 use crate::tables::Tables;
 use bus_profile::Profile;
-
-/// The wraparound subaddress.
-const WRAP_SUBADDRESS: u8 = 30;
 
 /// The masks of what a profile makes legal, without broadcast cells where its terminal hears none.
 fn heard_tables(profile: &Profile) -> Tables
@@ -34,11 +30,17 @@ fn heard_tables(profile: &Profile) -> Tables
     tables
 }
 
-/// Whether wraparound is on and can be reached.
-fn wraps(profile: &Profile, tables: &Tables) -> bool
-    ensures { result ≡ (masks_wrap tables.now wrap_subaddress && profile.now.wrap) }
+/// The wraparound subaddress, where it can be reached, else 0.
+fn reached_wrap(profile: &Profile, tables: &Tables) -> u8
+    ensures wrap { result ≡ (if masks_wrap tables.now profile.now.wrap then profile.now.wrap else 0) }
+    ensures small { result ≤ 30 }
+    ensures unwrapped { masks_wrap tables.now result ≡ false → result ≡ 0 }
 {
-    tables.can_wrap(WRAP_SUBADDRESS) && profile.wrap
+    if profile.wrap != 0 && tables.can_wrap(profile.wrap) {
+        profile.wrap
+    } else {
+        0
+    }
 }
 
 /// Whether dynamic bus control is accepted and can be asked for.
@@ -91,7 +93,7 @@ pub fn normalise(profile: &Profile) -> Normal
     Normal {
         address: profile.address,
         broadcast: profile.broadcast,
-        wrap: wraps(profile, &tables),
+        wrap: reached_wrap(profile, &tables),
         accept: accepts(profile, &tables),
         vector: asked_word(&tables, 16, profile.vector),
         bit: asked_word(&tables, 19, profile.bit),

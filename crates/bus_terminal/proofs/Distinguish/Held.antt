@@ -1,10 +1,11 @@
 -- Terminals that differ in a word that they hold at power-up, or in wraparound.
-use Rattle.std.proofs.Common.{◌≡◌, ℕ, zero, suc, ◌+◌, ◌-◌, ◌≤◌, ◌<◌, Bool, true, false, ◌≢◌, ◌&&◌, if◌then◌else◌, Some, None, List, [], ◌∷◌, length, replicate, get_or, refl, ap, sym, ◌∙◌, arith}
+use Rattle.std.proofs.Common.{◌≡◌, ℕ, zero, suc, ◌+◌, ◌-◌, ◌≤◌, ◌<◌, Bool, true, false, ◌≢◌, ◌&&◌, ◌==◌, if◌then◌else◌, Some, None, List, [], ◌∷◌, length, replicate, get_or, refl, ap, sym, ◌∙◌, arith}
+use Rattle.std.proofs.lemmas.Bool.Decides.{nat_tests}
 use Rattle.std.proofs.lemmas.List.{length-replicate}
 use Rattle.bus_word.specs.declared.cell.Cell.{Cell}
 use Rattle.bus_word.specs.declared.cell.Cell.TheVariants.{OwnReceive, OwnTransmit, BroadReceive, OwnMode, BroadMode}
 use Rattle.bus_word.specs.Cell.{is_data_place}
-use Rattle.bus_legal.specs.Description.{Description, wrap_subaddress}
+use Rattle.bus_legal.specs.Description.{Description}
 use Rattle.bus_terminal.specs.LookBack.{or_else}
 use Rattle.bus_terminal.specs.History.{Noted, Done}
 use Rattle.bus_terminal.specs.SinceReset.{held_set, held_now}
@@ -54,45 +55,51 @@ initial_tells P Q s n i low same place p_legal q_legal from upto other =
     other
 
 -- 12: wraparound. A receive command at its subaddress, own or by broadcast.
-abbrev IsReceived : Cell → Type 0
-IsReceived (OwnReceive s n) = s ≡ wrap_subaddress
-IsReceived (BroadReceive s n) = s ≡ wrap_subaddress
-IsReceived cell = ⊥
+abbrev IsReceived : ℕ → Cell → Type 0
+IsReceived s (OwnReceive t n) = t ≡ s
+IsReceived s (BroadReceive t n) = t ≡ s
+IsReceived s cell = ⊥
 
 -- what is held first after that
 abbrev held_first : Bool → ℕ → ℕ → ℕ
 held_first wrap received initial = if wrap then received else initial
 
-wrapped_first : (wrap : Bool) (received before : ℕ) → or_else (if wrap && true then Some received else None) before ≡ held_first wrap received before
-wrapped_first true received before = refl
-wrapped_first false received before = refl
+wrapped_first : (s wrap received before : ℕ) → or_else (if (s == s) && (s == wrap) then Some received else None) before ≡ held_first (s == wrap) received before
+wrapped_first s wrap received before = ap (λ b. or_else (if b && (s == wrap) then Some received else None) before) (same s) ∙ by_test (s == wrap)
+  where
+    same : (s : ℕ) → (s == s) ≡ true
+    same s = grind (arith, nat_tests)
 
-done_held : (P : Description) (h : List Noted) (c : ℕ) (cell : Cell) (d : ℕ) (ds : List ℕ) → IsReceived cell →
-    held_now P (gap_note h (Done c cell (d ∷ ds)) ∷ h) wrap_subaddress 1 ≡ held_first P.wrap d (held_now P h wrap_subaddress 1)
-done_held P h c (OwnReceive s n) d ds at =
-    ap (λ s. held_now P (gap_note h (Done c (OwnReceive s n) (d ∷ ds)) ∷ h) wrap_subaddress 1) at
-    ∙ (held_step P wrap_subaddress 1 (gap_note h (Done c (OwnReceive wrap_subaddress n) (d ∷ ds))) h
-    ∙ wrapped_first P.wrap d (held_now P h wrap_subaddress 1))
-done_held P h c (BroadReceive s n) d ds at =
-    ap (λ s. held_now P (gap_note h (Done c (BroadReceive s n) (d ∷ ds)) ∷ h) wrap_subaddress 1) at
-    ∙ (held_step P wrap_subaddress 1 (gap_note h (Done c (BroadReceive wrap_subaddress n) (d ∷ ds))) h
-    ∙ wrapped_first P.wrap d (held_now P h wrap_subaddress 1))
-done_held P h c (OwnTransmit s n) d ds at = absurd at
-done_held P h c (OwnMode code) d ds at = absurd at
-done_held P h c (BroadMode code) d ds at = absurd at
+    by_test : (b : Bool) → or_else (if b then Some received else None) before ≡ held_first b received before
+    by_test true = refl
+    by_test false = refl
+
+done_held : (P : Description) (h : List Noted) (c s : ℕ) (cell : Cell) (d : ℕ) (ds : List ℕ) → IsReceived s cell →
+    held_now P (gap_note h (Done c cell (d ∷ ds)) ∷ h) s 1 ≡ held_first (s == P.wrap) d (held_now P h s 1)
+done_held P h c s (OwnReceive t n) d ds at =
+    ap (λ t. held_now P (gap_note h (Done c (OwnReceive t n) (d ∷ ds)) ∷ h) s 1) at
+    ∙ (held_step P s 1 (gap_note h (Done c (OwnReceive s n) (d ∷ ds))) h
+    ∙ wrapped_first s P.wrap d (held_now P h s 1))
+done_held P h c s (BroadReceive t n) d ds at =
+    ap (λ t. held_now P (gap_note h (Done c (BroadReceive t n) (d ∷ ds)) ∷ h) s 1) at
+    ∙ (held_step P s 1 (gap_note h (Done c (BroadReceive s n) (d ∷ ds))) h
+    ∙ wrapped_first s P.wrap d (held_now P h s 1))
+done_held P h c s (OwnTransmit t n) d ds at = absurd at
+done_held P h c s (OwnMode code) d ds at = absurd at
+done_held P h c s (BroadMode code) d ds at = absurd at
 
 -- the first word sent after a receive message, and then a transmit message
-wrap_sent : (P : Description) (x y : Exchange) (to : ℕ) (cell : Cell) (m d : ℕ) (ds : List ℕ) → P.address ≤ 30 → IsTo to (Some cell) x →
-    ending_of_exchange P x ≡ Done x.command cell (d ∷ ds) → IsReceived cell →
-    IsTo P.address (Some (OwnTransmit wrap_subaddress m)) y → 1 ≤ m → P.legal (OwnTransmit wrap_subaddress m) ≡ true →
-    word_in 1 (words_in (exchange_answer P (exchange_notes P (x ∷ [])) y).sent) ≡ held_first P.wrap d (P.initial wrap_subaddress 1)
-wrap_sent P x y to cell m d ds low first ends received second some legal =
-    ap (λ o. word_in 1 (words_in o)) (own_sent P (x ∷ []) y (OwnTransmit wrap_subaddress m) true low second legal)
-    ∙ (held_word P (notes_at P (x ∷ []) y) wrap_subaddress m 1 (omega arith) some
-    ∙ (held_at P (x ∷ []) y wrap_subaddress 1
-    ∙ (ap (λ e. held_now P (gap_note (notes_at P [] x) e ∷ notes_at P [] x) wrap_subaddress 1) ends
-    ∙ (done_held P (notes_at P [] x) x.command cell d ds received
-    ∙ ap (held_first P.wrap d) (held_at P [] x wrap_subaddress 1)))))
+wrap_sent : (P : Description) (x y : Exchange) (to s : ℕ) (cell : Cell) (m d : ℕ) (ds : List ℕ) → P.address ≤ 30 → IsTo to (Some cell) x →
+    ending_of_exchange P x ≡ Done x.command cell (d ∷ ds) → IsReceived s cell →
+    IsTo P.address (Some (OwnTransmit s m)) y → 1 ≤ m → P.legal (OwnTransmit s m) ≡ true →
+    word_in 1 (words_in (exchange_answer P (exchange_notes P (x ∷ [])) y).sent) ≡ held_first (s == P.wrap) d (P.initial s 1)
+wrap_sent P x y to s cell m d ds low first ends received second some legal =
+    ap (λ o. word_in 1 (words_in o)) (own_sent P (x ∷ []) y (OwnTransmit s m) true low second legal)
+    ∙ (held_word P (notes_at P (x ∷ []) y) s m 1 (omega arith) some
+    ∙ (held_at P (x ∷ []) y s 1
+    ∙ (ap (λ e. held_now P (gap_note (notes_at P [] x) e ∷ notes_at P [] x) s 1) ends
+    ∙ (done_held P (notes_at P [] x) x.command s cell d ds received
+    ∙ ap (held_first (s == P.wrap) d) (held_at P [] x s 1)))))
 
 -- no word is its own complement
 wrap_told : (p q : Bool) (w : ℕ) → held_first p (65535 - w) w ≡ held_first q (65535 - w) w → p ≡ q
@@ -101,56 +108,56 @@ wrap_told true false w e = absurd (omega arith)
 wrap_told false true w e = absurd (omega arith)
 wrap_told false false w e = refl
 
-wrap_apart : (P Q : Description) (x : Exchange) (to : ℕ) (cell : Cell) (m : ℕ) (ds : List ℕ) → P.address ≤ 30 → P.address ≡ Q.address → IsTo to (Some cell) x → IsReceived cell →
-    ending_of_exchange P x ≡ Done x.command cell ((65535 - P.initial wrap_subaddress 1) ∷ ds) → ending_of_exchange Q x ≡ Done x.command cell ((65535 - P.initial wrap_subaddress 1) ∷ ds) →
-    is_data_place wrap_subaddress m ≡ true → P.legal (OwnTransmit wrap_subaddress m) ≡ true → Q.legal (OwnTransmit wrap_subaddress m) ≡ true →
-    P.initial wrap_subaddress 1 ≡ Q.initial wrap_subaddress 1 → P.wrap ≢ Q.wrap → TellsApart P Q (script_of (x ∷ transmit P.address wrap_subaddress m ∷ []))
-wrap_apart P Q x to cell m ds low same first received p_ends q_ends place p_legal q_legal initial other =
-    let w : ℕ = P.initial wrap_subaddress 1 in
-    let y : Exchange = transmit P.address wrap_subaddress m in
-    let second : IsTo P.address (Some (OwnTransmit wrap_subaddress m)) y = transmit_from_own P.address wrap_subaddress m low place in
-    let some : 1 ≤ m = place_some wrap_subaddress m place in
+wrap_apart : (P Q : Description) (x : Exchange) (to s : ℕ) (cell : Cell) (m : ℕ) (ds : List ℕ) → P.address ≤ 30 → P.address ≡ Q.address → IsTo to (Some cell) x → IsReceived s cell →
+    ending_of_exchange P x ≡ Done x.command cell ((65535 - P.initial s 1) ∷ ds) → ending_of_exchange Q x ≡ Done x.command cell ((65535 - P.initial s 1) ∷ ds) →
+    is_data_place s m ≡ true → P.legal (OwnTransmit s m) ≡ true → Q.legal (OwnTransmit s m) ≡ true →
+    P.initial s 1 ≡ Q.initial s 1 → (s == P.wrap) ≢ (s == Q.wrap) → TellsApart P Q (script_of (x ∷ transmit P.address s m ∷ []))
+wrap_apart P Q x to s cell m ds low same first received p_ends q_ends place p_legal q_legal initial other =
+    let w : ℕ = P.initial s 1 in
+    let y : Exchange = transmit P.address s m in
+    let second : IsTo P.address (Some (OwnTransmit s m)) y = transmit_from_own P.address s m low place in
+    let some : 1 ≤ m = place_some s m place in
     let low_q : Q.address ≤ 30 = omega arith in
-    apart_by_two (λ o. word_in 1 (words_in o)) P Q to P.address (Some cell) (Some (OwnTransmit wrap_subaddress m)) x y (held_first P.wrap (65535 - w) w) (held_first Q.wrap (65535 - w) w) first second refl
-    (wrap_sent P x y to cell m (65535 - w) ds low first p_ends received second some p_legal)
-    (wrap_sent Q x y to cell m (65535 - w) ds low_q first q_ends received (moved P.address Q.address (Some (OwnTransmit wrap_subaddress m)) y same second) some q_legal
-    ∙ ap (held_first Q.wrap (65535 - w)) (sym initial))
-    (λ e. other (wrap_told P.wrap Q.wrap w e))
+    apart_by_two (λ o. word_in 1 (words_in o)) P Q to P.address (Some cell) (Some (OwnTransmit s m)) x y (held_first (s == P.wrap) (65535 - w) w) (held_first (s == Q.wrap) (65535 - w) w) first second refl
+    (wrap_sent P x y to s cell m (65535 - w) ds low first p_ends received second some p_legal)
+    (wrap_sent Q x y to s cell m (65535 - w) ds low_q first q_ends received (moved P.address Q.address (Some (OwnTransmit s m)) y same second) some q_legal
+    ∙ ap (held_first (s == Q.wrap) (65535 - w)) (sym initial))
+    (λ e. other (wrap_told (s == P.wrap) (s == Q.wrap) w e))
 
 -- so many data words, the first of them this one
-words_length : (n d : ℕ) → is_data_place wrap_subaddress n ≡ true → length (d ∷ replicate (n - 1) 0) ≡ n
-words_length n d place =
-    let some : 1 ≤ n = place_some wrap_subaddress n place in
+words_length : (s n d : ℕ) → is_data_place s n ≡ true → length (d ∷ replicate (n - 1) 0) ≡ n
+words_length s n d place =
+    let some : 1 ≤ n = place_some s n place in
     let again : suc (n - 1) ≡ n = omega arith in
     ap suc (length-replicate (n - 1) 0) ∙ again
 
-pub own_wraparound_tells : (P Q : Description) (n m : ℕ) → P.address ≤ 30 → P.address ≡ Q.address →
-    is_data_place wrap_subaddress n ≡ true → P.legal (OwnReceive wrap_subaddress n) ≡ true → Q.legal (OwnReceive wrap_subaddress n) ≡ true →
-    is_data_place wrap_subaddress m ≡ true → P.legal (OwnTransmit wrap_subaddress m) ≡ true → Q.legal (OwnTransmit wrap_subaddress m) ≡ true →
-    P.initial wrap_subaddress 1 ≡ Q.initial wrap_subaddress 1 → P.wrap ≢ Q.wrap →
-    TellsApart P Q (shown_wraparound P P.address n m)
-own_wraparound_tells P Q n m low same place p_receives q_receives place_m p_legal q_legal initial other =
-    let d : ℕ = 65535 - P.initial wrap_subaddress 1 in
-    let x : Exchange = receive P.address wrap_subaddress n (d ∷ replicate (n - 1) 0) in
-    let cell : Cell = OwnReceive wrap_subaddress n in
-    let first : IsTo P.address (Some cell) x = receive_to_own P.address wrap_subaddress n (d ∷ replicate (n - 1) 0) low place (words_length n d place) (omega arith, zeros_small (n - 1)) in
-    wrap_apart P Q x P.address cell m (replicate (n - 1) 0) low same first refl
+pub own_wraparound_tells : (P Q : Description) (s n m : ℕ) → P.address ≤ 30 → P.address ≡ Q.address →
+    is_data_place s n ≡ true → P.legal (OwnReceive s n) ≡ true → Q.legal (OwnReceive s n) ≡ true →
+    is_data_place s m ≡ true → P.legal (OwnTransmit s m) ≡ true → Q.legal (OwnTransmit s m) ≡ true →
+    P.initial s 1 ≡ Q.initial s 1 → (s == P.wrap) ≢ (s == Q.wrap) →
+    TellsApart P Q (shown_wraparound P s P.address n m)
+own_wraparound_tells P Q s n m low same place p_receives q_receives place_m p_legal q_legal initial other =
+    let d : ℕ = 65535 - P.initial s 1 in
+    let x : Exchange = receive P.address s n (d ∷ replicate (n - 1) 0) in
+    let cell : Cell = OwnReceive s n in
+    let first : IsTo P.address (Some cell) x = receive_to_own P.address s n (d ∷ replicate (n - 1) 0) low place (words_length s n d place) (omega arith, zeros_small (n - 1)) in
+    wrap_apart P Q x P.address s cell m (replicate (n - 1) 0) low same first refl
     (own_ends P x cell first ∙ ap (λ l. ended l x cell) p_receives)
     (own_ends Q x cell (moved P.address Q.address (Some cell) x same first) ∙ ap (λ l. ended l x cell) q_receives)
     place_m p_legal q_legal initial other
 
-pub broadcast_wraparound_tells : (P Q : Description) (n m : ℕ) → P.address ≤ 30 → P.address ≡ Q.address → P.broadcast ≡ true → Q.broadcast ≡ true →
-    is_data_place wrap_subaddress n ≡ true → P.legal (BroadReceive wrap_subaddress n) ≡ true → Q.legal (BroadReceive wrap_subaddress n) ≡ true →
-    is_data_place wrap_subaddress m ≡ true → P.legal (OwnTransmit wrap_subaddress m) ≡ true → Q.legal (OwnTransmit wrap_subaddress m) ≡ true →
-    P.initial wrap_subaddress 1 ≡ Q.initial wrap_subaddress 1 → P.wrap ≢ Q.wrap →
-    TellsApart P Q (shown_wraparound P all_terminals n m)
-broadcast_wraparound_tells P Q n m low same p_hears q_hears place p_receives q_receives place_m p_legal q_legal initial other =
-    let d : ℕ = 65535 - P.initial wrap_subaddress 1 in
-    let x : Exchange = receive all_terminals wrap_subaddress n (d ∷ replicate (n - 1) 0) in
-    let cell : Cell = BroadReceive wrap_subaddress n in
-    let first : IsTo all_terminals (Some cell) x = receive_to_all wrap_subaddress n (d ∷ replicate (n - 1) 0) place (words_length n d place) (omega arith, zeros_small (n - 1)) in
+pub broadcast_wraparound_tells : (P Q : Description) (s n m : ℕ) → P.address ≤ 30 → P.address ≡ Q.address → P.broadcast ≡ true → Q.broadcast ≡ true →
+    is_data_place s n ≡ true → P.legal (BroadReceive s n) ≡ true → Q.legal (BroadReceive s n) ≡ true →
+    is_data_place s m ≡ true → P.legal (OwnTransmit s m) ≡ true → Q.legal (OwnTransmit s m) ≡ true →
+    P.initial s 1 ≡ Q.initial s 1 → (s == P.wrap) ≢ (s == Q.wrap) →
+    TellsApart P Q (shown_wraparound P s all_terminals n m)
+broadcast_wraparound_tells P Q s n m low same p_hears q_hears place p_receives q_receives place_m p_legal q_legal initial other =
+    let d : ℕ = 65535 - P.initial s 1 in
+    let x : Exchange = receive all_terminals s n (d ∷ replicate (n - 1) 0) in
+    let cell : Cell = BroadReceive s n in
+    let first : IsTo all_terminals (Some cell) x = receive_to_all s n (d ∷ replicate (n - 1) 0) place (words_length s n d place) (omega arith, zeros_small (n - 1)) in
     let low_q : Q.address ≤ 30 = omega arith in
-    wrap_apart P Q x all_terminals cell m (replicate (n - 1) 0) low same first refl
+    wrap_apart P Q x all_terminals s cell m (replicate (n - 1) 0) low same first refl
     (broadcast_ends P x cell low p_hears first ∙ ap (λ l. ended l x cell) p_receives)
     (broadcast_ends Q x cell low_q q_hears first ∙ ap (λ l. ended l x cell) q_receives)
     place_m p_legal q_legal initial other

@@ -1,18 +1,18 @@
 -- Two descriptions with nothing in them that can't be reached, alike in what comes before and different in one
 -- thing, are told apart by its script.
-use Rattle.std.proofs.Common.{◌≡◌, ℕ, zero, suc, ◌≤◌, Bool, true, false, ◌≢◌, ◌&&◌, ◌||◌, cond, nat_le, if◌then◌else◌, ◌⊎◌, inl, inr, refl, ap, sym, ◌∙◌, arith}
-use Rattle.std.proofs.lemmas.Bool.{and_parts}
+use Rattle.std.proofs.Common.{◌≡◌, ℕ, zero, suc, ◌≤◌, ◌==◌, Bool, true, false, ◌≢◌, ◌&&◌, ◌||◌, cond, nat_le, if◌then◌else◌, ◌⊎◌, inl, inr, refl, ap, sym, ◌∙◌, arith}
+use Rattle.std.proofs.lemmas.Bool.{and_parts, eqb-true}
 use Rattle.std.proofs.lemmas.Bool.Decides.{nat_tests}
 use Rattle.bus_word.specs.declared.cell.Cell.{Cell}
 use Rattle.bus_word.specs.declared.cell.Cell.TheVariants.{OwnReceive, OwnTransmit, BroadReceive, OwnMode, BroadMode}
 use Rattle.bus_word.specs.Cell.{is_data_place, is_allowed}
-use Rattle.bus_legal.specs.Description.{Description, wrap_subaddress}
+use Rattle.bus_legal.specs.Description.{Description}
 use Rattle.bus_legal.specs.Reach.{any_to, any_count, largest_count, is_heard, transmits, receives, can_wrap, can_transmit, reach}
 use Rattle.bus_legal.specs.Parts.{Parts, description_in, IsNormal}
 use Rattle.bus_legal.proofs.Descriptions.{same_description}
 use Rattle.bus_legal.proofs.Counts.{sent_place, largest_to-passes, any_to-or, any_to-and}
 use Rattle.bus_legal.proofs.NormalLaws.{reach-normal, required-legal}
-use Rattle.bus_terminal.specs.Distinguish.{TellsApart, all_terminals, least_to, least_count, address_script, option_script, own_receive_script, own_transmit_script, broadcast_receive_script, own_code_script, broadcast_code_script, acceptance_script, vector_script, bit_script, initial_script, shown_wraparound, receives_own, receives_broadcast, wraparound_script}
+use Rattle.bus_terminal.specs.Distinguish.{TellsApart, all_terminals, least_to, least_count, address_script, option_script, own_receive_script, own_transmit_script, broadcast_receive_script, own_code_script, broadcast_code_script, acceptance_script, vector_script, bit_script, initial_script, shown_wraparound, receives_own, receives_broadcast, wraparound_script, shown_subaddress}
 use Rattle.bus_terminal.proofs.Distinguish.Address.{address_tells}
 use Rattle.bus_terminal.proofs.Distinguish.Broadcast.{option_tells}
 use Rattle.bus_terminal.proofs.Distinguish.Cells.{own_receive_tells, own_transmit_tells, broadcast_receive_tells, own_code_tells, broadcast_code_tells}
@@ -163,55 +163,84 @@ unfolding any_count least_count
 least_passes p some = least_to-passes 32 p some
 
 -- words can be received by the own address, or by broadcast
-any_received : (P : Description) → any_count (receives P wrap_subaddress) ≡ any_count (receives_own P) || (P.broadcast && any_count (receives_broadcast P))
+any_received : (P : Description) (s : ℕ) → any_count (receives P s) ≡ any_count (receives_own P s) || (P.broadcast && any_count (receives_broadcast P s))
 unfolding any_count
-any_received P =
-    any_to-or 32 (receives_own P) (λ n. P.broadcast && receives_broadcast P n)
-    ∙ ap (λ b. any_to 32 (receives_own P) || b) (any_to-and 32 P.broadcast (receives_broadcast P))
+any_received P s =
+    any_to-or 32 (receives_own P s) (λ n. P.broadcast && receives_broadcast P s n)
+    ∙ ap (λ b. any_to 32 (receives_own P s) || b) (any_to-and 32 P.broadcast (receives_broadcast P s))
 
-wrap_asked : (P : Description) → IsReached P → P.wrap ≡ true → can_wrap P wrap_subaddress ≡ true
-wrap_asked P p e = (and_parts (can_wrap P wrap_subaddress) P.wrap (ap (λ (D : Description). D.wrap) p.all ∙ e)).0
-
--- the cells of the wraparound subaddress are legal alike
-pub record WrapAlike (P Q : Description) : Type 0 where
-  pub broadcast : P.broadcast ≡ Q.broadcast
-  pub own_receive : (n : ℕ) → P.legal (OwnReceive wrap_subaddress n) ≡ Q.legal (OwnReceive wrap_subaddress n)
-  pub own_transmit : (n : ℕ) → P.legal (OwnTransmit wrap_subaddress n) ≡ Q.legal (OwnTransmit wrap_subaddress n)
-  pub broadcast_receive : (n : ℕ) → P.legal (BroadReceive wrap_subaddress n) ≡ Q.legal (BroadReceive wrap_subaddress n)
-  pub initial : P.initial wrap_subaddress 1 ≡ Q.initial wrap_subaddress 1
-
-can_wrap-alike : (P Q : Description) → WrapAlike P Q → can_wrap P wrap_subaddress ≡ can_wrap Q wrap_subaddress
-can_wrap-alike P Q a = λ j. any_count (λ n. a.own_receive n j || (a.broadcast j && a.broadcast_receive n j)) && any_count (λ n. a.own_transmit n j)
-
-pub apart_by_wraparound : (P Q : Description) → IsReached P → IsReached Q → P.address ≡ Q.address → WrapAlike P Q → P.wrap ≢ Q.wrap → TellsApart P Q (wraparound_script P)
-apart_by_wraparound P Q p q same alike other = by_own (any_count (receives_own P)) refl
+wrap_asked : (P : Description) → IsReached P → P.wrap ≢ 0 → can_wrap P P.wrap ≡ true
+wrap_asked P p some = by_test (can_wrap P P.wrap) refl
   where
-    both : (any_count (receives P wrap_subaddress) ≡ true) × (any_count (transmits P wrap_subaddress) ≡ true)
-    both =
-        and_parts (any_count (receives P wrap_subaddress)) (any_count (transmits P wrap_subaddress))
-        (asked_for P.wrap Q.wrap (can_wrap P wrap_subaddress) (can_wrap Q wrap_subaddress) other (can_wrap-alike P Q alike) (wrap_asked P p) (wrap_asked Q q))
+    by_test : (b : Bool) → can_wrap P P.wrap ≡ b → b ≡ true
+    by_test true e = refl
+    by_test false e = absurd (some (sym (ap (λ (D : Description). D.wrap) p.all) ∙ ap (λ b. cond b P.wrap 0) e))
 
-    sends : P.legal (OwnTransmit wrap_subaddress (least_count (transmits P wrap_subaddress))) ≡ true
-    sends = least_passes (transmits P wrap_subaddress) both.1
+-- the cells of a subaddress are legal alike
+pub record WrapAlike (s : ℕ) (P Q : Description) : Type 0 where
+  pub broadcast : P.broadcast ≡ Q.broadcast
+  pub own_receive : (n : ℕ) → P.legal (OwnReceive s n) ≡ Q.legal (OwnReceive s n)
+  pub own_transmit : (n : ℕ) → P.legal (OwnTransmit s n) ≡ Q.legal (OwnTransmit s n)
+  pub broadcast_receive : (n : ℕ) → P.legal (BroadReceive s n) ≡ Q.legal (BroadReceive s n)
+  pub initial : P.initial s 1 ≡ Q.initial s 1
 
-    by_own : (b : Bool) → any_count (receives_own P) ≡ b →
-        TellsApart P Q (if b then shown_wraparound P P.address (least_count (receives_own P)) (least_count (transmits P wrap_subaddress)) else shown_wraparound P all_terminals (least_count (receives_broadcast P)) (least_count (transmits P wrap_subaddress)))
-    by_own true e =
-        let n : ℕ = least_count (receives_own P) in
-        let m : ℕ = least_count (transmits P wrap_subaddress) in
-        let legal : P.legal (OwnReceive wrap_subaddress n) ≡ true = least_passes (receives_own P) e in
-        own_wraparound_tells P Q n m p.low same
-        (p.allowed (OwnReceive wrap_subaddress n) legal) legal (sym (alike.own_receive n) ∙ legal)
-        (p.allowed (OwnTransmit wrap_subaddress m) sends) sends (sym (alike.own_transmit m) ∙ sends) alike.initial other
-    by_own false e =
-        let n : ℕ = least_count (receives_broadcast P) in
-        let m : ℕ = least_count (transmits P wrap_subaddress) in
-        let parts : (P.broadcast ≡ true) × (any_count (receives_broadcast P) ≡ true) =
-        and_parts P.broadcast (any_count (receives_broadcast P)) (ap (λ b. b || (P.broadcast && any_count (receives_broadcast P))) (sym e) ∙ (sym (any_received P) ∙ both.0)) in
-        let legal : P.legal (BroadReceive wrap_subaddress n) ≡ true = least_passes (receives_broadcast P) parts.1 in
-        broadcast_wraparound_tells P Q n m p.low same parts.0 (sym alike.broadcast ∙ parts.0)
-        (p.allowed (BroadReceive wrap_subaddress n) legal) legal (sym (alike.broadcast_receive n) ∙ legal)
-        (p.allowed (OwnTransmit wrap_subaddress m) sends) sends (sym (alike.own_transmit m) ∙ sends) alike.initial other
+can_wrap-alike : (P Q : Description) (s : ℕ) → WrapAlike s P Q → can_wrap P s ≡ can_wrap Q s
+can_wrap-alike P Q s a = λ j. any_count (λ n. a.own_receive n j || (a.broadcast j && a.broadcast_receive n j)) && any_count (λ n. a.own_transmit n j)
+
+-- the subaddress that shows it: words can be received at it and transmitted from it, and it is that of one alone
+pub record Shows (P Q : Description) (s : ℕ) : Type 0 where
+  pub wraps : can_wrap P s ≡ true
+  pub differ : (s == P.wrap) ≢ (s == Q.wrap)
+
+shows : (P Q : Description) → IsReached P → IsReached Q → P.wrap ≢ Q.wrap → WrapAlike (shown_subaddress P.wrap Q.wrap) P Q → Shows P Q (shown_subaddress P.wrap Q.wrap)
+shows P Q p q other alike = by_none (P.wrap == 0) refl alike
+  where
+    one_alone : (a b s : ℕ) → a ≢ b → (s ≡ a) ⊎ ((a ≡ 0) × (s ≡ b)) → (s == a) ≢ (s == b)
+    one_alone a b s ne (inl e) same = ne (sym e ∙ eqb-true s b (sym same ∙ grind (arith, nat_tests)))
+    one_alone a b s ne (inr e) same = ne (sym (eqb-true s a (same ∙ grind (arith, nat_tests))) ∙ e.1)
+
+    by_none : (b : Bool) → (P.wrap == 0) ≡ b → WrapAlike (if b then Q.wrap else P.wrap) P Q → Shows P Q (if b then Q.wrap else P.wrap)
+    by_none true e alike =
+        let none : P.wrap ≡ 0 = eqb-true P.wrap 0 e in record {
+          wraps = can_wrap-alike P Q Q.wrap alike ∙ wrap_asked Q q (λ e. other (none ∙ sym e));
+          differ = one_alone P.wrap Q.wrap Q.wrap other (inr (none, refl));
+        }
+    by_none false e alike = record {
+      wraps = wrap_asked P p (λ none. (let wrong : true ≡ false = sym (ap (λ n. n == 0) none) ∙ e in cc));
+      differ = one_alone P.wrap Q.wrap P.wrap other (inl refl);
+    }
+
+pub apart_by_wraparound : (P Q : Description) → IsReached P → IsReached Q → P.address ≡ Q.address → WrapAlike (shown_subaddress P.wrap Q.wrap) P Q → P.wrap ≢ Q.wrap →
+    TellsApart P Q (wraparound_script P (shown_subaddress P.wrap Q.wrap))
+apart_by_wraparound P Q p q same alike other = apart_at (shown_subaddress P.wrap Q.wrap) alike (shows P Q p q other alike)
+  where
+    apart_at : (s : ℕ) → WrapAlike s P Q → Shows P Q s → TellsApart P Q (wraparound_script P s)
+    apart_at s alike shown = by_own (any_count (receives_own P s)) refl
+      where
+        both : (any_count (receives P s) ≡ true) × (any_count (transmits P s) ≡ true)
+        both = and_parts (any_count (receives P s)) (any_count (transmits P s)) shown.wraps
+
+        sends : P.legal (OwnTransmit s (least_count (transmits P s))) ≡ true
+        sends = least_passes (transmits P s) both.1
+
+        by_own : (b : Bool) → any_count (receives_own P s) ≡ b →
+            TellsApart P Q (if b then shown_wraparound P s P.address (least_count (receives_own P s)) (least_count (transmits P s)) else shown_wraparound P s all_terminals (least_count (receives_broadcast P s)) (least_count (transmits P s)))
+        by_own true e =
+            let n : ℕ = least_count (receives_own P s) in
+            let m : ℕ = least_count (transmits P s) in
+            let legal : P.legal (OwnReceive s n) ≡ true = least_passes (receives_own P s) e in
+            own_wraparound_tells P Q s n m p.low same
+            (p.allowed (OwnReceive s n) legal) legal (sym (alike.own_receive n) ∙ legal)
+            (p.allowed (OwnTransmit s m) sends) sends (sym (alike.own_transmit m) ∙ sends) alike.initial shown.differ
+        by_own false e =
+            let n : ℕ = least_count (receives_broadcast P s) in
+            let m : ℕ = least_count (transmits P s) in
+            let parts : (P.broadcast ≡ true) × (any_count (receives_broadcast P s) ≡ true) =
+            and_parts P.broadcast (any_count (receives_broadcast P s)) (ap (λ b. b || (P.broadcast && any_count (receives_broadcast P s))) (sym e) ∙ (sym (any_received P s) ∙ both.0)) in
+            let legal : P.legal (BroadReceive s n) ≡ true = least_passes (receives_broadcast P s) parts.1 in
+            broadcast_wraparound_tells P Q s n m p.low same parts.0 (sym alike.broadcast ∙ parts.0)
+            (p.allowed (BroadReceive s n) legal) legal (sym (alike.broadcast_receive n) ∙ legal)
+            (p.allowed (OwnTransmit s m) sends) sends (sym (alike.own_transmit m) ∙ sends) alike.initial shown.differ
 
 -- where nothing differs that a script tells, the descriptions are equal
 unallowed : (P : Description) (cell : Cell) → IsReached P → is_allowed cell ≡ false → P.legal cell ≡ false

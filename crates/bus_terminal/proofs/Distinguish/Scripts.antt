@@ -4,7 +4,7 @@ use Rattle.bus_word.specs.declared.word.Bus.TheVariants.{A}
 use Rattle.bus_word.specs.declared.cell.Cell.TheVariants.{OwnReceive, OwnTransmit, BroadReceive}
 use Rattle.bus_legal.specs.Reach.{any_count, largest_count}
 use Rattle.bus_terminal.specs.declared.event.Event.TheVariants.{Gap}
-use Rattle.bus_terminal.specs.Distinguish.{least_count, address_script, option_script, own_receive_script, own_transmit_script, broadcast_receive_script, own_code_script, broadcast_code_script, acceptance_script, vector_script, bit_script, initial_script, wraparound_script}
+use Rattle.bus_terminal.specs.Distinguish.{least_count, address_script, option_script, own_receive_script, own_transmit_script, broadcast_receive_script, own_code_script, broadcast_code_script, acceptance_script, vector_script, bit_script, initial_script, wraparound_script, shown_subaddress}
 use Rattle.bus_terminal.specs.Rows.Words.{five, five_hearing_all, command, data_word}
 
 address_is : address_script 5 ≡ command A 0x2c02 ∷ Gap A ∷ []
@@ -48,11 +48,16 @@ initial_is : initial_script (five (OwnTransmit 7 2 ∷ OwnTransmit 7 5 ∷ [])) 
 unfolding largest_count
 initial_is = refl
 
-wraparound_is : wraparound_script (five (OwnReceive 30 1 ∷ OwnTransmit 30 1 ∷ [])) ≡ command A 0x2bc1 ∷ data_word A 0xffff ∷ Gap A ∷ command A 0x2fc1 ∷ Gap A ∷ []
+wraparound_is : wraparound_script (five (OwnReceive 30 1 ∷ OwnTransmit 30 1 ∷ [])) 30 ≡ command A 0x2bc1 ∷ data_word A 0xffff ∷ Gap A ∷ command A 0x2fc1 ∷ Gap A ∷ []
 unfolding any_count least_count
 wraparound_is = refl
 
+-- 7 against 8
+chosen_is : wraparound_script (five (OwnReceive 7 1 ∷ OwnTransmit 7 1 ∷ OwnReceive 8 1 ∷ OwnTransmit 8 1 ∷ [])) (shown_subaddress 7 8) ≡ command A 0x28e1 ∷ data_word A 0xffff ∷ Gap A ∷ command A 0x2ce1 ∷ Gap A ∷ []
+unfolding any_count least_count
+chosen_is = refl
+
 -- by broadcast, with the least counts of more
-broadcast_wraparound_is : wraparound_script (five_hearing_all (BroadReceive 30 3 ∷ BroadReceive 30 2 ∷ OwnTransmit 30 32 ∷ OwnTransmit 30 4 ∷ [])) ≡ command A 0xfbc2 ∷ data_word A 0xffff ∷ data_word A 0 ∷ Gap A ∷ command A 0x2fc4 ∷ Gap A ∷ []
+broadcast_wraparound_is : wraparound_script (five_hearing_all (BroadReceive 30 3 ∷ BroadReceive 30 2 ∷ OwnTransmit 30 32 ∷ OwnTransmit 30 4 ∷ [])) 30 ≡ command A 0xfbc2 ∷ data_word A 0xffff ∷ data_word A 0 ∷ Gap A ∷ command A 0x2fc4 ∷ Gap A ∷ []
 unfolding any_count least_count
 broadcast_wraparound_is = refl

@@ -1,9 +1,9 @@
 -- Where the rest of a description has to agree with it, so that the terminal answers alike.
-use Rattle.std.proofs.Common.{◌≡◌, ℕ, ◌≤◌, true}
+use Rattle.std.proofs.Common.{◌≡◌, ℕ, ◌≤◌, ◌==◌, true}
 use Rattle.bus_word.specs.declared.cell.Cell.{Cell}
 use Rattle.bus_word.specs.declared.cell.Cell.TheVariants.{OwnMode}
 use Rattle.bus_word.specs.Cell.{is_data_place, is_allowed}
-use Rattle.bus_legal.specs.Description.{Description, wrap_subaddress}
+use Rattle.bus_legal.specs.Description.{Description}
 use Rattle.bus_legal.specs.Reach.{Rest, is_heard, transmits, receives}
 
 -- a rest that agrees with a description wherever a bus controller can ask for it
@@ -13,4 +13,4 @@ pub record Agrees (P : Description) (rest : Rest) : Type 0 where
   pub vector : P.legal (OwnMode 16) ≡ true → rest.vector ≡ P.vector
   pub bit : P.legal (OwnMode 19) ≡ true → rest.bit ≡ P.bit
   pub initial : (s n i : ℕ) → transmits P s n ≡ true → is_data_place s n ≡ true → 1 ≤ i → i ≤ n → rest.initial s i ≡ P.initial s i
-  pub wrap : (m n : ℕ) → receives P wrap_subaddress m ≡ true → is_data_place wrap_subaddress m ≡ true → transmits P wrap_subaddress n ≡ true → is_data_place wrap_subaddress n ≡ true → rest.wrap ≡ P.wrap
+  pub wrap : (s m n : ℕ) → receives P s m ≡ true → is_data_place s m ≡ true → transmits P s n ≡ true → is_data_place s n ≡ true → (s == rest.wrap) ≡ (s == P.wrap)

@@ -1,10 +1,10 @@
 -- A rest that agrees where it can be asked for holds the same words for what can be transmitted.
 use Rattle.std.proofs.Common.{◌≡◌, ℕ, ◌≤◌, Bool, true, false, ◌&&◌, ◌||◌, ◌==◌, if◌then◌else◌, Option, None, List, [], ◌∷◌, refl, ap, sym, ◌∙◌, arith}
-use Rattle.std.proofs.lemmas.Bool.{eqb-true, and_parts}
+use Rattle.std.proofs.lemmas.Bool.{eqb-true}
 use Rattle.std.proofs.Math.Bool.{or-true}
 use Rattle.bus_word.specs.declared.cell.Cell.TheVariants.{OwnReceive, OwnTransmit, BroadReceive, OwnMode, BroadMode}
 use Rattle.bus_word.specs.Cell.{is_data_place}
-use Rattle.bus_legal.specs.Description.{Description, wrap_subaddress}
+use Rattle.bus_legal.specs.Description.{Description}
 use Rattle.bus_legal.specs.Reach.{Rest, with_rest, transmits, receives}
 use Rattle.bus_terminal.specs.History.{Noted, Ending, Nothing, Badly, Illegal, Blocked, Done}
 use Rattle.bus_terminal.specs.SinceReset.{is_reset, number, wrapped, written, either_word, held_now}
@@ -15,26 +15,17 @@ use Rattle.bus_terminal.proofs.HeldLaw.{words_from-same}
 use Rattle.bus_terminal.proofs.Reach.Heard.{DoesWhatItCan, AllDoWhatTheyCan}
 use Rattle.bus_terminal.proofs.Reach.Agrees.{Agrees}
 
--- truth values that need agree only behind a test
-gated : (w u t : Bool) (x : Option ℕ) → (t ≡ true → w ≡ u) → (if w && t then x else None) ≡ (if u && t then x else None)
-gated w u true x f = ap (λ w. if w && true then x else None) (f refl)
-gated true true false x f = refl
-gated true false false x f = refl
-gated false true false x f = refl
-gated false false false x f = refl
+-- tests that need agree only behind another
+gated : (w u t : Bool) (x : Option ℕ) → (t ≡ true → w ≡ u) → (if t && w then x else None) ≡ (if t && u then x else None)
+gated w u true x f = ap (λ w. if w then x else None) (f refl)
+gated w u false x f = refl
 
--- Words that were received at t are words that can be transmitted of s, where both are the wraparound subaddress.
+-- Words that were received at t are words that can be transmitted of s, where these are the same.
 wrap_alike : (P : Description) (R : Rest) → Agrees P R → (s n t m : ℕ) → transmits P s n ≡ true → is_data_place s n ≡ true → receives P t m ≡ true → is_data_place t m ≡ true →
-    (s == wrap_subaddress) && (t == wrap_subaddress) ≡ true → R.wrap ≡ P.wrap
+    (s == t) ≡ true → (t == R.wrap) ≡ (t == P.wrap)
 wrap_alike P R a s n t m sent place received place_of_it e =
-    let both : ((s == wrap_subaddress) ≡ true) × ((t == wrap_subaddress) ≡ true) = and_parts (s == wrap_subaddress) (t == wrap_subaddress) e in
-    let at : s ≡ wrap_subaddress = eqb-true s wrap_subaddress both.0 in
-    let to : t ≡ wrap_subaddress = eqb-true t wrap_subaddress both.1 in
-    a.wrap m n
-    (ap (λ t. receives P t m) (sym to) ∙ received)
-    (ap (λ t. is_data_place t m) (sym to) ∙ place_of_it)
-    (ap (λ s. transmits P s n) (sym at) ∙ sent)
-    (ap (λ s. is_data_place s n) (sym at) ∙ place)
+    let at : s ≡ t = eqb-true s t e in
+    a.wrap t m n received place_of_it (ap (λ s. transmits P s n) (sym at) ∙ sent) (ap (λ s. is_data_place s n) (sym at) ∙ place)
 
 wrapped_alike : (P : Description) (R : Rest) → Agrees P R → (s n i : ℕ) → transmits P s n ≡ true → is_data_place s n ≡ true → (x : Ending) → DoesWhatItCan P x → wrapped R.wrap s i x ≡ wrapped P.wrap s i x
 wrapped_alike P R a s n i sent place Nothing can = refl
@@ -45,10 +36,10 @@ wrapped_alike P R a s n i sent place (Done c (OwnTransmit t m) ds) can = refl
 wrapped_alike P R a s n i sent place (Done c (OwnMode code) ds) can = refl
 wrapped_alike P R a s n i sent place (Done c (BroadMode code) ds) can = refl
 wrapped_alike P R a s n i sent place (Done c (OwnReceive t m) ds) can =
-    gated R.wrap P.wrap ((s == wrap_subaddress) && (t == wrap_subaddress)) (number i ds)
+    gated (t == R.wrap) (t == P.wrap) (s == t) (number i ds)
     (wrap_alike P R a s n t m sent place (ap (λ b. b || (P.broadcast && P.legal (BroadReceive t m))) can.legal) can.allowed)
 wrapped_alike P R a s n i sent place (Done c (BroadReceive t m) ds) can =
-    gated R.wrap P.wrap ((s == wrap_subaddress) && (t == wrap_subaddress)) (number i ds)
+    gated (t == R.wrap) (t == P.wrap) (s == t) (number i ds)
     (wrap_alike P R a s n t m sent place
     ((λ j. P.legal (OwnReceive t m) || (can.heard j && can.legal j)) ∙ or-true (P.legal (OwnReceive t m)))
     can.allowed)

@@ -6,7 +6,7 @@ use Rattle.bus_legal.proofs.Descriptions.{initial-reach, wrap-reach}
 use Rattle.bus_terminal.specs.declared.event.Event.{Event}
 use Rattle.bus_terminal.specs.Out.{out, outs_from, outs}
 use Rattle.bus_terminal.specs.Same.{Same}
-use Rattle.bus_terminal.proofs.HeldLaw.{place_count, place_some}
+use Rattle.bus_terminal.proofs.HeldLaw.{place_above, place_count, place_some}
 use Rattle.bus_terminal.proofs.Reach.Agrees.{Agrees}
 use Rattle.bus_terminal.proofs.Reach.Answers.{out_alike}
 
@@ -18,7 +18,7 @@ reached_agrees P = record {
   vector = λ legal. ap (λ b. cond b P.vector 0) legal;
   bit = λ legal. ap (λ b. cond b P.bit 0) legal;
   initial = λ s n i sent place low high. initial-reach P s n i sent (place_count s n place) low high;
-  wrap = λ m n received place sent place_of_it. wrap-reach P m n received (place_some 30 m place) (place_count 30 m place) sent (place_some 30 n place_of_it) (place_count 30 n place_of_it);
+  wrap = λ s m n received place sent place_of_it. wrap-reach P s m n (place_above s m place) received (place_some s m place) (place_count s m place) sent (place_some s n place_of_it) (place_count s n place_of_it);
 }
 
 pub out-reach : (P : Description) (h : List Event) (e : Event) → P.address ≤ 30 → out (reach P) h e ≡ out P h e

@@ -16,5 +16,5 @@ abbrev pub word_in : List (List ℕ) → HeldWords → ℕ → ℕ → ℕ
 word_in initial held s i = get_or (row_in initial held s) (i - 1) 0
 
 -- word i of subaddress s after a gap ended a message so, from that before it
-abbrev pub held_after : List (List ℕ) → Bool → ℕ → ℕ → Ending → ℕ → ℕ
+abbrev pub held_after : List (List ℕ) → ℕ → ℕ → ℕ → Ending → ℕ → ℕ
 held_after initial wrap s i x before = unless_reset (is_code 8 (done_code x)) (word_at initial s i) (wrapped wrap s i x) before

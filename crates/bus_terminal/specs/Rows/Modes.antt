@@ -13,6 +13,14 @@ Wraparound = Answers (five (OwnReceive 30 1 ∷ OwnTransmit 30 1 ∷ []))
     (quiet (command A 0x2bc1) ∷ quiet (data_word A 0xbeef) ∷ gap_sends_and_hands A 0x2800 (HandsReceived false 30 (0xbeef ∷ []))
     ∷ quiet (command A 0x2fc1) ∷ gap_sends A 0x2800 (0xbeef ∷ []) ∷ [])
 
+-- at a chosen one, and not at 30 then
+abbrev pub WraparoundAtSeven : Type 0
+WraparoundAtSeven = Answers (record (five (OwnReceive 7 1 ∷ OwnTransmit 7 1 ∷ OwnReceive 30 1 ∷ OwnTransmit 30 1 ∷ [])) { wrap = 7 })
+    (quiet (command A 0x28e1) ∷ quiet (data_word A 0xbeef) ∷ gap_sends_and_hands A 0x2800 (HandsReceived false 7 (0xbeef ∷ []))
+    ∷ quiet (command A 0x2ce1) ∷ gap_sends A 0x2800 (0xbeef ∷ [])
+    ∷ quiet (command A 0x2bc1) ∷ quiet (data_word A 0xbeef) ∷ gap_sends_and_hands A 0x2800 (HandsReceived false 30 (0xbeef ∷ []))
+    ∷ quiet (command A 0x2fc1) ∷ gap_sends A 0x2800 (0 ∷ []) ∷ [])
+
 -- transmit last command tells the command before it, an illegal one too, and isn't recorded itself
 abbrev pub LastCommand : Type 0
 LastCommand = Answers (five (OwnMode 18 ∷ []))

@@ -30,7 +30,7 @@ abbrev pub five : List Cell → Description
 five cells = record {
   address = 5;
   broadcast = false;
-  wrap = true;
+  wrap = 30;
   accept = false;
   vector = 0;
   bit = 0;

@@ -11,7 +11,7 @@ use std::alloc::{AllocError, Global};
 #[derive(Clone, Copy)]
 pub struct Fields {
     pub broadcast: bool,
-    pub wrap: bool,
+    pub wrap: u8,
     pub accept: bool,
     pub vector: u16,
     pub bit: u16,
@@ -20,7 +20,7 @@ pub struct Fields {
 /// What a profile text that says nothing of it has.
 pub const PLAIN: Fields = Fields {
     broadcast: false,
-    wrap: true,
+    wrap: 30,
     accept: false,
     vector: 0,
     bit: 0,
@@ -43,10 +43,7 @@ impl Fields {
     }
 
     pub fn without_wraparound(self) -> Fields {
-        Fields {
-            wrap: false,
-            ..self
-        }
+        Fields { wrap: 0, ..self }
     }
 
     pub fn hearing_broadcast(self) -> Fields {
@@ -77,6 +74,7 @@ pub fn profile(
     if rules.len() > 256
         || modes.len() > 256
         || initials.len() > 256
+        || fields.wrap > 30
         || !has_required_codes(modes.as_slice())
     {
         return None;

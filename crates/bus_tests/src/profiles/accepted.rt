@@ -105,11 +105,26 @@ fn texts_at_the_limits(rt: HostRuntime) {
     }
 }
 
+/// A truth value or a number for the wraparound subaddress.
+#[test]
+fn wraparound_subaddress(rt: HostRuntime) -> Result<(), Fail> {
+    for (text, wrap) in [
+        (b"address = 5\nwraparound = true".as_slice(), 30),
+        (b"address = 5\nwraparound = false", 0),
+        (b"address = 5\nwraparound = 1", 1),
+        (b"address = 5\nwraparound = 7", 7),
+        (b"address = 5\nwraparound = 0x1e", 30),
+    ] {
+        assert_eq!(rt; read_profile(rt.alloc(), text)?.wrap, wrap, "at {text:?}");
+    }
+    Ok(())
+}
+
 #[test]
 fn smallest_profile(rt: HostRuntime) -> Result<(), Fail> {
     let profile = read_profile(rt.alloc(), b"address = 5")?;
     assert_eq!(rt; profile.address, 5);
-    assert!(rt; !profile.broadcast && profile.wrap && !profile.accept);
+    assert!(rt; !profile.broadcast && profile.wrap == 30 && !profile.accept);
     assert!(rt; profile.vector == 0 && profile.bit == 0);
     assert!(rt; profile.rules.into_vec().is_empty());
     assert!(rt; profile.modes.into_vec().is_empty());
@@ -213,7 +228,7 @@ const WHOLE_MODES: [ModeRule; 2] = [
 fn whole_profile(rt: HostRuntime) -> Result<(), Fail> {
     let profile = read_profile(rt.alloc(), WHOLE)?;
     assert_eq!(rt; profile.address, 30);
-    assert!(rt; profile.broadcast && !profile.wrap && profile.accept);
+    assert!(rt; profile.broadcast && profile.wrap == 0 && profile.accept);
     assert_eq!(rt; profile.vector, 0xaa);
     assert_eq!(rt; profile.bit, 0xffff);
     assert_eq!(rt; profile.rules.as_slice(), whole_rules().as_slice());

@@ -133,7 +133,19 @@ profile: root: broadcast has the wrong kind
 broadcast = "true"
 
 profile: root: wraparound has the wrong kind
-wraparound = 30
+wraparound = "30"
+
+profile: root: wraparound has the wrong kind
+wraparound = 7.0
+
+profile: root: wraparound is out of range
+wraparound = 0
+
+profile: root: wraparound is out of range
+wraparound = 31
+
+profile: root: wraparound is out of range
+wraparound = -1
 
 profile: root: accept_bus_control has the wrong kind
 accept_bus_control = []
@@ -358,7 +370,7 @@ const TWO_FAULTS: &str = r#"profile: root: broadcast has the wrong kind
 wraparound = 0
 broadcast = 0
 
-profile: root: wraparound has the wrong kind
+profile: root: wraparound is out of range
 accept_bus_control = 0
 wraparound = 0
 

@@ -6,7 +6,7 @@ use std::test::Fail;
 
 /// The canonical text of an address, put together line by line.
 fn text_of(alloc: Global, address: u8) -> Result<String, AllocError> {
-    let mut text = format!(in alloc; "rt1553 1\naddress {address:02}\nbroadcast 0\n")?;
+    let mut text = format!(in alloc; "rt1553 2\naddress {address:02}\nbroadcast 0\n")?;
     for name in ["own-receive", "own-transmit"] {
         for subaddress in 1..31u8 {
             let line = format!(in alloc; "{name} {subaddress:02} 00000000\n")?;
@@ -131,21 +131,63 @@ counts = 1
 #[test]
 fn largest_canonical(rt: HostRuntime) -> Result<(), LoadFault> {
     let text = canonical(rt.alloc(), LARGEST)?;
-    assert_eq!(rt; text.len(), 7617);
+    assert_eq!(rt; text.len(), 7618);
     for line in [
         b"own-mode 000f01ff".as_slice(),
         b"broadcast-mode 000201fa",
         b"accept 0",
         b"vector 0000",
         b"bit 0000",
-        b"wraparound 1",
+        b"wraparound 30",
         b"own-receive 30 ffffffff",
         b"broadcast-receive 01 ffffffff",
     ] {
         assert!(rt; has_line(text.as_slice(), line));
     }
     let text = canonical(rt.alloc(), BY_BROADCAST)?;
-    assert_eq!(rt; text.len(), 2473);
-    assert!(rt; has_line(text.as_slice(), b"wraparound 1"));
+    assert_eq!(rt; text.len(), 2474);
+    assert!(rt; has_line(text.as_slice(), b"wraparound 30"));
+    Ok(())
+}
+
+/// A text of the first version is read, and written in the second.
+#[test]
+fn first_version(rt: HostRuntime) -> Result<(), Fail> {
+    for profile in [LARGEST, BY_BROADCAST, P] {
+        let second = canonical(rt.alloc(), profile)?;
+        let mut first = Vec::new(rt.alloc());
+        for line in second.as_slice().split(|byte| *byte == b'\n') {
+            let line = match line {
+                b"rt1553 2" => b"rt1553 1".as_slice(),
+                b"wraparound 30" => b"wraparound 1".as_slice(),
+                line => line,
+            };
+            first.extend_from_slice(line)?;
+            first.push(b'\n')?;
+        }
+        let length = first.len().saturating_sub(1);
+        let again = canonical(rt.alloc(), &first.as_slice()[..length])?;
+        assert_eq!(rt; again.as_slice(), second.as_slice());
+    }
+    assert_eq!(rt;
+        load(rt.alloc(), b"rt1553 3\n"),
+        Err(LoadFault::Profile(ProfileFault::NotToml))
+    );
+    Ok(())
+}
+
+/// A chosen subaddress.
+const SEVEN: &[u8] = b"address = 5
+wraparound = 7
+[[rule]]
+direction = \"both\"
+subaddresses = 7
+counts = 1
+";
+
+#[test]
+fn chosen_wraparound(rt: HostRuntime) -> Result<(), LoadFault> {
+    let text = canonical(rt.alloc(), SEVEN)?;
+    assert!(rt; has_line(text.as_slice(), b"wraparound 07"));
     Ok(())
 }

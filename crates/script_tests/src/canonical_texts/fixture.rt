@@ -4,7 +4,7 @@ use std::alloc::{AllocError, Global};
 /// One of the 64 lines, from 1, of the text of a profile that has only the address 5.
 pub fn plain_line(alloc: Global, number: u8) -> Result<String, AllocError> {
     match number {
-        1 => format!(in alloc; "rt1553 1"),
+        1 => format!(in alloc; "rt1553 2"),
         2 => format!(in alloc; "address 05"),
         3 => format!(in alloc; "broadcast 0"),
         4..=33 => {
@@ -101,7 +101,7 @@ pub const HEARING: Shape = Shape {
 pub fn shape_text(alloc: Global, shape: &Shape) -> Result<String, AllocError> {
     let address = shape.address;
     let option = u8::from(shape.broadcast);
-    let mut text = format!(in alloc; "rt1553 1\naddress {address:02}\nbroadcast {option}\n")?;
+    let mut text = format!(in alloc; "rt1553 2\naddress {address:02}\nbroadcast {option}\n")?;
     put_masks(
         &mut text,
         alloc,

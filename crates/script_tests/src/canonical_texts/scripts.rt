@@ -146,11 +146,11 @@ fn wraparound(rt: HostRuntime) -> Result<(), Fail> {
     let wraps = Shape {
         receive: (30, 1),
         transmit: (30, 1),
-        end: "wraparound 1\ninitial 30 0000\n",
+        end: "wraparound 30\ninitial 30 0000\n",
         ..PLAIN
     };
     let other = Shape {
-        end: "wraparound 0\ninitial 30 0000\n",
+        end: "wraparound 00\ninitial 30 0000\n",
         ..wraps
     };
     let shown = [command(0x2bc1), data(0xffff), GAP, command(0x2fc1), GAP];
@@ -158,11 +158,11 @@ fn wraparound(rt: HostRuntime) -> Result<(), Fail> {
     let hears = Shape {
         transmit: (30, 0x8),
         broadcast_receive: (30, 0x6),
-        end: "wraparound 0\ninitial 30 1234 0000 0000 0000\n",
+        end: "wraparound 00\ninitial 30 1234 0000 0000 0000\n",
         ..HEARING
     };
     let other = Shape {
-        end: "wraparound 1\ninitial 30 1234 0000 0000 0000\n",
+        end: "wraparound 30\ninitial 30 1234 0000 0000 0000\n",
         ..hears
     };
     let shown = [

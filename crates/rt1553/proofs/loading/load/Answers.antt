@@ -10,7 +10,7 @@ returns-in-Ok-clause-ok c = canon_reaches c.in-Ok.normal c.args.text.now c.in-Ok
 pub returns-in-Ok-read_profile-clause-ok : goal.returns-in-Ok-read_profile-clause-ok
 returns-in-Ok-read_profile-clause-ok c =
     let p = c.in-Ok-read_profile.profile in
-    let toml : is_canon_text c.args.text.now ≡ false = sym c.starts_with.ensures.value ∙ c.if-starts_with.false in
+    let toml : is_canon_text c.args.text.now ≡ false = sym c.is_canon_text.ensures ∙ c.if-is_canon_text.false in
     record {
       description = description_of p;
       of = subst (λ b. OfBy b c.args.text.now (description_of p)) (sym toml) (record { profile = p; accepts = c.in-Ok-read_profile.ensures.accepted; gives = refl });

@@ -33,7 +33,8 @@ invariant_of-result c =
       unasked_accept = λ e. c.accepts.ensures ∙ ap (λ b. b && p.accept) e;
       unasked_vector = λ e. c.asked_word.ensures ∙ off_word _ p.vector e;
       unasked_bit = λ e. c.asked_word-2.ensures ∙ off_word _ p.bit e;
-      unwrapped = λ e. c.wraps.ensures ∙ ap (λ b. b && p.wrap) e;
+      wrap = c.reached_wrap.ensures.small;
+      unwrapped = c.reached_wrap.ensures.unwrapped;
       unsent = λ s i l k past. words.ensures.words s i l k ∙ off_word (nat_lt i (largest_in (get_or masks.own_transmit s 0))) _ (grind (arith, nat_tests, past));
     }
 
@@ -50,7 +51,8 @@ returns c =
       own_transmit = record { thirty = search rules; fit = search rules };
       broadcast_receive = record { thirty = search rules; fit = search rules };
       legal = tables.ensures.legal;
-      wrap = c.wraps.ensures;
+      small = p.own_wrap;
+      wrap = c.reached_wrap.ensures.wrap;
       accept = c.accepts.ensures;
       vector = c.asked_word.ensures;
       bit = c.asked_word-2.ensures;
