@@ -285,6 +285,8 @@ file_rows() {
     printf %s "$smallest" >"$work/canonical"
     row 'canon of a canonical text' 0 "$smallest" '' canon canonical
     row 'check of a canonical text' 0 $'ok\n' '' check canonical
+    smallest_of 1 >"$work/first"
+    row 'canon of a canonical text of version 1' 0 "$smallest" '' canon first
     printf %s "${smallest%$'\n'}" >"$work/cut"
     row 'a last line feed' 2 '' $'canonical text: line 64\n' check cut
     printf '%s\n' "$smallest" >"$work/trailing"
@@ -316,6 +318,7 @@ run_file_rows() {
     row 'run' 0 $'A s 2800\n' '' run five script
     row 'run --' 0 $'A s 2800\n' '' run -- five script
     row 'run of a canonical text' 0 $'A s 2800\n' '' run canonical script
+    row 'run of a canonical text of version 1' 0 $'A s 2800\n' '' run first script
     row 'run of the largest profile file' 0 $'A s 2800\n' '' run largest script
     row 'run of the empty file' 0 '' '' run five /dev/null
     row 'run, an absent profile' 4 '' $'file: cannot read missing\n' run missing script
@@ -351,6 +354,15 @@ address = 5 # \0377|not TOML
 address = 5\nspeed = 3|root: unknown key
 address = "5"|root: address has the wrong kind
 address = 5\nbroadcast = 1|root: broadcast has the wrong kind
+address = 5\nwraparound = "30"|root: wraparound has the wrong kind
+address = 5\nwraparound = 1.0|root: wraparound has the wrong kind
+address = 5\nwraparound = []|root: wraparound has the wrong kind
+address = 5\nwraparound = {}|root: wraparound has the wrong kind
+address = 5\nwraparound = 0|root: wraparound is out of range
+address = 5\nwraparound = 31|root: wraparound is out of range
+address = 5\nwraparound = -1|root: wraparound is out of range
+address = 5\nwraparound = 0\nbroadcast = 0|root: broadcast has the wrong kind
+address = 5\nwraparound = 0\naccept_bus_control = 0|root: wraparound is out of range
 address = 5\nbit = 65536|root: bit is out of range
 address = 5\n[rule]|root: rule has the wrong kind
 address = 5\nrule = [[]]|rule 1: rule has the wrong kind
@@ -523,31 +535,78 @@ example_rows() {
     done
 }
 
-# each example profile and its canonical text: checked, written, compared
+# a profile and its canonical text, checked, written and compared: both_texts NAME PROFILE TEXT
+both_texts() {
+    cp "$2" "$work/profile"
+    cp "$3" "$work/text"
+    row "check $1" 0 $'ok\n' '' check profile
+    row "canon $1" 0 "$(cat "$3")"$'\n' '' canon profile
+    row "canon of the canonical text of $1" 0 "$(cat "$3")"$'\n' '' canon text
+    row "compare $1 with its canonical text" 0 $'same\n' '' compare profile text
+}
+
+# the text of version 1 that means the same as `text` and `profile`
+first_version() {
+    cp "$2" "$work/first"
+    row "check version 1 of $1" 0 $'ok\n' '' check first
+    row "canon of version 1 of $1" 0 "$(cat "$work/text")"$'\n' '' canon first
+    row "compare version 1 of $1 with its profile" 0 $'same\n' '' compare first profile
+    row "compare $1 with its version 1" 0 $'same\n' '' compare text first
+}
+
 canonical_rows() {
     local profile name text
     for profile in "$top"/examples/profiles/*.toml; do
         name=$(basename "$profile" .toml)
-        text=$top/examples/canonical/$name.rt1553
-        cp "$profile" "$work/profile"
-        cp "$text" "$work/text"
-        row "check $name" 0 $'ok\n' '' check profile
-        row "canon $name" 0 "$(cat "$text")"$'\n' '' canon profile
-        row "canon of the canonical text of $name" 0 "$(cat "$text")"$'\n' '' canon text
-        row "compare $name with its canonical text" 0 $'same\n' '' compare profile text
+        both_texts "$name" "$profile" "$top/examples/canonical/$name.rt1553"
     done
+    for profile in "$top"/tests/vectors/wraparound/*.toml; do
+        text=${profile%.toml}
+        name=wraparound/${text##*/}
+        both_texts "$name" "$profile" "$text.rt1553"
+        if [[ -f $text.first.rt1553 ]]; then first_version "$name" "$text.first.rt1553"; fi
+    done
+    text=$top/tests/vectors/wraparound
+    [[ $(wc -lc <"$text/largest-default.rt1553") =~ ^\ *129\ +7618$ && $(wc -c <"$text/largest-default.first.rt1553") -eq 7617 ]]
+    count 'largest-canonical, the sizes of the texts' $?
 }
 
-# the smallest text with line $2 in place of its own and what stands in $3 behind it is wrong in line $1
+# what begins like a canonical text of neither version is TOML, and none; a first line alone is a text cut short
+first_line_rows() {
+    local line fault
+    while IFS='|' read -r line fault; do
+        printf %b "$line" >"$work/damaged"
+        row "first line: $line" 2 '' "$fault"$'\n' check damaged
+    done <<'LINES'
+rt1553 3\n|profile: not TOML
+rt1553 0\n|profile: not TOML
+rt1553 12\n|profile: not TOML
+rt1553 02\n|profile: not TOML
+rt1553 1\r\n|profile: not TOML
+rt1553 2\r\n|profile: not TOML
+rt1553 2 \n|profile: not TOML
+rt1553  2\n|profile: not TOML
+rt1553 1|profile: not TOML
+rt1553 2|profile: not TOML
+rt1553|profile: not TOML
+rt1553 1\n|canonical text: line 2
+rt1553 2\n|canonical text: line 2
+LINES
+}
+
+# the smallest text of a version
+smallest_of() { printf %s "$smallest" | sed "1s/2/$1/"; }
+
+# the smallest text of $version with line $2 in place of its own and what stands in $3 behind it is wrong in line $1
 damaged() {
-    local number=${4:-${2%%:*}} line=${2#*:}
-    { printf %s "$smallest" | sed "${number}s/.*/$line/" && printf %b "$3"; } >"$work/damaged"
-    row "damaged: $2" 2 '' "canonical text: line $1"$'\n' check damaged
-    row "damaged, canon: $2" 2 '' "canonical text: line $1"$'\n' canon damaged
+    local number=${2%%:*} line=${2#*:}
+    { smallest_of "$version" | sed "${number}s/.*/$line/" && printf %b "$3"; } >"$work/damaged"
+    row "damaged, version $version: $2" 2 '' "canonical text: line $1"$'\n' check damaged
+    row "damaged, canon, version $version: $2" 2 '' "canonical text: line $1"$'\n' canon damaged
 }
 
 damaged_rows() {
-    local k
+    local version=$1 k
     damaged 2 '2:address 31' ''
     damaged 3 '3:broadcast 2' ''
     damaged 64 '3:broadcast 1' ''
@@ -560,13 +619,83 @@ damaged_rows() {
     damaged 65 '40:own-transmit 07 00000012' 'initial 07 0000 0000 0000 0000\n'
     # cut after whole lines, and inside the line after them
     for k in {1..63}; do
-        printf %s "$smallest" | head -n "$k" >"$work/damaged"
-        row "cut after $k lines" 2 '' "canonical text: line $((k + 1))"$'\n' check damaged
-        printf %s "$smallest" | head -n $((k + 1)) | head -c -3 >"$work/damaged"
-        row "cut inside line $((k + 1))" 2 '' "canonical text: line $((k + 1))"$'\n' check damaged
+        smallest_of "$version" | head -n "$k" >"$work/damaged"
+        row "cut after $k lines, version $version" 2 '' "canonical text: line $((k + 1))"$'\n' check damaged
+        smallest_of "$version" | head -n $((k + 1)) | head -c -3 >"$work/damaged"
+        row "cut inside line $((k + 1)), version $version" 2 '' "canonical text: line $((k + 1))"$'\n' check damaged
     done
-    printf 'rt1553' >"$work/damaged"
-    row 'cut inside line 1' 2 '' $'profile: not TOML\n' check damaged
+    { smallest_of "$version" && echo; } >"$work/damaged"
+    row "one line feed more, version $version" 2 '' $'canonical text: bytes after the end\n' check damaged
+}
+
+# the text of a version in which one word can be received at subaddress $2 and transmitted from it, with the line $3
+# for wraparound, if any: wrapping VERSION SUBADDRESS LINE
+wrapping() {
+    smallest_of "$1" | sed -E "s/^(own-(receive|transmit) $2) 00000000$/\\1 00000001/"
+    if [[ -n $3 ]]; then printf '%s\n' "$3"; fi
+    printf 'initial %s 0000\n' "$2"
+}
+
+# the line of wraparound in both versions: what stands there, and what is written for it, or the fault
+wraparound_line_rows() {
+    local version subaddress line answer
+    while IFS='|' read -r version subaddress line answer; do
+        wrapping "$version" "$subaddress" "$line" >"$work/text"
+        if [[ $answer == wraparound* ]]; then
+            row "version $version, words wrap at $subaddress: $line" 0 "$(wrapping 2 "$subaddress" "$answer")"$'\n' '' canon text
+        else
+            row "version $version, words wrap at $subaddress: $line" 2 '' "canonical text: $answer"$'\n' canon text
+        fi
+    done <<'LINES'
+2|07|wraparound 07|wraparound 07
+2|07|wraparound 00|wraparound 00
+2|07||line 65
+2|07|wraparound 09|line 65
+2|07|wraparound 30|line 65
+2|07|wraparound 31|line 65
+2|07|wraparound 39|line 65
+2|07|wraparound 99|line 65
+2|07|wraparound 7|line 65
+2|07|wraparound 0|line 65
+2|07|wraparound 1|line 65
+2|07|wraparound 007|line 65
+2|07|wraparound  07|line 65
+2|07|wraparound 07 |line 65
+2|07|wraparound 0a|line 65
+2|07|wraparound|line 65
+2|07|Wraparound 07|line 65
+2|30|wraparound 30|wraparound 30
+2|30|wraparound 00|wraparound 00
+2|30|wraparound 1|line 65
+2|30|wraparound 0|line 65
+2|30|wraparound 01|line 65
+2|30|wraparound 07|line 65
+2|30||line 65
+2|01|wraparound 01|wraparound 01
+2|01|wraparound 1|line 65
+1|07||wraparound 00
+1|07|wraparound 07|line 65
+1|07|wraparound 00|line 65
+1|07|wraparound 0|line 65
+1|07|wraparound 1|line 65
+1|01|wraparound 1|line 65
+1|30|wraparound 1|wraparound 30
+1|30|wraparound 0|wraparound 00
+1|30|wraparound 2|line 65
+1|30|wraparound 01|line 65
+1|30|wraparound 00|line 65
+1|30|wraparound 30|line 65
+1|30||line 65
+LINES
+    # where words are received but not transmitted, or transmitted but not received, there is no such line
+    for version in 1 2; do
+        for line in receive transmit; do
+            { smallest_of "$version" | sed "s/^own-$line 30 .*/own-$line 30 00000001/" && echo 'wraparound 00'; } >"$work/text"
+            answer='bytes after the end'
+            if [[ $line == transmit ]]; then answer='line 65'; fi
+            row "version $version, $line 30 alone" 2 '' "canonical text: $answer"$'\n' check text
+        done
+    done
 }
 
 # rules for all subaddresses and counts, legal in turn and not: after 256 of them nothing is legal, after 255 all is
@@ -622,8 +751,51 @@ comparison_rows() {
     pair 'a broadcast mode code' 'broadcast = true\n[[mode]]\nto = "broadcast"\ncodes = 4\n' 'broadcast = true\n' \
         'A c fc04\nA gap\nA c 2c02\nA gap\n'
     pair 'wraparound' "wraparound = false\n$both" "$both" 'A c 2bc1\nA d ffff\nA gap\nA c 2fc1\nA gap\n'
+    both='[[rule]]\ndirection = "both"\nsubaddresses = 7\ncounts = 1\n'
+    pair 'wraparound at 7 or none' "wraparound = 7\n$both" "$both" 'A c 28e1\nA d ffff\nA gap\nA c 2ce1\nA gap\n'
     printf 'address = 5\nwraparound = false\nvector = 7\n' >"$work/p"
     row 'what can not be reached' 0 $'same\n' '' compare p five
+}
+
+# the last line of what `run` gives for a profile and the script that `compare` gave: last_answer NAME PROFILE LINE
+last_answer() {
+    (cd "$work" && "$program" run "$2" stdout-script >stdout 2>stderr)
+    [[ $? -eq 0 && $(tail -n 1 "$work/stdout") == "$3" ]]
+    count "$1" $?
+}
+
+# a chosen wraparound subaddress
+chosen_wraparound_rows() {
+    local both='[[rule]]\ndirection = "both"\nsubaddresses = "7, 8"\ncounts = 1\n'
+    local last='[[rule]]\ndirection = "both"\nsubaddresses = 30\ncounts = 1\n'
+    printf 'address = 5\nwraparound = 7\n[[rule]]\ndirection = "both"\nsubaddresses = "7"\ncounts = 1\n' >"$work/p"
+    script 'A c 28e1\nA d beef\nA gap\nA c 2ce1\nA gap\n'
+    row 'wraparound at 7' 0 $'A s 2800\nhand receive own 07 beef\nA s 2800\nA d beef\n' '' run p script
+    row 'canon, wraparound at 7' 0 "$(wrapping 2 07 'wraparound 07')"$'\n' '' canon p
+    [[ $(sed -n 65,66p "$work/stdout") == $'wraparound 07\ninitial 07 0000' ]]
+    count 'lines 65 and 66, wraparound at 7' $?
+    # what comes at 30 is not held there then
+    printf %b "address = 5\nwraparound = 7\n$both$last" >"$work/p"
+    script 'A c 2bc1\nA d beef\nA gap\nA c 2fc1\nA gap\n'
+    row 'wraparound at 7 and not at 30' 0 $'A s 2800\nhand receive own 30 beef\nA s 2800\nA d 0000\n' '' run p script
+    # 7 against 8, where both can be reached
+    printf %b "address = 5\nwraparound = 7\n$both" >"$work/p"
+    printf %b "address = 5\nwraparound = 8\n$both" >"$work/q"
+    row 'compare: wraparound at 7 or 8' 1 $'A c 28e1\nA d ffff\nA gap\nA c 2ce1\nA gap\n' '' compare p q
+    cp "$work/stdout" "$work/stdout-script"
+    last_answer 'wraparound at 7 or 8, the first' p 'A d ffff'
+    last_answer 'wraparound at 7 or 8, the second' q 'A d 0000'
+    row 'compare: wraparound at 8 or 7' 1 $'A c 2901\nA d ffff\nA gap\nA c 2d01\nA gap\n' '' compare q p
+    cp "$work/stdout" "$work/stdout-script"
+    last_answer 'wraparound at 8 or 7, the first' q 'A d ffff'
+    last_answer 'wraparound at 8 or 7, the second' p 'A d 0000'
+    # 7 against none, where nothing can be transmitted from 7
+    printf %b "address = 5\nwraparound = 7\n[[rule]]\ndirection = \"receive\"\nsubaddresses = 7\ncounts = 1\n$last" >"$work/p"
+    sed 's/wraparound = 7/wraparound = false/' "$work/p" >"$work/q"
+    row 'compare: wraparound at 7, which is not reached' 0 $'same\n' '' compare p q
+    (cd "$work" && "$program" canon p >stdout 2>stderr)
+    [[ $? -eq 0 && $(grep wraparound "$work/stdout") == 'wraparound 00' ]]
+    count 'canon, wraparound at 7, which is not reached' $?
 }
 
 # each byte of three canonical texts changed to each other value
@@ -651,6 +823,7 @@ fault_rows() {
     growths 'canon' canon five
     growths 'compare' compare five six
     growths 'compare of canonical texts' compare canonical canonical
+    growths 'compare with a canonical text of version 1' compare first canonical
     growths 'a refused profile' check bad
     growths 'an absent file' check missing
     growths 'bad words' compare five
@@ -668,11 +841,16 @@ rows() {
     run_rows
     example_rows
     canonical_rows
-    damaged_rows
+    first_line_rows
+    damaged_rows 1
+    damaged_rows 2
+    wraparound_line_rows
     many_rules
     comparison_rows
+    chosen_wraparound_rows
     vectors "$top/tests/vectors/scripts"
     vectors "$top/tests/vectors/profiles"
+    vectors "$top/tests/vectors/wraparound"
 }
 
 # the canonical text of address 5: 64 lines, 1,520 bytes
