@@ -2,7 +2,7 @@
 mod fixture;
 
 use bus_legal::{Legality, Normal, RuleList, Tables, largest_count, normalise, setup_of};
-use bus_profile::Profile;
+use bus_profile::{Profile, Rule};
 use bus_word::Cell;
 use fixture::{Fields, PLAIN, To, codes, generated, profile, row, rule, words_from};
 use std::alloc::Global;
@@ -287,6 +287,49 @@ fn wraparound_counts_where_legal_commands_show_it(rt: HostRuntime) -> Result<(),
     ] {
         let found = alike(rt.alloc(), (fields.without_wraparound(), fields), 0, legal)?;
         assert_eq!(rt; found, (same, same), "{name}");
+    }
+    Ok(())
+}
+
+/// The rule that makes commands of a word at these subaddresses legal.
+fn one_word(to: To, subaddresses: u32) -> Rule {
+    rule(to, subaddresses % (1 << 30), 1, true)
+}
+
+/// A chosen wraparound subaddress counts where commands to it are legal, whatever is legal at 30.
+#[test]
+fn a_chosen_wraparound_subaddress_counts_where_legal_commands_show_it(
+    rt: HostRuntime,
+) -> Result<(), Fail> {
+    let heard = PLAIN.hearing_broadcast();
+    for (name, fields, wrap, places, found) in [
+        ("none", PLAIN, 0, [0, 0, 0], 0),
+        ("only the other one", PLAIN, 8, [1 << 6, 1 << 6, 0], 0),
+        ("both", PLAIN, 7, [1 << 6, 1 << 6, 0], 7),
+        ("both at the first", PLAIN, 1, [1, 1, 0], 1),
+        ("no receiving", PLAIN, 7, [1 << 29, 1 << 29 | 1 << 6, 0], 0),
+        (
+            "no transmitting",
+            PLAIN,
+            7,
+            [1 << 29 | 1 << 6, 1 << 29, 0],
+            0,
+        ),
+        ("broadcast, unheard", PLAIN, 7, [0, 1 << 6, 1 << 6], 0),
+        ("broadcast", heard, 7, [0, 1 << 6, 1 << 6], 7),
+    ] {
+        let rules = [
+            one_word(To::OwnReceive, places[0]),
+            one_word(To::OwnTransmit, places[1]),
+            one_word(To::BroadReceive, places[2]),
+        ];
+        let p = profile(
+            Fields { wrap, ..fields },
+            rules.to_vec(rt.alloc())?,
+            Vec::new(rt.alloc()),
+            Vec::new(rt.alloc()),
+        );
+        assert_eq!(rt; normalise(&p.ok_or("a profile")?).wrap(), found, "{name}");
     }
     Ok(())
 }

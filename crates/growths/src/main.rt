@@ -99,11 +99,14 @@ fn reads(rt: &impl Print, alloc: Global, text: &[u8]) -> io::Result<()> {
 /// Where the first line has its version.
 const VERSION: usize = 7;
 
-/// Makes the text of version 1 of one that has no line for wraparound: they differ in the first line alone.
-fn to_first_version(text: &mut [u8]) {
-    if let Some(digit) = text.get_mut(VERSION) {
+/// A canonical text of version 1 and one of version 2. The first has no line for wraparound, so it differs from its
+/// text of version 2 in the first line alone.
+fn canonical_texts(alloc: Global) -> Result<(Vec<u8>, Vec<u8>), LoadFault> {
+    let mut first = canonical(alloc, FIVE)?;
+    if let Some(digit) = first.get_mut(VERSION) {
         *digit = b'1';
     }
+    Ok((first, canonical(alloc, WHOLE)?))
 }
 
 /// The calls on canonical texts of either version, which take no memory: none of these lines may say `Memory`.
@@ -129,14 +132,10 @@ fn main(rt: HostRuntime) -> io::Result<()> {
     writes(&rt, alloc, WHOLE)?;
     compares(&rt, alloc, WHOLE, FIVE)?;
     runs(&rt, alloc, WHOLE)?;
-    match canonical(alloc, WHOLE) {
-        Ok(text) => on_canonical_text(&rt, alloc, text.as_slice())?,
-        Err(fault) => println!(rt; "canonical {fault:?}")?,
-    }
-    match canonical(alloc, FIVE) {
-        Ok(mut text) => {
-            to_first_version(text.as_mut_slice());
-            on_canonical_text(&rt, alloc, text.as_slice())
+    match canonical_texts(alloc) {
+        Ok((first, second)) => {
+            on_canonical_text(&rt, alloc, second.as_slice())?;
+            on_canonical_text(&rt, alloc, first.as_slice())
         }
         Err(fault) => println!(rt; "canonical {fault:?}"),
     }

@@ -4,7 +4,7 @@ mod scripts;
 
 use bus_canon::{CanonFault, read_canon, write_canon};
 use bus_legal::Normal;
-use fixture::{changed, put_masks, put_zero_words};
+use fixture::{changed, put_masks, put_zero_words, wrapping};
 use std::alloc::Global;
 use std::test::Fail;
 
@@ -124,26 +124,78 @@ fn all_own_counts(rt: HostRuntime) -> Result<(), Fail> {
     Ok(())
 }
 
-/// The row of wraparound at 7: receive 7 and transmit 7 are legal for 1.
+/// The line of wraparound of both versions, where words can be received at one subaddress and transmitted from it: the
+/// version, the subaddress, the line, and the wraparound subaddress, if the text is one.
+const WRAPAROUND: [(u8, u8, &str, Option<u8>); 19] = [
+    (2, 7, "wraparound 07\n", Some(7)),
+    (2, 7, "wraparound 00\n", Some(0)),
+    (2, 7, "wraparound 09\n", None),
+    (2, 7, "wraparound 30\n", None),
+    (2, 7, "wraparound 31\n", None),
+    (2, 7, "wraparound 1\n", None),
+    (2, 7, "", None),
+    (2, 30, "wraparound 30\n", Some(30)),
+    (2, 30, "wraparound 1\n", None),
+    (2, 30, "wraparound 01\n", None),
+    (1, 7, "", Some(0)),
+    (1, 7, "wraparound 07\n", None),
+    (1, 7, "wraparound 1\n", None),
+    (1, 7, "wraparound 0\n", None),
+    (1, 30, "wraparound 1\n", Some(30)),
+    (1, 30, "wraparound 0\n", Some(0)),
+    (1, 30, "wraparound 30\n", None),
+    (1, 30, "wraparound 2\n", None),
+    (1, 30, "", None),
+];
+
 #[test]
-fn wraparound_at_seven(rt: HostRuntime) -> Result<(), Fail> {
+fn wraparound_lines(rt: HostRuntime) -> Result<(), Fail> {
     let alloc = rt.alloc();
-    for (version, line, found) in [
-        (2u8, "wraparound 07", Ok(7)),
-        (2, "wraparound 00", Ok(0)),
-        (2, "wraparound 09", Err(CanonFault::Line(65))),
-        (2, "wraparound 30", Err(CanonFault::Line(65))),
-        (2, "wraparound 1", Err(CanonFault::Line(65))),
-        (1, "wraparound 07", Err(CanonFault::Line(65))),
-        (1, "wraparound 0", Err(CanonFault::Line(65))),
-    ] {
-        let mut text = format!(in alloc; "rt1553 {version}\naddress 05\nbroadcast 0\n")?;
-        put_masks(&mut text, alloc, "own-receive", 7, 1, 0)?;
-        put_masks(&mut text, alloc, "own-transmit", 7, 1, 0)?;
-        text.push_str(format!(in alloc; "own-mode 00000134\n{line}\ninitial 07 0000\n")?.as_str())?;
+    for (version, subaddress, line, found) in &WRAPAROUND {
+        let end = format!(in alloc; "{line}initial {subaddress:02} 0000\n")?;
+        let text = wrapping(alloc, *version, &[*subaddress], end.as_str())?;
         let read = read_canon(text.as_str().as_bytes()).map(|normal| normal.wrap());
-        assert_eq!(rt; read, found, "{version} {line}");
+        let wanted = match found {
+            Some(wrap) => Ok(*wrap),
+            None => Err(CanonFault::Line(65)),
+        };
+        assert_eq!(rt; read, wanted, "{version} {line}");
     }
+    Ok(())
+}
+
+/// A text of version 1 is read, and written in version 2.
+#[test]
+fn first_version(rt: HostRuntime) -> Result<(), Fail> {
+    let alloc = rt.alloc();
+    for (subaddresses, first, second) in [
+        ([].as_slice(), "", ""),
+        (
+            &[7],
+            "initial 07 0011\n",
+            "wraparound 00\ninitial 07 0011\n",
+        ),
+        (
+            &[30],
+            "wraparound 1\ninitial 30 0011\n",
+            "wraparound 30\ninitial 30 0011\n",
+        ),
+        (
+            &[7, 30],
+            "wraparound 0\ninitial 07 0011\ninitial 30 0022\n",
+            "wraparound 00\ninitial 07 0011\ninitial 30 0022\n",
+        ),
+    ] {
+        let second = wrapping(alloc, 2, subaddresses, second)?;
+        let normal = value_of(alloc, second.as_str())?;
+        let first = wrapping(alloc, 1, subaddresses, first)?;
+        match read_canon(first.as_str().as_bytes()) {
+            Ok(again) => assert!(rt; again == normal),
+            Err(_) => return Err(Fail::from("no canonical text")),
+        }
+    }
+    let trailing = wrapping(alloc, 1, &[], "wraparound 0\n")?;
+    assert_eq!(rt; fault_of(trailing.as_str()), Some(CanonFault::Trailing));
     Ok(())
 }
 

@@ -38,8 +38,9 @@ def is_receive(c):
 
 
 class Terminal:
-    def __init__(self, legal, vector, bit):
+    def __init__(self, legal, vector, bit, wrap):
         self.legal, self.first_vector, self.first_bit = legal, vector, bit
+        self.wrap = wrap                   # the wraparound subaddress, 0 for none
         self.flags = {"service": 0, "busy": 0, "subsystem": 0, "terminal": 0}
         self.run = {"A": [], "B": []}      # entries since the last gap: None, or a word (kind, bits, parity)
         self.message = None                # [bus, command, phase, awaited, collected]
@@ -150,9 +151,9 @@ class Terminal:
             words = [self.words.get((where[1], i), 0) for i in range(1, where[2] + 1)]
         elif mode is None:
             hand = ("received", int(not own), where[1], data)
-            if where[1] == 30:
+            if where[1] == self.wrap:
                 for i, d in enumerate(data):
-                    self.words[(30, i + 1)] = d
+                    self.words[(where[1], i + 1)] = d
         elif own and mode == 16:
             words = [self.vector]
         elif own and mode == 18:
@@ -210,8 +211,8 @@ def mixed(digest, value):
 class Run:
     """Messages that look random, a few of whose events are lost or preceded by noise."""
 
-    def __init__(self, legal):
-        self.terminal = Terminal(legal, 0x00AA, 0x00BB)
+    def __init__(self, legal, wrap):
+        self.terminal = Terminal(legal, 0x00AA, 0x00BB, wrap)
         self.seed, self.digest, self.answered, self.handed = 1553, 2166136261, 0, {}
 
     def draw(self, below):
@@ -314,8 +315,8 @@ class Run:
             self.command(bus, self.draw(65536))
 
 
-def digest(legal):
-    run = Run(legal)
+def digest(legal, wrap=30):
+    run = Run(legal, wrap)
     for _ in range(10000):
         run.message()
     return run.digest, run.answered, run.handed
@@ -323,5 +324,7 @@ def digest(legal):
 
 REQUIRED = [("own mode", c) for c in (2, 4, 5, 8)]
 print("every cell legal: 0x%08x, %d, %s" % digest(lambda cell: True))
+print("every cell legal, wraparound at 29: 0x%08x, %d, %s" % digest(lambda cell: True, wrap=29))
+print("every cell legal, no wraparound: 0x%08x, %d, %s" % digest(lambda cell: True, wrap=0))
 print("some cells legal: 0x%08x, %d, %s" % digest(lambda cell: cell in REQUIRED + [("own mode", 18), ("own mode", 6)]))
 print("no cell legal: 0x%08x, %d, %s" % digest(lambda cell: False))

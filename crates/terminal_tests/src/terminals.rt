@@ -12,14 +12,14 @@ use legality::{Also, Every};
 use rows::{MESSAGES, MODE_CODES, RESET, TRANSFERS, TWO_BUSES};
 use table::{Act, Profile, Row, event_of};
 
-/// A terminal of address 5.
+/// A terminal of address 5. No row has a wraparound subaddress above 30.
 fn terminal_of<L: Legality>(profile: &Profile, legality: L) -> Terminal<L> {
     let mut initial = [[0; 32]; 30];
     initial[2][0] = profile.first_of_three;
     let setup = Setup {
         address: 5,
         broadcast: profile.broadcast,
-        wrap: 30,
+        wrap: if profile.wrap <= 30 { profile.wrap } else { 0 },
         accept: profile.accept,
         vector: profile.vector,
         bit: profile.bit,
@@ -160,6 +160,7 @@ static CODES: [Code; 13] = [
 
 const EQUIPPED: Profile = Profile {
     broadcast: true,
+    wrap: 30,
     accept: true,
     vector: 0x00aa,
     bit: 0x00bb,
@@ -385,6 +386,14 @@ fn random_messages(rt: HostRuntime) {
         random::digest_of(terminal_of(&EQUIPPED, Every(true))),
         0x4cb1_b80e
     );
+    for (wrap, digest) in [(29, 0x23c7_5071), (0, 0xc585_485b)] {
+        let chosen = Profile { wrap, ..EQUIPPED };
+        assert_eq!(rt;
+            random::digest_of(terminal_of(&chosen, Every(true))),
+            digest,
+            "wraparound at {wrap}"
+        );
+    }
     let some = Also {
         first: Cell::OwnMode(18),
         second: Cell::OwnMode(6),

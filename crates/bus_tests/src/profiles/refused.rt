@@ -136,7 +136,10 @@ profile: root: wraparound has the wrong kind
 wraparound = "30"
 
 profile: root: wraparound has the wrong kind
-wraparound = 7.0
+wraparound = 1.0
+
+profile: root: wraparound has the wrong kind
+wraparound = []
 
 profile: root: wraparound is out of range
 wraparound = 0

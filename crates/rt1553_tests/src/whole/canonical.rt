@@ -176,7 +176,7 @@ fn first_version(rt: HostRuntime) -> Result<(), Fail> {
     Ok(())
 }
 
-/// A chosen subaddress.
+/// A chosen wraparound subaddress.
 const SEVEN: &[u8] = b"address = 5
 wraparound = 7
 [[rule]]
@@ -188,6 +188,9 @@ counts = 1
 #[test]
 fn chosen_wraparound(rt: HostRuntime) -> Result<(), LoadFault> {
     let text = canonical(rt.alloc(), SEVEN)?;
-    assert!(rt; has_line(text.as_slice(), b"wraparound 07"));
+    assert_eq!(rt; text.len(), 1550);
+    for line in [b"wraparound 07".as_slice(), b"initial 07 0000"] {
+        assert!(rt; has_line(text.as_slice(), line));
+    }
     Ok(())
 }

@@ -64,6 +64,27 @@ pub fn put_zero_words(text: &mut String, alloc: Global) -> Result<(), AllocError
     Ok(())
 }
 
+/// A text of a version, of a terminal of address 5 that may receive a word at these subaddresses and transmit one from
+/// them, with these lines behind those of the masks.
+pub fn wrapping(
+    alloc: Global,
+    version: u8,
+    subaddresses: &[u8],
+    end: &str,
+) -> Result<String, AllocError> {
+    let mut text = format!(in alloc; "rt1553 {version}\naddress 05\nbroadcast 0\n")?;
+    for name in ["own-receive", "own-transmit"] {
+        for s in 1..31u8 {
+            let mask = u8::from(subaddresses.contains(&s));
+            let line = format!(in alloc; "{name} {s:02} {mask:08x}\n")?;
+            text.push_str(line.as_str())?;
+        }
+    }
+    text.push_str("own-mode 00000134\n")?;
+    text.push_str(end)?;
+    Ok(text)
+}
+
 /// What a test chooses of a terminal: in each table one subaddress has a mask, and the others have
 /// none.
 #[derive(Clone, Copy)]

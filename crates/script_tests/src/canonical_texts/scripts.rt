@@ -1,5 +1,5 @@
 //! Scripts that tell two terminals apart, worked out by hand from the fields of the commands.
-use super::fixture::{HEARING, PLAIN, Shape, shape_text};
+use super::fixture::{HEARING, PLAIN, Shape, shape_text, wrapping};
 use bus_canon::{distinguish, read_canon};
 use bus_legal::Normal;
 use bus_terminal::Event;
@@ -17,17 +17,24 @@ fn data(bits: u16) -> Event {
     Event::Word(Bus::A, Raw::of(Kind::Dat, bits))
 }
 
-fn terminal(alloc: Global, shape: &Shape) -> Result<Normal, Fail> {
-    match read_canon(shape_text(alloc, shape)?.as_str().as_bytes()) {
+fn read(text: &str) -> Result<Normal, Fail> {
+    match read_canon(text.as_bytes()) {
         Ok(normal) => Ok(normal),
         Err(_) => Err(Fail::from("no canonical text")),
     }
 }
 
+fn terminal(alloc: Global, shape: &Shape) -> Result<Normal, Fail> {
+    read(shape_text(alloc, shape)?.as_str())
+}
+
 /// Checks that this is the script for the two terminals.
 fn expect(alloc: Global, p: &Shape, q: &Shape, events: &[Event]) -> Result<(), Fail> {
-    let (first, second) = (terminal(alloc, p)?, terminal(alloc, q)?);
-    match distinguish(&first, &second) {
+    expect_of(&terminal(alloc, p)?, &terminal(alloc, q)?, events)
+}
+
+fn expect_of(first: &Normal, second: &Normal, events: &[Event]) -> Result<(), Fail> {
+    match distinguish(first, second) {
         Some(script) if script.as_slice() == events => Ok(()),
         Some(_) => Err(Fail::from("another script")),
         None => Err(Fail::from("no script")),
@@ -174,6 +181,27 @@ fn wraparound(rt: HostRuntime) -> Result<(), Fail> {
         GAP,
     ];
     expect(rt.alloc(), &hears, &other, &shown)
+}
+
+/// A terminal that may receive a word at 7 and 8 and transmit one from them, with this line of wraparound.
+fn wraps(alloc: Global, line: &str) -> Result<Normal, Fail> {
+    let end = format!(in alloc; "{line}initial 07 0000\ninitial 08 00ff\n")?;
+    read(wrapping(alloc, 2, &[7, 8], end.as_str())?.as_str())
+}
+
+/// A chosen wraparound subaddress is shown at that of the first, or at that of the second where the first has none.
+#[test]
+fn chosen_wraparound(rt: HostRuntime) -> Result<(), Fail> {
+    let alloc = rt.alloc();
+    let none = wraps(alloc, "wraparound 00\n")?;
+    let seven = wraps(alloc, "wraparound 07\n")?;
+    let eight = wraps(alloc, "wraparound 08\n")?;
+    let at_seven = [command(0x28e1), data(0xffff), GAP, command(0x2ce1), GAP];
+    let at_eight = [command(0x2901), data(0xff00), GAP, command(0x2d01), GAP];
+    expect_of(&seven, &eight, &at_seven)?;
+    expect_of(&eight, &seven, &at_eight)?;
+    expect_of(&none, &eight, &at_eight)?;
+    expect_of(&eight, &none, &at_eight)
 }
 
 /// Of two differences the first is shown; without one there is no script.

@@ -12,6 +12,7 @@ const QUIET: Answer<'static> = Answer {
 /// Nothing set up, and no cell legal but the mode codes that always are.
 const FIVE: Profile = Profile {
     broadcast: false,
+    wrap: 30,
     accept: false,
     vector: 0,
     bit: 0,
@@ -417,7 +418,7 @@ pub static TWO_BUSES: [Row; 7] = [
     },
 ];
 
-pub static MODE_CODES: [Row; 18] = [
+pub static MODE_CODES: [Row; 21] = [
     Row {
         name: "wraparound",
         profile: with!(first: Cell::OwnReceive(30, 1), second: Cell::OwnTransmit(30, 1)),
@@ -427,6 +428,40 @@ pub static MODE_CODES: [Row; 18] = [
             gap!(A sends 0x2800 [], hands received!(false 30 [0xbeef])),
             command!(A 0x2fc1),
             gap!(A sends 0x2800 [0xbeef]),
+        ],
+    },
+    Row {
+        name: "wraparound at 7",
+        profile: with!(wrap: 7, first: Cell::OwnReceive(7, 1), second: Cell::OwnTransmit(7, 1)),
+        steps: &[
+            command!(A 0x28e1),
+            data!(A 0xbeef),
+            gap!(A sends 0x2800 [], hands received!(false 7 [0xbeef])),
+            command!(A 0x2ce1),
+            gap!(A sends 0x2800 [0xbeef]),
+        ],
+    },
+    Row {
+        name: "wraparound at 7 and not at 30",
+        profile: with!(wrap: 7, first: Cell::OwnReceive(30, 1), second: Cell::OwnTransmit(30, 1)),
+        steps: &[
+            command!(A 0x2bc1),
+            data!(A 0xbeef),
+            gap!(A sends 0x2800 [], hands received!(false 30 [0xbeef])),
+            command!(A 0x2fc1),
+            gap!(A sends 0x2800 [0]),
+        ],
+    },
+    Row {
+        name: "wraparound at 7 by broadcast",
+        profile: with!(broadcast: true, wrap: 7, first: Cell::BroadReceive(7, 2), second: Cell::OwnTransmit(7, 2)),
+        steps: &[
+            command!(B 0xf8e2),
+            data!(B 0xbeef),
+            data!(B 0x0001),
+            gap!(B hands received!(true 7 [0xbeef, 0x0001])),
+            command!(A 0x2ce2),
+            gap!(A sends 0x2800 [0xbeef, 0x0001]),
         ],
     },
     Row {

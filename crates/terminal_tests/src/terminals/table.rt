@@ -8,6 +8,8 @@ use bus_word::{Bus, Cell, Kind, Raw};
 #[derive(Clone, Copy)]
 pub struct Profile {
     pub broadcast: bool,
+    /// The wraparound subaddress, 1 to 30, or 0 for none.
+    pub wrap: u8,
     pub accept: bool,
     pub vector: u16,
     pub bit: u16,
