@@ -24,7 +24,8 @@ pub struct Profile {
     pub address: u16,
     /// Whether commands to address 31 are heard.
     pub broadcast: bool,
-    pub wraparound: bool,
+    /// The subaddress at which words are turned round, 0 for none.
+    pub wraparound: usize,
     pub accepts_bus_control: bool,
     pub vector: u16,
     pub bit: u16,
@@ -81,7 +82,7 @@ fn read_root(root: &Section) -> Checked<Profile> {
     Ok(Profile {
         address: root.integer("address", None, 0, 30)?,
         broadcast: root.truth("broadcast", false)?,
-        wraparound: root.truth("wraparound", true)?,
+        wraparound: root.wraparound()?,
         accepts_bus_control: root.truth("accept_bus_control", false)?,
         vector: root.integer("vector", Some(0), 0, 0xffff)?,
         bit: root.integer("bit", Some(0), 0, 0xffff)?,
@@ -203,6 +204,15 @@ impl<'a> Section<'a> {
             None => Ok(default),
             Some(Value::Truth(truth)) => Ok(*truth),
             Some(_) => Err(self.fault(key, ValueFault::WrongKind)),
+        }
+    }
+
+    /// The wraparound subaddress, 0 for none.
+    fn wraparound(&self) -> Checked<usize> {
+        match self.table.get("wraparound") {
+            None | Some(Value::Truth(true)) => Ok(30),
+            Some(Value::Truth(false)) => Ok(0),
+            Some(value) => Ok(self.number_within("wraparound", value, 1, 30)? as usize),
         }
     }
 

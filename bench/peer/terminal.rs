@@ -32,8 +32,6 @@ mod code {
 
 /// The address of commands to all terminals.
 const BROADCAST: u16 = 31;
-/// The subaddress at which words are turned round.
-const WRAPAROUND: usize = 30;
 /// How many words a subaddress holds, and a message has at most.
 const WORDS: usize = 32;
 
@@ -487,7 +485,7 @@ impl Terminal {
             };
         }
         let words = &self.received[..command.count()];
-        if self.profile.wraparound && subaddress == WRAPAROUND {
+        if subaddress == self.profile.wraparound {
             self.held[subaddress][..words.len()].copy_from_slice(words);
         }
         let hand = Hand::Received {
