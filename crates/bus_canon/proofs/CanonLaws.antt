@@ -1,5 +1,5 @@
 -- Laws of the canonical text.
-use Rattle.std.proofs.Common.{◌≡◌, ℕ, zero, suc, ◌+◌, ◌*◌, ◌^◌, ◌<◌, ◌≤◌, ◌==◌, ◌&&◌, ◌||◌, bit_and, cond, if◌then◌else◌, Bool, true, false, nat_le, Ok, List, [], ◌∷◌, ◌++◌, codes, replicate, length, get_or, refl, ap, ap₂, sym, ◌∙◌, subst, append-nil, length-append, arith, lit<}
+use Rattle.std.proofs.Common.{◌≡◌, ℕ, zero, suc, ◌+◌, ◌*◌, ◌^◌, ◌<◌, ◌≤◌, ◌==◌, ◌&&◌, ◌||◌, bit_and, cond, if◌then◌else◌, Bool, true, false, nat_le, Ok, List, [], ◌++◌, codes, replicate, length, get_or, refl, ap, ap₂, sym, ◌∙◌, subst, append-nil, length-append, arith, lit<}
 use Rattle.std.proofs.lemmas.Bool.{eqb-true}
 use Rattle.std.proofs.lemmas.Bool.Decides.{nat_tests}
 use Rattle.std.proofs.lemmas.Nat.{and_le_r}
@@ -9,7 +9,7 @@ use Rattle.bus_legal.specs.declared.tables.TheConstants.{OWN_CODES, BROADCAST_CO
 use Rattle.bus_legal.specs.Tables.{tables_say, masks_wrap, any_wraps, is_own_mask, is_broadcast_mask}
 use Rattle.bus_legal.specs.Parts.{Parts, AreMasks, IsNormal}
 use Rattle.bus_legal.proofs.Counts.{any_to-true}
-use Rattle.line_format.specs.Format.{Format, done, and_then, Spells, IsSound}
+use Rattle.line_format.specs.Format.{Format, done, Spells, IsSound}
 use Rattle.line_format.specs.Reading.{Spot, read}
 use Rattle.line_format.specs.Writing.{Adds}
 use Rattle.line_format.specs.Shapes.{decimal, word, mask, number_line, bit_line}

@@ -10,7 +10,7 @@ use crate::script::{Script, script_for};
 use bus_legal::Normal;
 
 /// The script that shows the first difference between two terminals, by what can be reached of them;
-/// None where there is none. From power-up the two answer the script otherwise: at most 36 events of
+/// None where there is none. From power-up the two answer the script otherwise: at most 70 events of
 /// bus A, made for the address of the first.
 pub fn distinguish(p: &Normal, q: &Normal) -> Option<Script>
     ensures same { IfNone result (p.now ≡ q.now) }

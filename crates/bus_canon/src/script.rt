@@ -1,12 +1,12 @@
-//! Scripts of command words, data words and gaps on bus A.
+//! Scripts of command words, data words and gaps on bus A, and of slots.
 ghost use Rattle.std.specs.Prelude.{◌≡◌, ◌≢◌, ◌+◌, ◌-◌, ◌%◌, ◌≤◌, ◌<◌, ◌++◌, [], ◌∷◌, replicate};
 ghost use Rattle.arrayvec.specs.ArrayVec.{array_vec_len};
 ghost use Rattle.bus_word.specs.declared.word.Bus.TheVariants.{A};
 ghost use Rattle.bus_word.specs.Word.{valid_word, bit_of};
 ghost use Rattle.bus_legal.specs.Parts.{description_in, IsNormal};
-ghost use Rattle.bus_terminal.specs.declared.event.Event.TheVariants.{Word, Gap};
-ghost use Rattle.bus_terminal.specs.Exchanges.{words_then, exchange_then, command_event, script_of};
-ghost use Rattle.bus_terminal.specs.Distinguish.{command_of, receive, transmit, mode_code, ask, initial_script, wraparound_script, shown_subaddress};
+ghost use Rattle.bus_terminal.specs.declared.event.Event.TheVariants.{Word, Gap, Slot};
+ghost use Rattle.bus_terminal.specs.Exchanges.{words_then, slots_then, exchange_then, command_event, script_of};
+ghost use Rattle.bus_terminal.specs.Distinguish.{slots_for, command_of, receive, transmit, mode_code_with, ask, initial_script, wraparound_script, shown_subaddress};
 ghost use Rattle.bus_canon.specs.Difference.{AreAlike, script_for};
 ghost use Rattle.bus_canon.specs.FirstPlace.{IsInRange};
 
@@ -17,8 +17,8 @@ use bus_legal::{Normal, largest_count};
 use bus_terminal::Event;
 use bus_word::{Bus, Kind, Raw};
 
-/// The events of a script that tells two terminals apart, in order: at most 36.
-pub type Script = ArrayVec<Event, 40>;
+/// The events of a script that tells two terminals apart, in order: at most 70.
+pub type Script = ArrayVec<Event, 80>;
 
 /// The address of all terminals.
 const ALL_TERMINALS: u8 = 31;
@@ -35,7 +35,7 @@ fn command(address: u8, transmit: bool, subaddress: u8, low: u8) -> u16
 }
 
 fn push_word(script: &mut Script, kind: Kind, bits: u16)
-    requires { array_vec_len script.old < 40 }
+    requires { array_vec_len script.old < 80 }
     ensures items { script.new.items ≡ script.old.items ++ Word A (valid_word kind bits) ∷ [] }
     ensures len { array_vec_len script.new ≡ array_vec_len script.old + 1 }
 {
@@ -55,14 +55,35 @@ fn push_data(script: &mut Script, first: u16, count: u8)
     }
 }
 
-/// The script with a command added that no data words follow.
-fn with_command(mut script: Script, command: u16) -> Script
-    requires { array_vec_len script ≤ 38 }
-    ensures items { result.items ≡ script.items ++ command_event command ∷ Gap A ∷ [] }
-    ensures len { array_vec_len result ≡ array_vec_len script + 2 }
+/// Adds so many slots.
+fn push_slots(script: &mut Script, count: u8)
+    requires { array_vec_len script.old + count ≤ 80 }
+    ensures items { script.new.items ≡ script.old.items ++ slots_then count [] }
+    ensures len { array_vec_len script.new ≡ array_vec_len script.old + count }
+{
+    for _slot in 0..count {
+        script.push(Event::Slot);
+    }
+}
+
+/// So many slots, and none after a command to all terminals.
+fn slots_for(address: u8, count: u8) -> u8
+    ensures number { result ≡ slots_for address count }
+    ensures few { result ≤ count }
+{
+    if address == ALL_TERMINALS { 0 } else { count }
+}
+
+/// The script with a command added that no data words follow, with so many slots.
+fn with_command(mut script: Script, command: u16, slots: u8) -> Script
+    requires room { array_vec_len script ≤ 38 }
+    requires slots { slots ≤ 33 }
+    ensures items { result.items ≡ script.items ++ command_event command ∷ Gap A ∷ slots_then slots [] }
+    ensures len { array_vec_len result ≡ array_vec_len script + 2 + slots }
 {
     push_word(&mut script, Kind::Com, command);
     script.push(Event::Gap(Bus::A));
+    push_slots(&mut script, slots);
     script
 }
 
@@ -72,17 +93,23 @@ fn with_ask(script: Script, address: u8) -> Script
     requires room { array_vec_len script ≤ 38 }
     ensures { result.items ≡ script.items ++ exchange_then (ask address) [] }
 {
-    with_command(script, command(address, true, 0, 2))
+    let slots = slots_for(address, 1);
+    with_command(script, command(address, true, 0, 2), slots)
 }
 
-/// The script with a command to transmit so many words.
-fn with_transmit(script: Script, address: u8, subaddress: u8, count: u8) -> Script
+/// The script with a command to transmit so many words, and so many slots.
+fn with_transmit(script: Script, address: u8, subaddress: u8, count: u8, slots: u8) -> Script
     requires address { address < 32 }
     requires subaddress { subaddress < 32 }
     requires room { array_vec_len script ≤ 38 }
-    ensures { result.items ≡ script.items ++ exchange_then (transmit address subaddress count) [] }
+    requires slots { slots ≤ 33 }
+    ensures { result.items ≡ script.items ++ exchange_then (transmit address subaddress count slots) [] }
 {
-    with_command(script, command(address, true, subaddress, count % 32))
+    with_command(
+        script,
+        command(address, true, subaddress, count % 32),
+        slots,
+    )
 }
 
 /// So many words to a subaddress: the first of them, and others of 0.
@@ -91,7 +118,7 @@ fn receive_script(address: u8, subaddress: u8, count: u8, first: u16) -> Script
     requires subaddress { subaddress < 32 }
     requires count { count ≤ 32 }
     ensures items { result.items ≡ exchange_then (receive address subaddress count (first ∷ replicate (count - 1) 0)) [] }
-    ensures len { array_vec_len result ≤ 34 }
+    ensures len { array_vec_len result ≤ 35 }
 {
     let mut script = ArrayVec::new();
     push_word(
@@ -101,23 +128,28 @@ fn receive_script(address: u8, subaddress: u8, count: u8, first: u16) -> Script
     );
     push_data(&mut script, first, count);
     script.push(Event::Gap(Bus::A));
+    push_slots(&mut script, slots_for(address, 1));
     script
 }
 
-/// A mode code. Code 17, synchronize with data word, goes with a data word of 0 (4.3.3.5.1.7.12).
-fn mode_script(address: u8, code: u8) -> Script
+/// A mode code, with so many slots. Code 17, synchronize with data word, goes with a data word of 0
+/// (4.3.3.5.1.7.12).
+fn mode_script(address: u8, code: u8, count: u8) -> Script
     requires address { address < 32 }
     requires code { code < 32 }
-    ensures items { result.items ≡ exchange_then (mode_code address code) [] }
-    ensures len { array_vec_len result ≤ 3 }
+    requires slots { count ≤ 2 }
+    ensures items { result.items ≡ exchange_then (mode_code_with count address code) [] }
+    ensures len { array_vec_len result ≤ 5 }
 {
+    let slots = slots_for(address, count);
     if code != 17 {
-        return with_command(ArrayVec::new(), command(address, true, 0, code));
+        return with_command(ArrayVec::new(), command(address, true, 0, code), slots);
     }
     let mut script = ArrayVec::new();
     push_word(&mut script, Kind::Com, command(address, false, 0, code));
     push_word(&mut script, Kind::Dat, 0);
     script.push(Event::Gap(Bus::A));
+    push_slots(&mut script, slots);
     script
 }
 
@@ -130,7 +162,7 @@ fn initial_script(p: &Normal, subaddress: u8) -> Script
 {
     let counts = p.tables().own_transmit[usize::from(subaddress) - 1];
     let count = largest_count(counts) as u8;
-    with_transmit(ArrayVec::new(), p.address(), subaddress, count)
+    with_transmit(ArrayVec::new(), p.address(), subaddress, count, count + 1)
 }
 
 /// The shortest legal receive command of a subaddress, 1 to 30, by broadcast only where there is no other, with
@@ -152,7 +184,7 @@ fn wraparound_script(p: &Normal, subaddress: u8) -> Script
         receive_script(ALL_TERMINALS, subaddress, count, first)
     };
     let count = least_count(tables.own_transmit[row]);
-    with_transmit(script, p.address(), subaddress, count)
+    with_transmit(script, p.address(), subaddress, count, count + 1)
 }
 
 /// The subaddress that shows that two terminals don't have the same wraparound subaddress: that of the first, or
@@ -178,18 +210,18 @@ pub fn script_for(p: &Normal, q: &Normal, difference: Difference) -> Script
 {
     let own = p.address();
     match difference {
-        Difference::Address => mode_script(own, 2),
-        Difference::BroadcastOption => with_ask(mode_script(ALL_TERMINALS, 2), own),
+        Difference::Address => mode_script(own, 2, 1),
+        Difference::BroadcastOption => with_ask(mode_script(ALL_TERMINALS, 2, 1), own),
         Difference::ReceiveCell(s, n) => receive_script(own, s, n, 0),
-        Difference::TransmitCell(s, n) => with_transmit(ArrayVec::new(), own, s, n),
+        Difference::TransmitCell(s, n) => with_transmit(ArrayVec::new(), own, s, n, 1),
         Difference::BroadcastReceiveCell(s, n) => {
             with_ask(receive_script(ALL_TERMINALS, s, n, 0), own)
         }
-        Difference::OwnCode(code) => mode_script(own, code),
-        Difference::BroadcastCode(code) => with_ask(mode_script(ALL_TERMINALS, code), own),
-        Difference::Acceptance => mode_script(own, 0),
-        Difference::VectorWord => mode_script(own, 16),
-        Difference::BitWord => mode_script(own, 19),
+        Difference::OwnCode(code) => mode_script(own, code, 1),
+        Difference::BroadcastCode(code) => with_ask(mode_script(ALL_TERMINALS, code, 1), own),
+        Difference::Acceptance => mode_script(own, 0, 1),
+        Difference::VectorWord => mode_script(own, 16, 2),
+        Difference::BitWord => mode_script(own, 19, 2),
         Difference::InitialWord(s, _) => initial_script(p, s),
         Difference::Wraparound => wraparound_script(p, shown_subaddress(p, q)),
     }

@@ -121,6 +121,10 @@ flag_read Subsystem false = refl
 flag_read Terminal true = refl
 flag_read Terminal false = refl
 
+slot_read : meaning (event_text event.Slot) ≡ Ok (Some event.Slot)
+unfolding meaning
+slot_read = refl
+
 pub event_read : (e : Event) → IsProper e → meaning (event_text e) ≡ Ok (Some e)
 event_read (event.Word bus w) proper = word_on_bus_read bus w (is_valid w) refl proper
 event_read (event.Noise bus) proper = noise_read bus
@@ -129,3 +133,4 @@ event_read (event.Write place word) proper = write_read place word proper.0 prop
 event_read (event.Vector word) proper = vector_read word proper
 event_read (event.Bit word) proper = bit_read word proper
 event_read (event.Flag f value) proper = flag_read f value
+event_read event.Slot proper = slot_read

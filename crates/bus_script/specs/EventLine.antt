@@ -42,3 +42,4 @@ event_text (event.Write place word) = codes "write " ++ (place_text place ++ (co
 event_text (event.Vector word) = codes "vector " ++ digits_of word
 event_text (event.Bit word) = codes "bit " ++ digits_of word
 event_text (event.Flag f value) = codes "flag " ++ (flag_name f ++ truth_field value)
+event_text event.Slot = codes "slot"

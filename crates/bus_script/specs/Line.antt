@@ -114,7 +114,7 @@ abbrev pub event_of : List ℕ → Option Event
 event_of line =
     by_front (codes "A ") (event_on A) line
     (by_front (codes "B ") (event_on B) line
-    (subsystem_event line))
+    (if bytes_eq line (codes "slot") then Some event.Slot else subsystem_event line))
 
 abbrev pub or_refused : Option Event → Result (Option Event) LineFault
 or_refused (Some e) = Ok (Some e)

@@ -99,6 +99,7 @@ fn event_text(event: &Event) -> ArrayString<64>
             text.push_str(flag_name(*flag));
             text.push_str(truth_field(*value));
         }
+        Event::Slot => text.push_str("slot"),
     }
     text
 }
@@ -119,7 +120,7 @@ fn is_proper(event: &Event)
             is_there(*place);
         }
         Event::Vector(word) | Event::Bit(word) => has_16_bits(*word),
-        Event::Noise(_) | Event::Gap(_) | Event::Flag(_, _) => {}
+        Event::Noise(_) | Event::Gap(_) | Event::Flag(_, _) | Event::Slot => {}
     }
 }
 

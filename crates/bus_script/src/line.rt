@@ -141,6 +141,7 @@ fn read_line(line: &[u8]) -> Option<Event>
     let bus = match line {
         [b'A', b' ', ..] => Bus::A,
         [b'B', b' ', ..] => Bus::B,
+        b"slot" => return Some(Event::Slot),
         _ => return read_subsystem(line),
     };
     read_on_bus(bus, &line[2..])

@@ -5,7 +5,7 @@ ghost use Rattle.bus_terminal.specs.declared.event.Event.{Event};
 ghost use Rattle.bus_script.specs.Line.{meaning};
 ghost use Rattle.bus_script.specs.Reading.{ByFault};
 ghost use Rattle.bus_terminal.specs.Answer.{shown_answer, IsSmall};
-ghost use Rattle.bus_script.specs.Transcript.{answer_text, is_gap};
+ghost use Rattle.bus_script.specs.Transcript.{answer_text, may_be_answered};
 ghost use Rattle.bus_script.specs.Playing.{IsPartWritten, Means, IsRefused};
 ghost use Rattle.bus_script.specs.Played.{Played, PlayedPart};
 
@@ -36,20 +36,14 @@ fn put_all<W: Sink>(writer: &mut W, bytes: &[u8]) -> Result<(), IoFailed>
     Ok(())
 }
 
-/// Whether an answer has no lines.
+/// Whether an answer has no line.
 fn is_silent(answer: &Answer) -> bool
     ensures { result ≡ true → answer_text (shown_answer answer.now) ≡ [] }
 {
-    matches!(
-        answer,
-        Answer {
-            sent: None,
-            hand: None,
-        }
-    )
+    matches!(answer, Answer::Silent)
 }
 
-/// Writes the lines of an answer.
+/// Writes the line of an answer.
 fn send<W: Sink>(writer: &mut W, answer: &Answer) -> Result<(), IoFailed>
     requires { IsSmall (shown_answer answer.now) }
     ensures ok { OnOk result (Appends (W.written writer.old) (W.written writer.new) (answer_text (shown_answer answer.now))) }
@@ -62,10 +56,10 @@ fn send<W: Sink>(writer: &mut W, answer: &Answer) -> Result<(), IoFailed>
 }
 
 /// Whether the event is one that may be answered.
-fn is_gap(event: &Event) -> bool
-    ensures { result ≡ is_gap event.now }
+fn may_be_answered(event: &Event) -> bool
+    ensures { result ≡ may_be_answered event.now }
 {
-    matches!(event, Event::Gap(_))
+    matches!(event, Event::Gap(_) | Event::Slot)
 }
 
 /// Plays an event.
@@ -78,7 +72,7 @@ fn play_event<L: Legality, W: Sink>(
     ensures err { OnErr result (PlayedPart L.is_legal W.written terminal.old terminal.new writer.old writer.new [] event) }
     ensures failed { OnErr result (W.has_failed writer.new ≡ true) }
 {
-    if !is_gap(&event) {
+    if !may_be_answered(&event) {
         terminal.take(event);
         return Ok(());
     }

@@ -1,38 +1,24 @@
 //! Answers as lines of a transcript.
-ghost use Rattle.std.specs.Prelude.{◌≡◌, ◌≤◌, ◌+◌, ◌*◌, ◌++◌, length, Some};
+ghost use Rattle.std.specs.Prelude.{◌≡◌, ◌≤◌, ◌+◌, ◌*◌, ◌++◌, length};
 ghost use Rattle.std.specs.List.{flat_map};
 ghost use Rattle.arrayvec.specs.ArrayString.{array_string_len};
-ghost use Rattle.bus_terminal.specs.Answer.{shown_answer, shown_sent, shown_hand};
-ghost use Rattle.bus_script.specs.Transcript.{data_head, data_line, sent_text, word_field, received_by, received_text, hand_text, answer_text};
+ghost use Rattle.bus_terminal.specs.Answer.{shown_answer, shown_word, shown_handing};
+ghost use Rattle.bus_script.specs.Transcript.{sent_kind, sent_text, word_field, received_by, received_text, hand_text, answer_text};
 ghost use Rattle.bus_terminal.specs.Out.{HandsSynchronizeWith};
 
 use crate::digits::{push_number, push_word};
 use crate::event_line::bus_letter;
 use arrayvec::ArrayString;
 use bus_terminal::{Answer, Hand, Sent};
-use bus_word::Bus;
+use bus_word::Kind;
 
-/// What a line of a data word begins with.
-fn data_head(bus: Bus) -> &'static str
-    ensures { result.now ≡ data_head bus }
+/// What tells a status word, which has command sync, from a data word.
+fn sent_kind(kind: Kind) -> &'static str
+    ensures { result.now ≡ sent_kind kind }
 {
-    match bus {
-        Bus::A => "A d ",
-        Bus::B => "B d ",
-    }
-}
-
-/// Writes the lines of data words.
-fn push_data(text: &mut ArrayString<320>, bus: Bus, words: &[u16])
-    requires { array_string_len text.old + 9 * length words.now ≤ 320 }
-    ensures bytes { text.new.bytes ≡ text.old.bytes ++ flat_map (data_line bus) words.now }
-    ensures len { array_string_len text.new ≡ array_string_len text.old + 9 * length words.now }
-{
-    let head = data_head(bus);
-    for word in words {
-        text.push_str(head);
-        push_word(text, *word);
-        text.push('\n');
+    match kind {
+        Kind::Com => " s ",
+        Kind::Dat => " d ",
     }
 }
 
@@ -48,17 +34,16 @@ fn push_fields(text: &mut ArrayString<320>, words: &[u16])
     }
 }
 
-/// Writes the lines of what was sent.
+/// Writes the line of a word that was sent.
 fn push_sent(text: &mut ArrayString<320>, sent: &Sent)
-    requires { array_string_len text.old + (9 + 9 * length sent.now.words.now) ≤ 320 }
-    ensures bytes { text.new.bytes ≡ text.old.bytes ++ sent_text (shown_sent (Some sent.now)) }
-    ensures len { array_string_len text.new ≡ array_string_len text.old + (9 + 9 * length sent.now.words.now) }
+    requires { array_string_len text.old + 9 ≤ 320 }
+    ensures bytes { text.new.bytes ≡ text.old.bytes ++ sent_text (shown_word sent.now) }
+    ensures len { array_string_len text.new ≡ array_string_len text.old + 9 }
 {
     text.push_str(bus_letter(sent.bus));
-    text.push_str(" s ");
-    push_word(text, sent.status);
+    text.push_str(sent_kind(sent.kind));
+    push_word(text, sent.bits);
     text.push('\n');
-    push_data(text, sent.bus, sent.words);
 }
 
 fn received_by(broadcast: bool) -> &'static str
@@ -85,7 +70,7 @@ fn push_received(text: &mut ArrayString<320>, broadcast: bool, subaddress: u8, w
 /// Writes the line of synchronize with this data word.
 fn push_synchronize_with(text: &mut ArrayString<320>, word: u16)
     requires { array_string_len text.old + 15 ≤ 320 }
-    ensures { text.new.bytes ≡ text.old.bytes ++ hand_text (Some (HandsSynchronizeWith word)) }
+    ensures { text.new.bytes ≡ text.old.bytes ++ hand_text (HandsSynchronizeWith word) }
 {
     text.push_str("hand sync ");
     push_word(text, word);
@@ -94,8 +79,8 @@ fn push_synchronize_with(text: &mut ArrayString<320>, word: u16)
 
 /// Writes the line of what was handed over.
 fn push_hand(text: &mut ArrayString<320>, hand: &Hand)
-    requires { array_string_len text.old + length (hand_text (shown_hand (Some hand.now))) ≤ 320 }
-    ensures { text.new.bytes ≡ text.old.bytes ++ hand_text (shown_hand (Some hand.now)) }
+    requires { array_string_len text.old + length (hand_text (shown_handing hand.now)) ≤ 320 }
+    ensures { text.new.bytes ≡ text.old.bytes ++ hand_text (shown_handing hand.now) }
 {
     match hand {
         Hand::Received {
@@ -110,21 +95,20 @@ fn push_hand(text: &mut ArrayString<320>, hand: &Hand)
     }
 }
 
-/// Writes the lines of an answer behind what the text holds.
+/// Writes the line of an answer behind what the text holds.
 pub fn push_answer(text: &mut ArrayString<320>, answer: &Answer)
     requires { array_string_len text.old + length (answer_text (shown_answer answer.now)) ≤ 320 }
     ensures { text.new.bytes ≡ text.old.bytes ++ answer_text (shown_answer answer.now) }
 {
-    if let Some(sent) = &answer.sent {
-        push_sent(text, sent);
-    }
-    if let Some(hand) = &answer.hand {
-        push_hand(text, hand);
+    match answer {
+        Answer::Silent => {}
+        Answer::Sends(sent) => push_sent(text, sent),
+        Answer::Hands(hand) => push_hand(text, hand),
     }
 }
 
-/// The lines of an answer, each with its line feed: the status word that was sent, the data words, and
-/// what was handed over. Those of a terminal's answer have at most 297 bytes.
+/// The line of an answer, with its line feed: the word that was sent, or what was handed over; nothing for a silent
+/// answer. That of a terminal's answer has at most 186 bytes.
 pub fn write_answer(answer: &Answer) -> ArrayString<320>
     requires { length (answer_text (shown_answer answer.now)) ≤ 320 }
     ensures { result.bytes ≡ answer_text (shown_answer answer.now) }

@@ -8,8 +8,9 @@ use Rattle.bus_word.specs.Command.{transmits, subaddress_of, code_of, count_of, 
 use Rattle.bus_word.specs.Mode.{mode_row}
 use Rattle.bus_word.specs.Cell.{data_cell, same_bool, mode_cell_by, cell_of, is_data_place, allows_broadcast, is_allowed}
 use Rattle.bus_terminal.specs.History.{Illegal, Blocked, Done}
-use Rattle.bus_terminal.specs.Ends.{verdict, is_blocked_by_busy}
-use Rattle.bus_terminal.specs.Machine.Terminal.{is_possible}
+use Rattle.bus_legal.specs.Description.{Description}
+use Rattle.bus_terminal.specs.Ends.{verdict, well, is_blocked_by_busy}
+use Rattle.bus_terminal.specs.Turn.{done_cell}
 
 abbrev pub none_or_allowed : Option Cell → Bool
 none_or_allowed None = true
@@ -71,10 +72,15 @@ well_law legal busy c ds cell l e f =
     ap (λ l. verdict (λ _. l) busy c ds (Some cell)) (allowed_and (is_allowed cell) l (legal cell) (is_allowed-cell c cell e) f)
     ∙ ap (λ o. verdict (λ cell. is_allowed cell && legal cell) busy c ds o) (sym e)
 
-possible_by : (l b : Bool) (c : ℕ) (ds : List ℕ) (cell : Cell) → is_allowed cell ≡ true → is_possible (if l then (if b then Blocked c cell else Done c cell ds) else Illegal c) ≡ true
-possible_by true true c ds cell e = refl
-possible_by true false c ds cell e = e
-possible_by false b c ds cell e = refl
+-- and so is the cell of what is done
+verdict_allowed : (legal : Cell → Bool) (busy : Bool) (c : ℕ) (ds : List ℕ) (o : Option Cell) → none_or_allowed o ≡ true → none_or_allowed (done_cell (verdict legal busy c ds o)) ≡ true
+verdict_allowed legal busy c ds None e = refl
+verdict_allowed legal busy c ds (Some cell) e = by_tests (legal cell) (busy && is_blocked_by_busy cell)
+  where
+    by_tests : (l b : Bool) → none_or_allowed (done_cell (if l then (if b then Blocked c cell else Done c cell ds) else Illegal c)) ≡ true
+    by_tests true true = refl
+    by_tests true false = e
+    by_tests false b = refl
 
-pub possible_law : (busy : Bool) (c : ℕ) (ds : List ℕ) (cell : Cell) (l : Bool) → cell_of c ≡ Some cell → is_possible (verdict (λ _. l) busy c ds (Some cell)) ≡ true
-possible_law busy c ds cell l e = possible_by l (busy && is_blocked_by_busy cell) c ds cell (is_allowed-cell c cell e)
+pub well_allowed : (P : Description) (busy : Bool) (c : ℕ) (ds : List ℕ) → none_or_allowed (done_cell (well P busy c ds)) ≡ true
+well_allowed P busy c ds = verdict_allowed P.legal busy c ds (cell_of c) (cell_of-allowed c)

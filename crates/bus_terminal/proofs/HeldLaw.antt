@@ -1,12 +1,11 @@
 -- The words held ready.
-use Rattle.std.proofs.Common.{◌≡◌, ℕ, zero, suc, ◌+◌, ◌-◌, ◌<◌, ◌≤◌, ◌==◌, ◌&&◌, nat_le, Bool, true, false, ltb, if◌then◌else◌, Some, None, List, [], ◌∷◌, length, get_or, take, replicate, refl, ap, sym, ◌∙◌, arith}
+use Rattle.std.proofs.Common.{◌≡◌, ℕ, suc, ◌-◌, ◌≤◌, ◌==◌, ◌&&◌, nat_le, Bool, true, false, ltb, if◌then◌else◌, Some, None, List, [], ◌∷◌, length, get_or, replicate, refl, ap, sym, ◌∙◌, arith}
 use Rattle.std.proofs.lemmas.Bool.{ltb-true, ltb-false, eqb-true}
 use Rattle.std.proofs.lemmas.List.{get_or-replicate, get_or_past, length-replicate}
 use Rattle.std.proofs.lemmas.Bool.Decides.{nat_tests}
 use Rattle.bus_word.specs.Cell.{is_data_place}
 use Rattle.bus_terminal.specs.LookBack.{or_else}
 use Rattle.bus_terminal.specs.SinceReset.{number, wrapped_at}
-use Rattle.bus_terminal.specs.Out.{words_from}
 use Rattle.bus_terminal.specs.Machine.Held.{row_in}
 
 -- nothing but the value that is read past the end
@@ -22,33 +21,6 @@ pub row_in-unchanged : (rows : List (List ℕ)) (initial : List (List ℕ)) (s :
     row_in initial (record { rows = rows; changed = replicate 30 false }) s ≡ get_or initial (s - 1) []
 row_in-unchanged rows initial s =
     ap (λ b. if b then get_or rows (s - 1) [] else get_or initial (s - 1) []) (get_or-all 30 (s - 1) false)
-
--- words that two functions give alike
-pub words_from-same : (f g : ℕ → ℕ) (i n : ℕ) → ((k : ℕ) → i ≤ k → k < i + n → f k ≡ g k) → words_from f i n ≡ words_from g i n
-words_from-same f g i zero h = refl
-words_from-same f g i (suc n) h =
-    ap (λ x. x ∷ words_from f (i + 1) n) (h i (omega arith) (omega arith))
-    ∙ ap (λ xs. g i ∷ xs) (words_from-same f g (i + 1) n (λ k low high. h k (omega arith) (omega arith)))
-
-words_from-shift : (f : ℕ → ℕ) (i n : ℕ) → words_from f (i + 1) n ≡ words_from (λ k. f (k + 1)) i n
-words_from-shift f i zero = refl
-words_from-shift f i (suc n) = ap (λ xs. f (i + 1) ∷ xs) (words_from-shift f (i + 1) n)
-
-words_from-take : (row : List ℕ) (n : ℕ) → n ≤ length row → words_from (λ k. get_or row k 0) 0 n ≡ take n row
-words_from-take row zero h = refl
-words_from-take [] (suc n) h = absurd (omega arith)
-words_from-take (x ∷ xs) (suc n) h =
-    ap (λ ys. x ∷ ys)
-    (words_from-shift (λ k. get_or (x ∷ xs) k 0) 0 n
-    ∙ (words_from-same (λ k. get_or (x ∷ xs) (k + 1) 0) (λ k. get_or xs k 0) 0 n (λ k low high. let e : k + 1 ≡ suc k = omega arith in ap (λ j. get_or (x ∷ xs) j 0) e)
-    ∙ words_from-take xs n (omega arith)))
-
--- the first words of a row, by their numbers
-pub words_from-row : (row : List ℕ) (n : ℕ) → n ≤ length row → take n row ≡ words_from (λ i. get_or row (i - 1) 0) 1 n
-words_from-row row n h =
-    sym (words_from-shift (λ i. get_or row (i - 1) 0) 0 n
-    ∙ (words_from-same (λ k. get_or row (k + 1 - 1) 0) (λ k. get_or row k 0) 0 n (λ k low high. let e : k + 1 - 1 ≡ k = omega arith in ap (λ j. get_or row j 0) e)
-    ∙ words_from-take row n h))
 
 -- word number i of a list, or another where there is none
 number_law : (i : ℕ) (ds : List ℕ) (old : ℕ) → 1 ≤ i → or_else (number i ds) old ≡ (if nat_le i (length ds) then get_or ds (i - 1) 0 else old)

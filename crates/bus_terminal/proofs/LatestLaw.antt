@@ -1,17 +1,18 @@
 -- The message in progress is that of the latest start of all.
-use Rattle.std.proofs.Common.{◌≡◌, ℕ, Bool, true, false, if◌then◌else◌, ◌⊎◌, inl, inr, Option, Some, None, List, [], ◌∷◌, refl, ap, sym, ◌∙◌}
+use Rattle.std.proofs.Common.{◌≡◌, ℕ, Bool, true, false, not, ◌&&◌, if◌then◌else◌, ◌⊎◌, inl, inr, Option, Some, None, List, [], ◌∷◌, refl, ap, sym, ◌∙◌}
 use Rattle.bus_word.specs.declared.word.Bus.{Bus}
 use Rattle.bus_word.specs.declared.word.Bus.TheVariants.{A, B}
 use Rattle.bus_word.specs.declared.word.Raw.{Raw}
 use Rattle.bus_word.specs.Command.{is_receive}
 use Rattle.bus_legal.specs.Description.{Description}
 use Rattle.bus_terminal.specs.declared.event.Event.{Event}
-use Rattle.bus_terminal.specs.declared.event.Event.TheVariants.{Word, Noise, Gap, Write, Vector, Bit, Flag as FlagIs}
+use Rattle.bus_terminal.specs.declared.event.Event.TheVariants.{Word, Noise, Gap, Write, Vector, Bit, Flag as FlagIs, Slot}
 use Rattle.bus_terminal.specs.Buses.{same_bus}
 use Rattle.bus_terminal.specs.LookBack.{latest}
 use Rattle.bus_terminal.specs.History.{Noted, Entry, run}
 use Rattle.bus_terminal.specs.Open.{Open, Closed, First, Waiting, Second, transfer, is_status_of, transmitter, is_on, is_latest, start_bus, first_of, awaited_of, open_of, open_now, before_gap}
-use Rattle.bus_terminal.specs.Starts.{starts_now}
+use Rattle.bus_terminal.specs.Reply.{reply_now, ignores}
+use Rattle.bus_terminal.specs.Starts.{heard_now, is_free, is_fresh_broadcast, starts_message, starts_now}
 use Rattle.bus_terminal.specs.Past.{past}
 use Rattle.bus_terminal.specs.OpenLaws.{start_in, start_of, command_open, LatestStartLaw, OneMessageLaw}
 use Rattle.bus_terminal.proofs.OpenLaw.{open_law, after_word, after_gap, after_entry, after_event, waits, unheard}
@@ -63,6 +64,7 @@ quiet_stays P b (Write q v) o = λ c e. e
 quiet_stays P b (Vector v) o = λ c e. e
 quiet_stays P b (Bit v) o = λ c e. e
 quiet_stays P b (FlagIs f v) o = λ c e. e
+quiet_stays P b Slot o = λ c e. e
 
 -- a word that starts a message
 started_is : (b d : Bus) (w : Raw) (c : ℕ) (o : Open) → command_open (after_word b d w true o) ≡ Some c → (let s : Option (Bus × ℕ) = Some (d, w.bits) in s) ≡ Some (b, c)
@@ -84,6 +86,7 @@ word_starts P h (Write q v) = refl
 word_starts P h (Vector v) = refl
 word_starts P h (Bit v) = refl
 word_starts P h (FlagIs f v) = refl
+word_starts P h Slot = refl
 
 by_start : (P : Description) (b : Bus) (e : Event) (s : Bool) (o : Open) (l : Option (Bus × ℕ)) (c : ℕ) → StartsAsWord e s →
     command_open (after_event P b e s o) ≡ Some c → ((d : ℕ) → command_open o ≡ Some d → l ≡ Some (b, d)) →
@@ -96,6 +99,25 @@ by_start P b (Write q v) true o l c k h before = cc
 by_start P b (Vector v) true o l c k h before = cc
 by_start P b (Bit v) true o l c k h before = cc
 by_start P b (FlagIs f v) true o l c k h before = cc
+by_start P b Slot true o l c k h before = cc
+
+-- what is ignored starts nothing
+ignored_starts : (P : Description) (h : List Noted) (e : Event) → ignores (reply_now h) e ≡ true → starts_now P h e ≡ false
+ignored_starts P h (Word b w) i = ap (λ i. not i && starts_message P w (heard_now P h b) (is_free (open_now P h b)) (is_fresh_broadcast (open_now P h b))) i
+ignored_starts P h (Noise b) i = refl
+ignored_starts P h (Gap b) i = refl
+ignored_starts P h (Write q v) i = refl
+ignored_starts P h (Vector v) i = refl
+ignored_starts P h (Bit v) i = refl
+ignored_starts P h (FlagIs f v) i = refl
+ignored_starts P h Slot i = refl
+
+by_ignored : (P : Description) (b : Bus) (e : Event) (i s : Bool) (o : Open) (l : Option (Bus × ℕ)) (c : ℕ) → StartsAsWord e s → (i ≡ true → s ≡ false) →
+    command_open (if i then o else after_event P b e s o) ≡ Some c → ((d : ℕ) → command_open o ≡ Some d → l ≡ Some (b, d)) →
+    (elim (if s then start_in e else None) as (λ m. Option (Bus × ℕ)) [ None ↦ l | Some y ↦ Some y ]) ≡ Some (b, c)
+by_ignored P b e false s o l c k q h before = by_start P b e s o l c k h before
+by_ignored P b e true false o l c k q h before = before c h
+by_ignored P b e true true o l c k q h before = let wrong : true ≡ false = q refl in cc
 
 pub latest_start_law : LatestStartLaw
 latest_start_law P [] b c e = empty b c e
@@ -104,7 +126,7 @@ latest_start_law P [] b c e = empty b c e
     empty A c e = cc
     empty B c e = cc
 latest_start_law P (e ∷ h) b c i =
-    by_start P b e (starts_now P (past P h) e) (open_now P (past P h) b) (latest start_of (past P h)) c (word_starts P (past P h) e)
+    by_ignored P b e (ignores (reply_now (past P h)) e) (starts_now P (past P h) e) (open_now P (past P h) b) (latest start_of (past P h)) c (word_starts P (past P h) e) (ignored_starts P (past P h) e)
     (sym (ap command_open (open_law P (past P h) b e)) ∙ i)
     (latest_start_law P h b)
 

@@ -1,5 +1,6 @@
 pub mod HeldLaw
 pub mod OpenLaw
+pub mod ReplyLaw
 pub mod KeptLaw
 pub mod BackLaw
 pub mod RegistersLaw
@@ -8,6 +9,6 @@ pub mod CellLaw
 pub mod StandsLaw
 pub mod AnswerLaw
 pub mod LatestLaw
-pub mod ExchangeLaw
 pub mod Reach
+pub mod ExchangeLaw
 pub mod Distinguish

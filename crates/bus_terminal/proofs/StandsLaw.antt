@@ -1,5 +1,5 @@
 -- A terminal that stands at a history stands, after an event, at the history followed by that event.
-use Rattle.std.proofs.Common.{◌≡◌, ℕ, Bool, true, false, ◌&&◌, ◌||◌, ◌==◌, if◌then◌else◌, Option, Some, None, List, [], ◌∷◌, refl, ap, sym, ◌∙◌}
+use Rattle.std.proofs.Common.{◌≡◌, ℕ, Bool, true, false, not, ◌&&◌, ◌||◌, ◌==◌, if◌then◌else◌, Option, Some, None, List, [], ◌∷◌, refl, ap, sym, ◌∙◌}
 use Rattle.bus_word.specs.declared.word.Bus.{Bus}
 use Rattle.bus_word.specs.declared.word.Bus.TheVariants.{A, B}
 use Rattle.bus_word.specs.declared.word.Raw.{Raw}
@@ -8,31 +8,37 @@ use Rattle.bus_legal.specs.Description.{Description}
 use Rattle.bus_terminal.specs.Place.{Place}
 use Rattle.bus_terminal.specs.declared.event.Flag.{Flag}
 use Rattle.bus_terminal.specs.declared.event.Event.{Event}
-use Rattle.bus_terminal.specs.declared.event.Event.TheVariants.{Word, Noise, Gap, Write, Vector, Bit, Flag as FlagIs}
+use Rattle.bus_terminal.specs.declared.event.Event.TheVariants.{Word, Noise, Gap, Write, Vector, Bit, Flag as FlagIs, Slot}
 use Rattle.bus_terminal.specs.declared.buses.OnBuses.{OnBuses}
 use Rattle.bus_terminal.specs.declared.registers.Flags.{Flags}
 use Rattle.bus_terminal.specs.declared.registers.Registers.{Registers}
 use Rattle.bus_terminal.specs.declared.terminal.Terminal.{Terminal}
 use Rattle.bus_terminal.specs.Buses.{same_bus}
-use Rattle.bus_terminal.specs.LookBack.{or_else}
-use Rattle.bus_terminal.specs.History.{Noted, Ending}
+use Rattle.bus_terminal.specs.declared.event.Flag.TheVariants.{Busy}
+use Rattle.bus_terminal.specs.LookBack.{latest, or_else, since}
+use Rattle.bus_terminal.specs.History.{Replying, NoTurn, Ignored, Noted, noted_as, Ending, Nothing}
+use Rattle.bus_terminal.specs.Reply.{begun, begins_reply, reply_of, reply_now, replies_on, ignores}
+use Rattle.bus_terminal.specs.Flags.{flag_now}
+use Rattle.bus_terminal.specs.Turn.{is_answered, done_cell, turn_of_entry, turn_of_gap, turn_of_slot}
 use Rattle.bus_terminal.specs.Open.{Open, Closed, First, open_now}
-use Rattle.bus_terminal.specs.Starts.{is_for, is_free, is_fresh_broadcast, starts_message, heard_now, starts_now}
-use Rattle.bus_terminal.specs.Ends.{ends_now}
-use Rattle.bus_terminal.specs.SinceReset.{is_code, done_code, wrapped, written, either_word, held_now}
+use Rattle.bus_terminal.specs.Starts.{is_for, is_free, is_fresh_broadcast, starts_message, heard_now}
+use Rattle.bus_terminal.specs.Ends.{at_gap, at_entry, unless_ignored}
+use Rattle.bus_terminal.specs.SinceReset.{is_code, done_code, resets, is_reset, off_now, wrapped, written, either_word, held_now}
 use Rattle.bus_terminal.specs.Status.{spares, adds_error}
 use Rattle.bus_terminal.specs.Past.{note, past}
 use Rattle.bus_terminal.specs.Machine.Standing.{Standing, Idle, Collects, Words, standing_of, word_leaves, entry_leaves, entry_fails, fails, gap_leaves, gap_ends, stands_free, starts_by}
-use Rattle.bus_terminal.specs.Machine.Registers.{registers_now, registers_after, flags_after, unless_reset, failed_by, started_if, settled}
+use Rattle.bus_terminal.specs.Machine.Registers.{registers_now, registers_after, flags_after, unless_reset, failed_by, started_if, settled, resets_at_gap, reset_to}
+use Rattle.bus_terminal.specs.Machine.Replies.{shown_reply, sent_one, resets_next, begun_if, dropped_if}
 use Rattle.bus_terminal.specs.Machine.Buses.{on_bus, with_bus}
 use Rattle.bus_terminal.specs.Machine.Message.{standing_on}
 use Rattle.bus_terminal.specs.Machine.Held.{word_in}
 use Rattle.bus_terminal.specs.Stands.{StandsAt, heard_on_buses}
-use Rattle.bus_terminal.specs.Machine.Terminal.{heard_after_word, ends_at_gap, TakesWord, TakesNoise, TakesGap, TakesWrite}
-use Rattle.bus_terminal.proofs.OpenLaw.{open_law, after_word, after_gap, after_entry, unheard}
+use Rattle.bus_terminal.specs.Machine.Terminal.{heard_after_word, ends_at_gap, begins_at_gap, TakesWord, TakesNoise, TakesGap, TakesSlot, TakesWrite}
+use Rattle.bus_terminal.proofs.OpenLaw.{word_law, noise_law, gap_law, slot_law, after_word, after_gap, after_entry, unheard}
 use Rattle.bus_terminal.proofs.CollectedLaw.{gap_ends_law, gap_leaves_law, entry_leaves_law, entry_ends_law, free_law, fresh_law}
 use Rattle.bus_terminal.proofs.BackLaw.{held_step}
-use Rattle.bus_terminal.proofs.RegistersLaw.{registers_law, noise_law as registers_noise_law, word_law as registers_word_law, gap_law as registers_gap_law}
+use Rattle.bus_terminal.proofs.RegistersLaw.{registers_law, noise_law as registers_noise_law, word_law as registers_word_law, gap_law as registers_gap_law, slot_law as registers_slot_law}
+use Rattle.bus_terminal.proofs.ReplyLaw.{reply_word_law, reply_noise_law, reply_gap_law, reply_slot_law}
 
 -- the buses whose run holds a word for the terminal
 heard_choice : (f x y : Bool) → (let t : OnBuses = record { a = f || x; b = y } in t) ≡ (if f then record { a = true; b = y } else record { a = x; b = y })
@@ -43,24 +49,72 @@ heard_choice_b : (f x y : Bool) → (let t : OnBuses = record { a = x; b = f || 
 heard_choice_b true x y = refl
 heard_choice_b false x y = refl
 
-heard_word_law : (P : Description) (h : List Noted) (b : Bus) (w : Raw) → heard_on_buses P (note P h (Word b w) ∷ h) ≡ heard_after_word P b w (heard_on_buses P h)
-heard_word_law P h A w = heard_choice (is_for P w) (heard_now P h A) (heard_now P h B)
-heard_word_law P h B w = heard_choice_b (is_for P w) (heard_now P h A) (heard_now P h B)
+-- A word that isn't ignored, by what it starts and ends.
+abbrev word_starts : Description → List Noted → Bus → Raw → Bool
+word_starts P h b w = starts_message P w (heard_now P h b) (is_free (open_now P h b)) (is_fresh_broadcast (open_now P h b))
 
-heard_noise_law : (P : Description) (h : List Noted) (b : Bus) → heard_on_buses P (note P h (Noise b) ∷ h) ≡ heard_on_buses P h
-heard_noise_law P h A = refl
-heard_noise_law P h B = refl
+abbrev word_noted : Description → List Noted → Bus → Raw → Noted
+word_noted P h b w = noted_as (Word b w) NoTurn (word_starts P h b w) (at_entry (Some w) (open_now P h b))
 
-heard_gap_law : (P : Description) (h : List Noted) (b : Bus) → heard_on_buses P (note P h (Gap b) ∷ h) ≡ with_bus b false (heard_on_buses P h)
-heard_gap_law P h A = refl
-heard_gap_law P h B = refl
+word_is : (P : Description) (h : List Noted) (b : Bus) (w : Raw) → replies_on h b ≡ false → note P h (Word b w) ≡ word_noted P h b w
+word_is P h b w e = ap (λ i. noted_as (Word b w) (turn_of_entry i) (not i && word_starts P h b w) (unless_ignored i (at_entry (Some w) (open_now P h b)))) e
+
+-- noise that isn't ignored
+abbrev noise_noted : Description → List Noted → Bus → Noted
+noise_noted P h b = noted_as (Noise b) NoTurn false (at_entry None (open_now P h b))
+
+noise_is : (P : Description) (h : List Noted) (b : Bus) → replies_on h b ≡ false → note P h (Noise b) ≡ noise_noted P h b
+noise_is P h b e = ap (λ i. noted_as (Noise b) (turn_of_entry i) false (unless_ignored i (at_entry None (open_now P h b)))) e
+
+off_law : (P : Description) (h : List Noted) (b : Bus) → off_now h b ≡ on_bus b (registers_now P h).off
+off_law P h A = refl
+off_law P h B = refl
+
+-- a gap that isn't ignored, by whether a reply begins and what it ends, from what is kept
+abbrev pub gap_as : Bus → Bool → Ending → Noted
+gap_as b begins x = noted_as (Gap b) (turn_of_gap false b begins (done_cell x)) false x
+
+abbrev gap_by : Description → List Noted → Bus → Ending
+gap_by P h b = gap_ends P (registers_now P h).flags.busy (standing_of P (open_now P h b))
+
+abbrev begins_by : Description → List Noted → Bus → Bool
+begins_by P h b = is_answered (on_bus b (registers_now P h).off) (gap_by P h b)
+
+gap_is : (P : Description) (h : List Noted) (b : Bus) → replies_on h b ≡ false → note P h (Gap b) ≡ gap_as b (begins_by P h b) (gap_by P h b)
+gap_is P h b e =
+    let x : Ending = at_gap P (flag_now h Busy) (open_now P h b) in
+    ap (λ i. noted_as (Gap b) (turn_of_gap i b (is_answered (off_now h b) (unless_ignored i x)) (done_cell (unless_ignored i x))) false (unless_ignored i x)) e
+    ∙ (λ j. gap_as b (is_answered (off_law P h b j) (gap_ends_law P (flag_now h Busy) (open_now P h b) j)) (gap_ends_law P (flag_now h Busy) (open_now P h b) j))
+
+heard_word_by : (P : Description) (h : List Noted) (b : Bus) (w : Raw) → heard_on_buses P (word_noted P h b w ∷ h) ≡ heard_after_word P b w (heard_on_buses P h)
+heard_word_by P h A w = heard_choice (is_for P w) (heard_now P h A) (heard_now P h B)
+heard_word_by P h B w = heard_choice_b (is_for P w) (heard_now P h A) (heard_now P h B)
+
+heard_word_law : (P : Description) (h : List Noted) (b : Bus) (w : Raw) → replies_on h b ≡ false → heard_on_buses P (note P h (Word b w) ∷ h) ≡ heard_after_word P b w (heard_on_buses P h)
+heard_word_law P h b w e = ap (λ n. heard_on_buses P (n ∷ h)) (word_is P h b w e) ∙ heard_word_by P h b w
+
+heard_noise_by : (P : Description) (h : List Noted) (b : Bus) → heard_on_buses P (noise_noted P h b ∷ h) ≡ heard_on_buses P h
+heard_noise_by P h A = refl
+heard_noise_by P h B = refl
+
+heard_noise_law : (P : Description) (h : List Noted) (b : Bus) → replies_on h b ≡ false → heard_on_buses P (note P h (Noise b) ∷ h) ≡ heard_on_buses P h
+heard_noise_law P h b e = ap (λ n. heard_on_buses P (n ∷ h)) (noise_is P h b e) ∙ heard_noise_by P h b
+
+heard_gap_by : (P : Description) (h : List Noted) (b : Bus) (begins : Bool) (x : Ending) → heard_on_buses P (gap_as b begins x ∷ h) ≡ with_bus b false (heard_on_buses P h)
+heard_gap_by P h A true x = refl
+heard_gap_by P h A false x = refl
+heard_gap_by P h B true x = refl
+heard_gap_by P h B false x = refl
+
+heard_gap_law : (P : Description) (h : List Noted) (b : Bus) → replies_on h b ≡ false → heard_on_buses P (note P h (Gap b) ∷ h) ≡ with_bus b false (heard_on_buses P h)
+heard_gap_law P h b e = ap (λ n. heard_on_buses P (n ∷ h)) (gap_is P h b e) ∙ heard_gap_by P h b (begins_by P h b) (gap_by P h b)
 
 on_heard : (P : Description) (h : List Noted) (b : Bus) → on_bus b (heard_on_buses P h) ≡ heard_now P h b
 on_heard P h A = refl
 on_heard P h B = refl
 
 -- whether a word starts a message, from what is kept
-starts_law : (P : Description) (h : List Noted) (b : Bus) (w : Raw) → starts_now P h (Word b w) ≡ starts_by P w (on_bus b (heard_on_buses P h)) (standing_of P (open_now P h b))
+starts_law : (P : Description) (h : List Noted) (b : Bus) (w : Raw) → word_starts P h b w ≡ starts_by P w (on_bus b (heard_on_buses P h)) (standing_of P (open_now P h b))
 starts_law P h b w =
     ap (λ k. starts_message P w k (is_free (open_now P h b)) (is_fresh_broadcast (open_now P h b))) (sym (on_heard P h b))
     ∙ (ap (λ f. starts_message P w (on_bus b (heard_on_buses P h)) f (is_fresh_broadcast (open_now P h b))) (free_law P (open_now P h b))
@@ -79,84 +133,115 @@ word_standing : (P : Description) (c b : Bus) (w : Raw) (s : Bool) (o : Open) �
 word_standing P c b w true o = started_standing P (same_bus c b) w.bits
 word_standing P c b w false o = choice_standing P (same_bus c b) (after_entry (unheard (Some w)) o) o _ (entry_leaves_law P (unheard (Some w)) o)
 
-standing_word_law : (P : Description) (h : List Noted) (c b : Bus) (w : Raw) →
+standing_word_law : (P : Description) (h : List Noted) (c b : Bus) (w : Raw) → replies_on h b ≡ false →
     standing_of P (open_now P (note P h (Word b w) ∷ h) c)
     ≡ word_leaves P.address (starts_by P w (on_bus b (heard_on_buses P h)) (standing_of P (open_now P h b))) (same_bus c b) w (standing_of P (open_now P h c))
-standing_word_law P h c b w =
-    ap (standing_of P) (open_law P h c (Word b w))
-    ∙ (word_standing P c b w (starts_now P h (Word b w)) (open_now P h c)
-    ∙ ap (λ s. word_leaves P.address s (same_bus c b) w (standing_of P (open_now P h c))) (starts_law P h b w))
+standing_word_law P h c b w e =
+    ap (λ n. standing_of P (open_now P (n ∷ h) c)) (word_is P h b w e)
+    ∙ (ap (standing_of P) (word_law P h c b w (word_starts P h b w) (at_entry (Some w) (open_now P h b)))
+    ∙ (word_standing P c b w (word_starts P h b w) (open_now P h c)
+    ∙ ap (λ s. word_leaves P.address s (same_bus c b) w (standing_of P (open_now P h c))) (starts_law P h b w)))
 
-standing_noise_law : (P : Description) (h : List Noted) (c b : Bus) →
+standing_noise_law : (P : Description) (h : List Noted) (c b : Bus) → replies_on h b ≡ false →
     standing_of P (open_now P (note P h (Noise b) ∷ h) c)
     ≡ (if same_bus c b then entry_leaves P.address None (standing_of P (open_now P h c)) else standing_of P (open_now P h c))
-standing_noise_law P h c b =
-    ap (standing_of P) (open_law P h c (Noise b))
-    ∙ choice_standing P (same_bus c b) (after_entry (unheard None) (open_now P h c)) (open_now P h c) _ (entry_leaves_law P (unheard None) (open_now P h c))
+standing_noise_law P h c b e =
+    ap (λ n. standing_of P (open_now P (n ∷ h) c)) (noise_is P h b e)
+    ∙ (ap (standing_of P) (noise_law P h c b (at_entry None (open_now P h b)))
+    ∙ choice_standing P (same_bus c b) (after_entry (unheard None) (open_now P h c)) (open_now P h c) _ (entry_leaves_law P (unheard None) (open_now P h c)))
 
-standing_gap_law : (P : Description) (h : List Noted) (c b : Bus) →
+standing_gap_law : (P : Description) (h : List Noted) (c b : Bus) → replies_on h b ≡ false →
     standing_of P (open_now P (note P h (Gap b) ∷ h) c)
     ≡ (if same_bus c b then gap_leaves (standing_of P (open_now P h c)) else standing_of P (open_now P h c))
-standing_gap_law P h c b =
-    ap (standing_of P) (open_law P h c (Gap b))
-    ∙ choice_standing P (same_bus c b) (after_gap P (open_now P h c)) (open_now P h c) _ (gap_leaves_law P (open_now P h c))
+standing_gap_law P h c b e =
+    ap (λ n. standing_of P (open_now P (n ∷ h) c)) (gap_is P h b e)
+    ∙ (ap (standing_of P) (gap_law P h c b (begins_by P h b) (done_cell (gap_by P h b)) (gap_by P h b))
+    ∙ choice_standing P (same_bus c b) (after_gap P (open_now P h c)) (open_now P h c) _ (gap_leaves_law P (open_now P h c)))
 
 -- the registers after a word, after noise and after a gap
-registers_word : (P : Description) (h : List Noted) (b : Bus) (w : Raw) →
+registers_word : (P : Description) (h : List Noted) (b : Bus) (w : Raw) → replies_on h b ≡ false →
     registers_now P (note P h (Word b w) ∷ h)
     ≡ started_if (starts_by P w (on_bus b (heard_on_buses P h)) (standing_of P (open_now P h b))) (spares P w.bits) w.bits (failed_by P (entry_fails (Some w) (standing_of P (open_now P h b))) (registers_now P h))
-registers_word P h b w =
-    registers_law P (note P h (Word b w)) h
-    ∙ (ap (λ x. registers_after P (Word b w) (starts_now P h (Word b w)) x (registers_now P h)) (entry_ends_law P (Some w) (open_now P h b))
-    ∙ (registers_word_law P (entry_fails (Some w) (standing_of P (open_now P h b))) b w (starts_now P h (Word b w)) (registers_now P h)
-    ∙ ap (λ s. started_if s (spares P w.bits) w.bits (failed_by P (entry_fails (Some w) (standing_of P (open_now P h b))) (registers_now P h))) (starts_law P h b w)))
+registers_word P h b w e =
+    ap (λ n. registers_now P (n ∷ h)) (word_is P h b w e)
+    ∙ (registers_law P (word_noted P h b w) h
+    ∙ (ap (λ x. registers_after P (Word b w) (resets NoTurn x) (word_starts P h b w) x (registers_now P h)) (entry_ends_law P (Some w) (open_now P h b))
+    ∙ (registers_word_law P (entry_fails (Some w) (standing_of P (open_now P h b))) b w (word_starts P h b w) (registers_now P h)
+    ∙ ap (λ s. started_if s (spares P w.bits) w.bits (failed_by P (entry_fails (Some w) (standing_of P (open_now P h b))) (registers_now P h))) (starts_law P h b w))))
 
-registers_noise : (P : Description) (h : List Noted) (b : Bus) →
+registers_noise : (P : Description) (h : List Noted) (b : Bus) → replies_on h b ≡ false →
     registers_now P (note P h (Noise b) ∷ h) ≡ failed_by P (entry_fails None (standing_of P (open_now P h b))) (registers_now P h)
-registers_noise P h b =
-    registers_law P (note P h (Noise b)) h
-    ∙ (ap (λ x. registers_after P (Noise b) false x (registers_now P h)) (entry_ends_law P None (open_now P h b))
-    ∙ registers_noise_law P (entry_fails None (standing_of P (open_now P h b))) b (registers_now P h))
+registers_noise P h b e =
+    ap (λ n. registers_now P (n ∷ h)) (noise_is P h b e)
+    ∙ (registers_law P (noise_noted P h b) h
+    ∙ (ap (λ x. registers_after P (Noise b) (resets NoTurn x) false x (registers_now P h)) (entry_ends_law P None (open_now P h b))
+    ∙ registers_noise_law P (entry_fails None (standing_of P (open_now P h b))) b (registers_now P h)))
 
--- how a gap ends the message in progress, from what is kept
-pub ends_gap_law : (P : Description) (h : List Noted) (b : Bus) → ends_now P h (Gap b) ≡ gap_ends P (registers_now P h).flags.busy (standing_of P (open_now P h b))
-ends_gap_law P h b = gap_ends_law P (registers_now P h).flags.busy (open_now P h b)
+and_not : (k a : Bool) → (if a then false else k) ≡ k && not a
+and_not true true = refl
+and_not true false = refl
+and_not false true = refl
+and_not false false = refl
 
-abbrev settled_for : Description → Bus → Ending → Registers → Registers
-settled_for P b x r = settled P.accept (adds_error P x) P.vector P.bit b x r
+-- a gap is a reset where no reply begins
+pub gap_resets : (b : Bus) (begins : Bool) (x : Ending) → is_reset (gap_as b begins x) ≡ resets_at_gap begins x
+gap_resets b true x = and_not (is_code 8 (done_code x)) true
+gap_resets b false x = and_not (is_code 8 (done_code x)) false
 
-registers_gap : (P : Description) (h : List Noted) (b : Bus) →
-    registers_now P (note P h (Gap b) ∷ h) ≡ settled_for P b (gap_ends P (registers_now P h).flags.busy (standing_of P (open_now P h b))) (registers_now P h)
-registers_gap P h b =
-    registers_law P (note P h (Gap b)) h
-    ∙ (registers_gap_law P (ends_now P h (Gap b)) b (registers_now P h)
-    ∙ ap (λ x. settled_for P b x (registers_now P h)) (ends_gap_law P h b))
+abbrev settled_for : Description → Bus → Bool → Ending → Registers → Registers
+settled_for P b begins x r = settled P.accept (adds_error P x) P.vector P.bit b begins x r
+
+registers_gap : (P : Description) (h : List Noted) (b : Bus) → replies_on h b ≡ false →
+    registers_now P (note P h (Gap b) ∷ h) ≡ settled_for P b (begins_by P h b) (gap_by P h b) (registers_now P h)
+registers_gap P h b e =
+    ap (λ n. registers_now P (n ∷ h)) (gap_is P h b e)
+    ∙ (registers_law P (gap_as b (begins_by P h b) (gap_by P h b)) h
+    ∙ (ap (λ k. registers_after P (Gap b) k false (gap_by P h b) (registers_now P h)) (gap_resets b (begins_by P h b) (gap_by P h b))
+    ∙ registers_gap_law P (gap_by P h b) b (begins_by P h b) (registers_now P h)))
+
+-- the reply after a word, after noise and after a gap
+reply_word : (P : Description) (h : List Noted) (b : Bus) (w : Raw) → replies_on h b ≡ false →
+    reply_now (note P h (Word b w) ∷ h) ≡ dropped_if (starts_by P w (on_bus b (heard_on_buses P h)) (standing_of P (open_now P h b))) (reply_now h)
+reply_word P h b w e =
+    ap (λ n. reply_now (n ∷ h)) (word_is P h b w e)
+    ∙ (reply_word_law h b w (word_starts P h b w) (at_entry (Some w) (open_now P h b)) e
+    ∙ ap (λ s. dropped_if s (reply_now h)) (starts_law P h b w))
+
+reply_noise : (P : Description) (h : List Noted) (b : Bus) → replies_on h b ≡ false → reply_now (note P h (Noise b) ∷ h) ≡ reply_now h
+reply_noise P h b e = ap (λ n. reply_now (n ∷ h)) (noise_is P h b e) ∙ reply_noise_law h b (at_entry None (open_now P h b))
+
+reply_gap : (P : Description) (h : List Noted) (b : Bus) → replies_on h b ≡ false →
+    reply_now (note P h (Gap b) ∷ h) ≡ begun_if (begins_by P h b) b (done_cell (gap_by P h b)) (reply_now h)
+reply_gap P h b e = ap (λ n. reply_now (n ∷ h)) (gap_is P h b e) ∙ reply_gap_law h b (begins_by P h b) (done_cell (gap_by P h b)) (gap_by P h b)
 
 -- the words held ready
-abbrev held_by : Description → ℕ → ℕ → Event → Ending → ℕ → ℕ
-held_by P s i e x old = unless_reset (is_code 8 (done_code x)) (P.initial s i) (either_word (written s i e) (wrapped P.wrap s i x)) old
+abbrev held_by : Description → ℕ → ℕ → Event → Bool → Ending → ℕ → ℕ
+held_by P s i e reset x old = unless_reset reset (P.initial s i) (either_word (written s i e) (wrapped P.wrap s i x)) old
 
-held_failed : (P : Description) (s i : ℕ) (e : Event) (f : Option ℕ) (old : ℕ) → written s i e ≡ None → held_by P s i e (fails f) old ≡ old
+held_failed : (P : Description) (s i : ℕ) (e : Event) (f : Option ℕ) (old : ℕ) → written s i e ≡ None → held_by P s i e (resets NoTurn (fails f)) (fails f) old ≡ old
 held_failed P s i e None old n = ap (λ o. or_else (either_word o None) old) n
 held_failed P s i e (Some c) old n = ap (λ o. or_else (either_word o None) old) n
 
-held_word_law : (P : Description) (h : List Noted) (b : Bus) (w : Raw) (s i : ℕ) → held_now P (note P h (Word b w) ∷ h) s i ≡ held_now P h s i
-held_word_law P h b w s i =
-    held_step P s i (note P h (Word b w)) h
-    ∙ (ap (λ x. held_by P s i (Word b w) x (held_now P h s i)) (entry_ends_law P (Some w) (open_now P h b))
-    ∙ held_failed P s i (Word b w) (entry_fails (Some w) (standing_of P (open_now P h b))) (held_now P h s i) refl)
+held_word_law : (P : Description) (h : List Noted) (b : Bus) (w : Raw) (s i : ℕ) → replies_on h b ≡ false → held_now P (note P h (Word b w) ∷ h) s i ≡ held_now P h s i
+held_word_law P h b w s i e =
+    ap (λ n. held_now P (n ∷ h) s i) (word_is P h b w e)
+    ∙ (held_step P s i (word_noted P h b w) h
+    ∙ (ap (λ x. held_by P s i (Word b w) (resets NoTurn x) x (held_now P h s i)) (entry_ends_law P (Some w) (open_now P h b))
+    ∙ held_failed P s i (Word b w) (entry_fails (Some w) (standing_of P (open_now P h b))) (held_now P h s i) refl))
 
-held_noise_law : (P : Description) (h : List Noted) (b : Bus) (s i : ℕ) → held_now P (note P h (Noise b) ∷ h) s i ≡ held_now P h s i
-held_noise_law P h b s i =
-    held_step P s i (note P h (Noise b)) h
-    ∙ (ap (λ x. held_by P s i (Noise b) x (held_now P h s i)) (entry_ends_law P None (open_now P h b))
-    ∙ held_failed P s i (Noise b) (entry_fails None (standing_of P (open_now P h b))) (held_now P h s i) refl)
+held_noise_law : (P : Description) (h : List Noted) (b : Bus) (s i : ℕ) → replies_on h b ≡ false → held_now P (note P h (Noise b) ∷ h) s i ≡ held_now P h s i
+held_noise_law P h b s i e =
+    ap (λ n. held_now P (n ∷ h) s i) (noise_is P h b e)
+    ∙ (held_step P s i (noise_noted P h b) h
+    ∙ (ap (λ x. held_by P s i (Noise b) (resets NoTurn x) x (held_now P h s i)) (entry_ends_law P None (open_now P h b))
+    ∙ held_failed P s i (Noise b) (entry_fails None (standing_of P (open_now P h b))) (held_now P h s i) refl))
 
-held_gap_law : (P : Description) (h : List Noted) (b : Bus) (s i : ℕ) →
-    held_now P (note P h (Gap b) ∷ h) s i ≡ held_by P s i (Gap b) (gap_ends P (registers_now P h).flags.busy (standing_of P (open_now P h b))) (held_now P h s i)
-held_gap_law P h b s i =
-    held_step P s i (note P h (Gap b)) h
-    ∙ ap (λ x. held_by P s i (Gap b) x (held_now P h s i)) (ends_gap_law P h b)
+held_gap_law : (P : Description) (h : List Noted) (b : Bus) (s i : ℕ) → replies_on h b ≡ false →
+    held_now P (note P h (Gap b) ∷ h) s i ≡ held_by P s i (Gap b) (resets_at_gap (begins_by P h b) (gap_by P h b)) (gap_by P h b) (held_now P h s i)
+held_gap_law P h b s i e =
+    ap (λ n. held_now P (n ∷ h) s i) (gap_is P h b e)
+    ∙ (held_step P s i (gap_as b (begins_by P h b) (gap_by P h b)) h
+    ∙ ap (λ k. held_by P s i (Gap b) k (gap_by P h b) (held_now P h s i)) (gap_resets b (begins_by P h b) (gap_by P h b)))
 
 choice_or : (b : Bool) (v old : ℕ) → or_else (either_word (if b then Some v else None) None) old ≡ (if b then v else old)
 choice_or true v old = refl
@@ -175,60 +260,126 @@ same₃ f {x} {x'} {y} {y'} {z} {z'} p q r = λ j. f (p j) (q j) (r j)
 same₄ : {X Y Z W R : Type 0} (f : X → Y → Z → W → R) {x x' : X} {y y' : Y} {z z' : Z} {w w' : W} → x ≡ x' → y ≡ y' → z ≡ z' → w ≡ w' → f x y z w ≡ f x' y' z' w'
 same₄ f {x} {x'} {y} {y'} {z} {z'} {w} {w'} p q r s = λ j. f (p j) (q j) (r j) (s j)
 
-pub word_stands : {L : Type 0} (is_legal : L → Cell → Bool) (P : Description) (h : List Event) (b : Bus) (w : Raw) (t u : Terminal L) →
+-- a terminal that doesn't ignore an event doesn't reply on its bus
+hears : {L : Type 0} (is_legal : L → Cell → Bool) (P : Description) (h : List Event) (e : Event) (t : Terminal L) → StandsAt is_legal P h t →
+    ignores (shown_reply t.reply) e ≡ false → ignores (reply_now (past P h)) e ≡ false
+hears is_legal P h e t s i = ap (λ r. ignores r e) (sym s.reply) ∙ i
+
+pub word_stands : {L : Type 0} (is_legal : L → Cell → Bool) (P : Description) (h : List Event) (b : Bus) (w : Raw) (t u : Terminal L) → ignores (shown_reply t.reply) (Word b w) ≡ false →
     StandsAt is_legal P h t → TakesWord is_legal b w t u → StandsAt is_legal P (Word b w ∷ h) u
-word_stands is_legal P h b w t u s k = record {
-  description = k.setup.description ∙ s.description;
-  heard = k.heard ∙ ((λ j. heard_after_word (s.description j) b w (s.heard j)) ∙ sym (heard_word_law P (past P h) b w));
-  standing = λ c.
-      k.standing c
-      ∙ (same₄ (λ D k l m. word_leaves D.address (starts_by D w (on_bus b k) l) (same_bus c b) w m) s.description s.heard (s.standing b) (s.standing c)
-      ∙ sym (standing_word_law P (past P h) c b w));
-  registers =
-      k.registers
-      ∙ (same₄ (λ D k l r. started_if (starts_by D w (on_bus b k) l) (spares D w.bits) w.bits (failed_by D (entry_fails (Some w) l) r)) s.description s.heard (s.standing b) s.registers
-      ∙ sym (registers_word P (past P h) b w));
-  held = λ m i low high first last.
-      (λ j. word_in (k.setup.initial j) (k.held j) m i)
-      ∙ (s.held m i low high first last ∙ sym (held_word_law P (past P h) b w m i));
-}
+word_stands is_legal P h b w t u i s k =
+    let e : replies_on (past P h) b ≡ false = hears is_legal P h (Word b w) t s i in
+    record {
+      description = k.setup.description ∙ s.description;
+      heard = k.heard ∙ ((λ j. heard_after_word (s.description j) b w (s.heard j)) ∙ sym (heard_word_law P (past P h) b w e));
+      standing = λ c.
+          k.standing c
+          ∙ (same₄ (λ D k l m. word_leaves D.address (starts_by D w (on_bus b k) l) (same_bus c b) w m) s.description s.heard (s.standing b) (s.standing c)
+          ∙ sym (standing_word_law P (past P h) c b w e));
+      registers =
+          k.registers
+          ∙ (same₄ (λ D k l r. started_if (starts_by D w (on_bus b k) l) (spares D w.bits) w.bits (failed_by D (entry_fails (Some w) l) r)) s.description s.heard (s.standing b) s.registers
+          ∙ sym (registers_word P (past P h) b w e));
+      reply =
+          k.reply
+          ∙ (same₄ (λ D k l r. dropped_if (starts_by D w (on_bus b k) l) r) s.description s.heard (s.standing b) s.reply
+          ∙ sym (reply_word P (past P h) b w e));
+      held = λ m i low high first last.
+          (λ j. word_in (k.setup.initial j) (k.held j) m i)
+          ∙ (s.held m i low high first last ∙ sym (held_word_law P (past P h) b w m i e));
+    }
 
-pub noise_stands : {L : Type 0} (is_legal : L → Cell → Bool) (P : Description) (h : List Event) (b : Bus) (t u : Terminal L) →
+pub noise_stands : {L : Type 0} (is_legal : L → Cell → Bool) (P : Description) (h : List Event) (b : Bus) (t u : Terminal L) → ignores (shown_reply t.reply) (Noise b) ≡ false →
     StandsAt is_legal P h t → TakesNoise is_legal b t u → StandsAt is_legal P (Noise b ∷ h) u
-noise_stands is_legal P h b t u s k = record {
-  description = k.setup.description ∙ s.description;
-  heard = k.heard ∙ (s.heard ∙ sym (heard_noise_law P (past P h) b));
-  standing = λ c.
-      k.standing c
-      ∙ ((λ j. if same_bus c b then entry_leaves (s.description j).address None (s.standing c j) else s.standing c j)
-      ∙ sym (standing_noise_law P (past P h) c b));
-  registers =
-      k.registers
-      ∙ ((λ j. failed_by (s.description j) (entry_fails None (s.standing b j)) (s.registers j))
-      ∙ sym (registers_noise P (past P h) b));
-  held = λ m i low high first last.
-      (λ j. word_in (k.setup.initial j) (k.held j) m i)
-      ∙ (s.held m i low high first last ∙ sym (held_noise_law P (past P h) b m i));
-}
+noise_stands is_legal P h b t u i s k =
+    let e : replies_on (past P h) b ≡ false = hears is_legal P h (Noise b) t s i in
+    record {
+      description = k.setup.description ∙ s.description;
+      heard = k.heard ∙ (s.heard ∙ sym (heard_noise_law P (past P h) b e));
+      standing = λ c.
+          k.standing c
+          ∙ ((λ j. if same_bus c b then entry_leaves (s.description j).address None (s.standing c j) else s.standing c j)
+          ∙ sym (standing_noise_law P (past P h) c b e));
+      registers =
+          k.registers
+          ∙ ((λ j. failed_by (s.description j) (entry_fails None (s.standing b j)) (s.registers j))
+          ∙ sym (registers_noise P (past P h) b e));
+      reply = ap shown_reply k.reply ∙ (s.reply ∙ sym (reply_noise P (past P h) b e));
+      held = λ m i low high first last.
+          (λ j. word_in (k.setup.initial j) (k.held j) m i)
+          ∙ (s.held m i low high first last ∙ sym (held_noise_law P (past P h) b m i e));
+    }
 
-pub gap_stands : {L : Type 0} (is_legal : L → Cell → Bool) (P : Description) (h : List Event) (b : Bus) (t u : Terminal L) →
-    StandsAt is_legal P h t → TakesGap is_legal b (ends_at_gap is_legal t b) t u → StandsAt is_legal P (Gap b ∷ h) u
-gap_stands is_legal P h b t u s k = record {
+pub gap_stands : {L : Type 0} (is_legal : L → Cell → Bool) (P : Description) (h : List Event) (b : Bus) (t u : Terminal L) → ignores (shown_reply t.reply) (Gap b) ≡ false →
+    StandsAt is_legal P h t → TakesGap is_legal b (begins_at_gap is_legal t b) (ends_at_gap is_legal t b) t u → StandsAt is_legal P (Gap b ∷ h) u
+gap_stands is_legal P h b t u i s k =
+    let e : replies_on (past P h) b ≡ false = hears is_legal P h (Gap b) t s i in
+    let ends : ends_at_gap is_legal t b ≡ gap_by P (past P h) b = (λ j. gap_ends (s.description j) (s.registers j).flags.busy (s.standing b j)) in
+    let begins : begins_at_gap is_legal t b ≡ begins_by P (past P h) b = (λ j. is_answered (on_bus b (s.registers j).off) (ends j)) in
+    record {
+      description = k.setup.description ∙ s.description;
+      heard = k.heard ∙ (ap (with_bus b false) s.heard ∙ sym (heard_gap_law P (past P h) b e));
+      standing = λ c.
+          k.standing c
+          ∙ ((λ j. if same_bus c b then gap_leaves (s.standing c j) else s.standing c j)
+          ∙ sym (standing_gap_law P (past P h) c b e));
+      registers =
+          k.registers
+          ∙ ((λ j. settled_for (s.description j) b (begins j) (ends j) (s.registers j))
+          ∙ sym (registers_gap P (past P h) b e));
+      reply =
+          k.reply
+          ∙ ((λ j. begun_if (begins j) b (done_cell (ends j)) (s.reply j))
+          ∙ sym (reply_gap P (past P h) b e));
+      held = λ m i low high first last.
+          k.held m i low high first last
+          ∙ ((λ j. held_by (s.description j) m i (Gap b) (resets_at_gap (begins j) (ends j)) (ends j) (s.held m i low high first last j))
+          ∙ sym (held_gap_law P (past P h) b m i e));
+    }
+
+-- a slot
+heard_slot : (P : Description) (h : List Noted) (r : Option Replying) → heard_on_buses P (noted_as Slot (turn_of_slot r) false Nothing ∷ h) ≡ heard_on_buses P h
+heard_slot P h None = refl
+heard_slot P h (Some r) = refl
+
+pub slot_resets : (r : Option Replying) → is_reset (noted_as Slot (turn_of_slot r) false Nothing) ≡ resets_next r
+slot_resets None = refl
+slot_resets (Some r) = refl
+
+registers_slot : (P : Description) (h : List Noted) → registers_now P (note P h Slot ∷ h) ≡ reset_to P.vector P.bit (resets_next (reply_now h)) (registers_now P h)
+registers_slot P h =
+    registers_law P (note P h Slot) h
+    ∙ (registers_slot_law P (is_reset (note P h Slot)) (registers_now P h)
+    ∙ ap (λ k. reset_to P.vector P.bit k (registers_now P h)) (slot_resets (reply_now h)))
+
+held_slot_law : (P : Description) (h : List Noted) (s i : ℕ) → held_now P (note P h Slot ∷ h) s i ≡ (if resets_next (reply_now h) then P.initial s i else held_now P h s i)
+held_slot_law P h s i = held_step P s i (note P h Slot) h ∙ ap (λ k. if k then P.initial s i else held_now P h s i) (slot_resets (reply_now h))
+
+pub slot_stands : {L : Type 0} (is_legal : L → Cell → Bool) (P : Description) (h : List Event) (t u : Terminal L) → StandsAt is_legal P h t → TakesSlot is_legal t u → StandsAt is_legal P (Slot ∷ h) u
+slot_stands is_legal P h t u s k = record {
   description = k.setup.description ∙ s.description;
-  heard = k.heard ∙ (ap (with_bus b false) s.heard ∙ sym (heard_gap_law P (past P h) b));
-  standing = λ c.
-      k.standing c
-      ∙ ((λ j. if same_bus c b then gap_leaves (s.standing c j) else s.standing c j)
-      ∙ sym (standing_gap_law P (past P h) c b));
-  registers =
-      k.registers
-      ∙ ((λ j. settled_for (s.description j) b (gap_ends (s.description j) (s.registers j).flags.busy (s.standing b j)) (s.registers j))
-      ∙ sym (registers_gap P (past P h) b));
+  heard = k.heard ∙ (s.heard ∙ sym (heard_slot P (past P h) (reply_now (past P h))));
+  standing = λ c. ap (standing_on c) k.in_progress ∙ (s.standing c ∙ ap (standing_of P) (sym (slot_law P (past P h) c (reply_now (past P h)) Nothing)));
+  registers = k.registers ∙ ((λ j. reset_to (s.description j).vector (s.description j).bit (resets_next (s.reply j)) (s.registers j)) ∙ sym (registers_slot P (past P h)));
+  reply = k.reply ∙ (ap sent_one s.reply ∙ sym (reply_slot_law (past P h) (reply_now (past P h)) Nothing));
   held = λ m i low high first last.
       k.held m i low high first last
-      ∙ ((λ j. held_by (s.description j) m i (Gap b) (gap_ends (s.description j) (s.registers j).flags.busy (s.standing b j)) (s.held m i low high first last j))
-      ∙ sym (held_gap_law P (past P h) b m i));
+      ∙ ((λ j. if resets_next (s.reply j) then (s.description j).initial m i else s.held m i low high first last j)
+      ∙ sym (held_slot_law P (past P h) m i));
 }
+
+-- what comes from the subsystem has nothing to do with replies
+still_write : (h : List Noted) (place : Place) (v : ℕ) → reply_now (noted_as (Write place v) NoTurn false Nothing ∷ h) ≡ reply_now h
+still_write h place v = elim (latest (λ p. begun p.turn) h) as (λ o. reply_of (noted_as (Write place v) NoTurn false Nothing ∷ since begins_reply h) o ≡ reply_of (since begins_reply h) o) [ None ↦ refl | Some r ↦ refl ]
+
+still_vector : (h : List Noted) (v : ℕ) → reply_now (noted_as (Vector v) NoTurn false Nothing ∷ h) ≡ reply_now h
+still_vector h v = elim (latest (λ p. begun p.turn) h) as (λ o. reply_of (noted_as (Vector v) NoTurn false Nothing ∷ since begins_reply h) o ≡ reply_of (since begins_reply h) o) [ None ↦ refl | Some r ↦ refl ]
+
+still_bit : (h : List Noted) (v : ℕ) → reply_now (noted_as (Bit v) NoTurn false Nothing ∷ h) ≡ reply_now h
+still_bit h v = elim (latest (λ p. begun p.turn) h) as (λ o. reply_of (noted_as (Bit v) NoTurn false Nothing ∷ since begins_reply h) o ≡ reply_of (since begins_reply h) o) [ None ↦ refl | Some r ↦ refl ]
+
+still_flag : (h : List Noted) (f : Flag) (v : Bool) → reply_now (noted_as (FlagIs f v) NoTurn false Nothing ∷ h) ≡ reply_now h
+still_flag h f v = elim (latest (λ p. begun p.turn) h) as (λ o. reply_of (noted_as (FlagIs f v) NoTurn false Nothing ∷ since begins_reply h) o ≡ reply_of (since begins_reply h) o) [ None ↦ refl | Some r ↦ refl ]
 
 pub write_stands : {L : Type 0} (is_legal : L → Cell → Bool) (P : Description) (h : List Event) (place : Place) (v : ℕ) (t u : Terminal L) →
     StandsAt is_legal P h t → TakesWrite is_legal place v t u → StandsAt is_legal P (Write place v ∷ h) u
@@ -237,6 +388,7 @@ write_stands is_legal P h place v t u s k = record {
   heard = k.heard ∙ s.heard;
   standing = λ c. ap (standing_on c) k.in_progress ∙ s.standing c;
   registers = k.registers ∙ (s.registers ∙ sym (registers_law P (note P (past P h) (Write place v)) (past P h)));
+  reply = ap shown_reply k.reply ∙ (s.reply ∙ sym (still_write (past P h) place v));
   held = λ m i low high first last.
       k.held m i low high first last
       ∙ ((λ j. if (place.subaddress == m) && (place.number == i) then v else s.held m i low high first last j)
@@ -248,33 +400,97 @@ setting_stands : {L : Type 0} (is_legal : L → Cell → Bool) (P : Description)
     ((b : Bus) → open_now P (note P (past P h) e ∷ past P h) b ≡ open_now P (past P h) b) →
     heard_on_buses P (note P (past P h) e ∷ past P h) ≡ heard_on_buses P (past P h) →
     ((s i : ℕ) → held_now P (note P (past P h) e ∷ past P h) s i ≡ held_now P (past P h) s i) →
+    reply_now (note P (past P h) e ∷ past P h) ≡ reply_now (past P h) →
     registers_now P (note P (past P h) e ∷ past P h) ≡ r →
     StandsAt is_legal P h t → StandsAt is_legal P (e ∷ h) (record t { registers = r })
-setting_stands is_legal P h e t r stays heard held registers s = record {
+setting_stands is_legal P h e t r stays heard held reply registers s = record {
   description = s.description;
   heard = s.heard ∙ sym heard;
   standing = λ c. s.standing c ∙ ap (standing_of P) (sym (stays c));
   registers = sym registers;
+  reply = s.reply ∙ sym reply;
   held = λ m i low high first last. s.held m i low high first last ∙ sym (held m i);
 }
 
 pub vector_stands : {L : Type 0} (is_legal : L → Cell → Bool) (P : Description) (h : List Event) (v : ℕ) (t : Terminal L) →
     StandsAt is_legal P h t → StandsAt is_legal P (Vector v ∷ h) (record t { registers = record t.registers { vector = v } })
 vector_stands is_legal P h v t s =
-    setting_stands is_legal P h (Vector v) t (record t.registers { vector = v }) (λ b. refl) refl (λ m i. refl)
+    setting_stands is_legal P h (Vector v) t (record t.registers { vector = v }) (λ b. refl) refl (λ m i. refl) (still_vector (past P h) v)
     (registers_law P (note P (past P h) (Vector v)) (past P h) ∙ ap (λ (r : Registers). record r { vector = v }) (sym s.registers)) s
 
 pub bit_stands : {L : Type 0} (is_legal : L → Cell → Bool) (P : Description) (h : List Event) (v : ℕ) (t : Terminal L) →
     StandsAt is_legal P h t → StandsAt is_legal P (Bit v ∷ h) (record t { registers = record t.registers { bit = v } })
 bit_stands is_legal P h v t s =
-    setting_stands is_legal P h (Bit v) t (record t.registers { bit = v }) (λ b. refl) refl (λ m i. refl)
+    setting_stands is_legal P h (Bit v) t (record t.registers { bit = v }) (λ b. refl) refl (λ m i. refl) (still_bit (past P h) v)
     (registers_law P (note P (past P h) (Bit v)) (past P h) ∙ ap (λ (r : Registers). record r { bit = v }) (sym s.registers)) s
 
 pub flag_stands : {L : Type 0} (is_legal : L → Cell → Bool) (P : Description) (h : List Event) (f : Flag) (v : Bool) (t : Terminal L) (k : Flags) →
     k ≡ flags_after (FlagIs f v) t.registers.flags →
     StandsAt is_legal P h t → StandsAt is_legal P (FlagIs f v ∷ h) (record t { registers = record t.registers { flags = k } })
 flag_stands is_legal P h f v t k e s =
-    setting_stands is_legal P h (FlagIs f v) t (record t.registers { flags = k }) (λ b. refl) refl (λ m i. refl)
+    setting_stands is_legal P h (FlagIs f v) t (record t.registers { flags = k }) (λ b. refl) refl (λ m i. refl) (still_flag (past P h) f v)
     (registers_law P (note P (past P h) (FlagIs f v)) (past P h)
     ∙ (ap (λ (r : Registers). record r { flags = flags_after (FlagIs f v) r.flags }) (sym s.registers)
     ∙ ap (λ (k : Flags). record t.registers { flags = k }) (sym e))) s
+
+-- What is ignored changes nothing.
+registers_ignored_gap : (P : Description) (b : Bus) (h : List Noted) → registers_now P (noted_as (Gap b) Ignored false Nothing ∷ h) ≡ registers_now P h
+registers_ignored_gap P A h = registers_law P (noted_as (Gap A) Ignored false Nothing) h
+registers_ignored_gap P B h = registers_law P (noted_as (Gap B) Ignored false Nothing) h
+
+ignored_word : (h : List Noted) (b : Bus) (w : Raw) → reply_now (noted_as (Word b w) Ignored false Nothing ∷ h) ≡ reply_now h
+ignored_word h b w = elim (latest (λ p. begun p.turn) h) as (λ o. reply_of (noted_as (Word b w) Ignored false Nothing ∷ since begins_reply h) o ≡ reply_of (since begins_reply h) o) [ None ↦ refl | Some r ↦ refl ]
+
+ignored_noise : (h : List Noted) (b : Bus) → reply_now (noted_as (Noise b) Ignored false Nothing ∷ h) ≡ reply_now h
+ignored_noise h b = elim (latest (λ p. begun p.turn) h) as (λ o. reply_of (noted_as (Noise b) Ignored false Nothing ∷ since begins_reply h) o ≡ reply_of (since begins_reply h) o) [ None ↦ refl | Some r ↦ refl ]
+
+ignored_gap : (h : List Noted) (b : Bus) → reply_now (noted_as (Gap b) Ignored false Nothing ∷ h) ≡ reply_now h
+ignored_gap h b = elim (latest (λ p. begun p.turn) h) as (λ o. reply_of (noted_as (Gap b) Ignored false Nothing ∷ since begins_reply h) o ≡ reply_of (since begins_reply h) o) [ None ↦ refl | Some r ↦ refl ]
+
+ignored_is : (P : Description) (h : List Noted) (e : Event) → ignores (reply_now h) e ≡ true → note P h e ≡ noted_as e Ignored false Nothing
+ignored_is P h (Word b w) e = ap (λ i. noted_as (Word b w) (turn_of_entry i) (not i && word_starts P h b w) (unless_ignored i (at_entry (Some w) (open_now P h b)))) e
+ignored_is P h (Noise b) e = ap (λ i. noted_as (Noise b) (turn_of_entry i) false (unless_ignored i (at_entry None (open_now P h b)))) e
+ignored_is P h (Gap b) e =
+    let x : Ending = at_gap P (flag_now h Busy) (open_now P h b) in
+    ap (λ i. noted_as (Gap b) (turn_of_gap i b (is_answered (off_now h b) (unless_ignored i x)) (done_cell (unless_ignored i x))) false (unless_ignored i x)) e
+ignored_is P h (Write q v) e = cc
+ignored_is P h (Vector v) e = cc
+ignored_is P h (Bit v) e = cc
+ignored_is P h (FlagIs f v) e = cc
+ignored_is P h Slot e = cc
+
+-- a note that changes nothing
+unchanged : {L : Type 0} (is_legal : L → Cell → Bool) (P : Description) (h : List Event) (e : Event) (n : Noted) (t : Terminal L) → note P (past P h) e ≡ n →
+    ((b : Bus) → open_now P (n ∷ past P h) b ≡ open_now P (past P h) b) →
+    heard_on_buses P (n ∷ past P h) ≡ heard_on_buses P (past P h) →
+    ((s i : ℕ) → held_now P (n ∷ past P h) s i ≡ held_now P (past P h) s i) →
+    reply_now (n ∷ past P h) ≡ reply_now (past P h) →
+    registers_now P (n ∷ past P h) ≡ registers_now P (past P h) →
+    StandsAt is_legal P h t → StandsAt is_legal P (e ∷ h) t
+unchanged is_legal P h e n t q stays heard held reply registers s =
+    setting_stands is_legal P h e t t.registers
+    (λ b. ap (λ n. open_now P (n ∷ past P h) b) q ∙ stays b)
+    (ap (λ n. heard_on_buses P (n ∷ past P h)) q ∙ heard)
+    (λ m i. ap (λ n. held_now P (n ∷ past P h) m i) q ∙ held m i)
+    (ap (λ n. reply_now (n ∷ past P h)) q ∙ reply)
+    (ap (λ n. registers_now P (n ∷ past P h)) q ∙ (registers ∙ sym s.registers)) s
+
+pub ignored_stands : {L : Type 0} (is_legal : L → Cell → Bool) (P : Description) (h : List Event) (e : Event) (t : Terminal L) → ignores (shown_reply t.reply) e ≡ true →
+    StandsAt is_legal P h t → StandsAt is_legal P (e ∷ h) t
+ignored_stands is_legal P h e t i s = by_event e (ap (λ r. ignores r e) (sym s.reply) ∙ i)
+  where
+    by_event : (e : Event) → ignores (reply_now (past P h)) e ≡ true → StandsAt is_legal P (e ∷ h) t
+    by_event (Word b w) i =
+        let n : Noted = noted_as (Word b w) Ignored false Nothing in
+        unchanged is_legal P h (Word b w) n t (ignored_is P (past P h) (Word b w) i) (λ c. refl) refl (λ m i. refl) (ignored_word (past P h) b w) (registers_law P n (past P h)) s
+    by_event (Noise b) i =
+        let n : Noted = noted_as (Noise b) Ignored false Nothing in
+        unchanged is_legal P h (Noise b) n t (ignored_is P (past P h) (Noise b) i) (λ c. refl) refl (λ m i. refl) (ignored_noise (past P h) b) (registers_law P n (past P h)) s
+    by_event (Gap b) i =
+        let n : Noted = noted_as (Gap b) Ignored false Nothing in
+        unchanged is_legal P h (Gap b) n t (ignored_is P (past P h) (Gap b) i) (λ c. refl) refl (λ m i. refl) (ignored_gap (past P h) b) (registers_ignored_gap P b (past P h)) s
+    by_event (Write q v) i = cc
+    by_event (Vector v) i = cc
+    by_event (Bit v) i = cc
+    by_event (FlagIs f v) i = cc
+    by_event Slot i = cc

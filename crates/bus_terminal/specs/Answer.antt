@@ -1,39 +1,50 @@
 -- An answer as a value without references.
-use Rattle.std.specs.Prelude.{◌≡◌, ℕ, ◌≤◌, ◌⊎◌, Option, Some, None, List, [], ◌∷◌, length}
+use Rattle.std.specs.Prelude.{ℕ, ◌≤◌, Option, Some, None, List, [], ◌∷◌, length}
 use Rattle.bus_terminal.specs.declared.answer.Sent.{Sent}
 use Rattle.bus_terminal.specs.declared.answer.Hand.{Hand}
 use Rattle.bus_terminal.specs.declared.answer.Hand.TheVariants.{Received, Synchronize, SynchronizeWith, SelfTest, BusControl}
 use Rattle.bus_terminal.specs.declared.answer.Answer.{Answer}
-use Rattle.bus_terminal.specs.Out.{Sending, Handing, HandsReceived, HandsSynchronize, HandsSynchronizeWith, HandsSelfTest, HandsBusControl, Out}
+use Rattle.bus_terminal.specs.declared.answer.Answer.TheVariants.{Silent, Sends, Hands}
+use Rattle.bus_terminal.specs.Out.{Sending, Handing, HandsReceived, HandsSynchronize, HandsSynchronizeWith, HandsSelfTest, HandsBusControl, Out, Silence, SendsWord, HandsOver}
 
-abbrev pub shown_sent : Option Sent → Option Sending
-shown_sent None = None
-shown_sent (Some s) = Some (record { bus = s.bus; status = s.status; words = s.words.now })
+abbrev pub shown_word : Sent → Sending
+shown_word s = record { bus = s.bus; kind = s.kind; bits = s.bits }
 
-abbrev pub shown_hand : Option Hand → Option Handing
-shown_hand None = None
-shown_hand (Some (Received broadcast subaddress words)) = Some (HandsReceived broadcast subaddress words.now)
-shown_hand (Some Synchronize) = Some HandsSynchronize
-shown_hand (Some (SynchronizeWith word)) = Some (HandsSynchronizeWith word)
-shown_hand (Some SelfTest) = Some HandsSelfTest
-shown_hand (Some BusControl) = Some HandsBusControl
+abbrev pub shown_handing : Hand → Handing
+shown_handing (Received broadcast subaddress words) = HandsReceived broadcast subaddress words.now
+shown_handing Synchronize = HandsSynchronize
+shown_handing (SynchronizeWith word) = HandsSynchronizeWith word
+shown_handing SelfTest = HandsSelfTest
+shown_handing BusControl = HandsBusControl
 
 -- what an answer says
 abbrev pub shown_answer : Answer → Out
-shown_answer a = record { sent = shown_sent a.sent; hand = shown_hand a.hand }
+shown_answer Silent = Silence
+shown_answer (Sends sent) = SendsWord (shown_word sent)
+shown_answer (Hands hand) = HandsOver (shown_handing hand)
 
--- the data words that are sent, and the data words that are handed over
-abbrev pub words_sent : Option Sending → List ℕ
-words_sent None = []
-words_sent (Some s) = s.words
+-- a word that is sent, or none
+abbrev pub shown_sent : Option Sent → Option Sending
+shown_sent None = None
+shown_sent (Some s) = Some (shown_word s)
 
-abbrev pub words_handed : Option Handing → List ℕ
-words_handed (Some (HandsReceived broadcast subaddress words)) = words
-words_handed (Some (HandsSynchronizeWith word)) = word ∷ []
+-- what is handed over, or nothing
+abbrev pub shown_hand : Option Hand → Option Handing
+shown_hand None = None
+shown_hand (Some hand) = Some (shown_handing hand)
+
+-- the data words that are handed over
+abbrev pub words_handed : Handing → List ℕ
+words_handed (HandsReceived broadcast subaddress words) = words
+words_handed (HandsSynchronizeWith word) = word ∷ []
 words_handed _ = []
 
--- an answer sends or hands over at most 32 data words, and where it sends some it hands nothing over
-pub record IsSmall (o : Out) : Type 0 where
-  pub few_sent : length (words_sent o.sent) ≤ 32
-  pub few_handed : length (words_handed o.hand) ≤ 32
-  pub apart : (words_sent o.sent ≡ []) ⊎ (o.hand ≡ None)
+-- at most 32 data words are handed over
+abbrev pub AreFew : Option Handing → Type 0
+AreFew None = Unit {0}
+AreFew (Some handing) = length (words_handed handing) ≤ 32
+
+-- an answer hands over at most 32 data words
+abbrev pub IsSmall : Out → Type 0
+IsSmall (HandsOver handing) = AreFew (Some handing)
+IsSmall _ = Unit {0}

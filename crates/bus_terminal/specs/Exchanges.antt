@@ -1,5 +1,5 @@
--- Exchanges: a command word with just the data words that it expects, and a gap, on bus A.
-use Rattle.std.specs.Prelude.{◌≡◌, ℕ, Bool, true, false, if◌then◌else◌, List, [], ◌∷◌, length}
+-- Exchanges: a command word with just the data words that it expects, and a gap, on bus A; and slots, in which it is answered.
+use Rattle.std.specs.Prelude.{◌≡◌, ℕ, zero, suc, ◌≤◌, Bool, true, false, if◌then◌else◌, List, [], ◌∷◌, length}
 use Rattle.bus_word.specs.declared.word.Kind.TheVariants.{Com, Dat}
 use Rattle.bus_word.specs.declared.word.Bus.TheVariants.{A}
 use Rattle.bus_word.specs.declared.word.Raw.{Raw}
@@ -7,15 +7,19 @@ use Rattle.bus_word.specs.Word.{is_valid, valid_word}
 use Rattle.bus_word.specs.Command.{expected, is_addressed_to}
 use Rattle.bus_legal.specs.Description.{Description}
 use Rattle.bus_terminal.specs.declared.event.Event.{Event}
-use Rattle.bus_terminal.specs.declared.event.Event.TheVariants.{Word, Gap}
-use Rattle.bus_terminal.specs.History.{Noted, noted, Ending, Nothing}
+use Rattle.bus_terminal.specs.declared.event.Event.TheVariants.{Word, Gap, Slot}
+use Rattle.bus_terminal.specs.History.{Noted, noted_as, NoTurn, Ending, Nothing}
+use Rattle.bus_terminal.specs.Reply.{words_after_status, reply_now}
 use Rattle.bus_terminal.specs.Ends.{well}
-use Rattle.bus_terminal.specs.Out.{Out, silence, out_of, outs_from}
+use Rattle.bus_terminal.specs.SinceReset.{off_now}
+use Rattle.bus_terminal.specs.Turn.{is_answered, done_cell, turn_of_gap, turn_of_slot}
+use Rattle.bus_terminal.specs.Out.{Out, Silence, hands, handing_over, sends, sending_out, outs_from}
 
--- a command, and the data words after it
+-- a command, the data words after it, and the number of slots after its gap
 pub record Exchange : Type 0 where
   pub command : ℕ
   pub words : List ℕ
+  pub slots : ℕ
 
 abbrev pub IsWhole : Exchange → Type 0
 IsWhole x = length x.words ≡ expected x.command
@@ -35,8 +39,12 @@ abbrev pub words_then : List ℕ → List Event → List Event
 words_then [] es = es
 words_then (d ∷ ds) es = data_event d ∷ words_then ds es
 
+abbrev pub slots_then : ℕ → List Event → List Event
+slots_then zero es = es
+slots_then (suc n) es = Slot ∷ slots_then n es
+
 abbrev pub exchange_then : Exchange → List Event → List Event
-exchange_then x es = command_event x.command ∷ words_then x.words (Gap A ∷ es)
+exchange_then x es = command_event x.command ∷ words_then x.words (Gap A ∷ slots_then x.slots es)
 
 -- the events of exchanges, the first first
 abbrev pub script_of : List Exchange → List Event
@@ -51,60 +59,98 @@ after_words (d ∷ ds) h = after_words ds (data_event d ∷ h)
 abbrev pub before_its_gap : Exchange → List Event → List Event
 before_its_gap x h = after_words x.words (command_event x.command ∷ h)
 
+abbrev pub after_slots : ℕ → List Event → List Event
+after_slots zero h = h
+after_slots (suc n) h = after_slots n (Slot ∷ h)
+
 -- the history of exchanges alone, the latest exchange first
 abbrev pub history_of : List Exchange → List Event
 history_of [] = []
-history_of (x ∷ xs) = Gap A ∷ before_its_gap x (history_of xs)
+history_of (x ∷ xs) = after_slots x.slots (Gap A ∷ before_its_gap x (history_of xs))
 
 -- the command is for the terminal
 abbrev pub is_meant : Description → ℕ → Bool
 is_meant P c = is_addressed_to P.address P.broadcast c
 
--- what each event of an exchange did
-abbrev pub word_note : List Noted → ℕ → Noted
-word_note h d = noted h (data_event d) false Nothing
+-- what each event of an exchange did, where no reply was in progress before it
+abbrev pub word_note : ℕ → Noted
+word_note d = noted_as (data_event d) NoTurn false Nothing
 
-abbrev pub command_note : Description → List Noted → ℕ → Noted
-command_note P h c = noted h (command_event c) (is_meant P c) Nothing
+abbrev pub command_note : Description → ℕ → Noted
+command_note P c = noted_as (command_event c) NoTurn (is_meant P c) Nothing
 
 abbrev pub gap_note : List Noted → Ending → Noted
-gap_note h x = noted h (Gap A) false x
+gap_note h x = noted_as (Gap A) (turn_of_gap false A (is_answered (off_now h A) x) (done_cell x)) false x
+
+abbrev pub slot_note : List Noted → Noted
+slot_note h = noted_as Slot (turn_of_slot (reply_now h)) false Nothing
 
 abbrev pub word_notes : List ℕ → List Noted → List Noted
 word_notes [] h = h
-word_notes (d ∷ ds) h = word_notes ds (word_note h d ∷ h)
+word_notes (d ∷ ds) h = word_notes ds (word_note d ∷ h)
+
+abbrev pub slot_notes : ℕ → List Noted → List Noted
+slot_notes zero h = h
+slot_notes (suc n) h = slot_notes n (slot_note h ∷ h)
 
 abbrev pub notes_before_gap : Description → Exchange → List Noted → List Noted
-notes_before_gap P x h = word_notes x.words (command_note P h x.command ∷ h)
+notes_before_gap P x h = word_notes x.words (command_note P x.command ∷ h)
 
 -- an exchange ends well, where its command is for the terminal
 abbrev pub ending_of_exchange : Description → Exchange → Ending
 ending_of_exchange P x = if is_meant P x.command then well P false x.command x.words else Nothing
 
+abbrev pub notes_at_gap : Description → Exchange → List Noted → List Noted
+notes_at_gap P x h =
+    let k : List Noted = notes_before_gap P x h in
+    gap_note k (ending_of_exchange P x) ∷ k
+
 abbrev pub exchange_notes : Description → List Exchange → List Noted
 exchange_notes P [] = []
-exchange_notes P (x ∷ xs) =
-    let h : List Noted = notes_before_gap P x (exchange_notes P xs) in
-    gap_note h (ending_of_exchange P x) ∷ h
+exchange_notes P (x ∷ xs) = slot_notes x.slots (notes_at_gap P x (exchange_notes P xs))
 
--- the answer at the gap of an exchange, after a noted history
-abbrev pub exchange_answer : Description → List Noted → Exchange → Out
-exchange_answer P h x = out_of P (notes_before_gap P x h) A (ending_of_exchange P x)
+-- how many words the reply to an exchange has
+abbrev pub slots_needed : Ending → ℕ
+slots_needed x = if is_answered false x then suc (words_after_status (done_cell x)) else 0
+
+-- each exchange has as many slots as its reply needs
+abbrev pub AreAnswered : Description → List Exchange → Type 0
+AreAnswered P [] = Unit {0}
+AreAnswered P (x ∷ xs) = (slots_needed (ending_of_exchange P x) ≤ x.slots) × AreAnswered P xs
+
+-- the answer at the gap of an exchange
+abbrev pub gap_answer : Description → Exchange → Out
+gap_answer P x = handing_over (hands P (ending_of_exchange P x))
+
+-- the answer to a slot, after a noted history
+abbrev pub slot_answer : Description → List Noted → Out
+slot_answer P h = sending_out (sends P h (reply_now h))
 
 abbrev pub silent_then : List ℕ → List Out → List Out
 silent_then [] os = os
-silent_then (d ∷ ds) os = silence ∷ silent_then ds os
+silent_then (d ∷ ds) os = Silence ∷ silent_then ds os
 
--- The law of one exchange: after exchanges alone, one more is answered at its gap alone, as its command says.
+abbrev pub slots_answered : Description → ℕ → List Noted → List Out → List Out
+slots_answered P zero h os = os
+slots_answered P (suc n) h os = slot_answer P h ∷ slots_answered P n (slot_note h ∷ h) os
+
+-- The law of one exchange: after exchanges alone, with all the slots that their replies need, one more is answered at
+-- its gap and in its slots alone, as its command says.
 abbrev pub ExchangeLaw : Type 0
 ExchangeLaw =
-    (P : Description) (xs : List Exchange) (x : Exchange) (es : List Event) → AreWhole (x ∷ xs) →
+    (P : Description) (xs : List Exchange) (x : Exchange) (es : List Event) → AreWhole (x ∷ xs) → AreAnswered P xs →
     outs_from P (history_of xs) (exchange_then x es)
-    ≡ silence ∷ silent_then x.words (exchange_answer P (exchange_notes P xs) x ∷ outs_from P (history_of (x ∷ xs)) es)
+    ≡ Silence ∷ silent_then x.words (gap_answer P x ∷ slots_answered P x.slots (notes_at_gap P x (exchange_notes P xs)) (outs_from P (history_of (x ∷ xs)) es))
 
 -- And where its command is not for the terminal, it isn't answered at all.
+abbrev pub silent_slots : ℕ → List Out → List Out
+silent_slots zero os = os
+silent_slots (suc n) os = Silence ∷ silent_slots n os
+
 abbrev pub UnmeantExchangeLaw : Type 0
-UnmeantExchangeLaw = (P : Description) (h : List Noted) (x : Exchange) → is_meant P x.command ≡ false → exchange_answer P h x ≡ silence
+UnmeantExchangeLaw =
+    (P : Description) (xs : List Exchange) (x : Exchange) (os : List Out) → AreAnswered P xs → is_meant P x.command ≡ false →
+    (gap_answer P x ≡ Silence) × (slots_answered P x.slots (notes_at_gap P x (exchange_notes P xs)) os ≡ silent_slots x.slots os)
 
 -- The words of an exchange are all the valid words of their sync and their bits: there are no others.
 abbrev pub ValidWordLaw : Type 0

@@ -1,5 +1,5 @@
 -- A history: the events so far, the latest first, and beside each what it did.
-use Rattle.std.specs.Prelude.{ℕ, Bool, false, if◌then◌else◌, Option, Some, None, List}
+use Rattle.std.specs.Prelude.{ℕ, Bool, true, false, if◌then◌else◌, Option, Some, None, List}
 use Rattle.bus_word.specs.declared.word.Bus.{Bus}
 use Rattle.bus_word.specs.declared.word.Raw.{Raw}
 use Rattle.bus_word.specs.declared.cell.Cell.{Cell}
@@ -17,15 +17,37 @@ pub data Ending : Type 0 where
   Blocked : (command : ℕ) → (cell : Cell) → Ending
   Done : (command : ℕ) → (cell : Cell) → (words : List ℕ) → Ending
 
--- an event with what it did: whether it started a message, and what it ended
+-- A reply in progress: its bus; the cell of the message that is answered, where that was done, which says what data
+-- words follow the status; and the number of the word that is sent next. The status is number 0.
+pub record Replying : Type 0 where
+  pub bus : Bus
+  pub cell : Option Cell
+  pub number : ℕ
+
+-- What an event has to do with replies: nothing; it comes on the bus of a reply in progress, and is ignored; with it a
+-- reply begins, on a bus, to a message whose cell was done, or to one that was not; or it is the slot in which the next
+-- word of a reply is sent. Slots, and that the terminal doesn't hear what comes on the bus while it transmits there, are
+-- this model's own: the standard tells of times and voltages instead (4.3.3.8, 4.4.1.3).
+pub data Turn : Type 0 where
+  NoTurn : Turn
+  Ignored : Turn
+  Begins : (bus : Bus) → (cell : Option Cell) → Turn
+  Sends : (reply : Replying) → Turn
+
+-- an event with what it did: its turn in replies, whether it started a message, and what it ended
 pub record Noted : Type 0 where
   pub event : Event
+  pub turn : Turn
   pub starts : Bool
   pub ends : Ending
 
--- an event after a noted history, by what it starts and ends
-abbrev pub noted : List Noted → Event → Bool → Ending → Noted
-noted h e starts ends = record { event = e; starts = starts; ends = ends }
+-- an event that did this
+abbrev pub noted_as : Event → Turn → Bool → Ending → Noted
+noted_as e turn starts ends = record { event = e; turn = turn; starts = starts; ends = ends }
+
+abbrev pub is_ignored : Turn → Bool
+is_ignored Ignored = true
+is_ignored _ = false
 
 -- what a run is made of: a word, or noise, and whether it started a message
 pub record Entry : Type 0 where
@@ -36,12 +58,19 @@ abbrev pub is_gap_on : Bus → Event → Bool
 is_gap_on b (Gap c) = same_bus b c
 is_gap_on b _ = false
 
+-- a gap on a bus that is not ignored
+abbrev pub ends_run : Bus → Noted → Bool
+ends_run b p = if is_ignored p.turn then false else is_gap_on b p.event
+
 abbrev pub entry_of : Bus → Event → Bool → Option Entry
 entry_of b (Word c w) starts = if same_bus b c then Some (record { word = Some w; starts = starts }) else None
 entry_of b (Noise c) starts = if same_bus b c then Some (record { word = None; starts = starts }) else None
 entry_of b _ starts = None
 
--- The run of a bus: its words and noise since its last gap, or since power-up. Continuity of a
--- transmission (MIL-STD-1553B, 4.4.1.2): what one transmission is, ends at a gap.
+abbrev pub entry_on : Bus → Noted → Option Entry
+entry_on b p = if is_ignored p.turn then None else entry_of b p.event p.starts
+
+-- The run of a bus: its words and noise since its last gap, or since power-up, without what was ignored.
+-- Continuity of a transmission (MIL-STD-1553B, 4.4.1.2): what one transmission is, ends at a gap.
 abbrev pub run : List Noted → Bus → List Entry
-run h b = keep (λ p. entry_of b p.event p.starts) (since (λ p. is_gap_on b p.event) h)
+run h b = keep (entry_on b) (since (ends_run b) h)

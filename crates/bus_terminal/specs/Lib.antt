@@ -5,10 +5,12 @@ pub mod Buses
 pub mod LookBack
 pub mod History
 pub mod Open
+pub mod Reply
 pub mod Starts
 pub mod Flags
 pub mod Ends
 pub mod SinceReset
+pub mod Turn
 pub mod Status
 pub mod Past
 pub mod Out

@@ -6,4 +6,5 @@ pub mod Message
 pub mod Ended
 pub mod Registers
 pub mod Held
+pub mod Replies
 pub mod Terminal

@@ -3,3 +3,4 @@ pub mod Words
 pub mod Messages
 pub mod Transfers
 pub mod Modes
+pub mod Replies

@@ -8,7 +8,7 @@ use Rattle.bus_legal.specs.Description.{Description}
 use Rattle.bus_terminal.specs.declared.event.Event.{Event}
 use Rattle.bus_terminal.specs.declared.event.Event.TheVariants.{Word, Write, Vector, Bit}
 use Rattle.bus_terminal.specs.LookBack.{latest, or_else, since}
-use Rattle.bus_terminal.specs.History.{Noted, Ending, Done, is_gap_on}
+use Rattle.bus_terminal.specs.History.{Noted, Turn, Begins, Sends, Ending, Done, is_gap_on}
 
 -- the mode code of a cell, own or by broadcast
 abbrev pub code_in : Cell → Option ℕ
@@ -25,9 +25,22 @@ abbrev pub is_code : ℕ → Option ℕ → Bool
 is_code n None = false
 is_code n (Some code) = code == n
 
--- reset remote terminal, mode code 8 (MIL-STD-1553B, 4.3.3.5.1.7.9)
+-- Reset remote terminal, mode code 8 (MIL-STD-1553B, 4.3.3.5.1.7.9), acts after its status was sent: in the slot
+-- that sends it, or at its gap where no reply begins.
+abbrev pub is_reset_cell : Cell → Bool
+is_reset_cell cell = is_code 8 (code_in cell)
+
+abbrev pub sends_reset : ℕ → Option Cell → Bool
+sends_reset number None = false
+sends_reset number (Some cell) = (number == 0) && is_reset_cell cell
+
+abbrev pub resets : Turn → Ending → Bool
+resets (Begins b cell) x = false
+resets (Sends r) x = sends_reset r.number r.cell
+resets _ x = is_code 8 (done_code x)
+
 abbrev pub is_reset : Noted → Bool
-is_reset p = is_code 8 (done_code p.ends)
+is_reset p = resets p.turn p.ends
 
 -- what came after the latest reset
 abbrev pub since_reset : List Noted → List Noted

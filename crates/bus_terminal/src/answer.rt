@@ -1,15 +1,15 @@
 //! What a remote terminal answers to an event.
-use bus_word::Bus;
+use bus_word::{Bus, Kind};
 
-/// What a terminal sends on a bus: a status word, and data words after it.
+/// What a terminal sends on a bus: one word of a reply.
 #[derive(Clone, Copy, Debug, PartialEq, Eq)]
-pub struct Sent<'a> {
+pub struct Sent {
     /// The bus: that on which the command came.
     pub bus: Bus,
-    /// The status word.
-    pub status: u16,
-    /// The data words, in order: where the terminal holds them.
-    pub words: &'a [u16],
+    /// Command sync for the status word, data sync for a data word.
+    pub kind: Kind,
+    /// The 16 bits.
+    pub bits: u16,
 }
 
 /// What a terminal hands over to its subsystem.
@@ -34,12 +34,14 @@ pub enum Hand<'a> {
     BusControl,
 }
 
-/// What a terminal answers to an event: mostly nothing. The words are the terminal's own, so an answer is of use
+/// What a terminal answers to an event. Words that are handed over are the terminal's own, so an answer is of use
 /// until the terminal's next event.
 #[derive(Clone, Copy, Debug, PartialEq, Eq)]
-pub struct Answer<'a> {
-    /// What is sent.
-    pub sent: Option<Sent<'a>>,
-    /// What is handed over.
-    pub hand: Option<Hand<'a>>,
+pub enum Answer<'a> {
+    /// Nothing, as to most events.
+    Silent,
+    /// A word is sent: only in a slot.
+    Sends(Sent),
+    /// Something is handed over: only at a gap.
+    Hands(Hand<'a>),
 }

@@ -2,8 +2,8 @@
 ghost use Rattle.std.specs.Prelude.{◌≡◌, List, ℕ, Some};
 ghost use Rattle.bus_terminal.specs.Ends.{is_blocked_by_busy, verdict};
 ghost use Rattle.bus_terminal.specs.SinceReset.{code_in, done_code};
-ghost use Rattle.bus_word.specs.Command.{is_broadcast};
-ghost use Rattle.bus_terminal.specs.Out.{command_ended};
+ghost use Rattle.bus_terminal.specs.Turn.{is_answered, done_cell};
+ghost use Rattle.bus_terminal.specs.Machine.Registers.{resets_at_gap};
 ghost use Rattle.bus_terminal.specs.Machine.Ended.{ending_of};
 ghost use Rattle.bus_terminal.specs.Status.{reports_kept};
 
@@ -35,17 +35,32 @@ impl Ended {
         }
     }
 
-    /// Whether the message was a broadcast.
-    pub fn is_broadcast(&self) -> bool
-        ensures { (ds : List ℕ) → result ≡ is_broadcast (command_ended (ending_of self.now ds)) }
+    /// The cell of what was done.
+    pub fn done_cell(&self) -> Option<Cell>
+        ensures { (ds : List ℕ) → result ≡ done_cell (ending_of self.now ds) }
     {
         match self {
-            Ended::Nothing => false,
-            Ended::Badly(command)
-            | Ended::Illegal(command)
-            | Ended::Blocked(command, _)
-            | Ended::Done(command, _) => command.is_broadcast(),
+            Ended::Done(_, cell) => Some(*cell),
+            _ => None,
         }
+    }
+
+    /// Whether a reply begins, by whether the transmitter is shut down: a broadcast has none.
+    pub fn is_answered(&self, off: bool) -> bool
+        ensures { (ds : List ℕ) → result ≡ is_answered off (ending_of self.now ds) }
+    {
+        match self {
+            Ended::Nothing | Ended::Badly(_) => false,
+            Ended::Illegal(command) | Ended::Blocked(command, _) | Ended::Done(command, _) =>
+                !(command.is_broadcast() || off),
+        }
+    }
+
+    /// Whether a reset acts at the gap, by whether a reply begins.
+    pub fn resets_at_gap(&self, begins: bool) -> bool
+        ensures { (ds : List ℕ) → result ≡ resets_at_gap begins (ending_of self.now ds) }
+    {
+        matches!(self.done_code(), Some(8)) && !begins
     }
 }
 

@@ -89,6 +89,8 @@ pub enum Event {
     Bit(u16),
     /// The subsystem sets a flag or takes it back.
     Flag(Flag, bool),
+    /// The time of one word of a reply: the next one is sent.
+    Slot,
 }
 
 /// A gap on bus A: the event that changes least.

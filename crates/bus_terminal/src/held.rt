@@ -1,17 +1,14 @@
 //! The words held ready for the subaddresses.
 ghost use Rattle.std.specs.Prelude.{◌≡◌, ℕ, ◌<◌, ◌≤◌, ◌-◌, ◌&&◌, ◌==◌, true, false, if◌then◌else◌, length, nat_le, nat_lt, get_or, List, []};
-ghost use Rattle.bus_legal.specs.Description.{word_at};
+ghost use Rattle.bus_word.specs.Cell.{is_data_place};
 ghost use Rattle.bus_terminal.specs.LookBack.{or_else};
-ghost use Rattle.bus_terminal.specs.History.{Done};
-ghost use Rattle.bus_terminal.specs.SinceReset.{wrapped_at};
+ghost use Rattle.bus_terminal.specs.SinceReset.{wrapped, wrapped_at};
 ghost use Rattle.bus_terminal.specs.Machine.Ended.{ending_of};
 ghost use Rattle.bus_terminal.specs.Machine.Held.{row_in, word_in, held_after};
 
 use crate::ended::Ended;
+use crate::event::WordPlace;
 use bus_word::Cell;
-
-/// Mode code 8, reset remote terminal.
-const RESET: u8 = 8;
 
 /// A row of 32 words for each of the subaddresses 1 to 30.
 pub type Rows = [[u16; 32]; 30];
@@ -91,33 +88,42 @@ impl HeldWords {
         put_first(&mut self.rows[subaddress as usize - 1], words);
     }
 
-    /// A message ended so, with these words, or none did. Words that were received at the wraparound
-    /// subaddress are held there; a reset brings the words of the set-up back.
-    pub fn settle(&mut self, initial: &Rows, wrap: u8, ended: &Ended, words: &[u16])
-        requires wrap { wrap ≤ 30 }
-        requires few { length words.now ≤ 32 }
-        ensures { (s i : ℕ) → 1 ≤ s → s ≤ 30 → 1 ≤ i → i ≤ 32 → word_in initial.now self.new s i ≡ held_after initial.now wrap s i (ending_of ended.now words.now) (word_in initial.now self.old s i) }
+    /// Word `number`, 1 to 32, of a subaddress, 1 to 30. Where there is none, 0000.
+    pub fn word(&self, initial: &Rows, subaddress: u8, number: u8) -> u16
+        ensures { is_data_place subaddress number ≡ true → result ≡ word_in initial.now self.now subaddress number }
     {
-        match ended {
-            Ended::Done(_, cell) => self.carry_out(initial, wrap, *cell, words),
-            Ended::Nothing => {}
-            Ended::Badly(_) => {}
-            Ended::Illegal(_) => {}
-            Ended::Blocked(_, _) => {}
+        match WordPlace::of(subaddress, number) {
+            Some(place) => {
+                let row = self.row(initial, place.subaddress());
+                row[place.number() as usize - 1]
+            }
+            None => 0,
         }
     }
 
-    fn carry_out(&mut self, initial: &Rows, wrap: u8, cell: Cell, words: &[u16])
+    /// A message ended so, with these words, or none did. Words that were received at the wraparound
+    /// subaddress are held there; a reset brings the words of the set-up back.
+    pub fn settle(&mut self, initial: &Rows, wrap: u8, resets: bool, ended: &Ended, words: &[u16])
         requires wrap { wrap ≤ 30 }
         requires few { length words.now ≤ 32 }
-        ensures { (c s i : ℕ) → 1 ≤ s → s ≤ 30 → 1 ≤ i → i ≤ 32 → word_in initial.now self.new s i ≡ held_after initial.now wrap s i (Done c cell words.now) (word_in initial.now self.old s i) }
+        ensures { (s i : ℕ) → 1 ≤ s → s ≤ 30 → 1 ≤ i → i ≤ 32 → word_in initial.now self.new s i ≡ held_after initial.now wrap s i resets (ending_of ended.now words.now) (word_in initial.now self.old s i) }
     {
-        match cell {
-            Cell::OwnReceive(subaddress, _) => self.wrap_around(initial, wrap, subaddress, words),
-            Cell::BroadReceive(subaddress, _) => self.wrap_around(initial, wrap, subaddress, words),
-            Cell::OwnTransmit(_, _) => {}
-            Cell::OwnMode(code) => self.reset_if(code == RESET),
-            Cell::BroadMode(code) => self.reset_if(code == RESET),
+        if resets {
+            self.reset();
+        } else {
+            self.receive(initial, wrap, ended, words);
+        }
+    }
+
+    fn receive(&mut self, initial: &Rows, wrap: u8, ended: &Ended, words: &[u16])
+        requires wrap { wrap ≤ 30 }
+        requires few { length words.now ≤ 32 }
+        ensures { (s i : ℕ) → 1 ≤ s → s ≤ 30 → 1 ≤ i → i ≤ 32 → word_in initial.now self.new s i ≡ or_else (wrapped wrap s i (ending_of ended.now words.now)) (word_in initial.now self.old s i) }
+    {
+        match ended {
+            Ended::Done(_, Cell::OwnReceive(subaddress, _) | Cell::BroadReceive(subaddress, _)) =>
+                self.wrap_around(initial, wrap, *subaddress, words),
+            _ => {}
         }
     }
 
@@ -131,16 +137,8 @@ impl HeldWords {
         }
     }
 
-    fn reset_if(&mut self, resets: bool)
-        ensures { (initial : List (List ℕ)) (s i : ℕ) → word_in initial self.new s i ≡ (if resets then word_at initial s i else word_in initial self.old s i) }
-    {
-        if resets {
-            self.reset();
-        }
-    }
-
     /// Those of the set-up again.
-    fn reset(&mut self)
+    pub fn reset(&mut self)
         ensures { (initial : List (List ℕ)) (s : ℕ) → row_in initial self.new s ≡ get_or initial (s - 1) [] }
     {
         self.changed = [false; 30];

@@ -9,7 +9,7 @@ ghost use Rattle.bus_terminal.specs.OpenLaws.{LatestStartLaw, OneMessageLaw};
 ghost use Rattle.bus_terminal.specs.Out.{out};
 ghost use Rattle.bus_terminal.specs.Same.{Same};
 
-/// What a terminal answers to a command with its data words and a gap, after nothing but such exchanges.
+/// What a terminal answers to a command with its data words, a gap and slots, after nothing but such exchanges.
 pub fn one_exchange()
     ensures meant { ExchangeLaw }
     ensures unmeant { UnmeantExchangeLaw }

@@ -10,6 +10,7 @@ mod held;
 pub mod laws;
 mod message;
 mod registers;
+mod reply;
 pub mod rows;
 mod terminal;
 

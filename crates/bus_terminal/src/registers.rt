@@ -1,8 +1,8 @@
 //! What a terminal remembers besides the message in progress and the words held ready.
-ghost use Rattle.std.specs.Prelude.{◌≡◌, Bool, List, ℕ};
+ghost use Rattle.std.specs.Prelude.{◌≡◌, Bool, true, List, ℕ};
 ghost use Rattle.bus_terminal.specs.declared.event.Event.TheVariants.{Flag as FlagIs};
 ghost use Rattle.bus_terminal.specs.Machine.Ended.{ending_of};
-ghost use Rattle.bus_terminal.specs.Machine.Registers.{power_up_registers, formed_from, error_from, done_from, status_from, flags_after, failed, started, keeping, carried, settled};
+ghost use Rattle.bus_terminal.specs.Machine.Registers.{power_up_registers, formed_from, error_from, done_from, status_from, flags_after, failed, started, keeping, carried, settled, reset_to};
 
 use crate::buses::OnBuses;
 use crate::ended::{Ended, code_in, reports_kept};
@@ -51,8 +51,8 @@ pub struct Registers {
     pub off: OnBuses,
     pub vector: u16,
     pub bit: u16,
-    /// The bits of the last command.
-    pub last: u16,
+    /// The last command.
+    pub last: Command,
     /// The kept status.
     pub kept: StatusParts,
 }
@@ -73,7 +73,7 @@ impl Registers {
             off: OnBuses::NONE,
             vector,
             bit,
-            last: 0,
+            last: Command::of(0),
             kept: NO_PARTS,
         }
     }
@@ -145,7 +145,7 @@ impl Registers {
         ensures { self.new ≡ started spares command self.old }
     {
         if !matches!(cell_of(command), Some(Cell::OwnMode(18))) {
-            self.last = command.bits();
+            self.last = command;
         }
         if !spares {
             self.kept = NO_PARTS;
@@ -154,24 +154,26 @@ impl Registers {
     }
 
     /// A gap on this bus ended a message so, with this status, or ended none. `spares` says whether the command
-    /// of one that ended in error spares the kept status. A reset goes back to this vector word and this BIT
-    /// word.
+    /// of one that ended in error spares the kept status, and `begins` whether a reply begins. A reset goes back to
+    /// this vector word and this BIT word.
     pub fn settle(
         &mut self,
         bus: Bus,
         ended: &Ended,
         status: Option<StatusParts>,
         spares: bool,
+        begins: bool,
         vector: u16,
         bit: u16,
     )
-        ensures { (accept : Bool) (ds : List ℕ) → status ≡ status_from accept self.old (ending_of ended.now ds) → self.new ≡ settled accept spares vector bit bus (ending_of ended.now ds) self.old }
+        ensures { (accept : Bool) (ds : List ℕ) → status ≡ status_from accept self.old (ending_of ended.now ds) → self.new ≡ settled accept spares vector bit bus begins (ending_of ended.now ds) self.old }
     {
         match ended {
             Ended::Badly(command) => self.fail(*command, spares),
             _ => {
                 self.keep(status);
-                self.carry_out(bus, ended.done_code(), vector, bit);
+                let resets = ended.resets_at_gap(begins);
+                self.carry_out(bus, resets, ended.done_code(), vector, bit);
             }
         }
     }
@@ -185,22 +187,29 @@ impl Registers {
         }
     }
 
-    /// A mode code that came on this bus is carried out. A reset goes back to this vector word and this BIT
-    /// word.
-    fn carry_out(&mut self, bus: Bus, code: Option<u8>, vector: u16, bit: u16)
-        ensures { self.new ≡ carried vector bit bus code self.old }
+    /// A mode code that came on this bus is carried out, or all is reset, to this vector word and this BIT word.
+    fn carry_out(&mut self, bus: Bus, resets: bool, code: Option<u8>, vector: u16, bit: u16)
+        ensures { self.new ≡ carried vector bit bus resets code self.old }
     {
-        match code {
-            Some(4) => self.off.set_other(bus, true),
-            Some(5) => self.off.set_other(bus, false),
-            Some(6) => self.inhibited = true,
-            Some(7) => self.inhibited = false,
-            Some(8) => {
-                let flags = self.flags;
-                *self = Registers::at_power_up(vector, bit);
-                self.flags = flags;
+        if resets {
+            self.reset(vector, bit);
+        } else {
+            match code {
+                Some(4) => self.off.set_other(bus, true),
+                Some(5) => self.off.set_other(bus, false),
+                Some(6) => self.inhibited = true,
+                Some(7) => self.inhibited = false,
+                _ => {}
             }
-            _ => {}
         }
+    }
+
+    /// Those of power-up, with this vector word and this BIT word. The flags stay.
+    pub fn reset(&mut self, vector: u16, bit: u16)
+        ensures { self.new ≡ reset_to vector bit true self.old }
+    {
+        let flags = self.flags;
+        *self = Registers::at_power_up(vector, bit);
+        self.flags = flags;
     }
 }

@@ -4,6 +4,7 @@
 ghost use Rattle.bus_terminal.specs.Rows.Messages.{TransmitStatus, WrongParity, ModeBy31, ReceiveTwo, IllegalReceive, ShortMessage, Transmit32, BroadcastStatus, BroadcastUnheard, WordAfterMode, EmptyScript, NoiseBefore, NoiseInMessage};
 ghost use Rattle.bus_terminal.specs.Rows.Transfers.{RtToRt, IllegalRtToRt, BroadcastRtToRt, RtToRtTimeout, CommandEndsWaiting, NoiseEndsWaiting, InvalidStatus, NoiseAfterStatus, BroadcastTransmitter, BroadcastThenMode, BroadcastWordBetween, Superseded, EarlierWordInRun, StatusThenSuperseded, WordThenSuperseded, ShutdownOtherBus, ReceivedInSilence, ResetInSilence};
 ghost use Rattle.bus_terminal.specs.Rows.Modes.{Wraparound, WraparoundAtSeven, LastCommand, LastCommandAfterReset, BusyReceive, BusyBitWord, BusyVectorWord, BusyBusControl, InhibitFlag, InhibitedUntilReset, VectorAndReset, BusControl, BroadcastSync, WrittenWord, SparedByLastCommand, ClearedByIllegalLastCommand};
+ghost use Rattle.bus_terminal.specs.Rows.Replies.{NoSlot, FormedAtTheGap, WrittenBetweenSlots, CommandDuringReply, ReplyDropped, ResetInItsSlot, ResetDropped, ResetInSilenceAtTheGap, DroppedResetKeepsStatus, DroppedResetKeepsLastCommand, WraparoundDuringReply};
 
 /// Messages of a bus controller.
 pub fn messages()
@@ -66,4 +67,19 @@ pub fn mode_codes()
     ensures written_word { WrittenWord }
     ensures spared_by_last_command { SparedByLastCommand }
     ensures cleared_by_illegal_last_command { ClearedByIllegalLastCommand }
+{}
+
+/// Replies that take time.
+pub fn replies()
+    ensures no_slot { NoSlot }
+    ensures formed_at_the_gap { FormedAtTheGap }
+    ensures written_between_slots { WrittenBetweenSlots }
+    ensures command_during_reply { CommandDuringReply }
+    ensures reply_dropped { ReplyDropped }
+    ensures reset_in_its_slot { ResetInItsSlot }
+    ensures reset_dropped { ResetDropped }
+    ensures reset_in_silence_at_the_gap { ResetInSilenceAtTheGap }
+    ensures dropped_reset_keeps_status { DroppedResetKeepsStatus }
+    ensures dropped_reset_keeps_last_command { DroppedResetKeepsLastCommand }
+    ensures wraparound_during_reply { WraparoundDuringReply }
 {}

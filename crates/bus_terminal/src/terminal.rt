@@ -2,18 +2,18 @@
 ghost use Rattle.std.specs.Borrow.{sem};
 ghost use Rattle.std.specs.Io.BufRead.{Rests};
 
-mod reply;
+mod answers;
 
-use crate::answer::Answer;
+use crate::answer::{Answer, Sent};
 use crate::buses::OnBuses;
 use crate::ended::{Ended, reports_kept, verdict_of};
 use crate::event::{Event, WordPlace};
 use crate::held::HeldWords;
-use crate::message::{GapEnd, InProgress};
+use crate::message::{GapEnd, InProgress, same_bus};
 use crate::registers::Registers;
+use crate::reply::Reply;
 use bus_legal::{Legality, Setup};
 use bus_word::{Bus, Command, Raw, StatusParts, cell_of};
-use reply::Reply;
 
 /// A remote terminal, with its set-up and what answers whether a cell is legal. It stores no history: it
 /// keeps what of its history still matters.
@@ -25,27 +25,32 @@ pub struct Terminal<L> {
     heard: OnBuses,
     in_progress: InProgress,
     registers: Registers,
+    reply: Option<Reply>,
     held: HeldWords,
 }
 
 impl<L: Legality> Terminal<L> {
-    ghost use Rattle.std.specs.Prelude.{◌≡◌, true, ℕ, List, [], ◌∷◌, if◌then◌else◌};
+    ghost use Rattle.std.specs.Prelude.{◌≡◌, true, false, ℕ, None, List, [], ◌∷◌, if◌then◌else◌};
     ghost use Rattle.bus_word.specs.declared.word.Bus.{Bus};
     ghost use Rattle.bus_legal.specs.Description.{Description, described};
     ghost use Rattle.bus_terminal.specs.declared.event.Event.{Event};
     ghost use Rattle.bus_terminal.specs.Ends.{well};
     ghost use Rattle.bus_terminal.specs.Status.{spares, adds_error};
+    ghost use Rattle.bus_terminal.specs.Reply.{reply_bus};
+    ghost use Rattle.bus_terminal.specs.Open.{is_on};
+    ghost use Rattle.bus_terminal.specs.Turn.{is_answered};
     ghost use Rattle.bus_terminal.specs.Out.{out};
+    ghost use Rattle.bus_terminal.specs.Machine.Replies.{shown_reply, can_send};
     ghost use Rattle.bus_terminal.specs.Buses.{same_bus};
     ghost use Rattle.bus_terminal.specs.Machine.Standing.{gap_ends, starts_by, Collects, Words, Idle};
     ghost use Rattle.bus_terminal.specs.Machine.Message.{standing_on};
     ghost use Rattle.bus_terminal.specs.Machine.Ended.{ending_of};
     ghost use Rattle.bus_terminal.specs.Machine.Registers.{status_from, failed_by, started};
     ghost use Rattle.bus_terminal.specs.Machine.Buses.{on_bus};
-    ghost use Rattle.bus_terminal.specs.Answer.{shown_answer, IsSmall};
-    ghost use Rattle.bus_terminal.specs.Stands.{StandsAt, description_of};
+    ghost use Rattle.bus_terminal.specs.Answer.{shown_sent, shown_answer, IsSmall};
+    ghost use Rattle.bus_terminal.specs.Stands.{StandsAt, description_of, held_word};
     ghost use Rattle.bus_terminal.specs.contracts.terminal.Terminal.{the_row};
-    ghost use Rattle.bus_terminal.specs.Machine.Terminal.{status_sent, is_possible, heard_after_word, ends_at_gap, IsSameSetup, TakesWord, TakesNoise, TakesGap, TakesWrite};
+    ghost use Rattle.bus_terminal.specs.Machine.Terminal.{sends_from, heard_after_word, ends_at_gap, begins_at_gap, IsSameSetup, TakesWord, TakesNoise, TakesGap, TakesSlot, TakesWrite};
 
     /// The terminal at power-up.
     pub fn power_up(setup: Setup, legality: L) -> Terminal<L>
@@ -57,46 +62,67 @@ impl<L: Legality> Terminal<L> {
             legality,
             heard: OnBuses::NONE,
             in_progress: InProgress::none(),
+            reply: None,
             held: HeldWords::at_power_up(),
         }
     }
 
-    /// Takes one event, and answers it, with the terminal's own words. Sent words and handed words never come
-    /// together.
+    /// Takes one event, and answers it. At a gap something may be handed over, with the terminal's own words; in a
+    /// slot the next word of the reply in progress is sent. All else is not answered.
     pub fn step(&mut self, event: Event) -> Answer<'_>
         ensures answer { (P : Description) (h : List Event) → StandsAt L.is_legal P h self.old → shown_answer result ≡ out P h event }
         ensures* stands { sem 𝓛 (Rests (the_row L.row) self.entry (λ new. (P : Description) (h : List Event) → StandsAt L.is_legal P h self.old → StandsAt L.is_legal P (event ∷ h) new)) }
         ensures small { IsSmall (shown_answer result) }
     {
         match event {
-            Event::Gap(bus) => {
-                let reply = self.take_gap(bus);
-                self.answer(bus, &reply)
-            }
+            Event::Gap(bus) => if self.replies_on(bus) {
+                Answer::Silent
+            } else {
+                let ended = self.take_gap(bus);
+                self.handed(&ended)
+            },
+            Event::Slot => match self.take_slot() {
+                Some(sent) => Answer::Sends(sent),
+                None => Answer::Silent,
+            },
             _ => {
                 self.take(event);
-                Answer {
-                    sent: None,
-                    hand: None,
-                }
+                Answer::Silent
             }
         }
     }
 
-    /// Takes one event and drops its answer, which only a gap has.
+    /// Takes one event and drops its answer. What comes on the bus of the reply in progress is ignored.
     pub fn take(&mut self, event: Event)
         ensures { (P : Description) (h : List Event) → StandsAt L.is_legal P h self.old → StandsAt L.is_legal P (event ∷ h) self.new }
     {
         match event {
-            Event::Word(bus, word) => self.take_word(bus, word),
-            Event::Noise(bus) => self.take_noise(bus),
-            Event::Gap(bus) => {
+            Event::Word(bus, word) => if !self.replies_on(bus) {
+                self.take_word(bus, word);
+            },
+            Event::Noise(bus) => if !self.replies_on(bus) {
+                self.take_noise(bus);
+            },
+            Event::Gap(bus) => if !self.replies_on(bus) {
                 self.take_gap(bus);
+            },
+            Event::Slot => {
+                self.take_slot();
             }
             Event::Write(place, value) => self.write(place, value),
             Event::Vector(word) => self.registers.vector = word,
             Event::Bit(word) => self.registers.bit = word,
             Event::Flag(flag, value) => self.registers.flags.set(flag, value),
+        }
+    }
+
+    /// Whether the reply in progress is on this bus.
+    fn replies_on(&self, bus: Bus) -> bool
+        ensures { result ≡ is_on bus (reply_bus (shown_reply self.now.reply)) }
+    {
+        match &self.reply {
+            Some(reply) => same_bus(bus, reply.bus),
+            None => false,
         }
     }
 
@@ -124,8 +150,7 @@ impl<L: Legality> Terminal<L> {
 
     /// How a message ends that has the words that its command expects.
     fn verdict(&self, command: Command) -> Ended
-        ensures ending { (ds : List ℕ) → ending_of result ds ≡ well (description_of L.is_legal self.now) self.now.registers.flags.busy command ds }
-        ensures possible { (ds : List ℕ) → is_possible (ending_of result ds) ≡ true }
+        ensures { (ds : List ℕ) → ending_of result ds ≡ well (description_of L.is_legal self.now) self.now.registers.flags.busy command ds }
     {
         match cell_of(command) {
             Some(cell) => {
@@ -138,8 +163,7 @@ impl<L: Legality> Terminal<L> {
 
     /// How a gap on this bus ends the message in progress.
     fn end_at_gap(&self, bus: Bus) -> Ended
-        ensures ending { ending_of result self.now.in_progress.words.items ≡ gap_ends (description_of L.is_legal self.now) self.now.registers.flags.busy (standing_on bus self.now.in_progress) }
-        ensures possible { (ds : List ℕ) → is_possible (ending_of result ds) ≡ true }
+        ensures { ending_of result self.now.in_progress.words.items ≡ gap_ends (description_of L.is_legal self.now) self.now.registers.flags.busy (standing_on bus self.now.in_progress) }
     {
         match self.in_progress.end_at_gap(bus) {
             GapEnd::Whole(command) => self.verdict(command),
@@ -176,40 +200,62 @@ impl<L: Legality> Terminal<L> {
     /// A gap on this bus ended a message so, with this status, or ended none.
     fn settle(&mut self, bus: Bus, ended: &Ended, status: Option<StatusParts>)
         requires { (ds : List ℕ) → status ≡ status_from self.old.setup.accept self.old.registers (ending_of ended.now ds) }
-        ensures takes { TakesGap L.is_legal bus (ending_of ended.now self.old.in_progress.words.items) self.old self.new }
+        ensures takes { TakesGap L.is_legal bus (is_answered (on_bus bus self.old.registers.off) (ending_of ended.now self.old.in_progress.words.items)) (ending_of ended.now self.old.in_progress.words.items) self.old self.new }
         ensures words { self.new.in_progress.words ≡ self.old.in_progress.words }
     {
+        let begins = ended.is_answered(self.registers.off.on(bus));
         let spares = self.fails_sparing(ended);
         self.registers.settle(
             bus,
             ended,
             status,
             spares,
+            begins,
             self.setup.vector,
             self.setup.bit,
         );
         self.held.settle(
             &self.setup.initial,
             self.setup.wrap,
+            ended.resets_at_gap(begins),
             ended,
             self.in_progress.words.as_slice(),
         );
         self.heard.set(bus, false);
         self.in_progress.gap(bus);
+        if begins {
+            self.reply = Some(Reply {
+                bus,
+                cell: ended.done_cell(),
+                next: 0,
+            });
+        }
     }
 
-    /// Takes a gap on this bus: what it ends, and the status word that is sent.
-    fn take_gap(&mut self, bus: Bus) -> Reply
-        ensures ending { ending_of result.ended self.new.in_progress.words.items ≡ ends_at_gap L.is_legal self.old bus }
-        ensures status { result.status ≡ status_sent self.old.setup.address self.old.setup.accept self.old.registers bus (ends_at_gap L.is_legal self.old bus) }
-        ensures possible { (ds : List ℕ) → is_possible (ending_of result.ended ds) ≡ true }
-        ensures takes { TakesGap L.is_legal bus (ends_at_gap L.is_legal self.old bus) self.old self.new }
+    /// Takes a gap on this bus, which has no reply in progress, and says what it ended.
+    fn take_gap(&mut self, bus: Bus) -> Ended
+        ensures ending { ending_of result self.new.in_progress.words.items ≡ ends_at_gap L.is_legal self.old bus }
+        ensures takes { TakesGap L.is_legal bus (begins_at_gap L.is_legal self.old bus) (ends_at_gap L.is_legal self.old bus) self.old self.new }
     {
         let ended = self.end_at_gap(bus);
-        let parts = self.registers.status_for(&ended, self.setup.accept);
-        let status = self.status_sent(bus, &ended, parts);
-        self.settle(bus, &ended, parts);
-        Reply { ended, status }
+        let status = self.registers.status_for(&ended, self.setup.accept);
+        self.settle(bus, &ended, status);
+        ended
+    }
+
+    /// Takes a slot: the next word of the reply in progress, which is sent in it.
+    fn take_slot(&mut self) -> Option<Sent>
+        ensures sent { can_send (shown_reply self.old.reply) ≡ true → shown_sent result ≡ sends_from self.old.setup.address self.old.registers (held_word self.old) (shown_reply self.old.reply) }
+        ensures takes { TakesSlot L.is_legal self.old self.new }
+    {
+        let reply = self.reply?;
+        let sent = self.next_sent(reply);
+        self.reply = reply.after_slot();
+        if reply.resets() {
+            self.registers.reset(self.setup.vector, self.setup.bit);
+            self.held.reset();
+        }
+        Some(sent)
     }
 
     /// A transfer that waits on this bus ended in error.
@@ -237,7 +283,7 @@ impl<L: Legality> Terminal<L> {
         let starts = self.starts(bus, word);
         let failed = self.in_progress.failed_by(bus, Some(word));
         self.fail(failed);
-        self.hear(bus, word);
+        self.note_word(bus, word);
         if starts {
             self.start(bus, Command::of(word.bits));
         } else {
@@ -245,7 +291,7 @@ impl<L: Legality> Terminal<L> {
         }
     }
 
-    fn hear(&mut self, bus: Bus, word: Raw)
+    fn note_word(&mut self, bus: Bus, word: Raw)
         ensures { self.new ≡ record self.old { heard = heard_after_word (description_of L.is_legal self.old) bus word self.old.heard } }
     {
         if word.is_for(self.setup.address, self.setup.broadcast) {
@@ -258,8 +304,10 @@ impl<L: Legality> Terminal<L> {
         ensures heard { self.new.heard ≡ self.old.heard }
         ensures standing { (b : Bus) → standing_on b self.new.in_progress ≡ (if same_bus b bus then Collects command (Words []) else Idle) }
         ensures registers { self.new.registers ≡ started (spares (description_of L.is_legal self.old) command) command self.old.registers }
+        ensures reply { self.new.reply ≡ None }
         ensures held { self.new.held ≡ self.old.held }
     {
+        self.reply = None;
         self.in_progress.start(bus, command);
         let spares = self.spares(command);
         self.registers.start(command, spares);

@@ -1,13 +1,19 @@
 -- Terminals of two addresses are told apart by asking the one.
-use Rattle.std.proofs.Common.{◌≡◌, ◌≤◌, Bool, true, false, ◌&&◌, ◌||◌, ◌≢◌, Option, Some, None, [], refl, ap, sym, ◌∙◌}
+use Rattle.std.proofs.Common.{◌≡◌, ◌≤◌, Bool, true, false, ◌&&◌, ◌||◌, ◌≢◌, Option, Some, None, List, [], refl, ap, sym, ◌∙◌}
 use Rattle.std.proofs.lemmas.Bool.{ne_eqb}
 use Rattle.bus_word.specs.declared.cell.Cell.TheVariants.{OwnMode}
 use Rattle.bus_word.specs.Command.{address_of}
 use Rattle.bus_legal.specs.Description.{Description}
-use Rattle.bus_terminal.specs.Out.{Out, Sending}
-use Rattle.bus_terminal.specs.Exchanges.{Exchange, is_meant}
+use Rattle.bus_word.specs.declared.word.Bus.TheVariants.{A}
+use Rattle.bus_terminal.specs.History.{Noted, Replying}
+use Rattle.bus_terminal.specs.Reply.{reply_now}
+use Rattle.bus_terminal.specs.SinceReset.{off_now}
+use Rattle.bus_terminal.specs.Turn.{is_answered, done_cell}
+use Rattle.bus_terminal.specs.Machine.Replies.{begun_if}
+use Rattle.bus_terminal.specs.Out.{Sending, sends}
+use Rattle.bus_terminal.specs.Exchanges.{Exchange, is_meant, notes_before_gap, notes_at_gap}
 use Rattle.bus_terminal.specs.Distinguish.{TellsApart, ask, address_script}
-use Rattle.bus_terminal.proofs.ExchangeLaw.{unmeant_exchange_law}
+use Rattle.bus_terminal.proofs.ExchangeLaw.{idle_law, at_gap_reply, unmeant_end}
 use Rattle.bus_terminal.proofs.Distinguish.Commands.{IsTo, code_to_own, own_no_broadcast}
 use Rattle.bus_terminal.proofs.Distinguish.Last.{apart_by_one}
 use Rattle.bus_terminal.proofs.Distinguish.Own.{own_sent}
@@ -23,7 +29,10 @@ address_tells P Q low legal other =
     let to : IsTo P.address (Some (OwnMode 2)) x = code_to_own P.address 2 low refl in
     let unmeant : is_meant Q x.command ≡ false =
     (λ j. ne_eqb (address_of x.command) Q.address (λ e. other (sym to.address ∙ e)) j || (own_no_broadcast P.address (Some (OwnMode 2)) x low to j && Q.broadcast)) in
-    apart_by_one is_sent P Q P.address (Some (OwnMode 2)) x true false to
-    (ap is_sent (own_sent P [] x (OwnMode 2) true low to legal))
-    (ap (λ (o : Out). is_sent o.sent) (unmeant_exchange_law Q [] x unmeant))
+    let k : List Noted = notes_before_gap Q x [] in
+    let quiet : (let none : Option Replying = None in reply_now (notes_at_gap Q x []) ≡ none) =
+    at_gap_reply Q x [] (idle_law Q [] tt) ∙ ap (λ y. let none : Option Replying = None in begun_if (is_answered (off_now k A) y) A (done_cell y) none) (unmeant_end Q x unmeant) in
+    apart_by_one is_sent 0 P Q P.address (Some (OwnMode 2)) x true false to (to.some_slots low)
+    (ap is_sent (own_sent P [] x (OwnMode 2) true 0 low to legal tt refl))
+    (ap (λ r. is_sent (sends Q (notes_at_gap Q x []) r)) quiet)
     (λ e. cc)

@@ -7,11 +7,12 @@ use Rattle.bus_word.specs.Mode.{mode_row}
 use Rattle.bus_word.specs.Cell.{is_data_place, allows_broadcast}
 use Rattle.bus_word.specs.Status.{status_word}
 use Rattle.bus_legal.specs.Description.{Description}
-use Rattle.bus_terminal.specs.Status.{accepts, is_reset_cell}
+use Rattle.bus_terminal.specs.SinceReset.{is_reset_cell}
+use Rattle.bus_terminal.specs.Status.{accepts}
 use Rattle.bus_terminal.specs.Exchanges.{Exchange, script_of}
 use Rattle.bus_terminal.specs.Distinguish.{TellsApart, all_terminals, receive_zeros, transmit, mode_code, ask, own_receive_script, own_transmit_script, broadcast_receive_script, own_code_script, broadcast_code_script}
 use Rattle.bus_terminal.proofs.Distinguish.Commands.{IsTo, zeros_small, receive_to_own, receive_to_all, transmit_from_own, code_to_own, code_to_all, moved}
-use Rattle.bus_terminal.proofs.Distinguish.Last.{apart_by_one, status_in}
+use Rattle.bus_terminal.proofs.Distinguish.Last.{apart_by_one, bits_in}
 use Rattle.bus_terminal.proofs.Distinguish.Own.{parts_by, status_at_power_up}
 use Rattle.bus_terminal.proofs.Distinguish.Broadcast.{is_of_broadcast, parts_after, asked_apart}
 
@@ -27,10 +28,10 @@ own_told a false false x y e = refl
 own_cell_tells : (P Q : Description) (x : Exchange) (cell : Cell) → P.address ≤ 30 → P.address ≡ Q.address → IsTo P.address (Some cell) x → P.legal cell ≢ Q.legal cell → TellsApart P Q (script_of (x ∷ []))
 own_cell_tells P Q x cell low same to other =
     let low_q : Q.address ≤ 30 = omega arith in
-    apart_by_one status_in P Q P.address (Some cell) x
+    apart_by_one bits_in 0 P Q P.address (Some cell) x
     (status_word P.address (parts_by (P.legal cell) (accepts P.accept cell)))
     (status_word P.address (parts_by (Q.legal cell) (accepts Q.accept cell)))
-    to
+    to (to.some_slots low)
     (status_at_power_up P x cell low to)
     (status_at_power_up Q x cell low_q (moved P.address Q.address (Some cell) x same to)
     ∙ ap (λ a. status_word a (parts_by (Q.legal cell) (accepts Q.accept cell))) (sym same))
@@ -46,7 +47,7 @@ own_receive_tells P Q s n low same place other =
 pub own_transmit_tells : (P Q : Description) (s n : ℕ) → P.address ≤ 30 → P.address ≡ Q.address → is_data_place s n ≡ true → P.legal (OwnTransmit s n) ≢ Q.legal (OwnTransmit s n) →
     TellsApart P Q (own_transmit_script P.address s n)
 own_transmit_tells P Q s n low same place other =
-    own_cell_tells P Q (transmit P.address s n) (OwnTransmit s n) low same (transmit_from_own P.address s n low place) other
+    own_cell_tells P Q (transmit P.address s n 1) (OwnTransmit s n) low same (transmit_from_own P.address s n 1 low place (omega arith) (omega arith)) other
 
 -- a broadcast, whose cell is legal in the one and not in the other, where both hear it
 broadcast_told : (a : ℕ) (l m reset : Bool) → status_word a (parts_after true l reset) ≡ status_word a (parts_after true m reset) → l ≡ m

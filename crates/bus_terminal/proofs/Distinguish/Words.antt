@@ -1,16 +1,16 @@
 -- Terminals that differ in acceptance, in the vector word or in the BIT word.
-use Rattle.std.proofs.Common.{◌≡◌, ℕ, ◌≤◌, Bool, true, false, ◌≢◌, Some, List, [], ◌∷◌, refl, ap, sym, ◌∙◌, arith}
+use Rattle.std.proofs.Common.{◌≡◌, ℕ, ◌≤◌, Bool, true, false, ◌≢◌, Some, [], refl, ap, sym, ◌∙◌, arith}
 use Rattle.bus_word.specs.declared.cell.Cell.TheVariants.{OwnMode}
 use Rattle.bus_word.specs.Status.{status_word}
 use Rattle.bus_legal.specs.Description.{Description}
 use Rattle.bus_terminal.specs.LookBack.{or_else}
 use Rattle.bus_terminal.specs.SinceReset.{vector_set, bit_set}
-use Rattle.bus_terminal.specs.Exchanges.{Exchange, exchange_answer}
-use Rattle.bus_terminal.specs.Distinguish.{TellsApart, mode_code, acceptance_script, vector_script, bit_script}
-use Rattle.bus_terminal.proofs.Distinguish.Commands.{IsTo, code_to_own, moved}
-use Rattle.bus_terminal.proofs.Distinguish.Last.{apart_by_one, status_in, words_in}
-use Rattle.bus_terminal.proofs.Distinguish.Quiet.{plain, exchange_back}
-use Rattle.bus_terminal.proofs.Distinguish.Own.{parts_by, own_sent, status_at_power_up}
+use Rattle.bus_terminal.specs.Exchanges.{Exchange}
+use Rattle.bus_terminal.specs.Distinguish.{TellsApart, mode_code, mode_code_with, acceptance_script, vector_script, bit_script}
+use Rattle.bus_terminal.proofs.Distinguish.Commands.{IsTo, slots_for-own, code_to_own, code_to_own_with, moved}
+use Rattle.bus_terminal.proofs.Distinguish.Last.{slot_at, apart_by_one, bits_in}
+use Rattle.bus_terminal.proofs.Distinguish.Quiet.{plain}
+use Rattle.bus_terminal.proofs.Distinguish.Own.{parts_by, own_sent, own_back, status_at_power_up}
 
 -- 8: acceptance of dynamic bus control
 acceptance_told : (a : ℕ) (x y : Bool) → status_word a (plain false false x) ≡ status_word a (plain false false y) → x ≡ y
@@ -20,7 +20,7 @@ acceptance_told a false true e = absurd (omega arith)
 acceptance_told a false false e = refl
 
 acceptance_status : (P : Description) (x : Exchange) → P.address ≤ 30 → IsTo P.address (Some (OwnMode 0)) x → P.legal (OwnMode 0) ≡ true →
-    status_in (exchange_answer P [] x).sent ≡ status_word P.address (plain false false P.accept)
+    bits_in (slot_at 0 P [] x) ≡ status_word P.address (plain false false P.accept)
 acceptance_status P x low to legal =
     status_at_power_up P x (OwnMode 0) low to
     ∙ ap (λ l. status_word P.address (parts_by l P.accept)) legal
@@ -31,47 +31,45 @@ acceptance_tells P Q low same p_legal q_legal other =
     let x : Exchange = mode_code P.address 0 in
     let to : IsTo P.address (Some (OwnMode 0)) x = code_to_own P.address 0 low refl in
     let low_q : Q.address ≤ 30 = omega arith in
-    apart_by_one status_in P Q P.address (Some (OwnMode 0)) x (status_word P.address (plain false false P.accept)) (status_word P.address (plain false false Q.accept)) to
+    apart_by_one bits_in 0 P Q P.address (Some (OwnMode 0)) x (status_word P.address (plain false false P.accept)) (status_word P.address (plain false false Q.accept)) to (to.some_slots low)
     (acceptance_status P x low to p_legal)
     (acceptance_status Q x low_q (moved P.address Q.address (Some (OwnMode 0)) x same to) q_legal ∙ ap (λ a. status_word a (plain false false Q.accept)) (sym same))
     (λ e. other (acceptance_told P.address P.accept Q.accept e))
 
-abbrev first_word : List ℕ → ℕ
-first_word [] = 0
-first_word (d ∷ ds) = d
-
 -- 9: the vector word
 vector_sent : (P : Description) (x : Exchange) → P.address ≤ 30 → IsTo P.address (Some (OwnMode 16)) x → P.legal (OwnMode 16) ≡ true →
-    words_in (exchange_answer P [] x).sent ≡ P.vector ∷ []
+    bits_in (slot_at 1 P [] x) ≡ P.vector
 vector_sent P x low to legal =
-    ap words_in (own_sent P [] x (OwnMode 16) true low to legal)
-    ∙ ap (λ o. or_else o P.vector ∷ []) (exchange_back P (λ p. vector_set p.event) x [] (λ k d. refl) refl)
+    ap bits_in (own_sent P [] x (OwnMode 16) true 1 low to legal tt refl)
+    ∙ ap (λ o. or_else o P.vector) (own_back P (λ p. vector_set p.event) [] x (OwnMode 16) 1 low to legal tt refl (λ k. refl) (λ d. refl) refl refl)
 
 pub vector_tells : (P Q : Description) → P.address ≤ 30 → P.address ≡ Q.address → P.legal (OwnMode 16) ≡ true → Q.legal (OwnMode 16) ≡ true → P.vector ≢ Q.vector →
     TellsApart P Q (vector_script P.address)
 vector_tells P Q low same p_legal q_legal other =
-    let x : Exchange = mode_code P.address 16 in
-    let to : IsTo P.address (Some (OwnMode 16)) x = code_to_own P.address 16 low refl in
+    let x : Exchange = mode_code_with 2 P.address 16 in
+    let to : IsTo P.address (Some (OwnMode 16)) x = code_to_own_with 2 P.address 16 (omega arith) (omega arith) low refl in
     let low_q : Q.address ≤ 30 = omega arith in
-    apart_by_one words_in P Q P.address (Some (OwnMode 16)) x (P.vector ∷ []) (Q.vector ∷ []) to
+    let two : x.slots ≡ 2 = slots_for-own P.address 2 low in
+    apart_by_one bits_in 1 P Q P.address (Some (OwnMode 16)) x P.vector Q.vector to (omega arith)
     (vector_sent P x low to p_legal)
     (vector_sent Q x low_q (moved P.address Q.address (Some (OwnMode 16)) x same to) q_legal)
-    (λ e. other (ap first_word e))
+    other
 
 -- 10: the BIT word
 bit_sent : (P : Description) (x : Exchange) → P.address ≤ 30 → IsTo P.address (Some (OwnMode 19)) x → P.legal (OwnMode 19) ≡ true →
-    words_in (exchange_answer P [] x).sent ≡ P.bit ∷ []
+    bits_in (slot_at 1 P [] x) ≡ P.bit
 bit_sent P x low to legal =
-    ap words_in (own_sent P [] x (OwnMode 19) true low to legal)
-    ∙ ap (λ o. or_else o P.bit ∷ []) (exchange_back P (λ p. bit_set p.event) x [] (λ k d. refl) refl)
+    ap bits_in (own_sent P [] x (OwnMode 19) true 1 low to legal tt refl)
+    ∙ ap (λ o. or_else o P.bit) (own_back P (λ p. bit_set p.event) [] x (OwnMode 19) 1 low to legal tt refl (λ k. refl) (λ d. refl) refl refl)
 
 pub bit_tells : (P Q : Description) → P.address ≤ 30 → P.address ≡ Q.address → P.legal (OwnMode 19) ≡ true → Q.legal (OwnMode 19) ≡ true → P.bit ≢ Q.bit →
     TellsApart P Q (bit_script P.address)
 bit_tells P Q low same p_legal q_legal other =
-    let x : Exchange = mode_code P.address 19 in
-    let to : IsTo P.address (Some (OwnMode 19)) x = code_to_own P.address 19 low refl in
+    let x : Exchange = mode_code_with 2 P.address 19 in
+    let to : IsTo P.address (Some (OwnMode 19)) x = code_to_own_with 2 P.address 19 (omega arith) (omega arith) low refl in
     let low_q : Q.address ≤ 30 = omega arith in
-    apart_by_one words_in P Q P.address (Some (OwnMode 19)) x (P.bit ∷ []) (Q.bit ∷ []) to
+    let two : x.slots ≡ 2 = slots_for-own P.address 2 low in
+    apart_by_one bits_in 1 P Q P.address (Some (OwnMode 19)) x P.bit Q.bit to (omega arith)
     (bit_sent P x low to p_legal)
     (bit_sent Q x low_q (moved P.address Q.address (Some (OwnMode 19)) x same to) q_legal)
-    (λ e. other (ap first_word e))
+    other

@@ -1,5 +1,5 @@
 -- The message in progress is for the terminal, and what is done is a legal cell of a command for it.
-use Rattle.std.proofs.Common.{◌≡◌, ℕ, ◌≤◌, Bool, true, false, ◌&&◌, ◌||◌, ◌==◌, if◌then◌else◌, Option, Some, None, List, [], ◌∷◌, refl, ap, sym, ◌∙◌, arith}
+use Rattle.std.proofs.Common.{◌≡◌, ℕ, ◌≤◌, Bool, true, false, not, ◌&&◌, ◌||◌, ◌==◌, if◌then◌else◌, Option, Some, None, List, [], ◌∷◌, refl, ap, sym, ◌∙◌, arith}
 use Rattle.std.proofs.lemmas.Bool.{and_parts}
 use Rattle.std.proofs.lemmas.Bool.Decides.{nat_tests}
 use Rattle.bus_word.specs.declared.word.Bus.{Bus}
@@ -13,14 +13,15 @@ use Rattle.bus_word.specs.Cell.{data_cell, same_bool, mode_cell_by, cell_of, is_
 use Rattle.bus_legal.specs.Description.{Description}
 use Rattle.bus_legal.specs.Reach.{is_heard}
 use Rattle.bus_terminal.specs.declared.event.Event.{Event}
-use Rattle.bus_terminal.specs.declared.event.Event.TheVariants.{Word, Noise, Gap, Write, Vector, Bit, Flag as FlagIs}
+use Rattle.bus_terminal.specs.declared.event.Event.TheVariants.{Word, Noise, Gap, Write, Vector, Bit, Flag as FlagIs, Slot}
 use Rattle.bus_terminal.specs.declared.event.Flag.TheVariants.{Busy}
 use Rattle.bus_terminal.specs.LookBack.{latest}
 use Rattle.bus_terminal.specs.History.{Noted, Ending, Nothing, Badly, Illegal, Blocked, Done}
 use Rattle.bus_terminal.specs.Open.{Open, Closed, First, Waiting, Second, open_now, transfer, status_at}
 use Rattle.bus_terminal.specs.Starts.{is_for, heard_now, is_free, is_fresh_broadcast, starts_message, starts_now}
 use Rattle.bus_terminal.specs.Flags.{flag_now}
-use Rattle.bus_terminal.specs.Ends.{verdict, complete, is_blocked_by_busy, ends_with, at_gap, at_entry, ends_now}
+use Rattle.bus_terminal.specs.Ends.{verdict, complete, is_blocked_by_busy, ends_with, at_gap, at_entry, unless_ignored, ends_now}
+use Rattle.bus_terminal.specs.Reply.{replies_on}
 use Rattle.bus_terminal.specs.Past.{past}
 use Rattle.bus_terminal.specs.Exchanges.{is_meant}
 use Rattle.bus_terminal.specs.OpenLaws.{start_in, start_of, command_open}
@@ -90,13 +91,14 @@ start_meant P (e ∷ h) b c i = by_start e (starts_now P (past P h) e) refl i (s
     by_start e false s i before = before i
     by_start (Word d w) true s i before =
         let at : w.bits ≡ c = ap bits i in
-        ap (is_meant P) (sym at) ∙ started_meant P w (heard_now P (past P h) d) (is_free (open_now P (past P h) d)) (is_fresh_broadcast (open_now P (past P h) d)) s
+        ap (is_meant P) (sym at) ∙ started_meant P w (heard_now P (past P h) d) (is_free (open_now P (past P h) d)) (is_fresh_broadcast (open_now P (past P h) d)) (and_parts (not (replies_on (past P h) d)) _ s).1
     by_start (Noise d) true s i before = before i
     by_start (Gap d) true s i before = before i
     by_start (Write q v) true s i before = before i
     by_start (Vector v) true s i before = before i
     by_start (Bit v) true s i before = before i
     by_start (FlagIs f v) true s i before = before i
+    by_start Slot true s i before = before i
 
 -- the command of a message in progress is meant for the terminal
 abbrev pub IsMeant : Description → Open → Type 0
@@ -141,14 +143,19 @@ entry_can P w (First c after) = tt
 entry_can P w (Waiting c a) = elim (status_at a w) as (λ s. DoesWhatItCan P (if s then Nothing else Badly c)) [ true ↦ tt | false ↦ tt ]
 entry_can P w (Second c a after) = tt
 
-event_can : (P : Description) → P.address ≤ 30 → (h : List Noted) (e : Event) → ((b : Bus) → IsMeant P (open_now P h b)) → DoesWhatItCan P (ends_now P h e)
-event_can P low h (Word b w) m = entry_can P (Some w) (open_now P h b)
-event_can P low h (Noise b) m = entry_can P None (open_now P h b)
-event_can P low h (Gap b) m = gap_can P low (flag_now h Busy) (open_now P h b) (m b)
+unless_can : (P : Description) (i : Bool) (x : Ending) → DoesWhatItCan P x → DoesWhatItCan P (unless_ignored i x)
+unless_can P true x can = tt
+unless_can P false x can = can
+
+pub event_can : (P : Description) → P.address ≤ 30 → (h : List Noted) (e : Event) → ((b : Bus) → IsMeant P (open_now P h b)) → DoesWhatItCan P (ends_now P h e)
+event_can P low h (Word b w) m = unless_can P (replies_on h b) (at_entry (Some w) (open_now P h b)) (entry_can P (Some w) (open_now P h b))
+event_can P low h (Noise b) m = unless_can P (replies_on h b) (at_entry None (open_now P h b)) (entry_can P None (open_now P h b))
+event_can P low h (Gap b) m = unless_can P (replies_on h b) (at_gap P (flag_now h Busy) (open_now P h b)) (gap_can P low (flag_now h Busy) (open_now P h b) (m b))
 event_can P low h (Write q v) m = tt
 event_can P low h (Vector v) m = tt
 event_can P low h (Bit v) m = tt
 event_can P low h (FlagIs f v) m = tt
+event_can P low h Slot m = tt
 
 abbrev pub AllDoWhatTheyCan : Description → List Noted → Type 0
 AllDoWhatTheyCan P [] = Unit {0}

@@ -1,5 +1,5 @@
 -- A rest that agrees where it can be asked for holds the same words for what can be transmitted.
-use Rattle.std.proofs.Common.{◌≡◌, ℕ, ◌≤◌, Bool, true, false, ◌&&◌, ◌||◌, ◌==◌, if◌then◌else◌, Option, None, List, [], ◌∷◌, refl, ap, sym, ◌∙◌, arith}
+use Rattle.std.proofs.Common.{◌≡◌, ℕ, ◌≤◌, Bool, true, false, ◌&&◌, ◌||◌, ◌==◌, if◌then◌else◌, Option, None, List, [], ◌∷◌, refl, ap, sym, ◌∙◌}
 use Rattle.std.proofs.lemmas.Bool.{eqb-true}
 use Rattle.std.proofs.Math.Bool.{or-true}
 use Rattle.bus_word.specs.declared.cell.Cell.TheVariants.{OwnReceive, OwnTransmit, BroadReceive, OwnMode, BroadMode}
@@ -8,10 +8,8 @@ use Rattle.bus_legal.specs.Description.{Description}
 use Rattle.bus_legal.specs.Reach.{Rest, with_rest, transmits, receives}
 use Rattle.bus_terminal.specs.History.{Noted, Ending, Nothing, Badly, Illegal, Blocked, Done}
 use Rattle.bus_terminal.specs.SinceReset.{is_reset, number, wrapped, written, either_word, held_now}
-use Rattle.bus_terminal.specs.Out.{first_held}
 use Rattle.bus_terminal.specs.Machine.Registers.{unless_reset}
 use Rattle.bus_terminal.proofs.BackLaw.{held_step}
-use Rattle.bus_terminal.proofs.HeldLaw.{words_from-same}
 use Rattle.bus_terminal.proofs.Reach.Heard.{DoesWhatItCan, AllDoWhatTheyCan}
 use Rattle.bus_terminal.proofs.Reach.Agrees.{Agrees}
 
@@ -44,16 +42,11 @@ wrapped_alike P R a s n i sent place (Done c (BroadReceive t m) ds) can =
     ((λ j. P.legal (OwnReceive t m) || (can.heard j && can.legal j)) ∙ or-true (P.legal (OwnReceive t m)))
     can.allowed)
 
-held_alike : (P : Description) (R : Rest) → Agrees P R → (s n i : ℕ) → transmits P s n ≡ true → is_data_place s n ≡ true → 1 ≤ i → i ≤ n → (h : List Noted) → AllDoWhatTheyCan P h →
+-- the words that a legal command makes the terminal transmit
+pub held_alike : (P : Description) (R : Rest) → Agrees P R → (s n i : ℕ) → transmits P s n ≡ true → is_data_place s n ≡ true → 1 ≤ i → i ≤ n → (h : List Noted) → AllDoWhatTheyCan P h →
     held_now (with_rest P R) h s i ≡ held_now P h s i
 held_alike P R a s n i sent place low high [] all = a.initial s n i sent place low high
 held_alike P R a s n i sent place low high (p ∷ h) (can, all) =
     held_step (with_rest P R) s i p h
     ∙ ((λ j. unless_reset (is_reset p) (a.initial s n i sent place low high j) (either_word (written s i p.event) (wrapped_alike P R a s n i sent place p.ends can j)) (held_alike P R a s n i sent place low high h all j))
     ∙ sym (held_step P s i p h))
-
--- the words that a legal command makes the terminal transmit
-pub first_held_alike : (P : Description) (R : Rest) → Agrees P R → (s n : ℕ) → transmits P s n ≡ true → is_data_place s n ≡ true → (h : List Noted) → AllDoWhatTheyCan P h →
-    first_held (with_rest P R) h s n ≡ first_held P h s n
-first_held_alike P R a s n sent place h all =
-    words_from-same (held_now (with_rest P R) h s) (held_now P h s) 1 n (λ i low high. held_alike P R a s n i sent place low (omega arith) h all)

@@ -8,8 +8,8 @@ use Rattle.bus_word.specs.Cell.{cell_of}
 use Rattle.bus_legal.specs.Description.{Description}
 use Rattle.bus_legal.specs.Reach.{Rest, with_rest}
 use Rattle.bus_terminal.specs.History.{Noted, Ending, Nothing, Badly, Illegal, Blocked, Done}
-use Rattle.bus_terminal.specs.SinceReset.{inhibited_now, start_bits}
-use Rattle.bus_terminal.specs.Status.{no_parts, formed, formed_error, accepts, inhibited_after, formed_done, reports_kept, spares_kept, is_reset_cell, kept_by_end, kept_by_command, kept_by_start, start_first, adds_error, kept_now}
+use Rattle.bus_terminal.specs.SinceReset.{inhibited_now, start_bits, is_reset}
+use Rattle.bus_terminal.specs.Status.{formed, formed_error, accepts, inhibited_after, formed_done, reports_kept, spares_kept, kept_by_end, kept_by_command, kept_by_start, start_first, reset_first, adds_error, kept_now}
 use Rattle.bus_terminal.specs.Machine.Registers.{kept_after}
 use Rattle.bus_terminal.proofs.KeptLaw.{kept_step}
 use Rattle.bus_terminal.proofs.Reach.Heard.{DoesWhatItCan, AllDoWhatTheyCan}
@@ -63,7 +63,7 @@ by_end_alike P R a h (Badly c) can = ap (λ s. if s then None else Some (formed_
 by_end_alike P R a h (Illegal c) can = refl
 by_end_alike P R a h (Blocked c cell) can = refl
 by_end_alike P R a h (Done c cell ds) can =
-    ap (λ s. if reports_kept cell then None else Some (if is_reset_cell cell then no_parts else s)) (formed_done_alike P R a h c cell can.legal)
+    ap (λ s. if reports_kept cell then None else Some s) (formed_done_alike P R a h c cell can.legal)
 
 adds_alike : (P : Description) (R : Rest) → Agrees P R → (x : Ending) → adds_error (with_rest P R) x ≡ adds_error P x
 adds_alike P R a Nothing = refl
@@ -76,5 +76,5 @@ pub kept_alike : (P : Description) (R : Rest) → Agrees P R → (h : List Noted
 kept_alike P R a [] all = refl
 kept_alike P R a (p ∷ h) (can, all) =
     kept_step (with_rest P R) p h
-    ∙ ((λ j. kept_after (start_first (by_start_alike P R a (start_bits p) j) (by_end_alike P R a h p.ends can j)) (adds_alike P R a p.ends j) (kept_alike P R a h all j))
+    ∙ ((λ j. kept_after (start_first (by_start_alike P R a (start_bits p) j) (reset_first (is_reset p) (by_end_alike P R a h p.ends can j))) (adds_alike P R a p.ends j) (kept_alike P R a h all j))
     ∙ sym (kept_step P p h))

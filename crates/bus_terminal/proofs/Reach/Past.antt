@@ -6,12 +6,14 @@ use Rattle.bus_word.specs.Cell.{cell_of}
 use Rattle.bus_legal.specs.Description.{Description}
 use Rattle.bus_legal.specs.Reach.{Rest, with_rest}
 use Rattle.bus_terminal.specs.declared.event.Event.{Event}
-use Rattle.bus_terminal.specs.declared.event.Event.TheVariants.{Word, Noise, Gap, Write, Vector, Bit, Flag as FlagIs}
+use Rattle.bus_terminal.specs.declared.event.Event.TheVariants.{Word, Noise, Gap, Write, Vector, Bit, Flag as FlagIs, Slot}
 use Rattle.bus_terminal.specs.declared.event.Flag.TheVariants.{Busy}
-use Rattle.bus_terminal.specs.History.{Noted, noted, Illegal, Blocked, Done}
+use Rattle.bus_terminal.specs.History.{Noted, Illegal, Blocked, Done}
+use Rattle.bus_terminal.specs.Reply.{replies_on}
+use Rattle.bus_terminal.specs.Turn.{noted}
 use Rattle.bus_terminal.specs.Open.{Open, Closed, First, Waiting, Second, open_now, transfer}
 use Rattle.bus_terminal.specs.Flags.{flag_now}
-use Rattle.bus_terminal.specs.Ends.{verdict, is_blocked_by_busy, complete, ends_with, at_gap}
+use Rattle.bus_terminal.specs.Ends.{verdict, is_blocked_by_busy, complete, ends_with, at_gap, unless_ignored}
 use Rattle.bus_terminal.specs.Past.{note, past}
 use Rattle.bus_terminal.specs.Exchanges.{is_meant}
 use Rattle.bus_terminal.proofs.Reach.Heard.{CanBeAsked, meant_cell, IsMeant, open_meant}
@@ -37,11 +39,12 @@ at_gap_alike P R a low busy (Second c d after) m = ends_with_alike P R a low bus
 note_alike : (P : Description) (R : Rest) → Agrees P R → P.address ≤ 30 → (h : List Noted) (e : Event) → ((b : Bus) → IsMeant P (open_now P h b)) → note (with_rest P R) h e ≡ note P h e
 note_alike P R a low h (Word b w) m = refl
 note_alike P R a low h (Noise b) m = refl
-note_alike P R a low h (Gap b) m = ap (noted h (Gap b) false) (at_gap_alike P R a low (flag_now h Busy) (open_now P h b) (m b))
+note_alike P R a low h (Gap b) m = ap (λ x. noted h (Gap b) false (unless_ignored (replies_on h b) x)) (at_gap_alike P R a low (flag_now h Busy) (open_now P h b) (m b))
 note_alike P R a low h (Write q v) m = refl
 note_alike P R a low h (Vector v) m = refl
 note_alike P R a low h (Bit v) m = refl
 note_alike P R a low h (FlagIs f v) m = refl
+note_alike P R a low h Slot m = refl
 
 pub past_alike : (P : Description) (R : Rest) → Agrees P R → P.address ≤ 30 → (h : List Event) → past (with_rest P R) h ≡ past P h
 past_alike P R a low [] = refl

@@ -3,7 +3,7 @@
 use Rattle.std.specs.Prelude.{ℕ, Bool, ◌-◌, false, if◌then◌else◌, List, [], get_or}
 use Rattle.bus_legal.specs.Description.{word_at}
 use Rattle.bus_terminal.specs.History.{Ending}
-use Rattle.bus_terminal.specs.SinceReset.{is_code, done_code, wrapped}
+use Rattle.bus_terminal.specs.SinceReset.{wrapped}
 use Rattle.bus_terminal.specs.Machine.Registers.{unless_reset}
 use Rattle.bus_terminal.specs.declared.held.HeldWords.{HeldWords}
 
@@ -15,6 +15,6 @@ row_in initial held s = if get_or held.changed (s - 1) false then get_or held.ro
 abbrev pub word_in : List (List ℕ) → HeldWords → ℕ → ℕ → ℕ
 word_in initial held s i = get_or (row_in initial held s) (i - 1) 0
 
--- word i of subaddress s after a gap ended a message so, from that before it
-abbrev pub held_after : List (List ℕ) → ℕ → ℕ → ℕ → Ending → ℕ → ℕ
-held_after initial wrap s i x before = unless_reset (is_code 8 (done_code x)) (word_at initial s i) (wrapped wrap s i x) before
+-- word i of subaddress s after a gap ended a message so, with a reset or without, from that before it
+abbrev pub held_after : List (List ℕ) → ℕ → ℕ → ℕ → Bool → Ending → ℕ → ℕ
+held_after initial wrap s i reset x before = unless_reset reset (word_at initial s i) (wrapped wrap s i x) before

@@ -1,5 +1,6 @@
 -- Words in which the worked rows are written.
-use Rattle.std.specs.Prelude.{◌≡◌, ℕ, Bool, true, false, not, ◌&&◌, ◌||◌, ◌==◌, Option, Some, None, List, [], ◌∷◌}
+use Rattle.std.specs.Prelude.{◌≡◌, ℕ, Bool, true, false, not, ◌&&◌, ◌||◌, ◌==◌, List, [], ◌∷◌, ◌++◌}
+use Rattle.bus_word.specs.declared.word.Kind.{Kind}
 use Rattle.bus_word.specs.declared.word.Kind.TheVariants.{Com, Dat}
 use Rattle.bus_word.specs.declared.word.Bus.{Bus}
 use Rattle.bus_word.specs.declared.cell.Cell.{Cell}
@@ -8,8 +9,8 @@ use Rattle.bus_word.specs.Word.{valid_word}
 use Rattle.bus_word.specs.Mode.{is_required_code}
 use Rattle.bus_legal.specs.Description.{Description}
 use Rattle.bus_terminal.specs.declared.event.Event.{Event}
-use Rattle.bus_terminal.specs.declared.event.Event.TheVariants.{Word, Gap, Write}
-use Rattle.bus_terminal.specs.Out.{Handing, Sending, Out, silence, outs}
+use Rattle.bus_terminal.specs.declared.event.Event.TheVariants.{Word, Gap, Write, Slot}
+use Rattle.bus_terminal.specs.Out.{Handing, Out, Silence, SendsWord, HandsOver, sending, outs}
 
 abbrev pub same_cell : Cell → Cell → Bool
 same_cell (OwnReceive s n) (OwnReceive t m) = (s == t) && (n == m)
@@ -56,31 +57,62 @@ invalid b bits = Word b (record (valid_word Com bits) { parity = not (valid_word
 abbrev pub write : ℕ → ℕ → ℕ → Event
 write s i v = Write (record { subaddress = s; number = i }) v
 
--- one line of a row: an event, and what answers it
+-- an event, and what answers it
 pub record Step : Type 0 where
   pub event : Event
   pub answer : Out
 
-abbrev pub quiet : Event → Step
-quiet e = record { event = e; answer = silence }
+-- an event that isn't answered
+abbrev pub unanswered : Event → Step
+unanswered e = record { event = e; answer = Silence }
 
-abbrev pub gap : Bus → Step
+-- a slot, in which a word is sent
+abbrev pub slot_sends : Bus → Kind → ℕ → Step
+slot_sends b kind bits = record { event = Slot; answer = SendsWord (sending b kind bits) }
+
+abbrev pub slots_send : Bus → List ℕ → List Step
+slots_send b [] = []
+slots_send b (d ∷ ds) = slot_sends b Dat d ∷ slots_send b ds
+
+-- the slots of a whole reply: the status, and words after it
+abbrev pub reply : Bus → ℕ → List ℕ → List Step
+reply b status words = slot_sends b Com status ∷ slots_send b words
+
+abbrev pub hands_at_gap : Bus → Handing → Step
+hands_at_gap b handing = record { event = Gap b; answer = HandsOver handing }
+
+-- one line of a row: some events, with what answers each
+abbrev pub quiet : Event → List Step
+quiet e = unanswered e ∷ []
+
+abbrev pub gap : Bus → List Step
 gap b = quiet (Gap b)
 
-abbrev pub sending : Bus → ℕ → List ℕ → Option Sending
-sending b status words = Some (record { bus = b; status = status; words = words })
+-- a slot without a reply, and one in which a status or a data word is sent
+abbrev pub idle_slot : List Step
+idle_slot = quiet Slot
 
--- a gap, at which a status and words are sent
-abbrev pub gap_sends : Bus → ℕ → List ℕ → Step
-gap_sends b status words = record { event = Gap b; answer = record { sent = sending b status words; hand = None } }
+abbrev pub slot_status : Bus → ℕ → List Step
+slot_status b status = slot_sends b Com status ∷ []
+
+abbrev pub slot_word : Bus → ℕ → List Step
+slot_word b word = slot_sends b Dat word ∷ []
+
+-- a gap, and the slots in which a status and words are sent
+abbrev pub gap_sends : Bus → ℕ → List ℕ → List Step
+gap_sends b status words = unanswered (Gap b) ∷ reply b status words
 
 -- a gap, at which something is handed over
-abbrev pub gap_hands : Bus → Handing → Step
-gap_hands b handing = record { event = Gap b; answer = record { sent = None; hand = Some handing } }
+abbrev pub gap_hands : Bus → Handing → List Step
+gap_hands b handing = hands_at_gap b handing ∷ []
 
--- a gap, at which a status is sent and something is handed over
-abbrev pub gap_sends_and_hands : Bus → ℕ → Handing → Step
-gap_sends_and_hands b status handing = record { event = Gap b; answer = record { sent = sending b status []; hand = Some handing } }
+-- a gap, at which something is handed over, and the slot in which a status is sent
+abbrev pub gap_sends_and_hands : Bus → ℕ → Handing → List Step
+gap_sends_and_hands b status handing = hands_at_gap b handing ∷ reply b status []
+
+abbrev pub steps_of : List (List Step) → List Step
+steps_of [] = []
+steps_of (line ∷ lines) = line ++ steps_of lines
 
 abbrev pub events_of : List Step → List Event
 events_of [] = []
@@ -91,5 +123,5 @@ answers_of [] = []
 answers_of (s ∷ steps) = s.answer ∷ answers_of steps
 
 -- a terminal of this description answers these events, from power-up, just so
-abbrev pub Answers : Description → List Step → Type 0
-Answers P steps = outs P (events_of steps) ≡ answers_of steps
+abbrev pub Answers : Description → List (List Step) → Type 0
+Answers P lines = outs P (events_of (steps_of lines)) ≡ answers_of (steps_of lines)

@@ -3,7 +3,7 @@ use Rattle.std.proofs.lemmas.Result.{err_from_is_err_and}
 use Rattle.line_format.proofs.Steps.{then_ok, then_err}
 use Rattle.line_format.specs.Views.{spot}
 use Rattle.bus_legal.specs.Parts.{Parts}
-use Rattle.bus_canon.specs.Canon.{is_read, canon}
+use Rattle.bus_canon.specs.Canon.{canon}
 use Rattle.bus_canon.proofs.CanonLaws.{read_normal}
 use Rattle.bus_canon.proofs.read.text.Goals as goal
 

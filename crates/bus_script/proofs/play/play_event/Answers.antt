@@ -23,8 +23,8 @@ returns-then-is_silent-clause-ok g c =
     (λ P h s. sym (c.is_silent.ensures c.if-is_silent.true) ∙ ap answer_text (c.step.ensures.answer P h s))
     (Appends-nil (g.W.Sink.written c.args.writer.now))
 
-pub returns-then-not-is_gap-clause-ok : goal.returns-then-not-is_gap-clause-ok
-returns-then-not-is_gap-clause-ok g c =
+pub returns-then-not-may_be_answered-clause-ok : goal.returns-then-not-may_be_answered-clause-ok
+returns-then-not-may_be_answered-clause-ok g c =
     Plays-one (StandsAt g.L.Legality.is_legal) text_at g.W.Sink.written _ _ _ _ c.args.event [] c.take.ensures
-    (λ P h s. unanswered P h c.args.event (sym c.is_gap.ensures ∙ c.if-not-is_gap.true))
+    (λ P h s. unanswered P h c.args.event (sym c.may_be_answered.ensures ∙ c.if-not-may_be_answered.true))
     (Appends-nil (g.W.Sink.written c.args.writer.now))

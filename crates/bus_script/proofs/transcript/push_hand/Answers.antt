@@ -1,4 +1,4 @@
-use Rattle.std.proofs.Common.{◌≡◌, arith}
+use Rattle.std.proofs.Common.{arith}
 use Rattle.bus_script.proofs.TranscriptLaws.{received_length, synchronize_length}
 use Rattle.bus_script.proofs.transcript.push_hand.Goals as goal
 

@@ -1,22 +1,43 @@
-use Rattle.std.proofs.Common.{refl}
-use Rattle.bus_terminal.proofs.StandsLaw.{gap_stands}
-use Rattle.bus_terminal.proofs.AnswerLaw.{gap_answers}
+use Rattle.std.proofs.Common.{refl, ap, sym, ◌∙◌}
+use Rattle.bus_terminal.specs.Out.{sending_out}
+use Rattle.bus_terminal.proofs.StandsLaw.{gap_stands, slot_stands}
+use Rattle.bus_terminal.proofs.AnswerLaw.{gap_answers, slot_answers, slot_can}
 use Rattle.bus_terminal.proofs.terminal.Terminal.step.Goals as goal
 
-pub returns-in-Gap : goal.returns-in-Gap
-returns-in-Gap g c =
+pub returns-else-replies_on : goal.returns-else-replies_on
+returns-else-replies_on g c =
     let is_legal = g.L.Legality.is_legal in
     let t = c.args.self.now in
-    let u = c.take_gap-reply.new.self in
-    let reply = c.take_gap-reply.ensures in (
-      (
-        refl,
-        λ _. tt,
-        λ P h s. rw c.in-Gap.is (gap_stands is_legal P h c.in-Gap.bus t u s reply.takes),
-      ),
+    let u = c.take_gap-ended.new.self in
+    let heard = sym c.replies_on.ensures ∙ c.if-replies_on.false in (
+      (refl, λ _. tt, λ P h s. rw c.in-Gap.is (gap_stands is_legal P h c.in-Gap.bus t u heard s c.take_gap-ended.ensures.takes)),
       record {
-        answer = λ P h s. rw c.in-Gap.is (gap_answers is_legal P h c.in-Gap.bus t u _ _ _ s reply.takes reply.ending reply.status (reply.possible _) c.answer.ensures.answer);
+        answer = λ P h s. rw c.in-Gap.is (gap_answers is_legal P h c.in-Gap.bus t u _ _ heard s c.take_gap-ended.ensures.takes.setup c.take_gap-ended.ensures.ending c.handed.ensures.answer);
         stands = tt;
-        small = c.answer.ensures.small;
+        small = c.handed.ensures.small;
+      },
+    )
+
+pub returns-in-Some : goal.returns-in-Some
+returns-in-Some g c =
+    let is_legal = g.L.Legality.is_legal in
+    let t = c.args.self.now in (
+      (refl, λ _. tt, λ P h s. rw c.in-Slot.is (slot_stands is_legal P h t c.take_slot.new.self s c.take_slot.ensures.takes)),
+      record {
+        answer = λ P h s. rw c.in-Slot.is (ap sending_out (c.in-Some.ensures.sent (slot_can is_legal P h t s)) ∙ slot_answers is_legal P h t s);
+        stands = tt;
+        small = tt;
+      },
+    )
+
+pub returns-in-None : goal.returns-in-None
+returns-in-None g c =
+    let is_legal = g.L.Legality.is_legal in
+    let t = c.args.self.now in (
+      (refl, λ _. tt, λ P h s. rw c.in-Slot.is (slot_stands is_legal P h t c.take_slot.new.self s c.take_slot.ensures.takes)),
+      record {
+        answer = λ P h s. rw c.in-Slot.is (ap sending_out (c.in-None.ensures.sent (slot_can is_legal P h t s)) ∙ slot_answers is_legal P h t s);
+        stands = tt;
+        small = tt;
       },
     )

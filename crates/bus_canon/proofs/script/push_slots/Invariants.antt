@@ -1,0 +1,10 @@
+use Rattle.std.proofs.Common.{◌≡◌, ◌+◌, ◌++◌, [], length}
+use Rattle.bus_terminal.specs.Exchanges.{slots_then}
+use Rattle.bus_canon.proofs.script.push_slots.Given as goal
+
+-- as many slots are in the script as have been counted
+abbrev pub invariant-loop-slot : goal.invariant-loop-slot
+invariant-loop-slot l = record {
+  items : l.script.items ≡ l.fn.script.items ++ slots_then l._slot [];
+  long : length l.script.items ≡ length l.fn.script.items + l._slot;
+}

@@ -1,0 +1,110 @@
+//! What is answered: the next word of a reply, and what is handed over.
+use super::Terminal;
+use crate::answer::{Answer, Hand, Sent};
+use crate::ended::Ended;
+use crate::reply::Reply;
+use bus_legal::Legality;
+use bus_word::{Cell, Kind, status_of};
+
+impl<L: Legality> Terminal<L> {
+    ghost use Rattle.std.specs.Prelude.{◌≡◌, true, Some};
+    ghost use Rattle.bus_terminal.specs.Out.{hands, code_hands, handing_over, HandsReceived};
+    ghost use Rattle.bus_terminal.specs.Machine.Ended.{ending_of};
+    ghost use Rattle.bus_terminal.specs.Machine.Replies.{shown_reply, has_place, can_send};
+    ghost use Rattle.bus_terminal.specs.Machine.Terminal.{reply_word_from, sends_from};
+    ghost use Rattle.bus_terminal.specs.Answer.{shown_sent, shown_hand, shown_answer, AreFew, IsSmall};
+    ghost use Rattle.bus_terminal.specs.Stands.{description_of, held_word};
+
+    /// Data word `number` of a reply, by the cell of what was done.
+    fn reply_word(&self, cell: Option<Cell>, number: u8) -> u16
+        ensures { has_place cell number ≡ true → result ≡ reply_word_from self.now.registers (held_word self.now) cell number }
+    {
+        match cell {
+            Some(Cell::OwnTransmit(subaddress, _)) => self
+                .held
+                .word(&self.setup.initial, subaddress, number),
+            Some(Cell::OwnMode(code)) => match code {
+                16 => self.registers.vector,
+                18 => self.registers.last.bits(),
+                19 => self.registers.bit,
+                _ => 0,
+            },
+            _ => 0,
+        }
+    }
+
+    /// The next word of a reply.
+    pub fn next_sent(&self, reply: Reply) -> Sent
+        ensures { can_send (shown_reply (Some reply)) ≡ true → shown_sent (Some result) ≡ sends_from self.now.setup.address self.now.registers (held_word self.now) (shown_reply (Some reply)) }
+    {
+        if reply.next == 0 {
+            Sent {
+                bus: reply.bus,
+                kind: Kind::Com,
+                bits: status_of(self.setup.address, self.registers.kept),
+            }
+        } else {
+            Sent {
+                bus: reply.bus,
+                kind: Kind::Dat,
+                bits: self.reply_word(reply.cell, reply.next),
+            }
+        }
+    }
+
+    /// What is handed over, where a gap ended a message so.
+    pub fn handed(&self, ended: &Ended) -> Answer<'_>
+        ensures answer { shown_answer result ≡ handing_over (hands (description_of L.is_legal self.now) (ending_of ended.now self.now.in_progress.words.items)) }
+        ensures small { IsSmall (shown_answer result) }
+    {
+        match self.hand(ended) {
+            Some(hand) => Answer::Hands(hand),
+            None => Answer::Silent,
+        }
+    }
+
+    fn hand(&self, ended: &Ended) -> Option<Hand<'_>>
+        ensures hand { shown_hand result ≡ hands (description_of L.is_legal self.now) (ending_of ended.now self.now.in_progress.words.items) }
+        ensures few { AreFew (shown_hand result) }
+    {
+        match ended {
+            Ended::Done(_, Cell::OwnReceive(subaddress, _)) => Some(self.received(
+                false,
+                *subaddress,
+            )),
+            Ended::Done(_, Cell::BroadReceive(subaddress, _)) => Some(self.received(
+                true,
+                *subaddress,
+            )),
+            Ended::Done(_, Cell::OwnMode(code)) => self.hand_of_code(*code, self.setup.accept),
+            Ended::Done(_, Cell::BroadMode(code)) => self.hand_of_code(*code, false),
+            _ => None,
+        }
+    }
+
+    /// The words in the buffer, as received at this subaddress.
+    fn received(&self, broadcast: bool, subaddress: u8) -> Hand<'_>
+        ensures hand { shown_hand (Some result) ≡ Some (HandsReceived broadcast subaddress self.now.in_progress.words.items) }
+        ensures few { AreFew (shown_hand (Some result)) }
+    {
+        Hand::Received {
+            broadcast,
+            subaddress,
+            words: self.in_progress.words.as_slice(),
+        }
+    }
+
+    /// What a mode code hands over.
+    fn hand_of_code(&self, code: u8, accepts: bool) -> Option<Hand<'_>>
+        ensures hand { shown_hand result ≡ code_hands code accepts self.now.in_progress.words.items }
+        ensures few { AreFew (shown_hand result) }
+    {
+        match code {
+            0 if accepts => Some(Hand::BusControl),
+            1 => Some(Hand::Synchronize),
+            3 => Some(Hand::SelfTest),
+            17 => Some(Hand::SynchronizeWith(self.in_progress.first_word())),
+            _ => None,
+        }
+    }
+}
