@@ -1,0 +1,349 @@
+"""Messages that look random, played to the model of the rules in `rules.py`.
+
+    random_scripts.py digests           what the test `random_messages` of crates/terminal_tests compares
+    random_scripts.py rows              rows of bus_terminal, each with its proof: the file proofs/RandomRows.antt
+    random_scripts.py vectors FOLDER    scripts with their transcripts: the cases slots-NNNN of tests/vectors/scripts
+
+The same words give the same numbers, so that each of the three can be made anew and compared.
+"""
+
+import pathlib
+import sys
+import tomllib
+
+import play
+import rules
+
+MASK = 0xFFFFFFFF
+REQUIRED = [("own mode", code) for code in (2, 4, 5, 8)]
+# the first bits of a command to another terminal and to all, and the bit of a command to transmit
+OTHER, ALL, TRANSMIT = 7 << 11, 31 << 11, 1 << 10
+
+
+class Messages:
+    """Messages, a few of whose events are lost or preceded by noise, with more slots or fewer than they need. What
+    comes while a reply is in progress is heard or not, as the rules say."""
+
+    def __init__(self, setup, subaddresses, seed, note):
+        self.terminal, self.subaddresses, self.seed, self.note = rules.Terminal(setup), subaddresses, seed, note
+        self.own = setup.address << 11
+
+    def word(self):
+        self.seed = (self.seed * 1664525 + 1013904223) & MASK
+        return self.seed >> 16
+
+    def draw(self, below):
+        return self.word() % below
+
+    def take(self, event):
+        self.note(event, self.terminal.step(event))
+
+    def feed(self, event):
+        """An event on a bus, that may be lost or preceded by noise."""
+        chance = self.draw(24)
+        if chance == 0:
+            return
+        if chance == 1:
+            self.take(("noise", event[1]))
+        self.take(event)
+
+    def command(self, bus, bits):
+        self.feed(("word", bus, rules.valid_word("c", bits)))
+
+    def data(self, bus, count):
+        for _ in range(count):
+            self.feed(("word", bus, rules.valid_word("d", self.word())))
+
+    def gap(self, bus):
+        """A gap, and some slots; now and then the subsystem does something before one."""
+        self.feed(("gap", bus))
+        for _ in range(self.draw(6)):
+            if self.draw(6) == 0:
+                self.subsystem()
+            self.take(("slot",))
+
+    def subsystem(self):
+        turn = self.draw(4)
+        if turn == 0:
+            self.take(("vector", self.word()))
+        elif turn == 1:
+            self.take(("bit", self.word()))
+        elif turn == 2:
+            self.take(("flag", rules.FLAGS[self.draw(4)], int(self.draw(4) == 3)))
+        else:
+            self.take(("write", self.subaddresses[self.draw(2)], 1 + self.draw(3), self.word()))
+
+    def receive(self, bus, command, count):
+        self.command(bus, command)
+        self.data(bus, count)
+        self.gap(bus)
+
+    def transmit(self, bus, command):
+        self.command(bus, command)
+        self.gap(bus)
+
+    def receives_from_other(self, bus, place, count):
+        self.command(bus, (self.own if self.draw(2) == 0 else ALL) + place + count)
+        self.command(bus, OTHER + TRANSMIT + 64 + count)
+        self.feed(("gap", bus))
+        self.command(bus, OTHER)
+        self.data(bus, count)
+        self.gap(bus)
+
+    def transmits_to_other(self, bus, place, count):
+        self.command(bus, OTHER + 64 + count)
+        self.transmit(bus, self.own + TRANSMIT + place + count)
+        self.command(bus, OTHER)
+        self.gap(bus)
+
+    def message(self):
+        bus = "B" if self.draw(4) == 0 else "A"
+        turn = self.draw(14)
+        place = 32 * self.subaddresses[self.draw(2)]
+        count = 1 + self.draw(3)
+        if turn == 0:
+            self.receive(bus, self.own + place + count, count)
+        elif turn == 1:
+            self.transmit(bus, self.own + TRANSMIT + place + count)
+        elif turn == 2:
+            self.transmit(bus, self.own + TRANSMIT + self.draw(20))
+        elif turn == 3:
+            self.receive(bus, ALL + place + count, count)
+        elif turn == 4:
+            self.transmit(bus, ALL + TRANSMIT + self.draw(9))
+        elif turn == 5:
+            self.receives_from_other(bus, place, count)
+        elif turn == 6:
+            self.command(bus, ALL + place + count)
+            self.transmit(bus, self.own + TRANSMIT + place + count)
+        elif turn == 7:
+            self.receive(bus, (self.own if self.draw(2) == 0 else ALL) + 17, 1)
+        elif turn in (8, 9):
+            self.subsystem()
+        elif turn == 10:
+            self.command(bus, self.own + place + count)
+        elif turn == 11:
+            self.command(bus, self.word())
+        elif turn == 12:
+            self.transmits_to_other(bus, place, count)
+        else:
+            # a reset, and the last command asked for on the other bus
+            self.transmit(bus, self.own + TRANSMIT + 8)
+            self.transmit(rules.other_bus(bus), self.own + TRANSMIT + 18)
+
+
+# digests
+
+
+class Digest:
+    """What is kept of all that was answered."""
+
+    def __init__(self):
+        self.value, self.answers = 2166136261, {}
+
+    def mix(self, *values):
+        for value in values:
+            self.value = ((self.value ^ value) * 16777619) & MASK
+
+    def note(self, _event, answer):
+        if answer is None:
+            return
+        name, *rest = answer
+        self.answers[name] = self.answers.get(name, 0) + 1
+        if name in ("status", "data"):
+            self.mix((1 if rest[0] == "A" else 2) + (0 if name == "status" else 8), rest[1])
+        elif name == "received":
+            self.mix(3 + rest[0], rest[1], *rest[2])
+        else:
+            self.mix({"synchronize": 5, "synchronize with": 6, "self test": 7, "bus control": 8}[name], *rest)
+
+
+def digest(legal):
+    setup = rules.Setup(address=5, legal=legal, broadcast=True, accept=True, vector=0x00AA, bit=0x00BB)
+    digest = Digest()
+    messages = Messages(setup, (29, 30), 1553, digest.note)
+    for _ in range(10000):
+        messages.message()
+    return f"0x{digest.value:08x}, of {digest.answers}"
+
+
+def digests():
+    print("every cell legal:", digest(lambda cell: True))
+    print("some cells legal:", digest(lambda cell: cell in [*REQUIRED, ("own mode", 18), ("own mode", 6)]))
+    print("no cell legal:", digest(lambda cell: False))
+
+
+# rows
+
+ROWS = 160
+CELLS = {"own receive": "OwnReceive", "own transmit": "OwnTransmit", "broadcast receive": "BroadReceive",
+         "own mode": "OwnMode", "broadcast mode": "BroadMode"}
+HEAD = """\
+-- Messages that look random, with what the rules say is answered to them: the definitions give the same. The rows are
+-- those of a model of docs/terminal.md in another language, and were written by it:
+--
+--     python3 tests/model/random_scripts.py rows >crates/bus_terminal/proofs/RandomRows.antt
+use Rattle.std.specs.Prelude.{◌≡◌, refl, ℕ, ◌+◌, ◌*◌, Bool, true, false, List, [], ◌∷◌}
+use Rattle.bus_word.specs.declared.word.Bus.TheVariants.{A, B}
+use Rattle.bus_word.specs.declared.cell.Cell.{Cell}
+use Rattle.bus_word.specs.declared.cell.Cell.TheVariants.{OwnReceive, OwnTransmit, BroadReceive, OwnMode, BroadMode}
+use Rattle.bus_legal.specs.Description.{Description}
+use Rattle.bus_terminal.specs.declared.event.Event.TheVariants.{Noise, Vector, Bit, Flag as FlagIs}
+use Rattle.bus_terminal.specs.declared.event.Flag.TheVariants.{Service, Busy, Subsystem, Terminal}
+use Rattle.bus_terminal.specs.Out.{HandsReceived, HandsSynchronize, HandsSynchronizeWith, HandsSelfTest, HandsBusControl}
+use Rattle.bus_terminal.specs.Rows.Words.{five, command, data_word, write, quiet, gap, gap_hands, idle_slot, slot_status, slot_word, Answers}
+
+-- Address 5: the broadcast option, the wraparound subaddress, acceptance of bus control, and legal cells. Word i of
+-- subaddress s is 256 * s + i at power-up.
+equipped : Bool → ℕ → Bool → List Cell → Description
+equipped broadcast wrap accept cells =
+    record (five cells) { broadcast = broadcast; wrap = wrap; accept = accept; vector = 0x00aa; bit = 0x00bb; initial = λ s i. 256 * s + i }
+"""
+
+
+def truth(value):
+    return "true" if value else "false"
+
+
+def list_of(items):
+    return "(" + " ∷ ".join([*items, "[]"]) + ")" if items else "[]"
+
+
+def event_in_antt(event):
+    name, *rest = event
+    if name == "word":
+        return f"{'command' if rest[1][0] == 'c' else 'data_word'} {rest[0]} 0x{rest[1][1]:04x}"
+    if name == "noise":
+        return f"Noise {rest[0]}"
+    if name == "write":
+        return f"write {rest[0]} {rest[1]} 0x{rest[2]:04x}"
+    if name == "flag":
+        return f"FlagIs {rest[0].capitalize()} {truth(rest[1])}"
+    return f"{name.capitalize()} 0x{rest[0]:04x}"
+
+
+def handing_in_antt(answer):
+    name, *rest = answer
+    if name == "received":
+        words = list_of([f"0x{word:04x}" for word in rest[2]])
+        return f"(HandsReceived {truth(rest[0])} {rest[1]} {words})"
+    if name == "synchronize with":
+        return f"(HandsSynchronizeWith 0x{rest[0]:04x})"
+    return {"synchronize": "HandsSynchronize", "self test": "HandsSelfTest", "bus control": "HandsBusControl"}[name]
+
+
+def line_in_antt(event, answer):
+    if event[0] == "slot":
+        if answer is None:
+            return "idle_slot"
+        return f"{'slot_status' if answer[0] == 'status' else 'slot_word'} {answer[1]} 0x{answer[2]:04x}"
+    if event[0] == "gap":
+        return f"gap {event[1]}" if answer is None else f"gap_hands {event[1]} {handing_in_antt(answer)}"
+    return f"quiet ({event_in_antt(event)})"
+
+
+def print_row(number):
+    """A row: its description has just those legal cells that its events ask for."""
+    asked, lines = {}, []
+
+    def legal(cell):
+        if cell not in asked:
+            asked[cell] = cell in REQUIRED or messages.draw(8) > 0
+        return asked[cell]
+
+    setup = rules.Setup(address=5, legal=legal, broadcast=number % 4 > 0, wraparound=(30, 7, 0, 30, 7)[number % 5],
+                        accept=number % 3 > 0, vector=0x00AA, bit=0x00BB,
+                        initial={(s, i): 256 * s + i for s in range(1, 31) for i in range(1, 33)})
+    messages = Messages(setup, (7, 30), number, lambda event, answer: lines.append(line_in_antt(event, answer)))
+    while len(lines) < 30:
+        messages.message()
+    cells = [" ".join([CELLS[cell[0]], *map(str, cell[1:])]) for cell in asked if asked[cell] and cell not in REQUIRED]
+    print(f"\nrandom_{number:03} : Answers (equipped {truth(setup.broadcast)} {setup.wraparound} {truth(setup.accept)}"
+          f" {list_of(cells)})")
+    for at in range(0, len(lines), 6):
+        print(f"    {'(' if at == 0 else '∷ '}{' ∷ '.join(lines[at : at + 6])}")
+    print(f"    ∷ [])\nrandom_{number:03} = refl")
+
+
+def rows():
+    print(HEAD, end="")
+    for number in range(1, ROWS + 1):
+        print_row(number)
+
+
+# vectors
+
+VECTORS = 16
+PROFILE = """\
+address = {address}
+broadcast = {broadcast}
+accept_bus_control = true
+vector = 0x00aa
+bit = 0x00bb
+
+[[rule]]
+to = "both"
+direction = "both"
+subaddresses = "{subaddresses}"
+counts = "{counts}"
+
+[[mode]]
+to = "both"
+codes = "{codes}"
+
+[[initial]]
+subaddress = 30
+words = [1, 2, 3]
+"""
+
+
+def line_of(event):
+    """The line of an event whose word, if any, is valid."""
+    name, *rest = event
+    if name == "word":
+        return f"{rest[0]} {rest[1][0]} {rest[1][1]:04x}"
+    if name in ("noise", "gap"):
+        return f"{rest[0]} {name}"
+    if name == "write":
+        return f"write {rest[0]:02} {rest[1]:02} {rest[2]:04x}"
+    if name in ("vector", "bit"):
+        return f"{name} {rest[0]:04x}"
+    return " ".join(map(str, event))
+
+
+def write_vector(folder, number):
+    case, text = folder / f"slots-{number:04}", PROFILE.format(
+        address=number * 2,
+        broadcast=truth(number % 4 > 0),
+        subaddresses=("1-30", "29", "30")[number % 3],
+        counts=("1-32", "1-2")[number % 2],
+        codes=("0-31", "0-8", "16-19", "6-18")[number % 4])
+    lines, transcript = [], []
+
+    def note(event, answer):
+        lines.append(line_of(event))
+        if answer:
+            transcript.append(play.answer_line(answer))
+
+    messages = Messages(play.setup_of(tomllib.loads(text)), (29, 30), number, note)
+    while len(lines) < 200:
+        messages.message()
+    files = {"toml": text, "script": "\n".join([*lines, ""]), "args": f"run\n{case.name}.toml\n{case.name}.script\n",
+             "stdout": "\n".join([*transcript, ""]), "stderr": "", "status": "0\n"}
+    for ending, content in files.items():
+        case.with_suffix("." + ending).write_text(content)
+
+
+def main():
+    job, *folder = sys.argv[1:]
+    if job == "digests":
+        digests()
+    elif job == "rows":
+        rows()
+    else:
+        for number in range(VECTORS):
+            write_vector(pathlib.Path(*folder), number)
+
+
+if __name__ == "__main__":
+    main()
