@@ -277,6 +277,7 @@ VECTORS = 16
 PROFILE = """\
 address = {address}
 broadcast = {broadcast}
+wraparound = {wraparound}
 accept_bus_control = true
 vector = 0x00aa
 bit = 0x00bb
@@ -315,6 +316,7 @@ def write_vector(folder, number):
     case, text = folder / f"slots-{number:04}", PROFILE.format(
         address=number * 2,
         broadcast=truth(number % 4 > 0),
+        wraparound=("true", "29", "true", "false")[number % 4],
         subaddresses=("1-30", "29", "30")[number % 3],
         counts=("1-32", "1-2")[number % 2],
         codes=("0-31", "0-8", "16-19", "6-18")[number % 4])
