@@ -60,7 +60,7 @@ vectors() {
 answers_at_once() {
     local line
     coproc terminal { "$program" 2>/dev/null; }
-    printf 'A c 2c02\nA gap\n' >&"${terminal[1]}"
+    printf %b "$exchange" >&"${terminal[1]}"
     read -r -t 10 line <&"${terminal[0]}"
     [[ $line == 'A s 2800' ]]
     count 'an answer comes before the next line' $?
@@ -77,9 +77,9 @@ run_answers_at_once() {
     (cd "$work" && exec "$program" run five pipe <stdin >answers 2>stderr) &
     # opened in both directions, a pipe doesn't wait for its other end
     exec {script}<>"$work/pipe" {answers}<>"$work/answers"
-    printf 'A c 2c02\nA gap\nB c 2c' >&"$script"
+    printf %b "${exchange}B c 2c" >&"$script"
     read -r -t 10 first <&"$answers"
-    printf '02\nB gap\n' >&"$script"
+    printf '02\nB gap\nslot\n' >&"$script"
     read -r -t 10 second <&"$answers"
     [[ $first == 'A s 2800' && $second == 'B s 2800' ]]
     count 'run, an answer comes before the next line' $?
@@ -199,6 +199,9 @@ run_with_failing_writes() {
     count "run, $((number - 1)) failing writes" $?
 }
 
+# transmit status word and the slot of its reply, which is `A s 2800`
+exchange='A c 2c02\nA gap\nslot\n'
+
 usage='usage: rt1553 [check P, canon P, run P SCRIPT, compare P Q]'
 
 usage_rows() {
@@ -248,19 +251,21 @@ WORDS
 }
 
 standard_input_rows() {
-    input 'A c 2c02\nA gap\n'
+    input "$exchange"
     row transmit-status 0 $'A s 2800\n' ''
     row 'no words but --' 0 $'A s 2800\n' '' --
     input ''
     row empty-script 0 '' ''
+    input "${exchange}A x\n"
+    row refused-line 2 $'A s 2800\n' $'script: line 4\n'
+    input "${exchange}A x"
+    row 'refused line without a line feed' 2 $'A s 2800\n' $'script: line 4\n'
     input 'A c 2c02\nA gap\nA x\n'
-    row refused-line 2 $'A s 2800\n' $'script: line 3\n'
-    input 'A c 2c02\nA gap\nA x'
-    row 'refused line without a line feed' 2 $'A s 2800\n' $'script: line 3\n'
-    input 'A c 2861\nA d 0007\nA gap\nflag service 1\nB c 2c05\nB gap\nwrite 30 32 ffff\nvector 00aa\nbit 00BB\nB noise\nB c 2fe2\nB gap\n'
+    row 'refused line in place of the slot' 2 '' $'script: line 3\n'
+    input 'A c 2861\nA d 0007\nA gap\nslot\nflag service 1\nB c 2c05\nB gap\nslot\nwrite 30 32 ffff\nvector 00aa\nbit 00BB\nB noise\nB c 2fe2\nB gap\nslot\n'
     row 'every kind of line' 0 $'A s 2c00\nB s 2900\nB s 2900\n' ''
 
-    printf 'A c 2c02\nA gap\n' | "$program" >/dev/full 2>"$work/stderr"
+    printf %b "$exchange" | "$program" >/dev/full 2>"$work/stderr"
     [[ ${PIPESTATUS[1]} -eq 4 && $(cat "$work/stderr") == 'output: write failed' ]]
     count 'a full device' $?
     "$program" <&- >"$work/stdout" 2>"$work/stderr"
@@ -293,8 +298,8 @@ file_rows() {
     row 'one line feed more' 2 '' $'canonical text: bytes after the end\n' canon trailing
     row 'compare, the same' 0 $'same\n' '' compare five also-five
     row 'compare with a canonical text' 0 $'same\n' '' compare canonical five
-    row 'address-and-option, the addresses' 1 $'A c 2c02\nA gap\n' '' compare five six
-    row 'the first one is asked' 1 $'A c 3402\nA gap\n' '' compare six five
+    row 'address-and-option, the addresses' 1 $'A c 2c02\nA gap\nslot\n' '' compare five six
+    row 'the first one is asked' 1 $'A c 3402\nA gap\nslot\n' '' compare six five
     row 'a refused profile' 2 '' $'profile: root: address is out of range\n' check bad
     row 'the first refused text' 2 '' $'profile: root: address is out of range\n' compare five bad
     row 'the largest profile file' 0 $'ok\n' '' check largest
@@ -313,7 +318,7 @@ file_rows() {
 
 # profiles and scripts by their names, and what a run says of them
 run_file_rows() {
-    script 'A c 2c02\nA gap\n'
+    script "$exchange"
     input 'A x\n'
     row 'run' 0 $'A s 2800\n' '' run five script
     row 'run --' 0 $'A s 2800\n' '' run -- five script
@@ -335,7 +340,7 @@ run_file_rows() {
     row 'run, bytes after a canonical text' 2 '' $'canonical text: bytes after the end\n' run trailing script
     script 'A x\n'
     row 'run, the profile is refused first' 2 '' $'profile: root: address is out of range\n' run bad script
-    script 'A c 2c02\nA gap\n'
+    script "$exchange"
     (cd "$work" && "$program" run five script >/dev/full 2>stderr)
     [[ $? -eq 4 && $(cat "$work/stderr") == 'output: write failed' ]]
     count 'run on a full device' $?
@@ -383,7 +388,7 @@ PROFILES
 
 # a script of one exchange and then a line, which is taken (status 0) or refused: line NAME STATUS ERRORS TEXT
 line() {
-    script "A c 2c02\nA gap\n$4"
+    script "$exchange$4"
     row "run, $1" "$2" $'A s 2800\n' "$3" run five script
 }
 
@@ -398,6 +403,7 @@ run_line_rows() {
 # any bytes: \t \r \0 \0377 \0303\0244
 #23456789-123456789-123456789-123456789-123456789-123456789-1234
 A gap
+slot
 B noise
 A d FFff 0
 B c 2C02 1
@@ -411,8 +417,8 @@ flag subsystem 1
 flag terminal 0
 LINES
     while IFS= read -r text; do
-        line "a line refused: $text" 2 $'script: line 3\n' "$text\n"
-        line "a last line refused: $text" 2 $'script: line 3\n' "$text"
+        line "a line refused: $text" 2 $'script: line 4\n' "$text\n"
+        line "a last line refused: $text" 2 $'script: line 4\n' "$text"
     done <<'LINES'
 \r
 \0
@@ -442,7 +448,12 @@ A c 2c02 01
 A c 2c02 0 0
 A c 2c02\0303\0244
 A e 2c02
-slot
+slot 1
+A slot
+Slot
+slots
+slot\r
+ slot
 write 3 01 0000
 write 00 01 0000
 write 31 01 0000
@@ -460,15 +471,15 @@ flag accept 1
 rt1553 1
 A23456789-123456789-123456789-123456789-123456789-123456789-1234
 LINES
-    line 'a comment of 65 bytes' 2 $'script: line 3 is too long\n' '#23456789-123456789-123456789-123456789-123456789-123456789-12345\n'
-    line 'a comment of 65 bytes with its CR' 2 $'script: line 3 is too long\n' '#23456789-123456789-123456789-123456789-123456789-123456789-1234\r\n'
-    line 'a bad line of 65 bytes' 2 $'script: line 3 is too long\n' 'A23456789-123456789-123456789-123456789-123456789-123456789-12345\n'
-    line 'a last line of 65 bytes' 2 $'script: line 3 is too long\n' '#23456789-123456789-123456789-123456789-123456789-123456789-12345'
-    line 'the first of two faults' 2 $'script: line 4\n' '# right\nA x\nA y\n'
-    line 'a line of 100,000 bytes' 2 $'script: line 3 is too long\n' "$(printf '%0100000d' 0)"
+    line 'a comment of 65 bytes' 2 $'script: line 4 is too long\n' '#23456789-123456789-123456789-123456789-123456789-123456789-12345\n'
+    line 'a comment of 65 bytes with its CR' 2 $'script: line 4 is too long\n' '#23456789-123456789-123456789-123456789-123456789-123456789-1234\r\n'
+    line 'a bad line of 65 bytes' 2 $'script: line 4 is too long\n' 'A23456789-123456789-123456789-123456789-123456789-123456789-12345\n'
+    line 'a last line of 65 bytes' 2 $'script: line 4 is too long\n' '#23456789-123456789-123456789-123456789-123456789-123456789-12345'
+    line 'the first of two faults' 2 $'script: line 5\n' '# right\nA x\nA y\n'
+    line 'a line of 100,000 bytes' 2 $'script: line 4 is too long\n' "$(printf '%0100000d' 0)"
     script 'A c 2c02\r\nA gap\r\n'
     row 'run, lines that end in CR LF' 2 '' $'script: line 1\n' run five script
-    script 'A c 2c02\nA gap'
+    script 'A c 2c02\nA gap\nslot'
     row 'run, a last line without its line feed' 0 $'A s 2800\n' '' run five script
 }
 
@@ -484,39 +495,64 @@ run_length_rows() {
     cp "$work/script" "$work/stdin"
     row 'a line feed more on the standard input' 2 '' $'script: too many lines\n'
     input ''
-    { printf 'A c 2c02\nA gap\n'; yes '#' | head -n "$((most - 4))"; printf 'B c 2c02\nB gap'; } >"$work/script"
+    { printf %b "$exchange"; yes '#' | head -n "$((most - 6))"; printf 'B c 2c02\nB gap\nslot'; } >"$work/script"
     row 'run, 1,048,576 lines of which the last lacks its line feed' 0 $'A s 2800\nB s 2800\n' '' run five script
-    { printf 'A c 2c02\nA gap\n'; yes '#' | head -n "$((most - 2))"; printf 'A'; } >"$work/script"
+    { printf %b "$exchange"; yes '#' | head -n "$((most - 3))"; printf 'A'; } >"$work/script"
     row 'run, a byte more' 2 $'A s 2800\n' $'script: too many lines\n' run five script
-    { printf 'A c 2c02\nA gap\n'; yes '#' | head -n "$((most - 2))"; printf '%080d\n' 0; } >"$work/script"
+    { printf %b "$exchange"; yes '#' | head -n "$((most - 3))"; printf '%080d\n' 0; } >"$work/script"
     row 'run, a long line more' 2 $'A s 2800\n' $'script: too many lines\n' run five script
-    { printf 'A c 2c02\nA gap\n'; yes '#' | head -n "$((most - 3))"; printf 'A x\nA gap\n'; } >"$work/script"
+    { printf %b "$exchange"; yes '#' | head -n "$((most - 4))"; printf 'A x\nA gap\n'; } >"$work/script"
     row 'run, a bad line before too many' 2 $'A s 2800\n' $'script: line 1048576\n' run five script
 }
 
-# the longest answers: 32 words sent, 32 words handed over
+# the longest reply, 33 slots, and the longest answer, 32 words handed over
 run_answer_rows() {
-    local words number
+    local words number slots
+    slots=$(printf 'slot\\n%.0s' {1..33})
     printf 'address = 5\n[[rule]]\ndirection = "both"\nsubaddresses = 3\n' >"$work/whole"
     words=
     for number in {1..32}; do words+=$(printf 'write 03 %02d ff%02x\\n' "$number" "$number"); done
-    script "${words}A c 2c60\nA gap\n"
+    script "${words}A c 2c60\nA gap\n$slots"
     words=$(printf 'A d ff%02x\\n' {1..32})
     row 'run, 32 words sent' 0 "$(printf %b "A s 2800\n$words")"$'\n' '' run whole script
-    script "B c 2860\n${words//A/B}B gap\n"
+    script "B c 2860\n${words//A/B}B gap\n$slots"
     words=$(printf ' ff%02x' {1..32})
-    row 'run, 32 words received' 0 $'B s 2800\nhand receive own 03'"$words"$'\n' '' run whole script
+    row 'run, 32 words received' 0 "hand receive own 03$words"$'\nB s 2800\n' '' run whole script
+}
+
+# replies that take time, each on one line: a profile, what happens, and the transcript
+run_reply_rows() {
+    local profile events transcript number=0
+    printf 'address = 5\n[[rule]]\ndirection = "transmit"\nsubaddresses = 3\ncounts = 2\n[[initial]]\nsubaddress = 3\nwords = [10, 11]\n' >"$work/two"
+    printf 'address = 5\nvector = 0x00aa\n[[mode]]\ncodes = 16\n' >"$work/vector"
+    while IFS='|' read -r profile events transcript; do
+        number=$((number + 1))
+        script "$(printf %s "$events" | sed 's/, /\\n/g')\n"
+        row "run, reply $number: $events" 0 "${transcript:+${transcript//, /$'\n'}$'\n'}" '' run "$profile" script
+    done <<'REPLIES'
+five|A c 2c02, A gap|
+five|slot, A c 2c02, slot, A gap, slot, slot|A s 2800
+five|A c 2c05, A gap, flag busy 1, slot, slot|A s 2800
+two|A c 2c62, A gap, slot, write 03 02 00bb, slot, slot|A s 2800, A d 000a, A d 00bb
+two|A c 2c62, A gap, slot, A c 2c02, A gap, slot, slot, A c 2c02, A gap, slot|A s 2800, A d 000a, A d 000b, A s 2800
+two|A c 2c62, A gap, slot, B c 2c02, slot, B gap, slot|A s 2800, B s 2800
+two|A c 2c62, A gap, slot, B c 3402, B noise, B gap, slot, slot|A s 2800, A d 000a, A d 000b
+vector|A c 2c08, A gap, vector 1234, slot, A c 2c10, A gap, slot, slot|A s 2800, A s 2800, A d 00aa
+vector|vector 1234, A c 2c08, A gap, B c 2c10, B gap, slot, slot|B s 2800, B d 1234
+five|A c 2c04, A gap, slot, B c 2c08, B gap, B c 2c02, B gap, slot|A s 2800, B s 2800
+five|flag service 1, A c 2c08, A gap, flag service 0, B c 2c02, B gap, slot|B s 2900
+REPLIES
 }
 
 run_fault_rows() {
     input ''
-    script 'A c 2c02\nA gap\n'
+    script "$exchange"
     growths 'run' run five script
     growths 'run of a whole profile' run whole script
     growths 'run of a canonical text' run canonical script
     growths 'run of a refused profile' run bad script
     growths 'run, an absent script' run five absent
-    yes $'A c 2c02\nA gap' | head -n 32000 >"$work/script"
+    yes $'A c 2c02\nA gap\nslot' | head -n 48000 >"$work/script"
     yes 'A s 2800' | head -n 16000 >"$work/want-stdout"
     run_with_failing_reads
     run_with_failing_writes
@@ -744,15 +780,22 @@ pair() {
 
 comparison_rows() {
     local both='[[rule]]\ndirection = "both"\nsubaddresses = 30\ncounts = 1\n'
-    pair 'the broadcast option' 'broadcast = true\n' '' 'A c fc02\nA gap\nA c 2c02\nA gap\n'
+    local word='[[rule]]\ndirection = "transmit"\nsubaddresses = 7\ncounts = "2, 5"\n[[initial]]\nsubaddress = 7\nat = 4\nwords = '
+    local slots='slot\nslot\nslot\nslot\nslot\nslot\n'
+    pair 'the broadcast option' 'broadcast = true\n' '' 'A c fc02\nA gap\nA c 2c02\nA gap\nslot\n'
     pair 'an own receive cell' '[[rule]]\ndirection = "receive"\nsubaddresses = 3\ncounts = 2\n' '' \
-        'A c 2862\nA d 0000\nA d 0000\nA gap\n'
-    pair 'an own mode code' '[[mode]]\ncodes = "3, 7"\n' '' 'A c 2c03\nA gap\n'
+        'A c 2862\nA d 0000\nA d 0000\nA gap\nslot\n'
+    pair 'an own mode code' '[[mode]]\ncodes = "3, 7"\n' '' 'A c 2c03\nA gap\nslot\n'
     pair 'a broadcast mode code' 'broadcast = true\n[[mode]]\nto = "broadcast"\ncodes = 4\n' 'broadcast = true\n' \
-        'A c fc04\nA gap\nA c 2c02\nA gap\n'
-    pair 'wraparound' "wraparound = false\n$both" "$both" 'A c 2bc1\nA d ffff\nA gap\nA c 2fc1\nA gap\n'
+        'A c fc04\nA gap\nA c 2c02\nA gap\nslot\n'
+    pair 'the vector word' 'vector = 1\n[[mode]]\ncodes = 16\n' '[[mode]]\ncodes = 16\n' 'A c 2c10\nA gap\nslot\nslot\n'
+    pair 'the BIT word' 'bit = 1\n[[mode]]\ncodes = 19\n' '[[mode]]\ncodes = 19\n' 'A c 2c13\nA gap\nslot\nslot\n'
+    pair 'an initial word' "${word}[4]\n" "${word}[5]\n" "A c 2ce5\nA gap\n$slots"
+    pair 'wraparound' "wraparound = false\n$both" "$both" \
+        'A c 2bc1\nA d ffff\nA gap\nslot\nA c 2fc1\nA gap\nslot\nslot\n'
     both='[[rule]]\ndirection = "both"\nsubaddresses = 7\ncounts = 1\n'
-    pair 'wraparound at 7 or none' "wraparound = 7\n$both" "$both" 'A c 28e1\nA d ffff\nA gap\nA c 2ce1\nA gap\n'
+    pair 'wraparound at 7 or none' "wraparound = 7\n$both" "$both" \
+        'A c 28e1\nA d ffff\nA gap\nslot\nA c 2ce1\nA gap\nslot\nslot\n'
     printf 'address = 5\nwraparound = false\nvector = 7\n' >"$work/p"
     row 'what can not be reached' 0 $'same\n' '' compare p five
 }
@@ -813,11 +856,12 @@ run_rows() {
     run_line_rows
     run_length_rows
     run_answer_rows
+    run_reply_rows
     run_fault_rows
 }
 
 fault_rows() {
-    input 'A c 2c02\nA gap\n'
+    input "$exchange"
     growths 'no words'
     growths 'check' check five
     growths 'canon' canon five
