@@ -111,6 +111,7 @@ fn read_event(line: &str) -> Option<Event> {
             read_number(number, 32)?,
             read_bits(word)?,
         )),
+        (Some("slot"), None, ..) => Some(Event::Slot),
         (Some("vector"), Some(word), None, ..) => Some(Event::Vector(read_bits(word)?)),
         (Some("bit"), Some(word), None, ..) => Some(Event::Bit(read_bits(word)?)),
         (Some("flag"), Some(flag), Some(state), None, _) => {
@@ -187,19 +188,23 @@ fn read_number(text: &str, most: u8) -> Option<u8> {
 }
 
 fn write_answer(transcript: &mut impl Write, answer: &Answer) -> io::Result<()> {
-    if let Some(sent) = &answer.sent {
-        writeln!(transcript, "{:?} s {:04x}", sent.bus, sent.status)?;
-        for word in sent.words {
-            writeln!(transcript, "{:?} d {word:04x}", sent.bus)?;
+    match answer {
+        Answer::Silent => Ok(()),
+        Answer::Sends(sent) => {
+            let kind = if sent.is_status { 's' } else { 'd' };
+            writeln!(transcript, "{:?} {kind} {:04x}", sent.bus, sent.bits)
         }
+        Answer::Hands(hand) => write_hand(transcript, hand),
     }
-    match &answer.hand {
-        None => Ok(()),
-        Some(Hand::Received {
+}
+
+fn write_hand(transcript: &mut impl Write, hand: &Hand) -> io::Result<()> {
+    match hand {
+        Hand::Received {
             broadcast,
             subaddress,
             words,
-        }) => {
+        } => {
             let to = if *broadcast { "broadcast" } else { "own" };
             write!(transcript, "hand receive {to} {subaddress:02}")?;
             for word in *words {
@@ -207,9 +212,9 @@ fn write_answer(transcript: &mut impl Write, answer: &Answer) -> io::Result<()> 
             }
             writeln!(transcript)
         }
-        Some(Hand::Synchronize) => writeln!(transcript, "hand sync"),
-        Some(Hand::SynchronizeWith(word)) => writeln!(transcript, "hand sync {word:04x}"),
-        Some(Hand::SelfTest) => writeln!(transcript, "hand self-test"),
-        Some(Hand::BusControl) => writeln!(transcript, "hand bus-control"),
+        Hand::Synchronize => writeln!(transcript, "hand sync"),
+        Hand::SynchronizeWith(word) => writeln!(transcript, "hand sync {word:04x}"),
+        Hand::SelfTest => writeln!(transcript, "hand self-test"),
+        Hand::BusControl => writeln!(transcript, "hand bus-control"),
     }
 }

@@ -12,6 +12,8 @@ const REQUIRED_CODES: u32 = 0x0000_0134;
 
 /// How many rules, mode entries or initial entries a profile may have.
 const MOST_ENTRIES: usize = 256;
+/// The subaddress at which words are turned round, where the profile doesn't choose another.
+const WRAPAROUND: usize = 30;
 /// How many words a subaddress holds.
 const WORDS: usize = 32;
 
@@ -24,7 +26,7 @@ pub struct Profile {
     pub address: u16,
     /// Whether commands to address 31 are heard.
     pub broadcast: bool,
-    /// The subaddress at which words are turned round, 0 for none.
+    /// The subaddress at which words are turned round, 1 to 30, or 0 for none.
     pub wraparound: usize,
     pub accepts_bus_control: bool,
     pub vector: u16,
@@ -207,12 +209,15 @@ impl<'a> Section<'a> {
         }
     }
 
-    /// The wraparound subaddress, 0 for none.
+    /// The wraparound subaddress: a number, or whether it is the usual one.
     fn wraparound(&self) -> Checked<usize> {
         match self.table.get("wraparound") {
-            None | Some(Value::Truth(true)) => Ok(30),
-            Some(Value::Truth(false)) => Ok(0),
-            Some(value) => Ok(self.number_within("wraparound", value, 1, 30)? as usize),
+            Some(Value::Integer(_)) => Ok(self.integer("wraparound", None, 1, 30)?.into()),
+            _ => Ok(if self.truth("wraparound", true)? {
+                WRAPAROUND
+            } else {
+                0
+            }),
         }
     }
 

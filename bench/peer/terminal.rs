@@ -73,6 +73,8 @@ pub enum Event {
     Word(Bus, Word),
     Noise(Bus),
     Gap(Bus),
+    /// The time in which the terminal sends one word.
+    Slot,
     /// The subsystem writes a word: the subaddress, 1 to 30; the number of the word, 1 to 32; the word.
     Write(u8, u8, u16),
     Vector(u16),
@@ -81,17 +83,20 @@ pub enum Event {
 }
 
 /// What an event is answered with.
-#[derive(Default)]
-pub struct Answer<'a> {
-    pub sent: Option<Sent<'a>>,
-    pub hand: Option<Hand<'a>>,
+pub enum Answer<'a> {
+    Silent,
+    /// In a slot.
+    Sends(Sent),
+    /// At a gap.
+    Hands(Hand<'a>),
 }
 
-/// A status word and the data words after it.
-pub struct Sent<'a> {
+/// One word of a reply: its status word, or a data word.
+#[derive(Clone, Copy)]
+pub struct Sent {
     pub bus: Bus,
-    pub status: u16,
-    pub words: &'a [u16],
+    pub is_status: bool,
+    pub bits: u16,
 }
 
 /// What is handed over to the subsystem.
@@ -210,6 +215,39 @@ impl Message {
     }
 }
 
+/// A reply in progress.
+#[derive(Clone, Copy)]
+struct Reply {
+    bus: Bus,
+    after: AfterStatus,
+    /// The number of the word that is sent next; the status is number 0.
+    next: usize,
+}
+
+/// What comes after the status of a reply.
+#[derive(Clone, Copy)]
+enum AfterStatus {
+    Nothing,
+    /// The terminal is reset.
+    Reset,
+    /// So many words that are held for a subaddress.
+    Held(usize, usize),
+    Vector,
+    LastCommand,
+    Bit,
+}
+
+impl AfterStatus {
+    /// How many data words are sent.
+    fn count(self) -> usize {
+        match self {
+            AfterStatus::Nothing | AfterStatus::Reset => 0,
+            AfterStatus::Held(_, count) => count,
+            AfterStatus::Vector | AfterStatus::LastCommand | AfterStatus::Bit => 1,
+        }
+    }
+}
+
 /// A remote terminal.
 pub struct Terminal {
     profile: Profile,
@@ -217,6 +255,7 @@ pub struct Terminal {
     heard: [bool; 2],
     /// The message in progress: there is at most one on both buses.
     message: Option<Message>,
+    reply: Option<Reply>,
     /// The data words of the message in progress, as far as they came.
     received: [u16; WORDS],
     held: [[u16; WORDS]; 31],
@@ -237,6 +276,7 @@ impl Terminal {
         Terminal {
             heard: [false; 2],
             message: None,
+            reply: None,
             received: [0; WORDS],
             held: profile.initial,
             vector: profile.vector,
@@ -254,9 +294,22 @@ impl Terminal {
     #[inline]
     pub fn step(&mut self, event: Event) -> Answer<'_> {
         match event {
-            Event::Word(bus, word) => self.take_word(bus, word),
-            Event::Noise(bus) => self.take_other(bus, None),
-            Event::Gap(bus) => return self.take_gap(bus),
+            Event::Word(bus, word) => {
+                if !self.replies_on(bus) {
+                    self.take_word(bus, word);
+                }
+            }
+            Event::Noise(bus) => {
+                if !self.replies_on(bus) {
+                    self.take_other(bus, None);
+                }
+            }
+            Event::Gap(bus) => {
+                if !self.replies_on(bus) {
+                    return self.take_gap(bus);
+                }
+            }
+            Event::Slot => return self.take_slot(),
             Event::Write(subaddress, number, word) => {
                 self.held[usize::from(subaddress)][usize::from(number) - 1] = word;
             }
@@ -264,7 +317,13 @@ impl Terminal {
             Event::Bit(word) => self.bit = word,
             Event::Flag(flag, is_set) => self.flags[flag as usize] = is_set,
         }
-        Answer::default()
+        Answer::Silent
+    }
+
+    /// Whether a reply is in progress on a bus: then nothing is heard there.
+    #[inline]
+    fn replies_on(&self, bus: Bus) -> bool {
+        matches!(self.reply, Some(reply) if reply.bus == bus)
     }
 
     fn take_word(&mut self, bus: Bus, word: Word) {
@@ -360,7 +419,7 @@ impl Terminal {
     fn take_gap(&mut self, bus: Bus) -> Answer<'_> {
         self.heard[bus as usize] = false;
         let Some(mut message) = self.message.filter(|message| message.bus == bus) else {
-            return Answer::default();
+            return Answer::Silent;
         };
         match (message.phase, message.followed) {
             (Phase::Command | Phase::Status, Followed::Data(count))
@@ -376,10 +435,39 @@ impl Terminal {
             }
             _ => self.end_in_error(message),
         }
-        Answer::default()
+        Answer::Silent
     }
 
-    /// Starts a message, which drops the one in progress on either bus (4.4.3.2).
+    /// Sends the next word of the reply, as it is now. A reset acts when its status has been sent.
+    fn take_slot(&mut self) -> Answer<'static> {
+        let Some(reply) = self.reply else {
+            return Answer::Silent;
+        };
+        let Reply { bus, after, next } = reply;
+        let bits = match after {
+            _ if next == 0 => self.kept,
+            AfterStatus::Held(subaddress, _) => self.held[subaddress][next - 1],
+            AfterStatus::Vector => self.vector,
+            AfterStatus::LastCommand => self.last_command,
+            AfterStatus::Bit => self.bit,
+            AfterStatus::Nothing | AfterStatus::Reset => 0,
+        };
+        self.reply = (next < after.count()).then_some(Reply {
+            next: next + 1,
+            ..reply
+        });
+        if let AfterStatus::Reset = after {
+            self.reset();
+        }
+        Answer::Sends(Sent {
+            bus,
+            is_status: next == 0,
+            bits,
+        })
+    }
+
+    /// Starts a message, which drops the one in progress on either bus (4.4.3.2), and the rest of a reply.
+    /// That is on the other bus: on its own no word is heard.
     fn start(&mut self, bus: Bus, command: Command) {
         let is_legal = self.is_legal(command);
         let message = Message {
@@ -397,6 +485,7 @@ impl Terminal {
             self.kept = self.address_and_broadcast(command);
         }
         self.message = Some(message);
+        self.reply = None;
     }
 
     /// Whether the command is of this mode code to the own address, with the T/R bit of the code.
@@ -466,11 +555,13 @@ impl Terminal {
         let command = message.command;
         if !message.is_legal {
             self.kept = self.formed(command) | status::MESSAGE_ERROR;
-            return self.status_alone(message);
+            self.begin_reply(message, AfterStatus::Nothing);
+            return Answer::Silent;
         }
         if self.is_stopped_by_busy(command) {
             self.kept = self.formed(command);
-            return self.status_alone(message);
+            self.begin_reply(message, AfterStatus::Nothing);
+            return Answer::Silent;
         }
         if command.is_mode() {
             return self.do_mode_code(message);
@@ -478,25 +569,19 @@ impl Terminal {
         self.kept = self.formed(command);
         let subaddress = command.subaddress();
         if command.is_transmit() {
-            let words = &self.held[subaddress][..command.count()];
-            return Answer {
-                sent: self.sent(message, words),
-                hand: None,
-            };
+            self.begin_reply(message, AfterStatus::Held(subaddress, command.count()));
+            return Answer::Silent;
         }
+        self.begin_reply(message, AfterStatus::Nothing);
         let words = &self.received[..command.count()];
-        if subaddress == self.profile.wraparound {
+        if self.profile.wraparound == subaddress {
             self.held[subaddress][..words.len()].copy_from_slice(words);
         }
-        let hand = Hand::Received {
+        Answer::Hands(Hand::Received {
             broadcast: command.is_broadcast(),
             subaddress: subaddress as u8,
             words,
-        };
-        Answer {
-            sent: self.sent(message, &[]),
-            hand: Some(hand),
-        }
+        })
     }
 
     /// Whether a legal command is answered by its status alone, since the subsystem is busy (4.3.3.5.3.8).
@@ -509,20 +594,16 @@ impl Terminal {
         self.flags[Flag::Busy as usize] && is_data
     }
 
-    /// Sends the kept status and these words, if this command is answered at all.
-    fn sent<'a>(&self, message: Message, words: &'a [u16]) -> Option<Sent<'a>> {
-        let is_answered = !message.command.is_broadcast() && !self.shut_down[message.bus as usize];
-        is_answered.then_some(Sent {
-            bus: message.bus,
-            status: self.kept,
-            words,
-        })
-    }
-
-    fn status_alone(&self, message: Message) -> Answer<'static> {
-        Answer {
-            sent: self.sent(message, &[]),
-            hand: None,
+    /// Begins the reply to a command, if it is answered at all. Where it isn't, a reset acts at once.
+    fn begin_reply(&mut self, message: Message, after: AfterStatus) {
+        if !message.command.is_broadcast() && !self.shut_down[message.bus as usize] {
+            self.reply = Some(Reply {
+                bus: message.bus,
+                after,
+                next: 0,
+            });
+        } else if let AfterStatus::Reset = after {
+            self.reset();
         }
     }
 
@@ -539,29 +620,25 @@ impl Terminal {
         if !message.reports_kept() {
             self.kept = self.formed(message.command);
         }
-        let mut hand = None;
-        let mut words: &[u16] = &[];
+        if code == code::DYNAMIC_BUS_CONTROL && self.profile.accepts_bus_control {
+            self.kept |= status::BUS_CONTROL_ACCEPTED;
+        }
+        let after = match code {
+            code::TRANSMIT_VECTOR => AfterStatus::Vector,
+            code::TRANSMIT_BIT => AfterStatus::Bit,
+            code::TRANSMIT_LAST_COMMAND => AfterStatus::LastCommand,
+            code::RESET => AfterStatus::Reset,
+            _ => AfterStatus::Nothing,
+        };
+        self.begin_reply(message, after);
         match code {
             code::DYNAMIC_BUS_CONTROL if self.profile.accepts_bus_control => {
-                self.kept |= status::BUS_CONTROL_ACCEPTED;
-                hand = Some(Hand::BusControl);
+                Answer::Hands(Hand::BusControl)
             }
-            code::SYNCHRONIZE => hand = Some(Hand::Synchronize),
-            code::SELF_TEST => hand = Some(Hand::SelfTest),
-            code::SYNCHRONIZE_WITH => hand = Some(Hand::SynchronizeWith(self.received[0])),
-            code::TRANSMIT_VECTOR => words = std::slice::from_ref(&self.vector),
-            code::TRANSMIT_BIT => words = std::slice::from_ref(&self.bit),
-            code::TRANSMIT_LAST_COMMAND => words = std::slice::from_ref(&self.last_command),
-            code::RESET => {
-                let answer = self.status_alone(message);
-                self.reset();
-                return answer;
-            }
-            _ => {}
-        }
-        Answer {
-            sent: self.sent(message, words),
-            hand,
+            code::SYNCHRONIZE => Answer::Hands(Hand::Synchronize),
+            code::SELF_TEST => Answer::Hands(Hand::SelfTest),
+            code::SYNCHRONIZE_WITH => Answer::Hands(Hand::SynchronizeWith(self.received[0])),
+            _ => Answer::Silent,
         }
     }
 

@@ -15,9 +15,9 @@ use terminal::{Answer, Bus, Event, Flag, Hand, Sent, Terminal, Word};
 /// How many bytes are read and written at a time.
 const BLOCK: usize = 65_536;
 
-/// How many bytes an answer has at most, with room to spare: a status and 32 words are 297, and 32 words
-/// handed over with a status 193.
-const LONGEST_ANSWER: usize = 512;
+/// How many bytes an answer has at most, with room to spare: 32 words that came by broadcast and are handed over
+/// are 186.
+const LONGEST_ANSWER: usize = 256;
 
 /// How many bytes a line of a word has, in a script and in a transcript.
 const WORD_LINE: usize = 9;
@@ -162,6 +162,7 @@ fn usual_event(bytes: &[u8]) -> Option<(Event, usize)> {
             Some((Event::Word(read_bus(bus)?, word), WORD_LINE))
         }
         [bus, b' ', b'g', b'a', b'p', b'\n', ..] => Some((Event::Gap(read_bus(bus)?), 6)),
+        [b's', b'l', b'o', b't', b'\n', ..] => Some((Event::Slot, 5)),
         _ => None,
     }
 }
@@ -170,6 +171,7 @@ fn usual_event(bytes: &[u8]) -> Option<(Event, usize)> {
 fn rare_event(line: &[u8]) -> Option<Event> {
     match *line {
         [bus, b' ', b'g', b'a', b'p'] => Some(Event::Gap(read_bus(bus)?)),
+        [b's', b'l', b'o', b't'] => Some(Event::Slot),
         [bus, b' ', b'n', b'o', b'i', b's', b'e'] => Some(Event::Noise(read_bus(bus)?)),
         [bus, b' ', kind, b' ', a, b, c, d] => {
             let word = Word {
@@ -309,36 +311,28 @@ impl Transcript<'_> {
 
     #[inline]
     fn put_answer(&mut self, answer: &Answer) -> Result<(), Fault> {
-        if answer.sent.is_none() && answer.hand.is_none() {
+        if let Answer::Silent = answer {
             return Ok(());
         }
         if BLOCK - self.length < LONGEST_ANSWER {
             self.hand_on()?;
         }
-        if let Some(sent) = &answer.sent {
-            self.put_sent(sent);
-        }
-        if let Some(hand) = &answer.hand {
-            self.put_hand(hand);
+        match answer {
+            Answer::Silent => {}
+            Answer::Sends(sent) => self.put_sent(*sent),
+            Answer::Hands(hand) => self.put_hand(hand),
         }
         Ok(())
     }
 
-    fn put_sent(&mut self, sent: &Sent) {
+    #[inline]
+    fn put_sent(&mut self, sent: Sent) {
         let bus = match sent.bus {
             Bus::A => b'A',
             Bus::B => b'B',
         };
-        let room = &mut self.block[self.length..][..WORD_LINE * (1 + sent.words.len())];
-        let (lines, _) = room.as_chunks_mut::<WORD_LINE>();
-        let [first, rest @ ..] = lines else {
-            return;
-        };
-        *first = word_line(bus, b's', sent.status);
-        for (line, word) in rest.iter_mut().zip(sent.words) {
-            *line = word_line(bus, b'd', *word);
-        }
-        self.length += WORD_LINE * (1 + sent.words.len());
+        let kind = if sent.is_status { b's' } else { b'd' };
+        self.put(&word_line(bus, kind, sent.bits));
     }
 
     fn put_hand(&mut self, hand: &Hand) {
