@@ -7,7 +7,7 @@ work=$(mktemp -d)
 trap 'rm -rf "$work"' EXIT
 
 contenders=(program tuned idiomatic)
-read -ra scripts <<<"${SCRIPTS:-receive transmit mixed comments}"
+read -ra scripts <<<"${SCRIPTS:-receive transmit single mixed slots comments}"
 
 # makes all that is measured, with scripts of so many lines: prepare LINES
 prepare() {

@@ -1,5 +1,5 @@
 //! Makes the scripts of the benchmark: `make_scripts FOLDER LINES` writes into the folder a profile,
-//! `profile.toml`, and four scripts of so many lines for it. The same words give the same scripts.
+//! `profile.toml`, and six scripts of so many lines for it. The same words give the same scripts.
 use std::fs::File;
 use std::io::{self, BufWriter, Write};
 use std::path::Path;
@@ -62,10 +62,12 @@ type Part = fn(&mut Maker) -> io::Result<()>;
 
 fn make_all(folder: &Path, lines: usize) -> io::Result<()> {
     std::fs::write(folder.join("profile.toml"), PROFILE)?;
-    let scripts: [(&str, Part); 4] = [
+    let scripts: [(&str, Part); 6] = [
         ("receive", receive),
         ("transmit", transmit),
+        ("single", single),
         ("mixed", mixed),
+        ("slots", slot),
         ("comments", comment),
     ];
     for (name, write_part) in scripts {
@@ -117,6 +119,15 @@ impl Maker {
         self.line(format_args!("{bus} gap"))
     }
 
+    /// A gap, and the slots of a reply: its status and so many data words.
+    fn answered_gap(&mut self, bus: char, words: u32) -> io::Result<()> {
+        self.gap(bus)?;
+        for _ in 0..=words {
+            self.line(format_args!("slot"))?;
+        }
+        Ok(())
+    }
+
     fn subaddress_and_count(&mut self) -> (u32, u32) {
         (self.chance.within(1, 30), self.chance.within(1, WORDS))
     }
@@ -148,14 +159,26 @@ fn receive(maker: &mut Maker) -> io::Result<()> {
     let (_, count) = maker.subaddress_and_count();
     maker.command('A', OWN | field(1, count))?;
     maker.data('A', count)?;
-    maker.gap('A')
+    maker.answered_gap('A', 0)
 }
 
 /// A message of 32 words that this terminal transmits.
 fn transmit(maker: &mut Maker) -> io::Result<()> {
     let (subaddress, _) = maker.subaddress_and_count();
     maker.command('A', OWN | TRANSMIT | field(subaddress % 28 + 1, WORDS))?;
-    maker.gap('A')
+    maker.answered_gap('A', WORDS)
+}
+
+/// A message of one word that this terminal receives: the shortest with data.
+fn single(maker: &mut Maker) -> io::Result<()> {
+    maker.command('A', OWN | field(1, 1))?;
+    maker.data('A', 1)?;
+    maker.answered_gap('A', 0)
+}
+
+/// A slot without a reply.
+fn slot(maker: &mut Maker) -> io::Result<()> {
+    maker.line(format_args!("slot"))
 }
 
 /// Something of what a bus carries or a subsystem does.
@@ -181,13 +204,19 @@ fn receive_any(maker: &mut Maker, bus: char, address: u32) -> io::Result<()> {
     let (subaddress, count) = maker.subaddress_and_count();
     maker.command(bus, address | field(subaddress, count))?;
     maker.data(bus, count)?;
-    maker.gap(bus)
+    if address == OWN {
+        maker.answered_gap(bus, 0)
+    } else {
+        maker.gap(bus)
+    }
 }
 
 fn transmit_any(maker: &mut Maker, bus: char) -> io::Result<()> {
     let (subaddress, count) = maker.subaddress_and_count();
     maker.command(bus, OWN | TRANSMIT | field(subaddress, count))?;
-    maker.gap(bus)
+    // now and then a slot fewer, so that a command comes while the reply is in progress
+    let missing = u32::from(maker.chance.below(8) == 0);
+    maker.answered_gap(bus, count - missing)
 }
 
 /// A mode code, now and then one that is illegal, by subaddress 0 or 31.
@@ -200,7 +229,11 @@ fn mode_code(maker: &mut Maker, bus: char, address: u32) -> io::Result<()> {
     } else {
         maker.command(bus, address | TRANSMIT | field(subaddress, code))?;
     }
-    maker.gap(bus)
+    if address == OWN {
+        maker.answered_gap(bus, u32::from(code >= 16))
+    } else {
+        maker.gap(bus)
+    }
 }
 
 /// A transfer from another terminal to this one, now and then without its answer.
@@ -213,7 +246,7 @@ fn transfer(maker: &mut Maker, bus: char) -> io::Result<()> {
         maker.command(bus, OTHER)?;
         maker.data(bus, count)?;
     }
-    maker.gap(bus)
+    maker.answered_gap(bus, 0)
 }
 
 /// A message with a word of wrong parity, noise or a word too few in it.
