@@ -1,21 +1,24 @@
-//! Tests through `step`: the worked rows, each mode code, and what takes long.
+//! Tests through `step`: the worked rows, each mode code, replies word by word, and what takes long.
 
 mod legality;
 mod random;
+mod replies;
 mod rows;
 mod table;
 
 use bus_legal::{Legality, Setup};
-use bus_terminal::{Answer, Event, Flag, Hand, Sent, Terminal};
+use bus_terminal::{Answer, Event, Flag, Hand, Terminal};
 use bus_word::{Bus, Cell, Kind, Raw};
 use legality::{Also, Every};
+use replies::{INTERRUPTED, RESETS, SLOTS};
 use rows::{MESSAGES, MODE_CODES, RESET, TRANSFERS, TWO_BUSES};
-use table::{Act, Profile, Row, event_of};
+use table::{Act, Profile, Reply, Row, Said, WordByWord, answers, event_of, replies};
 
 /// A terminal of address 5. No row has a wraparound subaddress above 30.
 fn terminal_of<L: Legality>(profile: &Profile, legality: L) -> Terminal<L> {
     let mut initial = [[0; 32]; 30];
-    initial[2][0] = profile.first_of_three;
+    initial[2][0] = profile.three[0];
+    initial[2][1] = profile.three[1];
     let setup = Setup {
         address: 5,
         broadcast: profile.broadcast,
@@ -28,18 +31,35 @@ fn terminal_of<L: Legality>(profile: &Profile, legality: L) -> Terminal<L> {
     Terminal::power_up(setup, legality)
 }
 
+/// What is legal by a profile.
+fn legality_of(profile: &Profile) -> Also {
+    Also {
+        first: profile.first,
+        second: profile.second,
+    }
+}
+
 /// The number, from 0, of the first step of a row that is answered otherwise.
 fn first_wrong(row: &Row) -> Option<usize> {
-    let legality = Also {
-        first: row.profile.first,
-        second: row.profile.second,
-    };
-    first_wrong_with(row, legality)
+    first_wrong_with(row, legality_of(&row.profile))
 }
 
 /// The same with another legality.
 fn first_wrong_with<L: Legality + Drop>(row: &Row, legality: L) -> Option<usize> {
     let mut terminal = terminal_of(&row.profile, legality);
+    for (at, (act, said)) in row.steps.iter().enumerate() {
+        if let Some(event) = event_of(act) {
+            if !answers(&mut terminal, event, said) {
+                return Some(at);
+            }
+        }
+    }
+    None
+}
+
+/// The same word by word.
+fn first_wrong_word(row: &WordByWord) -> Option<usize> {
+    let mut terminal = terminal_of(&row.profile, legality_of(&row.profile));
     for (at, (act, said)) in row.steps.iter().enumerate() {
         if let Some(event) = event_of(act) {
             if terminal.step(event) != *said {
@@ -48,6 +68,19 @@ fn first_wrong_with<L: Legality + Drop>(row: &Row, legality: L) -> Option<usize>
         }
     }
     None
+}
+
+#[test]
+fn replies_word_by_word(rt: HostRuntime) {
+    for row in &SLOTS {
+        assert_eq!(rt; first_wrong_word(row), None, "row {}", row.name);
+    }
+    for row in &INTERRUPTED {
+        assert_eq!(rt; first_wrong_word(row), None, "row {}", row.name);
+    }
+    for row in &RESETS {
+        assert_eq!(rt; first_wrong_word(row), None, "row {}", row.name);
+    }
 }
 
 #[test]
@@ -164,7 +197,7 @@ const EQUIPPED: Profile = Profile {
     accept: true,
     vector: 0x00aa,
     bit: 0x00bb,
-    first_of_three: 0,
+    three: [0, 0],
     first: Cell::OwnMode(2),
     second: Cell::OwnMode(2),
 };
@@ -185,33 +218,33 @@ fn after_code(code: &Code, address: u16, legality: Every, busy: bool) -> Termina
     terminal
 }
 
-/// Whether a gap after such a mode code is answered so.
-fn is_answered(code: &Code, address: u16, legality: Every, busy: bool, said: &Answer<'_>) -> bool {
+/// Whether a gap after such a mode code, with the slots after it, is answered so.
+fn is_answered(code: &Code, address: u16, legality: Every, busy: bool, said: &Said) -> bool {
     let mut terminal = after_code(code, address, legality, busy);
-    terminal.step(Event::Gap(Bus::A)) == *said
+    answers(&mut terminal, Event::Gap(Bus::A), said)
 }
 
 /// Whether a terminal that is asked for its status on bus A answers so.
-fn tells(terminal: &mut Terminal<Every>, said: &Answer<'_>) -> bool {
+fn tells(terminal: &mut Terminal<Every>, said: &Said) -> bool {
     terminal.step(command(Bus::A, 0x2c02));
-    terminal.step(Event::Gap(Bus::A)) == *said
+    answers(terminal, Event::Gap(Bus::A), said)
 }
 
-const SILENT: Answer<'static> = Answer {
-    sent: None,
+const SILENT: Said = Said {
+    reply: None,
     hand: None,
 };
 
-fn status(status: u16) -> Answer<'static> {
-    Answer {
-        sent: sent(status, &[]),
+fn status(status: u16) -> Said {
+    Said {
+        reply: reply(status, &[]),
         hand: None,
     }
 }
 
 /// What is sent on bus A.
-fn sent(status: u16, words: &'static [u16]) -> Option<Sent<'static>> {
-    Some(Sent {
+fn reply(status: u16, words: &'static [u16]) -> Option<Reply> {
+    Some(Reply {
         bus: Bus::A,
         status,
         words,
@@ -221,8 +254,8 @@ fn sent(status: u16, words: &'static [u16]) -> Option<Sent<'static>> {
 #[test]
 fn own_mode_codes(rt: HostRuntime) {
     for code in &CODES {
-        let said = Answer {
-            sent: sent(code.status, code.words),
+        let said = Said {
+            reply: reply(code.status, code.words),
             hand: code.hand,
         };
         assert!(rt;
@@ -231,8 +264,8 @@ fn own_mode_codes(rt: HostRuntime) {
             code.code
         );
         let hand = if code.code == 17 { None } else { code.hand };
-        let said = Answer {
-            sent: sent(code.busy_status, code.busy_words),
+        let said = Said {
+            reply: reply(code.busy_status, code.busy_words),
             hand,
         };
         assert!(rt;
@@ -265,7 +298,11 @@ fn broadcast_mode_codes(rt: HostRuntime) {
             };
             let mut terminal = after_code(code, 0xf800, Every(true), busy);
             assert!(rt;
-                terminal.step(Event::Gap(Bus::A)) == Answer { sent: None, hand },
+                answers(
+                    &mut terminal,
+                    Event::Gap(Bus::A),
+                    &Said { reply: None, hand }
+                ),
                 "code {} by broadcast",
                 code.code
             );
@@ -290,8 +327,14 @@ fn broadcast_mode_codes(rt: HostRuntime) {
     }
 }
 
-/// Words on the bus that bring a message into each of its phases.
-static PHASES: [&[Act]; 6] = [
+/// Words on the bus that bring a message into each of its phases, and its reply too.
+static PHASES: [&[Act]; 8] = [
+    &[Act::Valid(Bus::A, Kind::Com, 0x2c61), Act::Gap(Bus::A)],
+    &[
+        Act::Valid(Bus::A, Kind::Com, 0x2c61),
+        Act::Gap(Bus::A),
+        Act::Slot,
+    ],
     &[Act::Valid(Bus::A, Kind::Com, 0x2862)],
     &[
         Act::Valid(Bus::A, Kind::Com, 0x2862),
@@ -325,7 +368,7 @@ fn on_other_bus(act: &Act) -> Act {
     }
 }
 
-/// Whether a command on one bus, in this phase of a message on the other, is answered alone.
+/// Whether a command on one bus, in this phase of a message or a reply on the other, is answered alone.
 fn supersedes(phase: &[Act], first: Bus, second: Bus) -> bool {
     let mut terminal = terminal_of(&EQUIPPED, Every(true));
     for act in phase {
@@ -339,16 +382,16 @@ fn supersedes(phase: &[Act], first: Bus, second: Bus) -> bool {
         }
     }
     terminal.step(command(second, 0x2c02));
-    let is_dropped = terminal.step(Event::Gap(first)) == SILENT;
-    let said = Answer {
-        sent: Some(Sent {
+    let is_dropped = answers(&mut terminal, Event::Gap(first), &SILENT);
+    let said = Said {
+        reply: Some(Reply {
             bus: second,
             status: 0x2800,
             words: &[],
         }),
         hand: None,
     };
-    is_dropped && terminal.step(Event::Gap(second)) == said
+    is_dropped && answers(&mut terminal, Event::Gap(second), &said)
 }
 
 #[test]
@@ -372,19 +415,20 @@ fn after_words(count: u16) -> Terminal<Every> {
 #[test]
 fn thirty_three_words(rt: HostRuntime) {
     let mut terminal = after_words(32);
-    assert!(rt; terminal.step(Event::Gap(Bus::A)).hand.is_some());
+    assert!(rt; matches!(terminal.step(Event::Gap(Bus::A)), Answer::Hands(_)));
+    assert!(rt; replies(&mut terminal, &reply(0x2800, &[])));
     assert!(rt; tells(&mut terminal, &status(0x2800)));
     let mut terminal = after_words(33);
-    assert!(rt; terminal.step(Event::Gap(Bus::A)) == SILENT);
+    assert!(rt; answers(&mut terminal, Event::Gap(Bus::A), &SILENT));
     assert!(rt; tells(&mut terminal, &status(0x2c00)));
 }
 
-/// The digests are those of `model/rules.py`, which is written apart from the program.
+/// The digests are those of `tests/model/random_scripts.py`, over rules that are written apart from the program.
 #[test]
 fn random_messages(rt: HostRuntime) {
     assert_eq!(rt;
         random::digest_of(terminal_of(&EQUIPPED, Every(true))),
-        0x4cb1_b80e
+        0x0946_80bd
     );
     for (wrap, digest) in [(29, 0x23c7_5071), (0, 0xc585_485b)] {
         let chosen = Profile { wrap, ..EQUIPPED };
@@ -400,10 +444,10 @@ fn random_messages(rt: HostRuntime) {
     };
     assert_eq!(rt;
         random::digest_of(terminal_of(&EQUIPPED, some)),
-        0x9b2d_dfab
+        0x091c_c763
     );
     assert_eq!(rt;
         random::digest_of(terminal_of(&EQUIPPED, Every(false))),
-        0x4df0_7b2d
+        0x8aaa_7dc5
     );
 }

@@ -1,9 +1,9 @@
-//! Messages that look random, a few of whose events are lost or preceded by noise, and a digest of what is
-//! answered to them.
+//! Messages that look random, a few of whose events are lost or preceded by noise, with more slots or fewer than
+//! they need, and a digest of what is answered to them.
 ghost use Rattle.std.specs.Prelude.{◌<◌};
 
 use bus_legal::Legality;
-use bus_terminal::{Answer, Event, Flag, Hand, Terminal, WordPlace};
+use bus_terminal::{Answer, Event, Flag, Hand, Sent, Terminal, WordPlace};
 use bus_word::{Bus, Kind, Raw};
 
 #[derive(Drop)]
@@ -46,31 +46,37 @@ impl Digest {
     }
 
     fn mix_answer(&mut self, answer: &Answer<'_>) {
-        if let Some(sent) = &answer.sent {
-            self.mix(if sent.bus == Bus::A { 1 } else { 2 });
-            self.mix(sent.status);
-            self.mix_words(sent.words);
+        match answer {
+            Answer::Silent => {}
+            Answer::Sends(sent) => self.mix_sent(sent),
+            Answer::Hands(hand) => self.mix_hand(hand),
         }
-        match &answer.hand {
-            Some(
-                Hand::Received {
-                    broadcast,
-                    subaddress,
-                    words,
-                },
-            ) => {
+    }
+
+    fn mix_sent(&mut self, sent: &Sent) {
+        let bus = if sent.bus == Bus::A { 1 } else { 2 };
+        self.mix(if sent.kind == Kind::Com { bus } else { 8 + bus });
+        self.mix(sent.bits);
+    }
+
+    fn mix_hand(&mut self, hand: &Hand<'_>) {
+        match hand {
+            Hand::Received {
+                broadcast,
+                subaddress,
+                words,
+            } => {
                 self.mix(3 + u16::from(*broadcast));
                 self.mix(u16::from(*subaddress));
                 self.mix_words(words);
             }
-            Some(Hand::Synchronize) => self.mix(5),
-            Some(Hand::SynchronizeWith(word)) => {
+            Hand::Synchronize => self.mix(5),
+            Hand::SynchronizeWith(word) => {
                 self.mix(6);
                 self.mix(*word);
             }
-            Some(Hand::SelfTest) => self.mix(7),
-            Some(Hand::BusControl) => self.mix(8),
-            None => {}
+            Hand::SelfTest => self.mix(7),
+            Hand::BusControl => self.mix(8),
         }
     }
 }
@@ -112,8 +118,15 @@ impl<L: Legality> Run<L> {
         }
     }
 
+    /// A gap, and some slots; now and then the subsystem does something before one.
     fn gap(&mut self, bus: Bus) {
         self.feed(bus, Event::Gap(bus));
+        for _ in 0..self.draw(6) {
+            if self.draw(6) == 0 {
+                self.subsystem();
+            }
+            self.take(Event::Slot);
+        }
     }
 
     fn word(&mut self) -> u16 {
@@ -126,7 +139,7 @@ impl<L: Legality> Run<L> {
 
     fn message(&mut self) {
         let bus = if self.draw(4) == 0 { Bus::B } else { Bus::A };
-        let turn = self.draw(12);
+        let turn = self.draw(14);
         let place = 32 * (29 + self.draw(2));
         let count = 1 + self.draw(3);
         match turn {
@@ -150,12 +163,18 @@ impl<L: Legality> Run<L> {
                 let address = if self.draw(2) == 0 { 0x2811 } else { 0xf811 };
                 self.receive(bus, address, 1);
             }
-            8 => self.set_flag(),
-            9 => self.write(count),
+            8 | 9 => self.subsystem(),
             10 => self.command(bus, 0x2800 + place + count),
-            _ => {
+            11 => {
                 let bits = self.word();
                 self.command(bus, bits);
+            }
+            12 => self.transmit_to_other(bus, place, count),
+            _ => {
+                // a reset, and the last command asked for on the other bus
+                self.transmit(bus, 0x2c08);
+                let other = if bus == Bus::A { Bus::B } else { Bus::A };
+                self.transmit(other, 0x2c12);
             }
         }
     }
@@ -178,9 +197,19 @@ impl<L: Legality> Run<L> {
         let address = if self.draw(2) == 0 { 0x2800 } else { 0xf800 };
         self.command(bus, address + place + count);
         self.command(bus, 0x3c40 + count);
-        self.gap(bus);
+        self.feed(bus, Event::Gap(bus));
         self.command(bus, 0x3800);
         self.data(bus, count);
+        self.gap(bus);
+    }
+
+    fn transmit_to_other(&mut self, bus: Bus, place: u16, count: u16)
+        requires place_below { place < 1024 }
+        requires count_below { count < 32 }
+    {
+        self.command(bus, 0x3840 + count);
+        self.transmit(bus, 0x2c00 + place + count);
+        self.command(bus, 0x3800);
         self.gap(bus);
     }
 
@@ -195,14 +224,24 @@ impl<L: Legality> Run<L> {
         self.take(Event::Flag(flag, value));
     }
 
-    fn write(&mut self, number: u16)
-        requires { number < 32 }
-    {
-        let vector = self.word();
-        self.take(Event::Vector(vector));
-        let bit = self.word();
-        self.take(Event::Bit(bit));
+    fn subsystem(&mut self) {
+        match self.draw(4) {
+            0 => {
+                let vector = self.word();
+                self.take(Event::Vector(vector));
+            }
+            1 => {
+                let bit = self.word();
+                self.take(Event::Bit(bit));
+            }
+            2 => self.set_flag(),
+            _ => self.write(),
+        }
+    }
+
+    fn write(&mut self) {
         let subaddress = 29 + self.draw(2);
+        let number = 1 + self.draw(3);
         let word = self.word();
         if let Some(place) = WordPlace::of(subaddress as u8, number as u8) {
             self.take(Event::Write(place, word));

@@ -1,22 +1,22 @@
 //! The worked rows, as tables.
 
-use super::table::{Act, Profile, Row};
-use bus_terminal::{Answer, Flag, Hand, Sent};
+use super::table::{Act, Profile, Reply, Row, Said};
+use bus_terminal::{Flag, Hand};
 use bus_word::{Bus, Cell, Kind};
 
-const QUIET: Answer<'static> = Answer {
-    sent: None,
+const QUIET: Said = Said {
+    reply: None,
     hand: None,
 };
 
 /// Nothing set up, and no cell legal but the mode codes that always are.
-const FIVE: Profile = Profile {
+pub const FIVE: Profile = Profile {
     broadcast: false,
     wrap: 30,
     accept: false,
     vector: 0,
     bit: 0,
-    first_of_three: 0,
+    three: [0, 0],
     first: Cell::OwnMode(2),
     second: Cell::OwnMode(2),
 };
@@ -45,9 +45,9 @@ macro_rules! quiet {
     };
 }
 
-macro_rules! sent {
+macro_rules! reply {
     ($bus:ident $status:literal $words:expr) => {
-        Some(Sent { bus: Bus::$bus, status: $status, words: &$words })
+        Some(Reply { bus: Bus::$bus, status: $status, words: &$words })
     };
 }
 
@@ -62,13 +62,13 @@ macro_rules! gap {
         (Act::Gap(Bus::$bus), QUIET)
     };
     ($bus:ident sends $status:literal $words:expr) => {
-        (Act::Gap(Bus::$bus), Answer { sent: sent!($bus $status $words), hand: None })
+        (Act::Gap(Bus::$bus), Said { reply: reply!($bus $status $words), hand: None })
     };
     ($bus:ident sends $status:literal $words:expr, hands $hand:expr) => {
-        (Act::Gap(Bus::$bus), Answer { sent: sent!($bus $status $words), hand: Some($hand) })
+        (Act::Gap(Bus::$bus), Said { reply: reply!($bus $status $words), hand: Some($hand) })
     };
     ($bus:ident hands $hand:expr) => {
-        (Act::Gap(Bus::$bus), Answer { sent: None, hand: Some($hand) })
+        (Act::Gap(Bus::$bus), Said { reply: None, hand: Some($hand) })
     };
 }
 
@@ -589,7 +589,7 @@ pub static MODE_CODES: [Row; 21] = [
     },
     Row {
         name: "written-word",
-        profile: with!(first_of_three: 0x000a, first: Cell::OwnTransmit(3, 2)),
+        profile: with!(three: [0x000a, 0], first: Cell::OwnTransmit(3, 2)),
         steps: &[
             quiet!(Act::Write(3, 2, 0x00bb)),
             command!(A 0x2c62),
@@ -598,7 +598,7 @@ pub static MODE_CODES: [Row; 21] = [
     },
     Row {
         name: "words written before a reset",
-        profile: with!(first_of_three: 0x000a, first: Cell::OwnTransmit(3, 2)),
+        profile: with!(three: [0x000a, 0], first: Cell::OwnTransmit(3, 2)),
         steps: &[
             quiet!(Act::Write(3, 1, 0x00cc)),
             quiet!(Act::Write(3, 2, 0x00bb)),
