@@ -49,16 +49,22 @@ fn play(script: &[u8]) -> (Result<u64, RunFault>, MemorySink<512>) {
 
 #[test]
 fn whole_scripts(rt: HostRuntime) {
-    let rows: [(&str, u64, &str); 6] = [
+    let rows: [(&str, u64, &str); 8] = [
         ("", 0, ""),
         ("\n# a comment\n\n", 0, ""),
-        ("A c 2c02\nA gap\n", 2, "A s 2800\n"),
-        ("A c 2C02\nA gap", 2, "A s 2800\n"),
-        ("A c 2c02 0\nA gap\n", 2, ""),
+        ("A c 2c02\nA gap\n", 2, ""),
+        ("A c 2c02\nA gap\nslot\n", 3, "A s 2800\n"),
+        ("A c 2C02\nA gap\nslot", 3, "A s 2800\n"),
+        ("A c 2c02 0\nA gap\nslot\n", 3, ""),
         (
-            "flag busy 1\nB c 2c61\nB gap\nvector 0f0f\nflag busy 0\nB c 2c10\nB gap\n",
-            7,
+            "flag busy 1\nB c 2c61\nB gap\nslot\nvector 0f0f\nflag busy 0\nB c 2c10\nB gap\nslot\nslot\n",
+            10,
             "B s 2808\nB s 2800\nB d 0f0f\n",
+        ),
+        (
+            "A c 2c81\nA gap\nslot\nwrite 04 01 beef\n\nA gap\nslot\nslot\n",
+            7,
+            "A s 2800\nA d beef\n",
         ),
     ];
     for (script, events, transcript) in rows {
@@ -72,14 +78,22 @@ fn whole_scripts(rt: HostRuntime) {
 fn refused_scripts(rt: HostRuntime) {
     let long = "#23456789012345678901234567890123456789012345678901234567890123456\n";
     let rows: [(&str, RunFault, &str); 6] = [
-        ("A c 2c02\nA gap\nA x\n", RunFault::Line(3), "A s 2800\n"),
-        ("A c 2c02\nA gap\nA x", RunFault::Line(3), "A s 2800\n"),
+        (
+            "A c 2c02\nA gap\nslot\nA x\n",
+            RunFault::Line(4),
+            "A s 2800\n",
+        ),
+        (
+            "A c 2c02\nA gap\nslot\nA x",
+            RunFault::Line(4),
+            "A s 2800\n",
+        ),
         ("A gap\r\n", RunFault::Line(1), ""),
-        ("\n\nslot\n", RunFault::Line(3), ""),
+        ("\n\nslot \n", RunFault::Line(3), ""),
         (long, RunFault::LongLine(1), ""),
         (
-            "A c 2c02\nA gap\nA gap \n\n\n",
-            RunFault::Line(3),
+            "A c 2c02\nA gap\nslot\nA gap \n\n\n",
+            RunFault::Line(4),
             "A s 2800\n",
         ),
     ];
@@ -109,23 +123,23 @@ fn limits(rt: HostRuntime) -> Result<(), AllocError> {
 
 #[test]
 fn reads_that_fail(rt: HostRuntime) {
-    let script = b"A c 2c02\nA gap\nA c 2c02\nA gap\n";
-    for call in 0..32u64 {
+    let script = b"A c 2c02\nA gap\nslot\nA c 2c02\nA gap\nslot\n";
+    for call in 0..42u64 {
         let mut reader = MemorySource::new(script, 1, Some(call));
         let mut writer: MemorySink<512> = MemorySink::new(100, None);
         let result = run_script(&mut terminal(), &mut reader, &mut writer);
-        // the answers of the messages whose last line feed was read
+        // the answers of the slots whose line feed was read
         let whole: &[u8] = match call {
-            0..=14 => b"",
-            15..=29 => b"A s 2800\n",
+            0..=19 => b"",
+            20..=39 => b"A s 2800\n",
             _ => b"A s 2800\nA s 2800\n",
         };
         assert_eq!(rt; writer.as_slice(), whole, "call {call}");
-        let read_whole = call > 30;
+        let read_whole = call > 40;
         assert_eq!(rt;
             result,
             if read_whole {
-                Ok(4)
+                Ok(6)
             } else {
                 Err(RunFault::Read)
             }
@@ -135,7 +149,7 @@ fn reads_that_fail(rt: HostRuntime) {
 
 #[test]
 fn writes_that_fail(rt: HostRuntime) {
-    let script = b"A c 2c02\nA gap\nA c 2c02\nA gap\n";
+    let script = b"A c 2c02\nA gap\nslot\nA c 2c02\nA gap\nslot\n";
     let transcript = b"A s 2800\nA s 2800\n";
     for call in 0..19u64 {
         let mut reader = MemorySource::new(script, 100, None);
@@ -146,7 +160,7 @@ fn writes_that_fail(rt: HostRuntime) {
             assert_eq!(rt; writer.as_slice().len(), call as usize);
             assert!(rt; transcript.starts_with(writer.as_slice()));
         } else {
-            assert_eq!(rt; result, Ok(4));
+            assert_eq!(rt; result, Ok(6));
         }
     }
     let mut reader = MemorySource::new(script, 100, None);
@@ -191,8 +205,8 @@ impl Sink for Holding {
 fn what_is_held_back_is_handed_on(rt: HostRuntime) {
     for (script, flushes) in [
         // before the reads that follow events, at the end, and on the way out
-        (b"A c 2c02\nA gap\n".as_slice(), 4u64),
-        (b"A c 2c02\nA gap\nA x\n".as_slice(), 3),
+        (b"A c 2c02\nA gap\nslot\n".as_slice(), 5u64),
+        (b"A c 2c02\nA gap\nslot\nA x\n".as_slice(), 3),
         (b"# nothing\n".as_slice(), 1),
     ] {
         let mut reader = MemorySource::new(script, 9, None);

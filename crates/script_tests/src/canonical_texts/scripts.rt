@@ -9,6 +9,8 @@ use std::test::Fail;
 
 const GAP: Event = Event::Gap(Bus::A);
 
+const SLOT: Event = Event::Slot;
+
 fn command(bits: u16) -> Event {
     Event::Word(Bus::A, Raw::of(Kind::Com, bits))
 }
@@ -48,8 +50,8 @@ fn address_and_option(rt: HostRuntime) -> Result<(), Fail> {
         address: 6,
         ..PLAIN
     };
-    expect(rt.alloc(), &PLAIN, &other, &[command(0x2c02), GAP])?;
-    let asked = [command(0xfc02), GAP, command(0x2c02), GAP];
+    expect(rt.alloc(), &PLAIN, &other, &[command(0x2c02), GAP, SLOT])?;
+    let asked = [command(0xfc02), GAP, command(0x2c02), GAP, SLOT];
     expect(rt.alloc(), &HEARING, &PLAIN, &asked)?;
     expect(rt.alloc(), &PLAIN, &HEARING, &asked)
 }
@@ -65,19 +67,20 @@ fn cells(rt: HostRuntime) -> Result<(), Fail> {
         receive: (3, 0x04),
         ..PLAIN
     };
-    let received = [command(0x2862), data(0), data(0), GAP];
+    let received = [command(0x2862), data(0), data(0), GAP, SLOT];
     expect(rt.alloc(), &receives, &other, &received)?;
     let transmits = Shape {
         transmit: (7, 0x10),
         end: "initial 07 0000 0000 0000 0000 0000\n",
         ..PLAIN
     };
-    expect(rt.alloc(), &PLAIN, &transmits, &[command(0x2ce5), GAP])?;
+    let asked = [command(0x2ce5), GAP, SLOT];
+    expect(rt.alloc(), &PLAIN, &transmits, &asked)?;
     let hears = Shape {
         broadcast_receive: (4, 1),
         ..HEARING
     };
-    let heard = [command(0xf881), data(0), GAP, command(0x2c02), GAP];
+    let heard = [command(0xf881), data(0), GAP, command(0x2c02), GAP, SLOT];
     expect(rt.alloc(), &hears, &HEARING, &heard)
 }
 
@@ -88,12 +91,13 @@ fn codes(rt: HostRuntime) -> Result<(), Fail> {
         own_mode: 0x40134,
         ..PLAIN
     };
-    expect(rt.alloc(), &selected, &PLAIN, &[command(0x2c12), GAP])?;
+    let asked = [command(0x2c12), GAP, SLOT];
+    expect(rt.alloc(), &selected, &PLAIN, &asked)?;
     let synchronized = Shape {
         own_mode: 0x20134,
         ..PLAIN
     };
-    let with_word = [command(0x2811), data(0), GAP];
+    let with_word = [command(0x2811), data(0), GAP, SLOT];
     expect(rt.alloc(), &synchronized, &PLAIN, &with_word)
 }
 
@@ -105,23 +109,32 @@ fn broadcast_codes(rt: HostRuntime) -> Result<(), Fail> {
             broadcast_mode: mask,
             ..HEARING
         };
-        let asked = [command(word), GAP, command(0x2c02), GAP];
+        let asked = [command(word), GAP, command(0x2c02), GAP, SLOT];
         expect(rt.alloc(), &hears, &HEARING, &asked)?;
     }
     let synchronized = Shape {
         broadcast_mode: 0x20000,
         ..HEARING
     };
-    let asked = [command(0xf811), data(0), GAP, command(0x2c02), GAP];
+    let asked = [command(0xf811), data(0), GAP, command(0x2c02), GAP, SLOT];
     expect(rt.alloc(), &HEARING, &synchronized, &asked)
 }
 
-/// Acceptance, vector word, BIT word and initial words.
+/// Acceptance, which the status shows; vector word, BIT word and initial words, which are sent after it.
 #[test]
 fn asked_words(rt: HostRuntime) -> Result<(), Fail> {
+    let accepts = Shape {
+        own_mode: 0x135,
+        end: "accept 1\n",
+        ..PLAIN
+    };
+    let other = Shape {
+        end: "accept 0\n",
+        ..accepts
+    };
+    expect(rt.alloc(), &accepts, &other, &[command(0x2c00), GAP, SLOT])?;
     for (own_mode, ends, word) in [
-        (0x135u32, ["accept 1\n", "accept 0\n"], 0x2c00u16),
-        (0x10134, ["vector beef\n", "vector 0000\n"], 0x2c10),
+        (0x10134u32, ["vector beef\n", "vector 0000\n"], 0x2c10u16),
         (0x80134, ["bit 0a01\n", "bit 0a02\n"], 0x2c13),
     ] {
         let shape = Shape { own_mode, ..PLAIN };
@@ -133,7 +146,8 @@ fn asked_words(rt: HostRuntime) -> Result<(), Fail> {
             end: ends[1],
             ..shape
         };
-        expect(rt.alloc(), &first, &second, &[command(word), GAP])?;
+        let asked = [command(word), GAP, SLOT, SLOT];
+        expect(rt.alloc(), &first, &second, &asked)?;
     }
     let shape = Shape {
         transmit: (7, 0x12),
@@ -144,7 +158,8 @@ fn asked_words(rt: HostRuntime) -> Result<(), Fail> {
         end: "initial 07 0001 0002 0003 0004 0006\n",
         ..shape
     };
-    expect(rt.alloc(), &shape, &other, &[command(0x2ce5), GAP])
+    let asked = [command(0x2ce5), GAP, SLOT, SLOT, SLOT, SLOT, SLOT, SLOT];
+    expect(rt.alloc(), &shape, &other, &asked)
 }
 
 /// The row `wraparound-reached`, and wraparound that only a broadcast shows.
@@ -160,7 +175,16 @@ fn wraparound(rt: HostRuntime) -> Result<(), Fail> {
         end: "wraparound 00\ninitial 30 0000\n",
         ..wraps
     };
-    let shown = [command(0x2bc1), data(0xffff), GAP, command(0x2fc1), GAP];
+    let shown = [
+        command(0x2bc1),
+        data(0xffff),
+        GAP,
+        SLOT,
+        command(0x2fc1),
+        GAP,
+        SLOT,
+        SLOT,
+    ];
     expect(rt.alloc(), &wraps, &other, &shown)?;
     let hears = Shape {
         transmit: (30, 0x8),
@@ -179,6 +203,11 @@ fn wraparound(rt: HostRuntime) -> Result<(), Fail> {
         GAP,
         command(0x2fc4),
         GAP,
+        SLOT,
+        SLOT,
+        SLOT,
+        SLOT,
+        SLOT,
     ];
     expect(rt.alloc(), &hears, &other, &shown)
 }
@@ -212,25 +241,34 @@ fn first_of_two(rt: HostRuntime) -> Result<(), Fail> {
         own_mode: 0x40134,
         ..PLAIN
     };
-    let received = [command(0x2862), data(0), data(0), GAP];
+    let received = [command(0x2862), data(0), data(0), GAP, SLOT];
     expect(rt.alloc(), &other, &PLAIN, &received)?;
     let (first, second) = (terminal(rt.alloc(), &other)?, terminal(rt.alloc(), &other)?);
     assert!(rt; distinguish(&first, &second).is_none());
     Ok(())
 }
 
-/// The longest scripts have 36 events.
+/// 32 words held for subaddress 30, and whether they are turned round.
+const TURNED: &str = "wraparound 30
+initial 30 0000 0000 0000 0000 0000 0000 0000 0000 0000 0000 0000 0000 0000 0000 0000 0000 0000 0000 0000 0000 0000 0000 0000 0000 0000 0000 0000 0000 0000 0000 0000 0000
+";
+
+const HELD: &str = "wraparound 00
+initial 30 0000 0000 0000 0000 0000 0000 0000 0000 0000 0000 0000 0000 0000 0000 0000 0000 0000 0000 0000 0000 0000 0000 0000 0000 0000 0000 0000 0000 0000 0000 0000 0000
+";
+
+/// The longest script has 70 events: 32 words are received, and 32 transmitted.
 #[test]
 fn longest_script(rt: HostRuntime) -> Result<(), Fail> {
-    let hears = Shape {
-        broadcast_receive: (4, 0x8000_0000),
-        ..HEARING
+    let wraps = Shape {
+        receive: (30, 0x8000_0000),
+        transmit: (30, 0x8000_0000),
+        end: TURNED,
+        ..PLAIN
     };
-    let (first, second) = (
-        terminal(rt.alloc(), &hears)?,
-        terminal(rt.alloc(), &HEARING)?,
-    );
+    let other = Shape { end: HELD, ..wraps };
+    let (first, second) = (terminal(rt.alloc(), &wraps)?, terminal(rt.alloc(), &other)?);
     let length = distinguish(&first, &second).map(|script| script.len());
-    assert_eq!(rt; length, Some(36));
+    assert_eq!(rt; length, Some(70));
     Ok(())
 }

@@ -39,11 +39,12 @@ fn words(rt: HostRuntime) {
 }
 
 #[test]
-fn noise_and_gaps(rt: HostRuntime) {
+fn noise_gaps_and_slots(rt: HostRuntime) {
     is_its_line(&rt, "A noise", Event::Noise(Bus::A));
     is_its_line(&rt, "B noise", Event::Noise(Bus::B));
     is_its_line(&rt, "A gap", Event::Gap(Bus::A));
     is_its_line(&rt, "B gap", Event::Gap(Bus::B));
+    is_its_line(&rt, "slot", Event::Slot);
 }
 
 #[test]
@@ -73,7 +74,7 @@ fn lines_without_an_event(rt: HostRuntime) {
 }
 
 /// Lines that mean nothing.
-const REFUSED: [&str; 44] = [
+const REFUSED: [&str; 47] = [
     " ",
     "A",
     "A ",
@@ -115,7 +116,10 @@ const REFUSED: [&str; 44] = [
     "flag bus 1",
     "flag Busy 1",
     "flag  busy 1",
-    "slot",
+    "slot 1",
+    "slot ",
+    "A slot",
+    "Slot",
     "noise",
     "gap",
 ];

@@ -21,8 +21,12 @@ fn thirty_two_words_are_sent(rt: HostRuntime) {
         write 04 21 a533\nwrite 04 22 ad74\nwrite 04 23 b5b5\nwrite 04 24 bdf6\n\
         write 04 25 c637\nwrite 04 26 ce78\nwrite 04 27 d6b9\nwrite 04 28 defa\n\
         write 04 29 e73b\nwrite 04 30 ef7c\nwrite 04 31 f7bd\nwrite 04 32 fffe\n\
-        A c 2c80\nA gap\n",
-        34,
+        A c 2c80\nA gap\n\
+        slot\nslot\nslot\nslot\nslot\nslot\nslot\nslot\n\
+        slot\nslot\nslot\nslot\nslot\nslot\nslot\nslot\n\
+        slot\nslot\nslot\nslot\nslot\nslot\nslot\nslot\n\
+        slot\nslot\nslot\nslot\nslot\nslot\nslot\nslot\nslot\n",
+        67,
         "A s 2800\nA d 001f\nA d 0860\nA d 10a1\nA d 18e2\nA d 2123\nA d 2964\n\
         A d 31a5\nA d 39e6\nA d 4227\nA d 4a68\nA d 52a9\nA d 5aea\nA d 632b\n\
         A d 6b6c\nA d 73ad\nA d 7bee\nA d 842f\nA d 8c70\nA d 94b1\nA d 9cf2\n\
@@ -39,8 +43,12 @@ fn thirty_two_words_are_sent(rt: HostRuntime) {
         write 04 21 a533\nwrite 04 22 ad74\nwrite 04 23 b5b5\nwrite 04 24 bdf6\n\
         write 04 25 c637\nwrite 04 26 ce78\nwrite 04 27 d6b9\nwrite 04 28 defa\n\
         write 04 29 e73b\nwrite 04 30 ef7c\nwrite 04 31 f7bd\nwrite 04 32 fffe\n\
-        B c 2c80\nB gap\n",
-        34,
+        B c 2c80\nB gap\n\
+        slot\nslot\nslot\nslot\nslot\nslot\nslot\nslot\n\
+        slot\nslot\nslot\nslot\nslot\nslot\nslot\nslot\n\
+        slot\nslot\nslot\nslot\nslot\nslot\nslot\nslot\n\
+        slot\nslot\nslot\nslot\nslot\nslot\nslot\nslot\nslot\n",
+        67,
         "B s 2800\nB d 001f\nB d 0860\nB d 10a1\nB d 18e2\nB d 2123\nB d 2964\n\
         B d 31a5\nB d 39e6\nB d 4227\nB d 4a68\nB d 52a9\nB d 5aea\nB d 632b\n\
         B d 6b6c\nB d 73ad\nB d 7bee\nB d 842f\nB d 8c70\nB d 94b1\nB d 9cf2\n\
@@ -57,10 +65,10 @@ fn thirty_two_words_are_handed(rt: HostRuntime) {
         A d 31a5\nA d 39e6\nA d 4227\nA d 4a68\nA d 52a9\nA d 5aea\nA d 632b\n\
         A d 6b6c\nA d 73ad\nA d 7bee\nA d 842f\nA d 8c70\nA d 94b1\nA d 9cf2\n\
         A d a533\nA d ad74\nA d b5b5\nA d bdf6\nA d c637\nA d ce78\nA d d6b9\n\
-        A d defa\nA d e73b\nA d ef7c\nA d f7bd\nA d fffe\nA gap\n",
-        34,
-        "A s 2800\n\
-        hand receive own 03 001f 0860 10a1 18e2 2123 2964 31a5 39e6 4227 4a68 52a9 5aea 632b 6b6c 73ad 7bee 842f 8c70 94b1 9cf2 a533 ad74 b5b5 bdf6 c637 ce78 d6b9 defa e73b ef7c f7bd fffe\n",
+        A d defa\nA d e73b\nA d ef7c\nA d f7bd\nA d fffe\nA gap\nslot\n",
+        35,
+        "\
+        hand receive own 03 001f 0860 10a1 18e2 2123 2964 31a5 39e6 4227 4a68 52a9 5aea 632b 6b6c 73ad 7bee 842f 8c70 94b1 9cf2 a533 ad74 b5b5 bdf6 c637 ce78 d6b9 defa e73b ef7c f7bd fffe\nA s 2800\n",
     );
     gives(
         &rt,
@@ -78,19 +86,19 @@ fn thirty_two_words_are_handed(rt: HostRuntime) {
 #[test]
 fn mode_codes_hand_over(rt: HostRuntime) {
     let rows: [(&str, u64, &str); 7] = [
-        ("A c 2c00\nA gap\n", 2, "A s 2802\nhand bus-control\n"),
-        ("B c 2c01\nB gap\n", 2, "B s 2800\nhand sync\n"),
-        ("A c fc01\nA gap\n", 2, "hand sync\n"),
-        ("A c 2c03\nA gap\n", 2, "A s 2800\nhand self-test\n"),
+        ("A c 2c00\nA gap\nslot\n", 3, "hand bus-control\nA s 2802\n"),
+        ("B c 2c01\nB gap\nslot\n", 3, "hand sync\nB s 2800\n"),
+        ("A c fc01\nA gap\nslot\n", 3, "hand sync\n"),
+        ("A c 2c03\nA gap\nslot\n", 3, "hand self-test\nA s 2800\n"),
         (
-            "A c 2811\nA d 00ff\nA gap\n",
-            3,
-            "A s 2800\nhand sync 00ff\n",
+            "A c 2811\nA d 00ff\nA gap\nslot\n",
+            4,
+            "hand sync 00ff\nA s 2800\n",
         ),
         ("B c f811\nB d ABCD\nB gap\n", 3, "hand sync abcd\n"),
         (
-            "A c 2c10\nA gap\nA c 2c13\nA gap\n",
-            4,
+            "A c 2c10\nA gap\nslot\nslot\nA c 2c13\nA gap\nslot\nslot\n",
+            8,
             "A s 2800\nA d 1234\nA s 2800\nA d abcd\n",
         ),
     ];

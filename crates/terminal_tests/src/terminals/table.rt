@@ -72,13 +72,8 @@ pub fn answers<L: Legality>(terminal: &mut Terminal<L>, event: Event, said: &Sai
         Some(hand) => Answer::Hands(hand),
         None => Answer::Silent,
     };
-    if terminal.step(event) != at_once {
-        return false;
-    }
-    match event {
-        Event::Gap(_) => replies(terminal, &said.reply),
-        _ => true,
-    }
+    let is_gap = matches!(event, Event::Gap(_));
+    terminal.step(event) == at_once && (!is_gap || replies(terminal, &said.reply))
 }
 
 /// Whether slots send just this reply, and one more nothing.
