@@ -1,7 +1,7 @@
 """Plays scripts (docs/script.md) to the model of the rules in `rules.py`.
 
     play.py run PROFILE.toml SCRIPT        its transcript, its fault and its status
-    play.py slots PROFILE.toml SCRIPT      the script with as many slots after each gap as its reply has words
+    play.py slots PROFILE.toml SCRIPT [N]  the script with as many slots after each gap as its reply has words, and N more
 
 The transcripts of examples/scripts and of tests/vectors/scripts were written by `run`. It takes profiles without faults.
 """
@@ -111,8 +111,9 @@ def transcript(terminal, events):
     return [answer_line(answer) for answer in answers if answer]
 
 
-def with_slots(terminal, script):
-    """A script with slots: after each gap as many as its reply has words. What follows a fault stays as it is."""
+def with_slots(terminal, script, more=0):
+    """A script with slots: after each gap as many as its reply has words, and some more. What follows a fault stays as
+    it is."""
     taken, lines = 0, []
     try:
         for line, event in events_of(script):
@@ -123,6 +124,8 @@ def with_slots(terminal, script):
             while terminal.reply:
                 lines.append(b"slot")
                 terminal.step(("slot",))
+            if event and event[0] == "gap":
+                lines += [b"slot"] * more
     except Fault:
         lines += lines_of(script)[taken:]
     return b"\n".join(lines) + (b"\n" if script.endswith(b"\n") else b"")
@@ -141,14 +144,14 @@ def run(terminal, script):
 
 
 def main():
-    job, profile, script = sys.argv[1:]
+    job, profile, script, *more = sys.argv[1:]
     with open(profile, "rb") as file:
         terminal = rules.Terminal(setup_of(tomllib.load(file)))
     with open(script, "rb") as file:
         text = file.read()
     if job == "run":
         sys.exit(run(terminal, text))
-    sys.stdout.buffer.write(with_slots(terminal, text))
+    sys.stdout.buffer.write(with_slots(terminal, text, *map(int, more)))
 
 
 if __name__ == "__main__":
