@@ -79,16 +79,21 @@ pub fn answers<L: Legality>(terminal: &mut Terminal<L>, event: Event, said: &Sai
 /// Whether slots send just this reply, and one more nothing.
 pub fn replies<L: Legality>(terminal: &mut Terminal<L>, reply: &Option<Reply>) -> bool {
     if let Some(Reply { bus, status, words }) = *reply {
-        if !sends(terminal, bus, Kind::Com, status) {
+        if !sends(terminal, bus, Kind::Com, status) || !sends_words(terminal, bus, words) {
             return false;
-        }
-        for word in words {
-            if !sends(terminal, bus, Kind::Dat, *word) {
-                return false;
-            }
         }
     }
     terminal.step(Event::Slot) == Answer::Silent
+}
+
+/// Whether slots send these data words.
+fn sends_words<L: Legality>(terminal: &mut Terminal<L>, bus: Bus, words: &[u16]) -> bool {
+    for word in words {
+        if !sends(terminal, bus, Kind::Dat, *word) {
+            return false;
+        }
+    }
+    true
 }
 
 /// Whether a slot sends this word.
