@@ -12,7 +12,7 @@ const FIVE: &[u8] = b"address = 5\n";
 
 const SIX: &[u8] = b"address = 6\n";
 
-const SCRIPT: &[u8] = b"A c 2c02\nA gap\n";
+const SCRIPT: &[u8] = b"A c 2c02\nA gap\nslot\n";
 
 /// A profile with entries of each array.
 const WHOLE: &[u8] = b"address = 7

@@ -39,8 +39,9 @@ fn worked_rows(rt: HostRuntime) {
 
 #[test]
 fn refused_line(rt: HostRuntime) {
-    let (result, writer) = play(rt.alloc(), b"address = 5", b"A c 2c02\nA gap\nA x\n");
-    assert_eq!(rt; result, Err(EngineFault::Script(RunFault::Line(3))));
+    let script = b"A c 2c02\nA gap\nslot\nA x\n";
+    let (result, writer) = play(rt.alloc(), b"address = 5", script);
+    assert_eq!(rt; result, Err(EngineFault::Script(RunFault::Line(4))));
     assert_eq!(rt; writer.as_slice(), b"A s 2800\n".as_slice());
 }
 
@@ -74,7 +75,7 @@ fn refused_profiles(rt: HostRuntime) {
         ("rt1553 3\n", ProfileFault::NotToml),
     ];
     for (text, fault) in rows {
-        let (result, writer) = play(rt.alloc(), text.as_bytes(), b"A c 2c02\nA gap\n");
+        let (result, writer) = play(rt.alloc(), text.as_bytes(), b"A c 2c02\nA gap\nslot\n");
         assert_eq!(rt;
             result,
             Err(EngineFault::Load(LoadFault::Profile(fault))),

@@ -8,7 +8,14 @@ pub struct Row {
     pub transcript: &'static str,
 }
 
-pub const ROWS: [Row; 26] = [
+/// Two words are held ready, and may be asked for.
+const TWO_READY: &str =
+    "address = 5\n[[rule]]\ndirection = \"transmit\"\nsubaddresses = 3\ncounts = 2\n[[initial]]\nsubaddress = 3\nwords = [10, 11]\n";
+
+/// The vector word may be asked for.
+const VECTOR_READY: &str = "address = 5\nvector = 0x00aa\n[[mode]]\ncodes = 16\n";
+
+pub const ROWS: [Row; 34] = [
     Row {
         name: "transmit-status",
         profile: "address = 5\n",
@@ -19,8 +26,8 @@ pub const ROWS: [Row; 26] = [
     Row {
         name: "wrong-parity",
         profile: "address = 5\n",
-        script: "A c 2c02 0\nA gap\n",
-        events: 2,
+        script: "A c 2c02 0\nA gap\nslot\n",
+        events: 3,
         transcript: "",
     },
     Row {
@@ -82,8 +89,8 @@ pub const ROWS: [Row; 26] = [
     Row {
         name: "shutdown-other-bus",
         profile: "address = 5\n",
-        script: "A c 2c04\nA gap\nslot\nB c 2c02\nB gap\nA c 2c05\nA gap\nslot\nB c 2c02\nB gap\nslot\n",
-        events: 11,
+        script: "A c 2c04\nA gap\nslot\nB c 2c02\nB gap\nslot\nA c 2c05\nA gap\nslot\nB c 2c02\nB gap\nslot\n",
+        events: 12,
         transcript: "A s 2800\nA s 2800\nB s 2800\n",
     },
     Row {
@@ -190,6 +197,62 @@ pub const ROWS: [Row; 26] = [
         script: "write 03 02 00bb\nA c 2c62\nA gap\nslot\nslot\nslot\n",
         events: 6,
         transcript: "A s 2800\nA d 000a\nA d 00bb\n",
+    },
+    Row {
+        name: "no slot",
+        profile: "address = 5\n",
+        script: "A c 2c02\nA gap\n",
+        events: 2,
+        transcript: "",
+    },
+    Row {
+        name: "the status is formed at the gap",
+        profile: "address = 5\n",
+        script: "A c 2c05\nA gap\nflag busy 1\nslot\nslot\n",
+        events: 5,
+        transcript: "A s 2800\n",
+    },
+    Row {
+        name: "a word written between slots",
+        profile: TWO_READY,
+        script: "A c 2c62\nA gap\nslot\nwrite 03 02 00bb\nslot\nslot\n",
+        events: 6,
+        transcript: "A s 2800\nA d 000a\nA d 00bb\n",
+    },
+    Row {
+        name: "a command during a reply",
+        profile: TWO_READY,
+        script: "A c 2c62\nA gap\nslot\nA c 2c02\nA gap\nslot\nslot\nA c 2c02\nA gap\nslot\n",
+        events: 10,
+        transcript: "A s 2800\nA d 000a\nA d 000b\nA s 2800\n",
+    },
+    Row {
+        name: "a reply dropped by the other bus",
+        profile: TWO_READY,
+        script: "A c 2c62\nA gap\nslot\nB c 2c02\nslot\nB gap\nslot\n",
+        events: 7,
+        transcript: "A s 2800\nB s 2800\n",
+    },
+    Row {
+        name: "a reset acts in its slot",
+        profile: VECTOR_READY,
+        script: "A c 2c08\nA gap\nvector 1234\nslot\nA c 2c10\nA gap\nslot\nslot\n",
+        events: 8,
+        transcript: "A s 2800\nA s 2800\nA d 00aa\n",
+    },
+    Row {
+        name: "a reset that is dropped does not act",
+        profile: VECTOR_READY,
+        script: "vector 1234\nA c 2c08\nA gap\nB c 2c10\nB gap\nslot\nslot\n",
+        events: 7,
+        transcript: "B s 2800\nB d 1234\n",
+    },
+    Row {
+        name: "a reset in silence acts at its gap",
+        profile: "address = 5\n",
+        script: "A c 2c04\nA gap\nslot\nB c 2c08\nB gap\nB c 2c02\nB gap\nslot\n",
+        events: 8,
+        transcript: "A s 2800\nB s 2800\n",
     },
     Row {
         name: "empty-script",
