@@ -195,7 +195,7 @@ use Rattle.bus_terminal.specs.Rows.Words.{five, command, data_word, write, quiet
 
 -- Address 5: the broadcast option, the wraparound subaddress, acceptance of bus control, and legal cells. Word i of
 -- subaddress s is 256 * s + i at power-up.
-equipped : Bool → ℕ → Bool → List Cell → Description
+abbrev equipped : Bool → ℕ → Bool → List Cell → Description
 equipped broadcast wrap accept cells =
     record (five cells) { broadcast = broadcast; wrap = wrap; accept = accept; vector = 0x00aa; bit = 0x00bb; initial = λ s i. 256 * s + i }
 """
