@@ -812,23 +812,23 @@ chosen_wraparound_rows() {
     local both='[[rule]]\ndirection = "both"\nsubaddresses = "7, 8"\ncounts = 1\n'
     local last='[[rule]]\ndirection = "both"\nsubaddresses = 30\ncounts = 1\n'
     printf 'address = 5\nwraparound = 7\n[[rule]]\ndirection = "both"\nsubaddresses = "7"\ncounts = 1\n' >"$work/p"
-    script 'A c 28e1\nA d beef\nA gap\nA c 2ce1\nA gap\n'
-    row 'wraparound at 7' 0 $'A s 2800\nhand receive own 07 beef\nA s 2800\nA d beef\n' '' run p script
+    script 'A c 28e1\nA d beef\nA gap\nslot\nA c 2ce1\nA gap\nslot\nslot\n'
+    row 'wraparound at 7' 0 $'hand receive own 07 beef\nA s 2800\nA s 2800\nA d beef\n' '' run p script
     row 'canon, wraparound at 7' 0 "$(wrapping 2 07 'wraparound 07')"$'\n' '' canon p
     [[ $(sed -n 65,66p "$work/stdout") == $'wraparound 07\ninitial 07 0000' ]]
     count 'lines 65 and 66, wraparound at 7' $?
     # what comes at 30 is not held there then
     printf %b "address = 5\nwraparound = 7\n$both$last" >"$work/p"
-    script 'A c 2bc1\nA d beef\nA gap\nA c 2fc1\nA gap\n'
-    row 'wraparound at 7 and not at 30' 0 $'A s 2800\nhand receive own 30 beef\nA s 2800\nA d 0000\n' '' run p script
+    script 'A c 2bc1\nA d beef\nA gap\nslot\nA c 2fc1\nA gap\nslot\nslot\n'
+    row 'wraparound at 7 and not at 30' 0 $'hand receive own 30 beef\nA s 2800\nA s 2800\nA d 0000\n' '' run p script
     # 7 against 8, where both can be reached
     printf %b "address = 5\nwraparound = 7\n$both" >"$work/p"
     printf %b "address = 5\nwraparound = 8\n$both" >"$work/q"
-    row 'compare: wraparound at 7 or 8' 1 $'A c 28e1\nA d ffff\nA gap\nA c 2ce1\nA gap\n' '' compare p q
+    row 'compare: wraparound at 7 or 8' 1 $'A c 28e1\nA d ffff\nA gap\nslot\nA c 2ce1\nA gap\nslot\nslot\n' '' compare p q
     cp "$work/stdout" "$work/stdout-script"
     last_answer 'wraparound at 7 or 8, the first' p 'A d ffff'
     last_answer 'wraparound at 7 or 8, the second' q 'A d 0000'
-    row 'compare: wraparound at 8 or 7' 1 $'A c 2901\nA d ffff\nA gap\nA c 2d01\nA gap\n' '' compare q p
+    row 'compare: wraparound at 8 or 7' 1 $'A c 2901\nA d ffff\nA gap\nslot\nA c 2d01\nA gap\nslot\nslot\n' '' compare q p
     cp "$work/stdout" "$work/stdout-script"
     last_answer 'wraparound at 8 or 7, the first' q 'A d ffff'
     last_answer 'wraparound at 8 or 7, the second' p 'A d 0000'

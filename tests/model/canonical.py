@@ -105,12 +105,18 @@ def code_mask(profile, to):
     return mask
 
 
-def initial_words(profile, transmit):
-    """The words of power-up, of each subaddress up to its largest legal transmit count."""
+def initial_words(profile):
+    """The words of power-up that a profile gives, by subaddress and number."""
     words = {}
     for entry in profile.get("initial", []):
         for index, word in enumerate(entry["words"]):
             words[entry["subaddress"], entry.get("at", 1) + index] = word
+    return words
+
+
+def sent_words(profile, transmit):
+    """The words of power-up, of each subaddress up to its largest legal transmit count."""
+    words = initial_words(profile)
     return tuple(
         tuple(words.get((s, i), 0) for i in range(1, mask.bit_length() + 1))
         for s, mask in enumerate(transmit, 1)
@@ -141,7 +147,7 @@ def reached_of(profile):
         vector=profile.get("vector", 0) if own_codes >> 16 & 1 else 0,
         bit=profile.get("bit", 0) if own_codes >> 19 & 1 else 0,
         wrap=0,
-        words=initial_words(profile, transmit),
+        words=sent_words(profile, transmit),
     )
     wrap = chosen_subaddress(profile)
     return replace(reached, wrap=wrap) if wrap in reached.wrapping() else reached
@@ -280,10 +286,12 @@ def compared(p, q):
         raise Fault("these differ in something else")
     s = p.wrap or q.wrap
     address, mask = (p.address, p.receive[s - 1]) if p.receive[s - 1] else (31, p.heard[s - 1])
-    n = least_count(mask)
+    n, m = least_count(mask), least_count(p.transmit[s - 1])
     words = [0xFFFF - p.words[s - 1][0]] + [0] * (n - 1)
     lines = [command(address, 0, s, n)] + [f"A d {word:04x}" for word in words] + ["A gap"]
-    return lines + [command(p.address, 1, s, least_count(p.transmit[s - 1])), "A gap"]
+    # a slot for each word of a reply; a broadcast has none
+    lines += ["slot"] * (address != 31)
+    return lines + [command(p.address, 1, s, m), "A gap"] + ["slot"] * (m + 1)
 
 
 # ---- changed texts

@@ -40,12 +40,11 @@ def setup_of(profile):
             return bool(masks[cell[0]] >> cell[1] & 1)
         return canonical.is_legal(profile, *WAYS[cell[0]], *cell[1:])
 
-    wraparound = profile.get("wraparound", True)
     return rules.Setup(
         address=profile["address"],
         legal=legal,
         broadcast=profile.get("broadcast", False),
-        wraparound={True: 30, False: 0}[wraparound] if isinstance(wraparound, bool) else wraparound,
+        wraparound=canonical.chosen_subaddress(profile),
         accept=profile.get("accept_bus_control", False),
         vector=profile.get("vector", 0),
         bit=profile.get("bit", 0),

@@ -1,7 +1,7 @@
 """Messages that look random, played to the model of the rules in `rules.py`.
 
     random_scripts.py digests           what the test `random_messages` of crates/terminal_tests compares
-    random_scripts.py rows              rows of bus_terminal, each with its proof: the file proofs/RandomRows.antt
+    random_scripts.py rows FIRST LAST   rows of bus_terminal, each with its proof: the files of proofs/RandomRows
     random_scripts.py vectors FOLDER    scripts with their transcripts: the cases slots-NNNN of tests/vectors/scripts
 
 The same words give the same numbers, so that each of the three can be made anew and compared.
@@ -158,8 +158,9 @@ class Digest:
             self.mix({"synchronize": 5, "synchronize with": 6, "self test": 7, "bus control": 8}[name], *rest)
 
 
-def digest(legal):
-    setup = rules.Setup(address=5, legal=legal, broadcast=True, accept=True, vector=0x00AA, bit=0x00BB)
+def digest(legal, wraparound=30):
+    setup = rules.Setup(address=5, legal=legal, broadcast=True, wraparound=wraparound, accept=True, vector=0x00AA,
+                        bit=0x00BB)
     digest = Digest()
     messages = Messages(setup, (29, 30), 1553, digest.note)
     for _ in range(10000):
@@ -171,33 +172,34 @@ def digests():
     print("every cell legal:", digest(lambda cell: True))
     print("some cells legal:", digest(lambda cell: cell in [*REQUIRED, ("own mode", 18), ("own mode", 6)]))
     print("no cell legal:", digest(lambda cell: False))
+    print("every cell legal, wraparound at 29:", digest(lambda cell: True, wraparound=29))
+    print("every cell legal, no wraparound:", digest(lambda cell: True, wraparound=0))
 
 
 # rows
 
-ROWS = 160
 CELLS = {"own receive": "OwnReceive", "own transmit": "OwnTransmit", "broadcast receive": "BroadReceive",
          "own mode": "OwnMode", "broadcast mode": "BroadMode"}
 HEAD = """\
 -- Messages that look random, with what the rules say is answered to them: the definitions give the same. The rows are
 -- those of a model of docs/terminal.md in another language, and were written by it:
 --
---     python3 tests/model/random_scripts.py rows >crates/bus_terminal/proofs/RandomRows.antt
-use Rattle.std.specs.Prelude.{◌≡◌, refl, ℕ, ◌+◌, ◌*◌, Bool, true, false, List, [], ◌∷◌}
-use Rattle.bus_word.specs.declared.word.Bus.TheVariants.{A, B}
-use Rattle.bus_word.specs.declared.cell.Cell.{Cell}
-use Rattle.bus_word.specs.declared.cell.Cell.TheVariants.{OwnReceive, OwnTransmit, BroadReceive, OwnMode, BroadMode}
-use Rattle.bus_legal.specs.Description.{Description}
-use Rattle.bus_terminal.specs.declared.event.Event.TheVariants.{Noise, Vector, Bit, Flag as FlagIs}
-use Rattle.bus_terminal.specs.declared.event.Flag.TheVariants.{Service, Busy, Subsystem, Terminal}
-use Rattle.bus_terminal.specs.Out.{HandsReceived, HandsSynchronize, HandsSynchronizeWith, HandsSelfTest, HandsBusControl}
-use Rattle.bus_terminal.specs.Rows.Words.{five, command, data_word, write, quiet, gap, gap_hands, idle_slot, slot_status, slot_word, Answers}
+--     python3 tests/model/random_scripts.py rows {first} {last} >crates/bus_terminal/proofs/RandomRows/{name}.antt
+use Rattle.std.specs.Prelude.{{◌≡◌, refl, ℕ, ◌+◌, ◌*◌, Bool, true, false, List, [], ◌∷◌}}
+use Rattle.bus_word.specs.declared.word.Bus.TheVariants.{{A, B}}
+use Rattle.bus_word.specs.declared.cell.Cell.{{Cell}}
+use Rattle.bus_word.specs.declared.cell.Cell.TheVariants.{{OwnReceive, OwnTransmit, BroadReceive, OwnMode, BroadMode}}
+use Rattle.bus_legal.specs.Description.{{Description}}
+use Rattle.bus_terminal.specs.declared.event.Event.TheVariants.{{Noise, Vector, Bit, Flag as FlagIs}}
+use Rattle.bus_terminal.specs.declared.event.Flag.TheVariants.{{Service, Busy, Subsystem, Terminal}}
+use Rattle.bus_terminal.specs.Out.{{HandsReceived, HandsSynchronize, HandsSynchronizeWith, HandsSelfTest, HandsBusControl}}
+use Rattle.bus_terminal.specs.Rows.Words.{{five, command, data_word, write, quiet, gap, gap_hands, idle_slot, slot_status, slot_word, Answers}}
 
 -- Address 5: the broadcast option, the wraparound subaddress, acceptance of bus control, and legal cells. Word i of
 -- subaddress s is 256 * s + i at power-up.
 abbrev equipped : Bool → ℕ → Bool → List Cell → Description
 equipped broadcast wrap accept cells =
-    record (five cells) { broadcast = broadcast; wrap = wrap; accept = accept; vector = 0x00aa; bit = 0x00bb; initial = λ s i. 256 * s + i }
+    record (five cells) {{ broadcast = broadcast; wrap = wrap; accept = accept; vector = 0x00aa; bit = 0x00bb; initial = λ s i. 256 * s + i }}
 """
 
 
@@ -265,9 +267,9 @@ def print_row(number):
     print(f"    ∷ [])\nrandom_{number:03} = refl")
 
 
-def rows():
-    print(HEAD, end="")
-    for number in range(1, ROWS + 1):
+def rows(first, last):
+    print(HEAD.format(first=first, last=last, name=f"From{first}"), end="")
+    for number in range(first, last + 1):
         print_row(number)
 
 
@@ -337,14 +339,14 @@ def write_vector(folder, number):
 
 
 def main():
-    job, *folder = sys.argv[1:]
+    job, *rest = sys.argv[1:]
     if job == "digests":
         digests()
     elif job == "rows":
-        rows()
+        rows(*map(int, rest))
     else:
         for number in range(VECTORS):
-            write_vector(pathlib.Path(*folder), number)
+            write_vector(pathlib.Path(*rest), number)
 
 
 if __name__ == "__main__":

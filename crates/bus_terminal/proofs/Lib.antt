@@ -12,3 +12,4 @@ pub mod LatestLaw
 pub mod Reach
 pub mod ExchangeLaw
 pub mod Distinguish
+pub mod RandomRows

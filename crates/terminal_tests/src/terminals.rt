@@ -430,7 +430,7 @@ fn random_messages(rt: HostRuntime) {
         random::digest_of(terminal_of(&EQUIPPED, Every(true))),
         0x0946_80bd
     );
-    for (wrap, digest) in [(29, 0x23c7_5071), (0, 0xc585_485b)] {
+    for (wrap, digest) in [(29, 0x6ca8_f4ee), (0, 0x4b9c_2774)] {
         let chosen = Profile { wrap, ..EQUIPPED };
         assert_eq!(rt;
             random::digest_of(terminal_of(&chosen, Every(true))),

@@ -225,8 +225,26 @@ fn chosen_wraparound(rt: HostRuntime) -> Result<(), Fail> {
     let none = wraps(alloc, "wraparound 00\n")?;
     let seven = wraps(alloc, "wraparound 07\n")?;
     let eight = wraps(alloc, "wraparound 08\n")?;
-    let at_seven = [command(0x28e1), data(0xffff), GAP, command(0x2ce1), GAP];
-    let at_eight = [command(0x2901), data(0xff00), GAP, command(0x2d01), GAP];
+    let at_seven = [
+        command(0x28e1),
+        data(0xffff),
+        GAP,
+        SLOT,
+        command(0x2ce1),
+        GAP,
+        SLOT,
+        SLOT,
+    ];
+    let at_eight = [
+        command(0x2901),
+        data(0xff00),
+        GAP,
+        SLOT,
+        command(0x2d01),
+        GAP,
+        SLOT,
+        SLOT,
+    ];
     expect_of(&seven, &eight, &at_seven)?;
     expect_of(&eight, &seven, &at_eight)?;
     expect_of(&none, &eight, &at_eight)?;

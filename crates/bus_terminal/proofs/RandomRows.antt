@@ -1,0 +1,2 @@
+pub mod From1
+pub mod From61
