@@ -1,7 +1,7 @@
 """Messages that look random, played to the model of the rules in `rules.py`.
 
     random_scripts.py digests           what the test `random_messages` of crates/terminal_tests compares
-    random_scripts.py rows FIRST LAST   rows of bus_terminal, each with its proof: the files of proofs/RandomRows
+    random_scripts.py rows FIRST LAST   rows of terminal_rules, each with its proof: the files of proofs/RandomRows
     random_scripts.py vectors FOLDER    scripts with their transcripts: the cases slots-NNNN of tests/vectors/scripts
 
 The same words give the same numbers, so that each of the three can be made anew and compared.
@@ -184,16 +184,16 @@ HEAD = """\
 -- Messages that look random, with what the rules say is answered to them: the definitions give the same. The rows are
 -- those of a model of docs/terminal.md in another language, and were written by it:
 --
---     python3 tests/model/random_scripts.py rows {first} {last} >crates/bus_terminal/proofs/RandomRows/{name}.antt
+--     python3 tests/model/random_scripts.py rows {first} {last} >crates/terminal_rules/proofs/RandomRows/{name}.antt
 use Rattle.std.specs.Prelude.{{◌≡◌, refl, ℕ, ◌+◌, ◌*◌, Bool, true, false, List, [], ◌∷◌}}
 use Rattle.bus_word.specs.declared.word.Bus.TheVariants.{{A, B}}
 use Rattle.bus_word.specs.declared.cell.Cell.{{Cell}}
 use Rattle.bus_word.specs.declared.cell.Cell.TheVariants.{{OwnReceive, OwnTransmit, BroadReceive, OwnMode, BroadMode}}
 use Rattle.bus_legal.specs.Description.{{Description}}
-use Rattle.bus_terminal.specs.declared.event.Event.TheVariants.{{Noise, Vector, Bit, Flag as FlagIs}}
-use Rattle.bus_terminal.specs.declared.event.Flag.TheVariants.{{Service, Busy, Subsystem, Terminal}}
-use Rattle.bus_terminal.specs.Out.{{HandsReceived, HandsSynchronize, HandsSynchronizeWith, HandsSelfTest, HandsBusControl}}
-use Rattle.bus_terminal.specs.Rows.Words.{{five, command, data_word, write, quiet, gap, gap_hands, idle_slot, slot_status, slot_word, Answers}}
+use Rattle.terminal_rules.specs.declared.event.Event.TheVariants.{{Noise, Vector, Bit, Flag as FlagIs}}
+use Rattle.terminal_rules.specs.declared.event.Flag.TheVariants.{{Service, Busy, Subsystem, Terminal}}
+use Rattle.terminal_rules.specs.Out.{{HandsReceived, HandsSynchronize, HandsSynchronizeWith, HandsSelfTest, HandsBusControl}}
+use Rattle.terminal_rules.specs.Rows.Words.{{five, command, data_word, write, quiet, gap, gap_hands, idle_slot, slot_status, slot_word, Answers}}
 
 -- Address 5: the broadcast option, the wraparound subaddress, acceptance of bus control, and legal cells. Word i of
 -- subaddress s is 256 * s + i at power-up.

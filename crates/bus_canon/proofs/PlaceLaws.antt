@@ -10,7 +10,7 @@ use Rattle.bus_word.specs.Cell.{is_data_place}
 use Rattle.bus_legal.specs.Reach.{any_to}
 use Rattle.bus_legal.proofs.Counts.{any_to-true}
 use Rattle.bus_legal.proofs.Places.{place_above, place_from, place_high}
-use Rattle.bus_terminal.specs.Distinguish.{least_to, least_count}
+use Rattle.terminal_exchanges.specs.Distinguish.{least_to, least_count}
 use Rattle.bus_canon.specs.Difference.{IsLower}
 use Rattle.bus_canon.specs.FirstPlace.{IsFirstNumber, IsFirstPlace, is_set, least_in}
 

@@ -10,10 +10,10 @@ use Rattle.bus_legal.specs.Reach.{any_count, largest_count, transmits}
 use Rattle.bus_legal.specs.Tables.{has_count, has_any, largest_in, mask_at}
 use Rattle.bus_legal.specs.Parts.{Parts, description_in, IsNormal}
 use Rattle.bus_legal.proofs.TablesReach.{any_count-said, largest_count-said}
-use Rattle.bus_terminal.specs.declared.event.Event.{Event}
-use Rattle.bus_terminal.specs.declared.event.Event.TheVariants.{Gap, Slot}
-use Rattle.bus_terminal.specs.Exchanges.{Exchange, command_event, data_event, words_then, slots_then, exchange_then}
-use Rattle.bus_terminal.specs.Distinguish.{all_terminals, least_count, receive, transmit, ask, initial_script, own_receive_script, shown_wraparound, receives_own, receives_broadcast, broadcast_receive_script, wraparound_script}
+use Rattle.terminal_rules.specs.declared.event.Event.{Event}
+use Rattle.terminal_rules.specs.declared.event.Event.TheVariants.{Gap, Slot}
+use Rattle.terminal_exchanges.specs.Exchanges.{Exchange, command_event, data_event, words_then, slots_then, exchange_then}
+use Rattle.terminal_exchanges.specs.Distinguish.{all_terminals, least_count, receive, transmit, ask, initial_script, own_receive_script, shown_wraparound, receives_own, receives_broadcast, broadcast_receive_script, wraparound_script}
 use Rattle.bus_canon.specs.FirstPlace.{least_in}
 use Rattle.bus_canon.proofs.PlaceLaws.{least_count-alike}
 

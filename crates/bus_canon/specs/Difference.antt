@@ -2,8 +2,8 @@
 use Rattle.std.specs.Prelude.{◌≡◌, ℕ, ◌<◌, ◌⊎◌, List}
 use Rattle.bus_word.specs.declared.cell.Cell.TheVariants.{OwnReceive, OwnTransmit, BroadReceive, OwnMode, BroadMode}
 use Rattle.bus_legal.specs.Description.{Description}
-use Rattle.bus_terminal.specs.declared.event.Event.{Event}
-use Rattle.bus_terminal.specs.Distinguish.{address_script, option_script, own_receive_script, own_transmit_script, broadcast_receive_script, own_code_script, broadcast_code_script, acceptance_script, vector_script, bit_script, initial_script, wraparound_script, shown_subaddress}
+use Rattle.terminal_rules.specs.declared.event.Event.{Event}
+use Rattle.terminal_exchanges.specs.Distinguish.{address_script, option_script, own_receive_script, own_transmit_script, broadcast_receive_script, own_code_script, broadcast_code_script, acceptance_script, vector_script, bit_script, initial_script, wraparound_script, shown_subaddress}
 use Rattle.bus_canon.specs.declared.difference.Difference.{Difference}
 use Rattle.bus_canon.specs.declared.difference.Difference.TheVariants.{Address, BroadcastOption, ReceiveCell, TransmitCell, BroadcastReceiveCell, OwnCode, BroadcastCode, Acceptance, VectorWord, BitWord, InitialWord, Wraparound}
 

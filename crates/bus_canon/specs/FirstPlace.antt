@@ -3,7 +3,7 @@ use Rattle.std.specs.Prelude.{◌≡◌, ℕ, ◌-◌, ◌<◌, ◌==◌, Bool, 
 use Rattle.std.specs.Int.{bit_at}
 use Rattle.bus_word.specs.Cell.{is_data_place}
 use Rattle.bus_legal.specs.Description.{Description}
-use Rattle.bus_terminal.specs.Distinguish.{least_count}
+use Rattle.terminal_exchanges.specs.Distinguish.{least_count}
 use Rattle.bus_canon.specs.declared.difference.Difference.{Difference}
 use Rattle.bus_canon.specs.declared.difference.Difference.TheVariants.{ReceiveCell, TransmitCell, BroadcastReceiveCell, OwnCode, BroadcastCode, InitialWord}
 use Rattle.bus_canon.specs.Difference.{kind_of, IsLower, AreAlike, IsFirst}

@@ -1,7 +1,7 @@
 //! The script that tells two terminals apart.
 ghost use Rattle.std.specs.Prelude.{◌≡◌, IfNone, IfSome};
 ghost use Rattle.bus_legal.specs.Parts.{description_in, IsNormal};
-ghost use Rattle.bus_terminal.specs.Distinguish.{TellsApart};
+ghost use Rattle.terminal_exchanges.specs.Distinguish.{TellsApart};
 ghost use Rattle.bus_canon.specs.declared.difference.Difference.{Difference};
 ghost use Rattle.bus_canon.specs.Difference.{IsFirst, script_for};
 

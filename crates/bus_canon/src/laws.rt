@@ -2,7 +2,7 @@
 ghost use Rattle.std.specs.Prelude.{◌≡◌, ◌≤◌, ◌++◌, ℕ, List, [], length};
 ghost use Rattle.line_format.specs.Answers.{Answer, Answers};
 ghost use Rattle.bus_legal.specs.Parts.{Parts, description_in, IsNormal};
-ghost use Rattle.bus_terminal.specs.Same.{Same};
+ghost use Rattle.terminal_rules.specs.Same.{Same};
 ghost use Rattle.bus_canon.specs.Canon.{is_read, canon, Text, AnyText};
 
 /// Every `Normal` has a canonical text, of version 2.

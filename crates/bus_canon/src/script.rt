@@ -4,9 +4,9 @@ ghost use Rattle.arrayvec.specs.ArrayVec.{array_vec_len};
 ghost use Rattle.bus_word.specs.declared.word.Bus.TheVariants.{A};
 ghost use Rattle.bus_word.specs.Word.{valid_word, bit_of};
 ghost use Rattle.bus_legal.specs.Parts.{description_in, IsNormal};
-ghost use Rattle.bus_terminal.specs.declared.event.Event.TheVariants.{Word, Gap, Slot};
-ghost use Rattle.bus_terminal.specs.Exchanges.{words_then, slots_then, exchange_then, command_event, script_of};
-ghost use Rattle.bus_terminal.specs.Distinguish.{slots_for, command_of, receive, transmit, mode_code_with, ask, initial_script, wraparound_script, shown_subaddress};
+ghost use Rattle.terminal_rules.specs.declared.event.Event.TheVariants.{Word, Gap, Slot};
+ghost use Rattle.terminal_exchanges.specs.Exchanges.{words_then, slots_then, exchange_then, command_event, script_of};
+ghost use Rattle.terminal_exchanges.specs.Distinguish.{slots_for, command_of, receive, transmit, mode_code_with, ask, initial_script, wraparound_script, shown_subaddress};
 ghost use Rattle.bus_canon.specs.Difference.{AreAlike, script_for};
 ghost use Rattle.bus_canon.specs.FirstPlace.{IsInRange};
 
@@ -14,8 +14,8 @@ use crate::difference::Difference;
 use crate::places::least_count;
 use arrayvec::ArrayVec;
 use bus_legal::{Normal, largest_count};
-use bus_terminal::Event;
 use bus_word::{Bus, Kind, Raw};
+use terminal_rules::Event;
 
 /// The events of a script that tells two terminals apart, in order: at most 70.
 pub type Script = ArrayVec<Event, 80>;

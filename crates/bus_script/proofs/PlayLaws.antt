@@ -2,9 +2,9 @@
 use Rattle.std.proofs.Common.{ℕ, ◌≡◌, List, [], ◌∷◌, ◌++◌, refl, sym, ap, ◌∙◌, append_assoc, append-nil, subst, Option}
 use Rattle.std.specs.Io.KnownBytes.{Appends, Keeps}
 use Rattle.std.proofs.KnownBytes.{Appends-nil, Appends-trans, Appends-kept}
-use Rattle.bus_terminal.specs.declared.event.Event.{Event}
+use Rattle.terminal_rules.specs.declared.event.Event.{Event}
 use Rattle.bus_script.specs.Transcript.{transcript}
-use Rattle.bus_terminal.specs.Stands.{after}
+use Rattle.terminal_rules.specs.Past.{after}
 use Rattle.bus_script.specs.Playing.{Plays, PlaysPart, IsPartWritten}
 
 pub after_append : (h es fs : List Event) → after (es ++ fs) h ≡ after fs (after es h)

@@ -2,7 +2,7 @@
 use Rattle.std.proofs.Common.{ℕ, ◌≡◌, ◌<◌, ◌≤◌, ◌+◌, List, [], ◌∷◌, ◌++◌, length, refl, sym, ap, ◌∙◌, arith, append_assoc}
 use Rattle.std.proofs.lemmas.Grind.{common_steps}
 use Rattle.std.proofs.lemmas.Bool.Decides.{nat_tests}
-use Rattle.bus_terminal.specs.declared.event.Event.{Event}
+use Rattle.terminal_rules.specs.declared.event.Event.{Event}
 use Rattle.bus_script.specs.declared.fault.RunFault.{RunFault}
 use Rattle.bus_script.specs.declared.fault.RunFault.TheVariants.{LongLine, TooLong}
 use Rattle.bus_script.specs.Text.{lines_of, NoLineFeed}

@@ -10,13 +10,13 @@ use Rattle.bus_word.specs.declared.word.Kind.TheVariants.{Com, Dat}
 use Rattle.bus_word.specs.declared.word.Raw.{Raw}
 use Rattle.bus_word.specs.Word.{is_valid, valid_word}
 use Rattle.bus_word.specs.Cell.{is_data_place}
-use Rattle.bus_terminal.specs.Place.{Place}
-use Rattle.bus_terminal.specs.Same.{IsProper}
-use Rattle.bus_terminal.proofs.ExchangeLaw.{valid_word_law}
-use Rattle.bus_terminal.specs.declared.event.Event.{Event}
-use Rattle.bus_terminal.specs.declared.event.Event.TheVariants as event
-use Rattle.bus_terminal.specs.declared.event.Flag.{Flag}
-use Rattle.bus_terminal.specs.declared.event.Flag.TheVariants.{Service, Busy, Subsystem, Terminal}
+use Rattle.terminal_rules.specs.Place.{Place}
+use Rattle.terminal_rules.specs.Same.{IsProper}
+use Rattle.bus_word.proofs.Parity.{valid_word_law}
+use Rattle.terminal_rules.specs.declared.event.Event.{Event}
+use Rattle.terminal_rules.specs.declared.event.Event.TheVariants as event
+use Rattle.terminal_rules.specs.declared.event.Flag.{Flag}
+use Rattle.terminal_rules.specs.declared.event.Flag.TheVariants.{Service, Busy, Subsystem, Terminal}
 use Rattle.bus_script.specs.Digits.{word_of, word_of_bytes, digits_of, number_of}
 use Rattle.line_format.specs.Reading.{◌>>=◌}
 use Rattle.bus_script.specs.Transcript.{bus_letter}

@@ -4,11 +4,11 @@ use Rattle.bus_word.specs.declared.word.Kind.{Kind}
 use Rattle.bus_word.specs.declared.word.Kind.TheVariants.{Com, Dat}
 use Rattle.bus_word.specs.declared.word.Raw.{Raw}
 use Rattle.bus_word.specs.Word.{is_valid}
-use Rattle.bus_terminal.specs.Place.{Place}
-use Rattle.bus_terminal.specs.declared.event.Event.{Event}
-use Rattle.bus_terminal.specs.declared.event.Event.TheVariants as event
-use Rattle.bus_terminal.specs.declared.event.Flag.{Flag}
-use Rattle.bus_terminal.specs.declared.event.Flag.TheVariants.{Service, Busy, Subsystem, Terminal}
+use Rattle.terminal_rules.specs.Place.{Place}
+use Rattle.terminal_rules.specs.declared.event.Event.{Event}
+use Rattle.terminal_rules.specs.declared.event.Event.TheVariants as event
+use Rattle.terminal_rules.specs.declared.event.Flag.{Flag}
+use Rattle.terminal_rules.specs.declared.event.Flag.TheVariants.{Service, Busy, Subsystem, Terminal}
 use Rattle.bus_script.specs.Digits.{digits_of, decimal_digits}
 use Rattle.bus_script.specs.Transcript.{bus_letter}
 

@@ -7,11 +7,11 @@ use Rattle.bus_word.specs.declared.word.Kind.{Kind}
 use Rattle.bus_word.specs.declared.word.Kind.TheVariants.{Com, Dat}
 use Rattle.bus_word.specs.Word.{valid_word}
 use Rattle.bus_word.specs.Cell.{is_data_place}
-use Rattle.bus_terminal.specs.Place.{Place}
-use Rattle.bus_terminal.specs.declared.event.Flag.{Flag}
-use Rattle.bus_terminal.specs.declared.event.Flag.TheVariants as flag
-use Rattle.bus_terminal.specs.declared.event.Event.{Event}
-use Rattle.bus_terminal.specs.declared.event.Event.TheVariants as event
+use Rattle.terminal_rules.specs.Place.{Place}
+use Rattle.terminal_rules.specs.declared.event.Flag.{Flag}
+use Rattle.terminal_rules.specs.declared.event.Flag.TheVariants as flag
+use Rattle.terminal_rules.specs.declared.event.Event.{Event}
+use Rattle.terminal_rules.specs.declared.event.Event.TheVariants as event
 use Rattle.line_format.specs.Reading.{◌>>=◌, after}
 use Rattle.bus_script.specs.declared.line.LineFault.{LineFault}
 use Rattle.bus_script.specs.Digits.{word_of, number_of}

@@ -1,7 +1,7 @@
 -- What the terminal and a sink have done.
 use Rattle.std.specs.Prelude.{ℕ, Bool, List, Option}
 use Rattle.bus_word.specs.declared.cell.Cell.{Cell}
-use Rattle.bus_terminal.specs.declared.event.Event.{Event}
+use Rattle.terminal_rules.specs.declared.event.Event.{Event}
 use Rattle.bus_terminal.specs.declared.terminal.Terminal.{Terminal}
 use Rattle.bus_terminal.specs.Stands.{StandsAt}
 use Rattle.bus_script.specs.Reading.{Reading}

@@ -4,12 +4,12 @@
 -- what is written at e after h; `written` are the bytes that a sink tells.
 use Rattle.std.specs.Prelude.{ℕ, ◌+◌, ◌*◌, ◌≡◌, ◌<◌, ◌≤◌, List, [], ◌∷◌, ◌++◌, length, take, drop, Option}
 use Rattle.std.specs.Io.KnownBytes.{Appends}
-use Rattle.bus_terminal.specs.declared.event.Event.{Event}
+use Rattle.terminal_rules.specs.declared.event.Event.{Event}
 use Rattle.bus_script.specs.declared.fault.RunFault.{RunFault}
 use Rattle.bus_script.specs.Text.{lines_of, NoLineFeed, EndsLine}
 use Rattle.bus_script.specs.Reading.{Meaning, Reading, adds, stops, then_reads, reading}
 use Rattle.bus_script.specs.Transcript.{transcript}
-use Rattle.bus_terminal.specs.Stands.{after}
+use Rattle.terminal_rules.specs.Past.{after}
 
 -- ---- reading
 

@@ -2,7 +2,7 @@
 ghost use Rattle.std.specs.Prelude.{◌≡◌, ◌≤◌, ◌+◌, ◌++◌, ◌<◌, ◌^◌, true, Ok, Some};
 ghost use Rattle.arrayvec.specs.ArrayString.{array_string_len};
 ghost use Rattle.bus_word.specs.Cell.{is_data_place};
-ghost use Rattle.bus_terminal.specs.Same.{IsProper};
+ghost use Rattle.terminal_rules.specs.Same.{IsProper};
 ghost use Rattle.bus_script.specs.Line.{meaning};
 ghost use Rattle.bus_script.specs.Transcript.{bus_letter};
 ghost use Rattle.bus_script.specs.EventLine.{word_text, place_text, flag_name, truth_field, event_text};

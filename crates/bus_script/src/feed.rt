@@ -1,6 +1,6 @@
 //! The whole lines of a piece of a script are played.
 ghost use Rattle.std.specs.Prelude.{◌≡◌, ◌≤◌, ◌∷◌, ◌++◌, [], List, ℕ, true, IfOk, IfErr};
-ghost use Rattle.bus_terminal.specs.declared.event.Event.{Event};
+ghost use Rattle.terminal_rules.specs.declared.event.Event.{Event};
 ghost use Rattle.bus_script.specs.Line.{meaning};
 ghost use Rattle.bus_script.specs.Reading.{ByFault};
 ghost use Rattle.bus_terminal.specs.Stands.{StandsAt};

@@ -1,7 +1,7 @@
 //! Events are played, and what the terminal answers is written.
 ghost use Rattle.std.specs.Prelude.{◌≡◌, ◌≤◌, ◌<◌, ◌∷◌, [], List, ℕ, true, length, IfOk, IfErr, OnOk, OnErr};
 ghost use Rattle.std.specs.Io.KnownBytes.{Appends};
-ghost use Rattle.bus_terminal.specs.declared.event.Event.{Event};
+ghost use Rattle.terminal_rules.specs.declared.event.Event.{Event};
 ghost use Rattle.bus_script.specs.Line.{meaning};
 ghost use Rattle.bus_script.specs.Reading.{ByFault};
 ghost use Rattle.bus_terminal.specs.Answer.{shown_answer, IsSmall};

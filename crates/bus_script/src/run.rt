@@ -1,7 +1,7 @@
 //! The run loop: reads a piece, plays the whole lines that came, and keeps the rest for the next read.
 ghost use Rattle.std.specs.Prelude.{◌≡◌, ◌≤◌, ◌<◌, ◌+◌, ◌-◌, ◌∷◌, ◌++◌, [], List, ℕ, true, false, length, take, drop, IfOk, IfErr, IfSome, OnOk, OnErr, IsErrOf};
 ghost use Rattle.std.specs.Io.KnownBytes.{Keeps, Consumes, IsAtEnd};
-ghost use Rattle.bus_terminal.specs.declared.event.Event.{Event};
+ghost use Rattle.terminal_rules.specs.declared.event.Event.{Event};
 ghost use Rattle.bus_script.specs.Line.{meaning};
 ghost use Rattle.bus_script.specs.Text.{lines_of, NoLineFeed, EndsLine};
 ghost use Rattle.bus_script.specs.Reading.{Reading, reading, adds, stops, nothing, ByFault};

@@ -4,7 +4,7 @@ ghost use Rattle.std.specs.List.{flat_map};
 ghost use Rattle.arrayvec.specs.ArrayString.{array_string_len};
 ghost use Rattle.bus_terminal.specs.Answer.{shown_answer, shown_word, shown_handing};
 ghost use Rattle.bus_script.specs.Transcript.{sent_kind, sent_text, word_field, received_by, received_text, hand_text, answer_text};
-ghost use Rattle.bus_terminal.specs.Out.{HandsSynchronizeWith};
+ghost use Rattle.terminal_rules.specs.Out.{HandsSynchronizeWith};
 
 use crate::digits::{push_number, push_word};
 use crate::event_line::bus_letter;

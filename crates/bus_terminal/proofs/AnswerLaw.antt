@@ -8,26 +8,26 @@ use Rattle.bus_word.specs.declared.cell.Cell.TheVariants.{OwnReceive, OwnTransmi
 use Rattle.bus_word.specs.Cell.{is_data_place}
 use Rattle.bus_word.specs.Status.{status_word}
 use Rattle.bus_legal.specs.Description.{Description}
-use Rattle.bus_terminal.specs.declared.event.Event.{Event}
-use Rattle.bus_terminal.specs.declared.event.Event.TheVariants.{Word, Noise, Gap, Write, Vector, Bit, Flag as FlagIs, Slot}
-use Rattle.bus_terminal.specs.declared.event.Flag.TheVariants.{Busy}
-use Rattle.bus_terminal.specs.declared.registers.Registers.{Registers}
+use Rattle.terminal_rules.specs.declared.event.Event.{Event}
+use Rattle.terminal_rules.specs.declared.event.Event.TheVariants.{Word, Noise, Gap, Write, Vector, Bit, Flag as FlagIs, Slot}
+use Rattle.terminal_rules.specs.declared.event.Flag.TheVariants.{Busy}
+use Rattle.terminal_state.specs.declared.registers.Registers.{Registers}
 use Rattle.bus_terminal.specs.declared.terminal.Terminal.{Terminal}
-use Rattle.bus_terminal.specs.History.{Noted, Ending, Replying}
-use Rattle.bus_terminal.specs.Open.{open_now}
-use Rattle.bus_terminal.specs.Reply.{reply_now, ignores}
-use Rattle.bus_terminal.specs.Flags.{flag_now}
-use Rattle.bus_terminal.specs.Ends.{at_gap, unless_ignored}
-use Rattle.bus_terminal.specs.SinceReset.{held_now}
-use Rattle.bus_terminal.specs.Past.{past}
-use Rattle.bus_terminal.specs.Out.{Out, Silence, handing_over, sending_out, sending, hands, reply_word, sends, out}
-use Rattle.bus_terminal.specs.Machine.Standing.{gap_ends}
-use Rattle.bus_terminal.specs.Machine.Registers.{registers_now}
-use Rattle.bus_terminal.specs.Machine.Replies.{shown_reply, has_place, can_send}
+use Rattle.terminal_rules.specs.History.{Noted, Ending, Replying}
+use Rattle.terminal_rules.specs.Open.{open_now}
+use Rattle.terminal_rules.specs.Reply.{reply_now, ignores}
+use Rattle.terminal_rules.specs.Flags.{flag_now}
+use Rattle.terminal_rules.specs.Ends.{at_gap, unless_ignored}
+use Rattle.terminal_rules.specs.SinceReset.{held_now}
+use Rattle.terminal_rules.specs.Past.{past}
+use Rattle.terminal_rules.specs.Out.{Out, Silence, handing_over, sending_out, sending, hands, reply_word, sends, out}
+use Rattle.terminal_state.specs.inner.Standing.{gap_ends}
+use Rattle.terminal_state.specs.inner.Registers.{registers_now}
+use Rattle.terminal_state.specs.inner.Replies.{shown_reply, has_place, can_send}
 use Rattle.bus_terminal.specs.Stands.{StandsAt, held_word, description_of}
-use Rattle.bus_terminal.specs.Machine.Terminal.{reply_word_from, sends_from, ends_at_gap, IsSameSetup}
-use Rattle.bus_terminal.proofs.CollectedLaw.{gap_ends_law}
-use Rattle.bus_terminal.proofs.ReplyLaw.{can_send_law}
+use Rattle.bus_terminal.specs.inner.Terminal.{reply_word_from, sends_from, ends_at_gap, IsSameSetup}
+use Rattle.terminal_state.proofs.CollectedLaw.{gap_ends_law}
+use Rattle.terminal_state.proofs.CanSendLaw.{can_send_law}
 
 -- what is ignored isn't answered
 pub ignored_answers : {L : Type 0} (is_legal : L → Cell → Bool) (P : Description) (h : List Event) (e : Event) (t : Terminal L) → ignores (shown_reply t.reply) e ≡ true →

@@ -1,15 +1,2 @@
-pub mod HeldLaw
-pub mod OpenLaw
-pub mod ReplyLaw
-pub mod KeptLaw
-pub mod BackLaw
-pub mod RegistersLaw
-pub mod CollectedLaw
-pub mod CellLaw
 pub mod StandsLaw
 pub mod AnswerLaw
-pub mod LatestLaw
-pub mod Reach
-pub mod ExchangeLaw
-pub mod Distinguish
-pub mod RandomRows

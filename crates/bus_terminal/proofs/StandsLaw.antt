@@ -5,40 +5,42 @@ use Rattle.bus_word.specs.declared.word.Bus.TheVariants.{A, B}
 use Rattle.bus_word.specs.declared.word.Raw.{Raw}
 use Rattle.bus_word.specs.declared.cell.Cell.{Cell}
 use Rattle.bus_legal.specs.Description.{Description}
-use Rattle.bus_terminal.specs.Place.{Place}
-use Rattle.bus_terminal.specs.declared.event.Flag.{Flag}
-use Rattle.bus_terminal.specs.declared.event.Event.{Event}
-use Rattle.bus_terminal.specs.declared.event.Event.TheVariants.{Word, Noise, Gap, Write, Vector, Bit, Flag as FlagIs, Slot}
-use Rattle.bus_terminal.specs.declared.buses.OnBuses.{OnBuses}
-use Rattle.bus_terminal.specs.declared.registers.Flags.{Flags}
-use Rattle.bus_terminal.specs.declared.registers.Registers.{Registers}
+use Rattle.terminal_rules.specs.Place.{Place}
+use Rattle.terminal_rules.specs.declared.event.Flag.{Flag}
+use Rattle.terminal_rules.specs.declared.event.Event.{Event}
+use Rattle.terminal_rules.specs.declared.event.Event.TheVariants.{Word, Noise, Gap, Write, Vector, Bit, Flag as FlagIs, Slot}
+use Rattle.terminal_state.specs.declared.buses.OnBuses.{OnBuses}
+use Rattle.terminal_state.specs.declared.registers.Flags.{Flags}
+use Rattle.terminal_state.specs.declared.registers.Registers.{Registers}
 use Rattle.bus_terminal.specs.declared.terminal.Terminal.{Terminal}
-use Rattle.bus_terminal.specs.Buses.{same_bus}
-use Rattle.bus_terminal.specs.declared.event.Flag.TheVariants.{Busy}
-use Rattle.bus_terminal.specs.LookBack.{latest, or_else, since}
-use Rattle.bus_terminal.specs.History.{Replying, NoTurn, Ignored, Noted, noted_as, Ending, Nothing}
-use Rattle.bus_terminal.specs.Reply.{begun, begins_reply, reply_of, reply_now, replies_on, ignores}
-use Rattle.bus_terminal.specs.Flags.{flag_now}
-use Rattle.bus_terminal.specs.Turn.{is_answered, done_cell, turn_of_entry, turn_of_gap, turn_of_slot}
-use Rattle.bus_terminal.specs.Open.{Open, Closed, First, open_now}
-use Rattle.bus_terminal.specs.Starts.{is_for, is_free, is_fresh_broadcast, starts_message, heard_now}
-use Rattle.bus_terminal.specs.Ends.{at_gap, at_entry, unless_ignored}
-use Rattle.bus_terminal.specs.SinceReset.{is_code, done_code, resets, is_reset, off_now, wrapped, written, either_word, held_now}
-use Rattle.bus_terminal.specs.Status.{spares, adds_error}
-use Rattle.bus_terminal.specs.Past.{note, past}
-use Rattle.bus_terminal.specs.Machine.Standing.{Standing, Idle, Collects, Words, standing_of, word_leaves, entry_leaves, entry_fails, fails, gap_leaves, gap_ends, stands_free, starts_by}
-use Rattle.bus_terminal.specs.Machine.Registers.{registers_now, registers_after, flags_after, unless_reset, failed_by, started_if, settled, resets_at_gap, reset_to}
-use Rattle.bus_terminal.specs.Machine.Replies.{shown_reply, sent_one, resets_next, begun_if, dropped_if}
-use Rattle.bus_terminal.specs.Machine.Buses.{on_bus, with_bus}
-use Rattle.bus_terminal.specs.Machine.Message.{standing_on}
-use Rattle.bus_terminal.specs.Machine.Held.{word_in}
+use Rattle.terminal_rules.specs.Buses.{same_bus}
+use Rattle.terminal_rules.specs.declared.event.Flag.TheVariants.{Busy}
+use Rattle.terminal_rules.specs.LookBack.{latest, or_else, since}
+use Rattle.terminal_rules.specs.History.{Replying, NoTurn, Ignored, Noted, noted_as, Ending, Nothing}
+use Rattle.terminal_rules.specs.Reply.{begun, begins_reply, reply_of, reply_now, replies_on, ignores}
+use Rattle.terminal_rules.specs.Flags.{flag_now}
+use Rattle.terminal_rules.specs.Turn.{is_answered, done_cell, turn_of_entry, turn_of_gap, turn_of_slot}
+use Rattle.terminal_rules.specs.Open.{Open, Closed, First, open_now}
+use Rattle.terminal_rules.specs.Starts.{is_for, is_free, is_fresh_broadcast, starts_message, heard_now}
+use Rattle.terminal_rules.specs.Ends.{at_gap, at_entry, unless_ignored}
+use Rattle.terminal_rules.specs.SinceReset.{resets, is_reset, off_now, wrapped, written, either_word, held_now}
+use Rattle.terminal_rules.specs.Status.{spares, adds_error}
+use Rattle.terminal_rules.specs.Past.{note, past}
+use Rattle.terminal_state.specs.inner.Standing.{Standing, Idle, Collects, Words, standing_of, word_leaves, entry_leaves, entry_fails, fails, gap_leaves, gap_ends, stands_free, starts_by}
+use Rattle.terminal_state.specs.inner.Registers.{registers_now, registers_after, flags_after, failed_by, started_if, settled, reset_to}
+use Rattle.terminal_rules.specs.inner.Steps.{unless_reset, resets_at_gap, sent_one, resets_next, begun_if, dropped_if}
+use Rattle.terminal_state.specs.inner.Replies.{shown_reply}
+use Rattle.terminal_state.specs.inner.Buses.{on_bus, with_bus}
+use Rattle.terminal_state.specs.inner.Message.{standing_on}
+use Rattle.terminal_state.specs.inner.Held.{word_in}
 use Rattle.bus_terminal.specs.Stands.{StandsAt, heard_on_buses}
-use Rattle.bus_terminal.specs.Machine.Terminal.{heard_after_word, ends_at_gap, begins_at_gap, TakesWord, TakesNoise, TakesGap, TakesSlot, TakesWrite}
-use Rattle.bus_terminal.proofs.OpenLaw.{word_law, noise_law, gap_law, slot_law, after_word, after_gap, after_entry, unheard}
-use Rattle.bus_terminal.proofs.CollectedLaw.{gap_ends_law, gap_leaves_law, entry_leaves_law, entry_ends_law, free_law, fresh_law}
-use Rattle.bus_terminal.proofs.BackLaw.{held_step}
-use Rattle.bus_terminal.proofs.RegistersLaw.{registers_law, noise_law as registers_noise_law, word_law as registers_word_law, gap_law as registers_gap_law, slot_law as registers_slot_law}
-use Rattle.bus_terminal.proofs.ReplyLaw.{reply_word_law, reply_noise_law, reply_gap_law, reply_slot_law}
+use Rattle.bus_terminal.specs.inner.Terminal.{heard_after_word, ends_at_gap, begins_at_gap, TakesWord, TakesNoise, TakesGap, TakesSlot, TakesWrite}
+use Rattle.terminal_rules.proofs.OpenLaw.{word_law, noise_law, gap_law, slot_law, after_word, after_gap, after_entry, unheard}
+use Rattle.terminal_state.proofs.CollectedLaw.{gap_ends_law, gap_leaves_law, entry_leaves_law, entry_ends_law, free_law, fresh_law}
+use Rattle.terminal_rules.proofs.BackLaw.{held_step}
+use Rattle.terminal_rules.proofs.ResetLaw.{gap_as, gap_resets, slot_resets}
+use Rattle.terminal_state.proofs.RegistersLaw.{registers_law, noise_law as registers_noise_law, word_law as registers_word_law, gap_law as registers_gap_law, slot_law as registers_slot_law}
+use Rattle.terminal_rules.proofs.ReplyLaw.{reply_word_law, reply_noise_law, reply_gap_law, reply_slot_law}
 
 -- the buses whose run holds a word for the terminal
 heard_choice : (f x y : Bool) → (let t : OnBuses = record { a = f || x; b = y } in t) ≡ (if f then record { a = true; b = y } else record { a = x; b = y })
@@ -70,10 +72,7 @@ off_law : (P : Description) (h : List Noted) (b : Bus) → off_now h b ≡ on_bu
 off_law P h A = refl
 off_law P h B = refl
 
--- a gap that isn't ignored, by whether a reply begins and what it ends, from what is kept
-abbrev pub gap_as : Bus → Bool → Ending → Noted
-gap_as b begins x = noted_as (Gap b) (turn_of_gap false b begins (done_cell x)) false x
-
+-- what a gap ends, and whether a reply begins, from what is kept
 abbrev gap_by : Description → List Noted → Bus → Ending
 gap_by P h b = gap_ends P (registers_now P h).flags.busy (standing_of P (open_now P h b))
 
@@ -176,17 +175,6 @@ registers_noise P h b e =
     ∙ (registers_law P (noise_noted P h b) h
     ∙ (ap (λ x. registers_after P (Noise b) (resets NoTurn x) false x (registers_now P h)) (entry_ends_law P None (open_now P h b))
     ∙ registers_noise_law P (entry_fails None (standing_of P (open_now P h b))) b (registers_now P h)))
-
-and_not : (k a : Bool) → (if a then false else k) ≡ k && not a
-and_not true true = refl
-and_not true false = refl
-and_not false true = refl
-and_not false false = refl
-
--- a gap is a reset where no reply begins
-pub gap_resets : (b : Bus) (begins : Bool) (x : Ending) → is_reset (gap_as b begins x) ≡ resets_at_gap begins x
-gap_resets b true x = and_not (is_code 8 (done_code x)) true
-gap_resets b false x = and_not (is_code 8 (done_code x)) false
 
 abbrev settled_for : Description → Bus → Bool → Ending → Registers → Registers
 settled_for P b begins x r = settled P.accept (adds_error P x) P.vector P.bit b begins x r
@@ -341,10 +329,6 @@ gap_stands is_legal P h b t u i s k =
 heard_slot : (P : Description) (h : List Noted) (r : Option Replying) → heard_on_buses P (noted_as Slot (turn_of_slot r) false Nothing ∷ h) ≡ heard_on_buses P h
 heard_slot P h None = refl
 heard_slot P h (Some r) = refl
-
-pub slot_resets : (r : Option Replying) → is_reset (noted_as Slot (turn_of_slot r) false Nothing) ≡ resets_next r
-slot_resets None = refl
-slot_resets (Some r) = refl
 
 registers_slot : (P : Description) (h : List Noted) → registers_now P (note P h Slot ∷ h) ≡ reset_to P.vector P.bit (resets_next (reply_now h)) (registers_now P h)
 registers_slot P h =

@@ -5,7 +5,7 @@ use Rattle.bus_terminal.specs.declared.answer.Hand.{Hand}
 use Rattle.bus_terminal.specs.declared.answer.Hand.TheVariants.{Received, Synchronize, SynchronizeWith, SelfTest, BusControl}
 use Rattle.bus_terminal.specs.declared.answer.Answer.{Answer}
 use Rattle.bus_terminal.specs.declared.answer.Answer.TheVariants.{Silent, Sends, Hands}
-use Rattle.bus_terminal.specs.Out.{Sending, Handing, HandsReceived, HandsSynchronize, HandsSynchronizeWith, HandsSelfTest, HandsBusControl, Out, Silence, SendsWord, HandsOver}
+use Rattle.terminal_rules.specs.Out.{Sending, Handing, HandsReceived, HandsSynchronize, HandsSynchronizeWith, HandsSelfTest, HandsBusControl, Out, Silence, SendsWord, HandsOver}
 
 abbrev pub shown_word : Sent → Sending
 shown_word s = record { bus = s.bus; kind = s.kind; bits = s.bits }

@@ -3,17 +3,8 @@
 #![tactic(auto)]
 
 mod answer;
-mod buses;
-mod ended;
-mod event;
-mod held;
-pub mod laws;
-mod message;
-mod registers;
-mod reply;
-pub mod rows;
 mod terminal;
 
 pub use answer::{Answer, Hand, Sent};
-pub use event::{Event, Flag, WordPlace};
 pub use terminal::Terminal;
+pub use terminal_rules::{Event, Flag, WordPlace};

@@ -5,15 +5,13 @@ ghost use Rattle.std.specs.Io.BufRead.{Rests};
 mod answers;
 
 use crate::answer::{Answer, Sent};
-use crate::buses::OnBuses;
-use crate::ended::{Ended, reports_kept, verdict_of};
-use crate::event::{Event, WordPlace};
-use crate::held::HeldWords;
-use crate::message::{GapEnd, InProgress, same_bus};
-use crate::registers::Registers;
-use crate::reply::Reply;
 use bus_legal::{Legality, Setup};
 use bus_word::{Bus, Command, Raw, StatusParts, cell_of};
+use terminal_rules::{Event, WordPlace};
+use terminal_state::{
+    Ended, GapEnd, HeldWords, InProgress, OnBuses, Registers, Reply, reports_kept, same_bus,
+    verdict_of,
+};
 
 /// A remote terminal, with its set-up and what answers whether a cell is legal. It stores no history: it
 /// keeps what of its history still matters.
@@ -33,24 +31,24 @@ impl<L: Legality> Terminal<L> {
     ghost use Rattle.std.specs.Prelude.{◌≡◌, true, false, ℕ, None, List, [], ◌∷◌, if◌then◌else◌};
     ghost use Rattle.bus_word.specs.declared.word.Bus.{Bus};
     ghost use Rattle.bus_legal.specs.Description.{Description, described};
-    ghost use Rattle.bus_terminal.specs.declared.event.Event.{Event};
-    ghost use Rattle.bus_terminal.specs.Ends.{well};
-    ghost use Rattle.bus_terminal.specs.Status.{spares, adds_error};
-    ghost use Rattle.bus_terminal.specs.Reply.{reply_bus};
-    ghost use Rattle.bus_terminal.specs.Open.{is_on};
-    ghost use Rattle.bus_terminal.specs.Turn.{is_answered};
-    ghost use Rattle.bus_terminal.specs.Out.{out};
-    ghost use Rattle.bus_terminal.specs.Machine.Replies.{shown_reply, can_send};
-    ghost use Rattle.bus_terminal.specs.Buses.{same_bus};
-    ghost use Rattle.bus_terminal.specs.Machine.Standing.{gap_ends, starts_by, Collects, Words, Idle};
-    ghost use Rattle.bus_terminal.specs.Machine.Message.{standing_on};
-    ghost use Rattle.bus_terminal.specs.Machine.Ended.{ending_of};
-    ghost use Rattle.bus_terminal.specs.Machine.Registers.{status_from, failed_by, started};
-    ghost use Rattle.bus_terminal.specs.Machine.Buses.{on_bus};
+    ghost use Rattle.terminal_rules.specs.declared.event.Event.{Event};
+    ghost use Rattle.terminal_rules.specs.Ends.{well};
+    ghost use Rattle.terminal_rules.specs.Status.{spares, adds_error};
+    ghost use Rattle.terminal_rules.specs.Reply.{reply_bus};
+    ghost use Rattle.terminal_rules.specs.Open.{is_on};
+    ghost use Rattle.terminal_rules.specs.Turn.{is_answered};
+    ghost use Rattle.terminal_rules.specs.Out.{out};
+    ghost use Rattle.terminal_state.specs.inner.Replies.{shown_reply, can_send};
+    ghost use Rattle.terminal_rules.specs.Buses.{same_bus};
+    ghost use Rattle.terminal_state.specs.inner.Standing.{gap_ends, starts_by, Collects, Words, Idle};
+    ghost use Rattle.terminal_state.specs.inner.Message.{standing_on};
+    ghost use Rattle.terminal_state.specs.inner.Ended.{ending_of};
+    ghost use Rattle.terminal_state.specs.inner.Registers.{status_from, failed_by, started};
+    ghost use Rattle.terminal_state.specs.inner.Buses.{on_bus};
     ghost use Rattle.bus_terminal.specs.Answer.{shown_sent, shown_answer, IsSmall};
     ghost use Rattle.bus_terminal.specs.Stands.{StandsAt, description_of, held_word};
     ghost use Rattle.bus_terminal.specs.contracts.terminal.Terminal.{the_row};
-    ghost use Rattle.bus_terminal.specs.Machine.Terminal.{sends_from, heard_after_word, ends_at_gap, begins_at_gap, IsSameSetup, TakesWord, TakesNoise, TakesGap, TakesSlot, TakesWrite};
+    ghost use Rattle.bus_terminal.specs.inner.Terminal.{sends_from, heard_after_word, ends_at_gap, begins_at_gap, IsSameSetup, TakesWord, TakesNoise, TakesGap, TakesSlot, TakesWrite};
 
     /// The terminal at power-up.
     pub fn power_up(setup: Setup, legality: L) -> Terminal<L>

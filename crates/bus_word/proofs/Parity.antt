@@ -1,8 +1,10 @@
--- Ones counted in a list of bits, and ones counted at once.
-use Rattle.std.proofs.Common.{◌≡◌, ℕ, zero, suc, ◌+◌, ◌*◌, ◌/◌, ◌%◌, ◌^◌, ◌<◌, ◌==◌, true, refl, sym, ◌∙◌, ap, arith, pow-suc}
+-- Ones counted in a list of bits, and ones counted at once; the parity of a valid word.
+use Rattle.std.proofs.Common.{◌≡◌, ℕ, zero, suc, ◌+◌, ◌*◌, ◌/◌, ◌%◌, ◌^◌, ◌<◌, ◌==◌, Bool, true, false, refl, sym, ◌∙◌, ap, arith, pow-suc}
+use Rattle.std.proofs.lemmas.Bool.Decides.{nat_tests}
 use Rattle.std.proofs.lemmas.Nat.{ones_cat}
 use Rattle.std.specs.Int.RustNames.{count_ones}
 use Rattle.bus_word.specs.Word.{bit_of, low_bits, ones}
+use Rattle.bus_word.specs.Laws.{OneValidWord}
 
 -- a bit is its own number of ones
 count_ones-bit : (b : ℕ) → b < 2 → count_ones b ≡ b
@@ -35,3 +37,15 @@ ones-low_bits (suc k) n h = ap (λ m. n % 2 + m) (ones-low_bits k (n / 2) (half_
 -- one more bit, set where the number of ones is even, makes it odd
 pub odd_with_parity : (n : ℕ) → ((bit_of (n % 2 == 0) + n) % 2 == 1) ≡ true
 odd_with_parity n = grind arith
+
+-- a parity bit that makes the number of ones odd is set where that number is even
+parity_law : (n : ℕ) (p : Bool) → ((bit_of p + n) % 2 == 1) ≡ true → p ≡ (n % 2 == 0)
+parity_law n p e = by_parity p e
+  where
+    by_parity : (p : Bool) → ((bit_of p + n) % 2 == 1) ≡ true → p ≡ (n % 2 == 0)
+    by_parity true e = grind (arith, nat_tests)
+    by_parity false e = grind (arith, nat_tests)
+
+-- a word is valid in one way only: it is the valid word of its sync and its bits
+pub valid_word_law : OneValidWord
+valid_word_law w e = ap (λ p. record w { parity = p }) (parity_law (ones (low_bits 16 w.bits)) w.parity e)

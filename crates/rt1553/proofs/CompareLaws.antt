@@ -3,12 +3,12 @@ use Rattle.std.proofs.Common.{◌≡◌, ◌≢◌, ◌≤◌, ℕ, List, [], ap
 use Rattle.bus_legal.specs.Description.{Description}
 use Rattle.bus_legal.specs.Parts.{Parts, description_in, IsNormal}
 use Rattle.bus_legal.specs.Reach.{reach}
-use Rattle.bus_terminal.specs.declared.event.Event.{Event}
-use Rattle.bus_terminal.specs.Out.{outs}
-use Rattle.bus_terminal.specs.Same.{Same}
-use Rattle.bus_terminal.specs.Distinguish.{TellsApart}
-use Rattle.bus_terminal.proofs.Reach.Same.{same_where_reached, outs_from-reach}
-use Rattle.bus_terminal.proofs.Distinguish.Apart.{apart-reach}
+use Rattle.terminal_rules.specs.declared.event.Event.{Event}
+use Rattle.terminal_rules.specs.Out.{outs}
+use Rattle.terminal_rules.specs.Same.{Same}
+use Rattle.terminal_exchanges.specs.Distinguish.{TellsApart}
+use Rattle.terminal_rules.proofs.Reach.Same.{same_where_reached, outs_from-reach}
+use Rattle.terminal_exchanges.proofs.Distinguish.Apart.{apart-reach}
 use Rattle.bus_canon.specs.Canon.{Text}
 use Rattle.bus_canon.specs.declared.difference.Difference.{Difference}
 use Rattle.bus_canon.specs.Difference.{IsFirst, script_for}

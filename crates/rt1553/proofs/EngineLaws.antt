@@ -8,11 +8,12 @@ use Rattle.bus_legal.specs.Tables.{tables_say}
 use Rattle.bus_legal.specs.Parts.{Parts, parts_of, description_in, IsNormal}
 use Rattle.bus_legal.specs.Reach.{reach}
 use Rattle.bus_legal.proofs.NormalLaws.{reach-set_up_normal}
-use Rattle.bus_terminal.specs.declared.event.Event.{Event}
+use Rattle.terminal_rules.specs.declared.event.Event.{Event}
 use Rattle.bus_terminal.specs.declared.terminal.Terminal.{Terminal}
-use Rattle.bus_terminal.specs.Out.{out}
-use Rattle.bus_terminal.specs.Stands.{StandsAt, after}
-use Rattle.bus_terminal.proofs.Reach.Same.{out-reach}
+use Rattle.terminal_rules.specs.Out.{out}
+use Rattle.bus_terminal.specs.Stands.{StandsAt}
+use Rattle.terminal_rules.specs.Past.{after}
+use Rattle.terminal_rules.proofs.Reach.Same.{out-reach}
 use Rattle.bus_script.specs.declared.fault.RunFault.{RunFault}
 use Rattle.bus_script.specs.Text.{NoLineFeed, EndsLine}
 use Rattle.bus_script.specs.Reading.{Reading, stops, nothing, ByFault}

@@ -2,9 +2,9 @@
 use Rattle.std.specs.Prelude.{◌≡◌, ◌≢◌, ◌↔◌, ℕ, List, ◌⊎◌}
 use Rattle.bus_legal.specs.Description.{Description}
 use Rattle.bus_legal.specs.Reach.{reach}
-use Rattle.bus_terminal.specs.declared.event.Event.{Event}
-use Rattle.bus_terminal.specs.Same.{Same}
-use Rattle.bus_terminal.specs.Distinguish.{TellsApart}
+use Rattle.terminal_rules.specs.declared.event.Event.{Event}
+use Rattle.terminal_rules.specs.Same.{Same}
+use Rattle.terminal_exchanges.specs.Distinguish.{TellsApart}
 use Rattle.bus_canon.specs.declared.difference.Difference.{Difference}
 use Rattle.bus_canon.specs.Difference.{IsFirst, script_for}
 use Rattle.rt1553.specs.declared.comparison.Verdict.{Verdict}

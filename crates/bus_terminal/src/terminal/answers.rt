@@ -1,17 +1,16 @@
 //! What is answered: the next word of a reply, and what is handed over.
 use super::Terminal;
 use crate::answer::{Answer, Hand, Sent};
-use crate::ended::Ended;
-use crate::reply::Reply;
 use bus_legal::Legality;
 use bus_word::{Cell, Kind, status_of};
+use terminal_state::{Ended, Reply};
 
 impl<L: Legality> Terminal<L> {
     ghost use Rattle.std.specs.Prelude.{◌≡◌, true, Some};
-    ghost use Rattle.bus_terminal.specs.Out.{hands, code_hands, handing_over, HandsReceived};
-    ghost use Rattle.bus_terminal.specs.Machine.Ended.{ending_of};
-    ghost use Rattle.bus_terminal.specs.Machine.Replies.{shown_reply, has_place, can_send};
-    ghost use Rattle.bus_terminal.specs.Machine.Terminal.{reply_word_from, sends_from};
+    ghost use Rattle.terminal_rules.specs.Out.{hands, code_hands, handing_over, HandsReceived};
+    ghost use Rattle.terminal_state.specs.inner.Ended.{ending_of};
+    ghost use Rattle.terminal_state.specs.inner.Replies.{shown_reply, has_place, can_send};
+    ghost use Rattle.bus_terminal.specs.inner.Terminal.{reply_word_from, sends_from};
     ghost use Rattle.bus_terminal.specs.Answer.{shown_sent, shown_hand, shown_answer, AreFew, IsSmall};
     ghost use Rattle.bus_terminal.specs.Stands.{description_of, held_word};
 

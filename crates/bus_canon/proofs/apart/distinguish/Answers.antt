@@ -1,6 +1,6 @@
 use Rattle.std.proofs.Common.{subst, sym}
 use Rattle.bus_legal.specs.Parts.{description_in}
-use Rattle.bus_terminal.specs.Distinguish.{TellsApart}
+use Rattle.terminal_exchanges.specs.Distinguish.{TellsApart}
 use Rattle.bus_canon.proofs.ApartLaws.{apart_by_first, equal_by_all}
 use Rattle.bus_canon.proofs.apart.distinguish.Goals as goal
 

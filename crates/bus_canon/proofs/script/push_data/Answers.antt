@@ -1,5 +1,5 @@
 use Rattle.std.proofs.Common.{◌++◌, [], ◌∷◌, ◌-◌, ◌+◌, ap, ◌∙◌, arith}
-use Rattle.bus_terminal.specs.Exchanges.{data_event}
+use Rattle.terminal_exchanges.specs.Exchanges.{data_event}
 use Rattle.bus_canon.proofs.ScriptLaws.{words-more}
 use Rattle.bus_canon.proofs.script.push_data.Goals as goal
 

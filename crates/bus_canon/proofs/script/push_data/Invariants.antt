@@ -1,5 +1,5 @@
 use Rattle.std.proofs.Common.{◌≡◌, ◌+◌, ◌-◌, ◌≤◌, ◌++◌, [], ◌∷◌, replicate, length}
-use Rattle.bus_terminal.specs.Exchanges.{words_then}
+use Rattle.terminal_exchanges.specs.Exchanges.{words_then}
 use Rattle.bus_canon.proofs.script.push_data.Given as goal
 
 -- as many words are in the script as have been counted

@@ -1,5 +1,5 @@
 use Rattle.std.proofs.Common.{◌+◌, ◌++◌, [], ◌∷◌, ap, refl, ◌∙◌, arith}
-use Rattle.bus_terminal.specs.declared.event.Event.TheVariants.{Slot}
+use Rattle.terminal_rules.specs.declared.event.Event.TheVariants.{Slot}
 use Rattle.bus_canon.proofs.ScriptLaws.{slots-more}
 use Rattle.bus_canon.proofs.script.push_slots.Goals as goal
 

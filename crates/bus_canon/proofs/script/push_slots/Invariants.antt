@@ -1,5 +1,5 @@
 use Rattle.std.proofs.Common.{◌≡◌, ◌+◌, ◌++◌, [], length}
-use Rattle.bus_terminal.specs.Exchanges.{slots_then}
+use Rattle.terminal_exchanges.specs.Exchanges.{slots_then}
 use Rattle.bus_canon.proofs.script.push_slots.Given as goal
 
 -- as many slots are in the script as have been counted

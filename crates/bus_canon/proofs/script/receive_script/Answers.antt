@@ -1,5 +1,5 @@
 use Rattle.std.proofs.Common.{◌-◌, ◌%◌, ◌∷◌, replicate}
-use Rattle.bus_terminal.specs.Distinguish.{slots_for, command_of}
+use Rattle.terminal_exchanges.specs.Distinguish.{slots_for, command_of}
 use Rattle.bus_canon.proofs.ScriptLaws.{exchange_of}
 use Rattle.bus_canon.proofs.script.receive_script.Goals as goal
 

@@ -2,7 +2,7 @@ use Rattle.std.proofs.Common.{◌≡◌, true, subst, sym, ap, ◌∙◌}
 use Rattle.bus_word.specs.Cell.{is_data_place}
 use Rattle.bus_legal.specs.Parts.{description_in}
 use Rattle.bus_legal.proofs.Places.{place_from}
-use Rattle.bus_terminal.specs.Distinguish.{wraparound_script}
+use Rattle.terminal_exchanges.specs.Distinguish.{wraparound_script}
 use Rattle.bus_canon.specs.Difference.{script_for}
 use Rattle.bus_canon.specs.FirstPlace.{IsInRange}
 use Rattle.bus_canon.proofs.ScriptLaws.{own_received, broadcast_asked}

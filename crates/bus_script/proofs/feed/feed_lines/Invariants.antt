@@ -1,5 +1,5 @@
 use Rattle.std.proofs.Common.{List, ◌-◌, length}
-use Rattle.bus_terminal.specs.declared.event.Event.{Event}
+use Rattle.terminal_rules.specs.declared.event.Event.{Event}
 use Rattle.bus_terminal.specs.Stands.{StandsAt}
 use Rattle.bus_script.specs.Transcript.{text_at}
 use Rattle.bus_script.specs.Line.{meaning}

@@ -1,5 +1,5 @@
 use Rattle.std.proofs.Common.{refl, ap, sym, ◌∙◌}
-use Rattle.bus_terminal.specs.Out.{sending_out}
+use Rattle.terminal_rules.specs.Out.{sending_out}
 use Rattle.bus_terminal.proofs.StandsLaw.{gap_stands, slot_stands}
 use Rattle.bus_terminal.proofs.AnswerLaw.{gap_answers, slot_answers, slot_can}
 use Rattle.bus_terminal.proofs.terminal.Terminal.step.Goals as goal

@@ -1,5 +1,5 @@
 use Rattle.std.proofs.Common.{sym, ◌∙◌}
-use Rattle.bus_terminal.proofs.CellLaw.{well_law}
+use Rattle.terminal_rules.proofs.CellLaw.{well_law}
 use Rattle.bus_terminal.proofs.terminal.Terminal.verdict.Goals as goal
 
 pub returns-in-Some : goal.returns-in-Some

@@ -1,9 +1,0 @@
-use Rattle.std.proofs.Common.{◌∙◌}
-use Rattle.bus_terminal.specs.Machine.Held.{word_in}
-use Rattle.bus_terminal.proofs.HeldLaw.{wrapped_law}
-use Rattle.bus_terminal.proofs.held.HeldWords.wrap_around.Goals as goal
-
-pub returns-then-subaddress-wrap : goal.returns-then-subaddress-wrap
-returns-then-subaddress-wrap c s i low high first last =
-    c.replace.ensures s i low high first last
-    ∙ wrapped_law c.args.wrap s i c.args.subaddress c.args.words.now (word_in c.args.initial.now c.args.self.now s i) c.if-subaddress-wrap.true first

@@ -1,5 +1,0 @@
-use Rattle.bus_terminal.proofs.LatestLaw.{latest_start_law, one_message_law}
-use Rattle.bus_terminal.proofs.laws.message_in_progress.Goals as goal
-
-pub returns : goal.returns
-returns c = record { latest_start = latest_start_law; one_message = one_message_law }

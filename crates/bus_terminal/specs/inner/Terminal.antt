@@ -1,0 +1,118 @@
+-- What an event makes of a terminal, and what is answered from what it keeps.
+use Rattle.std.specs.Prelude.{◌≡◌, ℕ, ◌≤◌, Bool, true, false, ◌&&◌, ◌==◌, if◌then◌else◌, Option, Some, None}
+use Rattle.bus_word.specs.declared.word.Bus.{Bus}
+use Rattle.bus_word.specs.declared.word.Kind.TheVariants.{Com, Dat}
+use Rattle.bus_word.specs.declared.word.Raw.{Raw}
+use Rattle.bus_word.specs.declared.cell.Cell.{Cell}
+use Rattle.bus_word.specs.declared.cell.Cell.TheVariants.{OwnTransmit, OwnMode}
+use Rattle.bus_word.specs.Status.{status_word}
+use Rattle.bus_legal.specs.Description.{Description, word_at}
+use Rattle.terminal_rules.specs.Place.{Place}
+use Rattle.terminal_state.specs.declared.buses.OnBuses.{OnBuses}
+use Rattle.terminal_state.specs.declared.registers.Registers.{Registers}
+use Rattle.bus_terminal.specs.declared.terminal.Terminal.{Terminal}
+use Rattle.terminal_rules.specs.History.{Replying, Ending}
+use Rattle.terminal_rules.specs.Buses.{same_bus}
+use Rattle.terminal_rules.specs.Starts.{is_for}
+use Rattle.terminal_rules.specs.Status.{spares, adds_error}
+use Rattle.terminal_rules.specs.Turn.{is_answered, done_cell}
+use Rattle.terminal_rules.specs.Out.{Sending, sending}
+use Rattle.terminal_state.specs.inner.Standing.{word_leaves, entry_leaves, entry_fails, gap_leaves, gap_ends, starts_by}
+use Rattle.terminal_state.specs.inner.Message.{standing_on}
+use Rattle.terminal_state.specs.inner.Registers.{failed_by, started_if, settled, reset_to}
+use Rattle.terminal_rules.specs.inner.Steps.{resets_at_gap, dropped_if, begun_if, sent_one, resets_next}
+use Rattle.terminal_state.specs.inner.Buses.{on_bus, with_bus}
+use Rattle.terminal_state.specs.inner.Held.{held_after}
+use Rattle.terminal_state.specs.inner.Replies.{shown_reply}
+use Rattle.bus_terminal.specs.Stands.{description_of, held_word}
+
+-- the data word of an own mode code, from the registers
+abbrev pub code_word_from : Registers → ℕ → ℕ
+code_word_from r code =
+    if code == 16 then r.vector
+    else if code == 18 then r.last
+    else if code == 19 then r.bit
+    else 0
+
+-- data word number m of a reply, from the registers and the words held ready
+abbrev pub reply_word_from : Registers → (ℕ → ℕ → ℕ) → Option Cell → ℕ → ℕ
+reply_word_from r held (Some (OwnTransmit s n)) m = held s m
+reply_word_from r held (Some (OwnMode code)) m = code_word_from r code
+reply_word_from r held _ m = 0
+
+-- the word that is sent next, from the registers and the words held ready
+abbrev pub next_sent_from : ℕ → Registers → (ℕ → ℕ → ℕ) → Replying → Sending
+next_sent_from address r held reply =
+    if reply.number == 0
+    then sending reply.bus Com (status_word address r.kept)
+    else sending reply.bus Dat (reply_word_from r held reply.cell reply.number)
+
+abbrev pub sends_from : ℕ → Registers → (ℕ → ℕ → ℕ) → Option Replying → Option Sending
+sends_from address r held None = None
+sends_from address r held (Some reply) = Some (next_sent_from address r held reply)
+
+-- on which buses the run holds a word for the terminal, after a word
+abbrev pub heard_after_word : Description → Bus → Raw → OnBuses → OnBuses
+heard_after_word P b w heard = if is_for P w then with_bus b true heard else heard
+
+-- whether a word starts a message
+abbrev pub starts_in : {L : Type 0} → (L → Cell → Bool) → Terminal L → Bus → Raw → Bool
+starts_in is_legal t b w = starts_by (description_of is_legal t) w (on_bus b t.heard) (standing_on b t.in_progress)
+
+-- how a gap on this bus ends the message in progress
+abbrev pub ends_at_gap : {L : Type 0} → (L → Cell → Bool) → Terminal L → Bus → Ending
+ends_at_gap is_legal t b = gap_ends (description_of is_legal t) t.registers.flags.busy (standing_on b t.in_progress)
+
+-- whether a reply to it begins
+abbrev pub begins_at_gap : {L : Type 0} → (L → Cell → Bool) → Terminal L → Bus → Bool
+begins_at_gap is_legal t b = is_answered (on_bus b t.registers.off) (ends_at_gap is_legal t b)
+
+-- the same set-up and legality
+pub record IsSameSetup {L : Type 0} (is_legal : L → Cell → Bool) (t u : Terminal L) : Type 0 where
+  pub description : description_of is_legal u ≡ description_of is_legal t
+  pub initial : u.setup.initial ≡ t.setup.initial
+
+-- what a word that isn't ignored makes of a terminal t
+pub record TakesWord {L : Type 0} (is_legal : L → Cell → Bool) (b : Bus) (w : Raw) (t u : Terminal L) : Type 0 where
+  pub setup : IsSameSetup is_legal t u
+  pub heard : u.heard ≡ heard_after_word (description_of is_legal t) b w t.heard
+  pub standing : (c : Bus) → standing_on c u.in_progress ≡ word_leaves t.setup.address (starts_in is_legal t b w) (same_bus c b) w (standing_on c t.in_progress)
+  pub registers : u.registers ≡ started_if (starts_in is_legal t b w) (spares (description_of is_legal t) w.bits) w.bits (failed_by (description_of is_legal t) (entry_fails (Some w) (standing_on b t.in_progress)) t.registers)
+  pub reply : shown_reply u.reply ≡ dropped_if (starts_in is_legal t b w) (shown_reply t.reply)
+  pub held : u.held ≡ t.held
+
+-- what noise makes of it
+pub record TakesNoise {L : Type 0} (is_legal : L → Cell → Bool) (b : Bus) (t u : Terminal L) : Type 0 where
+  pub setup : IsSameSetup is_legal t u
+  pub heard : u.heard ≡ t.heard
+  pub standing : (c : Bus) → standing_on c u.in_progress ≡ (if same_bus c b then entry_leaves t.setup.address None (standing_on c t.in_progress) else standing_on c t.in_progress)
+  pub registers : u.registers ≡ failed_by (description_of is_legal t) (entry_fails None (standing_on b t.in_progress)) t.registers
+  pub reply : u.reply ≡ t.reply
+  pub held : u.held ≡ t.held
+
+-- what a gap makes of it that ends a message so, or none
+pub record TakesGap {L : Type 0} (is_legal : L → Cell → Bool) (b : Bus) (begins : Bool) (x : Ending) (t u : Terminal L) : Type 0 where
+  pub setup : IsSameSetup is_legal t u
+  pub heard : u.heard ≡ with_bus b false t.heard
+  pub standing : (c : Bus) → standing_on c u.in_progress ≡ (if same_bus c b then gap_leaves (standing_on c t.in_progress) else standing_on c t.in_progress)
+  pub registers : u.registers ≡ settled t.setup.accept (adds_error (description_of is_legal t) x) t.setup.vector t.setup.bit b begins x t.registers
+  pub reply : shown_reply u.reply ≡ begun_if begins b (done_cell x) (shown_reply t.reply)
+  pub held : (s i : ℕ) → 1 ≤ s → s ≤ 30 → 1 ≤ i → i ≤ 32 → held_word u s i ≡ held_after t.setup.initial t.setup.wrap s i (resets_at_gap begins x) x (held_word t s i)
+
+-- what a write of the subsystem makes of it
+pub record TakesWrite {L : Type 0} (is_legal : L → Cell → Bool) (place : Place) (v : ℕ) (t u : Terminal L) : Type 0 where
+  pub setup : IsSameSetup is_legal t u
+  pub heard : u.heard ≡ t.heard
+  pub in_progress : u.in_progress ≡ t.in_progress
+  pub registers : u.registers ≡ t.registers
+  pub reply : u.reply ≡ t.reply
+  pub held : (s i : ℕ) → 1 ≤ s → s ≤ 30 → 1 ≤ i → i ≤ 32 → held_word u s i ≡ (if (place.subaddress == s) && (place.number == i) then v else held_word t s i)
+
+-- what a slot makes of it
+pub record TakesSlot {L : Type 0} (is_legal : L → Cell → Bool) (t u : Terminal L) : Type 0 where
+  pub setup : IsSameSetup is_legal t u
+  pub heard : u.heard ≡ t.heard
+  pub in_progress : u.in_progress ≡ t.in_progress
+  pub registers : u.registers ≡ reset_to t.setup.vector t.setup.bit (resets_next (shown_reply t.reply)) t.registers
+  pub reply : shown_reply u.reply ≡ sent_one (shown_reply t.reply)
+  pub held : (s i : ℕ) → 1 ≤ s → s ≤ 30 → 1 ≤ i → i ≤ 32 → held_word u s i ≡ (if resets_next (shown_reply t.reply) then word_at t.setup.initial s i else held_word t s i)

@@ -1,0 +1,176 @@
+-- What a terminal answers when it is asked after a broadcast.
+use Rattle.std.proofs.Common.{◌≡◌, ℕ, suc, ◌≤◌, Bool, true, false, not, ◌&&◌, ◌||◌, ◌==◌, ◌≢◌, if◌then◌else◌, Option, Some, None, [], ◌∷◌, refl, ap, sym, ◌∙◌, arith}
+use Rattle.std.proofs.lemmas.Bool.{ne_eqb}
+use Rattle.bus_word.specs.declared.word.Bus.TheVariants.{A}
+use Rattle.bus_word.specs.declared.status.StatusParts.{StatusParts}
+use Rattle.bus_word.specs.declared.cell.Cell.{Cell}
+use Rattle.bus_word.specs.declared.cell.Cell.TheVariants.{OwnReceive, OwnTransmit, BroadReceive, OwnMode, BroadMode}
+use Rattle.bus_word.specs.Command.{is_broadcast}
+use Rattle.bus_word.specs.Cell.{cell_of}
+use Rattle.bus_word.specs.Status.{status_word}
+use Rattle.bus_legal.specs.Description.{Description}
+use Rattle.terminal_rules.specs.declared.event.Event.TheVariants.{Gap}
+use Rattle.terminal_rules.specs.History.{NoTurn, Noted, noted_as, Ending, Nothing, Illegal, Done}
+use Rattle.terminal_rules.specs.Reply.{words_after_status}
+use Rattle.terminal_rules.specs.Ends.{verdict, well}
+use Rattle.terminal_rules.specs.SinceReset.{is_code, done_code, inhibited_now, off_now, is_reset_cell}
+use Rattle.terminal_rules.specs.Turn.{is_answered, done_cell, turn_of_gap}
+use Rattle.terminal_rules.specs.Status.{no_parts, inhibited_after, formed_done, kept_by_end, reset_first, adds_error, kept_now}
+use Rattle.terminal_rules.specs.inner.Steps.{kept_after}
+use Rattle.terminal_rules.specs.Starts.{is_meant}
+use Rattle.terminal_exchanges.specs.Exchanges.{Exchange, script_of, command_event, command_note, slot_notes, notes_at_gap, ending_of_exchange, exchange_notes, slots_needed, AreAnswered}
+use Rattle.terminal_exchanges.specs.Distinguish.{TellsApart, all_terminals, mode_code, ask, option_script}
+use Rattle.terminal_rules.proofs.KeptLaw.{kept_step}
+use Rattle.terminal_exchanges.proofs.Distinguish.Commands.{IsTo, code_to_own, ask_to_all, moved}
+use Rattle.terminal_exchanges.proofs.Distinguish.Last.{slot_at, apart_by_two, bits_in}
+use Rattle.terminal_exchanges.proofs.Distinguish.Quiet.{notes_at, plain, formed_plain, words_kept}
+use Rattle.terminal_exchanges.proofs.Distinguish.Own.{ended, status_asked}
+
+-- the cell of a broadcast command, or none
+abbrev pub is_of_broadcast : Option Cell → Bool
+is_of_broadcast None = true
+is_of_broadcast (Some (BroadReceive s n)) = true
+is_of_broadcast (Some (BroadMode code)) = true
+is_of_broadcast (Some cell) = false
+
+abbrev pub has_legal : Description → Option Cell → Bool
+has_legal P None = false
+has_legal P (Some cell) = P.legal cell
+
+abbrev pub resets : Option Cell → Bool
+resets None = false
+resets (Some cell) = is_reset_cell cell
+
+-- what is kept after a broadcast, by whether it is heard, legal and a reset
+abbrev pub parts_after : Bool → Bool → Bool → StatusParts
+parts_after heard legal reset =
+    if heard then (if legal then (if reset then no_parts else plain false true false) else plain true true false) else no_parts
+
+meant_broadcast : (P : Description) (x : Exchange) (o : Option Cell) → P.address ≤ 30 → IsTo all_terminals o x → is_meant P x.command ≡ P.broadcast
+meant_broadcast P x o low to =
+    let other : (31 == P.address) ≡ false = ne_eqb 31 P.address (λ e. omega arith) in
+    (λ j. (to.address j == P.address) || ((to.address j == 31) && P.broadcast)) ∙ ap (λ b. b || P.broadcast) other
+
+-- a broadcast that is heard ends by the legality of its cell
+pub broadcast_ends : (P : Description) (x : Exchange) (cell : Cell) → P.address ≤ 30 → P.broadcast ≡ true → IsTo all_terminals (Some cell) x → ending_of_exchange P x ≡ ended (P.legal cell) x cell
+broadcast_ends P x cell low hears to =
+    ap (λ b. if b then well P false x.command x.words else Nothing) (meant_broadcast P x (Some cell) low to ∙ hears)
+    ∙ ap (verdict P.legal false x.command x.words) to.cell
+
+-- a broadcast is never answered
+silent_verdict : (P : Description) (off : Bool) (x : Exchange) (o : Option Cell) → is_broadcast x.command ≡ true → is_answered off (verdict P.legal false x.command x.words o) ≡ false
+silent_verdict P off x None e = ap (λ b. not (b || off)) e
+silent_verdict P off x (Some cell) e = by_legal (P.legal cell)
+  where
+    by_legal : (l : Bool) → is_answered off (ended l x cell) ≡ false
+    by_legal true = ap (λ b. not (b || off)) e
+    by_legal false = ap (λ b. not (b || off)) e
+
+silent_end : (P : Description) (off : Bool) (x : Exchange) → is_broadcast x.command ≡ true → is_answered off (ending_of_exchange P x) ≡ false
+silent_end P off x e = by_meant (is_meant P x.command)
+  where
+    by_meant : (m : Bool) → is_answered off (if m then well P false x.command x.words else Nothing) ≡ false
+    by_meant true = silent_verdict P off x (cell_of x.command) e
+    by_meant false = refl
+
+to_all : (x : Exchange) (o : Option Cell) → IsTo all_terminals o x → is_broadcast x.command ≡ true
+to_all x o to = ap (λ a. a == 31) to.address
+
+-- it needs no slots
+pub broadcast_answered : (P : Description) (x : Exchange) (o : Option Cell) → IsTo all_terminals o x → AreAnswered P (x ∷ [])
+broadcast_answered P x o to =
+    let e : slots_needed (ending_of_exchange P x) ≡ 0 = ap (λ b. if b then suc (words_after_status (done_cell (ending_of_exchange P x))) else 0) (silent_end P false x (to_all x o to)) in
+    (omega arith, tt)
+
+-- what is noted at its gap
+abbrev silent_note : Ending → Noted
+silent_note e = noted_as (Gap A) NoTurn false e
+
+pub broadcast_notes : (P : Description) (x : Exchange) (o : Option Cell) → IsTo all_terminals o x → exchange_notes P (x ∷ []) ≡ silent_note (ending_of_exchange P x) ∷ notes_at P [] x
+broadcast_notes P x o to =
+    ap (λ n. slot_notes n (notes_at_gap P x [])) (to.no_slots refl)
+    ∙ ap (λ a. noted_as (Gap A) (turn_of_gap false A a (done_cell (ending_of_exchange P x))) false (ending_of_exchange P x) ∷ notes_at P [] x) (silent_end P (off_now (notes_at P [] x) A) x (to_all x o to))
+
+abbrev kept_by : Description → Exchange → Ending → StatusParts
+kept_by P x e = kept_after (reset_first (is_code 8 (done_code e)) (kept_by_end P (notes_at P [] x) e)) (adds_error P e) (kept_now P (notes_at P [] x))
+
+unheard_kept : (P : Description) (x : Exchange) → is_meant P x.command ≡ false → kept_by P x Nothing ≡ no_parts
+unheard_kept P x unmeant =
+    words_kept P x.words (command_note P x.command ∷ [])
+    ∙ ap (λ m. kept_now P (noted_as (command_event x.command) NoTurn m Nothing ∷ [])) unmeant
+
+illegal_kept : (P : Description) (x : Exchange) (o : Option Cell) → IsTo all_terminals o x → kept_by P x (Illegal x.command) ≡ plain true true false
+illegal_kept P x o to = formed_plain P [] x x.command true false (inhibited_now (notes_at P [] x)) ∙ ap (λ a. plain true (a == 31) false) to.address
+
+code_kept : (r : Bool) (d p k : StatusParts) → d ≡ p → kept_after (reset_first r (Some d)) false k ≡ (if r then no_parts else p)
+code_kept true d p k e = refl
+code_kept false d p k e = e
+
+done_kept : (P : Description) (x : Exchange) (cell : Cell) → IsTo all_terminals (Some cell) x → is_of_broadcast (Some cell) ≡ true →
+    kept_by P x (Done x.command cell x.words) ≡ (if is_reset_cell cell then no_parts else plain false true false)
+done_kept P x (OwnReceive s n) to by_broadcast = cc
+done_kept P x (OwnTransmit s n) to by_broadcast = cc
+done_kept P x (OwnMode code) to by_broadcast = cc
+done_kept P x (BroadReceive s n) to by_broadcast =
+    formed_plain P [] x x.command false false (inhibited_after (inhibited_now (notes_at P [] x)) (BroadReceive s n)) ∙ ap (λ a. plain false (a == 31) false) to.address
+done_kept P x (BroadMode code) to by_broadcast =
+    code_kept (code == 8) (formed_done P (notes_at P [] x) x.command (BroadMode code)) (plain false true false) (kept_now P (notes_at P [] x))
+    (formed_plain P [] x x.command false false (inhibited_after (inhibited_now (notes_at P [] x)) (BroadMode code)) ∙ ap (λ a. plain false (a == 31) false) to.address)
+
+heard_kept : (P : Description) (x : Exchange) (o : Option Cell) → IsTo all_terminals o x → is_of_broadcast o ≡ true →
+    kept_by P x (verdict P.legal false x.command x.words o) ≡ parts_after true (has_legal P o) (resets o)
+heard_kept P x None to by_broadcast = illegal_kept P x None to
+heard_kept P x (Some cell) to by_broadcast = by_legal (P.legal cell)
+  where
+    by_legal : (l : Bool) → kept_by P x (ended l x cell) ≡ parts_after true l (is_reset_cell cell)
+    by_legal true = done_kept P x cell to by_broadcast
+    by_legal false = illegal_kept P x (Some cell) to
+
+kept_after_broadcast : (P : Description) (x : Exchange) (o : Option Cell) → P.address ≤ 30 → IsTo all_terminals o x → is_of_broadcast o ≡ true →
+    kept_now P (exchange_notes P (x ∷ [])) ≡ parts_after P.broadcast (has_legal P o) (resets o)
+kept_after_broadcast P x o low to by_broadcast =
+    ap (kept_now P) (broadcast_notes P x o to)
+    ∙ (kept_step P (silent_note (ending_of_exchange P x)) (notes_at P [] x)
+    ∙ by_option P.broadcast (meant_broadcast P x o low to))
+  where
+    by_option : (b : Bool) → is_meant P x.command ≡ b → kept_by P x (ending_of_exchange P x) ≡ parts_after b (has_legal P o) (resets o)
+    by_option false m = ap (λ m. kept_by P x (if m then well P false x.command x.words else Nothing)) m ∙ unheard_kept P x m
+    by_option true m =
+        ap (kept_by P x) (ap (λ b. if b then well P false x.command x.words else Nothing) m ∙ ap (verdict P.legal false x.command x.words) to.cell)
+        ∙ heard_kept P x o to by_broadcast
+
+status_after : (P : Description) (x y : Exchange) (o : Option Cell) → P.address ≤ 30 → P.legal (OwnMode 2) ≡ true → IsTo all_terminals o x → is_of_broadcast o ≡ true → IsTo P.address (Some (OwnMode 2)) y →
+    bits_in (slot_at 0 P (x ∷ []) y) ≡ status_word P.address (parts_after P.broadcast (has_legal P o) (resets o))
+status_after P x y o low legal to by_broadcast asks =
+    status_asked P (x ∷ []) y low asks legal (broadcast_answered P x o to)
+    ∙ ap (status_word P.address) (kept_after_broadcast P x o low to by_broadcast)
+
+-- two terminals that are asked after the same broadcast, where what they keep differs
+pub asked_apart : (P Q : Description) (x : Exchange) (o : Option Cell) → P.address ≤ 30 → P.address ≡ Q.address → P.legal (OwnMode 2) ≡ true → Q.legal (OwnMode 2) ≡ true →
+    IsTo all_terminals o x → is_of_broadcast o ≡ true →
+    status_word P.address (parts_after P.broadcast (has_legal P o) (resets o)) ≢ status_word P.address (parts_after Q.broadcast (has_legal Q o) (resets o)) →
+    TellsApart P Q (script_of (x ∷ ask P.address ∷ []))
+asked_apart P Q x o low same p_legal q_legal to by_broadcast apart =
+    let asks : IsTo P.address (Some (OwnMode 2)) (ask P.address) = code_to_own P.address 2 low refl in
+    let low_q : Q.address ≤ 30 = omega arith in
+    let none : x.slots ≡ 0 = to.no_slots refl in
+    apart_by_two bits_in 0 P Q all_terminals P.address o (Some (OwnMode 2)) x (ask P.address)
+    (status_word P.address (parts_after P.broadcast (has_legal P o) (resets o)))
+    (status_word P.address (parts_after Q.broadcast (has_legal Q o) (resets o)))
+    to asks refl (omega arith) (broadcast_answered P x o to) (broadcast_answered Q x o to) (asks.some_slots low)
+    (status_after P x (ask P.address) o low p_legal to by_broadcast asks)
+    (status_after Q x (ask P.address) o low_q q_legal to by_broadcast (moved P.address Q.address (Some (OwnMode 2)) (ask P.address) same asks)
+    ∙ ap (λ a. status_word a (parts_after Q.broadcast (has_legal Q o) (resets o))) (sym same))
+    apart
+
+-- 2: the broadcast option
+option_told : (a : ℕ) (p q : Bool) → status_word a (parts_after p false false) ≡ status_word a (parts_after q false false) → p ≡ q
+option_told a true true e = refl
+option_told a true false e = absurd (omega arith)
+option_told a false true e = absurd (omega arith)
+option_told a false false e = refl
+
+pub option_tells : (P Q : Description) → P.address ≤ 30 → P.address ≡ Q.address → P.legal (OwnMode 2) ≡ true → Q.legal (OwnMode 2) ≡ true → P.broadcast ≢ Q.broadcast →
+    TellsApart P Q (option_script P.address)
+option_tells P Q low same p_legal q_legal other =
+    asked_apart P Q (mode_code all_terminals 2) None low same p_legal q_legal ask_to_all refl (λ e. other (option_told P.address P.broadcast Q.broadcast e))

@@ -1,0 +1,2 @@
+pub mod ExchangeLaw
+pub mod Distinguish

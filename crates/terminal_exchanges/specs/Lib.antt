@@ -1,0 +1,3 @@
+pub use Rattle.bus_legal.specs.Description
+pub mod Exchanges
+pub mod Distinguish

@@ -1,0 +1,10 @@
+pub mod PlaceLaw
+pub mod OpenLaw
+pub mod ReplyLaw
+pub mod KeptLaw
+pub mod BackLaw
+pub mod ResetLaw
+pub mod CellLaw
+pub mod LatestLaw
+pub mod Reach
+pub mod RandomRows

@@ -1,0 +1,104 @@
+-- The message in progress on a bus (MIL-STD-1553B, 4.3.3.6, 4.4.3.2, 4.6.3).
+use Rattle.std.specs.Prelude.{ℕ, Bool, false, not, ◌&&◌, ◌==◌, if◌then◌else◌, Option, Some, None, List, [], ◌∷◌}
+use Rattle.bus_word.specs.declared.word.Bus.{Bus}
+use Rattle.bus_word.specs.declared.word.Raw.{Raw}
+use Rattle.bus_word.specs.Word.{is_command}
+use Rattle.bus_word.specs.Command.{address_of, transmits, is_receive, is_broadcast}
+use Rattle.bus_legal.specs.Description.{Description}
+use Rattle.terminal_rules.specs.declared.event.Event.{Event}
+use Rattle.terminal_rules.specs.declared.event.Event.TheVariants.{Word}
+use Rattle.terminal_rules.specs.Buses.{same_bus}
+use Rattle.terminal_rules.specs.LookBack.{latest, since, before, oldest}
+use Rattle.terminal_rules.specs.History.{Noted, Entry, ends_run, run}
+
+-- what is in progress: no message; a message in the run of its command, with what followed the command; a
+-- receive command that waits for the status word of an address; such a message after that status word, with
+-- what followed the status
+pub data Open : Type 0 where
+  Closed : Open
+  First : (command : ℕ) → (after : List Entry) → Open
+  Waiting : (command : ℕ) → (address : ℕ) → Open
+  Second : (command : ℕ) → (address : ℕ) → (after : List Entry) → Open
+
+abbrev pub bus_of : Event → Option Bus
+bus_of (Word b w) = Some b
+bus_of _ = None
+
+-- the bus of a start
+abbrev pub start_bus : Noted → Option Bus
+start_bus p = if p.starts then bus_of p.event else None
+
+abbrev pub is_on : Bus → Option Bus → Bool
+is_on b None = false
+is_on b (Some c) = same_bus b c
+
+-- The latest start of all is on this bus: so no start on the other bus came after the latest on this one.
+-- A command on one bus supersedes what is in progress on the other (4.4.3.2, 4.6.3).
+abbrev pub is_latest : List Noted → Bus → Bool
+is_latest h b = is_on b (latest start_bus h)
+
+abbrev pub bits_of : Option Raw → Option ℕ
+bits_of None = None
+bits_of (Some w) = Some w.bits
+
+-- the command of an entry that started a message
+abbrev pub started_by : Entry → Option ℕ
+started_by x = if x.starts then bits_of x.word else None
+
+-- the latest start of a run, with what followed it
+abbrev pub first_of : Bool → List Entry → Option (ℕ × List Entry)
+first_of is_latest r =
+    if is_latest then (elim (latest started_by r) [ None ↦ None | Some c ↦ Some (c, since (λ x. x.starts) r) ]) else None
+
+abbrev pub first_open : List Noted → Bus → Option (ℕ × List Entry)
+first_open h b = first_of (is_latest h b) (run h b)
+
+-- the address of a valid command word that has another terminal transmit
+abbrev pub transmitter_at : ℕ → Option Raw → Option ℕ
+transmitter_at own None = None
+transmitter_at own (Some w) =
+    if is_command w && (transmits w.bits && (not (address_of w.bits == own) && not (is_broadcast w.bits)))
+    then Some (address_of w.bits) else None
+
+abbrev pub transmitter : Description → Entry → Option ℕ
+transmitter P x = transmitter_at P.address x.word
+
+-- A transfer between two terminals (4.3.3.6.3, 4.3.3.6.7.2), of which this one receives: a receive command,
+-- with just a command to the other terminal after it. The count of that second command is not compared.
+abbrev pub transfer : Description → Option (ℕ × List Entry) → Option (ℕ × ℕ)
+transfer P (Some (c, x ∷ [])) = if is_receive c then (elim (transmitter P x) [ None ↦ None | Some a ↦ Some (c, a) ]) else None
+transfer P _ = None
+
+-- what came before the last gap on a bus
+abbrev pub before_gap : List Noted → Bus → Option (List Noted)
+before_gap h b = before (ends_run b) h
+
+abbrev pub transfer_at : Description → Bus → Option (List Noted) → Option (ℕ × ℕ)
+transfer_at P b None = None
+transfer_at P b (Some g) = transfer P (first_open g b)
+
+-- the transfer that stood when the last gap on the bus came, where the latest start of all is on this bus
+abbrev pub awaited_of : Description → Bus → Bool → Option (List Noted) → Option (ℕ × ℕ)
+awaited_of P b is_latest g = if is_latest then transfer_at P b g else None
+
+-- a valid word of command sync with this address is its status word, whatever its other bits
+abbrev pub status_at : ℕ → Option Raw → Bool
+status_at a None = false
+status_at a (Some w) = is_command w && (address_of w.bits == a)
+
+abbrev pub is_status_of : ℕ → Entry → Bool
+is_status_of a x = status_at a x.word
+
+-- a transfer waits while its run is empty; where the run begins with the awaited status, the message goes on
+abbrev pub waiting_or_second : ℕ → ℕ → Option (Entry × List Entry) → Open
+waiting_or_second c a None = Waiting c a
+waiting_or_second c a (Some (x, after)) = if is_status_of a x then Second c a after else Closed
+
+abbrev pub open_of : List Entry → Option (ℕ × List Entry) → Option (ℕ × ℕ) → Open
+open_of r (Some f) t = First f.0 f.1
+open_of r None None = Closed
+open_of r None (Some t) = waiting_or_second t.0 t.1 (oldest r)
+
+-- the message in progress on a bus: that of its latest start, unless the other bus has had a start since
+abbrev pub open_now : Description → List Noted → Bus → Open
+open_now P h b = open_of (run h b) (first_open h b) (awaited_of P b (is_latest h b) (before_gap h b))

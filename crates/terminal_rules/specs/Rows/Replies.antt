@@ -1,0 +1,77 @@
+-- Worked rows: replies that take time.
+use Rattle.std.specs.Prelude.{[], ◌∷◌, ℕ, true, false, ◌==◌, ◌&&◌, if◌then◌else◌}
+use Rattle.bus_word.specs.declared.word.Bus.TheVariants.{A, B}
+use Rattle.bus_word.specs.declared.cell.Cell.TheVariants.{OwnReceive, OwnTransmit, OwnMode}
+use Rattle.bus_legal.specs.Description.{Description}
+use Rattle.terminal_rules.specs.declared.event.Event.TheVariants.{Vector, Flag as FlagIs}
+use Rattle.terminal_rules.specs.declared.event.Flag.TheVariants.{Service, Busy}
+use Rattle.terminal_rules.specs.Out.{HandsReceived}
+use Rattle.terminal_rules.specs.Rows.Words.{five, command, data_word, write, quiet, gap, idle_slot, slot_status, slot_word, gap_sends, gap_hands, Answers}
+
+-- two words are held ready, and may be asked for
+abbrev pub ten_eleven : ℕ → ℕ → ℕ
+ten_eleven s i = if (s == 3) && (i == 1) then 0x000a else (if (s == 3) && (i == 2) then 0x000b else 0)
+
+abbrev pub two_ready : Description
+two_ready = record (five (OwnTransmit 3 2 ∷ [])) { initial = ten_eleven }
+
+abbrev pub vector_ready : Description
+vector_ready = record (five (OwnMode 16 ∷ [])) { vector = 0x00aa }
+
+-- a gap sends nothing
+abbrev pub NoSlot : Type 0
+NoSlot = Answers (five []) (quiet (command A 0x2c02) ∷ gap A ∷ [])
+
+-- the status is formed at the gap, and a slot without a reply does nothing
+abbrev pub FormedAtTheGap : Type 0
+FormedAtTheGap = Answers (five []) (quiet (command A 0x2c05) ∷ gap A ∷ quiet (FlagIs Busy true) ∷ slot_status A 0x2800 ∷ idle_slot ∷ [])
+
+-- data words are read at their slots
+abbrev pub WrittenBetweenSlots : Type 0
+WrittenBetweenSlots = Answers two_ready
+    (quiet (command A 0x2c62) ∷ gap A ∷ slot_status A 0x2800 ∷ quiet (write 3 2 0x00bb) ∷ slot_word A 0x000a ∷ slot_word A 0x00bb ∷ [])
+
+-- what comes on the bus of a reply is ignored
+abbrev pub CommandDuringReply : Type 0
+CommandDuringReply = Answers two_ready
+    (quiet (command A 0x2c62) ∷ gap A ∷ slot_status A 0x2800 ∷ quiet (command A 0x2c02) ∷ gap A ∷ slot_word A 0x000a ∷ slot_word A 0x000b
+    ∷ quiet (command A 0x2c02) ∷ gap_sends A 0x2800 [] ∷ [])
+
+-- a command on the other bus drops the rest of a reply
+abbrev pub ReplyDropped : Type 0
+ReplyDropped = Answers two_ready
+    (quiet (command A 0x2c62) ∷ gap A ∷ slot_status A 0x2800 ∷ quiet (command B 0x2c02) ∷ idle_slot ∷ gap B ∷ slot_status B 0x2800 ∷ [])
+
+-- a reset acts in the slot that sends its status
+abbrev pub ResetInItsSlot : Type 0
+ResetInItsSlot = Answers vector_ready
+    (quiet (command A 0x2c08) ∷ gap A ∷ quiet (Vector 0x1234) ∷ slot_status A 0x2800
+    ∷ quiet (command A 0x2c10) ∷ gap A ∷ slot_status A 0x2800 ∷ slot_word A 0x00aa ∷ [])
+
+-- and never, where a command on the other bus came before that slot
+abbrev pub ResetDropped : Type 0
+ResetDropped = Answers vector_ready
+    (quiet (Vector 0x1234) ∷ quiet (command A 0x2c08) ∷ gap A ∷ quiet (command B 0x2c10) ∷ gap B ∷ slot_status B 0x2800 ∷ slot_word B 0x1234 ∷ [])
+
+-- where nothing is to be sent, it acts at its gap
+abbrev pub ResetInSilenceAtTheGap : Type 0
+ResetInSilenceAtTheGap = Answers (five [])
+    (quiet (command A 0x2c04) ∷ gap_sends A 0x2800 [] ∷ quiet (command B 0x2c08) ∷ gap B ∷ quiet (command B 0x2c02) ∷ gap B ∷ slot_status B 0x2800 ∷ [])
+
+-- a reset that was dropped leaves the status formed at its gap as the kept one
+abbrev pub DroppedResetKeepsStatus : Type 0
+DroppedResetKeepsStatus = Answers (five [])
+    (quiet (FlagIs Service true) ∷ quiet (command A 0x2c08) ∷ gap A ∷ quiet (FlagIs Service false)
+    ∷ quiet (command B 0x2c02) ∷ gap B ∷ slot_status B 0x2900 ∷ [])
+
+-- and the last command
+abbrev pub DroppedResetKeepsLastCommand : Type 0
+DroppedResetKeepsLastCommand = Answers (five (OwnMode 18 ∷ []))
+    (quiet (command A 0x2c08) ∷ gap A ∷ quiet (command B 0x2c12) ∷ gap B ∷ slot_status B 0x2800 ∷ slot_word B 0x2c08 ∷ [])
+
+-- words received at the wraparound subaddress on bus B, while bus A still replies from there, drop that reply
+abbrev pub WraparoundDuringReply : Type 0
+WraparoundDuringReply = Answers (five (OwnReceive 30 2 ∷ OwnTransmit 30 2 ∷ []))
+    (quiet (command A 0x2fc2) ∷ gap A ∷ slot_status A 0x2800 ∷ slot_word A 0
+    ∷ quiet (command B 0x2bc2) ∷ quiet (data_word B 0x0001) ∷ quiet (data_word B 0x0002) ∷ idle_slot ∷ gap_hands B (HandsReceived false 30 (0x0001 ∷ 0x0002 ∷ [])) ∷ slot_status B 0x2800
+    ∷ quiet (command A 0x2fc2) ∷ gap A ∷ slot_status A 0x2800 ∷ slot_word A 0x0001 ∷ slot_word A 0x0002 ∷ idle_slot ∷ [])

@@ -1,0 +1,133 @@
+-- What a terminal remembers until it is reset.
+use Rattle.std.specs.Prelude.{ℕ, ◌-◌, Bool, true, false, ◌&&◌, ◌==◌, if◌then◌else◌, Option, Some, None, List, [], ◌∷◌}
+use Rattle.bus_word.specs.declared.word.Bus.{Bus}
+use Rattle.bus_word.specs.declared.cell.Cell.{Cell}
+use Rattle.bus_word.specs.declared.cell.Cell.TheVariants.{OwnReceive, BroadReceive, OwnMode, BroadMode}
+use Rattle.bus_word.specs.Cell.{cell_of}
+use Rattle.bus_legal.specs.Description.{Description}
+use Rattle.terminal_rules.specs.declared.event.Event.{Event}
+use Rattle.terminal_rules.specs.declared.event.Event.TheVariants.{Word, Write, Vector, Bit}
+use Rattle.terminal_rules.specs.LookBack.{latest, or_else, since}
+use Rattle.terminal_rules.specs.History.{Noted, Turn, Begins, Sends, Ending, Done, is_gap_on}
+
+-- the mode code of a cell, own or by broadcast
+abbrev pub code_in : Cell → Option ℕ
+code_in (OwnMode code) = Some code
+code_in (BroadMode code) = Some code
+code_in _ = None
+
+-- the mode code that was carried out
+abbrev pub done_code : Ending → Option ℕ
+done_code (Done c cell ds) = code_in cell
+done_code _ = None
+
+abbrev pub is_code : ℕ → Option ℕ → Bool
+is_code n None = false
+is_code n (Some code) = code == n
+
+-- Reset remote terminal, mode code 8 (MIL-STD-1553B, 4.3.3.5.1.7.9), acts after its status was sent: in the slot
+-- that sends it, or at its gap where no reply begins.
+abbrev pub is_reset_cell : Cell → Bool
+is_reset_cell cell = is_code 8 (code_in cell)
+
+abbrev pub sends_reset : ℕ → Option Cell → Bool
+sends_reset number None = false
+sends_reset number (Some cell) = (number == 0) && is_reset_cell cell
+
+abbrev pub resets : Turn → Ending → Bool
+resets (Begins b cell) x = false
+resets (Sends r) x = sends_reset r.number r.cell
+resets _ x = is_code 8 (done_code x)
+
+abbrev pub is_reset : Noted → Bool
+is_reset p = resets p.turn p.ends
+
+-- what came after the latest reset
+abbrev pub since_reset : List Noted → List Noted
+since_reset h = since is_reset h
+
+-- true at the first mode code, false at the second
+abbrev pub switched : ℕ → ℕ → Option ℕ → Option Bool
+switched on off None = None
+switched on off (Some code) = if code == on then Some true else (if code == off then Some false else None)
+
+-- The terminal flag is inhibited by mode code 6, and shows again after mode code 7 (4.3.3.5.1.7.7, 4.3.3.5.1.7.8).
+abbrev pub inhibits : Noted → Option Bool
+inhibits p = switched 6 7 (done_code p.ends)
+
+abbrev pub inhibited_now : List Noted → Bool
+inhibited_now h = or_else (latest inhibits (since_reset h)) false
+
+-- The transmitter of a bus is shut down by mode code 4 on the other bus, and comes back by mode code 5 on
+-- the other bus (4.3.3.5.1.7.5, 4.3.3.5.1.7.6).
+abbrev pub shuts : Bus → Noted → Option Bool
+shuts b p = if is_gap_on b p.event then None else switched 4 5 (done_code p.ends)
+
+abbrev pub off_now : List Noted → Bus → Bool
+off_now h b = or_else (latest (shuts b) (since_reset h)) false
+
+-- the vector word (4.3.3.5.1.7.11): that of the subsystem's latest event
+abbrev pub vector_set : Event → Option ℕ
+vector_set (Vector v) = Some v
+vector_set _ = None
+
+abbrev pub vector_now : Description → List Noted → ℕ
+vector_now P h = or_else (latest (λ p. vector_set p.event) (since_reset h)) P.vector
+
+-- the BIT word (4.3.3.5.1.7.14): that of the subsystem's latest event
+abbrev pub bit_set : Event → Option ℕ
+bit_set (Bit v) = Some v
+bit_set _ = None
+
+abbrev pub bit_now : Description → List Noted → ℕ
+bit_now P h = or_else (latest (λ p. bit_set p.event) (since_reset h)) P.bit
+
+-- word number i of a list, from 1
+abbrev pub number : ℕ → List ℕ → Option ℕ
+number i [] = None
+number i (d ∷ ds) = if i == 1 then Some d else number (i - 1) ds
+
+abbrev pub wrapped_at : ℕ → ℕ → ℕ → ℕ → List ℕ → Option ℕ
+wrapped_at wrap s i t ds = if (s == t) && (t == wrap) then number i ds else None
+
+-- words received at the wraparound subaddress, own or by broadcast, are held there
+abbrev pub wrapped : ℕ → ℕ → ℕ → Ending → Option ℕ
+wrapped wrap s i (Done c (OwnReceive t n) ds) = wrapped_at wrap s i t ds
+wrapped wrap s i (Done c (BroadReceive t n) ds) = wrapped_at wrap s i t ds
+wrapped wrap s i _ = None
+
+abbrev pub written : ℕ → ℕ → Event → Option ℕ
+written s i (Write place v) = if (place.subaddress == s) && (place.number == i) then Some v else None
+written s i _ = None
+
+abbrev pub either_word : Option ℕ → Option ℕ → Option ℕ
+either_word (Some v) w = Some v
+either_word None w = w
+
+-- a write of the subsystem, or words received by wraparound, set word i of subaddress s
+abbrev pub held_set : Description → ℕ → ℕ → Noted → Option ℕ
+held_set P s i p = either_word (written s i p.event) (wrapped P.wrap s i p.ends)
+
+-- the word held ready as number i of subaddress s
+abbrev pub held_now : Description → List Noted → ℕ → ℕ → ℕ
+held_now P h s i = or_else (latest (held_set P s i) (since_reset h)) (P.initial s i)
+
+-- the command of a start
+abbrev pub command_bits : Event → Option ℕ
+command_bits (Word b w) = Some w.bits
+command_bits _ = None
+
+abbrev pub start_bits : Noted → Option ℕ
+start_bits p = if p.starts then command_bits p.event else None
+
+abbrev pub is_last_command_code : Option Cell → Bool
+is_last_command_code (Some (OwnMode code)) = code == 18
+is_last_command_code _ = false
+
+abbrev pub recorded_by : Option ℕ → Option ℕ
+recorded_by None = None
+recorded_by (Some c) = if is_last_command_code (cell_of c) then None else Some c
+
+-- The last command (4.3.3.5.1.7.13): the latest start that isn't transmit last command itself, illegal or not.
+abbrev pub last_now : List Noted → ℕ
+last_now h = or_else (latest (λ p. recorded_by (start_bits p)) (since_reset h)) 0

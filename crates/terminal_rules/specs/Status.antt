@@ -1,0 +1,117 @@
+-- The status that a terminal forms, and the one that it keeps (MIL-STD-1553B, 4.3.3.5.3, 4.3.3.5.4).
+use Rattle.std.specs.Prelude.{ℕ, Bool, true, false, not, ◌&&◌, ◌||◌, ◌==◌, if◌then◌else◌, Option, Some, None, List}
+use Rattle.bus_word.specs.declared.status.StatusParts.{StatusParts}
+use Rattle.bus_word.specs.declared.cell.Cell.{Cell}
+use Rattle.bus_word.specs.declared.cell.Cell.TheVariants.{OwnMode}
+use Rattle.bus_word.specs.Command.{is_broadcast}
+use Rattle.bus_word.specs.Cell.{cell_of}
+use Rattle.bus_legal.specs.Description.{Description}
+use Rattle.terminal_rules.specs.declared.event.Flag.TheVariants.{Service, Busy, Subsystem, Terminal}
+use Rattle.terminal_rules.specs.LookBack.{or_else, some, latest_with, since_with}
+use Rattle.terminal_rules.specs.History.{Noted, Ending, Nothing, Badly, Illegal, Blocked, Done}
+use Rattle.terminal_rules.specs.Flags.{flag_now}
+use Rattle.terminal_rules.specs.SinceReset.{switched, inhibited_now, start_bits, code_in, is_reset}
+
+-- a status word with no bit set but the address
+abbrev pub no_parts : StatusParts
+no_parts = record {
+  error = false;
+  service = false;
+  broadcast = false;
+  busy = false;
+  subsystem = false;
+  accept = false;
+  terminal = false;
+}
+
+abbrev pub with_error_if : Bool → StatusParts → StatusParts
+with_error_if true s = record s { error = true }
+with_error_if false s = s
+
+-- the status formed for command c: the flags as they stand, the terminal flag unless it is inhibited
+abbrev pub formed : List Noted → ℕ → Bool → Bool → Bool → StatusParts
+formed h c error accepts inhibited = record {
+  error = error;
+  service = flag_now h Service;
+  broadcast = is_broadcast c;
+  busy = flag_now h Busy;
+  subsystem = flag_now h Subsystem;
+  accept = accepts;
+  terminal = flag_now h Terminal && not inhibited;
+}
+
+-- with message error (4.3.3.5.3.3), for a message that ends in error or is illegal
+abbrev pub formed_error : List Noted → ℕ → StatusParts
+formed_error h c = formed h c true false (inhibited_now h)
+
+-- for a message that the busy flag blocks
+abbrev pub formed_blocked : List Noted → ℕ → StatusParts
+formed_blocked h c = formed h c false false (inhibited_now h)
+
+-- dynamic bus control is accepted, mode code 0 (4.3.3.5.1.7.1)
+abbrev pub accepts : Bool → Cell → Bool
+accepts accept (OwnMode code) = (code == 0) && accept
+accepts accept _ = false
+
+-- mode codes 6 and 7 have acted already where their own status is formed
+abbrev pub inhibited_after : Bool → Cell → Bool
+inhibited_after inhibited cell = or_else (switched 6 7 (code_in cell)) inhibited
+
+-- for a message that is done
+abbrev pub formed_done : Description → List Noted → ℕ → Cell → StatusParts
+formed_done P h c cell = formed h c false (accepts P.accept cell) (inhibited_after (inhibited_now h) cell)
+
+-- own mode codes 2 and 18, transmit status word and transmit last command, report the kept status and leave
+-- it as it is (4.3.3.5.1.7.3, 4.3.3.5.1.7.13)
+abbrev pub reports_kept : Cell → Bool
+reports_kept (OwnMode code) = (code == 2) || (code == 18)
+reports_kept _ = false
+
+abbrev pub spares_kept : Description → Option Cell → Bool
+spares_kept P None = false
+spares_kept P (Some cell) = reports_kept cell && P.legal cell
+
+-- a command of these codes, where it is legal
+abbrev pub spares : Description → ℕ → Bool
+spares P c = spares_kept P (cell_of c)
+
+-- an end sets the kept status, by what came before it
+abbrev pub kept_by_end : Description → List Noted → Ending → Option StatusParts
+kept_by_end P h Nothing = None
+kept_by_end P h (Badly c) = if spares P c then None else Some (formed_error h c)
+kept_by_end P h (Illegal c) = Some (formed_error h c)
+kept_by_end P h (Blocked c cell) = Some (formed_blocked h c)
+kept_by_end P h (Done c cell ds) =
+    if reports_kept cell then None else Some (formed_done P h c cell)
+
+-- a reset clears it, and so sets it too
+abbrev pub reset_first : Bool → Option StatusParts → Option StatusParts
+reset_first resets e = if resets then Some no_parts else e
+
+abbrev pub kept_by_command : Bool → ℕ → Option StatusParts
+kept_by_command spares c = if spares then None else Some (record no_parts { broadcast = is_broadcast c })
+
+-- a start sets it, to the broadcast bit alone
+abbrev pub kept_by_start : Description → Option ℕ → Option StatusParts
+kept_by_start P None = None
+kept_by_start P (Some c) = kept_by_command (spares P c) c
+
+abbrev pub start_first : Option StatusParts → Option StatusParts → Option StatusParts
+start_first (Some s) e = Some s
+start_first None e = e
+
+-- where one event both ends and starts a message, the start comes later
+abbrev pub kept_set : Description → Noted → List Noted → Option StatusParts
+kept_set P p h = start_first (kept_by_start P (start_bits p)) (reset_first (is_reset p) (kept_by_end P h p.ends))
+
+-- a legal own code 2 or 18 that ends in error adds message error
+abbrev pub adds_error : Description → Ending → Bool
+adds_error P (Badly c) = spares P c
+adds_error P _ = false
+
+-- The kept status: what the latest start or end set, with message error where a command that spares it ended
+-- in error after that.
+abbrev pub kept_now : Description → List Noted → StatusParts
+kept_now P h =
+    with_error_if (some (λ p. adds_error P p.ends) (since_with (kept_set P) h))
+    (or_else (latest_with (kept_set P) h) no_parts)

@@ -1,0 +1,25 @@
+//! Laws over the definitions. Each function does nothing, and its contract is the law.
+
+ghost use Rattle.std.specs.Prelude.{◌≡◌, ◌≤◌, List};
+ghost use Rattle.bus_legal.specs.Description.{Description};
+ghost use Rattle.bus_legal.specs.Reach.{reach};
+ghost use Rattle.terminal_rules.specs.declared.event.Event.{Event};
+ghost use Rattle.terminal_rules.specs.OpenLaws.{LatestStartLaw, OneMessageLaw};
+ghost use Rattle.terminal_rules.specs.Out.{out};
+ghost use Rattle.terminal_rules.specs.Same.{Same};
+
+/// Which message is in progress.
+pub fn message_in_progress()
+    ensures latest_start { LatestStartLaw }
+    ensures one_message { OneMessageLaw }
+{}
+
+/// What can't be reached changes no answer.
+pub fn reach_keeps_answers()
+    ensures { (P : Description) (h : List Event) (e : Event) → P.address ≤ 30 → out (reach P) h e ≡ out P h e }
+{}
+
+/// Terminals that have the same in reach are the same.
+pub fn same_where_reached_alike()
+    ensures { (P Q : Description) → P.address ≤ 30 → Q.address ≤ 30 → reach P ≡ reach Q → Same P Q }
+{}

@@ -1,0 +1,4 @@
+pub mod HeldLaw
+pub mod CollectedLaw
+pub mod RegistersLaw
+pub mod CanSendLaw

@@ -1,0 +1,105 @@
+//! What an event ends, and what the cell of a command says of it.
+ghost use Rattle.std.specs.Prelude.{◌≡◌, List, ℕ, Some};
+ghost use Rattle.terminal_rules.specs.Ends.{is_blocked_by_busy, verdict};
+ghost use Rattle.terminal_rules.specs.SinceReset.{code_in, done_code};
+ghost use Rattle.terminal_rules.specs.Turn.{is_answered, done_cell};
+ghost use Rattle.terminal_rules.specs.inner.Steps.{resets_at_gap};
+ghost use Rattle.terminal_state.specs.inner.Ended.{ending_of};
+ghost use Rattle.terminal_rules.specs.Status.{reports_kept};
+
+use bus_word::{Cell, Command};
+
+/// How an event ends the message in progress. The words of a message that is done are in the buffer.
+#[derive(Clone, Copy)]
+pub enum Ended {
+    /// Not at all.
+    Nothing,
+    /// In error.
+    Badly(Command),
+    /// Well, and illegal.
+    Illegal(Command),
+    /// Well, and kept from being carried out by the busy flag.
+    Blocked(Command, Cell),
+    /// Well.
+    Done(Command, Cell),
+}
+
+impl Ended {
+    /// The mode code that was carried out.
+    pub fn done_code(&self) -> Option<u8>
+        ensures { (ds : List ℕ) → result ≡ done_code (ending_of self.now ds) }
+    {
+        match self {
+            Ended::Done(_, Cell::OwnMode(code) | Cell::BroadMode(code)) => Some(*code),
+            _ => None,
+        }
+    }
+
+    /// The cell of what was done.
+    pub fn done_cell(&self) -> Option<Cell>
+        ensures { (ds : List ℕ) → result ≡ done_cell (ending_of self.now ds) }
+    {
+        match self {
+            Ended::Done(_, cell) => Some(*cell),
+            _ => None,
+        }
+    }
+
+    /// Whether a reply begins, by whether the transmitter is shut down: a broadcast has none.
+    pub fn is_answered(&self, off: bool) -> bool
+        ensures { (ds : List ℕ) → result ≡ is_answered off (ending_of self.now ds) }
+    {
+        match self {
+            Ended::Nothing | Ended::Badly(_) => false,
+            Ended::Illegal(command) | Ended::Blocked(command, _) | Ended::Done(command, _) =>
+                !(command.is_broadcast() || off),
+        }
+    }
+
+    /// Whether a reset acts at the gap, by whether a reply begins.
+    pub fn resets_at_gap(&self, begins: bool) -> bool
+        ensures { (ds : List ℕ) → result ≡ resets_at_gap begins (ending_of self.now ds) }
+    {
+        matches!(self.done_code(), Some(8)) && !begins
+    }
+}
+
+/// Whether the busy flag keeps a terminal from what this cell means.
+fn is_blocked_by_busy(cell: Cell) -> bool
+    ensures { result ≡ is_blocked_by_busy cell }
+{
+    match cell {
+        Cell::OwnMode(code) | Cell::BroadMode(code) => matches!(code, 16 | 17),
+        _ => true,
+    }
+}
+
+/// Whether a cell is an own mode code that reports the kept status and spares it.
+pub fn reports_kept(cell: Cell) -> bool
+    ensures { result ≡ reports_kept cell }
+{
+    matches!(cell, Cell::OwnMode(2 | 18))
+}
+
+/// The mode code of a cell, own or by broadcast.
+pub fn code_in(cell: Cell) -> Option<u8>
+    ensures { result ≡ code_in cell }
+{
+    match cell {
+        Cell::OwnMode(code) | Cell::BroadMode(code) => Some(code),
+        _ => None,
+    }
+}
+
+/// How a message ends well, by whether its cell is legal and whether the busy flag stands.
+pub fn verdict_of(command: Command, cell: Cell, is_legal: bool, busy: bool) -> Ended
+    ensures { (ds : List ℕ) → ending_of result ds ≡ verdict (λ _. is_legal) busy command ds (Some cell) }
+{
+    if !is_legal {
+        Ended::Illegal(command)
+    } else if busy && is_blocked_by_busy(cell) {
+        Ended::Blocked(command, cell)
+    } else {
+        Ended::Done(command, cell)
+    }
+}

@@ -1,0 +1,16 @@
+//! What a terminal keeps of its history: the message in progress, registers, the reply in progress, words held ready.
+#![tactic(auto)]
+
+mod buses;
+mod ended;
+mod held;
+mod message;
+mod registers;
+mod reply;
+
+pub use buses::{OnBuses, same_bus};
+pub use ended::{Ended, code_in, reports_kept, verdict_of};
+pub use held::{HeldWords, Rows};
+pub use message::{Followed, GapEnd, InProgress, Message, Phase};
+pub use registers::{Flags, Registers};
+pub use reply::Reply;

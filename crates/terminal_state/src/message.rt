@@ -1,0 +1,280 @@
+//! The message in progress.
+ghost use Rattle.std.specs.Prelude.{◌≡◌, ◌<◌, if◌then◌else◌, [], Some, None};
+ghost use Rattle.bus_word.specs.declared.word.Bus.{Bus};
+ghost use Rattle.terminal_rules.specs.Buses.{same_bus};
+ghost use Rattle.terminal_rules.specs.Open.{transmitter_at, status_at};
+ghost use Rattle.terminal_rules.specs.Ends.{data_of};
+ghost use Rattle.terminal_state.specs.inner.Standing.{Collects, Words, Idle, next, entry_leaves, entry_fails, gap_leaves, stop_at_gap, stands_free, stands_fresh};
+ghost use Rattle.terminal_rules.specs.Out.{first_word};
+ghost use Rattle.terminal_state.specs.inner.Message.{collected_in, standing_on, stop_with, in_phase};
+
+use crate::buses::same_bus;
+use arrayvec::ArrayVec;
+use bus_word::{Bus, Command, Raw};
+
+/// What followed a command, or the status word that it waited for.
+#[derive(Clone, Copy)]
+pub enum Followed {
+    /// Nothing but data words: those of the buffer.
+    Words,
+    /// A command word alone that has the terminal of this address transmit.
+    Transmitter(u8),
+    /// Anything else: the message can only end in error.
+    Other,
+}
+
+#[derive(Clone, Copy)]
+pub enum Phase {
+    /// In the run of its command.
+    Collects(Followed),
+    /// For the status word of this address.
+    Waits(u8),
+    /// After that status word.
+    Resumes(Followed),
+}
+
+#[derive(Clone, Copy)]
+pub struct Message {
+    pub bus: Bus,
+    pub command: Command,
+    pub phase: Phase,
+}
+
+/// How a gap ends the message on its bus.
+#[derive(Clone, Copy)]
+pub enum GapEnd {
+    /// Not: there is none, or it comes to wait.
+    Nothing,
+    /// In error.
+    Error(Command),
+    /// Well, with the words of the buffer.
+    Whole(Command),
+}
+
+/// The message in progress, on whichever bus, and the buffer of its data words.
+#[derive(Drop)]
+pub struct InProgress {
+    pub message: Option<Message>,
+    pub words: ArrayVec<u16, 32>,
+}
+
+/// The bits of a valid data word.
+fn data_of(word: Option<Raw>) -> Option<u16>
+    ensures { result ≡ data_of word }
+{
+    match word {
+        Some(word) if word.is_data() => Some(word.bits),
+        _ => None,
+    }
+}
+
+/// The address of a valid command word that has a terminal other than the `own` one transmit.
+fn transmitter_at(own: u8, word: Option<Raw>) -> Option<u8>
+    ensures { result ≡ transmitter_at own word }
+{
+    match word {
+        Some(word) => {
+            let command = Command::of(word.bits);
+            let address = command.address();
+            if word.is_command()
+                && command.transmit()
+                && address != own
+                && !command.is_broadcast()
+            {
+                Some(address)
+            } else {
+                None
+            }
+        }
+        None => None,
+    }
+}
+
+/// Whether a word is the status word of this address.
+fn is_status_of(address: u8, word: Option<Raw>) -> bool
+    ensures { result ≡ status_at address word }
+{
+    match word {
+        Some(word) => word.is_command() && Command::of(word.bits).address() == address,
+        None => false,
+    }
+}
+
+impl InProgress {
+    /// No message.
+    pub fn none() -> InProgress
+        ensures { (b : Bus) → standing_on b result ≡ Idle }
+    {
+        InProgress {
+            message: None,
+            words: ArrayVec::new(),
+        }
+    }
+
+    /// The message of this command begins, and what was in progress is dropped.
+    pub fn start(&mut self, bus: Bus, command: Command)
+        ensures { (b : Bus) → standing_on b self.new ≡ (if same_bus b bus then Collects command (Words []) else Idle) }
+    {
+        self.words.clear();
+        self.message = Some(Message {
+            bus,
+            command,
+            phase: Phase::Collects(Followed::Words),
+        });
+    }
+
+    /// Whether a command on this bus may start a message.
+    pub fn is_free(&self, bus: Bus) -> bool
+        ensures { result ≡ stands_free (standing_on bus self.now) }
+    {
+        match &self.message {
+            Some(message) => !same_bus(bus, message.bus)
+                || matches!(message.phase, Phase::Waits(_)),
+            None => true,
+        }
+    }
+
+    /// Whether the message on this bus is a broadcast receive command that nothing has followed.
+    pub fn is_fresh_broadcast(&self, bus: Bus) -> bool
+        ensures { result ≡ stands_fresh (standing_on bus self.now) }
+    {
+        match &self.message {
+            Some(message) => {
+                same_bus(bus, message.bus)
+                    && matches!(message.phase, Phase::Collects(Followed::Words))
+                    && self.words.is_empty()
+                    && message.command.is_receive()
+                    && message.command.is_broadcast()
+            }
+            None => false,
+        }
+    }
+
+    /// What followed, with one word or noise more.
+    fn add(&mut self, followed: Followed, own: u8, word: Option<Raw>) -> Followed
+        ensures followed { collected_in result self.new.words.items ≡ next (collected_in followed self.old.words.items) (data_of word) (transmitter_at own word) }
+        ensures message { self.new.message ≡ self.old.message }
+    {
+        match followed {
+            Followed::Words => match data_of(word) {
+                Some(bits) if self.words.len() < 32 => {
+                    self.words.push(bits);
+                    Followed::Words
+                }
+                Some(_) => Followed::Other,
+                None => match transmitter_at(own, word) {
+                    Some(address) if self.words.is_empty() => Followed::Transmitter(address),
+                    _ => Followed::Other,
+                },
+            },
+            _ => Followed::Other,
+        }
+    }
+
+    /// A word or noise that starts nothing.
+    #[inline(always)]
+    pub fn follow(&mut self, bus: Bus, own: u8, word: Option<Raw>)
+        ensures { (b : Bus) → standing_on b self.new ≡ (if same_bus b bus then entry_leaves own word (standing_on b self.old) else standing_on b self.old) }
+    {
+        if let Some(message) = self.message {
+            if same_bus(bus, message.bus) {
+                let phase = match message.phase {
+                    Phase::Collects(followed) => Some(Phase::Collects(self.add(
+                        followed, own, word,
+                    ))),
+                    Phase::Resumes(followed) => Some(Phase::Resumes(self.add(followed, own, word))),
+                    Phase::Waits(address) => {
+                        self.words.clear();
+                        if is_status_of(address, word) {
+                            Some(Phase::Resumes(Followed::Words))
+                        } else {
+                            None
+                        }
+                    }
+                };
+                self.message = message.in_phase(phase);
+            }
+        }
+    }
+
+    /// The command of the transfer that a word or noise on this bus ends in error: one that waits for
+    /// another word.
+    pub fn failed_by(&self, bus: Bus, word: Option<Raw>) -> Option<Command>
+        ensures { result ≡ entry_fails word (standing_on bus self.now) }
+    {
+        match &self.message {
+            Some(message) => match message.phase {
+                Phase::Waits(address)
+                    if same_bus(bus, message.bus) && !is_status_of(address, word) => Some(
+                    message.command,
+                ),
+                _ => None,
+            },
+            None => None,
+        }
+    }
+
+    /// The first word of the buffer, or 0000.
+    pub fn first_word(&self) -> u16
+        ensures { result ≡ first_word self.now.words.items }
+    {
+        match self.words.as_slice() {
+            [word, ..] => *word,
+            [] => 0,
+        }
+    }
+
+    /// How a gap on this bus ends the message.
+    pub fn end_at_gap(&self, bus: Bus) -> GapEnd
+        ensures { stop_with result self.now.words.items ≡ stop_at_gap (standing_on bus self.now) }
+    {
+        match &self.message {
+            Some(message) if same_bus(bus, message.bus) => match message.phase {
+                Phase::Collects(Followed::Words) | Phase::Resumes(Followed::Words) => {
+                    if self.words.len() == usize::from(message.command.expected()) {
+                        GapEnd::Whole(message.command)
+                    } else {
+                        GapEnd::Error(message.command)
+                    }
+                }
+                Phase::Collects(Followed::Transmitter(_)) if message.command.is_receive() =>
+                    GapEnd::Nothing,
+                _ => GapEnd::Error(message.command),
+            },
+            _ => GapEnd::Nothing,
+        }
+    }
+
+    /// A gap on this bus: its message is over, or comes to wait. The buffer stays.
+    pub fn gap(&mut self, bus: Bus)
+        ensures standing { (b : Bus) → standing_on b self.new ≡ (if same_bus b bus then gap_leaves (standing_on b self.old) else standing_on b self.old) }
+        ensures words { self.new.words ≡ self.old.words }
+    {
+        if let Some(message) = self.message {
+            if same_bus(bus, message.bus) {
+                let phase = match message.phase {
+                    Phase::Collects(Followed::Transmitter(address))
+                        if message.command.is_receive() => Some(Phase::Waits(address)),
+                    _ => None,
+                };
+                self.message = message.in_phase(phase);
+            }
+        }
+    }
+}
+
+impl Message {
+    /// The message in another phase, or none.
+    fn in_phase(self, phase: Option<Phase>) -> Option<Message>
+        ensures { result ≡ in_phase self phase }
+    {
+        match phase {
+            Some(phase) => Some(Message {
+                bus: self.bus,
+                command: self.command,
+                phase,
+            }),
+            None => None,
+        }
+    }
+}

@@ -1,0 +1,215 @@
+//! What a terminal remembers besides the message in progress and the words held ready.
+ghost use Rattle.std.specs.Prelude.{◌≡◌, Bool, true, List, ℕ};
+ghost use Rattle.terminal_rules.specs.declared.event.Event.TheVariants.{Flag as FlagIs};
+ghost use Rattle.terminal_state.specs.inner.Ended.{ending_of};
+ghost use Rattle.terminal_state.specs.inner.Registers.{power_up_registers, formed_from, error_from, done_from, status_from, flags_after, failed, started, keeping, carried, settled, reset_to};
+
+use crate::buses::OnBuses;
+use crate::ended::{Ended, code_in, reports_kept};
+use bus_word::{Bus, Cell, Command, StatusParts, cell_of};
+use terminal_rules::Flag;
+
+/// A status word with no bit set but the address.
+const NO_PARTS: StatusParts = StatusParts {
+    error: false,
+    service: false,
+    broadcast: false,
+    busy: false,
+    subsystem: false,
+    accept: false,
+    terminal: false,
+};
+
+/// The flags of the subsystem, as they stand.
+#[derive(Clone, Copy)]
+pub struct Flags {
+    pub service: bool,
+    pub busy: bool,
+    pub subsystem: bool,
+    pub terminal: bool,
+}
+
+impl Flags {
+    pub fn set(&mut self, flag: Flag, value: bool)
+        ensures { self.new ≡ flags_after (FlagIs flag value) self.old }
+    {
+        match flag {
+            Flag::Service => self.service = value,
+            Flag::Busy => self.busy = value,
+            Flag::Subsystem => self.subsystem = value,
+            Flag::Terminal => self.terminal = value,
+        }
+    }
+}
+
+#[derive(Clone, Copy)]
+pub struct Registers {
+    pub flags: Flags,
+    /// Whether the terminal flag is inhibited.
+    pub inhibited: bool,
+    /// Whose transmitters are shut down.
+    pub off: OnBuses,
+    pub vector: u16,
+    pub bit: u16,
+    /// The last command.
+    pub last: Command,
+    /// The kept status.
+    pub kept: StatusParts,
+}
+
+impl Registers {
+    /// Those of power-up, with this vector word and this BIT word.
+    pub fn at_power_up(vector: u16, bit: u16) -> Registers
+        ensures { result ≡ power_up_registers vector bit }
+    {
+        Registers {
+            flags: Flags {
+                service: false,
+                busy: false,
+                subsystem: false,
+                terminal: false,
+            },
+            inhibited: false,
+            off: OnBuses::NONE,
+            vector,
+            bit,
+            last: Command::of(0),
+            kept: NO_PARTS,
+        }
+    }
+
+    /// The status formed for a command.
+    fn formed(&self, command: Command, error: bool, accepts: bool, inhibited: bool) -> StatusParts
+        ensures { result ≡ formed_from self.now command error accepts inhibited }
+    {
+        StatusParts {
+            error,
+            service: self.flags.service,
+            broadcast: command.is_broadcast(),
+            busy: self.flags.busy,
+            subsystem: self.flags.subsystem,
+            accept: accepts,
+            terminal: self.flags.terminal && !inhibited,
+        }
+    }
+
+    fn formed_with_error(&self, command: Command) -> StatusParts
+        ensures { result ≡ error_from self.now command }
+    {
+        self.formed(command, true, false, self.inhibited)
+    }
+
+    /// For a message that is done. Mode codes 6 and 7 have acted already.
+    fn formed_done(&self, command: Command, cell: Cell, accept: bool) -> StatusParts
+        ensures { result ≡ done_from accept self.now command cell }
+    {
+        let inhibited = match code_in(cell) {
+            Some(6) => true,
+            Some(7) => false,
+            _ => self.inhibited,
+        };
+        let accepts = matches!(cell, Cell::OwnMode(0)) && accept;
+        self.formed(command, false, accepts, inhibited)
+    }
+
+    /// The status that goes with a message that ended well. `accept` says whether dynamic bus control is
+    /// accepted.
+    pub fn status_for(&self, ended: &Ended, accept: bool) -> Option<StatusParts>
+        ensures { (ds : List ℕ) → result ≡ status_from accept self.now (ending_of ended.now ds) }
+    {
+        match ended {
+            Ended::Nothing | Ended::Badly(_) => None,
+            Ended::Illegal(command) => Some(self.formed_with_error(*command)),
+            Ended::Blocked(command, _) => Some(self.formed(*command, false, false, self.inhibited)),
+            Ended::Done(command, cell) => Some(if reports_kept(*cell) {
+                self.kept
+            } else {
+                self.formed_done(*command, *cell, accept)
+            }),
+        }
+    }
+
+    /// A message ended in error. `spares` says whether its command spares the kept status.
+    pub fn fail(&mut self, command: Command, spares: bool)
+        ensures { self.new ≡ failed spares command self.old }
+    {
+        if spares {
+            self.kept.error = true;
+        } else {
+            self.kept = self.formed_with_error(command);
+        }
+    }
+
+    /// A command started a message.
+    pub fn start(&mut self, command: Command, spares: bool)
+        ensures { self.new ≡ started spares command self.old }
+    {
+        if !matches!(cell_of(command), Some(Cell::OwnMode(18))) {
+            self.last = command;
+        }
+        if !spares {
+            self.kept = NO_PARTS;
+            self.kept.broadcast = command.is_broadcast();
+        }
+    }
+
+    /// A gap on this bus ended a message so, with this status, or ended none. `spares` says whether the command
+    /// of one that ended in error spares the kept status, and `begins` whether a reply begins. A reset goes back to
+    /// this vector word and this BIT word.
+    pub fn settle(
+        &mut self,
+        bus: Bus,
+        ended: &Ended,
+        status: Option<StatusParts>,
+        spares: bool,
+        begins: bool,
+        vector: u16,
+        bit: u16,
+    )
+        ensures { (accept : Bool) (ds : List ℕ) → status ≡ status_from accept self.old (ending_of ended.now ds) → self.new ≡ settled accept spares vector bit bus begins (ending_of ended.now ds) self.old }
+    {
+        match ended {
+            Ended::Badly(command) => self.fail(*command, spares),
+            _ => {
+                self.keep(status);
+                let resets = ended.resets_at_gap(begins);
+                self.carry_out(bus, resets, ended.done_code(), vector, bit);
+            }
+        }
+    }
+
+    /// A status went with a message that ended well.
+    fn keep(&mut self, status: Option<StatusParts>)
+        ensures { self.new ≡ keeping status self.old }
+    {
+        if let Some(parts) = status {
+            self.kept = parts;
+        }
+    }
+
+    /// A mode code that came on this bus is carried out, or all is reset, to this vector word and this BIT word.
+    fn carry_out(&mut self, bus: Bus, resets: bool, code: Option<u8>, vector: u16, bit: u16)
+        ensures { self.new ≡ carried vector bit bus resets code self.old }
+    {
+        if resets {
+            self.reset(vector, bit);
+        } else {
+            match code {
+                Some(4) => self.off.set_other(bus, true),
+                Some(5) => self.off.set_other(bus, false),
+                Some(6) => self.inhibited = true,
+                Some(7) => self.inhibited = false,
+                _ => {}
+            }
+        }
+    }
+
+    /// Those of power-up, with this vector word and this BIT word. The flags stay.
+    pub fn reset(&mut self, vector: u16, bit: u16)
+        ensures { self.new ≡ reset_to vector bit true self.old }
+    {
+        let flags = self.flags;
+        *self = Registers::at_power_up(vector, bit);
+        self.flags = flags;
+    }
+}
