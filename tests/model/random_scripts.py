@@ -21,8 +21,9 @@ OTHER, ALL, TRANSMIT = 7 << 11, 31 << 11, 1 << 10
 
 
 class Messages:
-    """Messages, a few of whose events are lost or preceded by noise, with more slots or fewer than they need. What
-    comes while a reply is in progress is heard or not, as the rules say."""
+    """Messages to this terminal, to others and between them, a few of whose events are lost, preceded by noise or of
+    wrong parity, with more slots or fewer than they need. What comes while a reply is in progress is heard or not, as the
+    rules say."""
 
     def __init__(self, setup, subaddresses, seed, note):
         self.terminal, self.subaddresses, self.seed, self.note = rules.Terminal(setup), subaddresses, seed, note
@@ -47,12 +48,23 @@ class Messages:
             self.take(("noise", event[1]))
         self.take(event)
 
+    def say(self, bus, kind, bits):
+        """A word on a bus, whose parity is wrong now and then."""
+        word = rules.valid_word(kind, bits)
+        if self.draw(24) == 0:
+            word = (*word[:2], 1 - word[2])
+        self.feed(("word", bus, word))
+
     def command(self, bus, bits):
-        self.feed(("word", bus, rules.valid_word("c", bits)))
+        self.say(bus, "c", bits)
 
     def data(self, bus, count):
         for _ in range(count):
-            self.feed(("word", bus, rules.valid_word("d", self.word())))
+            self.say(bus, "d", self.word())
+
+    def status_of_other(self, bus):
+        """The status word of another terminal, whatever its bits."""
+        self.command(bus, OTHER + self.draw(2048))
 
     def gap(self, bus):
         """A gap, and some slots; now and then the subsystem does something before one."""
@@ -86,19 +98,19 @@ class Messages:
         self.command(bus, (self.own if self.draw(2) == 0 else ALL) + place + count)
         self.command(bus, OTHER + TRANSMIT + 64 + count)
         self.feed(("gap", bus))
-        self.command(bus, OTHER)
+        self.status_of_other(bus)
         self.data(bus, count)
         self.gap(bus)
 
     def transmits_to_other(self, bus, place, count):
         self.command(bus, OTHER + 64 + count)
         self.transmit(bus, self.own + TRANSMIT + place + count)
-        self.command(bus, OTHER)
+        self.status_of_other(bus)
         self.gap(bus)
 
     def message(self):
         bus = "B" if self.draw(4) == 0 else "A"
-        turn = self.draw(14)
+        turn = self.draw(15)
         place = 32 * self.subaddresses[self.draw(2)]
         count = 1 + self.draw(3)
         if turn == 0:
@@ -126,6 +138,8 @@ class Messages:
             self.command(bus, self.word())
         elif turn == 12:
             self.transmits_to_other(bus, place, count)
+        elif turn == 13:
+            self.receive(bus, OTHER + place + count, count)
         else:
             # a reset, and the last command asked for on the other bus
             self.transmit(bus, self.own + TRANSMIT + 8)
@@ -158,8 +172,8 @@ class Digest:
             self.mix({"synchronize": 5, "synchronize with": 6, "self test": 7, "bus control": 8}[name], *rest)
 
 
-def digest(legal, wraparound=30):
-    setup = rules.Setup(address=5, legal=legal, broadcast=True, wraparound=wraparound, accept=True, vector=0x00AA,
+def digest(legal, options=True, wraparound=30):
+    setup = rules.Setup(address=5, legal=legal, broadcast=options, wraparound=wraparound, accept=options, vector=0x00AA,
                         bit=0x00BB)
     digest = Digest()
     messages = Messages(setup, (29, 30), 1553, digest.note)
@@ -174,6 +188,7 @@ def digests():
     print("no cell legal:", digest(lambda cell: False))
     print("every cell legal, wraparound at 29:", digest(lambda cell: True, wraparound=29))
     print("every cell legal, no wraparound:", digest(lambda cell: True, wraparound=0))
+    print("every cell legal, options off:", digest(lambda cell: True, options=False))
 
 
 # rows
@@ -185,15 +200,23 @@ HEAD = """\
 -- those of a model of docs/terminal.md in another language, and were written by it:
 --
 --     python3 tests/model/random_scripts.py rows {first} {last} >crates/terminal_rules/proofs/RandomRows/{name}.antt
-use Rattle.std.specs.Prelude.{{◌≡◌, refl, ℕ, ◌+◌, ◌*◌, Bool, true, false, List, [], ◌∷◌}}
+use Rattle.std.specs.Prelude.{{◌≡◌, refl, ℕ, ◌+◌, ◌*◌, Bool, true, false, not, List, [], ◌∷◌}}
+use Rattle.bus_word.specs.declared.word.Bus.{{Bus}}
 use Rattle.bus_word.specs.declared.word.Bus.TheVariants.{{A, B}}
+use Rattle.bus_word.specs.declared.word.Kind.TheVariants.{{Dat}}
+use Rattle.bus_word.specs.Word.{{valid_word}}
 use Rattle.bus_word.specs.declared.cell.Cell.{{Cell}}
 use Rattle.bus_word.specs.declared.cell.Cell.TheVariants.{{OwnReceive, OwnTransmit, BroadReceive, OwnMode, BroadMode}}
 use Rattle.bus_legal.specs.Description.{{Description}}
-use Rattle.terminal_rules.specs.declared.event.Event.TheVariants.{{Noise, Vector, Bit, Flag as FlagIs}}
+use Rattle.terminal_rules.specs.declared.event.Event.{{Event}}
+use Rattle.terminal_rules.specs.declared.event.Event.TheVariants.{{Word, Noise, Vector, Bit, Flag as FlagIs}}
 use Rattle.terminal_rules.specs.declared.event.Flag.TheVariants.{{Service, Busy, Subsystem, Terminal}}
 use Rattle.terminal_rules.specs.Out.{{HandsReceived, HandsSynchronize, HandsSynchronizeWith, HandsSelfTest, HandsBusControl}}
-use Rattle.terminal_rules.specs.Rows.Words.{{five, command, data_word, write, quiet, gap, gap_hands, idle_slot, slot_status, slot_word, Answers}}
+use Rattle.terminal_rules.specs.Rows.Words.{{five, command, data_word, invalid, write, quiet, gap, gap_hands, idle_slot, slot_status, slot_word, Answers}}
+
+-- a word of data sync whose parity is wrong
+abbrev invalid_data : Bus → ℕ → Event
+invalid_data b bits = Word b (record (valid_word Dat bits) {{ parity = not (valid_word Dat bits).parity }})
 
 -- Address 5: the broadcast option, the wraparound subaddress, acceptance of bus control, and legal cells. Word i of
 -- subaddress s is 256 * s + i at power-up.
@@ -214,7 +237,8 @@ def list_of(items):
 def event_in_antt(event):
     name, *rest = event
     if name == "word":
-        return f"{'command' if rest[1][0] == 'c' else 'data_word'} {rest[0]} 0x{rest[1][1]:04x}"
+        written = {("c", True): "command", ("c", False): "invalid", ("d", True): "data_word", ("d", False): "invalid_data"}
+        return f"{written[rest[1][0], rules.is_valid(rest[1])]} {rest[0]} 0x{rest[1][1]:04x}"
     if name == "noise":
         return f"Noise {rest[0]}"
     if name == "write":
@@ -301,10 +325,11 @@ words = [1, 2, 3]
 
 
 def line_of(event):
-    """The line of an event whose word, if any, is valid."""
+    """The line of an event, with the parity of a word only where it is wrong."""
     name, *rest = event
     if name == "word":
-        return f"{rest[0]} {rest[1][0]} {rest[1][1]:04x}"
+        parity = "" if rules.is_valid(rest[1]) else f" {rest[1][2]}"
+        return f"{rest[0]} {rest[1][0]} {rest[1][1]:04x}{parity}"
     if name in ("noise", "gap"):
         return f"{rest[0]} {name}"
     if name == "write":

@@ -426,16 +426,31 @@ fn thirty_three_words(rt: HostRuntime) {
 /// The digests are those of `tests/model/random_scripts.py`, over rules that are written apart from the program.
 #[test]
 fn random_messages(rt: HostRuntime) {
-    assert_eq!(rt;
-        random::digest_of(terminal_of(&EQUIPPED, Every(true))),
-        0x0946_80bd
-    );
-    for (wrap, digest) in [(29, 0x6ca8_f4ee), (0, 0x4b9c_2774)] {
-        let chosen = Profile { wrap, ..EQUIPPED };
+    let at_29 = Profile {
+        wrap: 29,
+        ..EQUIPPED
+    };
+    let nowhere = Profile {
+        wrap: 0,
+        ..EQUIPPED
+    };
+    let without_options = Profile {
+        broadcast: false,
+        accept: false,
+        ..EQUIPPED
+    };
+    for (profile, digest) in [
+        (EQUIPPED, 0x5680_1995),
+        (at_29, 0x6bd2_e161),
+        (nowhere, 0x7714_d067),
+        (without_options, 0x2477_f168),
+    ] {
+        let terminal = terminal_of(&profile, Every(true));
         assert_eq!(rt;
-            random::digest_of(terminal_of(&chosen, Every(true))),
+            random::digest_of(terminal),
             digest,
-            "wraparound at {wrap}"
+            "wraparound at {}",
+            profile.wrap
         );
     }
     let some = Also {
@@ -444,10 +459,10 @@ fn random_messages(rt: HostRuntime) {
     };
     assert_eq!(rt;
         random::digest_of(terminal_of(&EQUIPPED, some)),
-        0x091c_c763
+        0xea38_4a15
     );
     assert_eq!(rt;
         random::digest_of(terminal_of(&EQUIPPED, Every(false))),
-        0x8aaa_7dc5
+        0xdb57_89d6
     );
 }

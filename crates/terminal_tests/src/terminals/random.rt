@@ -1,5 +1,5 @@
-//! Messages that look random, a few of whose events are lost or preceded by noise, with more slots or fewer than
-//! they need, and a digest of what is answered to them.
+//! Messages that look random, to this terminal, to others and between them, a few of whose events are lost, preceded by
+//! noise or of wrong parity, with more slots or fewer than they need, and a digest of what is answered to them.
 ghost use Rattle.std.specs.Prelude.{◌<◌};
 
 use bus_legal::Legality;
@@ -107,15 +107,30 @@ impl<L: Legality> Run<L> {
         }
     }
 
+    /// A word on a bus, whose parity is wrong now and then.
+    fn say(&mut self, bus: Bus, kind: Kind, bits: u16) {
+        let mut word = Raw::of(kind, bits);
+        if self.draw(24) == 0 {
+            word.parity = !word.parity;
+        }
+        self.feed(bus, Event::Word(bus, word));
+    }
+
     fn command(&mut self, bus: Bus, bits: u16) {
-        self.feed(bus, Event::Word(bus, Raw::of(Kind::Com, bits)));
+        self.say(bus, Kind::Com, bits);
     }
 
     fn data(&mut self, bus: Bus, count: u16) {
         for _ in 0..count {
             let bits = self.word();
-            self.feed(bus, Event::Word(bus, Raw::of(Kind::Dat, bits)));
+            self.say(bus, Kind::Dat, bits);
         }
+    }
+
+    /// The status word of another terminal, whatever its bits.
+    fn status_of_other(&mut self, bus: Bus) {
+        let bits = self.draw(2048);
+        self.command(bus, 0x3800 + bits);
     }
 
     /// A gap, and some slots; now and then the subsystem does something before one.
@@ -139,7 +154,7 @@ impl<L: Legality> Run<L> {
 
     fn message(&mut self) {
         let bus = if self.draw(4) == 0 { Bus::B } else { Bus::A };
-        let turn = self.draw(14);
+        let turn = self.draw(15);
         let place = 32 * (29 + self.draw(2));
         let count = 1 + self.draw(3);
         match turn {
@@ -170,6 +185,7 @@ impl<L: Legality> Run<L> {
                 self.command(bus, bits);
             }
             12 => self.transmit_to_other(bus, place, count),
+            13 => self.receive(bus, 0x3800 + place + count, count),
             _ => {
                 // a reset, and the last command asked for on the other bus
                 self.transmit(bus, 0x2c08);
@@ -198,7 +214,7 @@ impl<L: Legality> Run<L> {
         self.command(bus, address + place + count);
         self.command(bus, 0x3c40 + count);
         self.feed(bus, Event::Gap(bus));
-        self.command(bus, 0x3800);
+        self.status_of_other(bus);
         self.data(bus, count);
         self.gap(bus);
     }
@@ -209,7 +225,7 @@ impl<L: Legality> Run<L> {
     {
         self.command(bus, 0x3840 + count);
         self.transmit(bus, 0x2c00 + place + count);
-        self.command(bus, 0x3800);
+        self.status_of_other(bus);
         self.gap(bus);
     }
 
