@@ -4,98 +4,98 @@ ghost use Rattle.bus_word.specs.Cell.{is_data_place};
 ghost use Rattle.terminal_rules.specs.LookBack.{or_else};
 ghost use Rattle.terminal_rules.specs.SinceReset.{wrapped, wrapped_at};
 ghost use Rattle.terminal_state.specs.inner.Ended.{ending_of};
-ghost use Rattle.terminal_state.specs.inner.Held.{row_in, word_in, held_after};
+ghost use Rattle.terminal_state.specs.inner.Held.{block_in, word_in, held_after};
 
 use crate::ended::Ended;
 use bus_word::Cell;
 use terminal_rules::WordPlace;
 
-/// A row of 32 words for each of the subaddresses 1 to 30.
-pub type Rows = [[u16; 32]; 30];
+/// A block of 32 words for each of the subaddresses 1 to 30.
+pub type Blocks = [[u16; 32]; 30];
 
-/// The rows that were changed since power-up or the latest reset. All others are those of the set-up, so
-/// that a reset copies no rows.
+/// The blocks that were changed since power-up or the latest reset. All others are those of the set-up, so
+/// that a reset copies no blocks.
 #[derive(Drop)]
 pub struct HeldWords {
-    pub rows: Rows,
+    pub blocks: Blocks,
     pub changed: [bool; 30],
 }
 
 impl HeldWords {
     /// Those of the set-up.
     pub fn at_power_up() -> HeldWords
-        ensures { (initial : List (List ℕ)) (s : ℕ) → row_in initial result s ≡ get_or initial (s - 1) [] }
+        ensures { (initial : List (List ℕ)) (s : ℕ) → block_in initial result s ≡ get_or initial (s - 1) [] }
     {
         HeldWords {
-            rows: [[0; 32]; 30],
+            blocks: [[0; 32]; 30],
             changed: [false; 30],
         }
     }
 
     /// The words of a subaddress, 1 to 30.
-    pub fn row<'a>(&'a self, initial: &'a Rows, subaddress: u8) -> &'a [u16]
+    pub fn block<'a>(&'a self, initial: &'a Blocks, subaddress: u8) -> &'a [u16]
         requires low { 1 ≤ subaddress }
         requires high { subaddress ≤ 30 }
-        ensures words { result.now ≡ row_in initial.now self.now subaddress }
+        ensures words { result.now ≡ block_in initial.now self.now subaddress }
         ensures len { length result.now ≡ 32 }
     {
         let at = subaddress as usize - 1;
         if self.changed[at] {
-            &self.rows[at]
+            &self.blocks[at]
         } else {
             &initial[at]
         }
     }
 
-    /// The row of a subaddress becomes one of its own, unless it is.
-    fn own_row(&mut self, initial: &Rows, subaddress: u8)
+    /// The block of a subaddress becomes one of its own, unless it is.
+    fn own_block(&mut self, initial: &Blocks, subaddress: u8)
         requires low { 1 ≤ subaddress }
         requires high { subaddress ≤ 30 }
-        ensures same { (s : ℕ) → row_in initial.now self.new s ≡ row_in initial.now self.old s }
+        ensures same { (s : ℕ) → block_in initial.now self.new s ≡ block_in initial.now self.old s }
         ensures own { get_or self.new.changed (subaddress - 1) false ≡ true }
     {
         let at = subaddress as usize - 1;
         if !self.changed[at] {
-            self.rows[at] = initial[at];
+            self.blocks[at] = initial[at];
             self.changed[at] = true;
         }
     }
 
     /// Word `number`, 1 to 32, of a subaddress becomes this.
-    pub fn write(&mut self, initial: &Rows, subaddress: u8, number: u8, value: u16)
+    pub fn write(&mut self, initial: &Blocks, subaddress: u8, number: u8, value: u16)
         requires low { 1 ≤ subaddress }
         requires high { subaddress ≤ 30 }
         requires first { 1 ≤ number }
         requires last { number ≤ 32 }
         ensures { (s i : ℕ) → 1 ≤ s → s ≤ 30 → 1 ≤ i → i ≤ 32 → word_in initial.now self.new s i ≡ (if (subaddress == s) && (number == i) then value else word_in initial.now self.old s i) }
     {
-        self.own_row(initial, subaddress);
+        self.own_block(initial, subaddress);
         put_one(
-            &mut self.rows[subaddress as usize - 1],
+            &mut self.blocks[subaddress as usize - 1],
             number as usize - 1,
             value,
         );
     }
 
     /// The first words of a subaddress become these.
-    fn replace(&mut self, initial: &Rows, subaddress: u8, words: &[u16])
+    fn replace(&mut self, initial: &Blocks, subaddress: u8, words: &[u16])
         requires low { 1 ≤ subaddress }
         requires high { subaddress ≤ 30 }
         requires few { length words.now ≤ 32 }
         ensures { (s i : ℕ) → 1 ≤ s → s ≤ 30 → 1 ≤ i → i ≤ 32 → word_in initial.now self.new s i ≡ (if (subaddress == s) && nat_le i (length words.now) then get_or words.now (i - 1) 0 else word_in initial.now self.old s i) }
     {
-        self.own_row(initial, subaddress);
-        put_first(&mut self.rows[subaddress as usize - 1], words);
+        self.own_block(initial, subaddress);
+        put_first(&mut self.blocks[subaddress as usize - 1], words);
     }
 
     /// Word `number`, 1 to 32, of a subaddress, 1 to 30. Where there is none, 0000.
-    pub fn word(&self, initial: &Rows, subaddress: u8, number: u8) -> u16
+    pub fn word(&self, initial: &Blocks, subaddress: u8, number: u8) -> u16
         ensures { is_data_place subaddress number ≡ true → result ≡ word_in initial.now self.now subaddress number }
     {
         match WordPlace::of(subaddress, number) {
             Some(place) => {
-                let row = self.row(initial, place.subaddress());
-                row[place.number() as usize - 1]
+                let block = self.block(initial, place.subaddress());
+                block[place.number() as usize - 1]
             }
             None => 0,
         }
@@ -103,7 +103,7 @@ impl HeldWords {
 
     /// A message ended so, with these words, or none did. Words that were received at the wraparound
     /// subaddress are held there; a reset brings the words of the set-up back.
-    pub fn settle(&mut self, initial: &Rows, wrap: u8, resets: bool, ended: &Ended, words: &[u16])
+    pub fn settle(&mut self, initial: &Blocks, wrap: u8, resets: bool, ended: &Ended, words: &[u16])
         requires wrap { wrap ≤ 30 }
         requires few { length words.now ≤ 32 }
         ensures { (s i : ℕ) → 1 ≤ s → s ≤ 30 → 1 ≤ i → i ≤ 32 → word_in initial.now self.new s i ≡ held_after initial.now wrap s i resets (ending_of ended.now words.now) (word_in initial.now self.old s i) }
@@ -115,7 +115,7 @@ impl HeldWords {
         }
     }
 
-    fn receive(&mut self, initial: &Rows, wrap: u8, ended: &Ended, words: &[u16])
+    fn receive(&mut self, initial: &Blocks, wrap: u8, ended: &Ended, words: &[u16])
         requires wrap { wrap ≤ 30 }
         requires few { length words.now ≤ 32 }
         ensures { (s i : ℕ) → 1 ≤ s → s ≤ 30 → 1 ≤ i → i ≤ 32 → word_in initial.now self.new s i ≡ or_else (wrapped wrap s i (ending_of ended.now words.now)) (word_in initial.now self.old s i) }
@@ -127,7 +127,7 @@ impl HeldWords {
         }
     }
 
-    fn wrap_around(&mut self, initial: &Rows, wrap: u8, subaddress: u8, words: &[u16])
+    fn wrap_around(&mut self, initial: &Blocks, wrap: u8, subaddress: u8, words: &[u16])
         requires wrap { wrap ≤ 30 }
         requires few { length words.now ≤ 32 }
         ensures { (s i : ℕ) → 1 ≤ s → s ≤ 30 → 1 ≤ i → i ≤ 32 → word_in initial.now self.new s i ≡ or_else (wrapped_at wrap s i subaddress words.now) (word_in initial.now self.old s i) }
@@ -139,24 +139,24 @@ impl HeldWords {
 
     /// Those of the set-up again.
     pub fn reset(&mut self)
-        ensures { (initial : List (List ℕ)) (s : ℕ) → row_in initial self.new s ≡ get_or initial (s - 1) [] }
+        ensures { (initial : List (List ℕ)) (s : ℕ) → block_in initial self.new s ≡ get_or initial (s - 1) [] }
     {
         self.changed = [false; 30];
     }
 }
 
 /// The first elements become these.
-fn put_first(row: &mut [u16], words: &[u16])
-    requires { length words.now ≤ length row.old }
-    ensures { (k : ℕ) → get_or row.new k 0 ≡ (if nat_lt k (length words.now) then get_or words.now k 0 else get_or row.old k 0) }
+fn put_first(block: &mut [u16], words: &[u16])
+    requires { length words.now ≤ length block.old }
+    ensures { (k : ℕ) → get_or block.new k 0 ≡ (if nat_lt k (length words.now) then get_or words.now k 0 else get_or block.old k 0) }
 {
-    row[..words.len()].copy_from_slice(words);
+    block[..words.len()].copy_from_slice(words);
 }
 
 /// One element becomes this.
-fn put_one(row: &mut [u16], at: usize, value: u16)
-    requires { at < length row.old }
-    ensures { (k : ℕ) → get_or row.new k 0 ≡ (if at == k then value else get_or row.old k 0) }
+fn put_one(block: &mut [u16], at: usize, value: u16)
+    requires { at < length block.old }
+    ensures { (k : ℕ) → get_or block.new k 0 ≡ (if at == k then value else get_or block.old k 0) }
 {
-    row[at] = value;
+    block[at] = value;
 }

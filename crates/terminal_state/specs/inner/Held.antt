@@ -1,4 +1,4 @@
--- The words held ready, as the terminal keeps them: a row that was changed since power-up or the latest
+-- The words held ready, as the terminal keeps them: a block that was changed since power-up or the latest
 -- reset is its own, and any other is that of the set-up.
 use Rattle.std.specs.Prelude.{ℕ, Bool, ◌-◌, false, if◌then◌else◌, List, [], get_or}
 use Rattle.bus_legal.specs.Description.{word_at}
@@ -8,12 +8,12 @@ use Rattle.terminal_rules.specs.inner.Steps.{unless_reset}
 use Rattle.terminal_state.specs.declared.held.HeldWords.{HeldWords}
 
 -- the words of subaddress s
-abbrev pub row_in : List (List ℕ) → HeldWords → ℕ → List ℕ
-row_in initial held s = if get_or held.changed (s - 1) false then get_or held.rows (s - 1) [] else get_or initial (s - 1) []
+abbrev pub block_in : List (List ℕ) → HeldWords → ℕ → List ℕ
+block_in initial held s = if get_or held.changed (s - 1) false then get_or held.blocks (s - 1) [] else get_or initial (s - 1) []
 
 -- word i of subaddress s
 abbrev pub word_in : List (List ℕ) → HeldWords → ℕ → ℕ → ℕ
-word_in initial held s i = get_or (row_in initial held s) (i - 1) 0
+word_in initial held s i = get_or (block_in initial held s) (i - 1) 0
 
 -- word i of subaddress s after a gap ended a message so, with a reset or without, from that before it
 abbrev pub held_after : List (List ℕ) → ℕ → ℕ → ℕ → Bool → Ending → ℕ → ℕ

@@ -1,6 +1,6 @@
 use Rattle.std.proofs.Common.{replicate}
-use Rattle.terminal_state.proofs.HeldLaw.{row_in-unchanged}
+use Rattle.terminal_state.proofs.HeldLaw.{block_in-unchanged}
 use Rattle.terminal_state.proofs.held.HeldWords.at_power_up.Goals as goal
 
 pub returns : goal.returns
-returns c = row_in-unchanged (replicate 30 (replicate 32 0))
+returns c = block_in-unchanged (replicate 30 (replicate 32 0))
