@@ -16,5 +16,5 @@ pub mod Past
 pub mod Out
 pub mod Same
 pub mod OpenLaws
-pub mod Rows
+pub mod WorkedExamples
 pub mod inner

@@ -5,7 +5,7 @@ use Rattle.bus_word.specs.declared.cell.Cell.TheVariants.{OwnReceive, OwnTransmi
 use Rattle.bus_legal.specs.Reach.{any_count, largest_count}
 use Rattle.terminal_rules.specs.declared.event.Event.TheVariants.{Gap, Slot}
 use Rattle.terminal_exchanges.specs.Distinguish.{least_count, address_script, option_script, own_receive_script, own_transmit_script, broadcast_receive_script, own_code_script, broadcast_code_script, acceptance_script, vector_script, bit_script, initial_script, wraparound_script, shown_subaddress}
-use Rattle.terminal_rules.specs.Rows.Words.{five, five_hearing_all, command, data_word}
+use Rattle.terminal_rules.specs.WorkedExamples.Words.{five, five_hearing_all, command, data_word}
 
 address_is : address_script 5 ≡ command A 0x2c02 ∷ Gap A ∷ Slot ∷ []
 address_is = refl

@@ -1,6 +1,6 @@
 //! What is legal in the tests.
 ghost use Rattle.std.specs.Prelude.{◌≡◌, [], ◌∷◌};
-ghost use Rattle.terminal_rules.specs.Rows.Words.{same_cell, legal_also};
+ghost use Rattle.terminal_rules.specs.WorkedExamples.Words.{same_cell, legal_also};
 
 use bus_legal::Legality;
 use bus_word::Cell;

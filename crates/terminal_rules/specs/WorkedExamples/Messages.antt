@@ -1,10 +1,10 @@
--- Worked rows: messages, and the status that they leave.
+-- Worked examples: messages, and the status that they leave.
 use Rattle.std.specs.Prelude.{[], ◌∷◌, replicate, false}
 use Rattle.bus_word.specs.declared.word.Bus.TheVariants.{A}
 use Rattle.bus_word.specs.declared.cell.Cell.TheVariants.{OwnReceive, OwnTransmit}
 use Rattle.terminal_rules.specs.declared.event.Event.TheVariants.{Noise}
 use Rattle.terminal_rules.specs.Out.{HandsReceived}
-use Rattle.terminal_rules.specs.Rows.Words.{five, five_hearing_all, command, data_word, invalid, quiet, gap, gap_sends, gap_sends_and_hands, Answers}
+use Rattle.terminal_rules.specs.WorkedExamples.Words.{five, five_hearing_all, command, data_word, invalid, quiet, gap, gap_sends, gap_sends_and_hands, Answers}
 
 -- transmit status word is answered by the status
 abbrev pub TransmitStatus : Type 0

@@ -1,4 +1,4 @@
--- Words in which the worked rows are written.
+-- Words in which the worked examples are written.
 use Rattle.std.specs.Prelude.{◌≡◌, ℕ, Bool, true, false, not, ◌&&◌, ◌||◌, ◌==◌, List, [], ◌∷◌, ◌++◌}
 use Rattle.bus_word.specs.declared.word.Kind.{Kind}
 use Rattle.bus_word.specs.declared.word.Kind.TheVariants.{Com, Dat}
@@ -53,6 +53,10 @@ data_word b bits = Word b (valid_word Dat bits)
 abbrev pub invalid : Bus → ℕ → Event
 invalid b bits = Word b (record (valid_word Com bits) { parity = not (valid_word Com bits).parity })
 
+-- a word of data sync whose parity is wrong
+abbrev pub invalid_data : Bus → ℕ → Event
+invalid_data b bits = Word b (record (valid_word Dat bits) { parity = not (valid_word Dat bits).parity })
+
 -- the subsystem writes word i of subaddress s
 abbrev pub write : ℕ → ℕ → ℕ → Event
 write s i v = Write (record { subaddress = s; number = i }) v
@@ -81,7 +85,7 @@ reply b status words = slot_sends b Com status ∷ slots_send b words
 abbrev pub hands_at_gap : Bus → Handing → Step
 hands_at_gap b handing = record { event = Gap b; answer = HandsOver handing }
 
--- one line of a row: some events, with what answers each
+-- one line of an example: some events, with what answers each
 abbrev pub quiet : Event → List Step
 quiet e = unanswered e ∷ []
 

@@ -1,11 +1,11 @@
--- Worked rows: mode codes, flags, and what is held ready.
+-- Worked examples: mode codes, flags, and what is held ready.
 use Rattle.std.specs.Prelude.{[], ◌∷◌, ℕ, true, false, ◌==◌, ◌&&◌, if◌then◌else◌}
 use Rattle.bus_word.specs.declared.word.Bus.TheVariants.{A, B}
 use Rattle.bus_word.specs.declared.cell.Cell.TheVariants.{OwnReceive, OwnTransmit, OwnMode, BroadMode}
 use Rattle.terminal_rules.specs.declared.event.Event.TheVariants.{Vector, Flag as FlagIs}
 use Rattle.terminal_rules.specs.declared.event.Flag.TheVariants.{Busy, Terminal}
 use Rattle.terminal_rules.specs.Out.{HandsReceived, HandsSynchronizeWith, HandsBusControl}
-use Rattle.terminal_rules.specs.Rows.Words.{five, five_hearing_all, command, data_word, write, quiet, gap_sends, gap_hands, gap_sends_and_hands, Answers}
+use Rattle.terminal_rules.specs.WorkedExamples.Words.{five, five_hearing_all, command, data_word, write, quiet, gap_sends, gap_hands, gap_sends_and_hands, Answers}
 
 -- what is received at the wraparound subaddress is sent from there
 abbrev pub Wraparound : Type 0

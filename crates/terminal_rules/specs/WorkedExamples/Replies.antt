@@ -1,4 +1,4 @@
--- Worked rows: replies that take time.
+-- Worked examples: replies that take time.
 use Rattle.std.specs.Prelude.{[], ◌∷◌, ℕ, true, false, ◌==◌, ◌&&◌, if◌then◌else◌}
 use Rattle.bus_word.specs.declared.word.Bus.TheVariants.{A, B}
 use Rattle.bus_word.specs.declared.cell.Cell.TheVariants.{OwnReceive, OwnTransmit, OwnMode}
@@ -6,7 +6,7 @@ use Rattle.bus_legal.specs.Description.{Description}
 use Rattle.terminal_rules.specs.declared.event.Event.TheVariants.{Vector, Flag as FlagIs}
 use Rattle.terminal_rules.specs.declared.event.Flag.TheVariants.{Service, Busy}
 use Rattle.terminal_rules.specs.Out.{HandsReceived}
-use Rattle.terminal_rules.specs.Rows.Words.{five, command, data_word, write, quiet, gap, idle_slot, slot_status, slot_word, gap_sends, gap_hands, Answers}
+use Rattle.terminal_rules.specs.WorkedExamples.Words.{five, command, data_word, write, quiet, gap, idle_slot, slot_status, slot_word, gap_sends, gap_hands, Answers}
 
 -- two words are held ready, and may be asked for
 abbrev pub ten_eleven : ℕ → ℕ → ℕ

@@ -1,6 +1,9 @@
--- Worked rows.
+-- Worked examples.
 pub mod Words
 pub mod Messages
 pub mod Transfers
 pub mod Modes
 pub mod Replies
+pub mod Waiting
+pub mod Runs
+pub mod Effects

@@ -1,10 +1,10 @@
--- Worked rows: transfers between two terminals, and the second bus.
+-- Worked examples: transfers between two terminals, and the second bus.
 use Rattle.std.specs.Prelude.{[], ◌∷◌, true, false}
 use Rattle.bus_word.specs.declared.word.Bus.TheVariants.{A, B}
 use Rattle.bus_word.specs.declared.cell.Cell.TheVariants.{OwnReceive, OwnTransmit, BroadReceive}
 use Rattle.terminal_rules.specs.declared.event.Event.TheVariants.{Noise}
 use Rattle.terminal_rules.specs.Out.{HandsReceived}
-use Rattle.terminal_rules.specs.Rows.Words.{five, five_hearing_all, command, data_word, invalid, quiet, gap, gap_sends, gap_hands, gap_sends_and_hands, Answers}
+use Rattle.terminal_rules.specs.WorkedExamples.Words.{five, five_hearing_all, command, data_word, invalid, quiet, gap, gap_sends, gap_hands, gap_sends_and_hands, Answers}
 
 -- the words come from another terminal, after its status
 abbrev pub RtToRt : Type 0
