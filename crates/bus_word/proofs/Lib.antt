@@ -2,3 +2,4 @@ pub mod Parity
 pub mod Masks
 pub mod WordLaws
 pub mod CellLaws
+pub mod ModeLaws

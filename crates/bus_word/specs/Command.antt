@@ -51,7 +51,7 @@ count_in low = if low == 0 then 32 else low
 abbrev pub count_of : ℕ → ℕ
 count_of command = count_in (fields_of command).low
 
--- subaddresses 0 and 31 both mean that the low field is a mode code
+-- subaddresses 0 and 31 both mean that the low field is a mode code (4.3.3.5.1.4; Notice 2, 30.4.1)
 abbrev pub is_mode : ℕ → Bool
 is_mode command = (subaddress_of command == 0) || (subaddress_of command == 31)
 

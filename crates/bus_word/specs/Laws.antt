@@ -1,10 +1,11 @@
 -- Laws over the definitions of words, commands, status words, mode codes and cells.
-use Rattle.std.specs.Prelude.{◌≡◌, ℕ, zero, suc, ◌+◌, ◌/◌, ◌%◌, ◌^◌, ◌<◌, Bool, true, if◌then◌else◌, Some, is_some}
+use Rattle.std.specs.Prelude.{◌≡◌, ℕ, zero, suc, ◌+◌, ◌/◌, ◌%◌, ◌^◌, ◌<◌, Bool, true, not, ◌&&◌, if◌then◌else◌, Some, is_some}
 use Rattle.bus_word.specs.declared.word.Raw.{Raw}
 use Rattle.bus_word.specs.declared.status.StatusParts.{StatusParts}
+use Rattle.bus_word.specs.declared.mode.ModeRow.{ModeRow}
 use Rattle.bus_word.specs.declared.cell.Cell.{Cell}
 use Rattle.bus_word.specs.Word.{bit_of, is_valid, valid_word}
-use Rattle.bus_word.specs.Command.{Fields, AreInRange, word_of, fields_of}
+use Rattle.bus_word.specs.Command.{Fields, AreInRange, word_of, fields_of, transmits, code_of, is_mode, expected}
 use Rattle.bus_word.specs.Status.{status_word}
 use Rattle.bus_word.specs.Mode.{mode_row, is_required_code}
 use Rattle.bus_word.specs.Cell.{cell_of, is_allowed, allows_broadcast}
@@ -51,6 +52,12 @@ RequiredCodes = mask_where 32 is_required_code ≡ 0x00000134
 
 abbrev pub BroadcastCodes : Type 0
 BroadcastCodes = mask_where 32 (λ code. allows_broadcast (mode_row code)) ≡ 0x000201fa
+
+-- Of a mode command whose code has a row, a data word is to follow exactly if T/R is 0 and the row has a word.
+abbrev pub WordIsExpected : Type 0
+WordIsExpected =
+    (command : ℕ) (row : ModeRow) → is_mode command ≡ true → mode_row (code_of command) ≡ Some row →
+    expected command ≡ (if not (transmits command) && row.word then 1 else 0)
 
 -- some command has this cell
 pub record HasCommand (cell : Cell) : Type 0 where

@@ -2,6 +2,46 @@
 use Rattle.std.specs.Prelude.{ℕ, Bool, true, false, ◌||◌, ◌==◌, if◌then◌else◌, Option, Some, None, List, [], ◌∷◌}
 use Rattle.bus_word.specs.declared.mode.ModeRow.{ModeRow}
 
+-- The mode codes by their names.
+abbrev pub dynamic_bus_control : ℕ
+dynamic_bus_control = 0
+
+abbrev pub synchronize : ℕ
+synchronize = 1
+
+abbrev pub transmit_status : ℕ
+transmit_status = 2
+
+abbrev pub self_test : ℕ
+self_test = 3
+
+abbrev pub shutdown : ℕ
+shutdown = 4
+
+abbrev pub override_shutdown : ℕ
+override_shutdown = 5
+
+abbrev pub inhibit_flag : ℕ
+inhibit_flag = 6
+
+abbrev pub override_inhibit : ℕ
+override_inhibit = 7
+
+abbrev pub reset : ℕ
+reset = 8
+
+abbrev pub vector_word : ℕ
+vector_word = 16
+
+abbrev pub synchronize_with_word : ℕ
+synchronize_with_word = 17
+
+abbrev pub last_command : ℕ
+last_command = 18
+
+abbrev pub bit_word : ℕ
+bit_word = 19
+
 abbrev pub row : Bool → Bool → Bool → ModeRow
 row transmit word broadcast = record { transmit = transmit; word = word; broadcast = broadcast }
 
@@ -16,19 +56,19 @@ entry code row = record { code = code; row = row }
 abbrev pub mode_table : List ModeEntry
 mode_table =
     --            T/R   data  broadcast
-    entry 0 (row true false false)  -- dynamic bus control
-    ∷ entry 1 (row true false true)  -- synchronize
-    ∷ entry 2 (row true false false)  -- transmit status word
-    ∷ entry 3 (row true false true)  -- initiate self test
-    ∷ entry 4 (row true false true)  -- transmitter shutdown
-    ∷ entry 5 (row true false true)  -- override transmitter shutdown
-    ∷ entry 6 (row true false true)  -- inhibit terminal flag bit
-    ∷ entry 7 (row true false true)  -- override inhibit terminal flag bit
-    ∷ entry 8 (row true false true)  -- reset remote terminal
-    ∷ entry 16 (row true true false)  -- transmit vector word
-    ∷ entry 17 (row false true true)  -- synchronize with data word
-    ∷ entry 18 (row true true false)  -- transmit last command
-    ∷ entry 19 (row true true false)  -- transmit BIT word
+    entry dynamic_bus_control (row true false false)
+    ∷ entry synchronize (row true false true)
+    ∷ entry transmit_status (row true false false)
+    ∷ entry self_test (row true false true)
+    ∷ entry shutdown (row true false true)
+    ∷ entry override_shutdown (row true false true)
+    ∷ entry inhibit_flag (row true false true)
+    ∷ entry override_inhibit (row true false true)
+    ∷ entry reset (row true false true)
+    ∷ entry vector_word (row true true false)
+    ∷ entry synchronize_with_word (row false true true)
+    ∷ entry last_command (row true true false)
+    ∷ entry bit_word (row true true false)
     ∷ []
 
 abbrev pub row_in : List ModeEntry → ℕ → Option ModeRow
@@ -39,7 +79,7 @@ row_in (e ∷ entries) code = if code == e.code then Some e.row else row_in entr
 abbrev pub mode_row : ℕ → Option ModeRow
 mode_row code = row_in mode_table code
 
--- The own mode codes that every profile must leave legal: transmit status word, transmitter
--- shutdown and its override, and reset remote terminal.
+-- The own mode codes that every profile must leave legal, those that Notice 2 has each terminal implement (30.4.2.1):
+-- transmit status word, transmitter shutdown and its override, and reset remote terminal.
 abbrev pub is_required_code : ℕ → Bool
-is_required_code code = (code == 2) || ((code == 4) || ((code == 5) || (code == 8)))
+is_required_code code = (code == transmit_status) || ((code == shutdown) || ((code == override_shutdown) || (code == reset)))

@@ -74,7 +74,7 @@ impl Command {
         }
     }
 
-    /// Whether the low field is a mode code: subaddresses 0 and 31 both say so (4.3.3.5.1.4).
+    /// Whether the low field is a mode code: subaddresses 0 and 31 both say so (4.3.3.5.1.4; Notice 2, 30.4.1).
     pub fn is_mode(self) -> bool
         ensures { result ≡ is_mode self }
     {

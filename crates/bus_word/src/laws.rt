@@ -1,5 +1,5 @@
 //! Laws over the definitions. Each is a function that does nothing and whose contract is the law.
-ghost use Rattle.bus_word.specs.Laws.{OneValidWord, EachWordHasFields, FieldsAreUnique, StatusHasBits, OwnCodes, RequiredCodes, BroadcastCodes, AllowedHaveCommands, CommandsHaveAllowed};
+ghost use Rattle.bus_word.specs.Laws.{OneValidWord, EachWordHasFields, FieldsAreUnique, StatusHasBits, OwnCodes, RequiredCodes, BroadcastCodes, WordIsExpected, AllowedHaveCommands, CommandsHaveAllowed};
 
 /// Of a sync and 16 bits there is one valid word.
 pub fn one_valid_word()
@@ -23,6 +23,11 @@ pub fn mode_masks()
     ensures own { OwnCodes }
     ensures required { RequiredCodes }
     ensures broadcast { BroadcastCodes }
+{}
+
+/// With which mode commands a data word is to come.
+pub fn expected_words()
+    ensures { WordIsExpected }
 {}
 
 /// The allowed cells are just those that some command has.

@@ -5,7 +5,7 @@
 mod cell;
 mod command;
 pub mod laws;
-mod mode;
+pub mod mode;
 mod status;
 mod word;
 

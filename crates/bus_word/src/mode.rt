@@ -1,6 +1,33 @@
 //! The mode codes (MIL-STD-1553B, 4.3.3.5.1.7).
 ghost use Rattle.std.specs.Prelude.{◌≡◌};
 
+/// Dynamic bus control (4.3.3.5.1.7.1).
+pub const DYNAMIC_BUS_CONTROL: u8 = 0;
+/// Synchronize (4.3.3.5.1.7.2).
+pub const SYNCHRONIZE: u8 = 1;
+/// Transmit status word (4.3.3.5.1.7.3).
+pub const TRANSMIT_STATUS: u8 = 2;
+/// Initiate self test (4.3.3.5.1.7.4).
+pub const SELF_TEST: u8 = 3;
+/// Transmitter shutdown (4.3.3.5.1.7.5).
+pub const SHUTDOWN: u8 = 4;
+/// Override transmitter shutdown (4.3.3.5.1.7.6).
+pub const OVERRIDE_SHUTDOWN: u8 = 5;
+/// Inhibit terminal flag bit (4.3.3.5.1.7.7).
+pub const INHIBIT_FLAG: u8 = 6;
+/// Override inhibit terminal flag bit (4.3.3.5.1.7.8).
+pub const OVERRIDE_INHIBIT: u8 = 7;
+/// Reset remote terminal (4.3.3.5.1.7.9).
+pub const RESET: u8 = 8;
+/// Transmit vector word (4.3.3.5.1.7.11).
+pub const VECTOR_WORD: u8 = 16;
+/// Synchronize with data word (4.3.3.5.1.7.12).
+pub const SYNCHRONIZE_WITH_WORD: u8 = 17;
+/// Transmit last command word (4.3.3.5.1.7.13).
+pub const LAST_COMMAND: u8 = 18;
+/// Transmit BIT word (4.3.3.5.1.7.14).
+pub const BIT_WORD: u8 = 19;
+
 /// What the table of mode codes says of one code.
 #[derive(Clone, Copy, PartialEq, Eq, Debug)]
 pub struct ModeRow {
@@ -34,10 +61,10 @@ pub fn mode_row(code: u8) -> Option<ModeRow>
     ensures { result ≡ mode_row code }
 {
     match code {
-        0 | 2 => Some(ModeRow::of(true, false, false)),
-        1 | 3..=8 => Some(ModeRow::of(true, false, true)),
-        16 | 18 | 19 => Some(ModeRow::of(true, true, false)),
-        17 => Some(ModeRow::of(false, true, true)),
+        DYNAMIC_BUS_CONTROL | TRANSMIT_STATUS => Some(ModeRow::of(true, false, false)),
+        SYNCHRONIZE | SELF_TEST..=RESET => Some(ModeRow::of(true, false, true)),
+        VECTOR_WORD | LAST_COMMAND | BIT_WORD => Some(ModeRow::of(true, true, false)),
+        SYNCHRONIZE_WITH_WORD => Some(ModeRow::of(false, true, true)),
         _ => None,
     }
 }
