@@ -1,6 +1,7 @@
 pub mod PlaceLaw
 pub mod OpenLaw
 pub mod ReplyLaw
+pub mod ModeReplyLaw
 pub mod KeptLaw
 pub mod BackLaw
 pub mod ResetLaw

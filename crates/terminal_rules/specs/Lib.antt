@@ -16,5 +16,6 @@ pub mod Past
 pub mod Out
 pub mod Same
 pub mod OpenLaws
+pub mod ReplyLaws
 pub mod WorkedExamples
 pub mod inner

@@ -5,6 +5,7 @@ ghost use Rattle.bus_legal.specs.Description.{Description};
 ghost use Rattle.bus_legal.specs.Reach.{reach};
 ghost use Rattle.terminal_rules.specs.declared.event.Event.{Event};
 ghost use Rattle.terminal_rules.specs.OpenLaws.{LatestStartLaw, OneMessageLaw};
+ghost use Rattle.terminal_rules.specs.ReplyLaws.{WordIsSent};
 ghost use Rattle.terminal_rules.specs.Out.{out};
 ghost use Rattle.terminal_rules.specs.Same.{Same};
 
@@ -12,6 +13,11 @@ ghost use Rattle.terminal_rules.specs.Same.{Same};
 pub fn message_in_progress()
     ensures latest_start { LatestStartLaw }
     ensures one_message { OneMessageLaw }
+{}
+
+/// Which mode codes are answered with a data word.
+pub fn mode_replies()
+    ensures { WordIsSent }
 {}
 
 /// What can't be reached changes no answer.

@@ -1,15 +1,15 @@
 -- What the commands of the scripts are.
 use Rattle.std.proofs.Common.{◌≡◌, ℕ, zero, suc, ◌%◌, ◌^◌, ◌<◌, ◌≤◌, Bool, true, false, not, ◌&&◌, ◌||◌, ◌==◌, nat_le, if◌then◌else◌, Option, Some, None, is_some, List, [], ◌∷◌, length, replicate, refl, ap, sym, ◌∙◌, arith}
-use Rattle.std.specs.List.{list_all}
 use Rattle.std.proofs.lemmas.Bool.{eqb-true, ne_eqb, and_parts}
 use Rattle.std.proofs.lemmas.Bool.Decides.{nat_tests}
 use Rattle.bus_word.specs.declared.mode.ModeRow.{ModeRow}
 use Rattle.bus_word.specs.declared.cell.Cell.{Cell}
 use Rattle.bus_word.specs.declared.cell.Cell.TheVariants.{OwnReceive, OwnTransmit, BroadReceive, OwnMode, BroadMode}
 use Rattle.bus_word.specs.Command.{Fields, fields_of, address_of, transmits, code_of, count_in, is_mode, is_broadcast}
-use Rattle.bus_word.specs.Mode.{ModeEntry, entry, row_in, mode_table, mode_row}
+use Rattle.bus_word.specs.Mode.{ModeEntry, mode_table, mode_row}
 use Rattle.bus_word.specs.Cell.{data_cell, same_bool, mode_cell_by, cell_of, is_data_place, allows_broadcast}
 use Rattle.bus_word.proofs.WordLaws.{fields_are_unique}
+use Rattle.bus_word.proofs.ModeLaws.{passes_in}
 use Rattle.bus_word.proofs.CellLaws.{data_by, mode_by}
 use Rattle.terminal_exchanges.specs.Exchanges.{Exchange, IsWhole}
 use Rattle.terminal_exchanges.specs.Distinguish.{all_terminals, slots_for, command_of, receive, transmit, mode_code_with, mode_code}
@@ -148,27 +148,8 @@ transmit_from_own address s n slots low place first last =
 abbrev is_as_scripted : ModeEntry → Bool
 is_as_scripted e = nat_le e.code 31 && same_bool (not (e.code == 17)) e.row.transmit
 
-abbrev row_or : ModeRow → Option ModeRow → ModeRow
-row_or row None = row
-row_or row (Some r) = r
-
-scripted_in : (entries : List ModeEntry) (code : ℕ) (row : ModeRow) → list_all is_as_scripted entries ≡ true → row_in entries code ≡ Some row → is_as_scripted (entry code row) ≡ true
-scripted_in [] code row all is = cc
-scripted_in (e ∷ entries) code row all is = by_here (code == e.code) refl is (scripted_in entries code row parts.1)
-  where
-    parts : (is_as_scripted e ≡ true) × (list_all is_as_scripted entries ≡ true)
-    parts = and_parts (is_as_scripted e) (list_all is_as_scripted entries) all
-
-    by_here : (here : Bool) → (code == e.code) ≡ here → (if here then Some e.row else row_in entries code) ≡ Some row → (row_in entries code ≡ Some row → is_as_scripted (entry code row) ≡ true) →
-        is_as_scripted (entry code row) ≡ true
-    by_here true at is later =
-        let code_is : code ≡ e.code = eqb-true code e.code at in
-        let row_is : e.row ≡ row = ap (row_or e.row) is in
-        (λ j. is_as_scripted (entry (code_is j) (sym row_is j))) ∙ parts.0
-    by_here false at is later = later is
-
 scripted : (code : ℕ) (row : ModeRow) → mode_row code ≡ Some row → (nat_le code 31 ≡ true) × (same_bool (not (code == 17)) row.transmit ≡ true)
-scripted code row is = and_parts (nat_le code 31) (same_bool (not (code == 17)) row.transmit) (scripted_in mode_table code row refl is)
+scripted code row is = and_parts (nat_le code 31) (same_bool (not (code == 17)) row.transmit) (passes_in is_as_scripted mode_table code row refl is)
 
 small_code : (code : ℕ) → nat_le code 31 ≡ true → code ≤ 31
 small_code code e = grind (arith, nat_tests)
