@@ -2,6 +2,7 @@
 use Rattle.std.specs.Prelude.{ℕ, zero, suc, ◌+◌, ◌-◌, ◌%◌, ◌≤◌, ◌≢◌, Bool, ◌==◌, if◌then◌else◌, List, [], ◌∷◌, length, replicate}
 use Rattle.bus_word.specs.declared.cell.Cell.TheVariants.{OwnReceive, BroadReceive}
 use Rattle.bus_word.specs.Command.{word_of}
+use Rattle.bus_word.specs.Mode as mode
 use Rattle.bus_legal.specs.Description.{Description}
 use Rattle.bus_legal.specs.Reach.{any_to, any_count, largest_count, transmits}
 use Rattle.terminal_rules.specs.declared.event.Event.{Event}
@@ -46,10 +47,10 @@ receive_zeros address s n = receive address s n (replicate n 0)
 abbrev pub transmit : ℕ → ℕ → ℕ → ℕ → Exchange
 transmit address s n slots = record { command = command_of address 1 s (n % 32); words = []; slots = slots }
 
--- a mode code by subaddress 0; code 17, synchronize with data word, goes with a data word of 0
+-- a mode code by subaddress 0; synchronize with data word goes with a data word of 0
 abbrev pub mode_code_with : ℕ → ℕ → ℕ → Exchange
 mode_code_with slots address code =
-    if code == 17
+    if code == mode.synchronize_with_word
     then (record { command = command_of address 0 0 code; words = 0 ∷ []; slots = slots_for address slots })
     else (record { command = command_of address 1 0 code; words = []; slots = slots_for address slots })
 
@@ -59,7 +60,7 @@ mode_code address code = mode_code_with 1 address code
 
 -- transmit status word: it asks for the kept status
 abbrev pub ask : ℕ → Exchange
-ask address = mode_code address 2
+ask address = mode_code address mode.transmit_status
 
 -- 1: another address
 abbrev pub address_script : ℕ → List Event
@@ -67,7 +68,7 @@ address_script address = script_of (ask address ∷ [])
 
 -- 2: the broadcast option. A broadcast transmit status word is illegal where it is heard.
 abbrev pub option_script : ℕ → List Event
-option_script address = script_of (mode_code all_terminals 2 ∷ ask address ∷ [])
+option_script address = script_of (mode_code all_terminals mode.transmit_status ∷ ask address ∷ [])
 
 -- 3: the legality of an own receive cell
 abbrev pub own_receive_script : ℕ → ℕ → ℕ → List Event
@@ -91,15 +92,15 @@ broadcast_code_script address code = script_of (mode_code all_terminals code ∷
 
 -- 8: acceptance of dynamic bus control
 abbrev pub acceptance_script : ℕ → List Event
-acceptance_script address = script_of (mode_code address 0 ∷ [])
+acceptance_script address = script_of (mode_code address mode.dynamic_bus_control ∷ [])
 
 -- 9: the vector word
 abbrev pub vector_script : ℕ → List Event
-vector_script address = script_of (mode_code_with 2 address 16 ∷ [])
+vector_script address = script_of (mode_code_with 2 address mode.vector_word ∷ [])
 
 -- 10: the BIT word
 abbrev pub bit_script : ℕ → List Event
-bit_script address = script_of (mode_code_with 2 address 19 ∷ [])
+bit_script address = script_of (mode_code_with 2 address mode.bit_word ∷ [])
 
 -- 11: an initial word of a subaddress, with the longest legal transmit command
 abbrev pub initial_script : Description → ℕ → List Event

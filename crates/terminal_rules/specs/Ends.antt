@@ -1,4 +1,4 @@
--- Which events end a message, and how (MIL-STD-1553B, 4.4.1.2, 4.4.3.3, 4.4.3.4, 4.4.3.6).
+-- Which events end a message, and how (MIL-STD-1553B, 4.4.1.2, 4.4.3.4, 4.4.3.5, 4.4.3.6).
 use Rattle.std.specs.Prelude.{ℕ, Bool, true, ◌&&◌, ◌||◌, ◌==◌, if◌then◌else◌, Option, Some, None, List, [], ◌∷◌, ◌++◌, length}
 use Rattle.bus_word.specs.declared.word.Raw.{Raw}
 use Rattle.bus_word.specs.declared.cell.Cell.{Cell}
@@ -6,6 +6,7 @@ use Rattle.bus_word.specs.declared.cell.Cell.TheVariants.{OwnMode, BroadMode}
 use Rattle.bus_word.specs.Word.{is_data}
 use Rattle.bus_word.specs.Command.{expected}
 use Rattle.bus_word.specs.Cell.{cell_of}
+use Rattle.bus_word.specs.Mode as mode
 use Rattle.bus_legal.specs.Description.{Description}
 use Rattle.terminal_rules.specs.declared.event.Event.{Event}
 use Rattle.terminal_rules.specs.declared.event.Event.TheVariants.{Word, Noise, Gap}
@@ -39,10 +40,11 @@ if_expected c (Some ds) = if length ds == expected c then Some ds else None
 abbrev pub complete : ℕ → List Entry → Option (List ℕ)
 complete c after = if_expected c (data_words after)
 
--- the busy flag keeps a terminal from data and from the mode codes 16 and 17, and from nothing else
+-- the busy flag (4.3.3.5.3.8; Notice 2, 30.5.3) keeps a terminal from data, from the vector word and from synchronize with
+-- data word, and from nothing else
 abbrev pub is_blocked_by_busy : Cell → Bool
-is_blocked_by_busy (OwnMode code) = (code == 16) || (code == 17)
-is_blocked_by_busy (BroadMode code) = (code == 16) || (code == 17)
+is_blocked_by_busy (OwnMode code) = (code == mode.vector_word) || (code == mode.synchronize_with_word)
+is_blocked_by_busy (BroadMode code) = (code == mode.vector_word) || (code == mode.synchronize_with_word)
 is_blocked_by_busy _ = true
 
 abbrev pub verdict : (Cell → Bool) → Bool → ℕ → List ℕ → Option Cell → Ending
@@ -56,13 +58,13 @@ verdict legal busy c ds (Some cell) =
 abbrev pub well : Description → Bool → ℕ → List ℕ → Ending
 well P busy c ds = verdict P.legal busy c ds (cell_of c)
 
--- a message that has its words ends well, one that is a transfer goes on, and any other ends in error
+-- a message that has its words ends well (4.4.3.5), one that is a transfer goes on, and any other ends in error (4.4.3.6)
 abbrev pub ends_with : Description → Bool → ℕ → Option (List ℕ) → Option (ℕ × ℕ) → Ending
 ends_with P busy c (Some ds) t = well P busy c ds
 ends_with P busy c None (Some t) = Nothing
 ends_with P busy c None None = Badly c
 
--- what a gap ends; while a transfer waits, it is the time-out (4.3.3.9)
+-- what a gap ends; while a transfer waits, it is the time-out (4.3.3.9; Notice 2, 30.9)
 abbrev pub at_gap : Description → Bool → Open → Ending
 at_gap P busy Closed = Nothing
 at_gap P busy (First c after) = ends_with P busy c (complete c after) (transfer P (Some (c, after)))

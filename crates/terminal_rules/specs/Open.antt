@@ -1,4 +1,4 @@
--- The message in progress on a bus (MIL-STD-1553B, 4.3.3.6, 4.4.3.2, 4.6.3).
+-- The message in progress on a bus (MIL-STD-1553B, 4.3.3.6, 4.4.3.2, 4.6.3.2).
 use Rattle.std.specs.Prelude.{ℕ, Bool, false, not, ◌&&◌, ◌==◌, if◌then◌else◌, Option, Some, None, List, [], ◌∷◌}
 use Rattle.bus_word.specs.declared.word.Bus.{Bus}
 use Rattle.bus_word.specs.declared.word.Raw.{Raw}
@@ -33,7 +33,7 @@ is_on b None = false
 is_on b (Some c) = same_bus b c
 
 -- The latest start of all is on this bus: so no start on the other bus came after the latest on this one.
--- A command on one bus supersedes what is in progress on the other (4.4.3.2, 4.6.3).
+-- A command on one bus supersedes what is in progress on the other (4.4.3.2, 4.6.3.2).
 abbrev pub is_latest : List Noted → Bus → Bool
 is_latest h b = is_on b (latest start_bus h)
 

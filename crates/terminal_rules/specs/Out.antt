@@ -6,6 +6,7 @@ use Rattle.bus_word.specs.declared.word.Kind.TheVariants.{Com, Dat}
 use Rattle.bus_word.specs.declared.cell.Cell.{Cell}
 use Rattle.bus_word.specs.declared.cell.Cell.TheVariants.{OwnReceive, OwnTransmit, BroadReceive, OwnMode, BroadMode}
 use Rattle.bus_word.specs.Status.{status_word}
+use Rattle.bus_word.specs.Mode as mode
 use Rattle.bus_legal.specs.Description.{Description}
 use Rattle.terminal_rules.specs.declared.event.Event.{Event}
 use Rattle.terminal_rules.specs.declared.event.Event.TheVariants.{Gap, Slot}
@@ -39,9 +40,9 @@ pub data Out : Type 0 where
 -- the data word that goes with an own mode code: vector word, last command or BIT word
 abbrev pub code_word : Description → List Noted → ℕ → ℕ
 code_word P h code =
-    if code == 16 then vector_now P h
-    else if code == 18 then last_now h
-    else if code == 19 then bit_now P h
+    if code == mode.vector_word then vector_now P h
+    else if code == mode.last_command then last_now h
+    else if code == mode.bit_word then bit_now P h
     else 0
 
 -- data word number m of a reply, by the cell of what was done: as it is when it is sent
@@ -71,13 +72,13 @@ first_word (d ∷ ds) = d
 
 abbrev pub code_hands : ℕ → Bool → List ℕ → Option Handing
 code_hands code accepts ds =
-    if code == 0 then (if accepts then Some HandsBusControl else None)
-    else if code == 1 then Some HandsSynchronize
-    else if code == 3 then Some HandsSelfTest
-    else if code == 17 then Some (HandsSynchronizeWith (first_word ds))
+    if code == mode.dynamic_bus_control then (if accepts then Some HandsBusControl else None)
+    else if code == mode.synchronize then Some HandsSynchronize
+    else if code == mode.self_test then Some HandsSelfTest
+    else if code == mode.synchronize_with_word then Some (HandsSynchronizeWith (first_word ds))
     else None
 
--- only what is done is handed over
+-- only what is done is handed over; words tell whether they came by broadcast (Notice 2, 30.6)
 abbrev pub hands : Description → Ending → Option Handing
 hands P (Done c (OwnReceive s n) ds) = Some (HandsReceived false s ds)
 hands P (Done c (BroadReceive s n) ds) = Some (HandsReceived true s ds)

@@ -4,6 +4,7 @@ use Rattle.std.specs.Prelude.{ℕ, suc, Bool, true, false, not, ◌||◌, ◌==�
 use Rattle.bus_word.specs.declared.word.Bus.{Bus}
 use Rattle.bus_word.specs.declared.cell.Cell.{Cell}
 use Rattle.bus_word.specs.declared.cell.Cell.TheVariants.{OwnTransmit, OwnMode}
+use Rattle.bus_word.specs.Mode as mode
 use Rattle.terminal_rules.specs.declared.event.Event.{Event}
 use Rattle.terminal_rules.specs.declared.event.Event.TheVariants.{Word, Noise, Gap, Slot}
 use Rattle.terminal_rules.specs.Buses.{same_bus}
@@ -13,7 +14,7 @@ use Rattle.terminal_rules.specs.Open.{start_bus, is_on}
 
 -- own mode codes 16, 18 and 19 are answered with a data word: vector word, last command and BIT word
 abbrev pub has_word : ℕ → Bool
-has_word code = (code == 16) || ((code == 18) || (code == 19))
+has_word code = (code == mode.vector_word) || ((code == mode.last_command) || (code == mode.bit_word))
 
 -- how many data words follow the status, by the cell of what was done
 abbrev pub words_after_status : Option Cell → ℕ

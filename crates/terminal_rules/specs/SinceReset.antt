@@ -4,6 +4,7 @@ use Rattle.bus_word.specs.declared.word.Bus.{Bus}
 use Rattle.bus_word.specs.declared.cell.Cell.{Cell}
 use Rattle.bus_word.specs.declared.cell.Cell.TheVariants.{OwnReceive, BroadReceive, OwnMode, BroadMode}
 use Rattle.bus_word.specs.Cell.{cell_of}
+use Rattle.bus_word.specs.Mode as mode
 use Rattle.bus_legal.specs.Description.{Description}
 use Rattle.terminal_rules.specs.declared.event.Event.{Event}
 use Rattle.terminal_rules.specs.declared.event.Event.TheVariants.{Word, Write, Vector, Bit}
@@ -25,10 +26,10 @@ abbrev pub is_code : ℕ → Option ℕ → Bool
 is_code n None = false
 is_code n (Some code) = code == n
 
--- Reset remote terminal, mode code 8 (MIL-STD-1553B, 4.3.3.5.1.7.9), acts after its status was sent: in the slot
+-- Reset remote terminal (MIL-STD-1553B, 4.3.3.5.1.7.9; Notice 2, 30.4.3) acts after its status was sent: in the slot
 -- that sends it, or at its gap where no reply begins.
 abbrev pub is_reset_cell : Cell → Bool
-is_reset_cell cell = is_code 8 (code_in cell)
+is_reset_cell cell = is_code mode.reset (code_in cell)
 
 abbrev pub sends_reset : ℕ → Option Cell → Bool
 sends_reset number None = false
@@ -37,7 +38,7 @@ sends_reset number (Some cell) = (number == 0) && is_reset_cell cell
 abbrev pub resets : Turn → Ending → Bool
 resets (Begins b cell) x = false
 resets (Sends r) x = sends_reset r.number r.cell
-resets _ x = is_code 8 (done_code x)
+resets _ x = is_code mode.reset (done_code x)
 
 abbrev pub is_reset : Noted → Bool
 is_reset p = resets p.turn p.ends
@@ -53,7 +54,7 @@ switched on off (Some code) = if code == on then Some true else (if code == off 
 
 -- The terminal flag is inhibited by mode code 6, and shows again after mode code 7 (4.3.3.5.1.7.7, 4.3.3.5.1.7.8).
 abbrev pub inhibits : Noted → Option Bool
-inhibits p = switched 6 7 (done_code p.ends)
+inhibits p = switched mode.inhibit_flag mode.override_inhibit (done_code p.ends)
 
 abbrev pub inhibited_now : List Noted → Bool
 inhibited_now h = or_else (latest inhibits (since_reset h)) false
@@ -61,7 +62,7 @@ inhibited_now h = or_else (latest inhibits (since_reset h)) false
 -- The transmitter of a bus is shut down by mode code 4 on the other bus, and comes back by mode code 5 on
 -- the other bus (4.3.3.5.1.7.5, 4.3.3.5.1.7.6).
 abbrev pub shuts : Bus → Noted → Option Bool
-shuts b p = if is_gap_on b p.event then None else switched 4 5 (done_code p.ends)
+shuts b p = if is_gap_on b p.event then None else switched mode.shutdown mode.override_shutdown (done_code p.ends)
 
 abbrev pub off_now : List Noted → Bus → Bool
 off_now h b = or_else (latest (shuts b) (since_reset h)) false
@@ -90,7 +91,7 @@ number i (d ∷ ds) = if i == 1 then Some d else number (i - 1) ds
 abbrev pub wrapped_at : ℕ → ℕ → ℕ → ℕ → List ℕ → Option ℕ
 wrapped_at wrap s i t ds = if (s == t) && (t == wrap) then number i ds else None
 
--- words received at the wraparound subaddress, own or by broadcast, are held there
+-- words received at the wraparound subaddress (Notice 2, 30.7), own or by broadcast, are held there
 abbrev pub wrapped : ℕ → ℕ → ℕ → Ending → Option ℕ
 wrapped wrap s i (Done c (OwnReceive t n) ds) = wrapped_at wrap s i t ds
 wrapped wrap s i (Done c (BroadReceive t n) ds) = wrapped_at wrap s i t ds
@@ -121,7 +122,7 @@ abbrev pub start_bits : Noted → Option ℕ
 start_bits p = if p.starts then command_bits p.event else None
 
 abbrev pub is_last_command_code : Option Cell → Bool
-is_last_command_code (Some (OwnMode code)) = code == 18
+is_last_command_code (Some (OwnMode code)) = code == mode.last_command
 is_last_command_code _ = false
 
 abbrev pub recorded_by : Option ℕ → Option ℕ

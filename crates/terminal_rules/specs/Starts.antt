@@ -1,4 +1,4 @@
--- Which words start a message (MIL-STD-1553B, 4.4.3.1, 4.4.3.2).
+-- Which words start a message (MIL-STD-1553B, 4.4.3.1, 4.4.3.2, 4.4.3.3).
 use Rattle.std.specs.Prelude.{ℕ, Bool, true, false, not, ◌&&◌, ◌||◌, ◌==◌, Option, Some, None, List, []}
 use Rattle.bus_word.specs.declared.word.Bus.{Bus}
 use Rattle.bus_word.specs.declared.word.Raw.{Raw}

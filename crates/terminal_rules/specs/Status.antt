@@ -5,6 +5,7 @@ use Rattle.bus_word.specs.declared.cell.Cell.{Cell}
 use Rattle.bus_word.specs.declared.cell.Cell.TheVariants.{OwnMode}
 use Rattle.bus_word.specs.Command.{is_broadcast}
 use Rattle.bus_word.specs.Cell.{cell_of}
+use Rattle.bus_word.specs.Mode as mode
 use Rattle.bus_legal.specs.Description.{Description}
 use Rattle.terminal_rules.specs.declared.event.Flag.TheVariants.{Service, Busy, Subsystem, Terminal}
 use Rattle.terminal_rules.specs.LookBack.{or_else, some, latest_with, since_with}
@@ -50,12 +51,12 @@ formed_blocked h c = formed h c false false (inhibited_now h)
 
 -- dynamic bus control is accepted, mode code 0 (4.3.3.5.1.7.1)
 abbrev pub accepts : Bool → Cell → Bool
-accepts accept (OwnMode code) = (code == 0) && accept
+accepts accept (OwnMode code) = (code == mode.dynamic_bus_control) && accept
 accepts accept _ = false
 
 -- mode codes 6 and 7 have acted already where their own status is formed
 abbrev pub inhibited_after : Bool → Cell → Bool
-inhibited_after inhibited cell = or_else (switched 6 7 (code_in cell)) inhibited
+inhibited_after inhibited cell = or_else (switched mode.inhibit_flag mode.override_inhibit (code_in cell)) inhibited
 
 -- for a message that is done
 abbrev pub formed_done : Description → List Noted → ℕ → Cell → StatusParts
@@ -64,7 +65,7 @@ formed_done P h c cell = formed h c false (accepts P.accept cell) (inhibited_aft
 -- own mode codes 2 and 18, transmit status word and transmit last command, report the kept status and leave
 -- it as it is (4.3.3.5.1.7.3, 4.3.3.5.1.7.13)
 abbrev pub reports_kept : Cell → Bool
-reports_kept (OwnMode code) = (code == 2) || (code == 18)
+reports_kept (OwnMode code) = (code == mode.transmit_status) || (code == mode.last_command)
 reports_kept _ = false
 
 abbrev pub spares_kept : Description → Option Cell → Bool

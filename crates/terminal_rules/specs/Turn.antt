@@ -9,7 +9,7 @@ use Rattle.terminal_rules.specs.History.{Noted, noted_as, Replying, Turn, NoTurn
 use Rattle.terminal_rules.specs.Reply.{reply_now, replies_on}
 use Rattle.terminal_rules.specs.SinceReset.{off_now}
 
--- a message that ended well is answered, unless it was a broadcast (MIL-STD-1553B, 4.3.3.5.3.7), or the transmitter of
+-- a message that ended well is answered, unless it was a broadcast (MIL-STD-1553B, 4.3.3.6.7), or the transmitter of
 -- its bus is shut down
 abbrev pub is_answered : Bool → Ending → Bool
 is_answered off (Illegal c) = not (is_broadcast c || off)

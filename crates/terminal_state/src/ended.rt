@@ -7,7 +7,7 @@ ghost use Rattle.terminal_rules.specs.inner.Steps.{resets_at_gap};
 ghost use Rattle.terminal_state.specs.inner.Ended.{ending_of};
 ghost use Rattle.terminal_rules.specs.Status.{reports_kept};
 
-use bus_word::{Cell, Command};
+use bus_word::{Cell, Command, mode};
 
 /// How an event ends the message in progress. The words of a message that is done are in the buffer.
 #[derive(Clone, Copy)]
@@ -60,7 +60,7 @@ impl Ended {
     pub fn resets_at_gap(&self, begins: bool) -> bool
         ensures { (ds : List ℕ) → result ≡ resets_at_gap begins (ending_of self.now ds) }
     {
-        matches!(self.done_code(), Some(8)) && !begins
+        matches!(self.done_code(), Some(mode::RESET)) && !begins
     }
 }
 
@@ -69,7 +69,10 @@ fn is_blocked_by_busy(cell: Cell) -> bool
     ensures { result ≡ is_blocked_by_busy cell }
 {
     match cell {
-        Cell::OwnMode(code) | Cell::BroadMode(code) => matches!(code, 16 | 17),
+        Cell::OwnMode(code) | Cell::BroadMode(code) => matches!(
+            code,
+            mode::VECTOR_WORD | mode::SYNCHRONIZE_WITH_WORD
+        ),
         _ => true,
     }
 }
@@ -78,7 +81,10 @@ fn is_blocked_by_busy(cell: Cell) -> bool
 pub fn reports_kept(cell: Cell) -> bool
     ensures { result ≡ reports_kept cell }
 {
-    matches!(cell, Cell::OwnMode(2 | 18))
+    matches!(
+        cell,
+        Cell::OwnMode(mode::TRANSMIT_STATUS | mode::LAST_COMMAND)
+    )
 }
 
 /// The mode code of a cell, own or by broadcast.

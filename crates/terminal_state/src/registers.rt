@@ -6,7 +6,7 @@ ghost use Rattle.terminal_state.specs.inner.Registers.{power_up_registers, forme
 
 use crate::buses::OnBuses;
 use crate::ended::{Ended, code_in, reports_kept};
-use bus_word::{Bus, Cell, Command, StatusParts, cell_of};
+use bus_word::{Bus, Cell, Command, StatusParts, cell_of, mode};
 use terminal_rules::Flag;
 
 /// A status word with no bit set but the address.
@@ -104,11 +104,11 @@ impl Registers {
         ensures { result ≡ done_from accept self.now command cell }
     {
         let inhibited = match code_in(cell) {
-            Some(6) => true,
-            Some(7) => false,
+            Some(mode::INHIBIT_FLAG) => true,
+            Some(mode::OVERRIDE_INHIBIT) => false,
             _ => self.inhibited,
         };
-        let accepts = matches!(cell, Cell::OwnMode(0)) && accept;
+        let accepts = matches!(cell, Cell::OwnMode(mode::DYNAMIC_BUS_CONTROL)) && accept;
         self.formed(command, false, accepts, inhibited)
     }
 
@@ -144,7 +144,7 @@ impl Registers {
     pub fn start(&mut self, command: Command, spares: bool)
         ensures { self.new ≡ started spares command self.old }
     {
-        if !matches!(cell_of(command), Some(Cell::OwnMode(18))) {
+        if !matches!(cell_of(command), Some(Cell::OwnMode(mode::LAST_COMMAND))) {
             self.last = command;
         }
         if !spares {
@@ -195,10 +195,10 @@ impl Registers {
             self.reset(vector, bit);
         } else {
             match code {
-                Some(4) => self.off.set_other(bus, true),
-                Some(5) => self.off.set_other(bus, false),
-                Some(6) => self.inhibited = true,
-                Some(7) => self.inhibited = false,
+                Some(mode::SHUTDOWN) => self.off.set_other(bus, true),
+                Some(mode::OVERRIDE_SHUTDOWN) => self.off.set_other(bus, false),
+                Some(mode::INHIBIT_FLAG) => self.inhibited = true,
+                Some(mode::OVERRIDE_INHIBIT) => self.inhibited = false,
                 _ => {}
             }
         }

@@ -4,7 +4,7 @@ ghost use Rattle.terminal_rules.specs.Reply.{words_after_status};
 ghost use Rattle.terminal_state.specs.inner.Replies.{shown_reply};
 ghost use Rattle.terminal_rules.specs.inner.Steps.{sent_one, resets_next};
 
-use bus_word::{Bus, Cell};
+use bus_word::{Bus, Cell, mode};
 
 /// A reply of which words are still to be sent.
 #[derive(Clone, Copy)]
@@ -22,7 +22,14 @@ fn words_after_status(cell: Option<Cell>) -> u8
 {
     match cell {
         Some(Cell::OwnTransmit(_, count)) => count,
-        Some(Cell::OwnMode(code)) => if matches!(code, 16 | 18 | 19) { 1 } else { 0 },
+        Some(Cell::OwnMode(code)) => if matches!(
+            code,
+            mode::VECTOR_WORD | mode::LAST_COMMAND | mode::BIT_WORD
+        ) {
+            1
+        } else {
+            0
+        },
         _ => 0,
     }
 }
@@ -47,6 +54,10 @@ impl Reply {
     pub fn resets(self) -> bool
         ensures { result ≡ resets_next (shown_reply (Some self)) }
     {
-        self.next == 0 && matches!(self.cell, Some(Cell::OwnMode(8) | Cell::BroadMode(8)))
+        self.next == 0
+            && matches!(
+                self.cell,
+                Some(Cell::OwnMode(mode::RESET) | Cell::BroadMode(mode::RESET))
+            )
     }
 }

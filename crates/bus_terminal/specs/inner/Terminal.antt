@@ -6,6 +6,7 @@ use Rattle.bus_word.specs.declared.word.Raw.{Raw}
 use Rattle.bus_word.specs.declared.cell.Cell.{Cell}
 use Rattle.bus_word.specs.declared.cell.Cell.TheVariants.{OwnTransmit, OwnMode}
 use Rattle.bus_word.specs.Status.{status_word}
+use Rattle.bus_word.specs.Mode as mode
 use Rattle.bus_legal.specs.Description.{Description, word_at}
 use Rattle.terminal_rules.specs.Place.{Place}
 use Rattle.terminal_state.specs.declared.buses.OnBuses.{OnBuses}
@@ -29,9 +30,9 @@ use Rattle.bus_terminal.specs.Stands.{description_of, held_word}
 -- the data word of an own mode code, from the registers
 abbrev pub code_word_from : Registers → ℕ → ℕ
 code_word_from r code =
-    if code == 16 then r.vector
-    else if code == 18 then r.last
-    else if code == 19 then r.bit
+    if code == mode.vector_word then r.vector
+    else if code == mode.last_command then r.last
+    else if code == mode.bit_word then r.bit
     else 0
 
 -- data word number m of a reply, from the registers and the words held ready

@@ -2,7 +2,7 @@
 use super::Terminal;
 use crate::answer::{Answer, Hand, Sent};
 use bus_legal::Legality;
-use bus_word::{Cell, Kind, status_of};
+use bus_word::{Cell, Kind, mode, status_of};
 use terminal_state::{Ended, Reply};
 
 impl<L: Legality> Terminal<L> {
@@ -23,9 +23,9 @@ impl<L: Legality> Terminal<L> {
                 .held
                 .word(&self.setup.initial, subaddress, number),
             Some(Cell::OwnMode(code)) => match code {
-                16 => self.registers.vector,
-                18 => self.registers.last.bits(),
-                19 => self.registers.bit,
+                mode::VECTOR_WORD => self.registers.vector,
+                mode::LAST_COMMAND => self.registers.last.bits(),
+                mode::BIT_WORD => self.registers.bit,
                 _ => 0,
             },
             _ => 0,
@@ -99,10 +99,12 @@ impl<L: Legality> Terminal<L> {
         ensures few { AreFew (shown_hand result) }
     {
         match code {
-            0 if accepts => Some(Hand::BusControl),
-            1 => Some(Hand::Synchronize),
-            3 => Some(Hand::SelfTest),
-            17 => Some(Hand::SynchronizeWith(self.in_progress.first_word())),
+            mode::DYNAMIC_BUS_CONTROL if accepts => Some(Hand::BusControl),
+            mode::SYNCHRONIZE => Some(Hand::Synchronize),
+            mode::SELF_TEST => Some(Hand::SelfTest),
+            mode::SYNCHRONIZE_WITH_WORD => Some(Hand::SynchronizeWith(
+                self.in_progress.first_word(),
+            )),
             _ => None,
         }
     }

@@ -3,6 +3,7 @@ use Rattle.std.specs.Prelude.{suc, Bool, false, not, ◌&&◌, nat_le, if◌then
 use Rattle.bus_word.specs.declared.word.Bus.{Bus}
 use Rattle.bus_word.specs.declared.status.StatusParts.{StatusParts}
 use Rattle.bus_word.specs.declared.cell.Cell.{Cell}
+use Rattle.bus_word.specs.Mode as mode
 use Rattle.terminal_rules.specs.LookBack.{or_else}
 use Rattle.terminal_rules.specs.History.{Replying, Ending}
 use Rattle.terminal_rules.specs.Reply.{words_after_status}
@@ -20,7 +21,7 @@ unless_reset reset first set before = if reset then first else or_else set befor
 
 -- a reset acts at the gap of its message, unless a reply begins there
 abbrev pub resets_at_gap : Bool → Ending → Bool
-resets_at_gap begins x = is_code 8 (done_code x) && not begins
+resets_at_gap begins x = is_code mode.reset (done_code x) && not begins
 
 -- the reply in progress after its next word was sent
 abbrev pub sent_one : Option Replying → Option Replying

@@ -5,6 +5,7 @@ use Rattle.bus_word.specs.declared.word.Bus.TheVariants.{A, B}
 use Rattle.bus_word.specs.declared.status.StatusParts.{StatusParts}
 use Rattle.bus_word.specs.declared.cell.Cell.{Cell}
 use Rattle.bus_word.specs.Command.{is_broadcast}
+use Rattle.bus_word.specs.Mode as mode
 use Rattle.bus_legal.specs.Description.{Description}
 use Rattle.terminal_rules.specs.declared.event.Flag.TheVariants.{Service, Busy, Subsystem, Terminal}
 use Rattle.terminal_rules.specs.declared.event.Event.{Event}
@@ -93,7 +94,7 @@ flags_after e f = record {
 }
 
 abbrev pub shuts_by : Bus → Event → Ending → Option Bool
-shuts_by b e x = if is_gap_on b e then None else switched 4 5 (done_code x)
+shuts_by b e x = if is_gap_on b e then None else switched mode.shutdown mode.override_shutdown (done_code x)
 
 abbrev pub started_bits : Event → Bool → Option ℕ
 started_bits e starts = if starts then command_bits e else None
@@ -123,14 +124,14 @@ abbrev pub keeping : Option StatusParts → Registers → Registers
 keeping status r = record r { kept = or_else status r.kept }
 
 abbrev pub off_after : Bus → Bus → Option ℕ → Option Bool
-off_after b c code = if same_bus b c then None else switched 4 5 code
+off_after b c code = if same_bus b c then None else switched mode.shutdown mode.override_shutdown code
 
 -- after a mode code was carried out, on bus c, or none, with a reset or without; the words are those to which a reset goes back
 abbrev pub carried : ℕ → ℕ → Bus → Bool → Option ℕ → Registers → Registers
 carried vector bit c reset code r =
     record {
       flags = r.flags;
-      inhibited = unless_reset reset false (switched 6 7 code) r.inhibited;
+      inhibited = unless_reset reset false (switched mode.inhibit_flag mode.override_inhibit code) r.inhibited;
       off = record {
         a = unless_reset reset false (off_after A c code) r.off.a;
         b = unless_reset reset false (off_after B c code) r.off.b;
@@ -155,7 +156,7 @@ abbrev pub registers_after : Description → Event → Bool → Bool → Ending 
 registers_after P e reset starts ends r =
     record {
       flags = flags_after e r.flags;
-      inhibited = unless_reset reset false (switched 6 7 (done_code ends)) r.inhibited;
+      inhibited = unless_reset reset false (switched mode.inhibit_flag mode.override_inhibit (done_code ends)) r.inhibited;
       off = record {
         a = unless_reset reset false (shuts_by A e ends) r.off.a;
         b = unless_reset reset false (shuts_by B e ends) r.off.b;
