@@ -23,16 +23,6 @@ shown_answer Silent = Silence
 shown_answer (Sends sent) = SendsWord (shown_word sent)
 shown_answer (Hands hand) = HandsOver (shown_handing hand)
 
--- a word that is sent, or none
-abbrev pub shown_sent : Option Sent → Option Sending
-shown_sent None = None
-shown_sent (Some s) = Some (shown_word s)
-
--- what is handed over, or nothing
-abbrev pub shown_hand : Option Hand → Option Handing
-shown_hand None = None
-shown_hand (Some hand) = Some (shown_handing hand)
-
 -- the data words that are handed over
 abbrev pub words_handed : Handing → List ℕ
 words_handed (HandsReceived broadcast subaddress words) = words

@@ -1,2 +1,3 @@
--- What an event makes of a terminal: what the contracts of its private methods speak of.
+-- What an event makes of a terminal, and parts of an answer: what the contracts of private methods speak of.
 pub mod Terminal
+pub mod Answer

@@ -45,7 +45,8 @@ impl<L: Legality> Terminal<L> {
     ghost use Rattle.terminal_state.specs.inner.Ended.{ending_of};
     ghost use Rattle.terminal_state.specs.inner.Registers.{status_from, failed_by, started};
     ghost use Rattle.terminal_state.specs.inner.Buses.{on_bus};
-    ghost use Rattle.bus_terminal.specs.Answer.{shown_sent, shown_answer, IsSmall};
+    ghost use Rattle.bus_terminal.specs.Answer.{shown_answer, IsSmall};
+    ghost use Rattle.bus_terminal.specs.inner.Answer.{shown_sent};
     ghost use Rattle.bus_terminal.specs.Stands.{StandsAt, description_of, held_word};
     ghost use Rattle.bus_terminal.specs.contracts.terminal.Terminal.{the_row};
     ghost use Rattle.bus_terminal.specs.inner.Terminal.{sends_from, heard_after_word, ends_at_gap, begins_at_gap, IsSameSetup, TakesWord, TakesNoise, TakesGap, TakesSlot, TakesWrite};

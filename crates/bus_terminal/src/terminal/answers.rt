@@ -11,7 +11,8 @@ impl<L: Legality> Terminal<L> {
     ghost use Rattle.terminal_state.specs.inner.Ended.{ending_of};
     ghost use Rattle.terminal_state.specs.inner.Replies.{shown_reply, has_place, can_send};
     ghost use Rattle.bus_terminal.specs.inner.Terminal.{reply_word_from, sends_from};
-    ghost use Rattle.bus_terminal.specs.Answer.{shown_sent, shown_hand, shown_answer, AreFew, IsSmall};
+    ghost use Rattle.bus_terminal.specs.Answer.{shown_answer, AreFew, IsSmall};
+    ghost use Rattle.bus_terminal.specs.inner.Answer.{shown_sent, shown_hand};
     ghost use Rattle.bus_terminal.specs.Stands.{description_of, held_word};
 
     /// Data word `number` of a reply, by the cell of what was done.
