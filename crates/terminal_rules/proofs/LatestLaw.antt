@@ -9,12 +9,12 @@ use Rattle.terminal_rules.specs.declared.event.Event.{Event}
 use Rattle.terminal_rules.specs.declared.event.Event.TheVariants.{Word, Noise, Gap, Write, Vector, Bit, Flag as FlagIs, Slot}
 use Rattle.terminal_rules.specs.Buses.{same_bus}
 use Rattle.terminal_rules.specs.LookBack.{latest}
-use Rattle.terminal_rules.specs.History.{Noted, Entry, run}
+use Rattle.terminal_rules.specs.History.{Noted, Entry, run, of_word}
 use Rattle.terminal_rules.specs.Open.{Open, Closed, First, Waiting, Second, transfer, is_status_of, transmitter, is_on, is_latest, start_bus, first_of, awaited_of, open_of, open_now, before_gap}
 use Rattle.terminal_rules.specs.Reply.{reply_now, ignores}
 use Rattle.terminal_rules.specs.Starts.{heard_now, is_free, is_fresh_broadcast, starts_message, starts_now}
 use Rattle.terminal_rules.specs.Past.{past}
-use Rattle.terminal_rules.specs.OpenLaws.{start_in, start_of, command_open, LatestStartLaw, OneMessageLaw}
+use Rattle.terminal_rules.specs.OpenLaws.{start_of, command_open, LatestStartLaw, OneMessageLaw}
 use Rattle.terminal_rules.proofs.OpenLaw.{open_law, after_word, after_gap, after_entry, after_event, waits, unheard}
 
 -- the command is the same, or the message is over
@@ -90,7 +90,7 @@ word_starts P h Slot = refl
 
 by_start : (P : Description) (b : Bus) (e : Event) (s : Bool) (o : Open) (l : Option (Bus × ℕ)) (c : ℕ) → StartsAsWord e s →
     command_open (after_event P b e s o) ≡ Some c → ((d : ℕ) → command_open o ≡ Some d → l ≡ Some (b, d)) →
-    (elim (if s then start_in e else None) as (λ m. Option (Bus × ℕ)) [ None ↦ l | Some y ↦ Some y ]) ≡ Some (b, c)
+    (elim (if s then of_word {X = Bus × ℕ} (λ b w. (b, w.bits)) e else None) as (λ m. Option (Bus × ℕ)) [ None ↦ l | Some y ↦ Some y ]) ≡ Some (b, c)
 by_start P b e false o l c k h before = before c (quiet_stays P b e o c h)
 by_start P b (Word d w) true o l c k h before = started_is b d w c o h
 by_start P b (Noise d) true o l c k h before = cc
@@ -114,7 +114,7 @@ ignored_starts P h Slot i = refl
 
 by_ignored : (P : Description) (b : Bus) (e : Event) (i s : Bool) (o : Open) (l : Option (Bus × ℕ)) (c : ℕ) → StartsAsWord e s → (i ≡ true → s ≡ false) →
     command_open (if i then o else after_event P b e s o) ≡ Some c → ((d : ℕ) → command_open o ≡ Some d → l ≡ Some (b, d)) →
-    (elim (if s then start_in e else None) as (λ m. Option (Bus × ℕ)) [ None ↦ l | Some y ↦ Some y ]) ≡ Some (b, c)
+    (elim (if s then of_word {X = Bus × ℕ} (λ b w. (b, w.bits)) e else None) as (λ m. Option (Bus × ℕ)) [ None ↦ l | Some y ↦ Some y ]) ≡ Some (b, c)
 by_ignored P b e false s o l c k q h before = by_start P b e s o l c k h before
 by_ignored P b e true false o l c k q h before = before c h
 by_ignored P b e true true o l c k q h before = let wrong : true ≡ false = q refl in cc

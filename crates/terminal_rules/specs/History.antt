@@ -44,6 +44,15 @@ pub record Noted : Type 0 where
 abbrev pub noted_as : Event → Turn → Bool → Ending → Noted
 noted_as e turn starts ends = record { event = e; turn = turn; starts = starts; ends = ends }
 
+-- what a word says, by its bus and itself; any other event says nothing
+abbrev pub of_word : {X : Type 0} → (Bus → Raw → X) → Event → Option X
+of_word f (Word b w) = Some (f b w)
+of_word f _ = None
+
+-- what a start says: a word that started a message
+abbrev pub of_start : {X : Type 0} → (Bus → Raw → X) → Noted → Option X
+of_start f p = if p.starts then of_word f p.event else None
+
 abbrev pub is_ignored : Turn → Bool
 is_ignored Ignored = true
 is_ignored _ = false

@@ -5,11 +5,9 @@ use Rattle.bus_word.specs.declared.word.Raw.{Raw}
 use Rattle.bus_word.specs.Word.{is_command}
 use Rattle.bus_word.specs.Command.{address_of, transmits, is_receive, is_broadcast}
 use Rattle.bus_legal.specs.Description.{Description}
-use Rattle.terminal_rules.specs.declared.event.Event.{Event}
-use Rattle.terminal_rules.specs.declared.event.Event.TheVariants.{Word}
 use Rattle.terminal_rules.specs.Buses.{same_bus}
 use Rattle.terminal_rules.specs.LookBack.{latest, since, before, oldest}
-use Rattle.terminal_rules.specs.History.{Noted, Entry, ends_run, run}
+use Rattle.terminal_rules.specs.History.{Noted, Entry, of_start, ends_run, run}
 
 -- what is in progress: no message; a message in the run of its command, with what followed the command; a
 -- receive command that waits for the status word of an address; such a message after that status word, with
@@ -20,13 +18,9 @@ pub data Open : Type 0 where
   Waiting : (command : ℕ) → (address : ℕ) → Open
   Second : (command : ℕ) → (address : ℕ) → (after : List Entry) → Open
 
-abbrev pub bus_of : Event → Option Bus
-bus_of (Word b w) = Some b
-bus_of _ = None
-
 -- the bus of a start
 abbrev pub start_bus : Noted → Option Bus
-start_bus p = if p.starts then bus_of p.event else None
+start_bus p = of_start (λ b w. b) p
 
 abbrev pub is_on : Bus → Option Bus → Bool
 is_on b None = false

@@ -1,22 +1,17 @@
 -- What holds of the message in progress at every history.
-use Rattle.std.specs.Prelude.{◌≡◌, ℕ, if◌then◌else◌, Option, Some, None, List, ◌⊎◌}
+use Rattle.std.specs.Prelude.{◌≡◌, ℕ, Option, Some, None, List, ◌⊎◌}
 use Rattle.bus_word.specs.declared.word.Bus.{Bus}
 use Rattle.bus_word.specs.declared.word.Bus.TheVariants.{A, B}
 use Rattle.bus_legal.specs.Description.{Description}
 use Rattle.terminal_rules.specs.declared.event.Event.{Event}
-use Rattle.terminal_rules.specs.declared.event.Event.TheVariants.{Word}
 use Rattle.terminal_rules.specs.LookBack.{latest}
-use Rattle.terminal_rules.specs.History.{Noted}
+use Rattle.terminal_rules.specs.History.{Noted, of_start}
 use Rattle.terminal_rules.specs.Open.{Open, Closed, First, Waiting, Second}
 use Rattle.terminal_rules.specs.Past.{past, open_at}
 
 -- the bus and the command of a start
-abbrev pub start_in : Event → Option (Bus × ℕ)
-start_in (Word b w) = Some (b, w.bits)
-start_in _ = None
-
 abbrev pub start_of : Noted → Option (Bus × ℕ)
-start_of p = if p.starts then start_in p.event else None
+start_of p = of_start (λ b w. (b, w.bits)) p
 
 -- the command of the message in progress
 abbrev pub command_open : Open → Option ℕ

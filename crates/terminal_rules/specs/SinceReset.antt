@@ -7,9 +7,9 @@ use Rattle.bus_word.specs.Cell.{cell_of}
 use Rattle.bus_word.specs.Mode as mode
 use Rattle.bus_legal.specs.Description.{Description}
 use Rattle.terminal_rules.specs.declared.event.Event.{Event}
-use Rattle.terminal_rules.specs.declared.event.Event.TheVariants.{Word, Write, Vector, Bit}
+use Rattle.terminal_rules.specs.declared.event.Event.TheVariants.{Write, Vector, Bit}
 use Rattle.terminal_rules.specs.LookBack.{latest, or_else, since}
-use Rattle.terminal_rules.specs.History.{Noted, Turn, Begins, Sends, Ending, Done, is_gap_on}
+use Rattle.terminal_rules.specs.History.{Noted, Turn, Begins, Sends, Ending, Done, of_start, is_gap_on}
 
 -- the mode code of a cell, own or by broadcast
 abbrev pub code_in : Cell → Option ℕ
@@ -114,12 +114,8 @@ abbrev pub held_now : Description → List Noted → ℕ → ℕ → ℕ
 held_now P h s i = or_else (latest (held_set P s i) (since_reset h)) (P.initial s i)
 
 -- the command of a start
-abbrev pub command_bits : Event → Option ℕ
-command_bits (Word b w) = Some w.bits
-command_bits _ = None
-
 abbrev pub start_bits : Noted → Option ℕ
-start_bits p = if p.starts then command_bits p.event else None
+start_bits p = of_start (λ b w. w.bits) p
 
 abbrev pub is_last_command_code : Option Cell → Bool
 is_last_command_code (Some (OwnMode code)) = code == mode.last_command

@@ -16,14 +16,14 @@ use Rattle.terminal_rules.specs.declared.event.Event.{Event}
 use Rattle.terminal_rules.specs.declared.event.Event.TheVariants.{Word, Noise, Gap, Write, Vector, Bit, Flag as FlagIs, Slot}
 use Rattle.terminal_rules.specs.declared.event.Flag.TheVariants.{Busy}
 use Rattle.terminal_rules.specs.LookBack.{latest}
-use Rattle.terminal_rules.specs.History.{Noted, Ending, Nothing, Badly, Illegal, Blocked, Done}
+use Rattle.terminal_rules.specs.History.{Noted, Ending, Nothing, Badly, Illegal, Blocked, Done, of_word}
 use Rattle.terminal_rules.specs.Open.{Open, Closed, First, Waiting, Second, open_now, transfer, status_at}
 use Rattle.terminal_rules.specs.Starts.{is_for, heard_now, is_free, is_fresh_broadcast, starts_message, starts_now, is_meant}
 use Rattle.terminal_rules.specs.Flags.{flag_now}
 use Rattle.terminal_rules.specs.Ends.{verdict, complete, is_blocked_by_busy, ends_with, at_gap, at_entry, unless_ignored, ends_now}
 use Rattle.terminal_rules.specs.Reply.{replies_on}
 use Rattle.terminal_rules.specs.Past.{past}
-use Rattle.terminal_rules.specs.OpenLaws.{start_in, start_of, command_open}
+use Rattle.terminal_rules.specs.OpenLaws.{start_of, command_open}
 use Rattle.terminal_rules.proofs.CellLaw.{none_or_allowed, cell_of-allowed}
 use Rattle.terminal_rules.proofs.LatestLaw.{latest_start_law}
 
@@ -85,7 +85,7 @@ start_meant P (e ∷ h) b c i = by_start e (starts_now P (past P h) e) refl i (s
     bits (Some p) = p.1
 
     by_start : (e : Event) (s : Bool) → starts_now P (past P h) e ≡ s →
-        (elim (if s then start_in e else None) as (λ m. Option (Bus × ℕ)) [ None ↦ latest start_of (past P h) | Some y ↦ Some y ]) ≡ Some (b, c) →
+        (elim (if s then of_word {X = Bus × ℕ} (λ b w. (b, w.bits)) e else None) as (λ m. Option (Bus × ℕ)) [ None ↦ latest start_of (past P h) | Some y ↦ Some y ]) ≡ Some (b, c) →
         (latest start_of (past P h) ≡ Some (b, c) → is_meant P c ≡ true) → is_meant P c ≡ true
     by_start e false s i before = before i
     by_start (Word d w) true s i before =

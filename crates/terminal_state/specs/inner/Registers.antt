@@ -13,9 +13,9 @@ use Rattle.terminal_state.specs.declared.registers.Flags.{Flags}
 use Rattle.terminal_state.specs.declared.registers.Registers.{Registers}
 use Rattle.terminal_rules.specs.Buses.{same_bus}
 use Rattle.terminal_rules.specs.LookBack.{or_else}
-use Rattle.terminal_rules.specs.History.{Noted, Ending, Nothing, Badly, Illegal, Blocked, Done, is_gap_on}
+use Rattle.terminal_rules.specs.History.{Noted, Ending, Nothing, Badly, Illegal, Blocked, Done, of_word, is_gap_on}
 use Rattle.terminal_rules.specs.Flags.{flag_set, flag_now}
-use Rattle.terminal_rules.specs.SinceReset.{switched, done_code, inhibited_now, off_now, vector_set, vector_now, bit_set, bit_now, command_bits, recorded_by, last_now}
+use Rattle.terminal_rules.specs.SinceReset.{switched, done_code, inhibited_now, off_now, vector_set, vector_now, bit_set, bit_now, recorded_by, last_now}
 use Rattle.terminal_rules.specs.Status.{no_parts, with_error_if, accepts, inhibited_after, reports_kept, spares, kept_by_start, start_first, reset_first, adds_error, kept_now}
 use Rattle.terminal_rules.specs.inner.Steps.{kept_after, unless_reset, resets_at_gap}
 
@@ -97,7 +97,7 @@ abbrev pub shuts_by : Bus → Event → Ending → Option Bool
 shuts_by b e x = if is_gap_on b e then None else switched mode.shutdown mode.override_shutdown (done_code x)
 
 abbrev pub started_bits : Event → Bool → Option ℕ
-started_bits e starts = if starts then command_bits e else None
+started_bits e starts = if starts then of_word (λ b w. w.bits) e else None
 
 -- the registers after a message of command c ended in error, by whether it spares the kept status
 abbrev pub failed : Bool → ℕ → Registers → Registers
