@@ -93,9 +93,15 @@ pub enum Event {
     Slot,
 }
 
-/// A gap on bus A: the event that changes least.
+/// What an array of events holds before it is filled.
 impl Default for Event {
-    fn default() -> Event {
+    ghost use Rattle.bus_word.specs.declared.word.Bus.TheVariants.{A};
+    ghost use Rattle.terminal_rules.specs.declared.event.Event.TheVariants.{Gap};
+
+    /// A gap on bus A.
+    fn default() -> Event
+        ensures { result ≡ Gap A }
+    {
         Event::Gap(Bus::A)
     }
 }
