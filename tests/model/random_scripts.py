@@ -212,7 +212,7 @@ use Rattle.terminal_rules.specs.declared.event.Event.{{Event}}
 use Rattle.terminal_rules.specs.declared.event.Event.TheVariants.{{Word, Noise, Vector, Bit, Flag as FlagIs}}
 use Rattle.terminal_rules.specs.declared.event.Flag.TheVariants.{{Service, Busy, Subsystem, Terminal}}
 use Rattle.terminal_rules.specs.Out.{{HandsReceived, HandsSynchronize, HandsSynchronizeWith, HandsSelfTest, HandsBusControl}}
-use Rattle.terminal_rules.specs.Rows.Words.{{five, command, data_word, invalid, write, quiet, gap, gap_hands, idle_slot, slot_status, slot_word, Answers}}
+use Rattle.terminal_rules.specs.WorkedExamples.Words.{{five, command, data_word, invalid, write, quiet, gap, gap_hands, idle_slot, slot_status, slot_word, Answers}}
 
 -- a word of data sync whose parity is wrong
 abbrev invalid_data : Bus → ℕ → Event
