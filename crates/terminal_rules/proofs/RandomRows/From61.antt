@@ -2,23 +2,15 @@
 -- those of a model of docs/terminal.md in another language, and were written by it:
 --
 --     python3 tests/model/random_scripts.py rows 61 120 >crates/terminal_rules/proofs/RandomRows/From61.antt
-use Rattle.std.specs.Prelude.{◌≡◌, refl, ℕ, ◌+◌, ◌*◌, Bool, true, false, not, List, [], ◌∷◌}
-use Rattle.bus_word.specs.declared.word.Bus.{Bus}
+use Rattle.std.specs.Prelude.{◌≡◌, refl, ℕ, ◌+◌, ◌*◌, Bool, true, false, List, [], ◌∷◌}
 use Rattle.bus_word.specs.declared.word.Bus.TheVariants.{A, B}
-use Rattle.bus_word.specs.declared.word.Kind.TheVariants.{Dat}
-use Rattle.bus_word.specs.Word.{valid_word}
 use Rattle.bus_word.specs.declared.cell.Cell.{Cell}
 use Rattle.bus_word.specs.declared.cell.Cell.TheVariants.{OwnReceive, OwnTransmit, BroadReceive, OwnMode, BroadMode}
 use Rattle.bus_legal.specs.Description.{Description}
-use Rattle.terminal_rules.specs.declared.event.Event.{Event}
-use Rattle.terminal_rules.specs.declared.event.Event.TheVariants.{Word, Noise, Vector, Bit, Flag as FlagIs}
+use Rattle.terminal_rules.specs.declared.event.Event.TheVariants.{Noise, Vector, Bit, Flag as FlagIs}
 use Rattle.terminal_rules.specs.declared.event.Flag.TheVariants.{Service, Busy, Subsystem, Terminal}
 use Rattle.terminal_rules.specs.Out.{HandsReceived, HandsSynchronize, HandsSynchronizeWith, HandsSelfTest, HandsBusControl}
-use Rattle.terminal_rules.specs.WorkedExamples.Words.{five, command, data_word, invalid, write, quiet, gap, gap_hands, idle_slot, slot_status, slot_word, Answers}
-
--- a word of data sync whose parity is wrong
-abbrev invalid_data : Bus → ℕ → Event
-invalid_data b bits = Word b (record (valid_word Dat bits) { parity = not (valid_word Dat bits).parity })
+use Rattle.terminal_rules.specs.WorkedExamples.Words.{five, command, data_word, invalid, invalid_data, write, quiet, gap, gap_hands, idle_slot, slot_status, slot_word, Answers}
 
 -- Address 5: the broadcast option, the wraparound subaddress, acceptance of bus control, and legal cells. Word i of
 -- subaddress s is 256 * s + i at power-up.
