@@ -162,7 +162,7 @@ fn asked_words(rt: HostRuntime) -> Result<(), Fail> {
     expect(rt.alloc(), &shape, &other, &asked)
 }
 
-/// The row `wraparound-reached`, and wraparound that only a broadcast shows.
+/// The row `wraparound-reached`.
 #[test]
 fn wraparound(rt: HostRuntime) -> Result<(), Fail> {
     let wraps = Shape {
@@ -185,7 +185,12 @@ fn wraparound(rt: HostRuntime) -> Result<(), Fail> {
         SLOT,
         SLOT,
     ];
-    expect(rt.alloc(), &wraps, &other, &shown)?;
+    expect(rt.alloc(), &wraps, &other, &shown)
+}
+
+/// Wraparound that only a broadcast shows.
+#[test]
+fn wraparound_by_broadcast(rt: HostRuntime) -> Result<(), Fail> {
     let hears = Shape {
         transmit: (30, 0x8),
         broadcast_receive: (30, 0x6),

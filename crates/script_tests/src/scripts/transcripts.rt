@@ -10,7 +10,7 @@ fn gives(rt: &impl Abort, script: &str, events: u64, transcript: &str) {
 }
 
 #[test]
-fn thirty_two_words_are_sent(rt: HostRuntime) {
+fn thirty_two_words_are_sent_on_bus_a(rt: HostRuntime) {
     gives(
         &rt,
         "write 04 01 001f\nwrite 04 02 0860\nwrite 04 03 10a1\nwrite 04 04 18e2\n\
@@ -33,6 +33,10 @@ fn thirty_two_words_are_sent(rt: HostRuntime) {
         A d a533\nA d ad74\nA d b5b5\nA d bdf6\nA d c637\nA d ce78\nA d d6b9\n\
         A d defa\nA d e73b\nA d ef7c\nA d f7bd\nA d fffe\n",
     );
+}
+
+#[test]
+fn thirty_two_words_are_sent_on_bus_b(rt: HostRuntime) {
     gives(
         &rt,
         "write 04 01 001f\nwrite 04 02 0860\nwrite 04 03 10a1\nwrite 04 04 18e2\n\
