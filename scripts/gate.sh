@@ -1,6 +1,6 @@
 #!/usr/bin/env bash
 # The gate: every proof, test and program from nothing, then the must-fail edits, then the built program from
-# end to end. The last line, 'N passed, M failed', adds the counts of the three.
+# end to end, and the sessions of the pages. The last line, 'N passed, M failed', adds the counts of the four.
 set -uo pipefail
 cd "$(dirname "$0")/.." || exit 1
 work=$(mktemp -d) || exit 1
@@ -34,6 +34,7 @@ part proved
 if [[ $failed -eq 0 ]]; then
     part python3 scripts/must-fail.py "$built"
     part bash scripts/end-to-end.sh "$built"
+    part python3 scripts/sessions.py "$built/crates/rt1553_program/out/rt1553_program"
 fi
 echo "$passed passed, $failed failed"
 [[ $failed -eq 0 && $passed -gt 0 ]]
