@@ -11,7 +11,7 @@ build:
 install: build
 	install -D bin/rt1553 $(DESTDIR)$(PREFIX)/bin/rt1553
 
-# the gate: proofs from nothing, tests, must-fail edits, the program from end to end
+# the gate: proofs from nothing, tests, must-fail edits, the program from end to end, the sessions of the pages
 test:
 	bash scripts/gate.sh
 
