@@ -22,14 +22,8 @@ pub fn compare(alloc: Global, first: &[u8], second: &[u8]) -> Result<Verdict, Lo
     ensures ok { IfOk result (IsRight first.now second.now) }
     ensures refused { IfErr result (IsNotCompared first.now second.now) }
 {
-    let p = match load(alloc, first) {
-        Ok(p) => p,
-        Err(fault) => return Err(fault),
-    };
-    let q = match load(alloc, second) {
-        Ok(q) => q,
-        Err(fault) => return Err(fault),
-    };
+    let p = load(alloc, first)?;
+    let q = load(alloc, second)?;
     match distinguish(&p, &q) {
         None => Ok(Verdict::Same),
         Some(script) => Ok(Verdict::Differ(script)),

@@ -27,10 +27,7 @@ fn run_normal<R: Source, W: Sink>(
 {
     let setup = normal.setup();
     let mut terminal = Terminal::power_up(setup, normal);
-    match run_script(&mut terminal, reader, writer) {
-        Ok(events) => Ok(events),
-        Err(fault) => Err(fault),
-    }
+    run_script(&mut terminal, reader, writer)
 }
 
 /// Runs a profile over a script and writes the transcript: for each event what the terminal sends and hands
@@ -60,12 +57,6 @@ pub fn run<R: Source, W: Sink>(
     ensures read_failed { IsErrOf result (EngineFault.Script RunFault.Read) → R.has_failed reader.new ≡ true }
     ensures write_failed { IsErrOf result (EngineFault.Script RunFault.Write) → W.has_failed writer.new ≡ true }
 {
-    let normal = match load(alloc, profile) {
-        Ok(normal) => normal,
-        Err(fault) => return Err(EngineFault::Load(fault)),
-    };
-    match run_normal(normal, reader, writer) {
-        Ok(events) => Ok(events),
-        Err(fault) => Err(EngineFault::Script(fault)),
-    }
+    let normal = load(alloc, profile).map_err(EngineFault::Load)?;
+    run_normal(normal, reader, writer).map_err(EngineFault::Script)
 }

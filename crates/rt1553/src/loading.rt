@@ -34,10 +34,8 @@ pub fn load(alloc: Global, text: &[u8]) -> Result<Normal, LoadFault>
             Err(fault) => Err(LoadFault::Canon(fault)),
         };
     }
-    match read_profile(alloc, text) {
-        Ok(profile) => Ok(normalise(&profile)),
-        Err(fault) => Err(LoadFault::from(fault)),
-    }
+    let profile = read_profile(alloc, text)?;
+    Ok(normalise(&profile))
 }
 
 /// The canonical bytes of a profile text or a canonical text.
@@ -45,12 +43,6 @@ pub fn canonical(alloc: Global, text: &[u8]) -> Result<Vec<u8>, LoadFault>
     ensures ok { IfOk result (λ bytes. IsCanon text.now bytes.items) }
     ensures refused { IfErr result (λ fault. (fault ≡ LoadFault.Memory) ⊎ IsNotLoaded text.now fault) }
 {
-    let normal = match load(alloc, text) {
-        Ok(normal) => normal,
-        Err(fault) => return Err(fault),
-    };
-    match write_canon(alloc, &normal) {
-        Ok(bytes) => Ok(bytes),
-        Err(_) => Err(LoadFault::Memory),
-    }
+    let normal = load(alloc, text)?;
+    write_canon(alloc, &normal).map_err(|_| LoadFault::Memory)
 }

@@ -5,10 +5,10 @@ use Rattle.rt1553.proofs.comparison.compare.Goals as goal
 
 pub returns-in-None-clause-ok : goal.returns-in-None-clause-ok
 returns-in-None-clause-ok c =
-    let same : c.in-Ok.p ≡ c.in-Ok-load.q = c.in-None.ensures.same in
-    are_same c.args.first.now c.args.second.now c.in-Ok-load.q c.in-None.ensures.normal_second (subst (Reaches c.args.first.now) same c.in-Ok.ensures.ok) c.in-Ok-load.ensures.ok
+    let same : c.in_ok-p.p ≡ c.in_ok-q.q = c.in-None.ensures.same in
+    are_same c.args.first.now c.args.second.now c.in_ok-q.q c.in-None.ensures.normal_second (subst (Reaches c.args.first.now) same c.in_ok-p.ensures.ok) c.in_ok-q.ensures.ok
 
 pub returns-in-Some-clause-ok : goal.returns-in-Some-clause-ok
 returns-in-Some-clause-ok c =
-    are_different c.args.first.now c.args.second.now c.in-Ok.p c.in-Ok-load.q c.in-Some.script.items c.in-Some.ensures.normal_first c.in-Some.ensures.normal_second
-    c.in-Ok.ensures.ok c.in-Ok-load.ensures.ok c.in-Some.ensures.first c.in-Some.ensures.apart
+    are_different c.args.first.now c.args.second.now c.in_ok-p.p c.in_ok-q.q c.in-Some.script.items c.in-Some.ensures.normal_first c.in-Some.ensures.normal_second
+    c.in_ok-p.ensures.ok c.in_ok-q.ensures.ok c.in-Some.ensures.first c.in-Some.ensures.apart
