@@ -30,7 +30,7 @@ impl Ended {
         ensures { (ds : List ℕ) → result ≡ done_code (ending_of self.now ds) }
     {
         match self {
-            Ended::Done(_, Cell::OwnMode(code) | Cell::BroadMode(code)) => Some(*code),
+            Ended::Done(_, cell) => code_in(*cell),
             _ => None,
         }
     }
