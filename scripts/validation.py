@@ -1,0 +1,111 @@
+#!/usr/bin/env python3
+"""Plays the validation tests: validation.py PROGRAM
+
+These are the scripts of examples/validation, and the families that tests/validation/generate.py writes. The first line of
+a script names its profile, the second the clauses of the test plan or of the standard that it is for. What
+`PROGRAM run PROFILE SCRIPT` prints is compared with the answers that the script states (docs/script.md). For each clause of
+the plan it is told whether its scripts pass; one without a script fails. The last line is 'N passed, M failed'.
+"""
+
+import pathlib
+import subprocess
+import sys
+import tempfile
+from collections import defaultdict
+from dataclasses import dataclass, field
+
+TOP = pathlib.Path(__file__).resolve().parent.parent
+sys.path.insert(0, str(TOP / "tests/validation"))
+
+import generate  # noqa: E402
+import plan  # noqa: E402
+
+EXAMPLES = TOP / "examples/validation"
+
+
+@dataclass
+class Script:
+    """A script and what it states."""
+
+    path: pathlib.Path
+    profile: str
+    clauses: list
+    cases: int = 1
+    silent: int = 0                                  # gaps and slots that nothing answers
+    answers: list = field(default_factory=list)      # the number of a line, and the answer that it states
+
+
+def read(path):
+    first, second, *lines = path.read_text(encoding="ascii").splitlines()
+    script = Script(path, first.removeprefix("# Profile: "), second.partition(": ")[2].split(", "))
+    for number, line in enumerate(lines, 3):
+        if line.startswith("#> "):
+            script.answers.append((number, line[3:]))
+        elif line.startswith("#+ "):
+            script.answers[-1] = (script.answers[-1][0], script.answers[-1][1] + " " + line[3:])
+        elif line == "slot" or line.endswith(" gap"):
+            script.silent += 1
+    script.silent -= len(script.answers)
+    script.cases = max(1, sum(line.startswith("# Case: ") for line in lines))
+    return script
+
+
+def difference(script, done):
+    """Where what was printed leaves what the script states, or None."""
+    printed = done.stdout.splitlines()
+    for place in range(max(len(script.answers), len(printed))):
+        number, wanted = script.answers[place] if place < len(script.answers) else ("at the end", "nothing")
+        came = printed[place] if place < len(printed) else "nothing"
+        if came != wanted:
+            return f"line {number}: expected `{wanted}`, came `{came}`"
+    if done.returncode or done.stderr:
+        return f"status {done.returncode}: {done.stderr.strip()}"
+    return None
+
+
+def play(program, script, folders):
+    """Plays a script, and gives where it differs."""
+    profile = next(folder / script.profile for folder in folders if (folder / script.profile).exists())
+    done = subprocess.run([program, "run", profile, script.path], stdin=subprocess.DEVNULL, capture_output=True, text=True,
+                          timeout=60, check=False)
+    return difference(script, done)
+
+
+def tell(scripts, failed):
+    """What passes, clause by clause; gives the clauses without a script."""
+    by_clause = defaultdict(list)
+    for script in scripts:
+        for clause in script.clauses:
+            by_clause[clause].append(script)
+    for clause, title in plan.CLAUSES.items():
+        those = by_clause[clause]
+        wrong = sum(script.path in failed for script in those)
+        said = f"{wrong} of {len(those)} scripts FAIL" if wrong or not those else f"passes, scripts {len(those)}"
+        print(f"{clause}: {said}, cases {sum(script.cases for script in those)}: {title}")
+    for clause, why in plan.LEFT_OUT.items():
+        print(f"{clause}: left out: {why}")
+    return [clause for clause in plan.CLAUSES if not by_clause[clause]]
+
+
+def main():
+    program = pathlib.Path(sys.argv[1]).resolve()
+    with tempfile.TemporaryDirectory() as folder:
+        families = pathlib.Path(folder)
+        generate.write(families)
+        paths = [*sorted(EXAMPLES.glob("scripts/*.script")), *sorted(EXAMPLES.glob("choices/*.script")),
+                 *sorted(families.glob("*.script"))]
+        scripts = [read(path) for path in paths]
+        failed = set()
+        for script in scripts:
+            if found := play(program, script, [EXAMPLES / "profiles", families / "profiles"]):
+                failed.add(script.path)
+                print(f"FAIL {script.path.name}: {found}")
+    without = tell(scripts, failed)
+    print(f"{sum(script.cases for script in scripts)} cases: {sum(len(script.answers) for script in scripts)} answers, "
+          f"{sum(script.silent for script in scripts)} gaps and slots without one")
+    print(f"{len(scripts) - len(failed)} passed, {len(failed) + len(without)} failed")
+    sys.exit(len(failed) + len(without) > 0)
+
+
+if __name__ == "__main__":
+    main()
