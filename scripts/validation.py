@@ -37,7 +37,9 @@ class Script:
 
 def read(path):
     first, second, *lines = path.read_text(encoding="ascii").splitlines()
-    script = Script(path, first.removeprefix("# Profile: "), second.partition(": ")[2].split(", "))
+    # what names no clause of the plan names those of the standard
+    clauses = second.removeprefix("# Plan: ").split(", ") if second.startswith("# Plan: ") else []
+    script = Script(path, first.removeprefix("# Profile: "), clauses)
     for number, line in enumerate(lines, 3):
         if line.startswith("#> "):
             script.answers.append((number, line[3:]))
@@ -71,6 +73,13 @@ def play(program, script, folders):
     return difference(script, done)
 
 
+def verdict(scripts, failed):
+    wrong = sum(script.path in failed for script in scripts)
+    if wrong or not scripts:
+        return f"{wrong} of {len(scripts)} scripts FAIL"
+    return f"passes, scripts {len(scripts)}"
+
+
 def tell(scripts, failed):
     """What passes, clause by clause; gives the clauses without a script."""
     by_clause = defaultdict(list)
@@ -79,11 +88,10 @@ def tell(scripts, failed):
             by_clause[clause].append(script)
     for clause, title in plan.CLAUSES.items():
         those = by_clause[clause]
-        wrong = sum(script.path in failed for script in those)
-        said = f"{wrong} of {len(those)} scripts FAIL" if wrong or not those else f"passes, scripts {len(those)}"
-        print(f"{clause}: {said}, cases {sum(script.cases for script in those)}: {title}")
+        print(f"{clause}: {verdict(those, failed)}, cases {sum(script.cases for script in those)}: {title}")
     for clause, why in plan.LEFT_OUT.items():
         print(f"{clause}: left out: {why}")
+    print("the standard, and choices: " + verdict([script for script in scripts if not script.clauses], failed))
     return [clause for clause in plan.CLAUSES if not by_clause[clause]]
 
 
