@@ -1,10 +1,11 @@
 #!/usr/bin/env python3
-"""Plays the validation tests: validation.py PROGRAM
+"""Plays the validation tests: validation.py PROGRAM..
 
 These are the scripts of examples/validation, and the families that tests/validation/generate.py writes. The first line of
 a script names its profile, the second the clauses of the test plan or of the standard that it is for. What
 `PROGRAM run PROFILE SCRIPT` prints is compared with the answers that the script states (docs/script.md). For each clause of
-the plan it is told whether its scripts pass; one without a script fails. The last line is 'N passed, M failed'.
+the plan it is told whether its scripts pass; one without a script fails. The last line is 'N passed, M failed': scripts, over
+all programs.
 """
 
 import pathlib
@@ -95,24 +96,32 @@ def tell(scripts, failed):
     return [clause for clause in plan.CLAUSES if not by_clause[clause]]
 
 
+def compare(program, scripts, folders):
+    """Plays all scripts to a program, tells what differs and what passes, and counts what passed and what failed."""
+    failed = set()
+    print(f"{program.name}:")
+    for script in scripts:
+        if found := play(program, script, folders):
+            failed.add(script.path)
+            print(f"FAIL {script.path.name}: {found}")
+    without = tell(scripts, failed)
+    return len(scripts) - len(failed), len(failed) + len(without)
+
+
 def main():
-    program = pathlib.Path(sys.argv[1]).resolve()
+    programs = [pathlib.Path(name).resolve() for name in sys.argv[1:]]
     with tempfile.TemporaryDirectory() as folder:
         families = pathlib.Path(folder)
         generate.write(families)
         paths = [*sorted(EXAMPLES.glob("scripts/*.script")), *sorted(EXAMPLES.glob("choices/*.script")),
                  *sorted(families.glob("*.script"))]
         scripts = [read(path) for path in paths]
-        failed = set()
-        for script in scripts:
-            if found := play(program, script, [EXAMPLES / "profiles", families / "profiles"]):
-                failed.add(script.path)
-                print(f"FAIL {script.path.name}: {found}")
-    without = tell(scripts, failed)
+        counts = [compare(program, scripts, [EXAMPLES / "profiles", families / "profiles"]) for program in programs]
     print(f"{sum(script.cases for script in scripts)} cases: {sum(len(script.answers) for script in scripts)} answers, "
           f"{sum(script.silent for script in scripts)} gaps and slots without one")
-    print(f"{len(scripts) - len(failed)} passed, {len(failed) + len(without)} failed")
-    sys.exit(len(failed) + len(without) > 0)
+    passed, failed = map(sum, zip(*counts))
+    print(f"{passed} passed, {failed} failed")
+    sys.exit(failed > 0)
 
 
 if __name__ == "__main__":

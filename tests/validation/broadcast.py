@@ -23,13 +23,6 @@ def families():
     yield no_transfer()
 
 
-def variants(script):
-    """Each bus with each mode subaddress: a case of its own."""
-    for bus, subaddress in product(BUSES, MODE_SUBADDRESSES):
-        script.case(f"subaddress {subaddress}, bus {bus}")
-        yield bus, subaddress
-
-
 # ---- 5.2.2.4 broadcast mode commands
 
 
@@ -58,7 +51,7 @@ def each_code(subaddress):
 
 def synchronize_and_self_test():
     script = Script("5.2.2.4_synchronize_and_self_test", "5.2.2.4.1, 5.2.2.4.2", "Broadcast synchronize and initiate self test.")
-    for bus, subaddress in variants(script):
+    for bus, subaddress in script.variants():
         for code, transmits, word, hand in ((1, 1, None, "sync"), (17, 0, 0x0ABC, "sync 0abc"), (3, 1, None, "self-test")):
             script.hears_mode(bus, code, transmits, subaddress, word, hand)
             script.reports(bus, BCR)
@@ -69,7 +62,7 @@ def synchronize_and_self_test():
 
 def shutdown():
     script = Script("5.2.2.4.3_each", "5.2.2.4.3", "Broadcast transmitter shutdown and override: of the other bus.")
-    for bus, subaddress in variants(script):
+    for bus, subaddress in script.variants():
         other = other_bus(bus)
         script.hears_mode(bus, 4, subaddress=subaddress)
         script.reports(bus, BCR)
@@ -88,7 +81,7 @@ def shutdown():
 
 def selected_shutdown():
     script = Script("5.2.2.4.4_each", "5.2.2.4.4", "Broadcast selected transmitter shutdown and override: nothing is shut down.")
-    for bus, subaddress in variants(script):
+    for bus, subaddress in script.variants():
         for code, word in product((20, 21), (0, 1, 0xFFFF)):
             script.hears_mode(bus, code, 0, subaddress, word)
             script.reports(bus, ME | BCR)
@@ -99,7 +92,7 @@ def selected_shutdown():
 
 def terminal_flag():
     script = Script("5.2.2.4.5_each", "5.2.2.4.5", "Broadcast inhibit terminal flag and override.")
-    for bus, subaddress in variants(script):
+    for bus, subaddress in script.variants():
         script.subsystem("flag terminal 1")
         script.good(bus, TF)
         script.hears_mode(bus, 6, subaddress=subaddress)
@@ -114,7 +107,7 @@ def terminal_flag():
 
 def reset():
     script = Script("5.2.2.4.6_each", "5.2.2.4.6", "Broadcast reset: no response, both transmitters are enabled.")
-    for bus, subaddress in variants(script):
+    for bus, subaddress in script.variants():
         for one in (bus, other_bus(bus)):
             script.subsystem("write 03 01 beef")
             script.mode(bus, 4)
@@ -129,7 +122,7 @@ def reset():
 def not_by_broadcast():
     script = Script("5.2.2.4.7_each", "5.2.2.4.7",
                     "Broadcast dynamic bus control, and the other codes that may not be broadcast: nothing sent, nothing done.")
-    for bus, subaddress in variants(script):
+    for bus, subaddress in script.variants():
         for code in (0, 2, 16, 18, 19):
             script.hears_mode(bus, code, subaddress=subaddress)
             script.reports(bus, ME | BCR)

@@ -28,13 +28,6 @@ def families():
 WALKING = [0, 0xFFFF, 0x5555, 0xAAAA] + [1 << bit for bit in range(16)]
 
 
-def variants(script):
-    """Each bus with each mode subaddress: a case of its own."""
-    for bus, subaddress in product(BUSES, MODE_SUBADDRESSES):
-        script.case(f"subaddress {subaddress}, bus {bus}")
-        yield bus, subaddress
-
-
 # ---- 5.2.2.1 optional mode commands
 
 
@@ -42,7 +35,7 @@ def bus_control():
     for profile, status, hand in (("full", DBA, "bus-control"), ("refusing", CS, None), ("notice2", ME, None)):
         what = {DBA: "accepted", CS: "refused", ME: "not implemented"}[status]
         script = Script(f"5.2.2.1.1_{profile}", "5.2.2.1.1", f"Dynamic bus control, {what}.", profile)
-        for bus, subaddress in variants(script):
+        for bus, subaddress in script.variants():
             script.mode(bus, 0, status, subaddress=subaddress, hand=hand)
             script.reports(bus, status)
             script.reports(other_bus(bus), status)
@@ -53,7 +46,7 @@ def bus_control():
 
 def synchronize():
     script = Script("5.2.2.1.2_each", "5.2.2.1.2.1, 5.2.2.1.2.2", "Synchronize, without a word and with each bit of a word.")
-    for bus, subaddress in variants(script):
+    for bus, subaddress in script.variants():
         script.mode(bus, 1, subaddress=subaddress, hand="sync")
         script.reports(bus, CS)
         for word in WALKING:
@@ -64,7 +57,7 @@ def synchronize():
 
 def self_test():
     script = Script("5.2.2.1.3_each", "5.2.2.1.3", "Initiate self test: clear status, handed over; the result comes later.")
-    for bus, subaddress in variants(script):
+    for bus, subaddress in script.variants():
         script.mode(bus, 3, subaddress=subaddress, hand="self-test")
         script.subsystem("bit 00f0", "flag terminal 1")
         script.transmits(bus, 1, 2, TF)
@@ -76,7 +69,7 @@ def self_test():
 
 def bit_word():
     script = Script("5.2.2.1.4_each", "5.2.2.1.4", "Transmit BIT word: the subsystem's, each bit of it.")
-    for bus, subaddress in variants(script):
+    for bus, subaddress in script.variants():
         for word in WALKING:
             script.subsystem(f"bit {word:04x}")
             script.mode(bus, 19, CS, [word], subaddress=subaddress)
@@ -87,7 +80,7 @@ def bit_word():
 def selected_shutdown():
     script = Script("5.2.2.1.5_each", "5.2.2.1.5",
                     "Selected transmitter shutdown and override: for more than two buses. Illegal, and nothing is shut down.")
-    for bus, subaddress in variants(script):
+    for bus, subaddress in script.variants():
         for code in (20, 21):
             for word in (0x0000, 0x0001, 0x0002, 0xFFFF):
                 script.mode(bus, code, ME, transmits=0, subaddress=subaddress, word=word)
@@ -101,7 +94,7 @@ def selected_shutdown():
 
 def terminal_flag():
     script = Script("5.2.2.1.6_each", "5.2.2.1.6", "Inhibit terminal flag and its override; the flag is off while they come.")
-    for bus, subaddress in variants(script):
+    for bus, subaddress in script.variants():
         other = other_bus(bus)
         script.subsystem("flag terminal 1")
         script.good(bus, TF)
@@ -137,7 +130,7 @@ def terminal_flag():
 
 def vector_word():
     script = Script("5.2.2.1.7_each", "5.2.2.1.7", "Transmit vector word: the subsystem's, each bit of it; with service request.")
-    for bus, subaddress in variants(script):
+    for bus, subaddress in script.variants():
         for word in WALKING:
             script.subsystem(f"vector {word:04x}")
             script.mode(bus, 16, CS, [word], subaddress=subaddress)
@@ -152,7 +145,7 @@ def vector_word():
 def last_command():
     script = Script("5.2.2.1.8_each", "5.2.2.1.8",
                     "Transmit last command: the last valid command that isn't itself; it leaves the status.")
-    for bus, subaddress in variants(script):
+    for bus, subaddress in script.variants():
         def last(bus, status, word):
             script.mode(bus, 18, status, [bits_of(word)], subaddress=subaddress)
 

@@ -18,14 +18,6 @@ def families():
     yield wraparound_transfers()
 
 
-def variants(script):
-    """Each mode subaddress on each bus: a case of its own."""
-    for subaddress in MODE_SUBADDRESSES:
-        for bus in BUSES:
-            script.case(f"subaddress {subaddress}, bus {bus}")
-            yield subaddress, bus
-
-
 def legal(script, bus, status=CS):
     """A valid legal message, whichever the profile."""
     subaddress, word = PROFILES[script.profile]
@@ -35,7 +27,7 @@ def legal(script, bus, status=CS):
 def transmit_status(profile):
     script = Script(f"5.2.1.5.1_{profile}", "5.2.1.5.1", "Transmit status word reports the kept status and leaves it.", profile)
     place = PROFILES[profile][0]
-    for subaddress, bus in variants(script):
+    for bus, subaddress in script.variants():
         command, first, second = receive(place, [0x1111, 0x2222])
         legal(script, bus)
         script.message(bus, [command, first, with_wrong_parity(second)], NR)
@@ -53,7 +45,7 @@ def shutdown(profile):
                     "Transmitter shutdown and its override, each for the other bus; a bus that is shut down still receives.",
                     profile)
     place = PROFILES[profile][0]
-    for subaddress, bus in variants(script):
+    for bus, subaddress in script.variants():
         other = other_bus(bus)
 
         def order(bus, code, status=CS, subaddress=subaddress):
@@ -96,7 +88,7 @@ def shutdown(profile):
 def reset(profile):
     script = Script(f"5.2.1.5.3_{profile}", "5.2.1.5.3", "Reset: the status, then both transmitters are enabled.", profile)
     place = PROFILES[profile][0]
-    for subaddress, bus in variants(script):
+    for bus, subaddress in script.variants():
         other = other_bus(bus)
         script.mode(bus, 4, subaddress=subaddress)
         legal(script, other, NR)
@@ -118,7 +110,7 @@ def reset(profile):
 def power_up_state():
     script = Script("5.2.1.5.3_power_up_state", "5.2.1.5.3",
                     "What a reset takes back (4.3.3.5.1.7.9): data words, wrap-around, vector word, BIT word, inhibition.")
-    for subaddress, bus in variants(script):
+    for bus, subaddress in script.variants():
         script.subsystem("write 03 01 beef", "vector 0777", "bit 0888")
         script.receives(bus, 30, [0x4444, 0x5555])
         script.transmits(bus, 3, 2, CS, [0xBEEF, 0x0302])

@@ -7,6 +7,7 @@ Names of answers are those of the plan: CS is a clear status, ME message error i
 """
 
 import textwrap
+from itertools import product
 
 CS, ME, SR, BCR, BUSY, SSF, DBA, TF = 0, 0x400, 0x100, 0x10, 8, 4, 2, 1
 NR = None
@@ -125,6 +126,12 @@ class Script:
     def case(self, title):
         """Begins a case of a family."""
         self.lines += ["", *comment(f"Case: {title}")]
+
+    def variants(self):
+        """Each bus with each subaddress of mode commands: a case of its own."""
+        for bus, subaddress in product(BUSES, MODE_SUBADDRESSES):
+            self.case(f"subaddress {subaddress}, bus {bus}")
+            yield bus, subaddress
 
     def note(self, text):
         self.lines += ["", *comment(text)]
