@@ -57,10 +57,10 @@ def difference(script, done):
     """Where what was printed leaves what the script states, or None."""
     printed = done.stdout.splitlines()
     for place in range(max(len(script.answers), len(printed))):
-        number, wanted = script.answers[place] if place < len(script.answers) else ("at the end", "nothing")
+        number, wanted = script.answers[place] if place < len(script.answers) else (None, "nothing")
         came = printed[place] if place < len(printed) else "nothing"
         if came != wanted:
-            return f"line {number}: expected `{wanted}`, came `{came}`"
+            return f"{f'line {number}' if number else 'at its end'}: expected `{wanted}`, came `{came}`"
     if done.returncode or done.stderr:
         return f"status {done.returncode}: {done.stderr.strip()}"
     return None

@@ -14,7 +14,8 @@ def families():
     yield terminal_flag()
     yield vector_word()
     yield last_command()
-    yield flags()
+    yield flags(busy=False)
+    yield flags(busy=True)
     yield busy_counts()
     yield broadcast_received()
     yield broadcast_transmit()
@@ -192,23 +193,33 @@ def command_to_all(transmits, subaddress, low):
 # ---- 5.2.2.2 status word bits
 
 
-def flags():
-    script = Script("5.2.2.2_flags", "5.2.2.2.1, 5.2.2.2.3, 5.2.2.2.4, 5.2.2.2.5",
-                    "Each of the 16 sets of flags with each kind of message, and the status that is kept.")
-    bits = {"service": SR, "busy": BUSY, "subsystem": SSF, "terminal": TF}
+FLAGS = {"service": SR, "busy": BUSY, "subsystem": SSF, "terminal": TF}
+
+
+def flags(busy):
+    clauses = "5.2.2.2.3" if busy else "5.2.2.2.1, 5.2.2.2.4, 5.2.2.2.5"
+    script = Script(f"5.2.2.2_flags_{'busy' if busy else 'not_busy'}", clauses,
+                    f"Each set of flags {'with' if busy else 'without'} busy, with each kind of message, and the status that is kept.")
     for chosen in product((0, 1), repeat=4):
-        names = [name for name, on in zip(bits, chosen) if on]
-        script.case("flags: " + (", ".join(names) or "none"))
-        for bus in BUSES:
-            script.good(bus)
-            script.subsystem(*(f"flag {name} 1" for name in names))
-            each_kind(script, bus, sum(bits[name] for name in names), "busy" in names)
-            script.subsystem(*(f"flag {name} 0" for name in names))
-            script.note("transmit status word tells the message before it, with the flags of then")
-            script.reports(bus, sum(bits[name] for name in names) | ME)
-            script.good(bus)
-            script.reports(bus, CS)
+        names = [name for name, on in zip(FLAGS, chosen) if on]
+        if busy == ("busy" in names):
+            script.case("flags: " + (", ".join(names) or "none"))
+            for bus in BUSES:
+                set_flags(script, bus, names)
     return script
+
+
+def set_flags(script, bus, names):
+    """Each kind of message while some flags stand, and what is told when they are taken back."""
+    status = sum(FLAGS[name] for name in names)
+    script.good(bus)
+    script.subsystem(*(f"flag {name} 1" for name in names))
+    each_kind(script, bus, status, "busy" in names)
+    script.subsystem(*(f"flag {name} 0" for name in names))
+    script.note("transmit status word tells the message before it, with the flags of then")
+    script.reports(bus, status | ME)
+    script.good(bus)
+    script.reports(bus, CS)
 
 
 def each_kind(script, bus, status, busy):
