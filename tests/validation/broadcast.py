@@ -27,7 +27,8 @@ def families():
 
 
 def each_code(subaddress):
-    script = Script(f"5.2.2.4_mode_{subaddress:02}", "5.2.2.4", f"Each mode code with each T/R, subaddress {subaddress}, to all.")
+    script = Script(f"5.2.2.4_mode_{subaddress:02}", "5.2.2.4",
+                    f"Each mode code with each T/R, subaddress {subaddress}, to all.")
     for transmits, code in product((0, 1), range(32)):
         allowed = (transmits, code) in BROADCAST_MODES
         script.case(f"mode code {code}, T/R {transmits}" + ("" if allowed else ": nothing is done"))
@@ -50,7 +51,8 @@ def each_code(subaddress):
 
 
 def synchronize_and_self_test():
-    script = Script("5.2.2.4_synchronize_and_self_test", "5.2.2.4.1, 5.2.2.4.2", "Broadcast synchronize and initiate self test.")
+    script = Script("5.2.2.4_synchronize_and_self_test", "5.2.2.4.1, 5.2.2.4.2",
+                    "Broadcast synchronize and initiate self test.")
     for bus, subaddress in script.variants():
         for code, transmits, word, hand in ((1, 1, None, "sync"), (17, 0, 0x0ABC, "sync 0abc"), (3, 1, None, "self-test")):
             script.hears_mode(bus, code, transmits, subaddress, word, hand)
@@ -80,7 +82,8 @@ def shutdown():
 
 
 def selected_shutdown():
-    script = Script("5.2.2.4.4_each", "5.2.2.4.4", "Broadcast selected transmitter shutdown and override: nothing is shut down.")
+    script = Script("5.2.2.4.4_each", "5.2.2.4.4",
+                    "Broadcast selected transmitter shutdown and override: nothing is shut down.")
     for bus, subaddress in script.variants():
         for code, word in product((20, 21), (0, 1, 0xFFFF)):
             script.hears_mode(bus, code, 0, subaddress, word)
@@ -165,7 +168,8 @@ def wrong_data(fault):
 
 
 def lengths():
-    script = Script("5.2.2.5.2_each", "5.2.2.5.2", "Broadcast receive with no data word, one too few, one too many; with a gap.")
+    script = Script("5.2.2.5.2_each", "5.2.2.5.2",
+                    "Broadcast receive with no data word, one too few, one too many; with a gap.")
     for subaddress in SUBADDRESSES:
         script.case(f"subaddress {subaddress}")
         for count in COUNTS:
@@ -181,7 +185,8 @@ def lengths():
 
 
 def mode_lengths():
-    script = Script("5.2.2.5.2_mode", "5.2.2.5.2", "Broadcast mode commands with a wrong number of data words: nothing is done.")
+    script = Script("5.2.2.5.2_mode", "5.2.2.5.2",
+                    "Broadcast mode commands with a wrong number of data words: nothing is done.")
     for subaddress in MODE_SUBADDRESSES:
         for transmits, code in sorted(BROADCAST_MODES):
             script.case(f"mode code {code}, subaddress {subaddress}")
@@ -206,7 +211,8 @@ NO_TRANSFER = [
 
 
 def no_transfer():
-    script = Script("5.2.2.5.2_no_transfer", "5.2.2.5.2, 5.2.1.3.5.4", "Commands behind each other that are no transfer (4.3.3.6).")
+    script = Script("5.2.2.5.2_no_transfer", "5.2.2.5.2, 5.2.1.3.5.4",
+                    "Commands behind each other that are no transfer (4.3.3.6).")
     for kept, lists in ((ME | BCR, NO_BROADCAST_TRANSFER), (ME, NO_TRANSFER)):
         for words in lists:
             script.case(", ".join(words))

@@ -88,7 +88,8 @@ def wrong_command_keeps_error(fault):
 
 def wrong_data_word(fault):
     if fault != "sync":
-        yield wrong_data(fault, "data", "A data word with {}, in each position.", lambda words, place: spoil(fault, words, place))
+        yield wrong_data(fault, "data", "A data word with {}, in each position.",
+                         lambda words, place: spoil(fault, words, place))
         return
     # with command sync it is a word to another terminal, to this one or to all, with T/R 0 and 1
     for name, address in (("other", OTHER), ("own", OWN), ("all", ALL)):
@@ -147,7 +148,8 @@ def single_bits():
 
 
 def behind_transmit_command():
-    script = Script("5.2.1.3.5.1_each", "5.2.1.3.5.1", "Data words behind a transmit command: one, two, as many as it asks for.")
+    script = Script("5.2.1.3.5.1_each", "5.2.1.3.5.1",
+                    "Data words behind a transmit command: one, two, as many as it asks for.")
     for subaddress in SUBADDRESSES:
         script.case(f"subaddress {subaddress}")
         for count in COUNTS:

@@ -130,7 +130,8 @@ def terminal_flag():
 
 
 def vector_word():
-    script = Script("5.2.2.1.7_each", "5.2.2.1.7", "Transmit vector word: the subsystem's, each bit of it; with service request.")
+    script = Script("5.2.2.1.7_each", "5.2.2.1.7",
+                    "Transmit vector word: the subsystem's, each bit of it; with service request.")
     for bus, subaddress in script.variants():
         for word in WALKING:
             script.subsystem(f"vector {word:04x}")
@@ -199,7 +200,7 @@ FLAGS = {"service": SR, "busy": BUSY, "subsystem": SSF, "terminal": TF}
 def flags(busy):
     clauses = "5.2.2.2.3" if busy else "5.2.2.2.1, 5.2.2.2.4, 5.2.2.2.5"
     script = Script(f"5.2.2.2_flags_{'busy' if busy else 'not_busy'}", clauses,
-                    f"Each set of flags {'with' if busy else 'without'} busy, with each kind of message, and the status that is kept.")
+                    f"Each set of flags {'with' if busy else 'without'} busy, each kind of message, and the status that is kept.")
     for chosen in product((0, 1), repeat=4):
         names = [name for name, on in zip(FLAGS, chosen) if on]
         if busy == ("busy" in names):
@@ -243,7 +244,8 @@ def each_kind(script, bus, status, busy):
 
 
 def busy_counts():
-    script = Script("5.2.2.2.3_counts", "5.2.2.2.3", "Busy: the status alone, no data sent or used, and none kept for wrap-around.")
+    script = Script("5.2.2.2.3_counts", "5.2.2.2.3",
+                    "Busy: the status alone, no data sent or used, and none kept for wrap-around.")
     for subaddress in SUBADDRESSES:
         script.case(f"subaddress {subaddress}")
         script.subsystem("flag busy 1")
@@ -287,7 +289,7 @@ def broadcast_transmit():
 
 def error_kept():
     script = Script("4.3.3.5.4_error_kept", "4.3.3.5.4",
-                    "Message error is kept over transmit status word and transmit last command, and cleared by each other command.")
+                    "Message error is kept over transmit status word and last command, and cleared by each other command.")
     clears = {
         "transmit": lambda bus: script.good(bus),
         "receive": lambda bus: script.receives(bus, 3, [1]),
@@ -383,7 +385,8 @@ def illegal_transfers():
 
 
 def illegal_busy():
-    script = Script("5.2.2.3_busy", "5.2.2.3, 5.2.2.2.3", "Illegal commands while busy: message error with busy, no data.", "partly")
+    script = Script("5.2.2.3_busy", "5.2.2.3, 5.2.2.2.3",
+                    "Illegal commands while busy: message error with busy, no data.", "partly")
     for bus in BUSES:
         script.case(f"bus {bus}")
         script.subsystem("flag busy 1")

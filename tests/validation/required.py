@@ -176,7 +176,8 @@ def wraparound_patterns(profile):
 
 
 def wraparound_transfers():
-    script = Script("5.2.1.6_transfers", "5.2.1.6", "Wrap-around with transfers in and out: no distinction between them (30.8).")
+    script = Script("5.2.1.6_transfers", "5.2.1.6",
+                    "Wrap-around with transfers in and out: no distinction between them (30.8).")
     for count in COUNTS:
         script.case(f"{count} words")
         for bus in BUSES:

@@ -84,7 +84,8 @@ def required_codes_alone():
 
 def no_broadcast():
     script = Script("5.2.1.1.1_no_broadcast", "5.2.1.1.1",
-                    "Broadcast commands to a terminal without the option: not for it, and the kept status stays.", "no_broadcast")
+                    "Broadcast commands to a terminal without the option: not for it, and the kept status stays.",
+                    "no_broadcast")
     script.case("message error is kept over all of them")
     script.message("A", receive(1, [], 2), NR)
     for transmits in (0, 1):

@@ -107,7 +107,8 @@ def broadcast_errors():
 
 
 def in_time():
-    script = Script("5.2.1.7_in_time", "5.2.1.7", "RT-RT, receiver: the answer comes in time, whatever else its status says (30.9).")
+    script = Script("5.2.1.7_in_time", "5.2.1.7",
+                    "RT-RT, receiver: the answer comes in time, whatever else its status says (30.9).")
     for bits in (0, TF, SSF, SR, SR | SSF | TF):
         script.case(f"status bits {bits:04x}")
         for bus in BUSES:
@@ -131,7 +132,8 @@ def no_transfers():
 
 def second_to_all():
     script = Script("5.2.1.7_second_to_all", "5.2.1.7",
-                    "Without the broadcast option: the transmit command has address 31, and so has what answers.", "no_broadcast")
+                    "Without the broadcast option: the transmit command has address 31, and so has what answers.",
+                    "no_broadcast")
     for bus in BUSES:
         script.case(f"bus {bus}")
         script.good(bus)
