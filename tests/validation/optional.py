@@ -200,7 +200,7 @@ FLAGS = {"service": SR, "busy": BUSY, "subsystem": SSF, "terminal": TF}
 def flags(busy):
     clauses = "5.2.2.2.3" if busy else "5.2.2.2.1, 5.2.2.2.4, 5.2.2.2.5"
     script = Script(f"5.2.2.2_flags_{'busy' if busy else 'not_busy'}", clauses,
-                    f"Each set of flags {'with' if busy else 'without'} busy, each kind of message, and the status that is kept.")
+                    f"Each set of flags {'with' if busy else 'without'} busy, each kind of message, and what is kept.")
     for chosen in product((0, 1), repeat=4):
         names = [name for name, on in zip(FLAGS, chosen) if on]
         if busy == ("busy" in names):
