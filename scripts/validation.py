@@ -37,17 +37,23 @@ class Script:
 
 
 def read(path):
+    """A script of a file. What is handed over is stated behind a gap, and a word that is sent behind a slot."""
     first, second, *lines = path.read_text(encoding="ascii").splitlines()
     # what names no clause of the plan names those of the standard
     clauses = second.removeprefix("# Plan: ").split(", ") if second.startswith("# Plan: ") else []
     script = Script(path, first.removeprefix("# Profile: "), clauses)
+    event = ""
     for number, line in enumerate(lines, 3):
         if line.startswith("#> "):
+            if event[-4:] != (" gap" if line.startswith("#> hand ") else "slot"):
+                raise ValueError(f"{path}: line {number}: not behind the event that it answers")
             script.answers.append((number, line[3:]))
+            event = ""
         elif line.startswith("#+ "):
             script.answers[-1] = (script.answers[-1][0], script.answers[-1][1] + " " + line[3:])
-        elif line == "slot" or line.endswith(" gap"):
-            script.silent += 1
+        elif line and not line.startswith("#"):
+            event = line
+            script.silent += line == "slot" or line.endswith(" gap")
     script.silent -= len(script.answers)
     script.cases = max(1, sum(line.startswith("# Case: ") for line in lines))
     return script
