@@ -18,6 +18,10 @@ An edit that changes more than one body, or a contract, a type or a constant, is
 the last check of many left them: then a function with no wrong body must be refused. An edit that is not
 refused in one of these ways is tried on the crate as it is, and the prover must refuse the crate.
 
+It is a contract that must refuse an edit, and not a proof by hand that names what the edit took away. So a check
+in which answers by hand don't fit their goals is done again without these answers: `search` alone must then find
+no proof.
+
 An edit of a crate's must-not-compile/ is one that the compiler must refuse before the prover is asked: it begins
 with a line `error: NAME`, and the check must tell one error, of that name.
 """
@@ -35,8 +39,8 @@ PARTS = ("src", "specs", "proofs")
 # the first line of a function, and of a block of methods with the type that it is for
 HEAD = re.compile(r"^( *)(?:pub(?:\(\w+\))? )?(?:const )?fn (\w+)", re.M)
 OWNER = re.compile(r"^( *)(?:impl|trait)\b(?:[^\n{]*[ >])?(\w+)(?:<[^\n{]*>)? \{$", re.M)
-# an error which says only that a proof names what the edit took away
-GONE = re.compile("has no field|is not in scope|has no `|was not admitted")
+# an error in an answer by hand: the file, and the answer's name
+UNFIT = re.compile(r"^(?:\./)?(proofs/\S+/Answers\.antt):\d+:\d+: error: `([^`]+)`: ")
 
 
 def read(path):
@@ -117,6 +121,17 @@ def changed_body(texts, folder):
     return None, ""
 
 
+def without_answer(text, name):
+    """A file of answers without the answer of this name; None where no answer is left."""
+    kept, within = [], False
+    for line in text.split("\n"):
+        if line and not line[0].isspace():
+            within = line.startswith((f"pub {name} :", f"{name} "))
+        if not within:
+            kept.append(line)
+    return "\n".join(kept) if any(it.startswith("pub ") for it in kept) else None
+
+
 class Answer:
     """What the prover said of a crate: all its lines, what it said of each function, and its verdict."""
 
@@ -135,8 +150,12 @@ class Answer:
             return ""
         # the errors in the files of its proof say more
         place = "/".join(name.split("::")[1:])
-        errors = [it for it in self.lines if re.match(rf"(\./)?proofs/{place}/[^/]*: error: ", it)]
-        return f"{name}: {next(iter(sorted(errors, key=lambda it: bool(GONE.search(it)))), said)}"
+        errors = (it for it in self.lines if re.match(rf"(\./)?proofs/{place}/[^/]*: error: ", it))
+        return f"{name}: {next(errors, said)}"
+
+    def unfit_answers(self):
+        """The answers by hand that don't fit their goals: the file and the name of each."""
+        return {(it[1], it[2]) for it in map(UNFIT.match, self.lines) if it}
 
     def names(self, functions):
         """How the functions are named here, those for which one name alone fits."""
@@ -194,10 +213,26 @@ class Crate:
             if os.path.isdir(f"{self.folder}/{part}"):
                 shutil.copytree(f"{self.folder}/{part}", f"{place}/{part}")
         for file, text in texts.items():
+            if text is None:
+                os.remove(f"{place}/{file}")
+                continue
             with open(f"{place}/{file}", "w", encoding="utf-8") as it:
                 it.write(text)
         how = {"stdin": subprocess.DEVNULL, "stdout": subprocess.PIPE, "stderr": subprocess.STDOUT, "errors": "replace"}
         return Answer(subprocess.run(self.words(), cwd=place, **how))
+
+    def refused_by_contracts(self, texts):
+        """What the prover says of the crate with these texts, once the answers by hand that don't fit them are gone."""
+        answer, texts = self.checked(texts), dict(texts)
+        while unfit := {it for it in answer.unfit_answers() if texts.get(it[0], "") is not None}:
+            before = dict(texts)
+            for file, name in unfit:
+                text = texts.get(file, "") or read(f"{self.folder}/{file}")
+                texts[file] = without_answer(text, name)
+            if texts == before:
+                break
+            answer = self.checked(texts)
+        return answer
 
     def with_bodies(self, edits):
         """The files with the bodies of these edits, no two of one function."""
@@ -214,7 +249,7 @@ class Crate:
         while left:
             now = {it.function: it for it in reversed(left)}
             wrong.update(now)
-            answer = self.checked(self.with_bodies(wrong.values()))
+            answer = self.refused_by_contracts(self.with_bodies(wrong.values()))
             names = answer.names(wrong)
             others = answer.refused_beside(names.values())
             if others or not answer.is_refused:
@@ -227,13 +262,13 @@ class Crate:
     def tried_in_its_files(self, edit, wrong):
         """What was said of a function that is refused for this edit, where the bodies of other files are wrong; or ''."""
         others = {function: it for function, it in wrong.items() if function.file not in edit.texts}
-        answer = self.checked({**self.with_bodies(others.values()), **edit.texts})
+        answer = self.refused_by_contracts({**self.with_bodies(others.values()), **edit.texts})
         refused = answer.refused_beside(answer.names(others).values())
         return refused[0] if refused and answer.is_refused else ""
 
     def tried_alone(self, edit):
         """Whether the prover refuses the crate with the edit alone, and what it said."""
-        answer = self.checked(edit.texts)
+        answer = self.refused_by_contracts(edit.texts)
         said = next((it for it in answer.lines if re.match(r"(note: )?\S+:\d+:\d+:", it)), answer.lines[-1])
         if answer.is_proved:
             return False, "NOT REFUSED: the crate is proved with this edit"

@@ -110,9 +110,9 @@ slot_can is_legal P h t s = ap can_send s.reply ∙ can_send_law P h
 
 -- and it answers a slot so
 pub slot_answers : {L : Type 0} (is_legal : L → Cell → Bool) (P : Description) (h : List Event) (t : Terminal L) → StandsAt is_legal P h t →
-    sending_out (sends_from t.setup.address t.registers (held_word t) (shown_reply t.reply)) ≡ out P h Slot
+    sending_out (sends_from t.settings.address t.registers (held_word t) (shown_reply t.reply)) ≡ out P h Slot
 slot_answers is_legal P h t s =
     ap sending_out
-    (sends_alike t.setup.address t.registers (held_word t) (held_now P (past P h)) (shown_reply t.reply) (slot_can is_legal P h t s) s.held
+    (sends_alike t.settings.address t.registers (held_word t) (held_now P (past P h)) (shown_reply t.reply) (slot_can is_legal P h t s) s.held
     ∙ ((λ j. sends_from (s.description j).address (s.registers j) (held_now P (past P h)) (s.reply j))
     ∙ sends_is P (past P h) (reply_now (past P h))))

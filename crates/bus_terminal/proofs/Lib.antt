@@ -1,2 +1,3 @@
+pub mod TakesLaw
 pub mod StandsLaw
 pub mod AnswerLaw

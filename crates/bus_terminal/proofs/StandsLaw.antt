@@ -27,13 +27,13 @@ use Rattle.terminal_rules.specs.SinceReset.{resets, is_reset, off_now, wrapped, 
 use Rattle.terminal_rules.specs.Status.{spares, adds_error}
 use Rattle.terminal_rules.specs.Past.{note, past}
 use Rattle.terminal_state.specs.inner.Standing.{Standing, Idle, Collects, Words, standing_of, word_leaves, entry_leaves, entry_fails, fails, gap_leaves, gap_ends, stands_free, starts_by}
-use Rattle.terminal_state.specs.inner.Registers.{registers_now, registers_after, flags_after, failed_by, started_if, settled, reset_to}
+use Rattle.terminal_state.specs.inner.Registers.{registers_now, registers_after, flags_after, failed_by, started_if, settled, reset_if}
 use Rattle.terminal_rules.specs.inner.Steps.{unless_reset, resets_at_gap, sent_one, resets_next, begun_if, dropped_if}
 use Rattle.terminal_state.specs.inner.Replies.{shown_reply}
 use Rattle.terminal_state.specs.inner.Buses.{on_bus, with_bus}
 use Rattle.terminal_state.specs.inner.Message.{standing_on}
 use Rattle.terminal_state.specs.inner.Held.{word_in}
-use Rattle.bus_terminal.specs.Stands.{StandsAt, heard_on_buses}
+use Rattle.bus_terminal.specs.Stands.{StandsAt, description_of, heard_on_buses}
 use Rattle.bus_terminal.specs.inner.Terminal.{heard_after_word, ends_at_gap, begins_at_gap, TakesWord, TakesNoise, TakesGap, TakesSlot, TakesWrite}
 use Rattle.terminal_rules.proofs.OpenLaw.{word_law, noise_law, gap_law, slot_law, after_word, after_gap, after_entry, unheard}
 use Rattle.terminal_state.proofs.CollectedLaw.{gap_ends_law, gap_leaves_law, entry_leaves_law, entry_ends_law, free_law, fresh_law}
@@ -177,7 +177,7 @@ registers_noise P h b e =
     ∙ registers_noise_law P (entry_fails None (standing_of P (open_now P h b))) b (registers_now P h)))
 
 abbrev settled_for : Description → Bus → Bool → Ending → Registers → Registers
-settled_for P b begins x r = settled P.accept (adds_error P x) P.vector P.bit b begins x r
+settled_for P b begins x r = settled P.accept (adds_error P x) b begins x r
 
 registers_gap : (P : Description) (h : List Noted) (b : Bus) → replies_on h b ≡ false →
     registers_now P (note P h (Gap b) ∷ h) ≡ settled_for P b (begins_by P h b) (gap_by P h b) (registers_now P h)
@@ -273,7 +273,7 @@ word_stands is_legal P h b w t u i s k =
           ∙ (same₄ (λ D k l r. dropped_if (starts_by D w (on_bus b k) l) r) s.description s.heard (s.standing b) s.reply
           ∙ sym (reply_word P (past P h) b w e));
       held = λ m i low high first last.
-          (λ j. word_in (k.setup.initial j) (k.held j) m i)
+          (λ j. word_in (k.held j) m i)
           ∙ (s.held m i low high first last ∙ sym (held_word_law P (past P h) b w m i e));
     }
 
@@ -294,7 +294,7 @@ noise_stands is_legal P h b t u i s k =
           ∙ sym (registers_noise P (past P h) b e));
       reply = ap shown_reply k.reply ∙ (s.reply ∙ sym (reply_noise P (past P h) b e));
       held = λ m i low high first last.
-          (λ j. word_in (k.setup.initial j) (k.held j) m i)
+          (λ j. word_in (k.held j) m i)
           ∙ (s.held m i low high first last ∙ sym (held_noise_law P (past P h) b m i e));
     }
 
@@ -330,11 +330,11 @@ heard_slot : (P : Description) (h : List Noted) (r : Option Replying) → heard_
 heard_slot P h None = refl
 heard_slot P h (Some r) = refl
 
-registers_slot : (P : Description) (h : List Noted) → registers_now P (note P h Slot ∷ h) ≡ reset_to P.vector P.bit (resets_next (reply_now h)) (registers_now P h)
+registers_slot : (P : Description) (h : List Noted) → registers_now P (note P h Slot ∷ h) ≡ reset_if (resets_next (reply_now h)) (registers_now P h)
 registers_slot P h =
     registers_law P (note P h Slot) h
     ∙ (registers_slot_law P (is_reset (note P h Slot)) (registers_now P h)
-    ∙ ap (λ k. reset_to P.vector P.bit k (registers_now P h)) (slot_resets (reply_now h)))
+    ∙ ap (λ k. reset_if k (registers_now P h)) (slot_resets (reply_now h)))
 
 held_slot_law : (P : Description) (h : List Noted) (s i : ℕ) → held_now P (note P h Slot ∷ h) s i ≡ (if resets_next (reply_now h) then P.initial s i else held_now P h s i)
 held_slot_law P h s i = held_step P s i (note P h Slot) h ∙ ap (λ k. if k then P.initial s i else held_now P h s i) (slot_resets (reply_now h))
@@ -344,7 +344,7 @@ slot_stands is_legal P h t u s k = record {
   description = k.setup.description ∙ s.description;
   heard = k.heard ∙ (s.heard ∙ sym (heard_slot P (past P h) (reply_now (past P h))));
   standing = λ c. ap (standing_on c) k.in_progress ∙ (s.standing c ∙ ap (standing_of P) (sym (slot_law P (past P h) c (reply_now (past P h)) Nothing)));
-  registers = k.registers ∙ ((λ j. reset_to (s.description j).vector (s.description j).bit (resets_next (s.reply j)) (s.registers j)) ∙ sym (registers_slot P (past P h)));
+  registers = k.registers ∙ ((λ j. reset_if (resets_next (s.reply j)) (s.registers j)) ∙ sym (registers_slot P (past P h)));
   reply = k.reply ∙ (ap sent_one s.reply ∙ sym (reply_slot_law (past P h) (reply_now (past P h)) Nothing));
   held = λ m i low high first last.
       k.held m i low high first last
@@ -386,9 +386,10 @@ setting_stands : {L : Type 0} (is_legal : L → Cell → Bool) (P : Description)
     ((s i : ℕ) → held_now P (note P (past P h) e ∷ past P h) s i ≡ held_now P (past P h) s i) →
     reply_now (note P (past P h) e ∷ past P h) ≡ reply_now (past P h) →
     registers_now P (note P (past P h) e ∷ past P h) ≡ r →
+    r.power_up ≡ t.registers.power_up →
     StandsAt is_legal P h t → StandsAt is_legal P (e ∷ h) (record t { registers = r })
-setting_stands is_legal P h e t r stays heard held reply registers s = record {
-  description = s.description;
+setting_stands is_legal P h e t r stays heard held reply registers power_up s = record {
+  description = (λ j. record (description_of is_legal t) { vector = (power_up j).vector; bit = (power_up j).bit }) ∙ s.description;
   heard = s.heard ∙ sym heard;
   standing = λ c. s.standing c ∙ ap (standing_of P) (sym (stays c));
   registers = sym registers;
@@ -400,13 +401,13 @@ pub vector_stands : {L : Type 0} (is_legal : L → Cell → Bool) (P : Descripti
     StandsAt is_legal P h t → StandsAt is_legal P (Vector v ∷ h) (record t { registers = record t.registers { vector = v } })
 vector_stands is_legal P h v t s =
     setting_stands is_legal P h (Vector v) t (record t.registers { vector = v }) (λ b. refl) refl (λ m i. refl) (still_vector (past P h) v)
-    (registers_law P (note P (past P h) (Vector v)) (past P h) ∙ ap (λ (r : Registers). record r { vector = v }) (sym s.registers)) s
+    (registers_law P (note P (past P h) (Vector v)) (past P h) ∙ ap (λ (r : Registers). record r { vector = v }) (sym s.registers)) refl s
 
 pub bit_stands : {L : Type 0} (is_legal : L → Cell → Bool) (P : Description) (h : List Event) (v : ℕ) (t : Terminal L) →
     StandsAt is_legal P h t → StandsAt is_legal P (Bit v ∷ h) (record t { registers = record t.registers { bit = v } })
 bit_stands is_legal P h v t s =
     setting_stands is_legal P h (Bit v) t (record t.registers { bit = v }) (λ b. refl) refl (λ m i. refl) (still_bit (past P h) v)
-    (registers_law P (note P (past P h) (Bit v)) (past P h) ∙ ap (λ (r : Registers). record r { bit = v }) (sym s.registers)) s
+    (registers_law P (note P (past P h) (Bit v)) (past P h) ∙ ap (λ (r : Registers). record r { bit = v }) (sym s.registers)) refl s
 
 pub flag_stands : {L : Type 0} (is_legal : L → Cell → Bool) (P : Description) (h : List Event) (f : Flag) (v : Bool) (t : Terminal L) (k : Flags) →
     k ≡ flags_after (FlagIs f v) t.registers.flags →
@@ -415,7 +416,7 @@ flag_stands is_legal P h f v t k e s =
     setting_stands is_legal P h (FlagIs f v) t (record t.registers { flags = k }) (λ b. refl) refl (λ m i. refl) (still_flag (past P h) f v)
     (registers_law P (note P (past P h) (FlagIs f v)) (past P h)
     ∙ (ap (λ (r : Registers). record r { flags = flags_after (FlagIs f v) r.flags }) (sym s.registers)
-    ∙ ap (λ (k : Flags). record t.registers { flags = k }) (sym e))) s
+    ∙ ap (λ (k : Flags). record t.registers { flags = k }) (sym e))) refl s
 
 -- What is ignored changes nothing.
 registers_ignored_gap : (P : Description) (b : Bus) (h : List Noted) → registers_now P (noted_as (Gap b) Ignored false Nothing ∷ h) ≡ registers_now P h
@@ -457,7 +458,7 @@ unchanged is_legal P h e n t q stays heard held reply registers s =
     (ap (λ n. heard_on_buses P (n ∷ past P h)) q ∙ heard)
     (λ m i. ap (λ n. held_now P (n ∷ past P h) m i) q ∙ held m i)
     (ap (λ n. reply_now (n ∷ past P h)) q ∙ reply)
-    (ap (λ n. registers_now P (n ∷ past P h)) q ∙ (registers ∙ sym s.registers)) s
+    (ap (λ n. registers_now P (n ∷ past P h)) q ∙ (registers ∙ sym s.registers)) refl s
 
 pub ignored_stands : {L : Type 0} (is_legal : L → Cell → Bool) (P : Description) (h : List Event) (e : Event) (t : Terminal L) → ignores (shown_reply t.reply) e ≡ true →
     StandsAt is_legal P h t → StandsAt is_legal P (e ∷ h) t

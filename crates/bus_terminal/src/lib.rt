@@ -3,6 +3,7 @@
 #![tactic(auto)]
 
 mod answer;
+mod settings;
 mod terminal;
 
 pub use answer::{Answer, Hand, Sent};

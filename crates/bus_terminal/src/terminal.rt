@@ -5,6 +5,7 @@ ghost use Rattle.std.specs.Io.BufRead.{Rests};
 mod answers;
 
 use crate::answer::{Answer, Sent};
+use crate::settings::Settings;
 use bus_legal::{Legality, Setup};
 use bus_word::{Bus, Command, Raw, StatusParts, cell_of};
 use terminal_rules::{Event, WordPlace};
@@ -13,11 +14,11 @@ use terminal_state::{
     verdict_of,
 };
 
-/// A remote terminal, with its set-up and what answers whether a cell is legal. It stores no history: it
-/// keeps what of its history still matters.
+/// A remote terminal, with what answers whether a cell is legal. It stores no history: it keeps what of its
+/// history still matters.
 #[derive(Drop)]
 pub struct Terminal<L> {
-    setup: Setup,
+    settings: Settings,
     legality: L,
     /// On which buses the run holds a word for the terminal.
     heard: OnBuses,
@@ -28,8 +29,7 @@ pub struct Terminal<L> {
 }
 
 impl<L: Legality> Terminal<L> {
-    ghost use Rattle.std.specs.Prelude.{◌≡◌, true, false, ℕ, None, List, [], ◌∷◌, if◌then◌else◌};
-    ghost use Rattle.bus_word.specs.declared.word.Bus.{Bus};
+    ghost use Rattle.std.specs.Prelude.{◌≡◌, true, false, ℕ, List, [], ◌∷◌};
     ghost use Rattle.bus_legal.specs.Description.{Description, described};
     ghost use Rattle.terminal_rules.specs.declared.event.Event.{Event};
     ghost use Rattle.terminal_rules.specs.Ends.{well};
@@ -39,30 +39,34 @@ impl<L: Legality> Terminal<L> {
     ghost use Rattle.terminal_rules.specs.Turn.{is_answered};
     ghost use Rattle.terminal_rules.specs.Out.{out};
     ghost use Rattle.terminal_state.specs.inner.Replies.{shown_reply, can_send};
-    ghost use Rattle.terminal_rules.specs.Buses.{same_bus};
-    ghost use Rattle.terminal_state.specs.inner.Standing.{gap_ends, starts_by, Collects, Words, Idle};
+    ghost use Rattle.terminal_state.specs.inner.Standing.{gap_ends, starts_by};
     ghost use Rattle.terminal_state.specs.inner.Message.{standing_on};
     ghost use Rattle.terminal_state.specs.inner.Ended.{ending_of};
-    ghost use Rattle.terminal_state.specs.inner.Registers.{status_from, failed_by, started};
+    ghost use Rattle.terminal_state.specs.inner.Registers.{status_from, failed_by};
     ghost use Rattle.terminal_state.specs.inner.Buses.{on_bus};
     ghost use Rattle.bus_terminal.specs.Answer.{shown_answer, IsSmall};
     ghost use Rattle.bus_terminal.specs.inner.Answer.{shown_sent};
     ghost use Rattle.bus_terminal.specs.Stands.{StandsAt, description_of, held_word};
     ghost use Rattle.bus_terminal.specs.contracts.terminal.Terminal.{the_row};
-    ghost use Rattle.bus_terminal.specs.inner.Terminal.{sends_from, heard_after_word, ends_at_gap, begins_at_gap, IsSameSetup, TakesWord, TakesNoise, TakesGap, TakesSlot, TakesWrite};
+    ghost use Rattle.bus_terminal.specs.inner.Terminal.{sends_from, heard_after_word, ends_at_gap, begins_at_gap, TakesStart, TakesWord, TakesNoise, TakesGap, TakesSlot, TakesWrite};
 
     /// The terminal at power-up.
     pub fn power_up(setup: Setup, legality: L) -> Terminal<L>
         ensures { StandsAt L.is_legal (described setup (L.is_legal legality)) [] result }
     {
         Terminal {
-            registers: Registers::at_power_up(setup.vector, setup.bit),
-            setup,
+            settings: Settings {
+                address: setup.address,
+                broadcast: setup.broadcast,
+                wrap: setup.wrap,
+                accept: setup.accept,
+            },
             legality,
             heard: OnBuses::NONE,
             in_progress: InProgress::none(),
+            registers: Registers::at_power_up(setup.vector, setup.bit),
             reply: None,
-            held: HeldWords::at_power_up(),
+            held: HeldWords::at_power_up(setup.initial),
         }
     }
 
@@ -129,12 +133,8 @@ impl<L: Legality> Terminal<L> {
     fn write(&mut self, place: WordPlace, value: u16)
         ensures { TakesWrite L.is_legal place value self.old self.new }
     {
-        self.held.write(
-            &self.setup.initial,
-            place.subaddress(),
-            place.number(),
-            value,
-        );
+        self.held
+            .write(place.subaddress(), place.number(), value);
     }
 
     /// Whether a command is a legal own mode code 2 or 18, which spares the kept status.
@@ -176,11 +176,11 @@ impl<L: Legality> Terminal<L> {
         ensures { result ≡ starts_by (description_of L.is_legal self.now) word (on_bus bus self.now.heard) (standing_on bus self.now.in_progress) }
     {
         let command = Command::of(word.bits);
-        word.is_for(self.setup.address, self.setup.broadcast)
+        word.is_for(self.settings.address, self.settings.broadcast)
             && ((!self.heard.on(bus) && self.in_progress.is_free(bus))
                 || (self.in_progress.is_fresh_broadcast(bus)
                     && command.transmit()
-                    && command.address() == self.setup.address))
+                    && command.address() == self.settings.address))
     }
 
     /// Whether a message that ended in error spares the kept status.
@@ -198,24 +198,16 @@ impl<L: Legality> Terminal<L> {
 
     /// A gap on this bus ended a message so, with this status, or ended none.
     fn settle(&mut self, bus: Bus, ended: &Ended, status: Option<StatusParts>)
-        requires { (ds : List ℕ) → status ≡ status_from self.old.setup.accept self.old.registers (ending_of ended.now ds) }
+        requires { (ds : List ℕ) → status ≡ status_from self.old.settings.accept self.old.registers (ending_of ended.now ds) }
         ensures takes { TakesGap L.is_legal bus (is_answered (on_bus bus self.old.registers.off) (ending_of ended.now self.old.in_progress.words.items)) (ending_of ended.now self.old.in_progress.words.items) self.old self.new }
         ensures words { self.new.in_progress.words ≡ self.old.in_progress.words }
     {
         let begins = ended.is_answered(self.registers.off.on(bus));
         let spares = self.fails_sparing(ended);
-        self.registers.settle(
-            bus,
-            ended,
-            status,
-            spares,
-            begins,
-            self.setup.vector,
-            self.setup.bit,
-        );
+        self.registers
+            .settle(bus, ended, status, spares, begins);
         self.held.settle(
-            &self.setup.initial,
-            self.setup.wrap,
+            self.settings.wrap,
             ended.resets_at_gap(begins),
             ended,
             self.in_progress.words.as_slice(),
@@ -237,21 +229,21 @@ impl<L: Legality> Terminal<L> {
         ensures takes { TakesGap L.is_legal bus (begins_at_gap L.is_legal self.old bus) (ends_at_gap L.is_legal self.old bus) self.old self.new }
     {
         let ended = self.end_at_gap(bus);
-        let status = self.registers.status_for(&ended, self.setup.accept);
+        let status = self.registers.status_for(&ended, self.settings.accept);
         self.settle(bus, &ended, status);
         ended
     }
 
     /// Takes a slot: the next word of the reply in progress, which is sent in it.
     fn take_slot(&mut self) -> Option<Sent>
-        ensures sent { can_send (shown_reply self.old.reply) ≡ true → shown_sent result ≡ sends_from self.old.setup.address self.old.registers (held_word self.old) (shown_reply self.old.reply) }
+        ensures sent { can_send (shown_reply self.old.reply) ≡ true → shown_sent result ≡ sends_from self.old.settings.address self.old.registers (held_word self.old) (shown_reply self.old.reply) }
         ensures takes { TakesSlot L.is_legal self.old self.new }
     {
         let reply = self.reply?;
         let sent = self.next_sent(reply);
         self.reply = reply.after_slot();
         if reply.resets() {
-            self.registers.reset(self.setup.vector, self.setup.bit);
+            self.registers.reset();
             self.held.reset();
         }
         Some(sent)
@@ -273,7 +265,7 @@ impl<L: Legality> Terminal<L> {
     {
         let failed = self.in_progress.failed_by(bus, None);
         self.fail(failed);
-        self.in_progress.follow(bus, self.setup.address, None);
+        self.in_progress.follow(bus, self.settings.address, None);
     }
 
     fn take_word(&mut self, bus: Bus, word: Raw)
@@ -286,25 +278,20 @@ impl<L: Legality> Terminal<L> {
         if starts {
             self.start(bus, Command::of(word.bits));
         } else {
-            self.in_progress.follow(bus, self.setup.address, Some(word));
+            self.in_progress.follow(bus, self.settings.address, Some(word));
         }
     }
 
     fn note_word(&mut self, bus: Bus, word: Raw)
         ensures { self.new ≡ record self.old { heard = heard_after_word (description_of L.is_legal self.old) bus word self.old.heard } }
     {
-        if word.is_for(self.setup.address, self.setup.broadcast) {
+        if word.is_for(self.settings.address, self.settings.broadcast) {
             self.heard.set(bus, true);
         }
     }
 
     fn start(&mut self, bus: Bus, command: Command)
-        ensures setup { IsSameSetup L.is_legal self.old self.new }
-        ensures heard { self.new.heard ≡ self.old.heard }
-        ensures standing { (b : Bus) → standing_on b self.new.in_progress ≡ (if same_bus b bus then Collects command (Words []) else Idle) }
-        ensures registers { self.new.registers ≡ started (spares (description_of L.is_legal self.old) command) command self.old.registers }
-        ensures reply { self.new.reply ≡ None }
-        ensures held { self.new.held ≡ self.old.held }
+        ensures { TakesStart L.is_legal bus command self.old self.new }
     {
         self.reply = None;
         self.in_progress.start(bus, command);

@@ -5,7 +5,6 @@ use Rattle.std.proofs.lemmas.List.{get_or-replicate, get_or_past, length-replica
 use Rattle.std.proofs.lemmas.Bool.Decides.{nat_tests}
 use Rattle.terminal_rules.specs.LookBack.{or_else}
 use Rattle.terminal_rules.specs.SinceReset.{number, wrapped_at}
-use Rattle.terminal_state.specs.inner.Held.{block_in}
 
 -- nothing but the value that is read past the end
 pub get_or-all : {X : Type 0} (n i : ℕ) (x : X) → get_or (replicate n x) i x ≡ x
@@ -15,9 +14,9 @@ get_or-all n i x = by_test (ltb i n) refl
     by_test true e = get_or-replicate n i x x (ltb-true i n e)
     by_test false e = get_or_past (replicate n x) i x (let long : n ≤ i = ltb-false i n e in let e : length (replicate n x) ≡ n = length-replicate n x in omega arith)
 
--- where no block was changed, all are those of the set-up
+-- where no block was changed, all are those of power-up
 pub block_in-unchanged : (blocks : List (List ℕ)) (initial : List (List ℕ)) (s : ℕ) →
-    block_in initial (record { blocks = blocks; changed = replicate 30 false }) s ≡ get_or initial (s - 1) []
+    (if get_or (replicate 30 false) (s - 1) false then get_or blocks (s - 1) [] else get_or initial (s - 1) []) ≡ get_or initial (s - 1) []
 block_in-unchanged blocks initial s =
     ap (λ b. if b then get_or blocks (s - 1) [] else get_or initial (s - 1) []) (get_or-all 30 (s - 1) false)
 

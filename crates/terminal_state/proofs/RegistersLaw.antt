@@ -14,7 +14,7 @@ use Rattle.terminal_rules.specs.History.{NoTurn, Noted, Ending, Nothing, Badly, 
 use Rattle.terminal_rules.specs.Status.{spares, adds_error, reports_kept, no_parts, with_error_if, kept_by_start, kept_by_command, kept_by_end, start_first, reset_first}
 use Rattle.terminal_rules.specs.SinceReset.{start_bits, resets, is_reset}
 use Rattle.terminal_state.specs.inner.Standing.{fails}
-use Rattle.terminal_state.specs.inner.Registers.{registers_now, registers_after, kept_from, error_from, done_from, failed, failed_by, started, started_if, settled, reset_to}
+use Rattle.terminal_state.specs.inner.Registers.{registers_now, registers_after, kept_from, error_from, done_from, failed, failed_by, started, started_if, settled, reset_if}
 use Rattle.terminal_rules.specs.inner.Steps.{kept_after, resets_at_gap}
 use Rattle.terminal_rules.proofs.KeptLaw.{kept_step}
 use Rattle.terminal_rules.proofs.BackLaw.{flag_step, inhibited_step, off_step, vector_step, bit_step, last_step}
@@ -32,6 +32,7 @@ pub registers_law : (P : Description) (p : Noted) (h : List Noted) → registers
 registers_law P p h =
     let kept = kept_step P p h ∙ ap (λ k. kept_after (start_first (kept_by_start P (start_bits p)) (reset_first (is_reset p) k)) (adds_error P p.ends) (registers_now P h).kept) (kept_from_law P h p.ends) in
     λ i. record {
+      power_up = record { vector = P.vector; bit = P.bit };
       flags = record {
         service = flag_step Service p h i;
         busy = flag_step Busy p h i;
@@ -86,20 +87,20 @@ bad_law P c A r = noise_law P (Some c) A r
 bad_law P c B r = noise_law P (Some c) B r
 
 own_law : (P : Description) (c code : ℕ) (ds : List ℕ) (b : Bus) (begins : Bool) (r : Registers) →
-    registers_after P (Gap b) (resets_at_gap begins (Done c (OwnMode code) ds)) false (Done c (OwnMode code) ds) r ≡ settled P.accept false P.vector P.bit b begins (Done c (OwnMode code) ds) r
+    registers_after P (Gap b) (resets_at_gap begins (Done c (OwnMode code) ds)) false (Done c (OwnMode code) ds) r ≡ settled P.accept false b begins (Done c (OwnMode code) ds) r
 own_law P c code ds b begins r =
-    ap (with_kept (settled P.accept false P.vector P.bit b begins (Done c (OwnMode code) ds) r))
+    ap (with_kept (settled P.accept false b begins (Done c (OwnMode code) ds) r))
     (done_kept r.kept (done_from P.accept r c (OwnMode code)) (reports_kept (OwnMode code)) (resets_at_gap begins (Done c (OwnMode code) ds)))
 
 all_law : (P : Description) (c code : ℕ) (ds : List ℕ) (b : Bus) (begins : Bool) (r : Registers) →
-    registers_after P (Gap b) (resets_at_gap begins (Done c (BroadMode code) ds)) false (Done c (BroadMode code) ds) r ≡ settled P.accept false P.vector P.bit b begins (Done c (BroadMode code) ds) r
+    registers_after P (Gap b) (resets_at_gap begins (Done c (BroadMode code) ds)) false (Done c (BroadMode code) ds) r ≡ settled P.accept false b begins (Done c (BroadMode code) ds) r
 all_law P c code ds b begins r =
-    ap (with_kept (settled P.accept false P.vector P.bit b begins (Done c (BroadMode code) ds) r))
+    ap (with_kept (settled P.accept false b begins (Done c (BroadMode code) ds) r))
     (done_kept r.kept (done_from P.accept r c (BroadMode code)) false (resets_at_gap begins (Done c (BroadMode code) ds)))
 
 -- a gap: it ends a message, or none
 pub gap_law : (P : Description) (x : Ending) (b : Bus) (begins : Bool) (r : Registers) →
-    registers_after P (Gap b) (resets_at_gap begins x) false x r ≡ settled P.accept (adds_error P x) P.vector P.bit b begins x r
+    registers_after P (Gap b) (resets_at_gap begins x) false x r ≡ settled P.accept (adds_error P x) b begins x r
 gap_law P Nothing b begins r = refl
 gap_law P (Badly c) b begins r = bad_law P c b r
 gap_law P (Illegal c) b begins r = refl
@@ -111,6 +112,6 @@ gap_law P (Done c (OwnMode code) ds) b begins r = own_law P c code ds b begins r
 gap_law P (Done c (BroadMode code) ds) b begins r = all_law P c code ds b begins r
 
 -- a slot, by whether it is a reset
-pub slot_law : (P : Description) (reset : Bool) (r : Registers) → registers_after P Slot reset false Nothing r ≡ reset_to P.vector P.bit reset r
+pub slot_law : (P : Description) (reset : Bool) (r : Registers) → registers_after P Slot reset false Nothing r ≡ reset_if reset r
 slot_law P true r = refl
 slot_law P false r = refl

@@ -13,63 +13,69 @@ use terminal_rules::WordPlace;
 /// A block of 32 words for each of the subaddresses 1 to 30.
 pub type Blocks = [[u16; 32]; 30];
 
-/// The blocks that were changed since power-up or the latest reset. All others are those of the set-up, so
-/// that a reset copies no blocks.
+/// The words held ready: those of power-up, and over them the blocks that were changed since power-up or the latest
+/// reset, so that a reset copies no blocks.
 #[derive(Drop)]
 pub struct HeldWords {
+    /// The words of power-up, to which a reset goes back.
+    pub initial: Blocks,
     pub blocks: Blocks,
     pub changed: [bool; 30],
 }
 
 impl HeldWords {
-    /// Those of the set-up.
-    pub fn at_power_up() -> HeldWords
-        ensures { (initial : List (List ℕ)) (s : ℕ) → block_in initial result s ≡ get_or initial (s - 1) [] }
+    /// Those of power-up.
+    pub fn at_power_up(initial: Blocks) -> HeldWords
+        ensures words { (s : ℕ) → block_in result s ≡ get_or initial (s - 1) [] }
+        ensures initial { result.initial ≡ initial }
     {
         HeldWords {
+            initial,
             blocks: [[0; 32]; 30],
             changed: [false; 30],
         }
     }
 
     /// The words of a subaddress, 1 to 30.
-    pub fn block<'a>(&'a self, initial: &'a Blocks, subaddress: u8) -> &'a [u16]
+    pub fn block(&self, subaddress: u8) -> &[u16]
         requires low { 1 ≤ subaddress }
         requires high { subaddress ≤ 30 }
-        ensures words { result.now ≡ block_in initial.now self.now subaddress }
+        ensures words { result.now ≡ block_in self.now subaddress }
         ensures len { length result.now ≡ 32 }
     {
         let at = subaddress as usize - 1;
         if self.changed[at] {
             &self.blocks[at]
         } else {
-            &initial[at]
+            &self.initial[at]
         }
     }
 
     /// The block of a subaddress becomes one of its own, unless it is.
-    fn own_block(&mut self, initial: &Blocks, subaddress: u8)
+    fn own_block(&mut self, subaddress: u8)
         requires low { 1 ≤ subaddress }
         requires high { subaddress ≤ 30 }
-        ensures same { (s : ℕ) → block_in initial.now self.new s ≡ block_in initial.now self.old s }
+        ensures same { (s : ℕ) → block_in self.new s ≡ block_in self.old s }
         ensures own { get_or self.new.changed (subaddress - 1) false ≡ true }
+        ensures initial { self.new.initial ≡ self.old.initial }
     {
         let at = subaddress as usize - 1;
         if !self.changed[at] {
-            self.blocks[at] = initial[at];
+            self.blocks[at] = self.initial[at];
             self.changed[at] = true;
         }
     }
 
     /// Word `number`, 1 to 32, of a subaddress becomes this.
-    pub fn write(&mut self, initial: &Blocks, subaddress: u8, number: u8, value: u16)
+    pub fn write(&mut self, subaddress: u8, number: u8, value: u16)
         requires low { 1 ≤ subaddress }
         requires high { subaddress ≤ 30 }
         requires first { 1 ≤ number }
         requires last { number ≤ 32 }
-        ensures { (s i : ℕ) → 1 ≤ s → s ≤ 30 → 1 ≤ i → i ≤ 32 → word_in initial.now self.new s i ≡ (if (subaddress == s) && (number == i) then value else word_in initial.now self.old s i) }
+        ensures words { (s i : ℕ) → 1 ≤ s → s ≤ 30 → 1 ≤ i → i ≤ 32 → word_in self.new s i ≡ (if (subaddress == s) && (number == i) then value else word_in self.old s i) }
+        ensures initial { self.new.initial ≡ self.old.initial }
     {
-        self.own_block(initial, subaddress);
+        self.own_block(subaddress);
         put_one(
             &mut self.blocks[subaddress as usize - 1],
             number as usize - 1,
@@ -78,23 +84,24 @@ impl HeldWords {
     }
 
     /// The first words of a subaddress become these.
-    fn replace(&mut self, initial: &Blocks, subaddress: u8, words: &[u16])
+    fn replace(&mut self, subaddress: u8, words: &[u16])
         requires low { 1 ≤ subaddress }
         requires high { subaddress ≤ 30 }
         requires few { length words.now ≤ 32 }
-        ensures { (s i : ℕ) → 1 ≤ s → s ≤ 30 → 1 ≤ i → i ≤ 32 → word_in initial.now self.new s i ≡ (if (subaddress == s) && nat_le i (length words.now) then get_or words.now (i - 1) 0 else word_in initial.now self.old s i) }
+        ensures words { (s i : ℕ) → 1 ≤ s → s ≤ 30 → 1 ≤ i → i ≤ 32 → word_in self.new s i ≡ (if (subaddress == s) && nat_le i (length words.now) then get_or words.now (i - 1) 0 else word_in self.old s i) }
+        ensures initial { self.new.initial ≡ self.old.initial }
     {
-        self.own_block(initial, subaddress);
+        self.own_block(subaddress);
         put_first(&mut self.blocks[subaddress as usize - 1], words);
     }
 
     /// Word `number`, 1 to 32, of a subaddress, 1 to 30. Where there is none, 0000.
-    pub fn word(&self, initial: &Blocks, subaddress: u8, number: u8) -> u16
-        ensures { is_data_place subaddress number ≡ true → result ≡ word_in initial.now self.now subaddress number }
+    pub fn word(&self, subaddress: u8, number: u8) -> u16
+        ensures { is_data_place subaddress number ≡ true → result ≡ word_in self.now subaddress number }
     {
         match WordPlace::of(subaddress, number) {
             Some(place) => {
-                let block = self.block(initial, place.subaddress());
+                let block = self.block(place.subaddress());
                 block[place.number() as usize - 1]
             }
             None => 0,
@@ -102,44 +109,50 @@ impl HeldWords {
     }
 
     /// A message ended so, with these words, or none did. Words that were received at the wraparound
-    /// subaddress are held there; a reset brings the words of the set-up back.
-    pub fn settle(&mut self, initial: &Blocks, wrap: u8, resets: bool, ended: &Ended, words: &[u16])
+    /// subaddress, 1 to 30 or 0 for none, are held there; a reset brings the words of power-up back.
+    pub fn settle(&mut self, wrap: u8, resets: bool, ended: &Ended, words: &[u16])
         requires wrap { wrap ≤ 30 }
         requires few { length words.now ≤ 32 }
-        ensures { (s i : ℕ) → 1 ≤ s → s ≤ 30 → 1 ≤ i → i ≤ 32 → word_in initial.now self.new s i ≡ held_after initial.now wrap s i resets (ending_of ended.now words.now) (word_in initial.now self.old s i) }
+        ensures words { (s i : ℕ) → 1 ≤ s → s ≤ 30 → 1 ≤ i → i ≤ 32 → word_in self.new s i ≡ held_after self.old wrap s i resets (ending_of ended.now words.now) }
+        ensures initial { self.new.initial ≡ self.old.initial }
     {
         if resets {
             self.reset();
         } else {
-            self.receive(initial, wrap, ended, words);
+            self.receive(wrap, ended, words);
         }
     }
 
-    fn receive(&mut self, initial: &Blocks, wrap: u8, ended: &Ended, words: &[u16])
+    /// A message ended so, with these words, and nothing is reset.
+    fn receive(&mut self, wrap: u8, ended: &Ended, words: &[u16])
         requires wrap { wrap ≤ 30 }
         requires few { length words.now ≤ 32 }
-        ensures { (s i : ℕ) → 1 ≤ s → s ≤ 30 → 1 ≤ i → i ≤ 32 → word_in initial.now self.new s i ≡ or_else (wrapped wrap s i (ending_of ended.now words.now)) (word_in initial.now self.old s i) }
+        ensures words { (s i : ℕ) → 1 ≤ s → s ≤ 30 → 1 ≤ i → i ≤ 32 → word_in self.new s i ≡ or_else (wrapped wrap s i (ending_of ended.now words.now)) (word_in self.old s i) }
+        ensures initial { self.new.initial ≡ self.old.initial }
     {
         match ended {
             Ended::Done(_, Cell::OwnReceive(subaddress, _) | Cell::BroadReceive(subaddress, _)) =>
-                self.wrap_around(initial, wrap, *subaddress, words),
+                self.wrap_around(wrap, *subaddress, words),
             _ => {}
         }
     }
 
-    fn wrap_around(&mut self, initial: &Blocks, wrap: u8, subaddress: u8, words: &[u16])
+    /// Words were received at a subaddress, which are held there if it is that of wraparound.
+    fn wrap_around(&mut self, wrap: u8, subaddress: u8, words: &[u16])
         requires wrap { wrap ≤ 30 }
         requires few { length words.now ≤ 32 }
-        ensures { (s i : ℕ) → 1 ≤ s → s ≤ 30 → 1 ≤ i → i ≤ 32 → word_in initial.now self.new s i ≡ or_else (wrapped_at wrap s i subaddress words.now) (word_in initial.now self.old s i) }
+        ensures words { (s i : ℕ) → 1 ≤ s → s ≤ 30 → 1 ≤ i → i ≤ 32 → word_in self.new s i ≡ or_else (wrapped_at wrap s i subaddress words.now) (word_in self.old s i) }
+        ensures initial { self.new.initial ≡ self.old.initial }
     {
         if wrap != 0 && subaddress == wrap {
-            self.replace(initial, subaddress, words);
+            self.replace(subaddress, words);
         }
     }
 
-    /// Those of the set-up again.
+    /// Those of power-up again.
     pub fn reset(&mut self)
-        ensures { (initial : List (List ℕ)) (s : ℕ) → block_in initial self.new s ≡ get_or initial (s - 1) [] }
+        ensures words { (s : ℕ) → block_in self.new s ≡ get_or self.old.initial (s - 1) [] }
+        ensures initial { self.new.initial ≡ self.old.initial }
     {
         self.changed = [false; 30];
     }

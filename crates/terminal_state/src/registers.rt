@@ -2,7 +2,7 @@
 ghost use Rattle.std.specs.Prelude.{◌≡◌, Bool, true, List, ℕ};
 ghost use Rattle.terminal_rules.specs.declared.event.Event.TheVariants.{Flag as FlagIs};
 ghost use Rattle.terminal_state.specs.inner.Ended.{ending_of};
-ghost use Rattle.terminal_state.specs.inner.Registers.{power_up_registers, formed_from, error_from, done_from, status_from, flags_after, failed, started, keeping, carried, settled, reset_to};
+ghost use Rattle.terminal_state.specs.inner.Registers.{power_up_registers, formed_from, error_from, done_from, status_from, flags_after, failed, started, keeping, carried, settled, reset_if};
 
 use crate::buses::OnBuses;
 use crate::ended::{Ended, code_in, reports_kept};
@@ -42,8 +42,17 @@ impl Flags {
     }
 }
 
+/// The vector word and the BIT word that a reset goes back to: those of power-up.
+#[derive(Clone, Copy)]
+pub struct PowerUpWords {
+    pub vector: u16,
+    pub bit: u16,
+}
+
+/// What a terminal remembers besides the message in progress, the reply in progress and the words held ready.
 #[derive(Clone, Copy)]
 pub struct Registers {
+    pub power_up: PowerUpWords,
     pub flags: Flags,
     /// Whether the terminal flag is inhibited.
     pub inhibited: bool,
@@ -63,6 +72,7 @@ impl Registers {
         ensures { result ≡ power_up_registers vector bit }
     {
         Registers {
+            power_up: PowerUpWords { vector, bit },
             flags: Flags {
                 service: false,
                 busy: false,
@@ -131,7 +141,8 @@ impl Registers {
 
     /// A message ended in error. `spares` says whether its command spares the kept status.
     pub fn fail(&mut self, command: Command, spares: bool)
-        ensures { self.new ≡ failed spares command self.old }
+        ensures registers { self.new ≡ failed spares command self.old }
+        ensures power_up { self.new.power_up ≡ self.old.power_up }
     {
         if spares {
             self.kept.error = true;
@@ -142,7 +153,8 @@ impl Registers {
 
     /// A command started a message.
     pub fn start(&mut self, command: Command, spares: bool)
-        ensures { self.new ≡ started spares command self.old }
+        ensures registers { self.new ≡ started spares command self.old }
+        ensures power_up { self.new.power_up ≡ self.old.power_up }
     {
         if !matches!(cell_of(command), Some(Cell::OwnMode(mode::LAST_COMMAND))) {
             self.last = command;
@@ -154,8 +166,7 @@ impl Registers {
     }
 
     /// A gap on this bus ended a message so, with this status, or ended none. `spares` says whether the command
-    /// of one that ended in error spares the kept status, and `begins` whether a reply begins. A reset goes back to
-    /// this vector word and this BIT word.
+    /// of one that ended in error spares the kept status, and `begins` whether a reply begins.
     pub fn settle(
         &mut self,
         bus: Bus,
@@ -163,17 +174,16 @@ impl Registers {
         status: Option<StatusParts>,
         spares: bool,
         begins: bool,
-        vector: u16,
-        bit: u16,
     )
-        ensures { (accept : Bool) (ds : List ℕ) → status ≡ status_from accept self.old (ending_of ended.now ds) → self.new ≡ settled accept spares vector bit bus begins (ending_of ended.now ds) self.old }
+        ensures registers { (accept : Bool) (ds : List ℕ) → status ≡ status_from accept self.old (ending_of ended.now ds) → self.new ≡ settled accept spares bus begins (ending_of ended.now ds) self.old }
+        ensures power_up { self.new.power_up ≡ self.old.power_up }
     {
         match ended {
             Ended::Badly(command) => self.fail(*command, spares),
             _ => {
                 self.keep(status);
                 let resets = ended.resets_at_gap(begins);
-                self.carry_out(bus, resets, ended.done_code(), vector, bit);
+                self.carry_out(bus, resets, ended.done_code());
             }
         }
     }
@@ -187,12 +197,12 @@ impl Registers {
         }
     }
 
-    /// A mode code that came on this bus is carried out, or all is reset, to this vector word and this BIT word.
-    fn carry_out(&mut self, bus: Bus, resets: bool, code: Option<u8>, vector: u16, bit: u16)
-        ensures { self.new ≡ carried vector bit bus resets code self.old }
+    /// A mode code that came on this bus is carried out, or all is reset.
+    fn carry_out(&mut self, bus: Bus, resets: bool, code: Option<u8>)
+        ensures { self.new ≡ carried bus resets code self.old }
     {
         if resets {
-            self.reset(vector, bit);
+            self.reset();
         } else {
             match code {
                 Some(mode::SHUTDOWN) => self.off.set_other(bus, true),
@@ -204,12 +214,12 @@ impl Registers {
         }
     }
 
-    /// Those of power-up, with this vector word and this BIT word. The flags stay.
-    pub fn reset(&mut self, vector: u16, bit: u16)
-        ensures { self.new ≡ reset_to vector bit true self.old }
+    /// Those of power-up again. The flags stay.
+    pub fn reset(&mut self)
+        ensures { self.new ≡ reset_if true self.old }
     {
         let flags = self.flags;
-        *self = Registers::at_power_up(vector, bit);
+        *self = Registers::at_power_up(self.power_up.vector, self.power_up.bit);
         self.flags = flags;
     }
 }

@@ -1,5 +1,5 @@
 -- What an event makes of a terminal, and what is answered from what it keeps.
-use Rattle.std.specs.Prelude.{◌≡◌, ℕ, ◌≤◌, Bool, true, false, ◌&&◌, ◌==◌, if◌then◌else◌, Option, Some, None}
+use Rattle.std.specs.Prelude.{◌≡◌, ℕ, ◌≤◌, Bool, true, false, ◌&&◌, ◌==◌, if◌then◌else◌, Option, Some, None, []}
 use Rattle.bus_word.specs.declared.word.Bus.{Bus}
 use Rattle.bus_word.specs.declared.word.Kind.TheVariants.{Com, Dat}
 use Rattle.bus_word.specs.declared.word.Raw.{Raw}
@@ -18,9 +18,9 @@ use Rattle.terminal_rules.specs.Starts.{is_for}
 use Rattle.terminal_rules.specs.Status.{spares, adds_error}
 use Rattle.terminal_rules.specs.Turn.{is_answered, done_cell}
 use Rattle.terminal_rules.specs.Out.{Sending, sending}
-use Rattle.terminal_state.specs.inner.Standing.{word_leaves, entry_leaves, entry_fails, gap_leaves, gap_ends, starts_by}
+use Rattle.terminal_state.specs.inner.Standing.{Collects, Words, Idle, word_leaves, entry_leaves, entry_fails, gap_leaves, gap_ends, starts_by}
 use Rattle.terminal_state.specs.inner.Message.{standing_on}
-use Rattle.terminal_state.specs.inner.Registers.{failed_by, started_if, settled, reset_to}
+use Rattle.terminal_state.specs.inner.Registers.{failed_by, started, started_if, settled, reset_if}
 use Rattle.terminal_rules.specs.inner.Steps.{resets_at_gap, dropped_if, begun_if, sent_one, resets_next}
 use Rattle.terminal_state.specs.inner.Buses.{on_bus, with_bus}
 use Rattle.terminal_state.specs.inner.Held.{held_after}
@@ -71,13 +71,21 @@ begins_at_gap is_legal t b = is_answered (on_bus b t.registers.off) (ends_at_gap
 -- the same set-up and legality
 pub record IsSameSetup {L : Type 0} (is_legal : L → Cell → Bool) (t u : Terminal L) : Type 0 where
   pub description : description_of is_legal u ≡ description_of is_legal t
-  pub initial : u.setup.initial ≡ t.setup.initial
+
+-- what a command makes of it that starts a message
+pub record TakesStart {L : Type 0} (is_legal : L → Cell → Bool) (b : Bus) (c : ℕ) (t u : Terminal L) : Type 0 where
+  pub setup : IsSameSetup is_legal t u
+  pub heard : u.heard ≡ t.heard
+  pub standing : (d : Bus) → standing_on d u.in_progress ≡ (if same_bus d b then Collects c (Words []) else Idle)
+  pub registers : u.registers ≡ started (spares (description_of is_legal t) c) c t.registers
+  pub reply : u.reply ≡ None
+  pub held : u.held ≡ t.held
 
 -- what a word that isn't ignored makes of a terminal t
 pub record TakesWord {L : Type 0} (is_legal : L → Cell → Bool) (b : Bus) (w : Raw) (t u : Terminal L) : Type 0 where
   pub setup : IsSameSetup is_legal t u
   pub heard : u.heard ≡ heard_after_word (description_of is_legal t) b w t.heard
-  pub standing : (c : Bus) → standing_on c u.in_progress ≡ word_leaves t.setup.address (starts_in is_legal t b w) (same_bus c b) w (standing_on c t.in_progress)
+  pub standing : (c : Bus) → standing_on c u.in_progress ≡ word_leaves t.settings.address (starts_in is_legal t b w) (same_bus c b) w (standing_on c t.in_progress)
   pub registers : u.registers ≡ started_if (starts_in is_legal t b w) (spares (description_of is_legal t) w.bits) w.bits (failed_by (description_of is_legal t) (entry_fails (Some w) (standing_on b t.in_progress)) t.registers)
   pub reply : shown_reply u.reply ≡ dropped_if (starts_in is_legal t b w) (shown_reply t.reply)
   pub held : u.held ≡ t.held
@@ -86,7 +94,7 @@ pub record TakesWord {L : Type 0} (is_legal : L → Cell → Bool) (b : Bus) (w 
 pub record TakesNoise {L : Type 0} (is_legal : L → Cell → Bool) (b : Bus) (t u : Terminal L) : Type 0 where
   pub setup : IsSameSetup is_legal t u
   pub heard : u.heard ≡ t.heard
-  pub standing : (c : Bus) → standing_on c u.in_progress ≡ (if same_bus c b then entry_leaves t.setup.address None (standing_on c t.in_progress) else standing_on c t.in_progress)
+  pub standing : (c : Bus) → standing_on c u.in_progress ≡ (if same_bus c b then entry_leaves t.settings.address None (standing_on c t.in_progress) else standing_on c t.in_progress)
   pub registers : u.registers ≡ failed_by (description_of is_legal t) (entry_fails None (standing_on b t.in_progress)) t.registers
   pub reply : u.reply ≡ t.reply
   pub held : u.held ≡ t.held
@@ -96,9 +104,9 @@ pub record TakesGap {L : Type 0} (is_legal : L → Cell → Bool) (b : Bus) (beg
   pub setup : IsSameSetup is_legal t u
   pub heard : u.heard ≡ with_bus b false t.heard
   pub standing : (c : Bus) → standing_on c u.in_progress ≡ (if same_bus c b then gap_leaves (standing_on c t.in_progress) else standing_on c t.in_progress)
-  pub registers : u.registers ≡ settled t.setup.accept (adds_error (description_of is_legal t) x) t.setup.vector t.setup.bit b begins x t.registers
+  pub registers : u.registers ≡ settled t.settings.accept (adds_error (description_of is_legal t) x) b begins x t.registers
   pub reply : shown_reply u.reply ≡ begun_if begins b (done_cell x) (shown_reply t.reply)
-  pub held : (s i : ℕ) → 1 ≤ s → s ≤ 30 → 1 ≤ i → i ≤ 32 → held_word u s i ≡ held_after t.setup.initial t.setup.wrap s i (resets_at_gap begins x) x (held_word t s i)
+  pub held : (s i : ℕ) → 1 ≤ s → s ≤ 30 → 1 ≤ i → i ≤ 32 → held_word u s i ≡ held_after t.held t.settings.wrap s i (resets_at_gap begins x) x
 
 -- what a write of the subsystem makes of it
 pub record TakesWrite {L : Type 0} (is_legal : L → Cell → Bool) (place : Place) (v : ℕ) (t u : Terminal L) : Type 0 where
@@ -114,6 +122,6 @@ pub record TakesSlot {L : Type 0} (is_legal : L → Cell → Bool) (t u : Termin
   pub setup : IsSameSetup is_legal t u
   pub heard : u.heard ≡ t.heard
   pub in_progress : u.in_progress ≡ t.in_progress
-  pub registers : u.registers ≡ reset_to t.setup.vector t.setup.bit (resets_next (shown_reply t.reply)) t.registers
+  pub registers : u.registers ≡ reset_if (resets_next (shown_reply t.reply)) t.registers
   pub reply : shown_reply u.reply ≡ sent_one (shown_reply t.reply)
-  pub held : (s i : ℕ) → 1 ≤ s → s ≤ 30 → 1 ≤ i → i ≤ 32 → held_word u s i ≡ (if resets_next (shown_reply t.reply) then word_at t.setup.initial s i else held_word t s i)
+  pub held : (s i : ℕ) → 1 ≤ s → s ≤ 30 → 1 ≤ i → i ≤ 32 → held_word u s i ≡ (if resets_next (shown_reply t.reply) then word_at t.held.initial s i else held_word t s i)

@@ -20,9 +20,7 @@ impl<L: Legality> Terminal<L> {
         ensures { has_place cell number ≡ true → result ≡ reply_word_from self.now.registers (held_word self.now) cell number }
     {
         match cell {
-            Some(Cell::OwnTransmit(subaddress, _)) => self
-                .held
-                .word(&self.setup.initial, subaddress, number),
+            Some(Cell::OwnTransmit(subaddress, _)) => self.held.word(subaddress, number),
             Some(Cell::OwnMode(code)) => match code {
                 mode::VECTOR_WORD => self.registers.vector,
                 mode::LAST_COMMAND => self.registers.last.bits(),
@@ -35,13 +33,13 @@ impl<L: Legality> Terminal<L> {
 
     /// The next word of a reply.
     pub fn next_sent(&self, reply: Reply) -> Sent
-        ensures { can_send (shown_reply (Some reply)) ≡ true → shown_sent (Some result) ≡ sends_from self.now.setup.address self.now.registers (held_word self.now) (shown_reply (Some reply)) }
+        ensures { can_send (shown_reply (Some reply)) ≡ true → shown_sent (Some result) ≡ sends_from self.now.settings.address self.now.registers (held_word self.now) (shown_reply (Some reply)) }
     {
         if reply.next == 0 {
             Sent {
                 bus: reply.bus,
                 kind: Kind::Com,
-                bits: status_of(self.setup.address, self.registers.kept),
+                bits: status_of(self.settings.address, self.registers.kept),
             }
         } else {
             Sent {
@@ -76,7 +74,7 @@ impl<L: Legality> Terminal<L> {
                 true,
                 *subaddress,
             )),
-            Ended::Done(_, Cell::OwnMode(code)) => self.hand_of_code(*code, self.setup.accept),
+            Ended::Done(_, Cell::OwnMode(code)) => self.hand_of_code(*code, self.settings.accept),
             Ended::Done(_, Cell::BroadMode(code)) => self.hand_of_code(*code, false),
             _ => None,
         }

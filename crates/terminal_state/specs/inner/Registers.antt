@@ -22,6 +22,7 @@ use Rattle.terminal_rules.specs.inner.Steps.{kept_after, unless_reset, resets_at
 -- what looking back over a noted history gives
 abbrev pub registers_now : Description → List Noted → Registers
 registers_now P h = record {
+  power_up = record { vector = P.vector; bit = P.bit };
   flags = record {
     service = flag_now h Service;
     busy = flag_now h Busy;
@@ -39,6 +40,7 @@ registers_now P h = record {
 -- what a terminal has at power-up
 abbrev pub power_up_registers : ℕ → ℕ → Registers
 power_up_registers vector bit = record {
+  power_up = record { vector = vector; bit = bit };
   flags = record { service = false; busy = false; subsystem = false; terminal = false };
   inhibited = false;
   off = record { a = false; b = false };
@@ -103,9 +105,13 @@ started_bits e starts = if starts then of_word (λ b w. w.bits) e else None
 abbrev pub failed : Bool → ℕ → Registers → Registers
 failed spares c r = record r { kept = if spares then with_error_if true r.kept else error_from r c }
 
+-- after an event by which a message of this command ended in error, or none did
+abbrev pub kept_by_fail : Description → Option ℕ → Registers → StatusParts
+kept_by_fail P None r = r.kept
+kept_by_fail P (Some c) r = if spares P c then with_error_if true r.kept else error_from r c
+
 abbrev pub failed_by : Description → Option ℕ → Registers → Registers
-failed_by P None r = r
-failed_by P (Some c) r = failed (spares P c) c r
+failed_by P failed r = record r { kept = kept_by_fail P failed r }
 
 -- after command c started a message
 abbrev pub started : Bool → ℕ → Registers → Registers
@@ -126,43 +132,45 @@ keeping status r = record r { kept = or_else status r.kept }
 abbrev pub off_after : Bus → Bus → Option ℕ → Option Bool
 off_after b c code = if same_bus b c then None else switched mode.shutdown mode.override_shutdown code
 
--- after a mode code was carried out, on bus c, or none, with a reset or without; the words are those to which a reset goes back
-abbrev pub carried : ℕ → ℕ → Bus → Bool → Option ℕ → Registers → Registers
-carried vector bit c reset code r =
+-- after a mode code was carried out, on bus c, or none, with a reset or without
+abbrev pub carried : Bus → Bool → Option ℕ → Registers → Registers
+carried c reset code r =
     record {
+      power_up = r.power_up;
       flags = r.flags;
       inhibited = unless_reset reset false (switched mode.inhibit_flag mode.override_inhibit code) r.inhibited;
       off = record {
         a = unless_reset reset false (off_after A c code) r.off.a;
         b = unless_reset reset false (off_after B c code) r.off.b;
       };
-      vector = if reset then vector else r.vector;
-      bit = if reset then bit else r.bit;
+      vector = if reset then r.power_up.vector else r.vector;
+      bit = if reset then r.power_up.bit else r.bit;
       last = if reset then 0 else r.last;
       kept = if reset then no_parts else r.kept;
     }
 
 -- after a gap on bus b ended a message so, or none, by whether a reply begins
-abbrev pub settled : Bool → Bool → ℕ → ℕ → Bus → Bool → Ending → Registers → Registers
-settled accept spares vector bit b begins (Badly c) r = failed spares c r
-settled accept spares vector bit b begins x r = carried vector bit b (resets_at_gap begins x) (done_code x) (keeping (status_from accept r x) r)
+abbrev pub settled : Bool → Bool → Bus → Bool → Ending → Registers → Registers
+settled accept spares b begins (Badly c) r = failed spares c r
+settled accept spares b begins x r = carried b (resets_at_gap begins x) (done_code x) (keeping (status_from accept r x) r)
 
 -- those of power-up with these flags, where there is a reset
-abbrev pub reset_to : ℕ → ℕ → Bool → Registers → Registers
-reset_to vector bit reset r = if reset then record (power_up_registers vector bit) { flags = r.flags } else r
+abbrev pub reset_if : Bool → Registers → Registers
+reset_if reset r = if reset then record (power_up_registers r.power_up.vector r.power_up.bit) { flags = r.flags } else r
 
 -- the registers after an event, by whether it is a reset and what it starts and ends, from those before it
 abbrev pub registers_after : Description → Event → Bool → Bool → Ending → Registers → Registers
 registers_after P e reset starts ends r =
     record {
+      power_up = r.power_up;
       flags = flags_after e r.flags;
       inhibited = unless_reset reset false (switched mode.inhibit_flag mode.override_inhibit (done_code ends)) r.inhibited;
       off = record {
         a = unless_reset reset false (shuts_by A e ends) r.off.a;
         b = unless_reset reset false (shuts_by B e ends) r.off.b;
       };
-      vector = unless_reset reset P.vector (vector_set e) r.vector;
-      bit = unless_reset reset P.bit (bit_set e) r.bit;
+      vector = unless_reset reset r.power_up.vector (vector_set e) r.vector;
+      bit = unless_reset reset r.power_up.bit (bit_set e) r.bit;
       last = unless_reset reset 0 (recorded_by (started_bits e starts)) r.last;
       kept = kept_after (start_first (kept_by_start P (started_bits e starts)) (reset_first reset (kept_from P r ends))) (adds_error P ends) r.kept;
     }

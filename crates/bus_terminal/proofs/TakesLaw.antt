@@ -1,0 +1,69 @@
+-- What an event makes of a terminal, put together from what its functions do one after the other.
+use Rattle.std.proofs.Common.{◌≡◌, ℕ, ◌≤◌, true, false, Bool, if◌then◌else◌, Some, ap, sym, ◌∙◌}
+use Rattle.bus_word.specs.declared.word.Bus.{Bus}
+use Rattle.bus_word.specs.declared.word.Raw.{Raw}
+use Rattle.bus_word.specs.declared.cell.Cell.{Cell}
+use Rattle.terminal_rules.specs.Buses.{same_bus}
+use Rattle.terminal_rules.specs.History.{Ending}
+use Rattle.terminal_rules.specs.Status.{spares, adds_error}
+use Rattle.terminal_rules.specs.Turn.{is_answered, done_cell}
+use Rattle.terminal_rules.specs.inner.Steps.{dropped_if, begun_if, resets_at_gap}
+use Rattle.terminal_state.specs.inner.Standing.{word_leaves, entry_fails, gap_leaves}
+use Rattle.terminal_state.specs.inner.Message.{standing_on}
+use Rattle.terminal_state.specs.inner.Registers.{failed_by, started_if, settled}
+use Rattle.terminal_state.specs.inner.Buses.{on_bus, with_bus}
+use Rattle.terminal_state.specs.inner.Held.{held_after}
+use Rattle.terminal_state.specs.inner.Replies.{shown_reply}
+use Rattle.bus_terminal.specs.declared.terminal.Terminal.{Terminal}
+use Rattle.bus_terminal.specs.Stands.{description_of, held_word}
+use Rattle.bus_terminal.specs.inner.Terminal.{heard_after_word, starts_in, IsSameSetup, TakesStart, TakesWord, TakesGap}
+
+-- the set-up is kept where the settings, the legality and the words of power-up are
+pub same_setup : {L : Type 0} (is_legal : L → Cell → Bool) (t u : Terminal L) →
+    u.settings ≡ t.settings → u.legality ≡ t.legality → u.registers.power_up ≡ t.registers.power_up → u.held.initial ≡ t.held.initial → IsSameSetup is_legal t u
+same_setup is_legal t u settings legality power_up initial = record {
+  description = λ j. description_of is_legal (record t {
+    settings = settings j;
+    legality = legality j;
+    registers = record t.registers { power_up = power_up j };
+    held = record t.held { initial = initial j };
+  });
+}
+
+-- the terminal with which a word starts a message: a transfer that waited has failed, and the word is noted
+abbrev pub before_start : {L : Type 0} → (L → Cell → Bool) → Bus → Raw → Terminal L → Terminal L
+before_start is_legal b w t = record t {
+  heard = heard_after_word (description_of is_legal t) b w t.heard;
+  registers = failed_by (description_of is_legal t) (entry_fails (Some w) (standing_on b t.in_progress)) t.registers;
+}
+
+-- a word that starts a message
+pub starting_word : {L : Type 0} (is_legal : L → Cell → Bool) (b : Bus) (w : Raw) (t u : Terminal L) → starts_in is_legal t b w ≡ true →
+    TakesStart is_legal b w.bits (before_start is_legal b w t) u → TakesWord is_legal b w t u
+starting_word is_legal b w t u e k = record {
+  setup = record { description = k.setup.description };
+  heard = k.heard;
+  standing = λ c. k.standing c ∙ ap (λ s. word_leaves t.settings.address s (same_bus c b) w (standing_on c t.in_progress)) (sym e);
+  registers = k.registers ∙ ap (λ s. started_if s (spares (description_of is_legal t) w.bits) w.bits (before_start is_legal b w t).registers) (sym e);
+  reply = ap shown_reply k.reply ∙ ap (λ s. dropped_if s (shown_reply t.reply)) (sym e);
+  held = k.held;
+}
+
+-- a gap, by what was asked of it before it was settled; the reply is the caller's
+pub settled_gap : {L : Type 0} (is_legal : L → Cell → Bool) (b : Bus) (x : Ending) (begins spares : Bool) (t u : Terminal L) →
+    begins ≡ is_answered (on_bus b t.registers.off) x → spares ≡ adds_error (description_of is_legal t) x →
+    IsSameSetup is_legal t u →
+    u.heard ≡ with_bus b false t.heard →
+    ((c : Bus) → standing_on c u.in_progress ≡ (if same_bus c b then gap_leaves (standing_on c t.in_progress) else standing_on c t.in_progress)) →
+    u.registers ≡ settled t.settings.accept spares b begins x t.registers →
+    shown_reply u.reply ≡ begun_if begins b (done_cell x) (shown_reply t.reply) →
+    ((s i : ℕ) → 1 ≤ s → s ≤ 30 → 1 ≤ i → i ≤ 32 → held_word u s i ≡ held_after t.held t.settings.wrap s i (resets_at_gap begins x) x) →
+    TakesGap is_legal b (is_answered (on_bus b t.registers.off) x) x t u
+settled_gap is_legal b x begins spares t u begin spare setup heard standing registers reply held = record {
+  setup = setup;
+  heard = heard;
+  standing = standing;
+  registers = registers ∙ (λ j. settled t.settings.accept (spare j) b (begin j) x t.registers);
+  reply = reply ∙ ap (λ k. begun_if k b (done_cell x) (shown_reply t.reply)) begin;
+  held = λ s i low high first last. held s i low high first last ∙ ap (λ k. held_after t.held t.settings.wrap s i (resets_at_gap k x) x) begin;
+}
