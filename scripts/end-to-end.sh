@@ -199,6 +199,30 @@ run_with_failing_writes() {
     count "run, $((number - 1)) failing writes" $?
 }
 
+# a run over `script`, whose transcript is $work/want-stdout, where the system takes and gives few bytes at once
+run_in_pieces() {
+    local piece
+    for piece in SHORT_{READ,WRITE}={1,2,3,7,63}; do
+        (cd "$work" && env "LD_PRELOAD=$work/refuse.so" "$piece" "$program" run five script <stdin >stdout 2>stderr)
+        [[ $? -eq 0 && ! -s $work/stderr ]] && cmp -s "$work/stdout" "$work/want-stdout"
+        count "run, $piece" $?
+    done
+}
+
+# the same where a signal interrupts a read or a write, each in turn: it is tried again
+run_interrupted() {
+    local kind number
+    for kind in READ WRITE; do
+        for ((number = 1; number < 500; number++)); do
+            strike "INTERRUPT_$kind" "$number"
+            [[ $given -eq 0 && ! -s $work/stderr ]] && cmp -s "$work/stdout" "$work/want-stdout" || break
+            [[ $struck -eq 0 ]] || break
+        done
+        [[ $struck -ne 0 && $given -eq 0 && $number -gt 1 ]] && cmp -s "$work/stdout" "$work/want-stdout"
+        count "run, $((number - 1)) interrupted calls, $kind" $?
+    done
+}
+
 # transmit status word and the slot of its reply, which is `A s 2800`
 exchange='A c 2c02\nA gap\nslot\n'
 
@@ -297,6 +321,7 @@ file_rows() {
     printf '%s\n' "$smallest" >"$work/trailing"
     row 'one line feed more' 2 '' $'canonical text: bytes after the end\n' canon trailing
     row 'compare, the same' 0 $'same\n' '' compare five also-five
+    row 'compare, the same file' 0 $'same\n' '' compare five five
     row 'compare with a canonical text' 0 $'same\n' '' compare canonical five
     row 'address-and-option, the addresses' 1 $'A c 2c02\nA gap\nslot\n' '' compare five six
     row 'the first one is asked' 1 $'A c 3402\nA gap\nslot\n' '' compare six five
@@ -309,10 +334,22 @@ file_rows() {
     row 'no such file' 4 '' $'file: cannot read missing\n' canon missing
     row 'a folder' 4 '' $'file: cannot read folder\n' check folder
     row 'an empty name' 4 '' $'file: cannot read \n' check ''
-    for text in check canon; do
-        (cd "$work" && "$program" "$text" five >/dev/full 2>stderr)
+    for text in 'check five' 'canon five' 'compare five five' 'compare five also-five' 'compare five six'; do
+        # the words of a line are the words of the command line
+        # shellcheck disable=SC2086
+        (cd "$work" && "$program" $text >/dev/full 2>stderr)
         [[ $? -eq 4 && $(cat "$work/stderr") == 'output: write failed' ]]
         count "$text on a full device" $?
+    done
+    # about the size of the blocks in which files are read
+    for size in 8191 8192 8193 16384 16385; do
+        { printf 'address = 5\n'; head -c $((size - 12)) /dev/zero | tr '\0' '#'; } >"$work/sized"
+        [[ $(wc -c <"$work/sized") -eq $size ]]
+        count "a profile of $size bytes, its size" $?
+        row "a profile of $size bytes" 0 "$smallest" '' canon sized
+        # its last bytes count
+        { printf 'address = 5\n'; head -c $((size - 19)) /dev/zero | tr '\0' '#'; printf '\nbit=x\n'; } >"$work/sized"
+        row "a profile of $size bytes, the last line wrong" 2 '' $'profile: not TOML\n' check sized
     done
 }
 
@@ -556,6 +593,8 @@ run_fault_rows() {
     yes 'A s 2800' | head -n 16000 >"$work/want-stdout"
     run_with_failing_reads
     run_with_failing_writes
+    run_in_pieces
+    run_interrupted
     run_answers_at_once
 }
 
@@ -796,6 +835,10 @@ comparison_rows() {
     both='[[rule]]\ndirection = "both"\nsubaddresses = 7\ncounts = 1\n'
     pair 'wraparound at 7 or none' "wraparound = 7\n$both" "$both" \
         'A c 28e1\nA d ffff\nA gap\nslot\nA c 2ce1\nA gap\nslot\nslot\n'
+    # the longest script: 70 events
+    both='[[rule]]\ndirection = "both"\nsubaddresses = 30\ncounts = 32\n'
+    pair 'wraparound of 32 words' "wraparound = false\n$both" "$both" \
+        "A c 2bc0\nA d ffff\n$(printf 'A d 0000\\n%.0s' {1..31})A gap\nslot\nA c 2fc0\nA gap\n$(printf 'slot\\n%.0s' {1..33})"
     printf 'address = 5\nwraparound = false\nvector = 7\n' >"$work/p"
     row 'what can not be reached' 0 $'same\n' '' compare p five
 }
@@ -874,6 +917,8 @@ fault_rows() {
     failing REFUSE_READ 1 4 'input: read failed'
     failing REFUSE_READ 1 4 'file: cannot read five' check five
     failing REFUSE_WRITE 1 4 'output: write failed' canon five
+    failing REFUSE_WRITE 1 4 'output: write failed' compare five five
+    failing REFUSE_WRITE 1 4 'output: write failed' compare five six
     failing REFUSE_WRITE 1 4 'output: write failed'
 }
 

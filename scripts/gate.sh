@@ -1,6 +1,7 @@
 #!/usr/bin/env bash
 # The gate: every proof, test and program from nothing, then the must-fail edits, then the built program from
-# end to end, and the sessions of the pages. The last line, 'N passed, M failed', adds the counts of the four.
+# end to end, the protocol tests, and the sessions of the pages. The last line, 'N passed, M failed', adds the counts
+# of the five.
 set -uo pipefail
 cd "$(dirname "$0")/.." || exit 1
 work=$(mktemp -d) || exit 1
@@ -34,6 +35,11 @@ part proved
 if [[ $failed -eq 0 ]]; then
     part python3 scripts/must-fail.py "$built"
     part bash scripts/end-to-end.sh "$built"
+    programs=()
+    for program in "$built"/crates/rt1553_program/out/rt1553_program{,.by-rattle}; do
+        [[ -x $program ]] && programs+=("$program")
+    done
+    part python3 scripts/validation.py ${programs[@]+"${programs[@]}"}
     part python3 scripts/sessions.py "$built/crates/rt1553_program/out/rt1553_program"
 fi
 echo "$passed passed, $failed failed"

@@ -14,7 +14,7 @@ import sys
 import tempfile
 
 TOP = pathlib.Path(__file__).resolve().parent.parent
-PAGES = ["README.md", "CHANGELOG.md", "examples/README.md", *sorted(f"docs/{page.name}" for page in TOP.glob("docs/*.md"))]
+PAGES = ["README.md", "CHANGELOG.md", "examples/README.md", "examples/validation/README.md", *sorted(f"docs/{page.name}" for page in TOP.glob("docs/*.md"))]
 LEFT_OUT = re.compile(r"make |bash bench/")
 
 
