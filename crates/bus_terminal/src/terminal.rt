@@ -50,7 +50,7 @@ impl<L: Legality> Terminal<L> {
     ghost use Rattle.bus_terminal.specs.contracts.terminal.Terminal.{the_row};
     ghost use Rattle.bus_terminal.specs.inner.Terminal.{sends_from, heard_after_word, ends_at_gap, begins_at_gap, TakesStart, TakesWord, TakesNoise, TakesGap, TakesSlot, TakesWrite};
 
-    /// The terminal at power-up.
+    /// Gives the terminal at power-up.
     pub fn power_up(setup: Setup, legality: L) -> Terminal<L>
         ensures { StandsAt L.is_legal (described setup (L.is_legal legality)) [] result }
     {
@@ -119,7 +119,7 @@ impl<L: Legality> Terminal<L> {
         }
     }
 
-    /// Whether the reply in progress is on this bus.
+    /// Tells whether the reply in progress is on this bus.
     fn replies_on(&self, bus: Bus) -> bool
         ensures { result ≡ is_on bus (reply_bus (shown_reply self.now.reply)) }
     {
@@ -129,7 +129,7 @@ impl<L: Legality> Terminal<L> {
         }
     }
 
-    /// The subsystem writes a word that is held ready.
+    /// Takes a word of the subsystem that is to be held ready.
     fn write(&mut self, place: WordPlace, value: u16)
         ensures { TakesWrite L.is_legal place value self.old self.new }
     {
@@ -137,7 +137,7 @@ impl<L: Legality> Terminal<L> {
             .write(place.subaddress(), place.number(), value);
     }
 
-    /// Whether a command is a legal own mode code 2 or 18, which spares the kept status.
+    /// Tells whether a command is a legal own mode code 2 or 18, which spares the kept status.
     fn spares(&self, command: Command) -> bool
         ensures { result ≡ spares (description_of L.is_legal self.now) command }
     {
@@ -147,7 +147,7 @@ impl<L: Legality> Terminal<L> {
         }
     }
 
-    /// How a message ends that has the words that its command expects.
+    /// Tells how a message ends that has the words that its command expects.
     fn verdict(&self, command: Command) -> Ended
         ensures { (ds : List ℕ) → ending_of result ds ≡ well (description_of L.is_legal self.now) self.now.registers.flags.busy command ds }
     {
@@ -160,7 +160,7 @@ impl<L: Legality> Terminal<L> {
         }
     }
 
-    /// How a gap on this bus ends the message in progress.
+    /// Tells how a gap on this bus ends the message in progress.
     fn end_at_gap(&self, bus: Bus) -> Ended
         ensures { ending_of result self.now.in_progress.words.items ≡ gap_ends (description_of L.is_legal self.now) self.now.registers.flags.busy (standing_on bus self.now.in_progress) }
     {
@@ -171,7 +171,7 @@ impl<L: Legality> Terminal<L> {
         }
     }
 
-    /// Whether a word for the terminal starts a message.
+    /// Tells whether a word for the terminal starts a message.
     fn starts(&self, bus: Bus, word: Raw) -> bool
         ensures { result ≡ starts_by (description_of L.is_legal self.now) word (on_bus bus self.now.heard) (standing_on bus self.now.in_progress) }
     {
@@ -183,7 +183,7 @@ impl<L: Legality> Terminal<L> {
                     && command.address() == self.settings.address))
     }
 
-    /// Whether a message that ended in error spares the kept status.
+    /// Tells whether a message that ended in error spares the kept status.
     fn fails_sparing(&self, ended: &Ended) -> bool
         ensures { (ds : List ℕ) → result ≡ adds_error (description_of L.is_legal self.now) (ending_of ended.now ds) }
     {
@@ -196,7 +196,7 @@ impl<L: Legality> Terminal<L> {
         }
     }
 
-    /// A gap on this bus ended a message so, with this status, or ended none.
+    /// Takes the end of a message at a gap on this bus, with this status, or of none, and begins its reply.
     fn settle(&mut self, bus: Bus, ended: &Ended, status: Option<StatusParts>)
         requires { (ds : List ℕ) → status ≡ status_from self.old.settings.accept self.old.registers (ending_of ended.now ds) }
         ensures takes { TakesGap L.is_legal bus (is_answered (on_bus bus self.old.registers.off) (ending_of ended.now self.old.in_progress.words.items)) (ending_of ended.now self.old.in_progress.words.items) self.old self.new }
@@ -249,7 +249,7 @@ impl<L: Legality> Terminal<L> {
         Some(sent)
     }
 
-    /// A transfer that waits on this bus ended in error.
+    /// Takes the end in error of a transfer that waits, where there is one.
     #[inline(always)]
     fn fail(&mut self, failed: Option<Command>)
         ensures { self.new ≡ record self.old { registers = failed_by (description_of L.is_legal self.old) failed self.old.registers } }
@@ -260,6 +260,7 @@ impl<L: Legality> Terminal<L> {
         }
     }
 
+    /// Takes noise on this bus, which has no reply in progress.
     fn take_noise(&mut self, bus: Bus)
         ensures { TakesNoise L.is_legal bus self.old self.new }
     {
@@ -268,6 +269,7 @@ impl<L: Legality> Terminal<L> {
         self.in_progress.follow(bus, self.settings.address, None);
     }
 
+    /// Takes a word on this bus, which has no reply in progress.
     fn take_word(&mut self, bus: Bus, word: Raw)
         ensures { TakesWord L.is_legal bus word self.old self.new }
     {
@@ -282,6 +284,7 @@ impl<L: Legality> Terminal<L> {
         }
     }
 
+    /// Notes that the run of this bus holds a word for the terminal, if this is one.
     fn note_word(&mut self, bus: Bus, word: Raw)
         ensures { self.new ≡ record self.old { heard = heard_after_word (description_of L.is_legal self.old) bus word self.old.heard } }
     {
@@ -290,6 +293,7 @@ impl<L: Legality> Terminal<L> {
         }
     }
 
+    /// Starts the message of a command, and drops the reply in progress.
     fn start(&mut self, bus: Bus, command: Command)
         ensures { TakesStart L.is_legal bus command self.old self.new }
     {

@@ -5,7 +5,7 @@ ghost use Rattle.terminal_state.specs.inner.Buses.{on_bus, with_bus, with_other_
 
 use bus_word::Bus;
 
-/// Whether two buses are the same.
+/// Tells whether two buses are the same.
 pub fn same_bus(a: Bus, b: Bus) -> bool
     ensures { result ≡ same_bus a b }
 {
@@ -23,6 +23,7 @@ impl OnBuses {
     /// False on both.
     pub const NONE: OnBuses = OnBuses { a: false, b: false };
 
+    /// Tells the value of a bus.
     pub fn on(&self, bus: Bus) -> bool
         ensures { result ≡ on_bus bus self.now }
     {
@@ -32,6 +33,7 @@ impl OnBuses {
         }
     }
 
+    /// Sets the value of a bus.
     pub fn set(&mut self, bus: Bus, value: bool)
         ensures { self.new ≡ with_bus bus value self.old }
     {
@@ -41,6 +43,7 @@ impl OnBuses {
         }
     }
 
+    /// Sets the value of the bus that is not this one.
     pub fn set_other(&mut self, bus: Bus, value: bool)
         ensures { self.new ≡ with_other_bus bus value self.old }
     {

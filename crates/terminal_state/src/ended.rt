@@ -25,7 +25,7 @@ pub enum Ended {
 }
 
 impl Ended {
-    /// The mode code that was carried out.
+    /// Gives the mode code that was carried out.
     pub fn done_code(&self) -> Option<u8>
         ensures { (ds : List ℕ) → result ≡ done_code (ending_of self.now ds) }
     {
@@ -35,7 +35,7 @@ impl Ended {
         }
     }
 
-    /// The cell of what was done.
+    /// Gives the cell of what was done.
     pub fn done_cell(&self) -> Option<Cell>
         ensures { (ds : List ℕ) → result ≡ done_cell (ending_of self.now ds) }
     {
@@ -45,7 +45,7 @@ impl Ended {
         }
     }
 
-    /// Whether a reply begins, by whether the transmitter is shut down: a broadcast has none.
+    /// Tells whether a reply begins, by whether the transmitter is shut down: a broadcast has none.
     pub fn is_answered(&self, off: bool) -> bool
         ensures { (ds : List ℕ) → result ≡ is_answered off (ending_of self.now ds) }
     {
@@ -56,7 +56,7 @@ impl Ended {
         }
     }
 
-    /// Whether a reset acts at the gap, by whether a reply begins.
+    /// Tells whether a reset acts at the gap, by whether a reply begins.
     pub fn resets_at_gap(&self, begins: bool) -> bool
         ensures { (ds : List ℕ) → result ≡ resets_at_gap begins (ending_of self.now ds) }
     {
@@ -64,7 +64,7 @@ impl Ended {
     }
 }
 
-/// Whether the busy flag keeps a terminal from what this cell means.
+/// Tells whether the busy flag keeps a terminal from what this cell means.
 fn is_blocked_by_busy(cell: Cell) -> bool
     ensures { result ≡ is_blocked_by_busy cell }
 {
@@ -77,7 +77,7 @@ fn is_blocked_by_busy(cell: Cell) -> bool
     }
 }
 
-/// Whether a cell is an own mode code that reports the kept status and spares it.
+/// Tells whether a cell is an own mode code that reports the kept status and spares it.
 pub fn reports_kept(cell: Cell) -> bool
     ensures { result ≡ reports_kept cell }
 {
@@ -87,7 +87,7 @@ pub fn reports_kept(cell: Cell) -> bool
     )
 }
 
-/// The mode code of a cell, own or by broadcast.
+/// Gives the mode code of a cell, own or by broadcast.
 pub fn code_in(cell: Cell) -> Option<u8>
     ensures { result ≡ code_in cell }
 {
@@ -97,7 +97,7 @@ pub fn code_in(cell: Cell) -> Option<u8>
     }
 }
 
-/// How a message ends well, by whether its cell is legal and whether the busy flag stands.
+/// Tells how a message ends well, by whether its cell is legal and whether the busy flag stands.
 pub fn verdict_of(command: Command, cell: Cell, is_legal: bool, busy: bool) -> Ended
     ensures { (ds : List ℕ) → ending_of result ds ≡ verdict (λ _. is_legal) busy command ds (Some cell) }
 {

@@ -24,7 +24,7 @@ pub struct HeldWords {
 }
 
 impl HeldWords {
-    /// Those of power-up.
+    /// Gives those of power-up.
     pub fn at_power_up(initial: Blocks) -> HeldWords
         ensures words { (s : ℕ) → block_in result s ≡ get_or initial (s - 1) [] }
         ensures initial { result.initial ≡ initial }
@@ -36,7 +36,7 @@ impl HeldWords {
         }
     }
 
-    /// The words of a subaddress, 1 to 30.
+    /// Lends the words of a subaddress, 1 to 30.
     pub fn block(&self, subaddress: u8) -> &[u16]
         requires low { 1 ≤ subaddress }
         requires high { subaddress ≤ 30 }
@@ -51,7 +51,7 @@ impl HeldWords {
         }
     }
 
-    /// The block of a subaddress becomes one of its own, unless it is.
+    /// Makes the block of a subaddress one of its own, unless it is.
     fn own_block(&mut self, subaddress: u8)
         requires low { 1 ≤ subaddress }
         requires high { subaddress ≤ 30 }
@@ -66,7 +66,7 @@ impl HeldWords {
         }
     }
 
-    /// Word `number`, 1 to 32, of a subaddress becomes this.
+    /// Makes word `number`, 1 to 32, of a subaddress this one.
     pub fn write(&mut self, subaddress: u8, number: u8, value: u16)
         requires low { 1 ≤ subaddress }
         requires high { subaddress ≤ 30 }
@@ -83,7 +83,7 @@ impl HeldWords {
         );
     }
 
-    /// The first words of a subaddress become these.
+    /// Makes the first words of a subaddress these.
     fn replace(&mut self, subaddress: u8, words: &[u16])
         requires low { 1 ≤ subaddress }
         requires high { subaddress ≤ 30 }
@@ -95,7 +95,7 @@ impl HeldWords {
         put_first(&mut self.blocks[subaddress as usize - 1], words);
     }
 
-    /// Word `number`, 1 to 32, of a subaddress, 1 to 30. Where there is none, 0000.
+    /// Gives word `number`, 1 to 32, of a subaddress, 1 to 30. Where there is none, 0000.
     pub fn word(&self, subaddress: u8, number: u8) -> u16
         ensures { is_data_place subaddress number ≡ true → result ≡ word_in self.now subaddress number }
     {
@@ -108,7 +108,7 @@ impl HeldWords {
         }
     }
 
-    /// A message ended so, with these words, or none did. Words that were received at the wraparound
+    /// Takes the end of a message, with these words, or of none. Words that were received at the wraparound
     /// subaddress, 1 to 30 or 0 for none, are held there; a reset brings the words of power-up back.
     pub fn settle(&mut self, wrap: u8, resets: bool, ended: &Ended, words: &[u16])
         requires wrap { wrap ≤ 30 }
@@ -123,7 +123,7 @@ impl HeldWords {
         }
     }
 
-    /// A message ended so, with these words, and nothing is reset.
+    /// Takes the end of a message, with these words, that resets nothing.
     fn receive(&mut self, wrap: u8, ended: &Ended, words: &[u16])
         requires wrap { wrap ≤ 30 }
         requires few { length words.now ≤ 32 }
@@ -137,7 +137,7 @@ impl HeldWords {
         }
     }
 
-    /// Words were received at a subaddress, which are held there if it is that of wraparound.
+    /// Holds the words that were received at a subaddress there, if it is that of wraparound.
     fn wrap_around(&mut self, wrap: u8, subaddress: u8, words: &[u16])
         requires wrap { wrap ≤ 30 }
         requires few { length words.now ≤ 32 }
@@ -149,7 +149,7 @@ impl HeldWords {
         }
     }
 
-    /// Those of power-up again.
+    /// Goes back to those of power-up.
     pub fn reset(&mut self)
         ensures words { (s : ℕ) → block_in self.new s ≡ get_or self.old.initial (s - 1) [] }
         ensures initial { self.new.initial ≡ self.old.initial }
@@ -158,7 +158,7 @@ impl HeldWords {
     }
 }
 
-/// The first elements become these.
+/// Makes the first elements these.
 fn put_first(block: &mut [u16], words: &[u16])
     requires { length words.now ≤ length block.old }
     ensures { (k : ℕ) → get_or block.new k 0 ≡ (if nat_lt k (length words.now) then get_or words.now k 0 else get_or block.old k 0) }
@@ -166,7 +166,7 @@ fn put_first(block: &mut [u16], words: &[u16])
     block[..words.len()].copy_from_slice(words);
 }
 
-/// One element becomes this.
+/// Makes one element this.
 fn put_one(block: &mut [u16], at: usize, value: u16)
     requires { at < length block.old }
     ensures { (k : ℕ) → get_or block.new k 0 ≡ (if at == k then value else get_or block.old k 0) }

@@ -58,7 +58,7 @@ pub struct InProgress {
     pub words: ArrayVec<u16, 32>,
 }
 
-/// The bits of a valid data word.
+/// Gives the bits of a valid data word.
 fn data_of(word: Option<Raw>) -> Option<u16>
     ensures { result ≡ data_of word }
 {
@@ -68,7 +68,7 @@ fn data_of(word: Option<Raw>) -> Option<u16>
     }
 }
 
-/// The address of a valid command word that has a terminal other than the `own` one transmit.
+/// Gives the address of a valid command word that has a terminal other than the `own` one transmit.
 fn transmitter_at(own: u8, word: Option<Raw>) -> Option<u8>
     ensures { result ≡ transmitter_at own word }
 {
@@ -90,7 +90,7 @@ fn transmitter_at(own: u8, word: Option<Raw>) -> Option<u8>
     }
 }
 
-/// Whether a word is the status word of this address.
+/// Tells whether a word is the status word of this address.
 fn is_status_of(address: u8, word: Option<Raw>) -> bool
     ensures { result ≡ status_at address word }
 {
@@ -101,7 +101,7 @@ fn is_status_of(address: u8, word: Option<Raw>) -> bool
 }
 
 impl InProgress {
-    /// No message.
+    /// Gives no message.
     pub fn none() -> InProgress
         ensures { (b : Bus) → standing_on b result ≡ Idle }
     {
@@ -111,7 +111,7 @@ impl InProgress {
         }
     }
 
-    /// The message of this command begins, and what was in progress is dropped.
+    /// Begins the message of this command, and drops what was in progress.
     pub fn start(&mut self, bus: Bus, command: Command)
         ensures { (b : Bus) → standing_on b self.new ≡ (if same_bus b bus then Collects command (Words []) else Idle) }
     {
@@ -123,7 +123,7 @@ impl InProgress {
         });
     }
 
-    /// Whether a command on this bus may start a message.
+    /// Tells whether a command on this bus may start a message.
     pub fn is_free(&self, bus: Bus) -> bool
         ensures { result ≡ stands_free (standing_on bus self.now) }
     {
@@ -134,7 +134,7 @@ impl InProgress {
         }
     }
 
-    /// Whether the message on this bus is a broadcast receive command that nothing has followed.
+    /// Tells whether the message on this bus is a broadcast receive command that nothing has followed.
     pub fn is_fresh_broadcast(&self, bus: Bus) -> bool
         ensures { result ≡ stands_fresh (standing_on bus self.now) }
     {
@@ -150,7 +150,7 @@ impl InProgress {
         }
     }
 
-    /// What followed, with one word or noise more.
+    /// Gives what followed, with one word or noise more.
     fn add(&mut self, followed: Followed, own: u8, word: Option<Raw>) -> Followed
         ensures followed { collected_in result self.new.words.items ≡ next (collected_in followed self.old.words.items) (data_of word) (transmitter_at own word) }
         ensures message { self.new.message ≡ self.old.message }
@@ -171,7 +171,7 @@ impl InProgress {
         }
     }
 
-    /// A word or noise that starts nothing.
+    /// Takes a word or noise that starts nothing.
     #[inline(always)]
     pub fn follow(&mut self, bus: Bus, own: u8, word: Option<Raw>)
         ensures { (b : Bus) → standing_on b self.new ≡ (if same_bus b bus then entry_leaves own word (standing_on b self.old) else standing_on b self.old) }
@@ -197,7 +197,7 @@ impl InProgress {
         }
     }
 
-    /// The command of the transfer that a word or noise on this bus ends in error: one that waits for
+    /// Gives the command of the transfer that a word or noise on this bus ends in error: one that waits for
     /// another word.
     pub fn failed_by(&self, bus: Bus, word: Option<Raw>) -> Option<Command>
         ensures { result ≡ entry_fails word (standing_on bus self.now) }
@@ -214,7 +214,7 @@ impl InProgress {
         }
     }
 
-    /// The first word of the buffer, or 0000.
+    /// Gives the first word of the buffer, or 0000.
     pub fn first_word(&self) -> u16
         ensures { result ≡ first_word self.now.words.items }
     {
@@ -224,7 +224,7 @@ impl InProgress {
         }
     }
 
-    /// How a gap on this bus ends the message.
+    /// Tells how a gap on this bus ends the message.
     pub fn end_at_gap(&self, bus: Bus) -> GapEnd
         ensures { stop_with result self.now.words.items ≡ stop_at_gap (standing_on bus self.now) }
     {
@@ -245,7 +245,7 @@ impl InProgress {
         }
     }
 
-    /// A gap on this bus: its message is over, or comes to wait. The buffer stays.
+    /// Takes a gap on this bus: its message is over, or comes to wait. The buffer stays.
     pub fn gap(&mut self, bus: Bus)
         ensures standing { (b : Bus) → standing_on b self.new ≡ (if same_bus b bus then gap_leaves (standing_on b self.old) else standing_on b self.old) }
         ensures words { self.new.words ≡ self.old.words }
@@ -264,7 +264,7 @@ impl InProgress {
 }
 
 impl Message {
-    /// The message in another phase, or none.
+    /// Gives the message in another phase, or none.
     fn in_phase(self, phase: Option<Phase>) -> Option<Message>
         ensures { result ≡ in_phase self phase }
     {

@@ -30,6 +30,7 @@ pub struct Flags {
 }
 
 impl Flags {
+    /// Sets one flag.
     pub fn set(&mut self, flag: Flag, value: bool)
         ensures { self.new ≡ flags_after (FlagIs flag value) self.old }
     {
@@ -67,7 +68,7 @@ pub struct Registers {
 }
 
 impl Registers {
-    /// Those of power-up, with this vector word and this BIT word.
+    /// Gives those of power-up, with this vector word and this BIT word.
     pub fn at_power_up(vector: u16, bit: u16) -> Registers
         ensures { result ≡ power_up_registers vector bit }
     {
@@ -88,7 +89,7 @@ impl Registers {
         }
     }
 
-    /// The status formed for a command.
+    /// Forms the status for a command.
     fn formed(&self, command: Command, error: bool, accepts: bool, inhibited: bool) -> StatusParts
         ensures { result ≡ formed_from self.now command error accepts inhibited }
     {
@@ -103,13 +104,14 @@ impl Registers {
         }
     }
 
+    /// Forms the status for a command whose message ended in error or is illegal.
     fn formed_with_error(&self, command: Command) -> StatusParts
         ensures { result ≡ error_from self.now command }
     {
         self.formed(command, true, false, self.inhibited)
     }
 
-    /// For a message that is done. Mode codes 6 and 7 have acted already.
+    /// Forms the status for a message that is done. Mode codes 6 and 7 have acted already.
     fn formed_done(&self, command: Command, cell: Cell, accept: bool) -> StatusParts
         ensures { result ≡ done_from accept self.now command cell }
     {
@@ -122,7 +124,7 @@ impl Registers {
         self.formed(command, false, accepts, inhibited)
     }
 
-    /// The status that goes with a message that ended well. `accept` says whether dynamic bus control is
+    /// Gives the status that goes with a message that ended well. `accept` says whether dynamic bus control is
     /// accepted.
     pub fn status_for(&self, ended: &Ended, accept: bool) -> Option<StatusParts>
         ensures { (ds : List ℕ) → result ≡ status_from accept self.now (ending_of ended.now ds) }
@@ -139,7 +141,7 @@ impl Registers {
         }
     }
 
-    /// A message ended in error. `spares` says whether its command spares the kept status.
+    /// Takes the end of a message in error. `spares` says whether its command spares the kept status.
     pub fn fail(&mut self, command: Command, spares: bool)
         ensures registers { self.new ≡ failed spares command self.old }
         ensures power_up { self.new.power_up ≡ self.old.power_up }
@@ -151,7 +153,7 @@ impl Registers {
         }
     }
 
-    /// A command started a message.
+    /// Takes a command that starts a message. `spares` says whether it spares the kept status.
     pub fn start(&mut self, command: Command, spares: bool)
         ensures registers { self.new ≡ started spares command self.old }
         ensures power_up { self.new.power_up ≡ self.old.power_up }
@@ -165,7 +167,7 @@ impl Registers {
         }
     }
 
-    /// A gap on this bus ended a message so, with this status, or ended none. `spares` says whether the command
+    /// Takes a gap on this bus that ended a message so, with this status, or ended none. `spares` says whether the command
     /// of one that ended in error spares the kept status, and `begins` whether a reply begins.
     pub fn settle(
         &mut self,
@@ -188,7 +190,7 @@ impl Registers {
         }
     }
 
-    /// A status went with a message that ended well.
+    /// Keeps the status that went with a message that ended well.
     fn keep(&mut self, status: Option<StatusParts>)
         ensures { self.new ≡ keeping status self.old }
     {
@@ -197,7 +199,7 @@ impl Registers {
         }
     }
 
-    /// A mode code that came on this bus is carried out, or all is reset.
+    /// Carries out a mode code that came on this bus, or resets all.
     fn carry_out(&mut self, bus: Bus, resets: bool, code: Option<u8>)
         ensures { self.new ≡ carried bus resets code self.old }
     {
@@ -214,7 +216,7 @@ impl Registers {
         }
     }
 
-    /// Those of power-up again. The flags stay.
+    /// Goes back to those of power-up. The flags stay.
     pub fn reset(&mut self)
         ensures { self.new ≡ reset_if true self.old }
     {

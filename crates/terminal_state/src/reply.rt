@@ -16,7 +16,7 @@ pub struct Reply {
     pub next: u8,
 }
 
-/// How many data words follow the status.
+/// Tells how many data words follow the status.
 fn words_after_status(cell: Option<Cell>) -> u8
     ensures { result ≡ words_after_status cell }
 {
@@ -35,7 +35,7 @@ fn words_after_status(cell: Option<Cell>) -> u8
 }
 
 impl Reply {
-    /// What is left once the next word is sent: nothing, where that is the last.
+    /// Gives what is left once the next word is sent: nothing, where that is the last.
     pub fn after_slot(self) -> Option<Reply>
         ensures { shown_reply result ≡ sent_one (shown_reply (Some self)) }
     {
@@ -50,7 +50,7 @@ impl Reply {
         }
     }
 
-    /// Whether the next word is the status of a reset.
+    /// Tells whether the next word is the status of a reset.
     pub fn resets(self) -> bool
         ensures { result ≡ resets_next (shown_reply (Some self)) }
     {

@@ -15,7 +15,7 @@ impl<L: Legality> Terminal<L> {
     ghost use Rattle.bus_terminal.specs.inner.Answer.{shown_sent, shown_hand};
     ghost use Rattle.bus_terminal.specs.Stands.{description_of, held_word};
 
-    /// Data word `number` of a reply, by the cell of what was done.
+    /// Gives data word `number` of a reply, by the cell of what was done.
     fn reply_word(&self, cell: Option<Cell>, number: u8) -> u16
         ensures { has_place cell number ≡ true → result ≡ reply_word_from self.now.registers (held_word self.now) cell number }
     {
@@ -31,7 +31,7 @@ impl<L: Legality> Terminal<L> {
         }
     }
 
-    /// The next word of a reply.
+    /// Gives the next word of a reply.
     pub fn next_sent(&self, reply: Reply) -> Sent
         ensures { can_send (shown_reply (Some reply)) ≡ true → shown_sent (Some result) ≡ sends_from self.now.settings.address self.now.registers (held_word self.now) (shown_reply (Some reply)) }
     {
@@ -50,7 +50,7 @@ impl<L: Legality> Terminal<L> {
         }
     }
 
-    /// What is handed over, where a gap ended a message so.
+    /// Gives what is handed over, where a gap ended a message so, as an answer.
     pub fn handed(&self, ended: &Ended) -> Answer<'_>
         ensures answer { shown_answer result ≡ handing_over (hands (description_of L.is_legal self.now) (ending_of ended.now self.now.in_progress.words.items)) }
         ensures small { IsSmall (shown_answer result) }
@@ -61,6 +61,7 @@ impl<L: Legality> Terminal<L> {
         }
     }
 
+    /// Gives what is handed over, where a gap ended a message so.
     fn hand(&self, ended: &Ended) -> Option<Hand<'_>>
         ensures hand { shown_hand result ≡ hands (description_of L.is_legal self.now) (ending_of ended.now self.now.in_progress.words.items) }
         ensures few { AreFew (shown_hand result) }
@@ -80,7 +81,7 @@ impl<L: Legality> Terminal<L> {
         }
     }
 
-    /// The words in the buffer, as received at this subaddress.
+    /// Lends the words in the buffer, as received at this subaddress.
     fn received(&self, broadcast: bool, subaddress: u8) -> Hand<'_>
         ensures hand { shown_hand (Some result) ≡ Some (HandsReceived broadcast subaddress self.now.in_progress.words.items) }
         ensures few { AreFew (shown_hand (Some result)) }
@@ -92,7 +93,7 @@ impl<L: Legality> Terminal<L> {
         }
     }
 
-    /// What a mode code hands over.
+    /// Gives what a mode code hands over.
     fn hand_of_code(&self, code: u8, accepts: bool) -> Option<Hand<'_>>
         ensures hand { shown_hand result ≡ code_hands code accepts self.now.in_progress.words.items }
         ensures few { AreFew (shown_hand result) }
