@@ -14,7 +14,7 @@ mod read;
 mod rule;
 mod section;
 
-pub use entries::{InitialWords, Initials, ModeRule, ModeRules, Rule, Rules};
+pub use entries::{Entries, InitialWords, ModeRule, Rule};
 pub use fault::{Key, Part, ProfileFault};
 pub use profile::Profile;
 pub use ranges::{RangeFault, parse_ranges};

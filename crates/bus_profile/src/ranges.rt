@@ -1,9 +1,10 @@
 //! Texts of ranges, as `1-3, 5`, and the sets of numbers that they name.
 ghost use Rattle.std.specs.Prelude.{◌≡◌, ℕ, ◌+◌, ◌-◌, ◌<◌, ◌≤◌, ◌==◌, ◌∷◌, map, length, option_map, IfSome, nat_le, ◌&&◌, ◌||◌};
 ghost use Rattle.std.specs.List.{slice_split};
-ghost use Rattle.bus_profile.specs.OwnCodes.{has_bit};
+ghost use Rattle.bus_word.specs.Mask.{has_bit};
 ghost use Rattle.bus_profile.specs.Ranges.{IsReading};
-ghost use Rattle.bus_profile.specs.RangesOf.{trim_start, trim_end, decimal_of, number_of, pair_of, item_of, parts_after, is_within, ranges_of};
+ghost use Rattle.bus_profile.specs.inner.RangeParts.{parts_after};
+ghost use Rattle.bus_profile.specs.RangesOf.{trim_start, trim_end, decimal_of, number_of, pair_of, item_of, is_within, ranges_of};
 
 use thiserror::Error;
 

@@ -2,7 +2,7 @@
 ghost use Rattle.std.specs.Prelude.{IfOk, IfErr};
 ghost use Rattle.toml.specs.View.{table_view};
 ghost use Rattle.bus_profile.specs.Faults.{faults};
-ghost use Rattle.bus_profile.specs.FirstFault.{first_fault, ReadsInMemory};
+ghost use Rattle.bus_profile.specs.inner.FirstFault.{first_fault, ReadsInMemory};
 ghost use Rattle.bus_profile.specs.Plain.{plain, profile_of};
 ghost use Rattle.bus_profile.specs.Read.{Accepts, Refuses};
 
