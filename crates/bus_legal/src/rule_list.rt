@@ -7,9 +7,8 @@ ghost use Rattle.bus_profile.specs.OwnCodes.{contains_own, mode_says};
 ghost use Rattle.bus_legal.specs.Legal.{is_among, contains, contains_broadcast, rule_says, last_says, is_legal};
 
 use crate::legality::{Legality, is_allowed};
-use crate::masks::has_bit;
 use bus_profile::{ModeRule, Profile, Rule};
-use bus_word::Cell;
+use bus_word::{Cell, has_bit, is_required_code};
 
 /// The rules and mode entries of a profile, asked one by one from the last.
 #[derive(Clone, Copy)]
@@ -77,12 +76,6 @@ fn last_broadcast_code(modes: &[ModeRule], code: u8) -> Option<&ModeRule>
         .find(|mode| mode.broadcast && has_bit(mode.codes, code))
 }
 
-fn is_required(code: u8) -> bool
-    ensures { result ≡ is_required_code code }
-{
-    matches!(code, 2 | 4 | 5 | 8)
-}
-
 impl<'a> Legality for RuleList<'a> {
     ghost is_legal = { λ list cell. is_legal list.rules.now list.modes.now cell };
 
@@ -91,7 +84,7 @@ impl<'a> Legality for RuleList<'a> {
         is_allowed(cell)
             && match cell {
                 Cell::OwnMode(code) => last_own_code(self.modes, code).map_or(
-                    is_required(code),
+                    is_required_code(code),
                     |mode| mode.legal,
                 ),
                 Cell::BroadMode(code) => last_broadcast_code(self.modes, code).map_or(
