@@ -30,6 +30,7 @@ impl<'a> RuleList<'a> {
     }
 }
 
+/// Tells whether the rule's sets contain this subaddress and this word count.
 fn is_among(rule: &Rule, subaddress: u8, count: u8) -> bool
     requires { is_data_place subaddress count ≡ true }
     ensures { result ≡ is_among subaddress count rule.now }
@@ -37,6 +38,7 @@ fn is_among(rule: &Rule, subaddress: u8, count: u8) -> bool
     has_bit(rule.subaddresses, subaddress - 1) && has_bit(rule.counts, count - 1)
 }
 
+/// Tells whether the rule speaks of the cell.
 fn contains(rule: &Rule, cell: Cell) -> bool
     requires { is_allowed cell ≡ true }
     ensures { result ≡ contains cell rule.now }
@@ -49,6 +51,7 @@ fn contains(rule: &Rule, cell: Cell) -> bool
     }
 }
 
+/// Finds the last rule that speaks of the cell.
 fn last_rule<'a>(rules: &'a [Rule], cell: Cell) -> Option<&'a Rule>
     requires { is_allowed cell ≡ true }
     ensures { option_map (λ r. r.now) result ≡ find (contains cell) (reverse rules.entry.now) }
@@ -56,6 +59,7 @@ fn last_rule<'a>(rules: &'a [Rule], cell: Cell) -> Option<&'a Rule>
     rules.iter().rev().find(|rule| contains(rule, cell))
 }
 
+/// Finds the last mode entry that speaks of the code to the own address.
 fn last_own_code(modes: &[ModeRule], code: u8) -> Option<&ModeRule>
     requires { code < 32 }
     ensures { option_map (λ m. m.now) result ≡ find (contains_own code) (reverse modes.entry.now) }
@@ -66,6 +70,7 @@ fn last_own_code(modes: &[ModeRule], code: u8) -> Option<&ModeRule>
         .find(|mode| mode.own && has_bit(mode.codes, code))
 }
 
+/// Finds the last mode entry that speaks of the code by broadcast.
 fn last_broadcast_code(modes: &[ModeRule], code: u8) -> Option<&ModeRule>
     requires { code < 32 }
     ensures { option_map (λ m. m.now) result ≡ find (contains_broadcast code) (reverse modes.entry.now) }

@@ -50,7 +50,7 @@ fn put(masks: &mut [u32; 30], addressed: bool, direction: bool, rule: &Rule)
     }
 }
 
-/// The tables of these rules, with no mode codes.
+/// Gives the tables of these rules, with no mode codes.
 fn count_tables(rules: &[Rule]) -> Tables
     ensures own_receive { MasksSay result.own_receive (bit_said (λ r. r.own && r.receive) rules.now) }
     ensures own_transmit { MasksSay result.own_transmit (bit_said (λ r. r.own && r.transmit) rules.now) }
@@ -84,6 +84,7 @@ fn with_codes(mask: u32, addressed: bool, mode: &ModeRule) -> u32
     }
 }
 
+/// Gives the mask of the legal mode codes to the own address.
 fn own_mode_mask(modes: &[ModeRule]) -> u32
     ensures codes { (c : ℕ) → c < 32 → has_bit result c ≡ is_own_code_legal modes.now c }
     ensures no_other { bit_and result OWN_CODES ≡ result }
@@ -95,6 +96,7 @@ fn own_mode_mask(modes: &[ModeRule]) -> u32
     mask & OWN_CODES
 }
 
+/// Gives the mask of the legal mode codes by broadcast.
 fn broadcast_mode_mask(modes: &[ModeRule]) -> u32
     ensures codes { (c : ℕ) → c < 32 → has_bit result c ≡ is_broadcast_code_legal modes.now c }
     ensures no_other { bit_and result BROADCAST_CODES ≡ result }
@@ -106,6 +108,7 @@ fn broadcast_mode_mask(modes: &[ModeRule]) -> u32
     mask & BROADCAST_CODES
 }
 
+/// Tells whether the mask of the subaddress has the bit of the word count.
 fn has_count(masks: &[u32; 30], subaddress: u8, count: u8) -> bool
     requires { is_data_place subaddress count ≡ true }
     ensures { result ≡ has_count masks.now subaddress count }

@@ -31,7 +31,7 @@ pub fn initials_of(alloc: Global, values: &[Value]) -> Result<Entries<InitialWor
     Ok(Entries::of(initials))
 }
 
-// The initial entry that a value is.
+/// Reads the initial entry that a value is.
 #[tactic(auto, unfolding(crate::specs::Checks::in_order, crate::specs::Faults::entry_checks))]
 fn initial_of(value: &Value, number: u16) -> Result<InitialWords, ProfileFault>
     ensures { ReadsAs plain_initial (first_fault (initial_checks number (view value.now))) (initial_in (view value.now)) result }
@@ -42,7 +42,7 @@ fn initial_of(value: &Value, number: u16) -> Result<InitialWords, ProfileFault>
     }
 }
 
-// The initial entry of a table.
+/// Reads the initial entry of a table.
 #[tactic(auto, using(crate::proofs::Sections::initial_fault))]
 fn initial_from(table: &Table, number: u16) -> Result<InitialWords, ProfileFault>
     ensures { ReadsAs plain_initial (first_fault (initial_checks number (table_data (table_view table.now)))) (initial_in (table_data (table_view table.now))) result }
@@ -67,7 +67,7 @@ fn initial_from(table: &Table, number: u16) -> Result<InitialWords, ProfileFault
 }
 
 impl Section<'_> {
-    // The values of the words, of which none goes beyond number 32 where `first` is that of the first.
+    /// Gives the values of the words, of which none goes beyond number 32 where `first` is that of the first.
     #[tactic(auto, unfolding(crate::specs::Checks::in_order))]
     fn word_values(&self, first: u16) -> Result<&[Value], ProfileFault>
         requires { IsFirstWord first (value_at at_row self.now) }
@@ -87,7 +87,7 @@ impl Section<'_> {
     }
 }
 
-// The words in front, as many as there are.
+/// Reads the words, which stand in front of the answer, as many as there are.
 fn words_of(values: &[Value], part: Part) -> Result<[u16; 32], ProfileFault>
     requires { length values.now ≤ 32 }
     ensures { ReadsAs (take (length values.now)) (fault_of_parts (each_item (λ _. word_checks part) 1 (items_view values.now))) (each_of word_in (items_view values.now)) result }
@@ -99,6 +99,7 @@ fn words_of(values: &[Value], part: Part) -> Result<[u16; 32], ProfileFault>
     Ok(words)
 }
 
+/// Reads one word.
 #[tactic(auto, unfolding(crate::specs::Checks::in_order))]
 fn word_of(value: &Value, part: Part) -> Result<u16, ProfileFault>
     ensures { Reads (first_fault (word_checks part (view value.now))) (word_in (view value.now)) result }

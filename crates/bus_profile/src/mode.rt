@@ -27,7 +27,7 @@ pub fn modes_of(alloc: Global, values: &[Value]) -> Result<Entries<ModeRule>, Pr
     Ok(Entries::of(modes))
 }
 
-// The mode entry that a value is.
+/// Reads the mode entry that a value is.
 #[tactic(auto, unfolding(crate::specs::Checks::in_order, crate::specs::Faults::entry_checks))]
 fn mode_of(value: &Value, number: u16) -> Result<ModeRule, ProfileFault>
     ensures { Reads (first_fault (mode_checks number (view value.now))) (mode_in (view value.now)) result }
@@ -38,7 +38,7 @@ fn mode_of(value: &Value, number: u16) -> Result<ModeRule, ProfileFault>
     }
 }
 
-// The mode entry of a table.
+/// Reads the mode entry of a table.
 #[tactic(auto, using(crate::proofs::Sections::mode_fault))]
 fn mode_from(table: &Table, number: u16) -> Result<ModeRule, ProfileFault>
     ensures { Reads (first_fault (mode_checks number (table_data (table_view table.now)))) (mode_in (table_data (table_view table.now))) result }

@@ -31,6 +31,6 @@ pub struct Profile {
     ghost few_rules: { length rules ≤ 256 },
     ghost few_modes: { length modes ≤ 256 },
     ghost few_initials: { length initials ≤ 256 },
-    // The four own mode codes that must be legal are.
+    // The own mode codes that must be legal are.
     ghost required_codes: { IsTrue (has_required_codes modes) },
 }

@@ -43,7 +43,7 @@ pub fn read_profile(alloc: Global, text: &[u8]) -> Result<Profile, ProfileFault>
     }
 }
 
-// The profile of a tree.
+/// Reads the profile of a tree.
 #[tactic(auto, using(crate::proofs::Tree::tree_fault))]
 fn profile_of(alloc: Global, table: &Table) -> Result<Profile, ProfileFault>
     ensures { ReadsInMemory plain (first_fault (faults (table_view table.now))) (profile_of (table_view table.now)) result }

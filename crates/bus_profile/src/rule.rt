@@ -33,7 +33,7 @@ pub fn rules_of(alloc: Global, values: &[Value]) -> Result<Entries<Rule>, Profil
     Ok(Entries::of(rules))
 }
 
-// The rule that a value is.
+/// Reads the rule that a value is.
 #[tactic(auto, unfolding(crate::specs::Checks::in_order, crate::specs::Faults::entry_checks))]
 fn rule_of(value: &Value, number: u16) -> Result<Rule, ProfileFault>
     ensures { ReadsAs plain_rule (first_fault (rule_checks number (view value.now))) (rule_in (view value.now)) result }
@@ -44,7 +44,7 @@ fn rule_of(value: &Value, number: u16) -> Result<Rule, ProfileFault>
     }
 }
 
-// The rule of a table.
+/// Reads the rule of a table.
 #[tactic(auto, using(crate::proofs::Sections::rule_fault))]
 fn rule_from(table: &Table, number: u16) -> Result<Rule, ProfileFault>
     ensures { ReadsAs plain_rule (first_fault (rule_checks number (table_data (table_view table.now)))) (rule_in (table_data (table_view table.now))) result }

@@ -136,7 +136,7 @@ impl Section<'_> {
         }
     }
 
-    // Ranges are a text, or one whole number.
+    /// Reads the numbers of a value, which is a text of ranges or one whole number.
     #[tactic(auto, unfolding(crate::specs::Checks::in_order))]
     fn ranges_in(&self, key: Key, value: &Value, low: u8, high: u8) -> Result<u32, ProfileFault>
         requires order { low ≤ high }
@@ -198,6 +198,7 @@ pub fn in_range(n: i64, low: u16, high: u16) -> Option<u16>
     Some(n as u16)
 }
 
+/// Tells whether a name is that of one of the keys.
 fn is_known(keys: &[Key], name: &str) -> bool
     ensures { result ≡ is_known keys.now name.now }
 {

@@ -18,7 +18,7 @@ use bus_profile::Profile;
 use bus_word::has_bit;
 use bus_word::mode::{BIT_WORD, DYNAMIC_BUS_CONTROL, VECTOR_WORD};
 
-/// The masks of what a profile makes legal, without broadcast cells where its terminal hears none.
+/// Gives the masks of what a profile makes legal, without broadcast cells where its terminal hears none.
 fn heard_tables(profile: &Profile) -> Tables
     ensures legal { (cell : Cell) → tables_say result cell ≡ (is_heard profile.now.broadcast cell && is_legal profile.now.rules profile.now.modes cell) }
     ensures own_mode { is_own_mask result.own_mode ≡ true }
@@ -34,7 +34,7 @@ fn heard_tables(profile: &Profile) -> Tables
     tables
 }
 
-/// The wraparound subaddress, where it can be reached, else 0.
+/// Gives the wraparound subaddress, where it can be reached, else 0.
 fn reached_wrap(profile: &Profile, tables: &Tables) -> u8
     ensures wrap { result ≡ (if masks_wrap tables.now profile.now.wrap then profile.now.wrap else 0) }
     ensures small { result ≤ 30 }
@@ -47,14 +47,14 @@ fn reached_wrap(profile: &Profile, tables: &Tables) -> u8
     }
 }
 
-/// Whether dynamic bus control is accepted and can be asked for.
+/// Tells whether dynamic bus control is accepted and can be asked for.
 fn accepts(profile: &Profile, tables: &Tables) -> bool
     ensures { result ≡ (has_bit tables.now.own_mode dynamic_bus_control && profile.now.accept) }
 {
     has_bit(tables.own_mode, DYNAMIC_BUS_CONTROL) && profile.accept
 }
 
-/// The word, where the own mode code that asks for it is legal, else 0.
+/// Gives the word, where the own mode code that asks for it is legal, else 0.
 fn asked_word(tables: &Tables, code: u8, word: u16) -> u16
     requires { code < 32 }
     ensures { result ≡ (if has_bit tables.now.own_mode code then word else 0) }
