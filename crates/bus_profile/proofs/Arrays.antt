@@ -51,7 +51,7 @@ goes_beyond-view first at vs place = rw (place.beyond (items_view vs), count_ite
 
 -- ---- where the words begin
 
-range_of : (b : Bool) (n : ℕ) (f : ProfileFault) → cond (is_none (cond b (Some n) None)) (Some f) None ≡ None → b ≡ true
+pub range_of : (b : Bool) (n : ℕ) (f : ProfileFault) → cond (is_none (cond b (Some n) None)) (Some f) None ≡ None → b ≡ true
 range_of true n f e = refl
 range_of false n f e = absurd (cc)
 

@@ -6,6 +6,7 @@ mod choice;
 mod entries;
 mod fault;
 mod initial;
+pub mod laws;
 mod mode;
 mod own_codes;
 mod profile;
