@@ -351,7 +351,7 @@ text_normal v x h =
       address = grind (arith, nat_tests, own);
       vector = when_holds (λ n. n < 2 ^ 16) (tables_say t (OwnMode 16)) 0 vector_line (number_fits _ word (λ _. true)) (lit< tt) v.vector l.vector l.vector_is;
       bit = when_holds (λ n. n < 2 ^ 16) (tables_say t (OwnMode 19)) 0 bit_word_line (number_fits _ word (λ _. true)) (lit< tt) v.bit l.bit l.bit_is;
-      words = record { thirty = fit.long ∙ transmit.long; rows = λ s k. (fit.fit s (omega (arith, transmit.long))).is_row };
+      words = record { thirty = fit.long ∙ transmit.long; blocks = λ s k. (fit.fit s (omega (arith, transmit.long))).is_row };
       own_receive = are_masks t.own_receive receive;
       own_transmit = are_masks t.own_transmit transmit;
       broadcast_receive = are_masks t.broadcast_receive heard;
@@ -434,7 +434,7 @@ cells_some v is =
 fit_rows : (v : Parts) → IsNormal v → FitRows v.tables.own_transmit v.initial
 fit_rows v is = record {
   long = is.words.thirty ∙ sym is.own_transmit.thirty;
-  fit = λ s l. (let place : s < 30 = omega (arith, is.own_transmit.thirty) in record { is_row = is.words.rows s place; unsent = λ i k le. is.unsent s i place k le });
+  fit = λ s l. (let place : s < 30 = omega (arith, is.own_transmit.thirty) in record { is_row = is.words.blocks s place; unsent = λ i k le. is.unsent s i place k le });
 }
 
 wrap_some : (t : Tables) (s : ℕ) → s ≤ 30 → (masks_wrap t s ≡ false → s ≡ 0) → (x : List ℕ) × Spells (wrap_lines 2 t) s x

@@ -7,7 +7,7 @@ use Rattle.std.proofs.Math.ListN.{get_or-append}
 use Rattle.std.specs.Int.{bit_at}
 use Rattle.bus_legal.specs.Reach.{largest_count}
 use Rattle.bus_legal.specs.Tables.{has_any, largest_in}
-use Rattle.bus_legal.specs.Parts.{IsRow}
+use Rattle.bus_legal.specs.Parts.{IsBlock}
 use Rattle.bus_legal.proofs.Counts.{largest_to-le}
 use Rattle.line_format.specs.Format.{done, Spells, IsSound}
 use Rattle.line_format.specs.Shapes.{words_line}
@@ -54,7 +54,7 @@ row_split k ws room long none =
 
 -- a row that fits the transmit counts of its subaddress
 pub record FitsRow (counts : ℕ) (row : List ℕ) : Type 0 where
-  pub is_row : IsRow row
+  pub is_row : IsBlock row
   pub unsent : (i : ℕ) → i < 32 → largest_in counts ≤ i → get_or row i 0 ≡ 0
 
 zero_row-fits : (counts : ℕ) → FitsRow counts (zero_words 32)

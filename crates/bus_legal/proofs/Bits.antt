@@ -4,8 +4,8 @@ use Rattle.std.proofs.lemmas.Bool.{cases_lt}
 use Rattle.std.proofs.lemmas.Nat.{and_le_r}
 use Rattle.std.proofs.lemmas.Nat.Bits.{bit_at_or, bit_at_and, bit_at_not, bit_at-lt, same_from_bits_below}
 use Rattle.std.specs.Int.{bit_at, w32}
-use Rattle.bus_word.specs.Cell.{same_bool}
-use Rattle.bus_profile.specs.OwnCodes.{has_bit}
+use Rattle.bus_word.specs.Mask.{has_bit}
+use Rattle.bus_word.proofs.MaskLaws.{same_bit}
 use Rattle.bus_legal.proofs.Bools.{left_of, right_of}
 
 or_bit : (a b : ℕ) → a < 2 → b < 2 → (max a b == 1) ≡ cond (b == 1) true (a == 1)
@@ -53,19 +53,6 @@ pub each_below : (n : ℕ) (p : ℕ → Bool) → all_below n p ≡ true → (i 
 each_below zero p e i l = absurd (omega arith)
 each_below (suc n) p e i l =
     ⊎_elim (λ lt. each_below n p (right_of (p n) (all_below n p) e) i lt) (λ le. let at : i ≡ n = omega arith in ap p at ∙ left_of (p n) (all_below n p) e) (cases_lt i n)
-
-pub same_bool-true : (a b : Bool) → same_bool a b ≡ true → a ≡ b
-same_bool-true true b e = sym e
-same_bool-true false true e = cc
-same_bool-true false false e = refl
-
-same_bit : (a b : ℕ) → a < 2 → b < 2 → (a == 1) ≡ (b == 1) → a ≡ b
-same_bit zero zero l k e = refl
-same_bit zero (suc zero) l k e = cc
-same_bit (suc zero) zero l k e = cc
-same_bit (suc zero) (suc zero) l k e = refl
-same_bit (suc (suc a)) b l k e = absurd (omega arith)
-same_bit a (suc (suc b)) l k e = absurd (omega arith)
 
 -- masks with the same bits are equal
 pub same_mask : (a b : ℕ) → a < 2 ^ 32 → b < 2 ^ 32 → ((i : ℕ) → i < 32 → has_bit a i ≡ has_bit b i) → a ≡ b

@@ -2,6 +2,7 @@
 use Rattle.std.proofs.Common.{◌≡◌, ℕ, ◌≤◌, ◌==◌, Bool, true, false, ◌&&◌, ◌||◌, cond, nat_le, refl, ap, sym, ◌∙◌, arith}
 use Rattle.std.proofs.lemmas.Bool.{eqb-true}
 use Rattle.std.proofs.lemmas.Bool.Decides.{nat_tests}
+use Rattle.bus_word.specs.Mode.{dynamic_bus_control, vector_word, bit_word}
 use Rattle.bus_word.specs.declared.cell.Cell.{Cell}
 use Rattle.bus_word.specs.declared.cell.Cell.TheVariants.{OwnReceive, OwnTransmit, BroadReceive, OwnMode}
 use Rattle.bus_word.specs.Cell.{is_data_place}
@@ -49,9 +50,9 @@ wrap-twice P false e = cond-none (can_wrap P 0) 0 refl
 pub reach-reach : (P : Description) → reach (reach P) ≡ reach P
 reach-reach P = same_description (reach (reach P)) (reach P) refl refl
     (ap (λ b. cond b (reach P).wrap 0) (can_wrap-reach P (reach P).wrap) ∙ wrap-twice P (can_wrap P P.wrap) refl)
-    (and-twice (P.legal (OwnMode 0)) P.accept)
-    (cond-twice (P.legal (OwnMode 16)) P.vector)
-    (cond-twice (P.legal (OwnMode 19)) P.bit)
+    (and-twice (P.legal (OwnMode dynamic_bus_control)) P.accept)
+    (cond-twice (P.legal (OwnMode vector_word)) P.vector)
+    (cond-twice (P.legal (OwnMode bit_word)) P.bit)
     (λ s i. cond-twice (can_transmit P s i) (P.initial s i))
     (λ cell. and-twice (is_heard P.broadcast cell) (P.legal cell))
 

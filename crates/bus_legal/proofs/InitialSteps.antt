@@ -9,7 +9,7 @@ use Rattle.bus_profile.specs.Last.{last_of}
 use Rattle.bus_legal.specs.Description.{word_at}
 use Rattle.bus_legal.specs.Initial.{gives_number, gives, word_given, initial_word}
 use Rattle.bus_legal.proofs.Last.{last_of-take}
-use Rattle.bus_legal.proofs.Words.{zero_row}
+use Rattle.bus_legal.proofs.Words.{zero_block}
 use Rattle.bus_legal.proofs.Places.{place_above, place_from, place_low, place_high}
 
 word_given-cond : (default number : ℕ) (t : Bool) (e : InitialWords) (o : Option InitialWords) →
@@ -24,37 +24,37 @@ word_given-take entries at e default s number l is =
     let P : InitialWords → Type 0 = λ x. last_of (gives s number) (take (at + 1) entries) ≡ cond (gives s number x) (Some x) (last_of (gives s number) (take at entries)) in
     ap (word_given default number) (subst P (sym is) (last_of-take (gives s number) entries at e l)) ∙ word_given-cond default number (gives s number e) e _
 
--- the row of an entry's subaddress, written
-pub word-put : (entries : List InitialWords) (at : ℕ) (e : InitialWords) (table : List (List ℕ)) (subaddress : ℕ) (row : List ℕ) (default s i : ℕ) →
+-- the block of an entry's subaddress, written
+pub word-put : (entries : List InitialWords) (at : ℕ) (e : InitialWords) (table : List (List ℕ)) (subaddress : ℕ) (block : List ℕ) (default s i : ℕ) →
     at < length entries → e ≡ get_or entries at e → subaddress ≡ e.subaddress → length table ≡ 30 → s < 30 →
-    get_or row i 0 ≡ cond (gives_number (i + 1) e) (get_or e.words (i + 1 - e.first) 0) (get_or (get_or table (subaddress - 1) []) i 0) →
+    get_or block i 0 ≡ cond (gives_number (i + 1) e) (get_or e.words (i + 1 - e.first) 0) (get_or (get_or table (subaddress - 1) []) i 0) →
     get_or (get_or table s []) i 0 ≡ word_given default (i + 1) (last_of (gives (s + 1) (i + 1)) (take at entries)) →
-    get_or (get_or (set table (subaddress - 1) row) s []) i 0 ≡ word_given default (i + 1) (last_of (gives (s + 1) (i + 1)) (take (at + 1) entries))
-word-put entries at e table subaddress row default s i l is same whole place written before =
+    get_or (get_or (set table (subaddress - 1) block) s []) i 0 ≡ word_given default (i + 1) (last_of (gives (s + 1) (i + 1)) (take (at + 1) entries))
+word-put entries at e table subaddress block default s i l is same whole place written before =
     by_subaddress (s + 1 == e.subaddress) refl ∙ sym (word_given-take entries at e default (s + 1) (i + 1) l is)
   where
     by_subaddress : (t : Bool) → (s + 1 == e.subaddress) ≡ t →
-        get_or (get_or (set table (subaddress - 1) row) s []) i 0 ≡ cond (t && gives_number (i + 1) e) (get_or e.words (i + 1 - e.first) 0) (word_given default (i + 1) (last_of (gives (s + 1) (i + 1)) (take at entries)))
+        get_or (get_or (set table (subaddress - 1) block) s []) i 0 ≡ cond (t && gives_number (i + 1) e) (get_or e.words (i + 1 - e.first) 0) (word_given default (i + 1) (last_of (gives (s + 1) (i + 1)) (take at entries)))
     by_subaddress true t =
         let here : s + 1 ≡ e.subaddress = eqb-true (s + 1) e.subaddress t in
         let at_row : subaddress - 1 ≡ s = omega arith in
         let fits : s < length table = omega arith in
-        ap (λ k. get_or (get_or (set table k row) s []) i 0) at_row
-        ∙ (ap (λ r. get_or r i 0) (get_or-set_same table s row [] fits)
+        ap (λ k. get_or (get_or (set table k block) s []) i 0) at_row
+        ∙ (ap (λ r. get_or r i 0) (get_or-set_same table s block [] fits)
         ∙ (written
         ∙ ap (cond (gives_number (i + 1) e) (get_or e.words (i + 1 - e.first) 0)) (ap (λ k. get_or (get_or table k []) i 0) at_row ∙ before)))
     by_subaddress false t =
         let low : 1 ≤ e.subaddress = e.subaddress_low in
         let other : s ≢ subaddress - 1 = (λ f. let here : s + 1 ≡ e.subaddress = omega arith in let wrong : true ≡ false = sym (eq-eqb (s + 1) e.subaddress here) ∙ t in cc) in
-        ap (λ r. get_or r i 0) (get_or-set_other table (subaddress - 1) s row [] other) ∙ before
+        ap (λ r. get_or r i 0) (get_or-set_other table (subaddress - 1) s block [] other) ∙ before
 
-zeros-word : (s i : ℕ) → s < 30 → i < 32 → get_or (get_or (replicate 30 zero_row) s []) i 0 ≡ 0
-zeros-word s i l k = ap (λ row. get_or row i 0) (get_or-replicate {A = List ℕ} 30 s zero_row [] l) ∙ get_or-replicate {A = ℕ} 32 i 0 0 k
+zeros-word : (s i : ℕ) → s < 30 → i < 32 → get_or (get_or (replicate 30 zero_block) s []) i 0 ≡ 0
+zeros-word s i l k = ap (λ block. get_or block i 0) (get_or-replicate {A = List ℕ} 30 s zero_block [] l) ∙ get_or-replicate {A = ℕ} 32 i 0 0 k
 
 -- a table of zeros with the words of these entries put in holds the initial words
 pub initial_word-table : (entries : List InitialWords) (table : List (List ℕ)) →
     ((s i : ℕ) → s < 30 → i < 32 →
-    get_or (get_or table s []) i 0 ≡ word_given (get_or (get_or (replicate 30 zero_row) s []) i 0) (i + 1) (last_of (gives (s + 1) (i + 1)) entries)) →
+    get_or (get_or table s []) i 0 ≡ word_given (get_or (get_or (replicate 30 zero_block) s []) i 0) (i + 1) (last_of (gives (s + 1) (i + 1)) entries)) →
     (s i : ℕ) → is_data_place s i ≡ true → word_at table s i ≡ initial_word entries s i
 initial_word-table entries table put s i place =
     let row_at : s - 1 + 1 ≡ s = (let low : 1 ≤ s = place_above s i place in omega arith) in

@@ -1,23 +1,24 @@
 -- The masks of the mode codes that a profile makes legal.
 use Rattle.std.proofs.Common.{◌≡◌, ℕ, ◌<◌, ◌==◌, Bool, true, false, ◌&&◌, ◌||◌, List, bit_and, refl, ap, sym, ◌∙◌, arith}
 use Rattle.std.proofs.lemmas.Bool.{eqb-true, eq-eqb}
-use Rattle.bus_word.specs.Mode.{is_required_code}
+use Rattle.bus_word.specs.Mode.{is_required_code, transmit_status, shutdown, override_shutdown, reset}
 use Rattle.bus_profile.specs.declared.entries.ModeRule.{ModeRule}
-use Rattle.bus_profile.specs.OwnCodes.{has_bit, is_own_code_legal, has_required_codes}
+use Rattle.bus_word.specs.Mask.{has_bit}
+use Rattle.bus_profile.specs.OwnCodes.{is_own_code_legal, has_required_codes}
 use Rattle.bus_legal.specs.Tables.{is_own_mask}
 use Rattle.bus_legal.proofs.Bits.{and-contained}
 use Rattle.bus_legal.proofs.Bools.{left_of, right_of}
 use Rattle.bus_legal.proofs.TableSteps.{required_codes-bits}
 
--- what holds of the codes 2, 4, 5 and 8 holds of each required code
-pub each_required : (p : ℕ → Bool) → p 2 ≡ true → p 4 ≡ true → p 5 ≡ true → p 8 ≡ true → (c : ℕ) → is_required_code c ≡ true → p c ≡ true
-each_required p two four five eight c e = by_code (c == 2) refl (c == 4) refl (c == 5) refl (c == 8) refl e
+-- what holds of the four required codes holds of each required code
+pub each_required : (p : ℕ → Bool) → p transmit_status ≡ true → p shutdown ≡ true → p override_shutdown ≡ true → p reset ≡ true → (c : ℕ) → is_required_code c ≡ true → p c ≡ true
+each_required p two four five eight c e = by_code (c == transmit_status) refl (c == shutdown) refl (c == override_shutdown) refl (c == reset) refl e
   where
-    by_code : (t : Bool) → (c == 2) ≡ t → (f : Bool) → (c == 4) ≡ f → (v : Bool) → (c == 5) ≡ v → (g : Bool) → (c == 8) ≡ g → (t || (f || (v || g))) ≡ true → p c ≡ true
-    by_code true t f fe v ve g ge e = ap p (eqb-true c 2 t) ∙ two
-    by_code false t true fe v ve g ge e = ap p (eqb-true c 4 fe) ∙ four
-    by_code false t false fe true ve g ge e = ap p (eqb-true c 5 ve) ∙ five
-    by_code false t false fe false ve true ge e = ap p (eqb-true c 8 ge) ∙ eight
+    by_code : (t : Bool) → (c == transmit_status) ≡ t → (f : Bool) → (c == shutdown) ≡ f → (v : Bool) → (c == override_shutdown) ≡ v → (g : Bool) → (c == reset) ≡ g → (t || (f || (v || g))) ≡ true → p c ≡ true
+    by_code true t f fe v ve g ge e = ap p (eqb-true c transmit_status t) ∙ two
+    by_code false t true fe v ve g ge e = ap p (eqb-true c shutdown fe) ∙ four
+    by_code false t false fe true ve g ge e = ap p (eqb-true c override_shutdown ve) ∙ five
+    by_code false t false fe false ve true ge e = ap p (eqb-true c reset ge) ∙ eight
     by_code false t false fe false ve false ge e = cc
 
 -- the mask of the own codes that are legal is such a mask

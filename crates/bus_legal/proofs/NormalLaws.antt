@@ -5,9 +5,9 @@ use Rattle.std.proofs.lemmas.Bool.Decides.{nat_tests}
 use Rattle.bus_word.specs.declared.cell.Cell.{Cell}
 use Rattle.bus_word.specs.declared.cell.Cell.TheVariants.{OwnReceive, OwnTransmit, BroadReceive, OwnMode, BroadMode}
 use Rattle.bus_word.specs.Cell.{is_data_place, is_allowed}
-use Rattle.bus_word.specs.Mode.{is_required_code}
+use Rattle.bus_word.specs.Mode.{is_required_code, dynamic_bus_control, vector_word, bit_word, transmit_status, shutdown, override_shutdown, reset}
 use Rattle.bus_profile.specs.declared.profile.Profile.{Profile}
-use Rattle.bus_profile.specs.OwnCodes.{has_bit}
+use Rattle.bus_word.specs.Mask.{has_bit}
 use Rattle.bus_legal.specs.declared.setup.Setup.{Setup}
 use Rattle.bus_legal.specs.declared.tables.Tables.{Tables}
 use Rattle.bus_legal.specs.Description.{word_at, described}
@@ -65,9 +65,9 @@ reach-normal v is = sym (description_in-made (description_in v) v (record {
   legal = all-heard v is;
   small = is.wrap;
   wrap = word-kept (masks_wrap v.tables v.wrap) v.wrap is.unwrapped;
-  accept = flag-kept (has_bit v.tables.own_mode 0) v.accept is.unasked_accept;
-  vector = word-kept (has_bit v.tables.own_mode 16) v.vector is.unasked_vector;
-  bit = word-kept (has_bit v.tables.own_mode 19) v.bit is.unasked_bit;
+  accept = flag-kept (has_bit v.tables.own_mode dynamic_bus_control) v.accept is.unasked_accept;
+  vector = word-kept (has_bit v.tables.own_mode vector_word) v.vector is.unasked_vector;
+  bit = word-kept (has_bit v.tables.own_mode bit_word) v.bit is.unasked_bit;
   initial = λ s i place.
       word-kept (nat_lt (i - 1) (most s)) (word_at v.initial s i) (λ past. is.unsent (s - 1) (i - 1) (place_low s i place) (place_high s i place) (beyond (i - 1) (most s) past))
       ∙ ap (λ w. cond (nat_lt (i - 1) (most s)) w 0) (sym (ap (λ b. cond b (word_at v.initial s i) 0) place));
@@ -99,7 +99,7 @@ reach-set_up_normal v setup is same = same_reach (described setup (tables_say v.
 
 -- own mode codes 2, 4, 5 and 8 are legal in a `Normal`
 pub required-legal : (v : Parts) → IsNormal v → (c : ℕ) → is_required_code c ≡ true → tables_say v.tables (OwnMode c) ≡ true
-required-legal v is = each_required (λ c. tables_say v.tables (OwnMode c)) (has 2 (omega arith) refl) (has 4 (omega arith) refl) (has 5 (omega arith) refl) (has 8 (omega arith) refl)
+required-legal v is = each_required (λ c. tables_say v.tables (OwnMode c)) (has transmit_status (omega arith) refl) (has shutdown (omega arith) refl) (has override_shutdown (omega arith) refl) (has reset (omega arith) refl)
   where
     all : bit_and v.tables.own_mode 0x134 ≡ 0x134
     all = eqb-true (bit_and v.tables.own_mode 0x134) 0x134 (right_of (bit_and v.tables.own_mode 0x000f01ff == v.tables.own_mode) _ is.own_mode)

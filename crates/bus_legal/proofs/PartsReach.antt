@@ -1,10 +1,11 @@
 -- The parts of a `Normal` and the reached part of a description.
 use Rattle.std.proofs.Common.{◌≡◌, ℕ, zero, suc, ◌-◌, ◌≤◌, Bool, true, false, ◌&&◌, ◌||◌, cond, nat_le, nat_lt, get_or, refl, ap, sym, ◌∙◌, arith}
 use Rattle.std.proofs.lemmas.Bool.Decides.{nat_tests}
+use Rattle.bus_word.specs.Mode.{dynamic_bus_control, vector_word, bit_word}
 use Rattle.bus_word.specs.declared.cell.Cell.{Cell}
 use Rattle.bus_word.specs.declared.cell.Cell.TheVariants.{OwnReceive, OwnTransmit, BroadReceive, OwnMode}
 use Rattle.bus_word.specs.Cell.{is_data_place}
-use Rattle.bus_profile.specs.OwnCodes.{has_bit}
+use Rattle.bus_word.specs.Mask.{has_bit}
 use Rattle.bus_legal.specs.Description.{Description, word_at}
 use Rattle.bus_legal.specs.Reach.{largest_count, any_count, is_heard, transmits, can_wrap, can_transmit, reach}
 use Rattle.bus_legal.specs.Tables.{tables_say, largest_in, masks_wrap}
@@ -25,9 +26,9 @@ pub record AreMadeOf (P : Description) (v : Parts) : Type 0 where
   pub legal : (cell : Cell) → tables_say v.tables cell ≡ (is_heard P.broadcast cell && P.legal cell)
   pub small : P.wrap ≤ 30
   pub wrap : v.wrap ≡ cond (masks_wrap v.tables P.wrap) P.wrap 0
-  pub accept : v.accept ≡ (has_bit v.tables.own_mode 0 && P.accept)
-  pub vector : v.vector ≡ cond (has_bit v.tables.own_mode 16) P.vector 0
-  pub bit : v.bit ≡ cond (has_bit v.tables.own_mode 19) P.bit 0
+  pub accept : v.accept ≡ (has_bit v.tables.own_mode dynamic_bus_control && P.accept)
+  pub vector : v.vector ≡ cond (has_bit v.tables.own_mode vector_word) P.vector 0
+  pub bit : v.bit ≡ cond (has_bit v.tables.own_mode bit_word) P.bit 0
   pub initial : (s i : ℕ) → is_data_place s i ≡ true →
       word_at v.initial s i ≡ cond (nat_lt (i - 1) (largest_in (get_or v.tables.own_transmit (s - 1) 0))) (P.initial s i) 0
 
@@ -63,9 +64,9 @@ unsent false word h = refl
 pub description_in-made : (P : Description) (v : Parts) → AreMadeOf P v → description_in v ≡ reach P
 description_in-made P v made = same_description (description_in v) (reach P) made.address made.broadcast
     (made.wrap ∙ wrap_alike P v P.wrap made.small made)
-    (made.accept ∙ ap (λ b. b && P.accept) (made.legal (OwnMode 0)))
-    (made.vector ∙ ap (λ b. cond b P.vector 0) (made.legal (OwnMode 16)))
-    (made.bit ∙ ap (λ b. cond b P.bit 0) (made.legal (OwnMode 19)))
+    (made.accept ∙ ap (λ b. b && P.accept) (made.legal (OwnMode dynamic_bus_control)))
+    (made.vector ∙ ap (λ b. cond b P.vector 0) (made.legal (OwnMode vector_word)))
+    (made.bit ∙ ap (λ b. cond b P.bit 0) (made.legal (OwnMode bit_word)))
     (λ s i. words s i (is_data_place s i) refl)
     made.legal
   where

@@ -10,7 +10,7 @@ use Rattle.bus_profile.specs.declared.entries.ModeRule.{ModeRule}
 use Rattle.bus_profile.specs.declared.entries.InitialWords.{InitialWords}
 use Rattle.bus_profile.specs.declared.profile.Profile.{Profile}
 use Rattle.bus_profile.specs.Last.{or_last, last_of}
-use Rattle.bus_profile.specs.OwnCodes.{has_bit}
+use Rattle.bus_word.specs.Mask.{has_bit}
 use Rattle.bus_profile.specs.Plain.{PlainRule, PlainInitial, PlainProfile, plain_rule, plain_initial, plain}
 use Rattle.bus_legal.specs.Description.{Description}
 use Rattle.bus_legal.specs.Initial.{gives_number, gives, word_given, initial_word}

@@ -8,7 +8,7 @@ use Rattle.bus_word.specs.declared.cell.Cell.{Cell}
 use Rattle.bus_word.specs.declared.cell.Cell.TheVariants.{OwnReceive, OwnTransmit, BroadReceive, OwnMode, BroadMode}
 use Rattle.bus_word.specs.Cell.{is_data_place, allows_broadcast}
 use Rattle.bus_word.specs.Mode.{mode_row}
-use Rattle.bus_profile.specs.OwnCodes.{has_bit}
+use Rattle.bus_word.specs.Mask.{has_bit}
 use Rattle.bus_legal.specs.declared.tables.Tables.{Tables}
 use Rattle.bus_legal.specs.Description.{word_at}
 use Rattle.bus_legal.specs.Tables.{has_count, tables_say, is_own_mask, is_broadcast_mask}
@@ -50,8 +50,8 @@ same_words a b are be held = ext_get_or [] a b (are.thirty ∙ sym be.thirty) (�
 
     row : (s : ℕ) → s < 30 → get_or a s [] ≡ get_or b s []
     row s l =
-        let one : length (get_or a s []) ≡ 32 = (are.rows s l).long in
-        ext_get_or 0 (get_or a s []) (get_or b s []) (one ∙ sym (be.rows s l).long) (λ i k. word s i l (omega (arith, one)))
+        let one : length (get_or a s []) ≡ 32 = (are.blocks s l).long in
+        ext_get_or 0 (get_or a s []) (get_or b s []) (one ∙ sym (be.blocks s l).long) (λ i k. word s i l (omega (arith, one)))
 
 -- a mask that has none but these bits
 no_other : (mask codes : ℕ) (may_be : ℕ → Bool) → bit_and mask codes ≡ mask → ((c : ℕ) → c < 32 → has_bit codes c ≡ may_be c) → (c : ℕ) → c < 32 →

@@ -10,10 +10,13 @@ use Rattle.bus_word.specs.Mode.{mode_row, is_required_code}
 use Rattle.bus_profile.specs.declared.entries.Rule.{Rule}
 use Rattle.bus_profile.specs.declared.entries.ModeRule.{ModeRule}
 use Rattle.bus_profile.specs.Last.{last_of}
-use Rattle.bus_profile.specs.OwnCodes.{has_bit, mode_says}
+use Rattle.bus_word.specs.Mask.{has_bit}
+use Rattle.bus_profile.specs.OwnCodes.{mode_says}
 use Rattle.bus_legal.specs.Legal.{rule_says}
-use Rattle.bus_legal.specs.Tables.{has_count, HasBits}
-use Rattle.bus_legal.proofs.Bits.{each_below, same_bool-true, has_bit-and}
+use Rattle.bus_legal.specs.Tables.{has_count}
+use Rattle.bus_legal.specs.inner.Masks.{MasksSay}
+use Rattle.bus_word.proofs.ModeLaws.{same_bool-true}
+use Rattle.bus_legal.proofs.Bits.{each_below, has_bit-and}
 use Rattle.bus_legal.proofs.Bools.{guarded}
 use Rattle.bus_legal.proofs.Last.{last_of-take}
 use Rattle.bus_legal.proofs.Places.{place_low, place_high}
@@ -42,7 +45,7 @@ mode_says-take default p modes at d old new l e f =
     f ∙ (ap (cond (p m) m.legal) e ∙ sym (ap (mode_says default) (last_of-take p modes at d l) ∙ mode_says-cond default (p m) m (last_of p (take at modes))))
 
 -- no bit of a table of zeros is set
-pub zeros-bits : HasBits (replicate 30 0) (λ s i. false)
+pub zeros-bits : MasksSay (replicate 30 0) (λ s i. false)
 zeros-bits s i l k = rw (get_or-replicate {A = ℕ} 30 s 0 0 l, bit_at-zero i) refl
 
 -- the masks of mode codes are those of the table of mode codes
@@ -56,7 +59,7 @@ pub broadcast_codes-bits : (c : ℕ) → c < 32 → has_bit 0x000201fa c ≡ all
 broadcast_codes-bits c l = same_bool-true _ _ (each_below 32 (λ c. same_bool (has_bit 0x000201fa c) (allows_broadcast (mode_row c))) refl c l)
 
 -- a table and what is said of its bits agree at each place of data
-pub at_place : (s n : ℕ) (masks : List ℕ) (said : ℕ → ℕ → Bool) → HasBits masks said →
+pub at_place : (s n : ℕ) (masks : List ℕ) (said : ℕ → ℕ → Bool) → MasksSay masks said →
     (is_data_place s n && has_count masks s n) ≡ (is_data_place s n && said (s - 1) (n - 1))
 at_place s n masks said h = guarded (is_data_place s n) _ _ (λ e. h (s - 1) (n - 1) (place_low s n e) (place_high s n e))
 

@@ -7,7 +7,8 @@ use Rattle.bus_word.specs.Mode.{mode_row, is_required_code}
 use Rattle.bus_profile.specs.declared.entries.Rule.{Rule}
 use Rattle.bus_profile.specs.declared.entries.ModeRule.{ModeRule}
 use Rattle.bus_profile.specs.Last.{last_of}
-use Rattle.bus_profile.specs.OwnCodes.{has_bit, contains_own, mode_says}
+use Rattle.bus_word.specs.Mask.{has_bit}
+use Rattle.bus_profile.specs.OwnCodes.{contains_own, mode_says}
 
 -- the rule's sets contain this subaddress and this word count
 abbrev pub is_among : ℕ → ℕ → Rule → Bool
@@ -29,11 +30,6 @@ contains_broadcast code m = m.broadcast && has_bit m.codes code
 abbrev pub rule_says : Option Rule → Bool
 rule_says None = false
 rule_says (Some r) = r.legal
-
--- The last mode entry that speaks of the code by broadcast says whether it is legal; with none it is
--- not. A code that the table of mode codes does not have by broadcast never is.
-abbrev pub is_broadcast_code_legal : List ModeRule → ℕ → Bool
-is_broadcast_code_legal modes code = allows_broadcast (mode_row code) && mode_says false (last_of (contains_broadcast code) modes)
 
 -- What the last entry whose sets contain the cell says. With none, of the mode codes to the own
 -- address the required ones are legal, and nothing else is.

@@ -5,4 +5,4 @@ pub mod Meaning
 pub mod Reach
 pub mod Tables
 pub mod Parts
-pub mod NormalView
+pub mod inner

@@ -1,7 +1,8 @@
 -- What a `Normal` is seen as: a set-up and the masks of the legal cells, with nothing unreached in them.
 use Rattle.std.specs.Prelude.{◌≡◌, ℕ, ◌<◌, ◌≤◌, ◌^◌, Bool, true, false, List, [], length, get_or, replicate, if◌then◌else◌}
 use Rattle.bus_word.specs.Cell.{is_data_place}
-use Rattle.bus_profile.specs.OwnCodes.{has_bit}
+use Rattle.bus_word.specs.Mask.{has_bit}
+use Rattle.bus_word.specs.Mode.{dynamic_bus_control, vector_word, bit_word}
 use Rattle.bus_legal.specs.declared.setup.Setup.{Setup}
 use Rattle.bus_legal.specs.declared.tables.Tables.{Tables}
 use Rattle.bus_legal.specs.Description.{Description, word_at}
@@ -49,14 +50,14 @@ pub record AreMasks (masks : List ℕ) : Type 0 where
   pub fit : (s : ℕ) → get_or masks s 0 < 2 ^ 32
 
 -- the 32 words of a subaddress
-pub record IsRow (row : List ℕ) : Type 0 where
-  pub long : length row ≡ 32
-  pub fit : (i : ℕ) → get_or row i 0 < 2 ^ 16
+pub record IsBlock (block : List ℕ) : Type 0 where
+  pub long : length block ≡ 32
+  pub fit : (i : ℕ) → get_or block i 0 < 2 ^ 16
 
--- a row for each subaddress of data
+-- a block for each subaddress of data
 pub record AreWords (words : List (List ℕ)) : Type 0 where
   pub thirty : length words ≡ 30
-  pub rows : (s : ℕ) → s < 30 → IsRow (get_or words s [])
+  pub blocks : (s : ℕ) → s < 30 → IsBlock (get_or words s [])
 
 -- Parts of their ranges in which nothing is that can't be reached, and the required own mode codes are.
 pub record IsNormal (v : Parts) : Type 0 where
@@ -74,9 +75,9 @@ pub record IsNormal (v : Parts) : Type 0 where
   pub unheard_receive : v.broadcast ≡ false → v.tables.broadcast_receive ≡ replicate 30 0
   pub unheard_mode : v.broadcast ≡ false → v.tables.broadcast_mode ≡ 0
   -- acceptance, vector word and BIT word only where an own mode code asks for them
-  pub unasked_accept : has_bit v.tables.own_mode 0 ≡ false → v.accept ≡ false
-  pub unasked_vector : has_bit v.tables.own_mode 16 ≡ false → v.vector ≡ 0
-  pub unasked_bit : has_bit v.tables.own_mode 19 ≡ false → v.bit ≡ 0
+  pub unasked_accept : has_bit v.tables.own_mode dynamic_bus_control ≡ false → v.accept ≡ false
+  pub unasked_vector : has_bit v.tables.own_mode vector_word ≡ false → v.vector ≡ 0
+  pub unasked_bit : has_bit v.tables.own_mode bit_word ≡ false → v.bit ≡ 0
   -- a wraparound subaddress only where words can be received and transmitted
   pub unwrapped : masks_wrap v.tables v.wrap ≡ false → v.wrap ≡ 0
   -- words only up to the largest legal transmit count

@@ -2,6 +2,7 @@
 use Rattle.std.specs.Prelude.{ℕ, zero, suc, Bool, true, false, ◌&&◌, ◌||◌, nat_le, if◌then◌else◌}
 use Rattle.bus_word.specs.declared.cell.Cell.{Cell}
 use Rattle.bus_word.specs.declared.cell.Cell.TheVariants.{OwnReceive, OwnTransmit, BroadReceive, OwnMode, BroadMode}
+use Rattle.bus_word.specs.Mode.{dynamic_bus_control, vector_word, bit_word}
 use Rattle.bus_legal.specs.Description.{Description}
 
 -- the largest number from 1 to n that passes, or 0 where none does
@@ -69,15 +70,15 @@ with_rest P rest = record {
 }
 
 -- What can be reached beside address and option: the legal cells of commands that are meant for the
--- terminal; acceptance, the vector word and the BIT word where own mode code 0, 16 or 19, which asks
--- for it, is legal; the initial words that some legal command makes the terminal transmit; and the
+-- terminal; acceptance, the vector word and the BIT word where the own mode code that asks for it is
+-- legal; the initial words that some legal command makes the terminal transmit; and the
 -- wraparound subaddress where words can be received at it and transmitted from it.
 abbrev pub reached : Description → Rest
 reached P = record {
   wrap = if can_wrap P P.wrap then P.wrap else 0;
-  accept = P.legal (OwnMode 0) && P.accept;
-  vector = if P.legal (OwnMode 16) then P.vector else 0;
-  bit = if P.legal (OwnMode 19) then P.bit else 0;
+  accept = P.legal (OwnMode dynamic_bus_control) && P.accept;
+  vector = if P.legal (OwnMode vector_word) then P.vector else 0;
+  bit = if P.legal (OwnMode bit_word) then P.bit else 0;
   initial = λ s i. if can_transmit P s i then P.initial s i else 0;
   legal = λ cell. is_heard P.broadcast cell && P.legal cell;
 }

@@ -5,7 +5,7 @@ use Rattle.bus_word.specs.declared.cell.Cell.TheVariants.{OwnReceive, OwnTransmi
 use Rattle.bus_word.specs.Cell.{is_allowed}
 use Rattle.bus_profile.specs.declared.entries.Rule.{Rule}
 use Rattle.bus_profile.specs.Last.{last_of}
-use Rattle.bus_profile.specs.OwnCodes.{has_bit}
+use Rattle.bus_word.specs.Mask.{has_bit}
 use Rattle.bus_legal.specs.declared.tables.Tables.{Tables}
 use Rattle.bus_legal.specs.declared.tables.TheConstants.{OWN_CODES, BROADCAST_CODES, REQUIRED_CODES}
 use Rattle.bus_legal.specs.Legal.{rule_says}
@@ -54,15 +54,3 @@ masks_wrap t subaddress = (has_any (mask_at t.own_receive subaddress) || has_any
 -- by the masks, some subaddress is such
 unfoldable pub any_wraps : Tables → Bool
 any_wraps t = any_to 30 (masks_wrap t)
-
--- what is said of the bits of a table: for each mask, from 0, and each of its 32 bits
-abbrev pub HasBits : List ℕ → (ℕ → ℕ → Bool) → Type 0
-HasBits masks said = (s i : ℕ) → s < 30 → i < 32 → has_bit (get_or masks s 0) i ≡ said s i
-
--- the bits of the subaddress and of the word count are in the rule's sets
-abbrev pub has_bits : ℕ → ℕ → Rule → Bool
-has_bits s i r = has_bit r.subaddresses s && has_bit r.counts i
-
--- what the last of these rules says of a bit, among the rules that concern the table
-abbrev pub bit_said : (Rule → Bool) → List Rule → ℕ → ℕ → Bool
-bit_said concerns rules s i = rule_says (last_of (λ r. concerns r && has_bits s i r) rules)

@@ -2,26 +2,26 @@
 ghost use Rattle.std.specs.Prelude.{◌≡◌, ◌<◌, ◌+◌, ◌-◌, ℕ, List, [], Some, get_or, if◌then◌else◌};
 ghost use Rattle.bus_profile.specs.Last.{last_of};
 ghost use Rattle.bus_legal.specs.Initial.{gives_number, gives, word_given};
-ghost use Rattle.bus_legal.specs.Parts.{IsRow, AreWords};
+ghost use Rattle.bus_legal.specs.Parts.{IsBlock, AreWords};
 ghost use Rattle.bus_legal.specs.Meaning.{SetsUp};
 
 use crate::setup::Setup;
 use bus_profile::{InitialWords, Profile};
 
-/// Puts the words of an entry into the row of its subaddress.
-fn put_words(row: &mut [u16; 32], entry: &InitialWords)
-    ensures row { IsRow row.new }
-    ensures words { (i : ℕ) → i < 32 → get_or row.new i 0 ≡ (if gives_number (i + 1) entry.now then get_or entry.now.words (i + 1 - entry.now.first) 0 else get_or row.old i 0) }
+/// Puts the words of an entry into the block of its subaddress.
+fn put_words(block: &mut [u16; 32], entry: &InitialWords)
+    ensures block { IsBlock block.new }
+    ensures words { (i : ℕ) → i < 32 → get_or block.new i 0 ≡ (if gives_number (i + 1) entry.now then get_or entry.now.words (i + 1 - entry.now.first) 0 else get_or block.old i 0) }
 {
     let start = usize::from(entry.first) - 1;
     let len = usize::from(entry.len);
-    row[start..start + len].copy_from_slice(&entry.words[..len]);
+    block[start..start + len].copy_from_slice(&entry.words[..len]);
 }
 
 /// Puts the words of initial entries into a table, `table[s - 1][i - 1]` for number `i` of
 /// subaddress `s`.
 pub fn put_initial(table: &mut [[u16; 32]; 30], entries: &[InitialWords])
-    ensures rows { AreWords table.old → AreWords table.new }
+    ensures blocks { AreWords table.old → AreWords table.new }
     ensures words { (s i : ℕ) → s < 30 → i < 32 → get_or (get_or table.new s []) i 0 ≡ word_given (get_or (get_or table.old s []) i 0) (i + 1) (last_of (gives (s + 1) (i + 1)) entries.now) }
 {
     for entry in entries {

@@ -27,7 +27,7 @@ pub fn own_codes_are_legal_alike()
     ensures { (rules : List Rule) (modes : List ModeRule) (code : ℕ) → is_legal rules modes (OwnMode code) ≡ is_own_code_legal modes code }
 {}
 
-/// In every profile own mode codes 2, 4, 5 and 8 are legal.
+/// In every profile the own mode codes that must be legal are.
 pub fn required_codes_are_legal()
     ensures { (p : Profile) (code : ℕ) → is_required_code code ≡ true → is_legal p.rules p.modes (OwnMode code) ≡ true }
 {}
@@ -72,7 +72,7 @@ pub fn normal_is_reached()
     ensures { (v : Parts) → IsNormal v → reach (description_in v) ≡ description_in v }
 {}
 
-/// In every `Normal` own mode codes 2, 4, 5 and 8 are legal.
+/// In every `Normal` the own mode codes that must be legal are.
 pub fn normal_has_required_codes()
     ensures { (v : Parts) → IsNormal v → (code : ℕ) → is_required_code code ≡ true → tables_say v.tables (OwnMode code) ≡ true }
 {}

@@ -17,6 +17,7 @@ pub trait Legality {
         ensures { result ≡ is_legal self.now cell };
 }
 
+/// Tells whether this is a subaddress of data and a word count.
 fn is_data_place(subaddress: u8, count: u8) -> bool
     ensures { result ≡ is_data_place subaddress count }
 {

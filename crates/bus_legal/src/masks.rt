@@ -1,15 +1,7 @@
 //! Sets of small numbers, kept as the bits of a mask.
 ghost use Rattle.std.specs.Prelude.{◌≡◌, ◌<◌, ◌≤◌, ℕ, if◌then◌else◌, true};
-ghost use Rattle.bus_profile.specs.OwnCodes.{has_bit};
+ghost use Rattle.bus_word.specs.Mask.{has_bit};
 ghost use Rattle.bus_legal.specs.Tables.{largest_in};
-
-/// Whether the bit of this number, 0 to 31, is set.
-pub fn has_bit(mask: u32, bit: u8) -> bool
-    requires { bit < 32 }
-    ensures { result ≡ has_bit mask bit }
-{
-    (mask >> bit) % 2 == 1
-}
 
 /// The mask with the bits of `given` set, or with them cleared.
 pub fn with_bits(mask: u32, given: u32, set: bool) -> u32

@@ -17,13 +17,7 @@ use std::marker::Model;
 /// nothing in them that can't be reached. A contract sees these parts.
 #[derive(Clone, Copy, PartialEq, Eq, Debug)]
 pub struct Normal {
-    address: u8,
-    broadcast: bool,
-    wrap: u8,
-    accept: bool,
-    vector: u16,
-    bit: u16,
-    initial: [[u16; 32]; 30],
+    setup: Setup,
     tables: Tables,
 }
 
@@ -32,13 +26,15 @@ impl Model for Normal {
 
     ghost Value = { Parts };
 
-    ghost use Rattle.bus_legal.specs.NormalView.{parts_inside, inside_of, IsNormalInside};
+    ghost use Rattle.bus_legal.specs.inner.NormalView.{parts_inside, inside_of, IsNormalInside, inside_again};
 
     ghost view = { parts_inside };
 
     ghost invariant = { IsNormalInside };
 
     ghost inverse = { inside_of };
+
+    ghost inverse_ok = { inside_again };
 }
 
 impl Normal {
@@ -47,17 +43,7 @@ impl Normal {
         requires { IsNormal (parts_of setup tables) }
         ensures { result ≡ parts_of setup tables }
     {
-        let initial = setup.initial;
-        Normal {
-            address: setup.address,
-            broadcast: setup.broadcast,
-            wrap: setup.wrap,
-            accept: setup.accept,
-            vector: setup.vector,
-            bit: setup.bit,
-            initial,
-            tables,
-        }
+        Normal { setup, tables }
     }
 
     /// The set-up. With these parts of a `Normal` go the laws of `laws`.
@@ -65,29 +51,21 @@ impl Normal {
         ensures parts { parts_of result self.now.tables ≡ self.now }
         ensures normal { IsNormal self.now }
     {
-        Setup {
-            address: self.address,
-            broadcast: self.broadcast,
-            wrap: self.wrap,
-            accept: self.accept,
-            vector: self.vector,
-            bit: self.bit,
-            initial: self.initial,
-        }
+        self.setup
     }
 
     /// The address, 0 to 30.
     pub fn address(&self) -> u8
         ensures { result ≡ self.now.address }
     {
-        self.address
+        self.setup.address
     }
 
     /// The broadcast option.
     pub fn broadcast(&self) -> bool
         ensures { result ≡ self.now.broadcast }
     {
-        self.broadcast
+        self.setup.broadcast
     }
 
     /// The wraparound subaddress, 1 to 30, at which words that are received replace those held there; 0
@@ -95,35 +73,35 @@ impl Normal {
     pub fn wrap(&self) -> u8
         ensures { result ≡ self.now.wrap }
     {
-        self.wrap
+        self.setup.wrap
     }
 
     /// Whether dynamic bus control is accepted.
     pub fn accept(&self) -> bool
         ensures { result ≡ self.now.accept }
     {
-        self.accept
+        self.setup.accept
     }
 
     /// The vector word.
     pub fn vector(&self) -> u16
         ensures { result ≡ self.now.vector }
     {
-        self.vector
+        self.setup.vector
     }
 
     /// The BIT word.
     pub fn bit(&self) -> u16
         ensures { result ≡ self.now.bit }
     {
-        self.bit
+        self.setup.bit
     }
 
     /// The words held: `initial()[s - 1][i - 1]` is number `i` of subaddress `s`.
     pub fn initial(&self) -> &[[u16; 32]; 30]
         ensures { result.now ≡ self.now.initial }
     {
-        &self.initial
+        &self.setup.initial
     }
 
     /// The masks of the legal cells.
@@ -137,7 +115,7 @@ impl Normal {
     pub fn is_same(&self, other: &Normal) -> bool
         ensures { IsTrue result ↔ (self.now ≡ other.now) }
     {
-        self == other
+        self.setup == other.setup && self.tables == other.tables
     }
 }
 

@@ -7,9 +7,8 @@ ghost use Rattle.bus_profile.specs.OwnCodes.{contains_own, mode_says};
 ghost use Rattle.bus_legal.specs.Legal.{is_among, contains, contains_broadcast, rule_says, last_says, is_legal};
 
 use crate::legality::{Legality, is_allowed};
-use crate::masks::has_bit;
 use bus_profile::{ModeRule, Profile, Rule};
-use bus_word::Cell;
+use bus_word::{Cell, has_bit, is_required_code};
 
 /// The rules and mode entries of a profile, asked one by one from the last.
 #[derive(Clone, Copy)]
@@ -31,6 +30,7 @@ impl<'a> RuleList<'a> {
     }
 }
 
+/// Tells whether the rule's sets contain this subaddress and this word count.
 fn is_among(rule: &Rule, subaddress: u8, count: u8) -> bool
     requires { is_data_place subaddress count ≡ true }
     ensures { result ≡ is_among subaddress count rule.now }
@@ -38,6 +38,7 @@ fn is_among(rule: &Rule, subaddress: u8, count: u8) -> bool
     has_bit(rule.subaddresses, subaddress - 1) && has_bit(rule.counts, count - 1)
 }
 
+/// Tells whether the rule speaks of the cell.
 fn contains(rule: &Rule, cell: Cell) -> bool
     requires { is_allowed cell ≡ true }
     ensures { result ≡ contains cell rule.now }
@@ -50,6 +51,7 @@ fn contains(rule: &Rule, cell: Cell) -> bool
     }
 }
 
+/// Finds the last rule that speaks of the cell.
 fn last_rule<'a>(rules: &'a [Rule], cell: Cell) -> Option<&'a Rule>
     requires { is_allowed cell ≡ true }
     ensures { option_map (λ r. r.now) result ≡ find (contains cell) (reverse rules.entry.now) }
@@ -57,6 +59,7 @@ fn last_rule<'a>(rules: &'a [Rule], cell: Cell) -> Option<&'a Rule>
     rules.iter().rev().find(|rule| contains(rule, cell))
 }
 
+/// Finds the last mode entry that speaks of the code to the own address.
 fn last_own_code(modes: &[ModeRule], code: u8) -> Option<&ModeRule>
     requires { code < 32 }
     ensures { option_map (λ m. m.now) result ≡ find (contains_own code) (reverse modes.entry.now) }
@@ -67,6 +70,7 @@ fn last_own_code(modes: &[ModeRule], code: u8) -> Option<&ModeRule>
         .find(|mode| mode.own && has_bit(mode.codes, code))
 }
 
+/// Finds the last mode entry that speaks of the code by broadcast.
 fn last_broadcast_code(modes: &[ModeRule], code: u8) -> Option<&ModeRule>
     requires { code < 32 }
     ensures { option_map (λ m. m.now) result ≡ find (contains_broadcast code) (reverse modes.entry.now) }
@@ -77,12 +81,6 @@ fn last_broadcast_code(modes: &[ModeRule], code: u8) -> Option<&ModeRule>
         .find(|mode| mode.broadcast && has_bit(mode.codes, code))
 }
 
-fn is_required(code: u8) -> bool
-    ensures { result ≡ is_required_code code }
-{
-    matches!(code, 2 | 4 | 5 | 8)
-}
-
 impl<'a> Legality for RuleList<'a> {
     ghost is_legal = { λ list cell. is_legal list.rules.now list.modes.now cell };
 
@@ -91,7 +89,7 @@ impl<'a> Legality for RuleList<'a> {
         is_allowed(cell)
             && match cell {
                 Cell::OwnMode(code) => last_own_code(self.modes, code).map_or(
-                    is_required(code),
+                    is_required_code(code),
                     |mode| mode.legal,
                 ),
                 Cell::BroadMode(code) => last_broadcast_code(self.modes, code).map_or(

@@ -2,14 +2,17 @@
 ghost use Rattle.std.specs.Prelude.{◌≡◌, ◌<◌, ◌≤◌, ◌&&◌, ℕ, Bool, true, bit_and, get_or, if◌then◌else◌};
 ghost use Rattle.bus_word.specs.declared.cell.Cell.{Cell};
 ghost use Rattle.bus_word.specs.Cell.{is_data_place};
-ghost use Rattle.bus_profile.specs.OwnCodes.{has_bit, is_own_code_legal};
-ghost use Rattle.bus_legal.specs.Legal.{is_broadcast_code_legal, is_legal};
-ghost use Rattle.bus_legal.specs.Tables.{has_count, tables_say, masks_wrap, is_own_mask, is_broadcast_mask, any_wraps, HasBits, has_bits, bit_said};
+ghost use Rattle.bus_word.specs.Mask.{has_bit};
+ghost use Rattle.bus_profile.specs.OwnCodes.{is_own_code_legal};
+ghost use Rattle.bus_legal.specs.Legal.{is_legal};
+ghost use Rattle.bus_legal.specs.inner.Masks.{is_broadcast_code_legal};
+ghost use Rattle.bus_legal.specs.Tables.{has_count, tables_say, masks_wrap, is_own_mask, is_broadcast_mask, any_wraps};
+ghost use Rattle.bus_legal.specs.inner.Masks.{MasksSay, has_both_bits, bit_said};
 
 use crate::legality::{Legality, is_allowed};
-use crate::masks::{has_bit, with_bits};
+use crate::masks::with_bits;
 use bus_profile::{ModeRule, Profile, Rule};
-use bus_word::Cell;
+use bus_word::{Cell, has_bit};
 
 /// The mode codes that may be legal to the own address, bit `c` for code `c`.
 pub const OWN_CODES: u32 = 0x000f_01ff;
@@ -38,7 +41,7 @@ pub struct Tables {
 /// Sets or clears the counts of a rule at its subaddresses, if the rule speaks of commands that are
 /// addressed so and of this direction.
 fn put(masks: &mut [u32; 30], addressed: bool, direction: bool, rule: &Rule)
-    ensures { HasBits masks.new (λ s i. if addressed && direction && has_bits s i rule.now then rule.now.legal else has_bit (get_or masks.old s 0) i) }
+    ensures { MasksSay masks.new (λ s i. if addressed && direction && has_both_bits s i rule.now then rule.now.legal else has_bit (get_or masks.old s 0) i) }
 {
     for (s, mask) in masks.iter_mut().enumerate() {
         if addressed && direction && has_bit(rule.subaddresses, s as u8) {
@@ -47,11 +50,11 @@ fn put(masks: &mut [u32; 30], addressed: bool, direction: bool, rule: &Rule)
     }
 }
 
-/// The tables of these rules, with no mode codes.
+/// Gives the tables of these rules, with no mode codes.
 fn count_tables(rules: &[Rule]) -> Tables
-    ensures own_receive { HasBits result.own_receive (bit_said (λ r. r.own && r.receive) rules.now) }
-    ensures own_transmit { HasBits result.own_transmit (bit_said (λ r. r.own && r.transmit) rules.now) }
-    ensures broadcast_receive { HasBits result.broadcast_receive (bit_said (λ r. r.broadcast && r.receive) rules.now) }
+    ensures own_receive { MasksSay result.own_receive (bit_said (λ r. r.own && r.receive) rules.now) }
+    ensures own_transmit { MasksSay result.own_transmit (bit_said (λ r. r.own && r.transmit) rules.now) }
+    ensures broadcast_receive { MasksSay result.broadcast_receive (bit_said (λ r. r.broadcast && r.receive) rules.now) }
 {
     let mut own_receive = [0; 30];
     let mut own_transmit = [0; 30];
@@ -81,6 +84,7 @@ fn with_codes(mask: u32, addressed: bool, mode: &ModeRule) -> u32
     }
 }
 
+/// Gives the mask of the legal mode codes to the own address.
 fn own_mode_mask(modes: &[ModeRule]) -> u32
     ensures codes { (c : ℕ) → c < 32 → has_bit result c ≡ is_own_code_legal modes.now c }
     ensures no_other { bit_and result OWN_CODES ≡ result }
@@ -92,6 +96,7 @@ fn own_mode_mask(modes: &[ModeRule]) -> u32
     mask & OWN_CODES
 }
 
+/// Gives the mask of the legal mode codes by broadcast.
 fn broadcast_mode_mask(modes: &[ModeRule]) -> u32
     ensures codes { (c : ℕ) → c < 32 → has_bit result c ≡ is_broadcast_code_legal modes.now c }
     ensures no_other { bit_and result BROADCAST_CODES ≡ result }
@@ -103,6 +108,7 @@ fn broadcast_mode_mask(modes: &[ModeRule]) -> u32
     mask & BROADCAST_CODES
 }
 
+/// Tells whether the mask of the subaddress has the bit of the word count.
 fn has_count(masks: &[u32; 30], subaddress: u8, count: u8) -> bool
     requires { is_data_place subaddress count ≡ true }
     ensures { result ≡ has_count masks.now subaddress count }
@@ -131,9 +137,9 @@ impl Tables {
         requires high { subaddress ≤ 30 }
         ensures { result ≡ masks_wrap self.now subaddress }
     {
-        let row = usize::from(subaddress) - 1;
-        (self.own_receive[row] != 0 || self.broadcast_receive[row] != 0)
-            && self.own_transmit[row] != 0
+        let index = usize::from(subaddress) - 1;
+        (self.own_receive[index] != 0 || self.broadcast_receive[index] != 0)
+            && self.own_transmit[index] != 0
     }
 
     /// Whether some subaddress is such.

@@ -14,8 +14,8 @@ use Rattle.bus_profile.specs.Checks.{check, in_order}
 use Rattle.bus_profile.specs.Keys.{row, tables, optional, at_row, words_row}
 use Rattle.bus_profile.specs.Kinds.{found, or_default, value, number, count_items, is_too_long}
 use Rattle.bus_profile.specs.Faults.{key_checks, row_checks, goes_beyond}
-use Rattle.bus_profile.specs.FirstFault.{first_fault}
-use Rattle.bus_profile.specs.Initial.{IsPlace}
+use Rattle.bus_profile.specs.inner.FirstFault.{first_fault}
+use Rattle.bus_profile.specs.inner.FirstWord.{IsFirstWord}
 
 pub count_items-view : (vs : List Value) → count_items (items_view vs) ≡ length vs
 count_items-view [] = refl
@@ -46,16 +46,16 @@ words_head part ds b = refl
 pub is_too_long-view : (vs : List Value) → is_too_long (tables 256) (items_view vs) ≡ nat_lt 256 (length vs)
 is_too_long-view vs = rw (count_items-view vs)
 
-pub goes_beyond-view : (first : ℕ) (at : Option Data) (vs : List Value) → IsPlace first at → goes_beyond at (items_view vs) ≡ nat_lt 32 (first - 1 + length vs)
+pub goes_beyond-view : (first : ℕ) (at : Option Data) (vs : List Value) → IsFirstWord first at → goes_beyond at (items_view vs) ≡ nat_lt 32 (first - 1 + length vs)
 goes_beyond-view first at vs place = rw (place.beyond (items_view vs), count_items-view vs)
 
 -- ---- where the words begin
 
-range_of : (b : Bool) (n : ℕ) (f : ProfileFault) → cond (is_none (cond b (Some n) None)) (Some f) None ≡ None → b ≡ true
+pub range_of : (b : Bool) (n : ℕ) (f : ProfileFault) → cond (is_none (cond b (Some n) None)) (Some f) None ≡ None → b ≡ true
 range_of true n f e = refl
 range_of false n f e = absurd (cc)
 
-found_place : (part : Part) (d : Option Data) → first_fault (key_checks part at_row d) ≡ None → IsPlace (number (or_default at_row.presence d)) (or_default at_row.presence d)
+found_place : (part : Part) (d : Option Data) → first_fault (key_checks part at_row d) ≡ None → IsFirstWord (number (or_default at_row.presence d)) (or_default at_row.presence d)
 unfolding in_order
 found_place part None e = record { low = omega arith; high = omega arith; beyond = λ ds. refl }
 found_place part (Some (integer (pos n))) e =
@@ -69,5 +69,5 @@ found_place part (Some (datetime s)) e = absurd (cc)
 found_place part (Some (array s)) e = absurd (cc)
 found_place part (Some (table s)) e = absurd (cc)
 
-pub place_of : (part : Part) (ms : Members) (first : ℕ) → first_fault (row_checks part ms at_row) ≡ None → first ≡ number (value at_row ms) → IsPlace first (value at_row ms)
+pub place_of : (part : Part) (ms : Members) (first : ℕ) → first_fault (row_checks part ms at_row) ≡ None → first ≡ number (value at_row ms) → IsFirstWord first (value at_row ms)
 place_of part ms first e is = rw is (found_place part (found At ms) e)

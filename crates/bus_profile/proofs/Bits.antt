@@ -3,10 +3,12 @@ use Rattle.std.proofs.Common.{◌≡◌, ◌≢◌, ℕ, zero, suc, ◌+◌, ◌
 use Rattle.std.proofs.lemmas.Bool.Decides.{nat_tests}
 use Rattle.std.proofs.lemmas.Bool.{cases_lt}
 use Rattle.std.proofs.lemmas.Nat.Bits.{bit_at_cat_low, bit_at_cat_high, bit_at-lt, bit_at-zero, same_from_bits_below, bit_at_set_same, bit_at_set_other}
+use Rattle.std.proofs.Math.Bool.{or-true}
 use Rattle.std.proofs.Math.Nat.{pow-suc}
 use Rattle.std.specs.Int.{w32}
 use Rattle.std.specs.Prelude.{bit_or}
-use Rattle.bus_profile.specs.OwnCodes.{has_bit}
+use Rattle.bus_word.specs.Mask.{has_bit}
+use Rattle.bus_word.proofs.MaskLaws.{same_bit}
 use Rattle.bus_profile.specs.RangesOf.{bits_where}
 
 pub bits_where-small : (k : ℕ) (p : ℕ → Bool) → bits_where k p < 2 ^ k
@@ -36,15 +38,6 @@ pub bits_where-same : (k : ℕ) (p q : ℕ → Bool) → ((i : ℕ) → i < k �
 bits_where-same zero p q h = refl
 bits_where-same (suc k) p q h = rw (h k (omega arith), bits_where-same k p q (λ i l. h i (omega arith)))
 
-same_bit : (x y : ℕ) → x < 2 → y < 2 → (x == 1) ≡ (y == 1) → x ≡ y
-same_bit zero zero a b e = refl
-same_bit zero (suc zero) a b e = cc
-same_bit zero (suc (suc y)) a b e = absurd (omega arith)
-same_bit (suc zero) zero a b e = cc
-same_bit (suc zero) (suc zero) a b e = refl
-same_bit (suc zero) (suc (suc y)) a b e = absurd (omega arith)
-same_bit (suc (suc x)) y a b e = absurd (omega arith)
-
 -- a number is that of its bits
 pub bits_where-whole : (k n : ℕ) → n < 2 ^ k → bits_where k (has_bit n) ≡ n
 bits_where-whole k n small =
@@ -54,10 +47,6 @@ bits_where-whole k n small =
 pub or_false : (b : Bool) → b ≡ (b || false)
 or_false true = refl
 or_false false = refl
-
-or_true : (b : Bool) → (b || true) ≡ true
-or_true true = refl
-or_true false = refl
 
 -- one more bit set
 pub has_bit-set : (n k i : ℕ) → k < 32 → has_bit (bit_or n (1 * 2 ^ k % 2 ^ 32)) i ≡ (has_bit n i || (i == k))
@@ -73,7 +62,7 @@ has_bit-set n k i within = ⊎_elim less (λ le. ⊎_elim more (λ le'. same (om
     more l = other (λ e. absurd (omega arith))
 
     same : i ≡ k → has_bit (bit_or n (1 * 2 ^ k % 2 ^ 32)) i ≡ (has_bit n i || (i == k))
-    same e = let yes : (i == k) ≡ true = grind (arith, nat_tests) in rw (yes, e, bit_at_set_same w32 n k within) (sym (or_true (has_bit n k)))
+    same e = let yes : (i == k) ≡ true = grind (arith, nat_tests) in rw (yes, e, bit_at_set_same w32 n k within) (sym (or-true (has_bit n k)))
 
 -- the step of a loop that sets the bits from first on
 pub with_next : (h : Bool) (first bit i : ℕ) → first ≤ bit → ((h || (nat_le first i && nat_lt i bit)) || (i == bit)) ≡ (h || (nat_le first i && nat_lt i (bit + 1)))

@@ -1,6 +1,7 @@
 pub mod Arrays
 pub mod Bits
 pub mod Defaults
+pub mod Faultless
 pub mod Items
 pub mod Least
 pub mod Order

@@ -1,5 +1,6 @@
 -- What a text of ranges answers, by the grammar.
 use Rattle.std.proofs.Common.{◌≡◌, ℕ, ◌+◌, ◌-◌, ◌^◌, ◌<◌, ◌≤◌, ◌&&◌, ◌||◌, nat_le, Bool, true, false, cond, List, [], ◌∷◌, Option, Some, None, Ok, Err, refl, ap, sym, ◌∙◌, arith, inl, inr, ◌⊎◌}
+use Rattle.std.proofs.Math.Bool.{or-true}
 use Rattle.std.proofs.lemmas.Bool.Decides.{nat_tests}
 use Rattle.std.proofs.lemmas.Bool.{and_parts}
 use Rattle.std.proofs.lemmas.Option.{same_Some}
@@ -9,7 +10,7 @@ use Rattle.bus_profile.specs.declared.ranges.RangeFault.TheVariants.{Bounds}
 use Rattle.bus_profile.specs.RangesOf.{is_within, is_named, items_of, mask_of, mask_within, ranges_of}
 use Rattle.bus_profile.specs.Ranges.{Denotes, IsWithin, AreWithin, Names, IsReading}
 use Rattle.bus_profile.proofs.RangesGrammar.{items_found, items_are}
-use Rattle.bus_profile.specs.OwnCodes.{has_bit}
+use Rattle.bus_word.specs.Mask.{has_bit}
 use Rattle.bus_profile.proofs.Bits.{bits_where-bit, bits_where-cut}
 
 within_is : (low high : ℕ) (s : Item) → is_within low high s ≡ true → IsWithin low high s
@@ -34,14 +35,10 @@ named_is (s ∷ ss) n e = pick (nat_le s.first n && nat_le n s.last) refl e (nam
     pick true here e more = inl (grind (arith, nat_tests), grind (arith, nat_tests))
     pick false here e more = inr (more e)
 
-or_true : (b : Bool) → (b || true) ≡ true
-or_true true = refl
-or_true false = refl
-
 is_named_from : (ss : List Item) (n : ℕ) → Names ss n → is_named ss n ≡ true
 is_named_from [] n h = absurd h
 is_named_from (s ∷ ss) n (inl h) = let yes' : (nat_le s.first n && nat_le n s.last) ≡ true = grind (arith, nat_tests, h.0, h.1) in rw yes'
-is_named_from (s ∷ ss) n (inr h) = rw (is_named_from ss n h) (or_true _)
+is_named_from (s ∷ ss) n (inr h) = rw (is_named_from ss n h) (or-true _)
 
 bit_of : (low n : ℕ) (ss : List Item) → low ≤ n → n - low < 32 → has_bit (mask_of low ss) (n - low) ≡ is_named ss n
 unfolding mask_of

@@ -6,8 +6,9 @@ use Rattle.std.specs.List.{slice_split, list_all}
 use Rattle.bus_profile.specs.declared.ranges.Item.{Item}
 use Rattle.bus_profile.specs.declared.ranges.RangeFault.{RangeFault}
 use Rattle.bus_profile.specs.declared.ranges.RangeFault.TheVariants.{Syntax, Bounds}
-use Rattle.bus_profile.specs.OwnCodes.{has_bit}
-use Rattle.bus_profile.specs.RangesOf.{bits_where, is_within, is_named, in_front, items_of, item_of, parts_after, mask_of, ranges_of, mask_within}
+use Rattle.bus_word.specs.Mask.{has_bit}
+use Rattle.bus_profile.specs.RangesOf.{bits_where, is_within, is_named, in_front, items_of, item_of, mask_of, ranges_of, mask_within}
+use Rattle.bus_profile.specs.inner.RangeParts.{parts_after}
 use Rattle.bus_profile.proofs.Bits.{or_false, bits_where-same, bits_where-whole}
 
 -- the items of what is left, where nothing may be

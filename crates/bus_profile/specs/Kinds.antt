@@ -4,6 +4,7 @@ use Rattle.std.specs.List.{list_any}
 use Rattle.std.specs.Option.{option_or}
 use Rattle.std.specs.Str.{bytes_eq}
 use Rattle.std.specs.Result.{result_unwrap_or}
+use Rattle.bus_word.specs.Command.{wraparound_subaddress}
 use Rattle.toml.specs.Data.{Data, string, integer, boolean, array, Items, no_items, item, Members, no_members, member, get_member}
 use Rattle.bus_profile.specs.declared.ranges.RangeFault.{RangeFault}
 use Rattle.bus_profile.specs.declared.ranges.RangeFault.TheVariants.{Syntax, Bounds}
@@ -104,7 +105,7 @@ truth_value _ = false
 
 -- A wraparound subaddress: the number that stands there, 30 for true, and 0, that is none, for false.
 abbrev pub wrap_value : Option Data → ℕ
-wrap_value (Some (boolean b)) = if b then 30 else 0
+wrap_value (Some (boolean b)) = if b then wraparound_subaddress else 0
 wrap_value d = number d
 
 abbrev pub text : Option Data → List ℕ

@@ -1,3 +1,4 @@
+pub use Rattle.bus_word.specs.Mask
 pub use Rattle.bus_word.specs.Mode
 pub use Rattle.toml.specs.Data
 pub use Rattle.toml.specs.Parse
@@ -7,11 +8,9 @@ pub mod Keys
 pub mod Kinds
 pub mod Checks
 pub mod Faults
+pub mod FaultNames
 pub mod Plain
 pub mod Read
 pub mod Last
 pub mod OwnCodes
-pub mod FirstFault
-pub mod Section
-pub mod Choice
-pub mod Initial
+pub mod inner

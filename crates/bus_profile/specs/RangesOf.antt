@@ -58,11 +58,6 @@ all_of (i ∷ more) = in_front i (all_of more)
 unfoldable pub items_of : List ℕ → Option (List Item)
 items_of text = all_of (map item_of (slice_split (λ b. b == comma) text))
 
--- the parts of a text that follows such a byte, and none where there is no such text
-abbrev pub parts_after : ℕ → Option (List ℕ) → List (List ℕ)
-parts_after at None = []
-parts_after at (Some text) = slice_split (λ b. b == at) text
-
 -- the item doesn't fall, and its numbers are in the range
 abbrev pub is_within : ℕ → ℕ → Item → Bool
 is_within low high i = (nat_le low i.first && nat_le i.first i.last) && nat_le i.last high

@@ -1,11 +1,11 @@
 //! The keys that take one of a few texts: `to` and `direction`.
 ghost use Rattle.std.specs.Prelude.{◌≡◌, codes};
-ghost use Rattle.bus_profile.specs.Choice.{addressee_text, direction_text};
-ghost use Rattle.bus_profile.specs.FirstFault.{ReadsAs};
+ghost use Rattle.bus_profile.specs.inner.Choice.{addressee_text, direction_text};
+ghost use Rattle.bus_profile.specs.inner.FirstFault.{ReadsAs};
 ghost use Rattle.bus_profile.specs.Keys.{to_row, direction_row};
 ghost use Rattle.bus_profile.specs.Kinds.{text};
 ghost use Rattle.bus_profile.specs.Plain.{says};
-ghost use Rattle.bus_profile.specs.Section.{value_at, fault_at};
+ghost use Rattle.bus_profile.specs.inner.Section.{value_at, fault_at};
 
 use crate::fault::{Key, ProfileFault};
 use crate::section::Section;

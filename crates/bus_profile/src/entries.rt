@@ -1,4 +1,4 @@
-//! The entries of a profile's three arrays, and the lists of them.
+//! The entries of a profile's three arrays, and lists of entries.
 ghost use Rattle.std.specs.Prelude.{◌≡◌, ◌≤◌, ◌<◌, ◌^◌, ◌+◌, length};
 
 use std::marker::Model;
@@ -51,116 +51,39 @@ pub struct InitialWords {
     ghost whole: { length words ≡ 32 },
 }
 
-/// The rules of a profile. A contract sees the list.
+/// The entries of one of a profile's arrays, in order. A contract sees the list.
 #[derive(Debug, Drop)]
-pub struct Rules {
-    rules: Vec<Rule>,
+pub struct Entries<T> {
+    entries: Vec<T>,
 }
 
-impl Model for Rules {
+impl<T> Model for Entries<T> {
     ghost use Rattle.std.specs.Prelude.{List};
-    ghost use Rattle.bus_profile.specs.declared.entries.Rule.{Rule};
 
-    ghost Value = { List Rule };
+    ghost Value = { List T };
 
-    ghost view = { λ s. s.rules.items };
+    ghost view = { λ s. s.entries.items };
 }
 
-impl Rules {
-    /// The list of these rules.
-    pub fn of(rules: Vec<Rule>) -> Rules
-        ensures { result ≡ rules.items }
+impl<T> Entries<T> {
+    /// The list of these entries.
+    pub fn of(entries: Vec<T>) -> Entries<T>
+        ensures { result ≡ entries.items }
     {
-        Rules { rules }
+        Entries { entries }
     }
 
-    /// The rules, in order.
-    pub fn as_slice(&self) -> &[Rule]
+    /// The entries, in order.
+    pub fn as_slice(&self) -> &[T]
         ensures { result.now ≡ self.now }
     {
-        &self.rules
+        &self.entries
     }
 
-    /// Gives the rules back.
-    pub fn into_vec(self) -> Vec<Rule>
+    /// Gives the entries back.
+    pub fn into_vec(self) -> Vec<T>
         ensures { result.items ≡ self }
     {
-        self.rules
-    }
-}
-
-/// The mode entries of a profile. A contract sees the list.
-#[derive(Debug, Drop)]
-pub struct ModeRules {
-    modes: Vec<ModeRule>,
-}
-
-impl Model for ModeRules {
-    ghost use Rattle.std.specs.Prelude.{List};
-    ghost use Rattle.bus_profile.specs.declared.entries.ModeRule.{ModeRule};
-
-    ghost Value = { List ModeRule };
-
-    ghost view = { λ s. s.modes.items };
-}
-
-impl ModeRules {
-    /// The list of these mode entries.
-    pub fn of(modes: Vec<ModeRule>) -> ModeRules
-        ensures { result ≡ modes.items }
-    {
-        ModeRules { modes }
-    }
-
-    /// The mode entries, in order.
-    pub fn as_slice(&self) -> &[ModeRule]
-        ensures { result.now ≡ self.now }
-    {
-        &self.modes
-    }
-
-    /// Gives the mode entries back.
-    pub fn into_vec(self) -> Vec<ModeRule>
-        ensures { result.items ≡ self }
-    {
-        self.modes
-    }
-}
-
-/// The initial entries of a profile. A contract sees the list.
-#[derive(Debug, Drop)]
-pub struct Initials {
-    initials: Vec<InitialWords>,
-}
-
-impl Model for Initials {
-    ghost use Rattle.std.specs.Prelude.{List};
-    ghost use Rattle.bus_profile.specs.declared.entries.InitialWords.{InitialWords};
-
-    ghost Value = { List InitialWords };
-
-    ghost view = { λ s. s.initials.items };
-}
-
-impl Initials {
-    /// The list of these initial entries.
-    pub fn of(initials: Vec<InitialWords>) -> Initials
-        ensures { result ≡ initials.items }
-    {
-        Initials { initials }
-    }
-
-    /// The initial entries, in order.
-    pub fn as_slice(&self) -> &[InitialWords]
-        ensures { result.now ≡ self.now }
-    {
-        &self.initials
-    }
-
-    /// Gives the initial entries back.
-    pub fn into_vec(self) -> Vec<InitialWords>
-        ensures { result.items ≡ self }
-    {
-        self.initials
+        self.entries
     }
 }

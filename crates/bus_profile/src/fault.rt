@@ -1,5 +1,6 @@
 //! Why a profile text is refused, and where in it the fault stands.
 ghost use Rattle.std.specs.Prelude.{◌≡◌};
+ghost use Rattle.bus_profile.specs.FaultNames.{fault_number, fault_name};
 ghost use Rattle.bus_profile.specs.Keys.{name_of};
 
 use std::alloc::AllocFailed;
@@ -113,12 +114,48 @@ pub enum ProfileFault {
     /// subaddress.
     #[error("profile: {0}: {1} has too many items")]
     TooMany(Part, Key),
-    /// The profile makes this mode code, 2, 4, 5 or 8, illegal for the terminal's own address.
+    /// The profile makes this mode code, one of those that must be legal, illegal for the terminal's own address.
     #[error("profile: mode code {0} must be legal")]
     RequiredCode(u8),
     /// A growth of memory was refused, which says nothing of the text.
     #[error("out of memory")]
     Memory,
+}
+
+impl ProfileFault {
+    /// The number of the kind of fault, 1 to 9 in the order of the variants.
+    pub fn number(&self) -> u8
+        ensures { result ≡ fault_number self.now }
+    {
+        match self {
+            ProfileFault::NotToml => 1,
+            ProfileFault::UnknownKey(_) => 2,
+            ProfileFault::Missing(_, _) => 3,
+            ProfileFault::WrongKind(_, _) => 4,
+            ProfileFault::OutOfRange(_, _) => 5,
+            ProfileFault::BadRanges(_, _) => 6,
+            ProfileFault::TooMany(_, _) => 7,
+            ProfileFault::RequiredCode(_) => 8,
+            ProfileFault::Memory => 9,
+        }
+    }
+
+    /// The name of the kind of fault: that of its variant.
+    pub fn name(&self) -> &'static str
+        ensures { result.now ≡ fault_name self.now }
+    {
+        match self {
+            ProfileFault::NotToml => "NotToml",
+            ProfileFault::UnknownKey(_) => "UnknownKey",
+            ProfileFault::Missing(_, _) => "Missing",
+            ProfileFault::WrongKind(_, _) => "WrongKind",
+            ProfileFault::OutOfRange(_, _) => "OutOfRange",
+            ProfileFault::BadRanges(_, _) => "BadRanges",
+            ProfileFault::TooMany(_, _) => "TooMany",
+            ProfileFault::RequiredCode(_) => "RequiredCode",
+            ProfileFault::Memory => "Memory",
+        }
+    }
 }
 
 impl<T: Drop> From<AllocFailed<T>> for ProfileFault {

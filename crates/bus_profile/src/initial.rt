@@ -2,15 +2,15 @@
 ghost use Rattle.std.specs.Prelude.{◌≡◌, ◌+◌, ◌-◌, ◌≤◌, length, map, take, IfOk};
 ghost use Rattle.toml.specs.Data.{table as table_data};
 ghost use Rattle.toml.specs.View.{view, items_view, table_view};
-ghost use Rattle.bus_profile.specs.FirstFault.{first_fault, fault_of_parts, Reads, ReadsAs, ReadsInMemory};
+ghost use Rattle.bus_profile.specs.inner.FirstFault.{first_fault, fault_of_parts, Reads, ReadsAs, ReadsInMemory};
 ghost use Rattle.bus_profile.specs.Faults.{initial_checks, head_checks, goes_beyond, word_checks, each_item};
 ghost use Rattle.bus_profile.specs.Keys.{at_row, words_row};
 ghost use Rattle.bus_profile.specs.Kinds.{items};
 ghost use Rattle.bus_profile.specs.Plain.{plain_initial, initial_in, word_in, each_of};
-ghost use Rattle.bus_profile.specs.Section.{tree_of, value_at};
-ghost use Rattle.bus_profile.specs.Initial.{IsPlace};
+ghost use Rattle.bus_profile.specs.inner.Section.{tree_of, value_at};
+ghost use Rattle.bus_profile.specs.inner.FirstWord.{IsFirstWord};
 
-use crate::entries::{InitialWords, Initials};
+use crate::entries::{Entries, InitialWords};
 use crate::fault::{Key, Part, ProfileFault};
 use crate::section::{Section, in_range, items_of};
 use std::alloc::Global;
@@ -19,7 +19,7 @@ use toml::{Table, Value};
 const KEYS: [Key; 3] = [Key::Subaddress, Key::At, Key::Words];
 
 /// The initial entries that are the items of an array.
-pub fn initials_of(alloc: Global, values: &[Value]) -> Result<Initials, ProfileFault>
+pub fn initials_of(alloc: Global, values: &[Value]) -> Result<Entries<InitialWords>, ProfileFault>
     requires { length values.now ≤ 256 }
     ensures reads { ReadsInMemory (map plain_initial) (fault_of_parts (each_item initial_checks 1 (items_view values.now))) (each_of initial_in (items_view values.now)) result }
     ensures few { IfOk result (λ initials. length initials ≤ 256) }
@@ -28,10 +28,10 @@ pub fn initials_of(alloc: Global, values: &[Value]) -> Result<Initials, ProfileF
     for (index, value) in values.iter().enumerate() {
         initials.push(initial_of(value, index as u16 + 1)?)?;
     }
-    Ok(Initials::of(initials))
+    Ok(Entries::of(initials))
 }
 
-// The initial entry that a value is.
+/// Reads the initial entry that a value is.
 #[tactic(auto, unfolding(crate::specs::Checks::in_order, crate::specs::Faults::entry_checks))]
 fn initial_of(value: &Value, number: u16) -> Result<InitialWords, ProfileFault>
     ensures { ReadsAs plain_initial (first_fault (initial_checks number (view value.now))) (initial_in (view value.now)) result }
@@ -42,7 +42,7 @@ fn initial_of(value: &Value, number: u16) -> Result<InitialWords, ProfileFault>
     }
 }
 
-// The initial entry of a table.
+/// Reads the initial entry of a table.
 #[tactic(auto, using(crate::proofs::Sections::initial_fault))]
 fn initial_from(table: &Table, number: u16) -> Result<InitialWords, ProfileFault>
     ensures { ReadsAs plain_initial (first_fault (initial_checks number (table_data (table_view table.now)))) (initial_in (table_data (table_view table.now))) result }
@@ -67,10 +67,10 @@ fn initial_from(table: &Table, number: u16) -> Result<InitialWords, ProfileFault
 }
 
 impl Section<'_> {
-    // The values of the words, of which none goes beyond number 32 where `first` is that of the first.
+    /// Gives the values of the words, of which none goes beyond number 32 where `first` is that of the first.
     #[tactic(auto, unfolding(crate::specs::Checks::in_order))]
     fn word_values(&self, first: u16) -> Result<&[Value], ProfileFault>
-        requires { IsPlace first (value_at at_row self.now) }
+        requires { IsFirstWord first (value_at at_row self.now) }
         ensures reads { ReadsAs (λ values. items_view values.now) (first_fault (head_checks self.now.part words_row (goes_beyond (value_at at_row self.now)) (tree_of self.now))) (items (value_at words_row self.now)) result }
         ensures room { IfOk result (λ values. first + length values.now ≤ 33) }
     {
@@ -87,7 +87,7 @@ impl Section<'_> {
     }
 }
 
-// The words in front, as many as there are.
+/// Reads the words, which stand in front of the answer, as many as there are.
 fn words_of(values: &[Value], part: Part) -> Result<[u16; 32], ProfileFault>
     requires { length values.now ≤ 32 }
     ensures { ReadsAs (take (length values.now)) (fault_of_parts (each_item (λ _. word_checks part) 1 (items_view values.now))) (each_of word_in (items_view values.now)) result }
@@ -99,6 +99,7 @@ fn words_of(values: &[Value], part: Part) -> Result<[u16; 32], ProfileFault>
     Ok(words)
 }
 
+/// Reads one word.
 #[tactic(auto, unfolding(crate::specs::Checks::in_order))]
 fn word_of(value: &Value, part: Part) -> Result<u16, ProfileFault>
     ensures { Reads (first_fault (word_checks part (view value.now))) (word_in (view value.now)) result }

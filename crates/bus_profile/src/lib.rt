@@ -6,6 +6,7 @@ mod choice;
 mod entries;
 mod fault;
 mod initial;
+pub mod laws;
 mod mode;
 mod own_codes;
 mod profile;
@@ -14,7 +15,7 @@ mod read;
 mod rule;
 mod section;
 
-pub use entries::{InitialWords, Initials, ModeRule, ModeRules, Rule, Rules};
+pub use entries::{Entries, InitialWords, ModeRule, Rule};
 pub use fault::{Key, Part, ProfileFault};
 pub use profile::Profile;
 pub use ranges::{RangeFault, parse_ranges};

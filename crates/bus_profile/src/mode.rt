@@ -2,11 +2,11 @@
 ghost use Rattle.std.specs.Prelude.{◌≡◌, ◌≤◌, ◌<◌, length, IfOk};
 ghost use Rattle.toml.specs.Data.{table as table_data};
 ghost use Rattle.toml.specs.View.{view, items_view, table_view};
-ghost use Rattle.bus_profile.specs.FirstFault.{first_fault, fault_of_parts, Reads, ReadsInMemory};
+ghost use Rattle.bus_profile.specs.inner.FirstFault.{first_fault, fault_of_parts, Reads, ReadsInMemory};
 ghost use Rattle.bus_profile.specs.Faults.{mode_checks, each_item};
 ghost use Rattle.bus_profile.specs.Plain.{mode_in, each_of};
 
-use crate::entries::{ModeRule, ModeRules};
+use crate::entries::{Entries, ModeRule};
 use crate::fault::{Key, Part, ProfileFault};
 use crate::section::Section;
 use std::alloc::Global;
@@ -15,7 +15,7 @@ use toml::{Table, Value};
 const KEYS: [Key; 3] = [Key::To, Key::Codes, Key::Legal];
 
 /// The mode entries that are the items of an array.
-pub fn modes_of(alloc: Global, values: &[Value]) -> Result<ModeRules, ProfileFault>
+pub fn modes_of(alloc: Global, values: &[Value]) -> Result<Entries<ModeRule>, ProfileFault>
     requires { length values.now ≤ 256 }
     ensures reads { ReadsInMemory (λ modes. modes) (fault_of_parts (each_item mode_checks 1 (items_view values.now))) (each_of mode_in (items_view values.now)) result }
     ensures few { IfOk result (λ modes. length modes ≤ 256) }
@@ -24,10 +24,10 @@ pub fn modes_of(alloc: Global, values: &[Value]) -> Result<ModeRules, ProfileFau
     for (index, value) in values.iter().enumerate() {
         modes.push(mode_of(value, index as u16 + 1)?)?;
     }
-    Ok(ModeRules::of(modes))
+    Ok(Entries::of(modes))
 }
 
-// The mode entry that a value is.
+/// Reads the mode entry that a value is.
 #[tactic(auto, unfolding(crate::specs::Checks::in_order, crate::specs::Faults::entry_checks))]
 fn mode_of(value: &Value, number: u16) -> Result<ModeRule, ProfileFault>
     ensures { Reads (first_fault (mode_checks number (view value.now))) (mode_in (view value.now)) result }
@@ -38,7 +38,7 @@ fn mode_of(value: &Value, number: u16) -> Result<ModeRule, ProfileFault>
     }
 }
 
-// The mode entry of a table.
+/// Reads the mode entry of a table.
 #[tactic(auto, using(crate::proofs::Sections::mode_fault))]
 fn mode_from(table: &Table, number: u16) -> Result<ModeRule, ProfileFault>
     ensures { Reads (first_fault (mode_checks number (table_data (table_view table.now)))) (mode_in (table_data (table_view table.now))) result }

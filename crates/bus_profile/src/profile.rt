@@ -2,7 +2,7 @@
 ghost use Rattle.std.specs.Prelude.{◌≤◌, IsTrue, length};
 ghost use Rattle.bus_profile.specs.OwnCodes.{has_required_codes};
 
-use crate::entries::{Initials, ModeRules, Rules};
+use crate::entries::{Entries, InitialWords, ModeRule, Rule};
 
 /// What sets a remote terminal up.
 #[derive(Debug, Drop)]
@@ -21,16 +21,16 @@ pub struct Profile {
     /// The BIT word at power-up.
     pub bit: u16,
     /// At most 256.
-    pub rules: Rules,
+    pub rules: Entries<Rule>,
     /// At most 256.
-    pub modes: ModeRules,
+    pub modes: Entries<ModeRule>,
     /// At most 256.
-    pub initials: Initials,
+    pub initials: Entries<InitialWords>,
     ghost own_address: { address ≤ 30 },
     ghost own_wrap: { wrap ≤ 30 },
     ghost few_rules: { length rules ≤ 256 },
     ghost few_modes: { length modes ≤ 256 },
     ghost few_initials: { length initials ≤ 256 },
-    // The four own mode codes that must be legal are.
+    // The own mode codes that must be legal are.
     ghost required_codes: { IsTrue (has_required_codes modes) },
 }

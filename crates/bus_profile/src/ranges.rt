@@ -1,9 +1,10 @@
 //! Texts of ranges, as `1-3, 5`, and the sets of numbers that they name.
 ghost use Rattle.std.specs.Prelude.{◌≡◌, ℕ, ◌+◌, ◌-◌, ◌<◌, ◌≤◌, ◌==◌, ◌∷◌, map, length, option_map, IfSome, nat_le, ◌&&◌, ◌||◌};
 ghost use Rattle.std.specs.List.{slice_split};
-ghost use Rattle.bus_profile.specs.OwnCodes.{has_bit};
+ghost use Rattle.bus_word.specs.Mask.{has_bit};
 ghost use Rattle.bus_profile.specs.Ranges.{IsReading};
-ghost use Rattle.bus_profile.specs.RangesOf.{trim_start, trim_end, decimal_of, number_of, pair_of, item_of, parts_after, is_within, ranges_of};
+ghost use Rattle.bus_profile.specs.inner.RangeParts.{parts_after};
+ghost use Rattle.bus_profile.specs.RangesOf.{trim_start, trim_end, decimal_of, number_of, pair_of, item_of, is_within, ranges_of};
 
 use thiserror::Error;
 
@@ -29,7 +30,7 @@ struct Item {
 impl Item {
     ghost use Rattle.bus_profile.specs.RangesOf.{is_within};
 
-    /// Whether the item doesn't fall and its numbers are from `low` to `high`.
+    /// Tells whether the item doesn't fall and its numbers are from `low` to `high`.
     fn is_within(self, low: u8, high: u8) -> bool
         ensures { result ≡ is_within low high self }
     {
@@ -53,8 +54,8 @@ pub fn parse_ranges(text: &str, low: u8, high: u8) -> Result<u32, RangeFault>
     mask_of_items(text, low, high)
 }
 
-// The text is read to its end also after an item that is out of range, since a text that is no list
-// of items is refused for that alone.
+/// Reads the set of a text, to its end also after an item that is out of range, since a text that is no
+/// list of items is refused for that alone.
 fn mask_of_items(text: &str, low: u8, high: u8) -> Result<u32, RangeFault>
     requires order { low ≤ high }
     requires width { high - low ≤ 31 }
@@ -84,7 +85,7 @@ fn mask_of_items(text: &str, low: u8, high: u8) -> Result<u32, RangeFault>
     }
 }
 
-// The text before the first such byte, and the text after it.
+/// Gives the text before the first such byte, and the text after it.
 fn first_part(text: &[u8], at: u8) -> (&[u8], Option<&[u8]>)
     ensures parts { slice_split (λ b. b == at) text.now ≡ result.0.now ∷ parts_after at (option_map (λ t. t.now) result.1) }
     ensures shorter { IfSome result.1 (λ t. length t.now < length text.now) }
@@ -97,6 +98,7 @@ fn first_part(text: &[u8], at: u8) -> (&[u8], Option<&[u8]>)
     (text, None)
 }
 
+/// Reads one item.
 #[tactic(auto, unfolding(crate::specs::RangesOf::item_of))]
 fn item_of(text: &[u8]) -> Option<Item>
     ensures { result ≡ item_of text.now }
@@ -114,7 +116,7 @@ fn item_of(text: &[u8]) -> Option<Item>
     }
 }
 
-// The item of a number and what follows its minus sign.
+/// Reads the item of a number and what follows its minus sign.
 #[tactic(auto, using(crate::proofs::Parts::no_third_part))]
 fn pair_of(first: &[u8], rest: &[u8]) -> Option<Item>
     ensures { result ≡ pair_of (number_of first.now ∷ map number_of (slice_split (λ b. b == 45) rest.now)) }
@@ -129,6 +131,7 @@ fn pair_of(first: &[u8], rest: &[u8]) -> Option<Item>
     })
 }
 
+/// Reads a number with spaces before and after it.
 #[tactic(auto, unfolding(crate::specs::RangesOf::number_of))]
 fn number_of(text: &[u8]) -> Option<u16>
     ensures { result ≡ number_of text.now }
@@ -136,6 +139,7 @@ fn number_of(text: &[u8]) -> Option<u16>
     decimal_of(trim_end(trim_start(text)))
 }
 
+/// Takes the spaces off the front.
 fn trim_start(text: &[u8]) -> &[u8]
     ensures { result.now ≡ trim_start text.now }
 {
@@ -146,6 +150,7 @@ fn trim_start(text: &[u8]) -> &[u8]
     rest
 }
 
+/// Takes the spaces off the end.
 fn trim_end(text: &[u8]) -> &[u8]
     ensures { result.now ≡ trim_end text.now }
 {
@@ -159,6 +164,7 @@ fn trim_end(text: &[u8]) -> &[u8]
     rest
 }
 
+/// Reads one to three decimal digits.
 fn decimal_of(digits: &[u8]) -> Option<u16>
     ensures { result ≡ decimal_of digits.now }
 {
@@ -174,7 +180,7 @@ fn decimal_of(digits: &[u8]) -> Option<u16>
     }
 }
 
-// The mask with the bits from `first` to `last` set too.
+/// Gives the mask with the bits from `first` to `last` set too.
 fn with_bits(mask: u32, first: u8, last: u8) -> u32
     requires order { first ≤ last }
     requires room { last < 32 }

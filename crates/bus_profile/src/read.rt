@@ -2,7 +2,7 @@
 ghost use Rattle.std.specs.Prelude.{IfOk, IfErr};
 ghost use Rattle.toml.specs.View.{table_view};
 ghost use Rattle.bus_profile.specs.Faults.{faults};
-ghost use Rattle.bus_profile.specs.FirstFault.{first_fault, ReadsInMemory};
+ghost use Rattle.bus_profile.specs.inner.FirstFault.{first_fault, ReadsInMemory};
 ghost use Rattle.bus_profile.specs.Plain.{plain, profile_of};
 ghost use Rattle.bus_profile.specs.Read.{Accepts, Refuses};
 
@@ -43,7 +43,7 @@ pub fn read_profile(alloc: Global, text: &[u8]) -> Result<Profile, ProfileFault>
     }
 }
 
-// The profile of a tree.
+/// Reads the profile of a tree.
 #[tactic(auto, using(crate::proofs::Tree::tree_fault))]
 fn profile_of(alloc: Global, table: &Table) -> Result<Profile, ProfileFault>
     ensures { ReadsInMemory plain (first_fault (faults (table_view table.now))) (profile_of (table_view table.now)) result }

@@ -2,11 +2,11 @@
 ghost use Rattle.std.specs.Prelude.{◌≤◌, length, IfOk, map};
 ghost use Rattle.toml.specs.Data.{table as table_data};
 ghost use Rattle.toml.specs.View.{view, items_view, table_view};
-ghost use Rattle.bus_profile.specs.FirstFault.{first_fault, fault_of_parts, ReadsAs, ReadsInMemory};
+ghost use Rattle.bus_profile.specs.inner.FirstFault.{first_fault, fault_of_parts, ReadsAs, ReadsInMemory};
 ghost use Rattle.bus_profile.specs.Faults.{rule_checks, each_item};
 ghost use Rattle.bus_profile.specs.Plain.{plain_rule, rule_in, each_of};
 
-use crate::entries::{Rule, Rules};
+use crate::entries::{Entries, Rule};
 use crate::fault::{Key, Part, ProfileFault};
 use crate::section::Section;
 use std::alloc::Global;
@@ -21,7 +21,7 @@ const KEYS: [Key; 5] = [
 ];
 
 /// The rules that are the items of an array.
-pub fn rules_of(alloc: Global, values: &[Value]) -> Result<Rules, ProfileFault>
+pub fn rules_of(alloc: Global, values: &[Value]) -> Result<Entries<Rule>, ProfileFault>
     requires { length values.now ≤ 256 }
     ensures reads { ReadsInMemory (map plain_rule) (fault_of_parts (each_item rule_checks 1 (items_view values.now))) (each_of rule_in (items_view values.now)) result }
     ensures few { IfOk result (λ rules. length rules ≤ 256) }
@@ -30,10 +30,10 @@ pub fn rules_of(alloc: Global, values: &[Value]) -> Result<Rules, ProfileFault>
     for (index, value) in values.iter().enumerate() {
         rules.push(rule_of(value, index as u16 + 1)?)?;
     }
-    Ok(Rules::of(rules))
+    Ok(Entries::of(rules))
 }
 
-// The rule that a value is.
+/// Reads the rule that a value is.
 #[tactic(auto, unfolding(crate::specs::Checks::in_order, crate::specs::Faults::entry_checks))]
 fn rule_of(value: &Value, number: u16) -> Result<Rule, ProfileFault>
     ensures { ReadsAs plain_rule (first_fault (rule_checks number (view value.now))) (rule_in (view value.now)) result }
@@ -44,7 +44,7 @@ fn rule_of(value: &Value, number: u16) -> Result<Rule, ProfileFault>
     }
 }
 
-// The rule of a table.
+/// Reads the rule of a table.
 #[tactic(auto, using(crate::proofs::Sections::rule_fault))]
 fn rule_from(table: &Table, number: u16) -> Result<Rule, ProfileFault>
     ensures { ReadsAs plain_rule (first_fault (rule_checks number (table_data (table_view table.now)))) (rule_in (table_data (table_view table.now))) result }

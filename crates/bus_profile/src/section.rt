@@ -2,14 +2,15 @@
 ghost use Rattle.std.specs.Prelude.{◌≡◌, ◌+◌, ◌-◌, ◌^◌, ◌<◌, ◌≤◌, pos, length, option_map, Some, IfOk, IfSome};
 ghost use Rattle.toml.specs.Data.{as_array, integer, boolean, array, no_items};
 ghost use Rattle.toml.specs.View.{view, items_view};
-ghost use Rattle.bus_profile.specs.FirstFault.{Reads, ReadsAs, first_fault};
+ghost use Rattle.bus_profile.specs.inner.FirstFault.{Reads, ReadsAs, first_fault};
 ghost use Rattle.bus_profile.specs.Faults.{key_checks, head_checks};
 ghost use Rattle.bus_profile.specs.Keys.{row, whole, truth, ranges, tables, required, optional, counts_row, wraparound_row};
 ghost use Rattle.bus_profile.specs.Kinds.{found, number, truth_value, wrap_value, set_from, items, in_range, is_too_long, is_known, has_unknown};
-ghost use Rattle.bus_profile.specs.Section.{tree_of, value_at, fault_at};
+ghost use Rattle.bus_profile.specs.inner.Section.{tree_of, value_at, fault_at};
 
 use crate::fault::{Key, Part, ProfileFault};
 use crate::ranges::{RangeFault, parse_ranges};
+use bus_word::WRAPAROUND_SUBADDRESS;
 use toml::{Table, Value};
 
 /// A table of the profile text, and which part of the profile it is.
@@ -90,17 +91,17 @@ impl Section<'_> {
         }
     }
 
-    /// The wraparound subaddress, 0 for none: a truth value or a whole number, 30 where there is neither.
+    /// The wraparound subaddress, 0 for none: a truth value or a whole number, `WRAPAROUND_SUBADDRESS` where there is neither.
     #[tactic(auto, unfolding(crate::specs::Checks::in_order))]
     pub fn wraparound(&self) -> Result<u8, ProfileFault>
         ensures reads { Reads (fault_at wraparound_row self.now) (wrap_value (value_at wraparound_row self.now)) result }
         ensures range { IfOk result (λ n. n ≤ 30) }
     {
         let Some(value) = self.value(Key::Wraparound) else {
-            return Ok(30);
+            return Ok(WRAPAROUND_SUBADDRESS);
         };
         match value {
-            Value::Boolean(true) => Ok(30),
+            Value::Boolean(true) => Ok(WRAPAROUND_SUBADDRESS),
             Value::Boolean(false) => Ok(0),
             Value::Integer(n) => match in_range(*n, 1, 30) {
                 Some(n) => Ok(n as u8),
@@ -135,7 +136,7 @@ impl Section<'_> {
         }
     }
 
-    // Ranges are a text, or one whole number.
+    /// Reads the numbers of a value, which is a text of ranges or one whole number.
     #[tactic(auto, unfolding(crate::specs::Checks::in_order))]
     fn ranges_in(&self, key: Key, value: &Value, low: u8, high: u8) -> Result<u32, ProfileFault>
         requires order { low ≤ high }
@@ -197,6 +198,7 @@ pub fn in_range(n: i64, low: u16, high: u16) -> Option<u16>
     Some(n as u16)
 }
 
+/// Tells whether a name is that of one of the keys.
 fn is_known(keys: &[Key], name: &str) -> bool
     ensures { result ≡ is_known keys.now name.now }
 {

@@ -1,6 +1,9 @@
 //! Tests against values from outside the code: sums, counts and the standard's own table.
 
-use bus_word::{Cell, Command, Kind, ModeRow, Raw, StatusParts, cell_of, mode_row, status_of};
+use bus_word::{
+    Cell, Command, Kind, ModeRow, Raw, StatusParts, cell_of, has_bit, is_required_code, mode_row,
+    status_of,
+};
 
 /// The assigned mode codes of a dual redundant system (MIL-STD-1553B, table I): code, T/R, whether
 /// a data word goes with it, whether broadcast is allowed.
@@ -94,6 +97,29 @@ fn every_command_has_its_fields_and_its_cell(rt: HostRuntime) {
 fn every_code_has_its_row(rt: HostRuntime) {
     for code in 0..=255u8 {
         assert_eq!(rt; mode_row(code), standard_row(code), "of {code}");
+    }
+}
+
+/// Those of Notice 2, 30.4.2.1: transmit status word, transmitter shutdown and its override, reset.
+#[test]
+fn four_codes_are_required(rt: HostRuntime) {
+    for code in 0..=255u8 {
+        assert_eq!(rt;
+            is_required_code(code),
+            [2, 4, 5, 8].contains(&code),
+            "of {code}"
+        );
+    }
+}
+
+#[test]
+fn bits_of_a_mask(rt: HostRuntime) {
+    for bit in 0..32u8 {
+        assert_eq!(rt;
+            has_bit(0x8000_0005, bit),
+            [0, 2, 31].contains(&bit),
+            "of {bit}"
+        );
     }
 }
 

@@ -110,7 +110,7 @@ row_in-small (e ∷ entries) code h is =
     small_by (code == e.code) code e.code e.row (row_in entries code) refl parts.0 (λ later. row_in-small entries code parts.1 later) is
 
 -- the row of a code that has one
-row_of : (o : Option ModeRow) → is_some o ≡ true → (row : ModeRow) × (o ≡ Some row)
+pub row_of : (o : Option ModeRow) → is_some o ≡ true → (row : ModeRow) × (o ≡ Some row)
 row_of (Some row) h = (row, refl)
 row_of None h = absurd (cc)
 

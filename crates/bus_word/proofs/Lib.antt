@@ -1,4 +1,5 @@
 pub mod Parity
+pub mod MaskLaws
 pub mod Masks
 pub mod WordLaws
 pub mod CellLaws

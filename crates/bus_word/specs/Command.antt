@@ -39,6 +39,10 @@ transmits command = (fields_of command).tr == 1
 abbrev pub subaddress_of : ℕ → ℕ
 subaddress_of command = (fields_of command).subaddress
 
+-- the subaddress of data wraparound that Notice 2 names (30.7)
+abbrev pub wraparound_subaddress : ℕ
+wraparound_subaddress = 30
+
 -- the low field as a mode code
 abbrev pub code_of : ℕ → ℕ
 code_of command = (fields_of command).low

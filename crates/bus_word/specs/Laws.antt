@@ -23,7 +23,7 @@ abbrev pub FieldsAreUnique : Type 0
 FieldsAreUnique = (f : Fields) → AreInRange f → (word_of f < 2 ^ 16) × (fields_of (word_of f) ≡ f)
 
 -- where each bit of a status word stands
-pub record HasBits (status address : ℕ) (parts : StatusParts) : Type 0 where
+pub record HasStatusBits (status address : ℕ) (parts : StatusParts) : Type 0 where
   pub address_field : status / 0x0800 ≡ address
   pub error : status / 0x0400 % 2 ≡ bit_of parts.error
   pub instrumentation : status / 0x0200 % 2 ≡ 0
@@ -36,7 +36,7 @@ pub record HasBits (status address : ℕ) (parts : StatusParts) : Type 0 where
   pub terminal : status % 2 ≡ bit_of parts.terminal
 
 abbrev pub StatusHasBits : Type 0
-StatusHasBits = (address : ℕ) (parts : StatusParts) → HasBits (status_word address parts) address parts
+StatusHasBits = (address : ℕ) (parts : StatusParts) → HasStatusBits (status_word address parts) address parts
 
 -- the number below 2 ^ n whose bit i is set exactly if i passes the test
 abbrev pub mask_where : ℕ → (ℕ → Bool) → ℕ

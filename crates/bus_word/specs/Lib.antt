@@ -1,3 +1,4 @@
+pub mod Mask
 pub mod Word
 pub mod Command
 pub mod Status

@@ -21,6 +21,7 @@ pub enum Cell {
 
 ghost use Rattle.bus_word.specs.Cell.{data_cell, mode_cell, cell_of};
 
+/// Gives the cell of a command to a subaddress of data.
 fn data_cell(command: Command) -> Option<Cell>
     ensures { result ≡ data_cell command }
 {
@@ -34,6 +35,7 @@ fn data_cell(command: Command) -> Option<Cell>
     }
 }
 
+/// Gives the cell of a command whose mode code has this row.
 fn mode_cell(command: Command, row: ModeRow) -> Option<Cell>
     ensures { result ≡ mode_cell command row }
 {

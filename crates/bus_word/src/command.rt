@@ -3,6 +3,10 @@ ghost use Rattle.std.specs.Prelude.{◌≡◌, ℕ, ◌<◌, ◌^◌};
 
 use std::marker::Model;
 
+/// The subaddress of data wraparound that Notice 2 names (30.7): words that are received there are those
+/// that are transmitted from there.
+pub const WRAPAROUND_SUBADDRESS: u8 = 30;
+
 /// The 16 bits of a command word. A contract sees it as their number.
 #[derive(Clone, Copy)]
 pub struct Command {

@@ -5,12 +5,14 @@
 mod cell;
 mod command;
 pub mod laws;
+mod mask;
 pub mod mode;
 mod status;
 mod word;
 
 pub use cell::{Cell, cell_of};
-pub use command::Command;
-pub use mode::{ModeRow, mode_row};
+pub use command::{Command, WRAPAROUND_SUBADDRESS};
+pub use mask::has_bit;
+pub use mode::{ModeRow, is_required_code, mode_row};
 pub use status::{StatusParts, status_of};
 pub use word::{Bus, Kind, Raw};

@@ -42,6 +42,7 @@ pub struct ModeRow {
 impl ModeRow {
     ghost use Rattle.bus_word.specs.Mode.{row};
 
+    /// Makes a row of the table.
     fn of(transmit: bool, word: bool, broadcast: bool) -> ModeRow
         ensures { result ≡ row transmit word broadcast }
     {
@@ -53,7 +54,7 @@ impl ModeRow {
     }
 }
 
-ghost use Rattle.bus_word.specs.Mode.{mode_row};
+ghost use Rattle.bus_word.specs.Mode.{mode_row, is_required_code};
 
 /// The row of a mode code, or None for a code that is always illegal: the reserved ones, and
 /// selected transmitter shutdown and its override (20 and 21), which serve more than two buses.
@@ -67,4 +68,12 @@ pub fn mode_row(code: u8) -> Option<ModeRow>
         SYNCHRONIZE_WITH_WORD => Some(ModeRow::of(false, true, true)),
         _ => None,
     }
+}
+
+/// Whether every profile must leave the mode code legal to the own address: transmit status word,
+/// transmitter shutdown and its override, and reset remote terminal (Notice 2, 30.4.2.1).
+pub fn is_required_code(code: u8) -> bool
+    ensures { result ≡ is_required_code code }
+{
+    matches!(code, TRANSMIT_STATUS | SHUTDOWN | OVERRIDE_SHUTDOWN | RESET)
 }

@@ -21,6 +21,7 @@ pub struct StatusParts {
     pub terminal: bool,
 }
 
+/// Gives the mask of a bit that is set, 0 of one that isn't.
 fn masked(is_set: bool, mask: u16) -> u16
     ensures { result ≡ mask_if is_set mask }
 {

@@ -3,7 +3,7 @@ ghost use Rattle.std.specs.Prelude.{◌≡◌, ◌<◌, ◌≤◌, ◌^◌, ◌+
 ghost use Rattle.bus_profile.specs.OwnCodes.{has_required_codes};
 
 use bus_legal::{Legality, RuleList};
-use bus_profile::{InitialWords, Initials, ModeRule, ModeRules, Profile, Rule, Rules};
+use bus_profile::{Entries, InitialWords, ModeRule, Profile, Rule};
 use bus_word::Cell;
 use std::alloc::{AllocError, Global};
 
@@ -86,9 +86,9 @@ pub fn profile(
         accept: fields.accept,
         vector: fields.vector,
         bit: fields.bit,
-        rules: Rules::of(rules),
-        modes: ModeRules::of(modes),
-        initials: Initials::of(initials),
+        rules: Entries::of(rules),
+        modes: Entries::of(modes),
+        initials: Entries::of(initials),
     })
 }
 

@@ -554,3 +554,22 @@ fn arrays_of_256_and_257_items(rt: HostRuntime) -> Result<(), Fail> {
     }
     Ok(())
 }
+
+#[test]
+fn faults_have_numbers_and_names(rt: HostRuntime) {
+    let (part, key) = (Part::Root, Key::Address);
+    for (fault, number, name) in [
+        (ProfileFault::NotToml, 1, "NotToml"),
+        (ProfileFault::UnknownKey(part), 2, "UnknownKey"),
+        (ProfileFault::Missing(part, key), 3, "Missing"),
+        (ProfileFault::WrongKind(part, key), 4, "WrongKind"),
+        (ProfileFault::OutOfRange(part, key), 5, "OutOfRange"),
+        (ProfileFault::BadRanges(part, key), 6, "BadRanges"),
+        (ProfileFault::TooMany(part, key), 7, "TooMany"),
+        (ProfileFault::RequiredCode(2), 8, "RequiredCode"),
+        (ProfileFault::Memory, 9, "Memory"),
+    ] {
+        assert_eq!(rt; fault.number(), number, "{name}");
+        assert_eq!(rt; fault.name(), name);
+    }
+}

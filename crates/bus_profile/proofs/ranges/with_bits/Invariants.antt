@@ -1,5 +1,5 @@
 use Rattle.std.proofs.Common.{◌≡◌, ℕ, ◌<◌, ◌||◌, ◌&&◌, nat_le, nat_lt}
-use Rattle.bus_profile.specs.OwnCodes.{has_bit}
+use Rattle.bus_word.specs.Mask.{has_bit}
 use Rattle.bus_profile.proofs.ranges.with_bits.Given as goal
 
 abbrev pub invariant-loop-bit : goal.invariant-loop-bit

@@ -22,7 +22,7 @@ invariant_of-result c =
       address = p.own_address;
       vector = search rules;
       bit = search rules;
-      words = words.ensures.rows (c.put_initial.ensures.rows AreWords-zeros);
+      words = words.ensures.blocks (c.put_initial.ensures.blocks AreWords-zeros);
       own_receive = record { thirty = search rules; fit = search rules };
       own_transmit = record { thirty = search rules; fit = search rules };
       broadcast_receive = record { thirty = search rules; fit = search rules };

@@ -8,7 +8,8 @@ use Rattle.bus_profile.specs.Last.{last_of}
 use Rattle.bus_profile.specs.OwnCodes.{contains_own, mode_says}
 use Rattle.bus_legal.specs.declared.tables.Tables.{Tables}
 use Rattle.bus_legal.specs.Legal.{contains_broadcast, last_says, is_legal}
-use Rattle.bus_legal.specs.Tables.{tables_say, bit_said}
+use Rattle.bus_legal.specs.Tables.{tables_say}
+use Rattle.bus_legal.specs.inner.Masks.{bit_said}
 use Rattle.bus_legal.proofs.ModeMasks.{own_mask}
 use Rattle.bus_legal.proofs.TableSteps.{at_place, at_code, row_below, broadcast_row_below}
 use Rattle.bus_legal.proofs.tables.Tables.of.Goals as goal
