@@ -1,9 +1,9 @@
 //! The lines that a text has only where a controller can ask for what they tell.
 ghost use Rattle.std.specs.Prelude.{◌≡◌, ◌≤◌, true, false, codes, if◌then◌else◌, IfOk, OnOk};
-ghost use Rattle.line_format.specs.Reading.{read};
+ghost use Rattle.line_format.specs.inner.Reading.{read};
 ghost use Rattle.line_format.specs.Shapes.{decimal, word, number_line, bit_line};
-ghost use Rattle.line_format.specs.Views.{Gives, spot};
-ghost use Rattle.line_format.specs.Writing.{Adds};
+ghost use Rattle.line_format.specs.inner.Views.{Gives, spot};
+ghost use Rattle.line_format.specs.inner.Writing.{Adds};
 ghost use Rattle.bus_word.specs.declared.cell.Cell.TheVariants.{OwnMode};
 ghost use Rattle.bus_legal.specs.Tables.{tables_say, masks_wrap};
 ghost use Rattle.bus_canon.specs.Canon.{when, wrap_bit, wrap_switch, may_wrap, wrap_name, wrap_lines};
@@ -12,7 +12,7 @@ use crate::names::{ACCEPT, WRAPAROUND};
 use bus_legal::{Legality, Tables};
 use bus_word::Cell;
 use line_format::{
-    Lines, WrongLine, bit_line, number_line_of, put_bit_line, put_number_line, word_line,
+    FieldKind, Lines, WrongLine, bit_line, number_line, put_bit_line, put_number_line, word_line,
 };
 use std::alloc::AllocError;
 
@@ -101,13 +101,13 @@ fn wrap_line<'a>(lines: Lines<'a>, tables: &Tables) -> Result<(u8, Lines<'a>), W
     ensures answer { Gives (λ r. r.0) (λ r. r.1) result (read (number_line (codes "wraparound") decimal (may_wrap tables.now)) (spot lines.entry)) }
     ensures own { IfOk result (λ r. r.0 ≤ 30) }
 {
-    let Some((number, rest)) = number_line_of(lines.rest, WRAPAROUND, 10, 2) else {
-        return Err(lines.wrong());
-    };
-    if !may_wrap(tables, number) {
-        return Err(lines.wrong());
-    }
-    Ok((number as u8, lines.behind(rest)))
+    let (subaddress, lines) = number_line(
+        lines,
+        WRAPAROUND,
+        FieldKind::Decimal,
+        |n| may_wrap(tables, n),
+    )?;
+    Ok((subaddress as u8, lines))
 }
 
 /// Reads the wraparound subaddress, as a text of version 2 tells it.
@@ -154,7 +154,7 @@ fn put_bit_where(out: &mut Vec<u8>, given: bool, name: &[u8], bit: bool) -> Resu
 fn put_word_line(out: &mut Vec<u8>, name: &[u8], number: u16) -> Result<(), AllocError>
     ensures { OnOk result (Adds (number_line name.now word (λ _. true)) number out.old.items out.new.items) }
 {
-    put_number_line(out, name, 16, 4, u32::from(number))
+    put_number_line(out, name, FieldKind::Word, u32::from(number))
 }
 
 /// Writes a line with a word, if the text has it.
@@ -200,7 +200,7 @@ fn put_wrap_line(out: &mut Vec<u8>, tables: &Tables, wrap: u8) -> Result<(), All
     requires may { may_wrap tables.now wrap ≡ true }
     ensures { OnOk result (Adds (number_line (codes "wraparound") decimal (may_wrap tables.now)) wrap out.old.items out.new.items) }
 {
-    put_number_line(out, WRAPAROUND, 10, 2, u32::from(wrap))
+    put_number_line(out, WRAPAROUND, FieldKind::Decimal, u32::from(wrap))
 }
 
 /// Writes the wraparound subaddress, where one can be reached.

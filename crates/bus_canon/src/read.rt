@@ -1,8 +1,8 @@
 //! The reader of canonical texts.
 ghost use Rattle.std.specs.Prelude.{◌≡◌, ◌≤◌, nat_le, codes, IfOk};
-ghost use Rattle.line_format.specs.Reading.{read};
+ghost use Rattle.line_format.specs.inner.Reading.{read};
 ghost use Rattle.line_format.specs.Shapes.{decimal, number_line};
-ghost use Rattle.line_format.specs.Views.{Gives, spot};
+ghost use Rattle.line_format.specs.inner.Views.{Gives, spot};
 ghost use Rattle.line_format.specs.Answers.{Answers};
 ghost use Rattle.bus_canon.specs.Canon.{version_field, is_read, canon};
 ghost use Rattle.bus_canon.specs.CanonAnswer.{canon_answer};
@@ -13,7 +13,7 @@ use crate::fault::CanonFault;
 use crate::names::{ADDRESS, BIT, BROADCAST, HEAD, VECTOR};
 use crate::rows::rows;
 use bus_legal::{Normal, Setup};
-use line_format::{Lines, WrongLine, bit_line, number_line_of};
+use line_format::{FieldKind, Lines, WrongLine, bit_line, number_line};
 
 fn is_read(version: u32) -> bool
     ensures { result ≡ is_read version }
@@ -25,26 +25,15 @@ fn is_read(version: u32) -> bool
 fn version_line(lines: Lines<'_>) -> Result<(u32, Lines<'_>), WrongLine>
     ensures { Gives (λ r. r.0) (λ r. r.1) result (read (number_line (codes "rt1553") version_field is_read) (spot lines.entry)) }
 {
-    let Some((number, rest)) = number_line_of(lines.rest, HEAD, 10, 1) else {
-        return Err(lines.wrong());
-    };
-    if !is_read(number) {
-        return Err(lines.wrong());
-    }
-    Ok((number, lines.behind(rest)))
+    number_line(lines, HEAD, FieldKind::Digit, is_read)
 }
 
 fn address_line(lines: Lines<'_>) -> Result<(u8, Lines<'_>), WrongLine>
     ensures answer { Gives (λ r. r.0) (λ r. r.1) result (read (number_line (codes "address") decimal (λ n. nat_le n 30)) (spot lines.entry)) }
     ensures own { IfOk result (λ r. r.0 ≤ 30) }
 {
-    let Some((number, rest)) = number_line_of(lines.rest, ADDRESS, 10, 2) else {
-        return Err(lines.wrong());
-    };
-    if 30 < number {
-        return Err(lines.wrong());
-    }
-    Ok((number as u8, lines.behind(rest)))
+    let (address, lines) = number_line(lines, ADDRESS, FieldKind::Decimal, |n| n <= 30)?;
+    Ok((address as u8, lines))
 }
 
 fn text(lines: Lines<'_>) -> Result<(Normal, Lines<'_>), WrongLine>

@@ -1,6 +1,6 @@
 //! The writer of canonical texts.
 ghost use Rattle.std.specs.Prelude.{◌≤◌, length, IfOk, OnOk};
-ghost use Rattle.line_format.specs.Writing.{Adds};
+ghost use Rattle.line_format.specs.inner.Writing.{Adds};
 ghost use Rattle.bus_legal.specs.Parts.{parts_of, IsNormal};
 ghost use Rattle.bus_canon.specs.Canon.{is_written, canon, Text};
 
@@ -9,7 +9,7 @@ use crate::cell_lines::put_cells;
 use crate::names::{ADDRESS, BIT, BROADCAST, HEAD, VECTOR};
 use crate::rows::put_rows;
 use bus_legal::{Normal, Setup, Tables};
-use line_format::{put_bit_line, put_number_line};
+use line_format::{FieldKind, put_bit_line, put_number_line};
 use std::alloc::{AllocError, Global};
 
 /// The version of the texts that are written.
@@ -22,8 +22,8 @@ fn put_text(out: &mut Vec<u8>, setup: &Setup, tables: &Tables) -> Result<(), All
     requires { IsNormal (parts_of setup.now tables.now) }
     ensures { OnOk result (Adds (canon is_written) (parts_of setup.now tables.now) out.old.items out.new.items) }
 {
-    put_number_line(out, HEAD, 10, 1, VERSION)?;
-    put_number_line(out, ADDRESS, 10, 2, u32::from(setup.address))?;
+    put_number_line(out, HEAD, FieldKind::Digit, VERSION)?;
+    put_number_line(out, ADDRESS, FieldKind::Decimal, u32::from(setup.address))?;
     put_bit_line(out, BROADCAST, setup.broadcast)?;
     put_cells(out, setup.broadcast, tables)?;
     put_acceptance(out, tables, setup.accept)?;

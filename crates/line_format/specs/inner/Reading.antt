@@ -1,17 +1,7 @@
--- Reading texts of lines.
-use Rattle.std.specs.Prelude.{ℕ, zero, suc, ◌+◌, ◌-◌, ◌*◌, Bool, ◌==◌, nat_lt, nat_le, ◌&&◌, if◌then◌else◌, List, [], ◌∷◌, Option, Some, None, Result, Ok, Err}
+-- Reading texts of lines: what the readers of this crate, one after another, find.
+use Rattle.std.specs.Prelude.{ℕ, zero, suc, ◌+◌, ◌-◌, ◌*◌, Bool, nat_lt, nat_le, ◌&&◌, if◌then◌else◌, List, [], ◌∷◌, Option, Some, None, Result, Ok, Err}
 use Rattle.line_format.specs.Format.{Field, Shape, Format, done, line}
-
-infixl 10 ◌>>=◌
-abbrev pub ◌>>=◌ : {A B : Type 0} → Option A → (A → Option B) → Option B
-None >>= f = None
-(Some x) >>= f = f x
-
--- the bytes after these
-abbrev pub after : List ℕ → List ℕ → Option (List ℕ)
-after [] bytes = Some bytes
-after (c ∷ cs) [] = None
-after (c ∷ cs) (b ∷ bs) = if b == c then after cs bs else None
+use Rattle.line_format.specs.Front.{◌>>=◌, after}
 
 abbrev pub below : ℕ → ℕ → Option ℕ
 below base d = if nat_lt d base then Some d else None
