@@ -42,26 +42,28 @@ fn broadcast_masks(lines: Lines<'_>, broadcast: bool) -> Result<([u32; 30], Line
     }
 }
 
-/// Whether a terminal can have just these own mode codes legal.
+/// Says whether a terminal can have just these own mode codes legal.
 fn is_own_mask(legal: u32) -> bool
     ensures { result ≡ is_own_mask legal }
 {
     legal & OWN_CODES == legal && legal & REQUIRED_CODES == REQUIRED_CODES
 }
 
-/// Whether a terminal can have just these mode codes legal by broadcast.
+/// Says whether a terminal can have just these mode codes legal by broadcast.
 fn is_broadcast_mask(legal: u32) -> bool
     ensures { result ≡ is_broadcast_mask legal }
 {
     legal & BROADCAST_CODES == legal
 }
 
+/// Reads the line of the own mode codes.
 fn own_codes(lines: Lines<'_>) -> Result<(u32, Lines<'_>), WrongLine>
     ensures { Gives (λ r. r.0) (λ r. r.1) result (read (number_line (codes "own-mode") mask is_own_mask) (spot lines.entry)) }
 {
     number_line(lines, OWN_MODE, FieldKind::Mask, is_own_mask)
 }
 
+/// Reads the line of the broadcast mode codes.
 fn broadcast_code_line(lines: Lines<'_>) -> Result<(u32, Lines<'_>), WrongLine>
     ensures { Gives (λ r. r.0) (λ r. r.1) result (read (number_line (codes "broadcast-mode") mask is_broadcast_mask) (spot lines.entry)) }
 {
@@ -125,6 +127,7 @@ fn put_broadcast_masks(
     put_masks(out, BROADCAST_RECEIVE, table)
 }
 
+/// Writes the line of the own mode codes.
 fn put_own_codes(out: &mut Vec<u8>, legal: u32) -> Result<(), AllocError>
     requires { is_own_mask legal ≡ true }
     ensures { OnOk result (Adds (number_line (codes "own-mode") mask is_own_mask) legal out.old.items out.new.items) }
@@ -132,6 +135,7 @@ fn put_own_codes(out: &mut Vec<u8>, legal: u32) -> Result<(), AllocError>
     put_number_line(out, OWN_MODE, FieldKind::Mask, legal)
 }
 
+/// Writes the line of the broadcast mode codes.
 fn put_broadcast_code_line(out: &mut Vec<u8>, legal: u32) -> Result<(), AllocError>
     requires { is_broadcast_mask legal ≡ true }
     ensures { OnOk result (Adds (number_line (codes "broadcast-mode") mask is_broadcast_mask) legal out.old.items out.new.items) }
