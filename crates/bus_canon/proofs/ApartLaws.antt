@@ -10,13 +10,13 @@ use Rattle.terminal_exchanges.specs.Distinguish.{TellsApart, shown_subaddress}
 use Rattle.terminal_exchanges.proofs.Distinguish.Reached.{IsReached, normal-reached, apart_by_address, apart_by_option, apart_by_own_receive, apart_by_own_transmit, apart_by_broadcast_receive, apart_by_own_code, apart_by_broadcast_code, apart_by_acceptance, apart_by_vector, apart_by_bit, apart_by_initial, apart_by_wraparound}
 use Rattle.bus_canon.specs.declared.difference.Difference.{Difference}
 use Rattle.bus_canon.specs.declared.difference.Difference.TheVariants.{Address, BroadcastOption, ReceiveCell, TransmitCell, BroadcastReceiveCell, OwnCode, BroadcastCode, Acceptance, VectorWord, BitWord, InitialWord, Wraparound}
-use Rattle.bus_canon.specs.Difference.{kind_of, AreAlike, IsFirst, script_for}
-use Rattle.bus_canon.specs.FirstPlace.{AlikeBefore}
+use Rattle.bus_canon.specs.Difference.{rank, AreAlike, IsFirstDifference, script_for}
+use Rattle.bus_canon.specs.inner.Search.{AlikeBefore}
 
-earlier : (P Q : Description) (d c : Difference) → IsFirst P Q d → kind_of c < kind_of d → AreAlike P Q c
+earlier : (P Q : Description) (d c : Difference) → IsFirstDifference P Q d → rank c < rank d → AreAlike P Q c
 earlier P Q d c first l = first.alike c (inl l)
 
-apart_where_reached : (P Q : Description) (d : Difference) → IsReached P → IsReached Q → IsFirst P Q d → TellsApart P Q (script_for P Q d)
+apart_where_reached : (P Q : Description) (d : Difference) → IsReached P → IsReached Q → IsFirstDifference P Q d → TellsApart P Q (script_for P Q d)
 apart_where_reached P Q Address p q first = apart_by_address P Q p q first.differ
 apart_where_reached P Q BroadcastOption p q first = apart_by_option P Q p q (earlier P Q BroadcastOption Address first (omega arith)) first.differ
 apart_where_reached P Q (ReceiveCell s n) p q first = apart_by_own_receive P Q s n p q (earlier P Q (ReceiveCell s n) Address first (omega arith)) first.differ
@@ -48,7 +48,7 @@ apart_where_reached P Q Wraparound p q first =
     })
     first.differ
 
-pub apart_by_first : (v w : Parts) (d : Difference) → IsNormal v → IsNormal w → IsFirst (description_in v) (description_in w) d →
+pub apart_by_first : (v w : Parts) (d : Difference) → IsNormal v → IsNormal w → IsFirstDifference (description_in v) (description_in w) d →
     TellsApart (description_in v) (description_in w) (script_for (description_in v) (description_in w) d)
 apart_by_first v w d p q first = apart_where_reached (description_in v) (description_in w) d (normal-reached v p) (normal-reached w q) first
 

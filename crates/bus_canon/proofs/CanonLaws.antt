@@ -10,8 +10,8 @@ use Rattle.bus_legal.specs.Tables.{tables_say, masks_wrap, any_wraps, is_own_mas
 use Rattle.bus_legal.specs.Parts.{Parts, AreMasks, IsNormal}
 use Rattle.bus_legal.proofs.Counts.{any_to-true}
 use Rattle.line_format.specs.Format.{Format, done, Spells, IsSound}
-use Rattle.line_format.specs.Reading.{Spot, read}
-use Rattle.line_format.specs.Writing.{Adds}
+use Rattle.line_format.specs.inner.Reading.{Spot, read}
+use Rattle.line_format.specs.inner.Writing.{Adds}
 use Rattle.line_format.specs.Shapes.{decimal, word, mask, number_line, bit_line}
 use Rattle.line_format.proofs.SoundLaws.{sound_then, sound_after, sound_number, sound_bit}
 use Rattle.line_format.proofs.Writes.{spells-then, number_spelled, number_text, bit_spelled}
@@ -19,10 +19,10 @@ use Rattle.line_format.proofs.FormatLaws.{read-is, Meets}
 use Rattle.line_format.proofs.AnswerLaws.{one_front}
 use Rattle.line_format.proofs.OneText.{Parted, parted, number_one, number_value, number_weaker, number_fits, bit_one}
 use Rattle.line_format.proofs.SizeLaws.{HasSize, size_done, size_then, size_number, size_bit}
-use Rattle.bus_canon.specs.Canon.{when, masks, cells, rows, wrap_bit, wrap_switch, may_wrap, wrap_name, wrap_lines, version_field, is_written, is_read, canon, Text, AnyText}
+use Rattle.bus_canon.specs.Canon.{when, masks, cells, blocks, wrap_bit, wrap_switch, may_wrap, wrap_name, wrap_lines, version_field, is_written, is_read, canon, Text, AnyText}
 use Rattle.bus_canon.proofs.Several.{when_sound, when_one, when_size, when_absent, when_holds, when_spelled}
 use Rattle.bus_canon.proofs.MaskLaws.{AreSoMany, masks_are, are_masks, masks_some}
-use Rattle.bus_canon.proofs.RowLaws.{zero_words, zero_at, FitRows, rows_sound, rows_one, rows_size, rows_fit, rows_some}
+use Rattle.bus_canon.proofs.BlockLaws.{zero_words, zero_at, FitBlocks, blocks_sound, blocks_one, blocks_size, blocks_fit, blocks_some}
 use Rattle.bus_canon.proofs.CellLaws.{CellLines, cells_cut, cells_spelled, cells_sound, cells_one, cells_size, broadcast_codes_line, broadcast_masks}
 
 abbrev head_line : (ℕ → Bool) → Format ℕ
@@ -64,7 +64,7 @@ pub record TextLines (versions : ℕ → Bool) (v : Parts) (bytes : List ℕ) : 
   pub vector_is : Spells (when (tables_say v.tables (OwnMode 16)) 0 (number_line (codes "vector") word (λ _. true))) v.vector vector
   pub bit_is : Spells (when (tables_say v.tables (OwnMode 19)) 0 (number_line (codes "bit") word (λ _. true))) v.bit bit
   pub wrap_is : Spells (wrap_lines version v.tables) v.wrap wrap
-  pub initial_is : Spells (rows 1 v.tables.own_transmit) v.initial initial
+  pub initial_is : Spells (blocks 1 v.tables.own_transmit) v.initial initial
 
 abbrev made : ℕ → Bool → Tables → Bool → ℕ → ℕ → ℕ → List (List ℕ) → Parts
 made address broadcast tables accept vector bit wrap initial =
@@ -239,7 +239,7 @@ canon_sound versions written =
     let long : length t.own_transmit ≡ 30 = transmit_long broadcast t x h in
     sound_then _ _ (when_sound _ _ _ (sound_bit _ refl)) (λ accept. sound_then _ _ (when_sound _ _ _ (sound_number _ word _ 0 refl (lit< tt) refl)) (λ vector.
     sound_then _ _ (when_sound _ _ _ (sound_number _ word _ 0 refl (lit< tt) refl)) (λ bit. sound_then _ _ (wrap_sound version t) (λ wrap.
-    sound_then _ _ (rows_sound 1 t.own_transmit (omega arith)) (λ initial. tt)))))))))
+    sound_then _ _ (blocks_sound 1 t.own_transmit (omega arith)) (λ initial. tt)))))))))
 
 -- a value has one text that is written
 written_two : (v : Parts) (x : List ℕ) (l : TextLines is_written v x) → l.version ≡ 2
@@ -263,7 +263,7 @@ text_one v x y h k =
     (ap₂ (λ u w. u ++ w) (when_one (tables_say v.tables (OwnMode 16)) 0 vector_line (number_one _ word (λ _. true)) v.vector a.vector b.vector a.vector_is b.vector_is)
     (ap₂ (λ u w. u ++ w) (when_one (tables_say v.tables (OwnMode 19)) 0 bit_word_line (number_one _ word (λ _. true)) v.bit a.bit b.bit a.bit_is b.bit_is)
     (ap₂ (λ u w. u ++ w) (when_one (any_wraps v.tables) 0 (wrap_line v.tables) (number_one _ decimal (may_wrap v.tables)) v.wrap a.wrap b.wrap wrap_a wrap_b)
-    (rows_one 1 v.tables.own_transmit v.initial a.initial b.initial a.initial_is b.initial_is))))))))
+    (blocks_one 1 v.tables.own_transmit v.initial a.initial b.initial a.initial_is b.initial_is))))))))
     ∙ sym b.is
 
 -- a text that is written is one that is read
@@ -314,7 +314,7 @@ text_size v x h =
     let vector : HasSize (when (tables_say v.tables (OwnMode 16)) 0 vector_line) 0 12 = when_size _ _ _ 12 12 (size_number (codes "vector") word _ 12 refl) in
     let bit : HasSize (when (tables_say v.tables (OwnMode 19)) 0 bit_word_line) 0 9 = when_size _ _ _ 9 9 (size_number (codes "bit") word _ 9 refl) in
     let wrap : HasSize (wrap_lines l.version v.tables) 0 14 = wrap_size l.version v.tables in
-    let initial : HasSize (rows 1 v.tables.own_transmit) 0 (171 * length v.tables.own_transmit) = rows_size 1 v.tables.own_transmit in
+    let initial : HasSize (blocks 1 v.tables.own_transmit) 0 (171 * length v.tables.own_transmit) = blocks_size 1 v.tables.own_transmit in
     let long : length v.tables.own_transmit ≡ 30 = transmit_long v.broadcast v.tables l.cells l.cells_are in
     let sum : length x ≡ length l.head + (length l.address + (length l.broadcast + (length l.cells + (length l.accept + (length l.vector + (length l.bit + (length l.wrap + length l.initial))))))) =
     ap length l.is ∙ simp length-append in
@@ -345,13 +345,13 @@ text_normal v x h =
     let receive : AreSoMany 30 t.own_receive = masks_are _ 1 30 t.own_receive cs.receive cs.receive_is in
     let none : AreSoMany 30 (replicate 30 0) = zeros_are in
     let heard : AreSoMany 30 t.broadcast_receive = when_holds (AreSoMany 30) v.broadcast (replicate 30 0) broadcast_masks (masks_are _ 1 30) none t.broadcast_receive cs.heard cs.heard_is in
-    let fit : FitRows t.own_transmit v.initial = rows_fit 1 t.own_transmit v.initial l.initial l.initial_is in
+    let fit : FitBlocks t.own_transmit v.initial = blocks_fit 1 t.own_transmit v.initial l.initial l.initial_is in
     let own : nat_le v.address 30 ≡ true = number_value _ decimal (λ n. nat_le n 30) v.address l.address l.address_is in
     record {
       address = grind (arith, nat_tests, own);
       vector = when_holds (λ n. n < 2 ^ 16) (tables_say t (OwnMode 16)) 0 vector_line (number_fits _ word (λ _. true)) (lit< tt) v.vector l.vector l.vector_is;
       bit = when_holds (λ n. n < 2 ^ 16) (tables_say t (OwnMode 19)) 0 bit_word_line (number_fits _ word (λ _. true)) (lit< tt) v.bit l.bit l.bit_is;
-      words = record { thirty = fit.long ∙ transmit.long; blocks = λ s k. (fit.fit s (omega (arith, transmit.long))).is_row };
+      words = record { thirty = fit.long ∙ transmit.long; blocks = λ s k. (fit.fit s (omega (arith, transmit.long))).is_block };
       own_receive = are_masks t.own_receive receive;
       own_transmit = are_masks t.own_transmit transmit;
       broadcast_receive = are_masks t.broadcast_receive heard;
@@ -431,10 +431,10 @@ cells_some v is =
     } in
     (_, cells_spelled v.broadcast t _ lines)
 
-fit_rows : (v : Parts) → IsNormal v → FitRows v.tables.own_transmit v.initial
-fit_rows v is = record {
+fit_blocks : (v : Parts) → IsNormal v → FitBlocks v.tables.own_transmit v.initial
+fit_blocks v is = record {
   long = is.words.thirty ∙ sym is.own_transmit.thirty;
-  fit = λ s l. (let place : s < 30 = omega (arith, is.own_transmit.thirty) in record { is_row = is.words.blocks s place; unsent = λ i k le. is.unsent s i place k le });
+  fit = λ s l. (let place : s < 30 = omega (arith, is.own_transmit.thirty) in record { is_block = is.words.blocks s place; unsent = λ i k le. is.unsent s i place k le });
 }
 
 wrap_some : (t : Tables) (s : ℕ) → s ≤ 30 → (masks_wrap t s ≡ false → s ≡ 0) → (x : List ℕ) × Spells (wrap_lines 2 t) s x
@@ -453,7 +453,7 @@ normal_text v is =
     let vector = when_spelled (tables_say v.tables (OwnMode 16)) 0 vector_line v.vector (word_some (codes "vector") v.vector is.vector) is.unasked_vector in
     let bit = when_spelled (tables_say v.tables (OwnMode 19)) 0 bit_word_line v.bit (word_some (codes "bit") v.bit is.bit) is.unasked_bit in
     let wrap = wrap_some v.tables v.wrap is.wrap is.unwrapped in
-    let initial = rows_some 1 v.tables.own_transmit v.initial (omega (arith, is.own_transmit.thirty)) (fit_rows v is) in
+    let initial = blocks_some 1 v.tables.own_transmit v.initial (omega (arith, is.own_transmit.thirty)) (fit_blocks v is) in
     let lines : TextLines is_written v (number_text (codes "rt1553") version_field 2 ++ (number_text (codes "address") decimal v.address ++ (broadcast.0 ++ (tables.0 ++ (accept.0 ++ (vector.0 ++ (bit.0 ++ (wrap.0 ++ initial.0)))))))) = record {
       version = 2;
       head = number_text (codes "rt1553") version_field 2;

@@ -5,8 +5,8 @@ use Rattle.bus_word.specs.declared.cell.Cell.TheVariants.{OwnReceive, OwnTransmi
 use Rattle.bus_legal.specs.Description.{Description}
 use Rattle.bus_canon.specs.declared.difference.Difference.{Difference}
 use Rattle.bus_canon.specs.declared.difference.Difference.TheVariants.{Address, BroadcastOption, ReceiveCell, TransmitCell, BroadcastReceiveCell, OwnCode, BroadcastCode, Acceptance, VectorWord, BitWord, InitialWord, Wraparound}
-use Rattle.bus_canon.specs.Difference.{kind_of, first_number, second_number, IsLower, AreAlike, IsFirst}
-use Rattle.bus_canon.specs.FirstPlace.{AlikeBefore}
+use Rattle.bus_canon.specs.Difference.{rank, first_number, second_number, IsLower, AreAlike, IsFirstDifference}
+use Rattle.bus_canon.specs.inner.Search.{AlikeBefore}
 
 -- alike in what is of a kind, at the numbers that are meant
 abbrev pub AlikeIn : ℕ → Description → Description → (ℕ → ℕ → Type 0) → Type 0
@@ -31,7 +31,7 @@ All s n = Unit {0}
 abbrev pub Lower : Difference → ℕ → ℕ → Type 0
 Lower d s n = IsLower s n (first_number d) (second_number d)
 
-alike_in : (P Q : Description) (meant : ℕ → ℕ → Type 0) (c : Difference) → AlikeIn (kind_of c) P Q meant → meant (first_number c) (second_number c) → AreAlike P Q c
+alike_in : (P Q : Description) (meant : ℕ → ℕ → Type 0) (c : Difference) → AlikeIn (rank c) P Q meant → meant (first_number c) (second_number c) → AreAlike P Q c
 alike_in P Q meant Address f m = f m
 alike_in P Q meant BroadcastOption f m = f m
 alike_in P Q meant (ReceiveCell s n) f m = f s n m
@@ -62,19 +62,19 @@ before_all P Q Wraparound l = absurd (omega arith)
 
 -- alike in one more kind
 pub alike_to : (kind next : ℕ) (P Q : Description) → next ≡ kind + 1 → AlikeBefore kind P Q → AlikeIn kind P Q All → AlikeBefore next P Q
-alike_to kind next P Q is before f c l = by_kind (cases_lt (kind_of c) kind)
+alike_to kind next P Q is before f c l = by_kind (cases_lt (rank c) kind)
   where
-    by_kind : (kind_of c < kind) ⊎ (kind ≤ kind_of c) → AreAlike P Q c
+    by_kind : (rank c < kind) ⊎ (kind ≤ rank c) → AreAlike P Q c
     by_kind (inl lt) = before c lt
     by_kind (inr le) =
-        let at : kind ≡ kind_of c = omega arith in
+        let at : kind ≡ rank c = omega arith in
         alike_in P Q All c (subst (λ k. AlikeIn k P Q All) at f) tt
 
 -- the first difference of a kind, where all of the kinds before it is alike
-pub first_of_kind : (P Q : Description) (d : Difference) → AlikeBefore (kind_of d) P Q → AlikeIn (kind_of d) P Q (Lower d) → (AreAlike P Q d → ⊥) → IsFirst P Q d
+pub first_of_kind : (P Q : Description) (d : Difference) → AlikeBefore (rank d) P Q → AlikeIn (rank d) P Q (Lower d) → (AreAlike P Q d → ⊥) → IsFirstDifference P Q d
 first_of_kind P Q d before lower differ = record { differ = differ; alike = λ c b. by_order c b }
   where
-    by_order : (c : Difference) → (kind_of c < kind_of d) ⊎ ((kind_of c ≡ kind_of d) × Lower d (first_number c) (second_number c)) → AreAlike P Q c
+    by_order : (c : Difference) → (rank c < rank d) ⊎ ((rank c ≡ rank d) × Lower d (first_number c) (second_number c)) → AreAlike P Q c
     by_order c (inl lt) = before c lt
     by_order c (inr b) = alike_in P Q (Lower d) c (subst (λ k. AlikeIn k P Q (Lower d)) (sym b.0) lower) b.1
 

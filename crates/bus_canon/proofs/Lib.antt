@@ -1,7 +1,7 @@
 pub mod Steps
 pub mod Several
 pub mod MaskLaws
-pub mod RowLaws
+pub mod BlockLaws
 pub mod CellLaws
 pub mod CanonLaws
 pub mod PlaceLaws

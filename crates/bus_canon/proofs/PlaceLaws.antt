@@ -12,7 +12,8 @@ use Rattle.bus_legal.proofs.Counts.{any_to-true}
 use Rattle.bus_legal.proofs.Places.{place_above, place_from, place_high}
 use Rattle.terminal_exchanges.specs.Distinguish.{least_to, least_count}
 use Rattle.bus_canon.specs.Difference.{IsLower}
-use Rattle.bus_canon.specs.FirstPlace.{IsFirstNumber, IsFirstPlace, is_set, least_in}
+use Rattle.bus_canon.specs.inner.Mask.{has_bit}
+use Rattle.bus_canon.specs.inner.Search.{IsFirstNumber, IsFirstPlace, least_in}
 
 -- bits that are summed without carry
 alike_bits : (a b : ℕ) → a < 2 → b < 2 → (a + b) % 2 ≡ 0 → a ≡ b
@@ -43,7 +44,7 @@ some_bit a b other = by_zero (cases_lt 0 (bit_xor a b))
         absurd (other (same_from_bits a b (λ i. alike_at a b i (ap (λ x. bit_at x i) none ∙ bit_at-zero i))))
 
 -- the lowest bit of the sum without carry is the lowest bit that differs
-pub lowest_bit : (a b : ℕ) → a < 2 ^ 32 → b < 2 ^ 32 → a ≢ b → IsFirstNumber 32 (is_set a) (is_set b) (trailing_zeros w32 (bit_xor a b))
+pub lowest_bit : (a b : ℕ) → a < 2 ^ 32 → b < 2 ^ 32 → a ≢ b → IsFirstNumber 32 (has_bit a) (has_bit b) (trailing_zeros w32 (bit_xor a b))
 lowest_bit a b l k other =
     let low : (trailing_zeros w32 (bit_xor a b) < 32) × (bit_at (bit_xor a b) (trailing_zeros w32 (bit_xor a b)) ≡ 1) × ((i : ℕ) → i < trailing_zeros w32 (bit_xor a b) → bit_at (bit_xor a b) i ≡ 0) =
     bit_at-trailing_zeros w32 (bit_xor a b) (some_bit a b other) (xor_lt 32 a b l k) in
@@ -93,7 +94,7 @@ least_count-alike p q same = least_to-alike 32 p q same
 -- the least word count of a mask, by its lowest bit
 pub least_of_none : (mask : ℕ) → mask ≡ 0 → 0 ≡ least_in mask
 unfolding least_count
-least_of_none mask none = sym (least_to-none 32 (λ count. is_set mask (count - 1)) (λ m low high. ap (λ x. x == 1) (ap (λ x. bit_at x (m - 1)) none ∙ bit_at-zero (m - 1))))
+least_of_none mask none = sym (least_to-none 32 (λ count. has_bit mask (count - 1)) (λ m low high. ap (λ x. x == 1) (ap (λ x. bit_at x (m - 1)) none ∙ bit_at-zero (m - 1))))
 
 pub least_of_some : (mask : ℕ) → mask < 2 ^ 32 → mask ≢ 0 → trailing_zeros w32 mask + 1 ≡ least_in mask
 unfolding least_count
@@ -103,14 +104,14 @@ least_of_some mask fits some =
     let i : ℕ = trailing_zeros w32 mask in
     let back : i + 1 - 1 ≡ i = omega arith in
     let inside : i < 32 = low.0 in
-    sym (least_to-is 32 (λ count. is_set mask (count - 1)) (i + 1) (ap (λ x. x == 1) (ap (bit_at mask) back ∙ low.1)) (omega arith) (omega arith)
+    sym (least_to-is 32 (λ count. has_bit mask (count - 1)) (i + 1) (ap (λ x. x == 1) (ap (bit_at mask) back ∙ low.1)) (omega arith) (omega arith)
     (λ m from below. ap (λ x. x == 1) (low.2 (m - 1) (omega arith))))
 
 place_at : (s i : ℕ) → 1 ≤ s → s ≤ 30 → i < 32 → is_data_place s (i + 1) ≡ true
 place_at s i low high inside = grind (arith, nat_tests)
 
 module _ {X : Type 0} where
-  -- tables of rows, by subaddress and count from 1
+  -- tables of blocks, by subaddress and count from 1
   abbrev pub from_one : (ℕ → ℕ → X) → ℕ → ℕ → X
   from_one F s n = F (s - 1) (n - 1)
 
@@ -121,29 +122,29 @@ module _ {X : Type 0} where
   pub alike_at_first : (F G : ℕ → ℕ → X) → AlikeBelow F G 1
   alike_at_first F G t m below place = let above : 1 ≤ t = place_above t m place in absurd (omega arith)
 
-  -- one more row
+  -- one more block
   pub alike_more : (F G : ℕ → ℕ → X) (s next : ℕ) → next ≡ s + 1 → AlikeBelow F G s → ((i : ℕ) → i < 32 → F (s - 1) i ≡ G (s - 1) i) → AlikeBelow F G next
-  alike_more F G s next is alike row t m below place = by_last (cases_lt t s)
+  alike_more F G s next is alike block t m below place = by_last (cases_lt t s)
     where
       by_last : (t < s) ⊎ (s ≤ t) → from_one F t m ≡ from_one G t m
       by_last (inl lt) = alike t m lt place
       by_last (inr le) =
           let at : t ≡ s = omega arith in
-          ap (λ u. F (u - 1) (m - 1)) at ∙ (row (m - 1) (place_high t m place) ∙ ap (λ u. G (u - 1) (m - 1)) (sym at))
+          ap (λ u. F (u - 1) (m - 1)) at ∙ (block (m - 1) (place_high t m place) ∙ ap (λ u. G (u - 1) (m - 1)) (sym at))
 
-  -- the first that differs, in the first row that does
-  pub first_in_row : (F G : ℕ → ℕ → X) (s i : ℕ) → 1 ≤ s → s ≤ 30 → AlikeBelow F G s → IsFirstNumber 32 (F (s - 1)) (G (s - 1)) i → IsFirstPlace (from_one F) (from_one G) s (i + 1)
-  first_in_row F G s i low high alike first =
+  -- the first that differs, in the first block that does
+  pub first_in_block : (F G : ℕ → ℕ → X) (s i : ℕ) → 1 ≤ s → s ≤ 30 → AlikeBelow F G s → IsFirstNumber 32 (F (s - 1)) (G (s - 1)) i → IsFirstPlace (from_one F) (from_one G) s (i + 1)
+  first_in_block F G s i low high alike first =
       let back : i + 1 - 1 ≡ i = omega arith in
       record {
         place = place_at s i low high first.inside;
         differ = λ e. first.differ (sym (ap (F (s - 1)) back) ∙ (e ∙ ap (G (s - 1)) back));
-        alike = λ t m place before. by_row t m place before;
+        alike = λ t m place before. by_block t m place before;
       }
     where
-      by_row : (t m : ℕ) → is_data_place t m ≡ true → IsLower t m s (i + 1) → from_one F t m ≡ from_one G t m
-      by_row t m place (inl lt) = alike t m lt place
-      by_row t m place (inr b) =
+      by_block : (t m : ℕ) → is_data_place t m ≡ true → IsLower t m s (i + 1) → from_one F t m ≡ from_one G t m
+      by_block t m place (inl lt) = alike t m lt place
+      by_block t m place (inr b) =
           let at : t ≡ s = b.0 in
           let above : m < i + 1 = b.1 in
           let from : 1 ≤ m = place_from t m place in

@@ -14,7 +14,7 @@ use Rattle.terminal_rules.specs.declared.event.Event.{Event}
 use Rattle.terminal_rules.specs.declared.event.Event.TheVariants.{Gap, Slot}
 use Rattle.terminal_exchanges.specs.Exchanges.{Exchange, command_event, data_event, words_then, slots_then, exchange_then}
 use Rattle.terminal_exchanges.specs.Distinguish.{all_terminals, least_count, receive, transmit, ask, initial_script, own_receive_script, shown_wraparound, receives_own, receives_broadcast, broadcast_receive_script, wraparound_script}
-use Rattle.bus_canon.specs.FirstPlace.{least_in}
+use Rattle.bus_canon.specs.inner.Search.{least_in}
 use Rattle.bus_canon.proofs.PlaceLaws.{least_count-alike}
 
 -- words before events
@@ -92,9 +92,9 @@ broadcast_asked own address s n script all low same e f =
     ∙ ap (λ words. exchange_then (receive all_terminals s n words) (exchange_then (ask address) [])) (all_zeros n low)))
 
 -- the words that are held at power-up, by the largest count of a mask
-pub initial_shown : (v : Parts) (t : Tables) (own row s count slots : ℕ) (none all : List Event) → t ≡ v.tables → own ≡ v.address → row ≡ s - 1 → nat_le 1 s && nat_le s 30 ≡ true → none ≡ [] →
-    count ≡ largest_in (get_or t.own_transmit row 0) → slots ≡ count + 1 → all ≡ none ++ exchange_then (transmit own s count slots) [] → all ≡ initial_script (description_in v) s
-initial_shown v t own row s count slots none all tables address at place empty e more f =
+pub initial_shown : (v : Parts) (t : Tables) (own block s count slots : ℕ) (none all : List Event) → t ≡ v.tables → own ≡ v.address → block ≡ s - 1 → nat_le 1 s && nat_le s 30 ≡ true → none ≡ [] →
+    count ≡ largest_in (get_or t.own_transmit block 0) → slots ≡ count + 1 → all ≡ none ++ exchange_then (transmit own s count slots) [] → all ≡ initial_script (description_in v) s
+initial_shown v t own block s count slots none all tables address at place empty e more f =
     let counted : count ≡ largest_count (transmits (description_in v) s) =
     e ∙ ((λ j. largest_in (get_or ((tables j).own_transmit) (at j) 0)) ∙ sym (largest_count-said v.tables.own_transmit s place)) in
     f ∙ (ap (λ n. none ++ exchange_then (transmit own s count n) []) more ∙ (λ j. empty j ++ exchange_then (transmit (address j) s (counted j) (counted j + 1)) []))
@@ -116,12 +116,12 @@ inside s low high = grind (arith, nat_tests)
 first_place : (s : ℕ) → 1 ≤ s → s ≤ 30 → is_data_place s 1 ≡ true
 first_place s low high = grind (arith, nat_tests)
 
-module _ (v : Parts) (normal : IsNormal v) (t : Tables) (words : List (List ℕ)) (row own m s : ℕ) (tables : t ≡ v.tables) (held : words ≡ v.initial) (at : row ≡ s - 1) (low : 1 ≤ s) (high : s ≤ 30) (address : own ≡ v.address)
-    (sent : m ≡ least_in (get_or t.own_transmit row 0)) where
+module _ (v : Parts) (normal : IsNormal v) (t : Tables) (words : List (List ℕ)) (block own m s : ℕ) (tables : t ≡ v.tables) (held : words ≡ v.initial) (at : block ≡ s - 1) (low : 1 ≤ s) (high : s ≤ 30) (address : own ≡ v.address)
+    (sent : m ≡ least_in (get_or t.own_transmit block 0)) where
   abbrev P : Description
   P = description_in v
 
-  first : 65535 - get_or (get_or words row []) 0 0 ≡ 65535 - P.initial s 1
+  first : 65535 - get_or (get_or words block []) 0 0 ≡ 65535 - P.initial s 1
   first =
       (λ j. 65535 - get_or (get_or (held j) (at j) []) 0 0)
       ∙ sym (ap (λ b. 65535 - cond b (word_at v.initial s 1) 0) (first_place s low high))
@@ -129,29 +129,29 @@ module _ (v : Parts) (normal : IsNormal v) (t : Tables) (words : List (List ℕ)
   transmitted : m ≡ least_count (transmits P s)
   transmitted = sent ∙ ((λ j. least_in (get_or ((tables j).own_transmit) (at j) 0)) ∙ sym (least_count-said v.tables.own_transmit s low high))
 
-  own_mask : get_or t.own_receive row 0 ≡ mask_at v.tables.own_receive s
+  own_mask : get_or t.own_receive block 0 ≡ mask_at v.tables.own_receive s
   own_mask = λ j. get_or ((tables j).own_receive) (at j) 0
 
   any_own : any_count (receives_own P s) ≡ has_any (mask_at v.tables.own_receive s)
   any_own = any_count-said v.tables.own_receive s (inside s low high) normal.own_receive
 
-  pub own_wraparound : (to n : ℕ) (script all : List Event) → to ≡ v.address → get_or t.own_receive row 0 ≢ 0 → n ≡ least_in (get_or t.own_receive row 0) →
-      script ≡ exchange_then (receive to s n ((65535 - get_or (get_or words row []) 0 0) ∷ replicate (n - 1) 0)) [] →
+  pub own_wraparound : (to n : ℕ) (script all : List Event) → to ≡ v.address → get_or t.own_receive block 0 ≢ 0 → n ≡ least_in (get_or t.own_receive block 0) →
+      script ≡ exchange_then (receive to s n ((65535 - get_or (get_or words block []) 0 0) ∷ replicate (n - 1) 0)) [] →
       all ≡ script ++ exchange_then (transmit own s m (m + 1)) [] → all ≡ wraparound_script P s
   own_wraparound to n script all same some e f g =
       let counted : n ≡ least_count (receives_own P s) = e ∙ (ap least_in own_mask ∙ sym (least_count-said v.tables.own_receive s low high)) in
       let any : any_count (receives_own P s) ≡ true = any_own ∙ ap not (ne_eqb (mask_at v.tables.own_receive s) 0 (λ none. some (own_mask ∙ none))) in
-      shown P s to own n m (65535 - get_or (get_or words row []) 0 0) script all address first f g
+      shown P s to own n m (65535 - get_or (get_or words block []) 0 0) script all address first f g
       ∙ ((λ j. shown_wraparound P s (same j) (counted j) (transmitted j))
       ∙ ap (λ b. wraparound_by P s b (least_count (receives_own P s)) (least_count (receives_broadcast P s)) (least_count (transmits P s))) (sym any))
 
-  pub broadcast_wraparound : (n : ℕ) (script all : List Event) → get_or t.own_receive row 0 ≡ 0 → n ≡ least_in (get_or t.broadcast_receive row 0) →
-      script ≡ exchange_then (receive all_terminals s n ((65535 - get_or (get_or words row []) 0 0) ∷ replicate (n - 1) 0)) [] →
+  pub broadcast_wraparound : (n : ℕ) (script all : List Event) → get_or t.own_receive block 0 ≡ 0 → n ≡ least_in (get_or t.broadcast_receive block 0) →
+      script ≡ exchange_then (receive all_terminals s n ((65535 - get_or (get_or words block []) 0 0) ∷ replicate (n - 1) 0)) [] →
       all ≡ script ++ exchange_then (transmit own s m (m + 1)) [] → all ≡ wraparound_script P s
   broadcast_wraparound n script all none e f g =
       let counted : n ≡ least_count (receives_broadcast P s) =
       e ∙ ((λ j. least_in (get_or ((tables j).broadcast_receive) (at j) 0)) ∙ sym (least_count-said v.tables.broadcast_receive s low high)) in
       let any : any_count (receives_own P s) ≡ false = any_own ∙ ap has_any (sym own_mask ∙ none) in
-      shown P s all_terminals own n m (65535 - get_or (get_or words row []) 0 0) script all address first f g
+      shown P s all_terminals own n m (65535 - get_or (get_or words block []) 0 0) script all address first f g
       ∙ ((λ j. shown_wraparound P s all_terminals (counted j) (transmitted j))
       ∙ ap (λ b. wraparound_by P s b (least_count (receives_own P s)) (least_count (receives_broadcast P s)) (least_count (transmits P s))) (sym any))

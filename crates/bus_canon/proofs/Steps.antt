@@ -4,9 +4,9 @@ use Rattle.std.proofs.lemmas.Bool.Decides.{nat_tests}
 use Rattle.bus_legal.specs.Tables.{largest_in}
 use Rattle.line_format.specs.Format.{Format, done, and_then}
 use Rattle.line_format.specs.Shapes.{numbered_line, words_line}
-use Rattle.line_format.specs.Reading.{Spot, read}
+use Rattle.line_format.specs.inner.Reading.{Spot, read}
 use Rattle.line_format.proofs.Steps.{◌then◌, read-then, then_ok, then_err}
-use Rattle.bus_canon.specs.Canon.{masks, row, rows, sent_words}
+use Rattle.bus_canon.specs.Canon.{masks, block, blocks, sent_words}
 use Rattle.bus_canon.proofs.Several.{one_and}
 
 -- what was read before, in front of what is read
@@ -52,39 +52,39 @@ masks_err name s left front p n some e =
 
 -- ---- words
 
-pub row_none : (s counts : ℕ) (p : Spot) → counts ≡ 0 → read (row s counts) p ≡ Ok (replicate 32 0, p)
-unfolding row
-row_none s counts p e = let none : not (counts == 0) ≡ false = grind (arith, nat_tests) in rw none refl
+pub block_none : (s counts : ℕ) (p : Spot) → counts ≡ 0 → read (block s counts) p ≡ Ok (replicate 32 0, p)
+unfolding block
+block_none s counts p e = let none : not (counts == 0) ≡ false = grind (arith, nat_tests) in rw none refl
 
-row_is : (s counts : ℕ) → counts ≢ 0 → row s counts ≡ sent_words s (largest_in counts)
-unfolding row
-row_is s counts some = let any : not (counts == 0) ≡ true = grind (arith, nat_tests) in rw any refl
+block_is : (s counts : ℕ) → counts ≢ 0 → block s counts ≡ sent_words s (largest_in counts)
+unfolding block
+block_is s counts some = let any : not (counts == 0) ≡ true = grind (arith, nat_tests) in rw any refl
 
-pub row_some : (s counts : ℕ) (p q : Spot) (ws : List ℕ) → counts ≢ 0 → read (words_line (codes "initial") s (largest_in counts)) p ≡ Ok (ws, q)
-    → read (row s counts) p ≡ Ok (ws ++ replicate (32 - largest_in counts) 0, q)
+pub block_some : (s counts : ℕ) (p q : Spot) (ws : List ℕ) → counts ≢ 0 → read (words_line (codes "initial") s (largest_in counts)) p ≡ Ok (ws, q)
+    → read (block s counts) p ≡ Ok (ws ++ replicate (32 - largest_in counts) 0, q)
 unfolding sent_words
-row_some s counts p q ws some e =
-    ap (λ F. read F p) (row_is s counts some) ∙ then_ok (words_line (codes "initial") s (largest_in counts)) (λ ws. done (ws ++ replicate (32 - largest_in counts) 0)) p q ws e
+block_some s counts p q ws some e =
+    ap (λ F. read F p) (block_is s counts some) ∙ then_ok (words_line (codes "initial") s (largest_in counts)) (λ ws. done (ws ++ replicate (32 - largest_in counts) 0)) p q ws e
 
-pub row_err : (s counts : ℕ) (p : Spot) (n : ℕ) → counts ≢ 0 → read (words_line (codes "initial") s (largest_in counts)) p ≡ Err n → read (row s counts) p ≡ Err n
+pub block_err : (s counts : ℕ) (p : Spot) (n : ℕ) → counts ≢ 0 → read (words_line (codes "initial") s (largest_in counts)) p ≡ Err n → read (block s counts) p ≡ Err n
 unfolding sent_words
-row_err s counts p n some e =
-    ap (λ F. read F p) (row_is s counts some) ∙ then_err (words_line (codes "initial") s (largest_in counts)) (λ ws. done (ws ++ replicate (32 - largest_in counts) 0)) p n e
+block_err s counts p n some e =
+    ap (λ F. read F p) (block_is s counts some) ∙ then_err (words_line (codes "initial") s (largest_in counts)) (λ ws. done (ws ++ replicate (32 - largest_in counts) 0)) p n e
 
-pub rows_cons : (s counts : ℕ) (masks others : List ℕ) → masks ≡ counts ∷ others → rows s masks ≡ one_and (row s counts) (rows (s + 1) others)
-unfolding rows
-rows_cons s counts masks others e = rw (e, add-one s) refl
+pub blocks_cons : (s counts : ℕ) (masks others : List ℕ) → masks ≡ counts ∷ others → blocks s masks ≡ one_and (block s counts) (blocks (s + 1) others)
+unfolding blocks
+blocks_cons s counts masks others e = rw (e, add-one s) refl
 
-pub rows_end : (s : ℕ) (masks : List ℕ) (front : List (List ℕ)) (p : Spot) → masks ≡ [] → with_front front (read (rows s masks) p) ≡ Ok (front, p)
-unfolding rows
-rows_end s masks front p e = rw (e, append-nil front) refl
+pub blocks_end : (s : ℕ) (masks : List ℕ) (front : List (List ℕ)) (p : Spot) → masks ≡ [] → with_front front (read (blocks s masks) p) ≡ Ok (front, p)
+unfolding blocks
+blocks_end s masks front p e = rw (e, append-nil front) refl
 
-pub rows_more : (s counts : ℕ) (masks others : List ℕ) (front : List (List ℕ)) (p q : Spot) (ws : List ℕ) → masks ≡ counts ∷ others → read (row s counts) p ≡ Ok (ws, q)
-    → with_front front (read (rows s masks) p) ≡ with_front (front ++ ws ∷ []) (read (rows (s + 1) others) q)
-rows_more s counts masks others front p q ws is e =
-    ap (λ F. with_front front (read F p)) (rows_cons s counts masks others is) ∙ one_more (row s counts) (rows (s + 1) others) front p q ws e
+pub blocks_more : (s counts : ℕ) (masks others : List ℕ) (front : List (List ℕ)) (p q : Spot) (ws : List ℕ) → masks ≡ counts ∷ others → read (block s counts) p ≡ Ok (ws, q)
+    → with_front front (read (blocks s masks) p) ≡ with_front (front ++ ws ∷ []) (read (blocks (s + 1) others) q)
+blocks_more s counts masks others front p q ws is e =
+    ap (λ F. with_front front (read F p)) (blocks_cons s counts masks others is) ∙ one_more (block s counts) (blocks (s + 1) others) front p q ws e
 
-pub rows_err : (s counts : ℕ) (masks others : List ℕ) (front : List (List ℕ)) (p : Spot) (n : ℕ) → masks ≡ counts ∷ others → read (row s counts) p ≡ Err n
-    → with_front front (read (rows s masks) p) ≡ Err n
-rows_err s counts masks others front p n is e =
-    ap (λ F. with_front front (read F p)) (rows_cons s counts masks others is) ∙ one_err (row s counts) (rows (s + 1) others) front p n e
+pub blocks_err : (s counts : ℕ) (masks others : List ℕ) (front : List (List ℕ)) (p : Spot) (n : ℕ) → masks ≡ counts ∷ others → read (block s counts) p ≡ Err n
+    → with_front front (read (blocks s masks) p) ≡ Err n
+blocks_err s counts masks others front p n is e =
+    ap (λ F. with_front front (read F p)) (blocks_cons s counts masks others is) ∙ one_err (block s counts) (blocks (s + 1) others) front p n e

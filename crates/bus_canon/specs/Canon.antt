@@ -1,5 +1,6 @@
 -- The canonical text, versions 1 and 2, line by line.
 use Rattle.std.specs.Prelude.{ℕ, zero, suc, ◌-◌, Bool, true, false, ◌==◌, ◌&&◌, ◌||◌, nat_le, if◌then◌else◌, List, [], ◌∷◌, ◌++◌, codes, replicate}
+use Rattle.bus_word.specs.Mode as mode
 use Rattle.bus_word.specs.declared.cell.Cell.TheVariants.{OwnMode}
 use Rattle.bus_legal.specs.declared.tables.Tables.{Tables}
 use Rattle.bus_legal.specs.Tables.{tables_say, has_any, largest_in, masks_wrap, any_wraps, is_own_mask, is_broadcast_mask}
@@ -42,26 +43,30 @@ sent_words s count = do
 
 -- The 32 words of subaddress s, whose legal transmit counts are these: there is a line where some count is
 -- legal, with as many words as the largest of them.
-unfoldable pub row : ℕ → ℕ → Format (List ℕ)
-row s counts = when (has_any counts) (replicate 32 0) (sent_words s (largest_in counts))
+unfoldable pub block : ℕ → ℕ → Format (List ℕ)
+block s counts = when (has_any counts) (replicate 32 0) (sent_words s (largest_in counts))
 
 -- the words of the subaddresses from s on, whose legal transmit counts are these
-unfoldable pub rows : ℕ → List ℕ → Format (List (List ℕ))
-rows s [] = done []
-rows s (counts ∷ masks) = do
-  words ← row s counts
-  others ← rows (suc s) masks
+unfoldable pub blocks : ℕ → List ℕ → Format (List (List ℕ))
+blocks s [] = done []
+blocks s (counts ∷ masks) = do
+  words ← block s counts
+  others ← blocks (suc s) masks
   done (words ∷ others)
 
--- whether subaddress 30 is the wraparound subaddress
+-- the subaddress that wraparound is at where a terminal chooses no other (MIL-STD-1553B, Notice 2, 30.7)
+abbrev pub default_wraparound : ℕ
+default_wraparound = 30
+
+-- whether that is the wraparound subaddress
 abbrev pub wrap_bit : Format ℕ
 wrap_bit = do
   on ← bit_line (codes "wraparound")
-  done (if on then 30 else 0)
+  done (if on then default_wraparound else 0)
 
 -- In version 1 no other can be. The line stands where words can be received at it and transmitted from it.
 unfoldable pub wrap_switch : Tables → Format ℕ
-wrap_switch tables = when (masks_wrap tables 30) 0 wrap_bit
+wrap_switch tables = when (masks_wrap tables default_wraparound) 0 wrap_bit
 
 -- none, or a subaddress at which words can be received and from which they can be transmitted
 abbrev pub may_wrap : Tables → ℕ → Bool
@@ -87,7 +92,7 @@ abbrev pub is_read : ℕ → Bool
 is_read version = (version == 1) || (version == 2)
 
 -- The lines of a canonical text of one of these versions, which means a `Normal`. There is a line for acceptance, the
--- vector word and the BIT word where own mode code 0, 16 or 19, which asks for it, is legal. What differs between the
+-- vector word and the BIT word where the own mode code that asks for it is legal. What differs between the
 -- versions is the line of wraparound alone.
 unfoldable pub canon : (ℕ → Bool) → Format Parts
 canon versions = do
@@ -95,11 +100,11 @@ canon versions = do
   address ← number_line (codes "address") decimal (λ n. nat_le n 30)
   broadcast ← bit_line (codes "broadcast")
   tables ← cells broadcast
-  accept ← when (tables_say tables (OwnMode 0)) false (bit_line (codes "accept"))
-  vector ← when (tables_say tables (OwnMode 16)) 0 (number_line (codes "vector") word (λ _. true))
-  bit ← when (tables_say tables (OwnMode 19)) 0 (number_line (codes "bit") word (λ _. true))
+  accept ← when (tables_say tables (OwnMode mode.dynamic_bus_control)) false (bit_line (codes "accept"))
+  vector ← when (tables_say tables (OwnMode mode.vector_word)) 0 (number_line (codes "vector") word (λ _. true))
+  bit ← when (tables_say tables (OwnMode mode.bit_word)) 0 (number_line (codes "bit") word (λ _. true))
   wrap ← wrap_lines version tables
-  initial ← rows 1 tables.own_transmit
+  initial ← blocks 1 tables.own_transmit
   done (record { address = address; broadcast = broadcast; wrap = wrap; accept = accept; vector = vector; bit = bit; initial = initial; tables = tables })
 
 -- the bytes are the canonical text of this value

@@ -9,19 +9,19 @@ use Rattle.bus_canon.specs.declared.difference.Difference.TheVariants.{Address, 
 
 -- The twelve kinds of difference, in their order: words that are held come before wraparound, so that for
 -- wraparound both terminals hold the same words at power-up.
-abbrev pub kind_of : Difference → ℕ
-kind_of Address = 1
-kind_of BroadcastOption = 2
-kind_of (ReceiveCell s n) = 3
-kind_of (TransmitCell s n) = 4
-kind_of (BroadcastReceiveCell s n) = 5
-kind_of (OwnCode code) = 6
-kind_of (BroadcastCode code) = 7
-kind_of Acceptance = 8
-kind_of VectorWord = 9
-kind_of BitWord = 10
-kind_of (InitialWord s i) = 11
-kind_of Wraparound = 12
+abbrev pub rank : Difference → ℕ
+rank Address = 1
+rank BroadcastOption = 2
+rank (ReceiveCell s n) = 3
+rank (TransmitCell s n) = 4
+rank (BroadcastReceiveCell s n) = 5
+rank (OwnCode code) = 6
+rank (BroadcastCode code) = 7
+rank Acceptance = 8
+rank VectorWord = 9
+rank BitWord = 10
+rank (InitialWord s i) = 11
+rank Wraparound = 12
 
 -- Within a kind: the subaddress or the mode code, and then the word count or the number of the word.
 abbrev pub first_number : Difference → ℕ
@@ -45,8 +45,8 @@ abbrev pub IsLower : ℕ → ℕ → ℕ → ℕ → Type 0
 IsLower s n t m = (s < t) ⊎ ((s ≡ t) × (n < m))
 
 -- One possible difference comes before another: of kinds the earlier, and within a kind the lower numbers.
-abbrev pub IsBefore : Difference → Difference → Type 0
-IsBefore c d = (kind_of c < kind_of d) ⊎ ((kind_of c ≡ kind_of d) × IsLower (first_number c) (second_number c) (first_number d) (second_number d))
+abbrev pub ComesBefore : Difference → Difference → Type 0
+ComesBefore c d = (rank c < rank d) ⊎ ((rank c ≡ rank d) × IsLower (first_number c) (second_number c) (first_number d) (second_number d))
 
 -- the two are alike in this
 abbrev pub AreAlike : Description → Description → Difference → Type 0
@@ -64,9 +64,9 @@ AreAlike P Q (InitialWord s i) = P.initial s i ≡ Q.initial s i
 AreAlike P Q Wraparound = P.wrap ≡ Q.wrap
 
 -- the two differ in this, and in nothing that comes before it
-pub record IsFirst (P Q : Description) (d : Difference) : Type 0 where
+pub record IsFirstDifference (P Q : Description) (d : Difference) : Type 0 where
   pub differ : AreAlike P Q d → ⊥
-  pub alike : (c : Difference) → IsBefore c d → AreAlike P Q c
+  pub alike : (c : Difference) → ComesBefore c d → AreAlike P Q c
 
 -- The script that shows the difference between the first terminal and another. The other is asked for its wraparound
 -- subaddress alone, where the first has none.

@@ -1,6 +1,6 @@
 pub mod Canon
-pub mod CanonAnswer
 pub mod Difference
-pub mod FirstPlace
+pub mod Fault
+pub mod inner
 pub use Rattle.line_format.specs.Answers
 pub use Rattle.bus_legal.specs.Parts

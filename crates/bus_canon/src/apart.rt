@@ -3,7 +3,7 @@ ghost use Rattle.std.specs.Prelude.{◌≡◌, IfNone, IfSome};
 ghost use Rattle.bus_legal.specs.Parts.{description_in, IsNormal};
 ghost use Rattle.terminal_exchanges.specs.Distinguish.{TellsApart};
 ghost use Rattle.bus_canon.specs.declared.difference.Difference.{Difference};
-ghost use Rattle.bus_canon.specs.Difference.{IsFirst, script_for};
+ghost use Rattle.bus_canon.specs.Difference.{IsFirstDifference, script_for};
 
 use crate::difference::first_difference;
 use crate::script::{Script, script_for};
@@ -14,7 +14,7 @@ use bus_legal::Normal;
 /// bus A, made for the address of the first.
 pub fn distinguish(p: &Normal, q: &Normal) -> Option<Script>
     ensures same { IfNone result (p.now ≡ q.now) }
-    ensures first { IfSome result (λ script. (d : Difference) × IsFirst (description_in p.now) (description_in q.now) d × (script.items ≡ script_for (description_in p.now) (description_in q.now) d)) }
+    ensures first { IfSome result (λ script. (d : Difference) × IsFirstDifference (description_in p.now) (description_in q.now) d × (script.items ≡ script_for (description_in p.now) (description_in q.now) d)) }
     ensures apart { IfSome result (λ script. TellsApart (description_in p.now) (description_in q.now) script.items) }
     ensures normal_first { IsNormal p.now }
     ensures normal_second { IsNormal q.now }

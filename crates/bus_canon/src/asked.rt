@@ -1,23 +1,26 @@
 //! The lines that a text has only where a controller can ask for what they tell.
 ghost use Rattle.std.specs.Prelude.{◌≡◌, ◌≤◌, true, false, codes, if◌then◌else◌, IfOk, OnOk};
-ghost use Rattle.line_format.specs.Reading.{read};
+ghost use Rattle.line_format.specs.inner.Reading.{read};
 ghost use Rattle.line_format.specs.Shapes.{decimal, word, number_line, bit_line};
-ghost use Rattle.line_format.specs.Views.{Gives, spot};
-ghost use Rattle.line_format.specs.Writing.{Adds};
+ghost use Rattle.line_format.specs.inner.Views.{Gives, spot};
+ghost use Rattle.line_format.specs.inner.Writing.{Adds};
+ghost use Rattle.bus_word.specs.Mode.{dynamic_bus_control};
 ghost use Rattle.bus_word.specs.declared.cell.Cell.TheVariants.{OwnMode};
 ghost use Rattle.bus_legal.specs.Tables.{tables_say, masks_wrap};
-ghost use Rattle.bus_canon.specs.Canon.{when, wrap_bit, wrap_switch, may_wrap, wrap_name, wrap_lines};
+ghost use Rattle.bus_canon.specs.Canon.{when, default_wraparound, wrap_bit, wrap_switch, may_wrap, wrap_name, wrap_lines};
 
 use crate::names::{ACCEPT, WRAPAROUND};
 use bus_legal::{Legality, Tables};
 use bus_word::Cell;
+use bus_word::mode::DYNAMIC_BUS_CONTROL;
 use line_format::{
-    Lines, WrongLine, bit_line, number_line_of, put_bit_line, put_number_line, word_line,
+    FieldKind, Lines, WrongLine, bit_line, number_line, put_bit_line, put_number_line, word_line,
 };
 use std::alloc::AllocError;
 
-/// The only wraparound subaddress that texts of version 1 know.
-const SWITCHED: u8 = 30;
+/// The subaddress that wraparound is at where a terminal chooses no other (MIL-STD-1553B, Notice 2, 30.7), and the only
+/// one that texts of version 1 know.
+const DEFAULT_WRAPAROUND: u8 = 30;
 
 /// Reads a line with a 0 or a 1, if the text has it.
 fn bit_where<'a>(lines: Lines<'a>, given: bool, name: &[u8]) -> Result<(bool, Lines<'a>), WrongLine>
@@ -43,9 +46,13 @@ fn word_where<'a>(lines: Lines<'a>, given: bool, name: &[u8]) -> Result<(u16, Li
 
 /// Reads whether dynamic bus control is accepted, which the text tells where it can be asked for.
 pub fn acceptance<'a>(lines: Lines<'a>, tables: &Tables) -> Result<(bool, Lines<'a>), WrongLine>
-    ensures { Gives (λ r. r.0) (λ r. r.1) result (read (when (tables_say tables.now (OwnMode 0)) false (bit_line (codes "accept"))) (spot lines.entry)) }
+    ensures { Gives (λ r. r.0) (λ r. r.1) result (read (when (tables_say tables.now (OwnMode dynamic_bus_control)) false (bit_line (codes "accept"))) (spot lines.entry)) }
 {
-    bit_where(lines, tables.legal(Cell::OwnMode(0)), ACCEPT)
+    bit_where(
+        lines,
+        tables.legal(Cell::OwnMode(DYNAMIC_BUS_CONTROL)),
+        ACCEPT,
+    )
 }
 
 /// Reads the word that an own mode code asks for, which the text tells where the code is legal.
@@ -60,14 +67,15 @@ pub fn asked_word<'a>(
     word_where(lines, tables.legal(Cell::OwnMode(code)), name)
 }
 
-/// The wraparound subaddress that a text of version 1 tells by this bit.
+/// Gives the wraparound subaddress that a text of version 1 tells by this bit.
 fn switched(on: bool) -> u8
-    ensures value { result ≡ (if on then 30 else 0) }
+    ensures value { result ≡ (if on then default_wraparound else 0) }
     ensures own { result ≤ 30 }
 {
-    if on { SWITCHED } else { 0 }
+    if on { DEFAULT_WRAPAROUND } else { 0 }
 }
 
+/// Reads the line of version 1.
 fn wrap_bit(lines: Lines<'_>) -> Result<(u8, Lines<'_>), WrongLine>
     ensures answer { Gives (λ r. r.0) (λ r. r.1) result (read wrap_bit (spot lines.entry)) }
     ensures own { IfOk result (λ r. r.0 ≤ 30) }
@@ -76,20 +84,20 @@ fn wrap_bit(lines: Lines<'_>) -> Result<(u8, Lines<'_>), WrongLine>
     Ok((switched(on), lines))
 }
 
-/// Reads whether 30 is the wraparound subaddress, as a text of version 1 tells it.
+/// Reads whether wraparound is at the default subaddress, as a text of version 1 tells it.
 #[tactic(auto, unfolding(crate::specs::Canon::wrap_switch))]
 fn wrap_switch<'a>(lines: Lines<'a>, tables: &Tables) -> Result<(u8, Lines<'a>), WrongLine>
     ensures answer { Gives (λ r. r.0) (λ r. r.1) result (read (wrap_switch tables.now) (spot lines.entry)) }
     ensures own { IfOk result (λ r. r.0 ≤ 30) }
 {
-    if tables.can_wrap(SWITCHED) {
+    if tables.can_wrap(DEFAULT_WRAPAROUND) {
         wrap_bit(lines)
     } else {
         Ok((0, lines))
     }
 }
 
-/// Whether this can be the wraparound subaddress, or is 0, for none.
+/// Says whether this can be the wraparound subaddress, or is 0, for none.
 fn may_wrap(tables: &Tables, subaddress: u32) -> bool
     ensures value { result ≡ may_wrap tables.now subaddress }
     ensures own { result ≡ true → subaddress ≤ 30 }
@@ -97,17 +105,18 @@ fn may_wrap(tables: &Tables, subaddress: u32) -> bool
     subaddress == 0 || subaddress <= 30 && tables.can_wrap(subaddress as u8)
 }
 
+/// Reads the line of version 2.
 fn wrap_line<'a>(lines: Lines<'a>, tables: &Tables) -> Result<(u8, Lines<'a>), WrongLine>
     ensures answer { Gives (λ r. r.0) (λ r. r.1) result (read (number_line (codes "wraparound") decimal (may_wrap tables.now)) (spot lines.entry)) }
     ensures own { IfOk result (λ r. r.0 ≤ 30) }
 {
-    let Some((number, rest)) = number_line_of(lines.rest, WRAPAROUND, 10, 2) else {
-        return Err(lines.wrong());
-    };
-    if !may_wrap(tables, number) {
-        return Err(lines.wrong());
-    }
-    Ok((number as u8, lines.behind(rest)))
+    let (subaddress, lines) = number_line(
+        lines,
+        WRAPAROUND,
+        FieldKind::Decimal,
+        |n| may_wrap(tables, n),
+    )?;
+    Ok((subaddress as u8, lines))
 }
 
 /// Reads the wraparound subaddress, as a text of version 2 tells it.
@@ -151,10 +160,11 @@ fn put_bit_where(out: &mut Vec<u8>, given: bool, name: &[u8], bit: bool) -> Resu
     put_bit_line(out, name, bit)
 }
 
+/// Writes a line with a word.
 fn put_word_line(out: &mut Vec<u8>, name: &[u8], number: u16) -> Result<(), AllocError>
     ensures { OnOk result (Adds (number_line name.now word (λ _. true)) number out.old.items out.new.items) }
 {
-    put_number_line(out, name, 16, 4, u32::from(number))
+    put_number_line(out, name, FieldKind::Word, u32::from(number))
 }
 
 /// Writes a line with a word, if the text has it.
@@ -175,10 +185,15 @@ fn put_word_where(
 
 /// Writes whether dynamic bus control is accepted, where it can be asked for.
 pub fn put_acceptance(out: &mut Vec<u8>, tables: &Tables, accept: bool) -> Result<(), AllocError>
-    requires { tables_say tables.now (OwnMode 0) ≡ false → accept ≡ false }
-    ensures { OnOk result (Adds (when (tables_say tables.now (OwnMode 0)) false (bit_line (codes "accept"))) accept out.old.items out.new.items) }
+    requires { tables_say tables.now (OwnMode dynamic_bus_control) ≡ false → accept ≡ false }
+    ensures { OnOk result (Adds (when (tables_say tables.now (OwnMode dynamic_bus_control)) false (bit_line (codes "accept"))) accept out.old.items out.new.items) }
 {
-    put_bit_where(out, tables.legal(Cell::OwnMode(0)), ACCEPT, accept)
+    put_bit_where(
+        out,
+        tables.legal(Cell::OwnMode(DYNAMIC_BUS_CONTROL)),
+        ACCEPT,
+        accept,
+    )
 }
 
 /// Writes the word that an own mode code asks for, where the code is legal.
@@ -195,12 +210,13 @@ pub fn put_asked_word(
     put_word_where(out, tables.legal(Cell::OwnMode(code)), name, number)
 }
 
+/// Writes the line of version 2.
 fn put_wrap_line(out: &mut Vec<u8>, tables: &Tables, wrap: u8) -> Result<(), AllocError>
     requires small { wrap ≤ 30 }
     requires may { may_wrap tables.now wrap ≡ true }
     ensures { OnOk result (Adds (number_line (codes "wraparound") decimal (may_wrap tables.now)) wrap out.old.items out.new.items) }
 {
-    put_number_line(out, WRAPAROUND, 10, 2, u32::from(wrap))
+    put_number_line(out, WRAPAROUND, FieldKind::Decimal, u32::from(wrap))
 }
 
 /// Writes the wraparound subaddress, where one can be reached.

@@ -1,16 +1,16 @@
 //! The lines of the legal cells.
 ghost use Rattle.std.specs.Prelude.{◌≡◌, true, false, codes, replicate, OnOk};
-ghost use Rattle.line_format.specs.Reading.{read};
+ghost use Rattle.line_format.specs.inner.Reading.{read};
 ghost use Rattle.line_format.specs.Shapes.{mask, number_line};
-ghost use Rattle.line_format.specs.Views.{Gives, spot};
-ghost use Rattle.line_format.specs.Writing.{Adds};
+ghost use Rattle.line_format.specs.inner.Views.{Gives, spot};
+ghost use Rattle.line_format.specs.inner.Writing.{Adds};
 ghost use Rattle.bus_legal.specs.Tables.{is_own_mask, is_broadcast_mask};
 ghost use Rattle.bus_canon.specs.Canon.{when, masks, cells};
 
 use crate::names::{BROADCAST_MODE, BROADCAST_RECEIVE, OWN_MODE, OWN_RECEIVE, OWN_TRANSMIT};
 use bus_legal::{BROADCAST_CODES, OWN_CODES, REQUIRED_CODES, Tables};
 use line_format::{
-    Lines, WrongLine, number_line_of, numbered_line, put_number_line, put_numbered_line,
+    FieldKind, Lines, WrongLine, number_line, numbered_line, put_number_line, put_numbered_line,
 };
 use std::alloc::AllocError;
 
@@ -42,42 +42,32 @@ fn broadcast_masks(lines: Lines<'_>, broadcast: bool) -> Result<([u32; 30], Line
     }
 }
 
-/// Whether a terminal can have just these own mode codes legal.
+/// Says whether a terminal can have just these own mode codes legal.
 fn is_own_mask(legal: u32) -> bool
     ensures { result ≡ is_own_mask legal }
 {
     legal & OWN_CODES == legal && legal & REQUIRED_CODES == REQUIRED_CODES
 }
 
-/// Whether a terminal can have just these mode codes legal by broadcast.
+/// Says whether a terminal can have just these mode codes legal by broadcast.
 fn is_broadcast_mask(legal: u32) -> bool
     ensures { result ≡ is_broadcast_mask legal }
 {
     legal & BROADCAST_CODES == legal
 }
 
+/// Reads the line of the own mode codes.
 fn own_codes(lines: Lines<'_>) -> Result<(u32, Lines<'_>), WrongLine>
     ensures { Gives (λ r. r.0) (λ r. r.1) result (read (number_line (codes "own-mode") mask is_own_mask) (spot lines.entry)) }
 {
-    let Some((number, rest)) = number_line_of(lines.rest, OWN_MODE, 16, 8) else {
-        return Err(lines.wrong());
-    };
-    if !is_own_mask(number) {
-        return Err(lines.wrong());
-    }
-    Ok((number, lines.behind(rest)))
+    number_line(lines, OWN_MODE, FieldKind::Mask, is_own_mask)
 }
 
+/// Reads the line of the broadcast mode codes.
 fn broadcast_code_line(lines: Lines<'_>) -> Result<(u32, Lines<'_>), WrongLine>
     ensures { Gives (λ r. r.0) (λ r. r.1) result (read (number_line (codes "broadcast-mode") mask is_broadcast_mask) (spot lines.entry)) }
 {
-    let Some((number, rest)) = number_line_of(lines.rest, BROADCAST_MODE, 16, 8) else {
-        return Err(lines.wrong());
-    };
-    if !is_broadcast_mask(number) {
-        return Err(lines.wrong());
-    }
-    Ok((number, lines.behind(rest)))
+    number_line(lines, BROADCAST_MODE, FieldKind::Mask, is_broadcast_mask)
 }
 
 /// Reads this line where the terminal has the broadcast option.
@@ -137,18 +127,20 @@ fn put_broadcast_masks(
     put_masks(out, BROADCAST_RECEIVE, table)
 }
 
+/// Writes the line of the own mode codes.
 fn put_own_codes(out: &mut Vec<u8>, legal: u32) -> Result<(), AllocError>
     requires { is_own_mask legal ≡ true }
     ensures { OnOk result (Adds (number_line (codes "own-mode") mask is_own_mask) legal out.old.items out.new.items) }
 {
-    put_number_line(out, OWN_MODE, 16, 8, legal)
+    put_number_line(out, OWN_MODE, FieldKind::Mask, legal)
 }
 
+/// Writes the line of the broadcast mode codes.
 fn put_broadcast_code_line(out: &mut Vec<u8>, legal: u32) -> Result<(), AllocError>
     requires { is_broadcast_mask legal ≡ true }
     ensures { OnOk result (Adds (number_line (codes "broadcast-mode") mask is_broadcast_mask) legal out.old.items out.new.items) }
 {
-    put_number_line(out, BROADCAST_MODE, 16, 8, legal)
+    put_number_line(out, BROADCAST_MODE, FieldKind::Mask, legal)
 }
 
 /// Writes this line where the terminal has the broadcast option.

@@ -1,6 +1,6 @@
 //! The first difference between what can be reached of two terminals.
 ghost use Rattle.bus_legal.specs.Parts.{description_in, IsNormal};
-ghost use Rattle.bus_canon.specs.FirstPlace.{AlikeBefore, Found};
+ghost use Rattle.bus_canon.specs.inner.Search.{AlikeBefore, Found};
 
 use crate::places::{first_bit, first_count, first_word};
 use bus_legal::Normal;
@@ -35,7 +35,7 @@ pub enum Difference {
     Wraparound,
 }
 
-/// The first difference in what is legal, where address and broadcast option are alike.
+/// Gives the first difference in what is legal, where address and broadcast option are alike.
 fn cell_difference(p: &Normal, q: &Normal) -> Option<Difference>
     requires first { IsNormal p.now }
     requires second { IsNormal q.now }
@@ -61,7 +61,7 @@ fn cell_difference(p: &Normal, q: &Normal) -> Option<Difference>
     None
 }
 
-/// The first difference in the words and in what is done with them, where all before is alike.
+/// Gives the first difference in the words and in what is done with them, where all before is alike.
 fn word_difference(p: &Normal, q: &Normal) -> Option<Difference>
     requires before { AlikeBefore 8 (description_in p.now) (description_in q.now) }
     ensures { Found 13 (description_in p.now) (description_in q.now) result }

@@ -11,3 +11,28 @@ pub enum CanonFault {
     #[error("canonical text: bytes after the end")]
     Trailing,
 }
+
+impl CanonFault {
+    ghost use Rattle.std.specs.Prelude.{◌≡◌};
+    ghost use Rattle.bus_canon.specs.Fault.{fault_number, fault_name};
+
+    /// The number of the kind of fault: 1 or 2, in the order of the variants.
+    pub fn number(&self) -> u8
+        ensures { result ≡ fault_number self.now }
+    {
+        match self {
+            CanonFault::Line(_) => 1,
+            CanonFault::Trailing => 2,
+        }
+    }
+
+    /// The name of the kind of fault: that of its variant.
+    pub fn name(&self) -> &'static str
+        ensures { result.now ≡ fault_name self.now }
+    {
+        match self {
+            CanonFault::Line(_) => "Line",
+            CanonFault::Trailing => "Trailing",
+        }
+    }
+}

@@ -4,6 +4,7 @@
 
 mod apart;
 mod asked;
+mod blocks;
 mod cell_lines;
 mod difference;
 mod fault;
@@ -11,7 +12,6 @@ pub mod laws;
 mod names;
 mod places;
 mod read;
-mod rows;
 mod script;
 mod write;
 

@@ -2,11 +2,12 @@
 ghost use Rattle.std.specs.Prelude.{◌≡◌, ◌≤◌, ℕ, get_or};
 ghost use Rattle.bus_legal.specs.Description.{word_at};
 ghost use Rattle.bus_legal.specs.Tables.{has_count};
-ghost use Rattle.bus_canon.specs.FirstPlace.{FirstNumber, FirstPlace, is_set, least_in};
+ghost use Rattle.bus_canon.specs.inner.Mask.{has_bit};
+ghost use Rattle.bus_canon.specs.inner.Search.{FindsNumber, FindsPlace, least_in};
 
 /// The lowest bit in which two masks differ, 0 to 31.
 pub fn first_bit(ours: u32, theirs: u32) -> Option<u8>
-    ensures { FirstNumber 32 (is_set ours) (is_set theirs) result }
+    ensures { FindsNumber 32 (has_bit ours) (has_bit theirs) result }
 {
     if ours == theirs {
         None
@@ -17,20 +18,20 @@ pub fn first_bit(ours: u32, theirs: u32) -> Option<u8>
 
 /// The subaddress, 1 to 30, and the word count, 1 to 32, in which the tables first differ.
 pub fn first_count(ours: &[u32; 30], theirs: &[u32; 30]) -> Option<(u8, u8)>
-    ensures { FirstPlace (has_count ours.now) (has_count theirs.now) result }
+    ensures { FindsPlace (has_count ours.now) (has_count theirs.now) result }
 {
     for subaddress in 1..31u8 {
-        let row = usize::from(subaddress) - 1;
-        if let Some(bit) = first_bit(ours[row], theirs[row]) {
+        let index = usize::from(subaddress) - 1;
+        if let Some(bit) = first_bit(ours[index], theirs[index]) {
             return Some((subaddress, bit + 1));
         }
     }
     None
 }
 
-/// The index, 0 to 31, at which the words first differ.
+/// Gives the index, 0 to 31, at which the words first differ.
 fn first_index(ours: &[u16; 32], theirs: &[u16; 32]) -> Option<u8>
-    ensures { FirstNumber 32 (λ i. get_or ours.now i 0) (λ i. get_or theirs.now i 0) result }
+    ensures { FindsNumber 32 (λ i. get_or ours.now i 0) (λ i. get_or theirs.now i 0) result }
 {
     for index in 0..32u8 {
         let at = usize::from(index);
@@ -43,11 +44,11 @@ fn first_index(ours: &[u16; 32], theirs: &[u16; 32]) -> Option<u8>
 
 /// The subaddress, 1 to 30, and the number, 1 to 32, of the first word that differs.
 pub fn first_word(ours: &[[u16; 32]; 30], theirs: &[[u16; 32]; 30]) -> Option<(u8, u8)>
-    ensures { FirstPlace (word_at ours.now) (word_at theirs.now) result }
+    ensures { FindsPlace (word_at ours.now) (word_at theirs.now) result }
 {
     for subaddress in 1..31u8 {
-        let row = usize::from(subaddress) - 1;
-        if let Some(index) = first_index(&ours[row], &theirs[row]) {
+        let index = usize::from(subaddress) - 1;
+        if let Some(index) = first_index(&ours[index], &theirs[index]) {
             return Some((subaddress, index + 1));
         }
     }

@@ -1,20 +1,22 @@
 //! The reader of canonical texts.
 ghost use Rattle.std.specs.Prelude.{◌≡◌, ◌≤◌, nat_le, codes, IfOk};
-ghost use Rattle.line_format.specs.Reading.{read};
+ghost use Rattle.line_format.specs.inner.Reading.{read};
 ghost use Rattle.line_format.specs.Shapes.{decimal, number_line};
-ghost use Rattle.line_format.specs.Views.{Gives, spot};
+ghost use Rattle.line_format.specs.inner.Views.{Gives, spot};
 ghost use Rattle.line_format.specs.Answers.{Answers};
 ghost use Rattle.bus_canon.specs.Canon.{version_field, is_read, canon};
-ghost use Rattle.bus_canon.specs.CanonAnswer.{canon_answer};
+ghost use Rattle.bus_canon.specs.inner.CanonAnswer.{canon_answer};
 
 use crate::asked::{acceptance, asked_word, wraparound};
+use crate::blocks::blocks;
 use crate::cell_lines::cells;
 use crate::fault::CanonFault;
 use crate::names::{ADDRESS, BIT, BROADCAST, HEAD, VECTOR};
-use crate::rows::rows;
 use bus_legal::{Normal, Setup};
-use line_format::{Lines, WrongLine, bit_line, number_line_of};
+use bus_word::mode::{BIT_WORD, VECTOR_WORD};
+use line_format::{FieldKind, Lines, WrongLine, bit_line, number_line};
 
+/// Says whether texts of this version are read.
 fn is_read(version: u32) -> bool
     ensures { result ≡ is_read version }
 {
@@ -25,28 +27,19 @@ fn is_read(version: u32) -> bool
 fn version_line(lines: Lines<'_>) -> Result<(u32, Lines<'_>), WrongLine>
     ensures { Gives (λ r. r.0) (λ r. r.1) result (read (number_line (codes "rt1553") version_field is_read) (spot lines.entry)) }
 {
-    let Some((number, rest)) = number_line_of(lines.rest, HEAD, 10, 1) else {
-        return Err(lines.wrong());
-    };
-    if !is_read(number) {
-        return Err(lines.wrong());
-    }
-    Ok((number, lines.behind(rest)))
+    number_line(lines, HEAD, FieldKind::Digit, is_read)
 }
 
+/// Reads the line of the address.
 fn address_line(lines: Lines<'_>) -> Result<(u8, Lines<'_>), WrongLine>
     ensures answer { Gives (λ r. r.0) (λ r. r.1) result (read (number_line (codes "address") decimal (λ n. nat_le n 30)) (spot lines.entry)) }
     ensures own { IfOk result (λ r. r.0 ≤ 30) }
 {
-    let Some((number, rest)) = number_line_of(lines.rest, ADDRESS, 10, 2) else {
-        return Err(lines.wrong());
-    };
-    if 30 < number {
-        return Err(lines.wrong());
-    }
-    Ok((number as u8, lines.behind(rest)))
+    let (address, lines) = number_line(lines, ADDRESS, FieldKind::Decimal, |n| n <= 30)?;
+    Ok((address as u8, lines))
 }
 
+/// Reads all lines of a text.
 fn text(lines: Lines<'_>) -> Result<(Normal, Lines<'_>), WrongLine>
     ensures { Gives (λ r. r.0) (λ r. r.1) result (read (canon is_read) (spot lines.entry)) }
 {
@@ -55,10 +48,10 @@ fn text(lines: Lines<'_>) -> Result<(Normal, Lines<'_>), WrongLine>
     let (broadcast, lines) = bit_line(lines, BROADCAST)?;
     let (tables, lines) = cells(lines, broadcast)?;
     let (accept, lines) = acceptance(lines, &tables)?;
-    let (vector, lines) = asked_word(lines, &tables, 16, VECTOR)?;
-    let (bit, lines) = asked_word(lines, &tables, 19, BIT)?;
+    let (vector, lines) = asked_word(lines, &tables, VECTOR_WORD, VECTOR)?;
+    let (bit, lines) = asked_word(lines, &tables, BIT_WORD, BIT)?;
     let (wrap, lines) = wraparound(lines, version, &tables)?;
-    let (initial, lines) = rows(lines, &tables.own_transmit)?;
+    let (initial, lines) = blocks(lines, &tables.own_transmit)?;
     let setup = Setup {
         address,
         broadcast,

@@ -8,12 +8,15 @@ ghost use Rattle.terminal_rules.specs.declared.event.Event.TheVariants.{Word, Ga
 ghost use Rattle.terminal_exchanges.specs.Exchanges.{words_then, slots_then, exchange_then, command_event, script_of};
 ghost use Rattle.terminal_exchanges.specs.Distinguish.{slots_for, command_of, receive, transmit, mode_code_with, ask, initial_script, wraparound_script, shown_subaddress};
 ghost use Rattle.bus_canon.specs.Difference.{AreAlike, script_for};
-ghost use Rattle.bus_canon.specs.FirstPlace.{IsInRange};
+ghost use Rattle.bus_canon.specs.inner.Search.{IsInRange};
 
 use crate::difference::Difference;
 use crate::places::least_count;
 use arrayvec::ArrayVec;
 use bus_legal::{Normal, largest_count};
+use bus_word::mode::{
+    BIT_WORD, DYNAMIC_BUS_CONTROL, SYNCHRONIZE_WITH_WORD, TRANSMIT_STATUS, VECTOR_WORD,
+};
 use bus_word::{Bus, Kind, Raw};
 use terminal_rules::Event;
 
@@ -23,7 +26,7 @@ pub type Script = ArrayVec<Event, 80>;
 /// The address of all terminals.
 const ALL_TERMINALS: u8 = 31;
 
-/// The command word of these fields (MIL-STD-1553B, 4.3.3.5.1).
+/// Gives the command word of these fields (MIL-STD-1553B, 4.3.3.5.1).
 fn command(address: u8, transmit: bool, subaddress: u8, low: u8) -> u16
     requires address { address < 32 }
     requires subaddress { subaddress < 32 }
@@ -34,6 +37,7 @@ fn command(address: u8, transmit: bool, subaddress: u8, low: u8) -> u16
     u16::from(address) * 2048 + direction + u16::from(subaddress) * 32 + u16::from(low)
 }
 
+/// Adds a valid word.
 fn push_word(script: &mut Script, kind: Kind, bits: u16)
     requires { array_vec_len script.old < 80 }
     ensures items { script.new.items ≡ script.old.items ++ Word A (valid_word kind bits) ∷ [] }
@@ -66,7 +70,7 @@ fn push_slots(script: &mut Script, count: u8)
     }
 }
 
-/// So many slots, and none after a command to all terminals.
+/// Gives so many slots, and none after a command to all terminals.
 fn slots_for(address: u8, count: u8) -> u8
     ensures number { result ≡ slots_for address count }
     ensures few { result ≤ count }
@@ -74,7 +78,7 @@ fn slots_for(address: u8, count: u8) -> u8
     if address == ALL_TERMINALS { 0 } else { count }
 }
 
-/// The script with a command added that no data words follow, with so many slots.
+/// Gives the script with a command added that no data words follow, with so many slots.
 fn with_command(mut script: Script, command: u16, slots: u8) -> Script
     requires room { array_vec_len script ≤ 38 }
     requires slots { slots ≤ 33 }
@@ -87,17 +91,17 @@ fn with_command(mut script: Script, command: u16, slots: u8) -> Script
     script
 }
 
-/// The script with the question for the status that is kept (transmit status word).
+/// Gives the script with the question added for the status that is kept (transmit status word).
 fn with_ask(script: Script, address: u8) -> Script
     requires address { address < 32 }
     requires room { array_vec_len script ≤ 38 }
     ensures { result.items ≡ script.items ++ exchange_then (ask address) [] }
 {
     let slots = slots_for(address, 1);
-    with_command(script, command(address, true, 0, 2), slots)
+    with_command(script, command(address, true, 0, TRANSMIT_STATUS), slots)
 }
 
-/// The script with a command to transmit so many words, and so many slots.
+/// Gives the script with a command added to transmit so many words, and so many slots.
 fn with_transmit(script: Script, address: u8, subaddress: u8, count: u8, slots: u8) -> Script
     requires address { address < 32 }
     requires subaddress { subaddress < 32 }
@@ -112,7 +116,7 @@ fn with_transmit(script: Script, address: u8, subaddress: u8, count: u8, slots: 
     )
 }
 
-/// So many words to a subaddress: the first of them, and others of 0.
+/// Gives so many words to a subaddress: the first of them, and others of 0.
 fn receive_script(address: u8, subaddress: u8, count: u8, first: u16) -> Script
     requires address { address < 32 }
     requires subaddress { subaddress < 32 }
@@ -132,7 +136,7 @@ fn receive_script(address: u8, subaddress: u8, count: u8, first: u16) -> Script
     script
 }
 
-/// A mode code, with so many slots. Code 17, synchronize with data word, goes with a data word of 0
+/// Gives a mode code, with so many slots; synchronize with data word goes with a data word of 0
 /// (4.3.3.5.1.7.12).
 fn mode_script(address: u8, code: u8, count: u8) -> Script
     requires address { address < 32 }
@@ -142,7 +146,7 @@ fn mode_script(address: u8, code: u8, count: u8) -> Script
     ensures len { array_vec_len result ≤ 5 }
 {
     let slots = slots_for(address, count);
-    if code != 17 {
+    if code != SYNCHRONIZE_WITH_WORD {
         return with_command(ArrayVec::new(), command(address, true, 0, code), slots);
     }
     let mut script = ArrayVec::new();
@@ -153,7 +157,7 @@ fn mode_script(address: u8, code: u8, count: u8) -> Script
     script
 }
 
-/// The longest legal transmit command of a subaddress, 1 to 30.
+/// Gives the longest legal transmit command of a subaddress, 1 to 30.
 fn initial_script(p: &Normal, subaddress: u8) -> Script
     requires normal { IsNormal p.now }
     requires low { 1 ≤ subaddress }
@@ -165,7 +169,7 @@ fn initial_script(p: &Normal, subaddress: u8) -> Script
     with_transmit(ArrayVec::new(), p.address(), subaddress, count, count + 1)
 }
 
-/// The shortest legal receive command of a subaddress, 1 to 30, by broadcast only where there is no other, with
+/// Gives the shortest legal receive command of a subaddress, 1 to 30, by broadcast only where there is no other, with
 /// the complement of the first word that is held there; then the shortest legal transmit command.
 fn wraparound_script(p: &Normal, subaddress: u8) -> Script
     requires normal { IsNormal p.now }
@@ -173,21 +177,21 @@ fn wraparound_script(p: &Normal, subaddress: u8) -> Script
     requires high { subaddress ≤ 30 }
     ensures { result.items ≡ wraparound_script (description_in p.now) subaddress }
 {
-    let row = usize::from(subaddress) - 1;
+    let index = usize::from(subaddress) - 1;
     let tables = p.tables();
-    let first = !p.initial()[row][0];
-    let script = if tables.own_receive[row] != 0 {
-        let count = least_count(tables.own_receive[row]);
+    let first = !p.initial()[index][0];
+    let script = if tables.own_receive[index] != 0 {
+        let count = least_count(tables.own_receive[index]);
         receive_script(p.address(), subaddress, count, first)
     } else {
-        let count = least_count(tables.broadcast_receive[row]);
+        let count = least_count(tables.broadcast_receive[index]);
         receive_script(ALL_TERMINALS, subaddress, count, first)
     };
-    let count = least_count(tables.own_transmit[row]);
+    let count = least_count(tables.own_transmit[index]);
     with_transmit(script, p.address(), subaddress, count, count + 1)
 }
 
-/// The subaddress that shows that two terminals don't have the same wraparound subaddress: that of the first, or
+/// Gives the subaddress that shows that two terminals don't have the same wraparound subaddress: that of the first, or
 /// of the other where the first has none.
 fn shown_subaddress(p: &Normal, q: &Normal) -> u8
     requires first { IsNormal p.now }
@@ -210,8 +214,11 @@ pub fn script_for(p: &Normal, q: &Normal, difference: Difference) -> Script
 {
     let own = p.address();
     match difference {
-        Difference::Address => mode_script(own, 2, 1),
-        Difference::BroadcastOption => with_ask(mode_script(ALL_TERMINALS, 2, 1), own),
+        Difference::Address => mode_script(own, TRANSMIT_STATUS, 1),
+        Difference::BroadcastOption => with_ask(
+            mode_script(ALL_TERMINALS, TRANSMIT_STATUS, 1),
+            own,
+        ),
         Difference::ReceiveCell(s, n) => receive_script(own, s, n, 0),
         Difference::TransmitCell(s, n) => with_transmit(ArrayVec::new(), own, s, n, 1),
         Difference::BroadcastReceiveCell(s, n) => {
@@ -219,9 +226,9 @@ pub fn script_for(p: &Normal, q: &Normal, difference: Difference) -> Script
         }
         Difference::OwnCode(code) => mode_script(own, code, 1),
         Difference::BroadcastCode(code) => with_ask(mode_script(ALL_TERMINALS, code, 1), own),
-        Difference::Acceptance => mode_script(own, 0, 1),
-        Difference::VectorWord => mode_script(own, 16, 2),
-        Difference::BitWord => mode_script(own, 19, 2),
+        Difference::Acceptance => mode_script(own, DYNAMIC_BUS_CONTROL, 1),
+        Difference::VectorWord => mode_script(own, VECTOR_WORD, 2),
+        Difference::BitWord => mode_script(own, BIT_WORD, 2),
         Difference::InitialWord(s, _) => initial_script(p, s),
         Difference::Wraparound => wraparound_script(p, shown_subaddress(p, q)),
     }

@@ -1,15 +1,16 @@
 //! The writer of canonical texts.
 ghost use Rattle.std.specs.Prelude.{◌≤◌, length, IfOk, OnOk};
-ghost use Rattle.line_format.specs.Writing.{Adds};
+ghost use Rattle.line_format.specs.inner.Writing.{Adds};
 ghost use Rattle.bus_legal.specs.Parts.{parts_of, IsNormal};
 ghost use Rattle.bus_canon.specs.Canon.{is_written, canon, Text};
 
 use crate::asked::{put_acceptance, put_asked_word, put_wraparound};
+use crate::blocks::put_blocks;
 use crate::cell_lines::put_cells;
 use crate::names::{ADDRESS, BIT, BROADCAST, HEAD, VECTOR};
-use crate::rows::put_rows;
 use bus_legal::{Normal, Setup, Tables};
-use line_format::{put_bit_line, put_number_line};
+use bus_word::mode::{BIT_WORD, VECTOR_WORD};
+use line_format::{FieldKind, put_bit_line, put_number_line};
 use std::alloc::{AllocError, Global};
 
 /// The version of the texts that are written.
@@ -18,19 +19,20 @@ const VERSION: u32 = 2;
 /// How many bytes the longest canonical text has.
 const LONGEST: usize = 7_618;
 
+/// Writes all lines of a text.
 fn put_text(out: &mut Vec<u8>, setup: &Setup, tables: &Tables) -> Result<(), AllocError>
     requires { IsNormal (parts_of setup.now tables.now) }
     ensures { OnOk result (Adds (canon is_written) (parts_of setup.now tables.now) out.old.items out.new.items) }
 {
-    put_number_line(out, HEAD, 10, 1, VERSION)?;
-    put_number_line(out, ADDRESS, 10, 2, u32::from(setup.address))?;
+    put_number_line(out, HEAD, FieldKind::Digit, VERSION)?;
+    put_number_line(out, ADDRESS, FieldKind::Decimal, u32::from(setup.address))?;
     put_bit_line(out, BROADCAST, setup.broadcast)?;
     put_cells(out, setup.broadcast, tables)?;
     put_acceptance(out, tables, setup.accept)?;
-    put_asked_word(out, tables, 16, VECTOR, setup.vector)?;
-    put_asked_word(out, tables, 19, BIT, setup.bit)?;
+    put_asked_word(out, tables, VECTOR_WORD, VECTOR, setup.vector)?;
+    put_asked_word(out, tables, BIT_WORD, BIT, setup.bit)?;
     put_wraparound(out, tables, setup.wrap)?;
-    put_rows(out, &tables.own_transmit, &setup.initial)?;
+    put_blocks(out, &tables.own_transmit, &setup.initial)?;
     Ok(())
 }
 

@@ -18,7 +18,7 @@ use Rattle.terminal_rules.specs.declared.event.Event.TheVariants as event
 use Rattle.terminal_rules.specs.declared.event.Flag.{Flag}
 use Rattle.terminal_rules.specs.declared.event.Flag.TheVariants.{Service, Busy, Subsystem, Terminal}
 use Rattle.bus_script.specs.Digits.{word_of, word_of_bytes, digits_of, number_of}
-use Rattle.line_format.specs.Reading.{◌>>=◌}
+use Rattle.line_format.specs.Front.{◌>>=◌}
 use Rattle.bus_script.specs.Transcript.{bus_letter}
 use Rattle.bus_script.specs.Line.{meaning, or_refused, place_at}
 use Rattle.bus_script.specs.declared.line.LineFault.{LineFault}

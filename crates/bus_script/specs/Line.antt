@@ -12,7 +12,7 @@ use Rattle.terminal_rules.specs.declared.event.Flag.{Flag}
 use Rattle.terminal_rules.specs.declared.event.Flag.TheVariants as flag
 use Rattle.terminal_rules.specs.declared.event.Event.{Event}
 use Rattle.terminal_rules.specs.declared.event.Event.TheVariants as event
-use Rattle.line_format.specs.Reading.{◌>>=◌, after}
+use Rattle.line_format.specs.Front.{◌>>=◌, after}
 use Rattle.bus_script.specs.declared.line.LineFault.{LineFault}
 use Rattle.bus_script.specs.Digits.{word_of, number_of}
 

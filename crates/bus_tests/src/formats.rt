@@ -1,7 +1,7 @@
 //! Fields and lines, read and written.
 use line_format::{
-    Lines, WrongLine, bit_line, field, name_line, number_line_of, number_of, numbered_line,
-    numbered_line_of, put_bit_line, put_digits, put_name_line, put_number_line, put_numbered_line,
+    FieldKind, Lines, WrongLine, bit_line, field, number_line, number_line_of, number_of,
+    numbered_line, numbered_line_of, put_bit_line, put_number, put_number_line, put_numbered_line,
     put_words_line, word_line, words_line,
 };
 use std::test::Fail;
@@ -31,36 +31,46 @@ const HEXADECIMALS: [(&[u8], Option<u32>); 6] = [
 #[test]
 fn numbers_are_read_by_their_width(rt: HostRuntime) -> Result<(), Fail> {
     for (text, wanted) in &DECIMALS {
-        assert_eq!(rt; number_of(*text, 10, 2).map(|r| r.0), *wanted, "{text:?}");
+        assert_eq!(rt;
+            number_of(*text, FieldKind::Decimal).map(|r| r.0),
+            *wanted,
+            "{text:?}"
+        );
     }
     for (text, wanted) in &HEXADECIMALS {
-        assert_eq!(rt; number_of(*text, 16, 4).map(|r| r.0), *wanted, "{text:?}");
+        assert_eq!(rt;
+            number_of(*text, FieldKind::Word).map(|r| r.0),
+            *wanted,
+            "{text:?}"
+        );
     }
-    assert_eq!(rt; field(b" 30\n", 10, 2).map(|r| r.0), Some(30));
-    assert_eq!(rt; field(b"30\n", 10, 2).map(|r| r.0), None);
-    assert_eq!(rt; field(b"  3", 10, 2).map(|r| r.0), None);
+    assert_eq!(rt; field(b" 30\n", FieldKind::Decimal).map(|r| r.0), Some(30));
+    assert_eq!(rt; field(b"30\n", FieldKind::Decimal).map(|r| r.0), None);
+    assert_eq!(rt; field(b"  3", FieldKind::Decimal).map(|r| r.0), None);
     Ok(())
 }
 
 #[test]
 fn lines_are_read_and_written(rt: HostRuntime) -> Result<(), Fail> {
     let mut text = Vec::new(rt.alloc());
-    put_name_line(&mut text, b"head 1")?;
-    put_number_line(&mut text, b"word", 16, 4, 0xbeef)?;
+    put_bit_line(&mut text, b"head", true)?;
+    put_number_line(&mut text, b"word", FieldKind::Word, 0xbeef)?;
     put_numbered_line(&mut text, b"row", 3, 0x8000_0001)?;
-    put_digits(&mut text, 2, 3, 5)?;
+    put_number(&mut text, FieldKind::Decimal, 10)?;
+    put_number(&mut text, FieldKind::Bit, 1)?;
     let bytes = text.as_slice();
     assert_eq!(rt;
         bytes,
         b"head 1\nword beef\nrow 03 80000001\n101".as_slice()
     );
-    match name_line(Lines::of(bytes), b"head 1") {
-        Ok(lines) => {
+    match bit_line(Lines::of(bytes), b"head") {
+        Ok((bit, lines)) => {
+            assert!(rt; bit);
             assert_eq!(rt; lines.number, 2);
             assert_eq!(rt; lines.wrong().line, 2);
-            let word = number_line_of(lines.rest, b"word", 16, 4);
+            let word = number_line_of(lines.rest, b"word", FieldKind::Word);
             assert_eq!(rt; word.map(|r| r.0), Some(0xbeef));
-            let other = number_line_of(lines.rest, b"ward", 16, 4);
+            let other = number_line_of(lines.rest, b"ward", FieldKind::Word);
             assert_eq!(rt; other.map(|r| r.0), None);
             let row = word.and_then(|r| numbered_line_of(r.1, b"row"));
             assert_eq!(rt; row.map(|r| (r.0, r.1)), Some((3, 0x8000_0001)));
@@ -68,9 +78,24 @@ fn lines_are_read_and_written(rt: HostRuntime) -> Result<(), Fail> {
         }
         Err(wrong) => assert_eq!(rt; wrong.line, 0),
     }
-    match name_line(Lines::of(bytes), b"head") {
-        Ok(lines) => assert_eq!(rt; lines.number, 0),
+    match bit_line(Lines::of(bytes), b"had") {
+        Ok((_, lines)) => assert_eq!(rt; lines.number, 0),
         Err(wrong) => assert_eq!(rt; wrong.line, 1),
+    }
+    Ok(())
+}
+
+#[test]
+fn a_number_line_is_read_where_its_number_passes(rt: HostRuntime) -> Result<(), Fail> {
+    for (text, wanted) in &[
+        (b"mask 0000000f\n".as_slice(), Ok(15)),
+        (b"mask 00000010\n", Err(1)),
+        (b"mask 0000000F\n", Err(1)),
+        (b"mask f\n", Err(1)),
+    ] {
+        let read = number_line(Lines::of(*text), b"mask", FieldKind::Mask, |n| n < 16);
+        let found = read.map(|r| r.0).map_err(|wrong| wrong.line);
+        assert_eq!(rt; found, *wanted, "{text:?}");
     }
     Ok(())
 }
@@ -91,7 +116,7 @@ fn four_lines<'a>(
 fn four_lines_are_read_and_written(rt: HostRuntime) -> Result<(), Fail> {
     let mut text = Vec::new(rt.alloc());
     put_bit_line(&mut text, b"bit", true)?;
-    put_number_line(&mut text, b"word", 16, 4, 0xbeef)?;
+    put_number_line(&mut text, b"word", FieldKind::Word, 0xbeef)?;
     put_numbered_line(&mut text, b"row", 3, 0x8000_0001)?;
     put_words_line(&mut text, b"words", 7, &[1, 0xfffe])?;
     let bytes = text.as_slice();

@@ -2,8 +2,8 @@
 use Rattle.std.proofs.Common.{◌≡◌, ℕ, suc, ◌<◌, List, [], ◌∷◌, ◌++◌, length, Result, Ok, Err, refl, ap, sym, ◌∙◌, subst, arith, append-nil, ⊎_elim}
 use Rattle.std.proofs.lemmas.Bool.{cases_lt}
 use Rattle.line_format.specs.Format.{Format, Spells, IsSound}
-use Rattle.line_format.specs.Reading.{Spot, read}
-use Rattle.line_format.specs.Views.{start}
+use Rattle.line_format.specs.inner.Reading.{Spot, read}
+use Rattle.line_format.specs.inner.Views.{start}
 use Rattle.line_format.specs.Answers.{Trails, HasWrongLine, Answer, Whole, More, Wrong, Answers}
 use Rattle.line_format.proofs.FormatLaws.{read-is, read-again, read-wrong, begins-fewer, Meets, WrongAt}
 

@@ -6,3 +6,4 @@ pub mod AnswerLaws
 pub mod SoundLaws
 pub mod OneText
 pub mod SizeLaws
+pub mod Hexadecimals

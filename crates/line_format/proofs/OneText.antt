@@ -2,7 +2,7 @@
 use Rattle.std.proofs.Common.{◌≡◌, ℕ, zero, suc, ◌<◌, ◌^◌, ◌==◌, List, [], ◌∷◌, ◌++◌, Bool, true, refl, ap, ap₂, sym, ◌∙◌, subst, append_assoc, arith, length, get_or, replicate, lit<}
 use Rattle.std.proofs.lemmas.Bool.Decides.{nat_tests}
 use Rattle.line_format.specs.Format.{Field, Format, done, line, and_then, Fit, spell, Spells}
-use Rattle.line_format.specs.Shapes.{name_line, number_line, bit_line, numbered_line, words_line, number_field, decimal, word, mask, first, others}
+use Rattle.line_format.specs.Shapes.{number_line, bit_line, numbered_line, words_line, number_field, decimal, word, mask, first, others}
 
 abbrev pub HasOneText : {A : Type 0} → Format A → Type 0
 HasOneText {A = A} F = (v : A) (x y : List ℕ) → Spells F v x → Spells F v y → x ≡ y
@@ -43,10 +43,6 @@ one_then F g one_front one_rest same v x y s t =
 
 -- ---- lines
 
-pub name_value : (name : List ℕ) (v : Bool) (x : List ℕ) → Spells (name_line name) v x → v ≡ true
-unfolding name_line
-name_value name v x (xs, rest, allows, is, (e, none)) = e
-
 no_fields : (xs : List ℕ) → Fit [] xs → xs ≡ []
 no_fields [] h = refl
 no_fields (x ∷ xs) h = absurd h
@@ -54,12 +50,6 @@ no_fields (x ∷ xs) h = absurd h
 one_field : (f : Field) (xs : List ℕ) → Fit (f ∷ []) xs → xs ≡ first xs ∷ []
 one_field f [] h = absurd h
 one_field f (x ∷ xs) h = ap (λ ys. x ∷ ys) (no_fields xs h.1)
-
-pub name_one : (name : List ℕ) → HasOneText (name_line name)
-unfolding name_line
-name_one name v x y (xs, rest, allows, is, (e, none)) (ys, rest', allows', is', (e', none')) =
-    let same : xs ≡ ys = no_fields xs allows.fit ∙ sym (no_fields ys allows'.fit) in
-    is ∙ ap₂ (λ zs r. spell (record { name = name; fields = []; allowed = λ _. true }) zs ++ r) same (none ∙ sym none') ∙ sym is'
 
 pub number_one : (name : List ℕ) (f : Field) (allowed : ℕ → Bool) → HasOneText (number_line name f allowed)
 unfolding number_line

@@ -1,7 +1,7 @@
 -- How long texts are.
 use Rattle.std.proofs.Common.{◌≡◌, ℕ, zero, suc, ◌+◌, ◌*◌, ◌≤◌, List, [], ◌∷◌, ◌++◌, Bool, length, length-append, replicate, refl, ap, ◌∙◌, arith}
 use Rattle.line_format.specs.Format.{Field, Shape, Format, done, line, and_then, digits, Fit, spell_fields, spell, Spells}
-use Rattle.line_format.specs.Shapes.{name_line, number_line, bit_line, numbered_line, words_line, word}
+use Rattle.line_format.specs.Shapes.{number_line, bit_line, numbered_line, words_line, word}
 use Rattle.line_format.proofs.OneText.{Parted, parted}
 
 -- every text has a length between these
@@ -52,10 +52,6 @@ size_line {A = A} s f n e = record { least = λ v x h. (let same : length x ≡ 
     all : (v : A) (x : List ℕ) → Spells (line s (λ xs. done (f xs))) v x → length x ≡ n
     all v x (xs, rest, allows, is, (same, none)) =
         ap length is ∙ length-append (spell s xs) rest ∙ omega (arith, ap length none, length-spell s xs allows.fit)
-
-pub size_name : (name : List ℕ) (n : ℕ) → n ≡ length name + 1 → HasSize (name_line name) n n
-unfolding name_line
-size_name name n e = size_line _ (λ _. _) n e
 
 pub size_number : (name : List ℕ) (f : Field) (allowed : ℕ → Bool) (n : ℕ) → n ≡ length name + (f.width + 2) → HasSize (number_line name f allowed) n n
 unfolding number_line

@@ -2,7 +2,7 @@
 use Rattle.std.proofs.Common.{◌≡◌, ℕ, zero, suc, ◌^◌, ◌<◌, List, [], ◌∷◌, ◌++◌, Bool, true, refl, replicate, lit<, arith}
 use Rattle.std.proofs.lemmas.Bool.Decides.{nat_tests}
 use Rattle.line_format.specs.Format.{Field, Fit, Format, done, line, and_then, spell, Spells, IsSound, is_plain}
-use Rattle.line_format.specs.Shapes.{name_line, number_line, bit_line, numbered_line, words_line, word}
+use Rattle.line_format.specs.Shapes.{number_line, bit_line, numbered_line, words_line, word}
 
 pub sound_then : {A B : Type 0} (F : Format A) (g : A → Format B) → IsSound F → ((a : A) → IsSound (g a)) → IsSound (and_then F g)
 unfolding and_then
@@ -15,10 +15,6 @@ unfolding and_then
 sound_after (done a) g f h = h a [] (refl, refl)
 sound_after (line s next) g (plain, xs, allows, later) h =
     (plain, xs, allows, λ ys allowed. sound_after (next ys) g (later ys allowed) (λ a x t. h a (spell s ys ++ x) (ys, x, allowed, refl, t)))
-
-pub sound_name : (name : List ℕ) → is_plain name ≡ true → IsSound (name_line name)
-unfolding name_line
-sound_name name e = (e, [], record { fit = tt; allowed = refl }, λ ys a. tt)
 
 -- a number that the line may hold shows that it may hold one
 pub sound_number : (name : List ℕ) (f : Field) (allowed : ℕ → Bool) (n : ℕ) → is_plain name ≡ true → n < f.base ^ f.width → allowed n ≡ true → IsSound (number_line name f allowed)

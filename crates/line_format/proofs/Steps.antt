@@ -1,10 +1,9 @@
 -- Steps of the readers.
-use Rattle.std.proofs.Common.{◌≡◌, ◌≢◌, ℕ, zero, suc, ◌+◌, ◌-◌, ◌*◌, ◌^◌, ◌<◌, ◌≤◌, ◌==◌, List, [], ◌∷◌, ◌++◌, Bool, true, false, Result, Ok, Err, Option, Some, None, option_map, MatchOption, Bor, refl, ap, sym, ◌∙◌, arith, add-one, append_assoc, replicate}
-use Rattle.std.proofs.Math.Nat.{pow-suc, pow-le-pow_right}
-use Rattle.std.proofs.lemmas.Nat.{mul-add-lt}
-use Rattle.line_format.specs.Reading.{◌>>=◌, after, digit_at, digit_value, number_at, field_at, fields_at, content_at, line_at, Spot, read}
+use Rattle.std.proofs.Common.{◌≡◌, ◌≢◌, ℕ, zero, suc, ◌+◌, ◌-◌, ◌<◌, ◌==◌, List, [], ◌∷◌, ◌++◌, Bool, true, false, Result, Ok, Err, Option, Some, None, option_map, MatchOption, Bor, refl, ap, sym, ◌∙◌, arith, append_assoc, replicate}
+use Rattle.line_format.specs.Front.{◌>>=◌, after}
+use Rattle.line_format.specs.inner.Reading.{field_at, fields_at, content_at, line_at, Spot, read}
 use Rattle.line_format.specs.Format.{Field, Shape, Format, done, line, and_then}
-use Rattle.line_format.specs.Shapes.{first, others, number_line, name_line, bit_line, numbered_line, words_line, number_field, decimal, word, mask}
+use Rattle.line_format.specs.Shapes.{first, others, number_line, bit_line, numbered_line, words_line, number_field, decimal, word, mask}
 use Rattle.line_format.proofs.Digits.{after-front, after-is}
 use Rattle.std.proofs.lemmas.Bool.Decides.{nat_tests}
 
@@ -15,31 +14,6 @@ after_found cs bytes None h = sym (none (after cs bytes) refl)
     none None e = e
     none (Some rest) e = absurd (h rest (after-is cs bytes rest e))
 after_found cs bytes (Some x) h = sym (ap (after cs) h ∙ after-front cs x.now)
-
-abbrev both : List ℕ → ℕ → Option (ℕ × List ℕ)
-both bs d = Some (d, bs)
-
-step_on : (base left acc : ℕ) (bytes : List ℕ) → number_at base (suc left) acc bytes ≡ (digit_at base bytes >>= λ d. number_at base left (acc * base + d.0) d.1)
-step_on base left acc [] = refl
-step_on base left acc (b ∷ bs) = pick (digit_value base b)
-  where
-    pick : (o : Option ℕ) → (o >>= λ d. number_at base left (acc * base + d) bs) ≡ ((o >>= both bs) >>= λ d. number_at base left (acc * base + d.0) d.1)
-    pick None = refl
-    pick (Some d) = refl
-
-pub one_more : (base left acc : ℕ) (bytes : List ℕ) (d : ℕ) (others : List ℕ) → 0 < left → Some (d, others) ≡ digit_at base bytes → number_at base left acc bytes ≡ number_at base (left - 1) (acc * base + d) others
-one_more base zero acc bytes d others some e = absurd (omega arith)
-one_more base (suc left) acc bytes d others some e = let same : suc left - 1 ≡ left = omega arith in step_on base left acc bytes ∙ rw (← e, same) refl
-
-pub none_more : (base left acc : ℕ) (bytes : List ℕ) → 0 < left → None ≡ digit_at base bytes → number_at base left acc bytes ≡ None
-none_more base zero acc bytes some e = absurd (omega arith)
-none_more base (suc left) acc bytes some e = step_on base left acc bytes ∙ rw (← e) refl
-
-pub grows : (base step acc d : ℕ) → d < base → acc < base ^ step → acc * base + d < base ^ (step + 1)
-grows base step acc d within l = let m : acc * base + d < base ^ step * base = omega (arith, mul-add-lt acc base d (base ^ step) l within) in rw (add-one step, pow-suc) m
-
-pub fits : (base width step acc d : ℕ) → 1 < base → base ^ width ≤ 2 ^ 32 → step < width → d < base → acc < base ^ step → acc * base + d < 2 ^ 32
-fits base width step acc d some whole l within a = omega (arith, grows base step acc d within a, pow-le-pow_right {n = base} (omega arith) {i = step + 1} {j = width} (omega arith))
 
 -- ---- lines
 
@@ -100,14 +74,6 @@ pub then_err : {A B : Type 0} (F : Format A) (g : A → Format B) (p : Spot) (n 
 then_err F g p n e = read-then F g p ∙ ap (λ r. r then λ r. read (g r.0) r.1) e
 
 -- ---- other lines
-
-pub name_here : (name : List ℕ) (p q : Spot) (rest : List ℕ) → Some ([], rest) ≡ content_at name [] p.rest → q ≡ record { number = p.number + 1; rest = rest } → read (name_line name) p ≡ Ok (true, q)
-unfolding name_line
-name_here name p q rest e at = line_here _ (λ _. done true) p [] rest e refl ∙ ap (λ q. Ok (true, q)) (sym at)
-
-pub name_none : (name : List ℕ) (p : Spot) → None ≡ content_at name [] p.rest → read (name_line name) p ≡ Err p.number
-unfolding name_line
-name_none name p e = line_none _ (λ _. done true) p e
 
 pub bit_here : (name : List ℕ) (p q : Spot) (n : ℕ) (rest : List ℕ) → Some (n ∷ [], rest) ≡ content_at name (number_field 2 1 ∷ []) p.rest → q ≡ record { number = p.number + 1; rest = rest } → read (bit_line name) p ≡ Ok (n == 1, q)
 unfolding bit_line

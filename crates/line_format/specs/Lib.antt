@@ -1,6 +1,5 @@
 pub mod Format
-pub mod Reading
 pub mod Shapes
-pub mod Views
-pub mod Writing
 pub mod Answers
+pub mod Front
+pub mod inner

@@ -25,10 +25,6 @@ abbrev pub others : List ℕ → List ℕ
 others [] = []
 others (x ∷ xs) = xs
 
--- a line that is just its name
-unfoldable pub name_line : List ℕ → Format Bool
-name_line name = line (record { name = name; fields = []; allowed = λ _. true }) (λ _. done true)
-
 -- a line with one number, which it means
 unfoldable pub number_line : List ℕ → Field → (ℕ → Bool) → Format ℕ
 number_line name f allowed = line (record { name = name; fields = f ∷ []; allowed = λ xs. allowed (first xs) }) (λ xs. done (first xs))

@@ -1,10 +1,14 @@
 //! Readers of what stands at the front of a text.
-ghost use Rattle.std.specs.Prelude.{◌≡◌, ◌*◌, ◌+◌, ◌<◌, ◌≤◌, ◌^◌, length, IfSome, MatchOption, option_map, [], ◌∷◌, true, replicate};
-ghost use Rattle.line_format.specs.Reading.{after, digit_at, digit_value, number_at, field_at, fields_at, content_at, read};
-ghost use Rattle.line_format.specs.Shapes.{name_line, number_line, bit_line, numbered_line, words_line, decimal, word, mask, number_field};
-ghost use Rattle.line_format.specs.Views.{Gives, spot};
+ghost use Rattle.std.specs.Prelude.{ℕ, Bool, IfOk, ◌≡◌, ◌*◌, ◌+◌, ◌<◌, ◌≤◌, ◌^◌, length, IfSome, MatchOption, option_map, [], ◌∷◌, true, replicate};
+ghost use Rattle.line_format.specs.Front.{after};
+ghost use Rattle.line_format.specs.inner.Reading.{digit_at, digit_value, number_at, field_at, fields_at, content_at, read};
+ghost use Rattle.line_format.specs.Shapes.{number_line, bit_line, numbered_line, words_line, decimal, word, mask, number_field};
+ghost use Rattle.line_format.specs.inner.Fields.{field_of, limit};
+ghost use Rattle.line_format.specs.inner.Views.{Gives, IsTest, spot};
 
+use crate::field_kind::FieldKind;
 use crate::lines::{Lines, WrongLine};
+use crate::numbers::number_of;
 
 /// What comes after this text, where it stands first.
 pub fn after<'a>(bytes: &'a [u8], text: &[u8]) -> Option<&'a [u8]>
@@ -14,127 +18,68 @@ pub fn after<'a>(bytes: &'a [u8], text: &[u8]) -> Option<&'a [u8]>
     bytes.strip_prefix(text)
 }
 
-fn digit_value(base: u32, byte: u8) -> Option<u32>
-    ensures value { result ≡ digit_value base byte }
-    ensures digit { IfSome result (λ d. d < base) }
-{
-    let digit = if byte < b'a' {
-        if !byte.is_ascii_digit() {
-            return None;
-        }
-        byte - b'0'
-    } else {
-        byte - 87
-    };
-    if (digit as u32) < base {
-        Some(digit as u32)
-    } else {
-        None
-    }
-}
-
-/// The digit at the front, and what comes after it.
-fn digit(bytes: &[u8], base: u32) -> Option<(u32, &[u8])>
-    ensures value { option_map (λ r. (r.0, r.1.now)) result ≡ digit_at base bytes.now }
-    ensures digit { IfSome result (λ r. r.0 < base) }
-    ensures shorter { IfSome result (λ r. length r.1.now ≤ length bytes.now) }
-{
-    let [byte, others @ ..] = bytes else {
-        return None;
-    };
-    let value = digit_value(base, *byte)?;
-    Some((value, others))
-}
-
-/// The number of `width` digits at the front, and what comes after it. Letters are small.
-pub fn number_of(bytes: &[u8], base: u32, width: usize) -> Option<(u32, &[u8])>
-    requires small { base ^ width ≤ 2 ^ 32 }
-    requires some { 1 < base }
-    ensures value { option_map (λ r. (r.0, r.1.now)) result ≡ number_at base width 0 bytes.now }
-    ensures shorter { IfSome result (λ r. length r.1.now ≤ length bytes.now) }
-    ensures small { IfSome result (λ r. r.0 < base ^ width) }
-{
-    let mut value = 0;
-    let mut rest = bytes;
-    for _step in 0..width {
-        let Some((next, others)) = digit(rest, base) else {
-            return None;
-        };
-        value = value * base + next;
-        rest = others;
-    }
-    Some((value, rest))
-}
-
-/// The same behind a space.
-pub fn field(bytes: &[u8], base: u32, width: usize) -> Option<(u32, &[u8])>
-    requires small { base ^ width ≤ 2 ^ 32 }
-    requires some { 1 < base }
-    ensures value { option_map (λ r. (r.0, r.1.now)) result ≡ field_at base width bytes.now }
+/// The number of this kind behind a space at the front, and what comes after it.
+pub fn field(bytes: &[u8], kind: FieldKind) -> Option<(u32, &[u8])>
+    ensures value { option_map (λ r. (r.0, r.1.now)) result ≡ field_at (field_of kind).base (field_of kind).width bytes.now }
     ensures shorter { IfSome result (λ r. length r.1.now < length bytes.now) }
-    ensures small { IfSome result (λ r. r.0 < base ^ width) }
+    ensures small { IfSome result (λ r. r.0 < limit (field_of kind)) }
 {
-    number_of(after(bytes, b" ")?, base, width)
-}
-
-#[tactic(auto, unfolding(crate::specs::Reading::content_at))]
-fn name_line_of<'a>(bytes: &'a [u8], name: &[u8]) -> Option<&'a [u8]>
-    ensures value { option_map (λ r. ([], r.now)) result ≡ content_at name.now [] bytes.now }
-    ensures shorter { IfSome result (λ r. length r.now < length bytes.now) }
-{
-    after(after(bytes, name)?, b"\n")
+    number_of(after(bytes, b" ")?, kind)
 }
 
 /// What comes after a line with this name and one number, which it gives.
-#[tactic(auto, unfolding(crate::specs::Reading::content_at))]
-pub fn number_line_of<'a>(
-    bytes: &'a [u8],
-    name: &[u8],
-    base: u32,
-    width: usize,
-) -> Option<(u32, &'a [u8])>
-    requires small { base ^ width ≤ 2 ^ 32 }
-    requires some { 1 < base }
-    ensures value { option_map (λ r. (r.0 ∷ [], r.1.now)) result ≡ content_at name.now (number_field base width ∷ []) bytes.now }
+#[tactic(auto, unfolding(crate::specs::inner::Reading::content_at))]
+pub fn number_line_of<'a>(bytes: &'a [u8], name: &[u8], kind: FieldKind) -> Option<(u32, &'a [u8])>
+    ensures value { option_map (λ r. (r.0 ∷ [], r.1.now)) result ≡ content_at name.now (field_of kind ∷ []) bytes.now }
     ensures shorter { IfSome result (λ r. length r.1.now < length bytes.now) }
-    ensures small { IfSome result (λ r. r.0 < base ^ width) }
+    ensures small { IfSome result (λ r. r.0 < limit (field_of kind)) }
 {
     let rest = after(bytes, name)?;
-    let (number, rest) = field(rest, base, width)?;
+    let (number, rest) = field(rest, kind)?;
     let rest = after(rest, b"\n")?;
     Some((number, rest))
 }
 
 /// What comes after a line with this name, a number of two decimal digits and a mask of eight
 /// hexadecimal ones, which it gives.
-#[tactic(auto, unfolding(crate::specs::Reading::content_at))]
+#[tactic(auto, unfolding(crate::specs::inner::Reading::content_at))]
 pub fn numbered_line_of<'a>(bytes: &'a [u8], name: &[u8]) -> Option<(u32, u32, &'a [u8])>
     ensures value { option_map (λ r. (r.0 ∷ r.1 ∷ [], r.2.now)) result ≡ content_at name.now (decimal ∷ mask ∷ []) bytes.now }
     ensures shorter { IfSome result (λ r. length r.2.now < length bytes.now) }
 {
     let rest = after(bytes, name)?;
-    let (number, rest) = field(rest, 10, 2)?;
-    let (mask, rest) = field(rest, 16, 8)?;
+    let (number, rest) = field(rest, FieldKind::Decimal)?;
+    let (mask, rest) = field(rest, FieldKind::Mask)?;
     let rest = after(rest, b"\n")?;
     Some((number, mask, rest))
 }
 
-/// Reads a line that is this name.
-#[tactic(auto, using(crate::proofs::Steps::name_here, crate::proofs::Steps::name_none))]
-pub fn name_line<'a>(lines: Lines<'a>, name: &[u8]) -> Result<Lines<'a>, WrongLine>
-    ensures { Gives (λ _. true) (λ r. r) result (read (name_line name.now) (spot lines.entry)) }
+/// Reads a line with one number that passes this test.
+pub fn number_line<'a, F: Fn(u32) -> bool>(
+    lines: Lines<'a>,
+    name: &[u8],
+    kind: FieldKind,
+    is_allowed: F,
+) -> Result<(u32, Lines<'a>), WrongLine>
+    requires { F.IsAlwaysCallable is_allowed }
+    ensures answer { (allowed : ℕ → Bool) → IsTest (limit (field_of kind)) (F.post is_allowed) allowed → Gives (λ r. r.0) (λ r. r.1) result (read (number_line name.now (field_of kind) allowed) (spot lines.entry)) }
+    ensures passed { IfOk result (λ r. F.post is_allowed r.0 true) }
+    ensures small { IfOk result (λ r. r.0 < limit (field_of kind)) }
 {
-    let Some(rest) = name_line_of(lines.rest, name) else {
+    let Some((number, rest)) = number_line_of(lines.rest, name, kind) else {
         return Err(lines.wrong());
     };
-    Ok(lines.behind(rest))
+    if !is_allowed(number) {
+        return Err(lines.wrong());
+    }
+    Ok((number, lines.behind(rest)))
 }
 
 /// Reads a line with a 0 or a 1.
 pub fn bit_line<'a>(lines: Lines<'a>, name: &[u8]) -> Result<(bool, Lines<'a>), WrongLine>
     ensures { Gives (λ r. r.0) (λ r. r.1) result (read (bit_line name.now) (spot lines.entry)) }
 {
-    let Some((number, rest)) = number_line_of(lines.rest, name, 2, 1) else {
+    let Some((number, rest)) = number_line_of(lines.rest, name, FieldKind::Bit) else {
         return Err(lines.wrong());
     };
     Ok((number == 1, lines.behind(rest)))
@@ -144,7 +89,7 @@ pub fn bit_line<'a>(lines: Lines<'a>, name: &[u8]) -> Result<(bool, Lines<'a>), 
 pub fn word_line<'a>(lines: Lines<'a>, name: &[u8]) -> Result<(u16, Lines<'a>), WrongLine>
     ensures { Gives (λ r. r.0) (λ r. r.1) result (read (number_line name.now word (λ _. true)) (spot lines.entry)) }
 {
-    let Some((number, rest)) = number_line_of(lines.rest, name, 16, 4) else {
+    let Some((number, rest)) = number_line_of(lines.rest, name, FieldKind::Word) else {
         return Err(lines.wrong());
     };
     Ok((number as u16, lines.behind(rest)))
@@ -174,7 +119,7 @@ fn words<'a>(bytes: &'a [u8], to: &mut [u16]) -> Option<&'a [u8]>
 {
     let mut rest = bytes;
     for index in 0..to.len() {
-        let Some((word, others)) = field(rest, 16, 4) else {
+        let Some((word, others)) = field(rest, FieldKind::Word) else {
             return None;
         };
         to[index] = word as u16;
@@ -185,13 +130,13 @@ fn words<'a>(bytes: &'a [u8], to: &mut [u16]) -> Option<&'a [u8]>
 
 /// What comes after a line with this name, a number of two decimal digits, which it gives, and as many
 /// words as there is room for.
-#[tactic(auto, unfolding(crate::specs::Reading::content_at))]
+#[tactic(auto, unfolding(crate::specs::inner::Reading::content_at))]
 fn words_line_of<'a>(bytes: &'a [u8], name: &[u8], to: &mut [u16]) -> Option<(u32, &'a [u8])>
     ensures value { MatchOption result (content_at name.now (decimal ∷ replicate (length to.old) word) bytes.entry.now ≡ None) (λ r. content_at name.now (decimal ∷ replicate (length to.old) word) bytes.entry.now ≡ Some (r.0 ∷ to.new, r.1.now)) }
     ensures shorter { IfSome result (λ r. length r.1.now < length bytes.entry.now) }
 {
     let rest = after(bytes, name)?;
-    let (number, rest) = field(rest, 10, 2)?;
+    let (number, rest) = field(rest, FieldKind::Decimal)?;
     let rest = words(rest, to)?;
     let rest = after(rest, b"\n")?;
     Some((number, rest))

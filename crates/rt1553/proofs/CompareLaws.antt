@@ -11,7 +11,7 @@ use Rattle.terminal_rules.proofs.Reach.Same.{same_where_reached, outs_from-reach
 use Rattle.terminal_exchanges.proofs.Distinguish.Apart.{apart-reach}
 use Rattle.bus_canon.specs.Canon.{Text}
 use Rattle.bus_canon.specs.declared.difference.Difference.{Difference}
-use Rattle.bus_canon.specs.Difference.{IsFirst, script_for}
+use Rattle.bus_canon.specs.Difference.{IsFirstDifference, script_for}
 use Rattle.bus_canon.proofs.CanonLaws.{written_normal, written_value_one, text_one}
 use Rattle.bus_canon.proofs.SameLaws.{equal_where_same}
 use Rattle.rt1553.specs.Load.{Of, Reaches}
@@ -57,7 +57,7 @@ of_reached : (X : Description → Description → Type 0) (v w : Parts) (P Q : D
 of_reached X v w P Q p q x = subst (λ D. X D (reach Q)) p (subst (λ D. X (description_in v) D) q x)
 
 pub are_different : (first second : List ℕ) (v w : Parts) (script : List Event) → IsNormal v → IsNormal w → Reaches first v → Reaches second w
-    → (d : Difference) × IsFirst (description_in v) (description_in w) d × (script ≡ script_for (description_in v) (description_in w) d)
+    → (d : Difference) × IsFirstDifference (description_in v) (description_in w) d × (script ≡ script_for (description_in v) (description_in w) d)
     → TellsApart (description_in v) (description_in w) script → AreDifferent first second script
 are_different first second v w script normal normal' p q f t = record {
   p = p.description;
@@ -66,7 +66,7 @@ are_different first second v w script normal normal' p q f t = record {
   of_second = q.of;
   canonical = other_canon first second v w normal normal' p q (λ e. t.differ (ap (λ x. outs (description_in x) script) e));
   difference = f.0;
-  first_difference = of_reached (λ A B. IsFirst A B f.0) v w p.description q.description p.reached q.reached f.1;
+  first_difference = of_reached (λ A B. IsFirstDifference A B f.0) v w p.description q.description p.reached q.reached f.1;
   shows = f.2 ∙ (λ j. script_for (p.reached j) (q.reached j) f.0);
   apart = apart-reach p.description q.description script (own_address first v normal p) (own_address second w normal' q)
       (of_reached (λ A B. TellsApart A B script) v w p.description q.description p.reached q.reached t);

@@ -6,7 +6,7 @@ use Rattle.terminal_rules.specs.declared.event.Event.{Event}
 use Rattle.terminal_rules.specs.Same.{Same}
 use Rattle.terminal_exchanges.specs.Distinguish.{TellsApart}
 use Rattle.bus_canon.specs.declared.difference.Difference.{Difference}
-use Rattle.bus_canon.specs.Difference.{IsFirst, script_for}
+use Rattle.bus_canon.specs.Difference.{IsFirstDifference, script_for}
 use Rattle.rt1553.specs.declared.comparison.Verdict.{Verdict}
 use Rattle.rt1553.specs.declared.comparison.Verdict.TheVariants as verdict
 use Rattle.rt1553.specs.declared.fault.LoadFault.{LoadFault}
@@ -35,7 +35,7 @@ pub record AreDifferent (first second : List ℕ) (script : List Event) : Type 0
   pub of_second : Of second q
   pub canonical : (a b : List ℕ) → IsCanon first a → IsCanon second b → a ≢ b
   pub difference : Difference
-  pub first_difference : IsFirst (reach p) (reach q) difference
+  pub first_difference : IsFirstDifference (reach p) (reach q) difference
   pub shows : script ≡ script_for (reach p) (reach q) difference
   pub apart : TellsApart p q script
 

@@ -4,8 +4,8 @@ mod scripts;
 
 use bus_canon::{CanonFault, read_canon, write_canon};
 use bus_legal::Normal;
-use fixture::{changed, put_masks, put_zero_words, wrapping};
-use std::alloc::Global;
+use fixture::{EVERY_LINE, changed, put_masks, put_zero_words, shape_text, wrapping};
+use std::alloc::{AllocError, Global};
 use std::test::Fail;
 
 fn fault_of(text: &str) -> Option<CanonFault> {
@@ -215,17 +215,83 @@ fn asked_words(rt: HostRuntime) -> Result<(), Fail> {
     Ok(())
 }
 
+/// One of three canonical texts: the plain one, one of version 1, and one with every kind of line.
+fn worked_text(alloc: Global, which: u8) -> Result<String, AllocError> {
+    match which {
+        0 => changed(alloc, 0, "", ""),
+        1 => wrapping(
+            alloc,
+            1,
+            &[7, 30],
+            "wraparound 0\ninitial 07 0011\ninitial 30 0022\n",
+        ),
+        _ => shape_text(alloc, &EVERY_LINE),
+    }
+}
+
 /// A text that ends too early is wrong in the line where it ends.
 #[test]
 fn cut_texts(rt: HostRuntime) -> Result<(), Fail> {
-    let text = changed(rt.alloc(), 0, "", "")?;
-    let bytes = text.as_str().as_bytes();
-    let mut line = 1usize;
-    for length in 0..bytes.len() {
-        let found = read_canon(&bytes[..length]).map(|normal| normal.address());
-        assert_eq!(rt; found, Err(CanonFault::Line(line)), "{length}");
-        if bytes[length] == b'\n' {
-            line = line.saturating_add(1);
+    for which in 0..3u8 {
+        let text = worked_text(rt.alloc(), which)?;
+        let bytes = text.as_str().as_bytes();
+        assert_eq!(rt; fault_of(text.as_str()), None);
+        let mut line = 1usize;
+        for length in 0..bytes.len() {
+            let found = read_canon(&bytes[..length]).map(|normal| normal.address());
+            assert_eq!(rt; found, Err(CanonFault::Line(line)), "{length}");
+            if bytes[length] == b'\n' {
+                line = line.saturating_add(1);
+            }
+        }
+    }
+    Ok(())
+}
+
+/// A text with a byte that no line has is wrong in the line of that byte.
+#[test]
+fn texts_with_a_wrong_byte(rt: HostRuntime) -> Result<(), Fail> {
+    for which in 0..3u8 {
+        let text = worked_text(rt.alloc(), which)?;
+        let mut bytes = Vec::new(rt.alloc());
+        bytes.extend_from_slice(text.as_str().as_bytes())?;
+        let mut line = 1usize;
+        for at in 0..bytes.len() {
+            let byte = bytes[at];
+            bytes[at] = b'X';
+            let found = read_canon(bytes.as_slice()).map(|normal| normal.address());
+            assert_eq!(rt; found, Err(CanonFault::Line(line)), "{at}");
+            bytes[at] = byte;
+            if byte == b'\n' {
+                line = line.saturating_add(1);
+            }
+        }
+    }
+    Ok(())
+}
+
+/// What may stand behind a whole text, and is refused there: a line feed, a digit, a line that could have stood before,
+/// the first line of a text of either version.
+const AFTER_THE_END: [&str; 6] = [
+    "\n",
+    "0",
+    "initial 30 0000\n",
+    "wraparound 00\n",
+    "rt1553 1\n",
+    "rt1553 2\n",
+];
+
+#[test]
+fn texts_with_bytes_after_the_end(rt: HostRuntime) -> Result<(), Fail> {
+    for which in 0..3u8 {
+        for after in &AFTER_THE_END {
+            let mut text = worked_text(rt.alloc(), which)?;
+            text.push_str(*after)?;
+            assert_eq!(rt;
+                fault_of(text.as_str()),
+                Some(CanonFault::Trailing),
+                "{after}"
+            );
         }
     }
     Ok(())
@@ -273,6 +339,10 @@ fn damaged_texts(rt: HostRuntime) -> Result<(), Fail> {
 fn fault_texts(rt: HostRuntime) -> Result<(), Fail> {
     let line = format!(in rt.alloc(); "{}", CanonFault::Line(65))?;
     assert_eq!(rt; line.as_str(), "canonical text: line 65");
+    assert_eq!(rt; CanonFault::Line(65).number(), 1);
+    assert_eq!(rt; CanonFault::Line(65).name(), "Line");
+    assert_eq!(rt; CanonFault::Trailing.number(), 2);
+    assert_eq!(rt; CanonFault::Trailing.name(), "Trailing");
     let trailing = format!(in rt.alloc(); "{}", CanonFault::Trailing)?;
     assert_eq!(rt; trailing.as_str(), "canonical text: bytes after the end");
     Ok(())

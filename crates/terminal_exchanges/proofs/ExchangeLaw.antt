@@ -28,7 +28,8 @@ use Rattle.terminal_rules.specs.SinceReset.{off_now}
 use Rattle.terminal_rules.specs.Turn.{is_answered, done_cell, turn_of_entry, turn_of_gap, turn_of_slot}
 use Rattle.terminal_rules.specs.Past.{note, past}
 use Rattle.terminal_rules.specs.Out.{Out, Silence, hands, handing_over, sends, sending_out, out, outs_from}
-use Rattle.terminal_exchanges.specs.Exchanges.{Exchange, IsWhole, AreWhole, command_event, data_event, words_then, slots_then, after_words, after_slots, before_its_gap, history_of, word_note, word_notes, command_note, gap_note, slot_note, slot_notes, notes_before_gap, notes_at_gap, ending_of_exchange, exchange_notes, slots_needed, AreAnswered, gap_answer, slot_answer, silent_then, slots_answered, silent_slots, ExchangeLaw, UnmeantExchangeLaw}
+use Rattle.terminal_exchanges.specs.Exchanges.{Exchange, command_event, data_event, words_then, slots_then}
+use Rattle.terminal_exchanges.specs.inner.ExchangeLaw.{IsWhole, AreWhole, after_words, after_slots, before_its_gap, history_of, word_note, word_notes, command_note, gap_note, slot_note, slot_notes, notes_before_gap, notes_at_gap, ending_of_exchange, exchange_notes, slots_needed, AreAnswered, gap_answer, slot_answer, silent_then, slots_answered, silent_slots, ExchangeLaw, UnmeantExchangeLaw}
 use Rattle.terminal_rules.specs.inner.Steps.{sent_one, begun_if, dropped_if}
 use Rattle.terminal_rules.proofs.OpenLaw.{word_law, gap_law, slot_law, after_word, after_gap, after_entry, waits, unheard}
 use Rattle.terminal_rules.proofs.ReplyLaw.{no_words, next_of, reply_word_law, reply_gap_law, reply_slot_law}

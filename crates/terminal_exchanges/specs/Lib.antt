@@ -1,3 +1,4 @@
 pub use Rattle.bus_legal.specs.Description
 pub mod Exchanges
 pub mod Distinguish
+pub mod inner

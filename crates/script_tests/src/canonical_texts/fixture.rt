@@ -118,6 +118,17 @@ pub const HEARING: Shape = Shape {
     ..PLAIN
 };
 
+/// A terminal whose canonical text has every kind of line.
+pub const EVERY_LINE: Shape = Shape {
+    receive: (7, 1),
+    transmit: (7, 0x12),
+    broadcast_receive: (7, 1),
+    own_mode: 0x000f_01ff,
+    broadcast_mode: 0x0002_01fa,
+    end: "accept 1\nvector beef\nbit 0a01\nwraparound 07\ninitial 07 0001 0002 0003 0004 0005\n",
+    ..HEARING
+};
+
 /// The canonical text of such a terminal.
 pub fn shape_text(alloc: Global, shape: &Shape) -> Result<String, AllocError> {
     let address = shape.address;

@@ -12,7 +12,8 @@ use Rattle.terminal_rules.specs.Turn.{is_answered, done_cell}
 use Rattle.terminal_rules.specs.inner.Steps.{begun_if}
 use Rattle.terminal_rules.specs.Out.{Sending, sends}
 use Rattle.terminal_rules.specs.Starts.{is_meant}
-use Rattle.terminal_exchanges.specs.Exchanges.{Exchange, notes_before_gap, notes_at_gap}
+use Rattle.terminal_exchanges.specs.Exchanges.{Exchange}
+use Rattle.terminal_exchanges.specs.inner.ExchangeLaw.{notes_before_gap, notes_at_gap}
 use Rattle.terminal_exchanges.specs.Distinguish.{TellsApart, ask, address_script}
 use Rattle.terminal_exchanges.proofs.ExchangeLaw.{idle_law, at_gap_reply, unmeant_end}
 use Rattle.terminal_exchanges.proofs.Distinguish.Commands.{IsTo, code_to_own, own_no_broadcast}

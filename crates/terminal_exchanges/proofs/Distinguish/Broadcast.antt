@@ -18,7 +18,8 @@ use Rattle.terminal_rules.specs.Turn.{is_answered, done_cell, turn_of_gap}
 use Rattle.terminal_rules.specs.Status.{no_parts, inhibited_after, formed_done, kept_by_end, reset_first, adds_error, kept_now}
 use Rattle.terminal_rules.specs.inner.Steps.{kept_after}
 use Rattle.terminal_rules.specs.Starts.{is_meant}
-use Rattle.terminal_exchanges.specs.Exchanges.{Exchange, script_of, command_event, command_note, slot_notes, notes_at_gap, ending_of_exchange, exchange_notes, slots_needed, AreAnswered}
+use Rattle.terminal_exchanges.specs.Exchanges.{Exchange, script_of, command_event}
+use Rattle.terminal_exchanges.specs.inner.ExchangeLaw.{command_note, slot_notes, notes_at_gap, ending_of_exchange, exchange_notes, slots_needed, AreAnswered}
 use Rattle.terminal_exchanges.specs.Distinguish.{TellsApart, all_terminals, mode_code, ask, option_script}
 use Rattle.terminal_rules.proofs.KeptLaw.{kept_step}
 use Rattle.terminal_exchanges.proofs.Distinguish.Commands.{IsTo, code_to_own, ask_to_all, moved}

@@ -16,7 +16,8 @@ use Rattle.terminal_rules.specs.SinceReset.{off_now, held_set, held_now}
 use Rattle.terminal_rules.specs.Turn.{is_answered, done_cell}
 use Rattle.terminal_rules.specs.Status.{kept_now}
 use Rattle.terminal_rules.specs.Out.{sending}
-use Rattle.terminal_exchanges.specs.Exchanges.{Exchange, script_of, gap_note, slot_notes, notes_at_gap, ending_of_exchange, exchange_notes, slots_needed, AreAnswered}
+use Rattle.terminal_exchanges.specs.Exchanges.{Exchange, script_of}
+use Rattle.terminal_exchanges.specs.inner.ExchangeLaw.{gap_note, slot_notes, notes_at_gap, ending_of_exchange, exchange_notes, slots_needed, AreAnswered}
 use Rattle.terminal_exchanges.specs.Distinguish.{TellsApart, all_terminals, receive, transmit, shown_wraparound}
 use Rattle.terminal_rules.specs.inner.Steps.{unless_reset, begun_if}
 use Rattle.terminal_rules.proofs.BackLaw.{held_step}

@@ -9,7 +9,8 @@ use Rattle.terminal_rules.specs.History.{Noted}
 use Rattle.terminal_rules.specs.Reply.{reply_now}
 use Rattle.terminal_rules.specs.Same.{AreProper}
 use Rattle.terminal_rules.specs.Out.{Out, Sending, Silence, SendsWord, sends, sending_out, outs_from, outs}
-use Rattle.terminal_exchanges.specs.Exchanges.{Exchange, IsWhole, words_then, slots_then, exchange_then, script_of, history_of, slot_note, slot_notes, notes_at_gap, exchange_notes, AreAnswered, gap_answer, slot_answer, silent_then, slots_answered}
+use Rattle.terminal_exchanges.specs.Exchanges.{Exchange, words_then, slots_then, exchange_then, script_of}
+use Rattle.terminal_exchanges.specs.inner.ExchangeLaw.{IsWhole, history_of, slot_note, slot_notes, notes_at_gap, exchange_notes, AreAnswered, gap_answer, slot_answer, silent_then, slots_answered}
 use Rattle.terminal_exchanges.specs.Distinguish.{TellsApart}
 use Rattle.terminal_exchanges.proofs.ExchangeLaw.{exchange_law}
 use Rattle.terminal_exchanges.proofs.Distinguish.Commands.{AreSmall, IsTo}

@@ -19,7 +19,8 @@ use Rattle.terminal_rules.specs.Status.{accepts, inhibited_after, formed_error, 
 use Rattle.terminal_rules.specs.inner.Steps.{kept_after, sent_one, begun_if, resets_next}
 use Rattle.terminal_rules.specs.Out.{next_sent, sends}
 use Rattle.terminal_rules.specs.Starts.{is_meant}
-use Rattle.terminal_exchanges.specs.Exchanges.{Exchange, command_event, word_note, command_note, slot_note, slot_notes, notes_at_gap, ending_of_exchange, exchange_notes, AreAnswered}
+use Rattle.terminal_exchanges.specs.Exchanges.{Exchange, command_event}
+use Rattle.terminal_exchanges.specs.inner.ExchangeLaw.{word_note, command_note, slot_note, slot_notes, notes_at_gap, ending_of_exchange, exchange_notes, AreAnswered}
 use Rattle.terminal_rules.proofs.KeptLaw.{kept_step}
 use Rattle.terminal_rules.proofs.ReplyLaw.{no_words, reply_slot_law}
 use Rattle.terminal_rules.proofs.ResetLaw.{slot_resets}

@@ -1,5 +1,5 @@
 use Rattle.bus_legal.specs.Parts.{description_in}
-use Rattle.bus_canon.specs.FirstPlace.{AlikeBefore}
+use Rattle.bus_canon.specs.inner.Search.{AlikeBefore}
 use Rattle.bus_canon.proofs.CellFound.{receive_same, receive_first, transmit_same, transmit_first, broadcast_receive_same, broadcast_receive_first, own_code_same, own_code_first, broadcast_code_same, broadcast_code_first}
 use Rattle.bus_canon.proofs.difference.cell_difference.Goals as goal
 

@@ -8,4 +8,4 @@ loop-word-preserved c =
     let ws = c.args.words.now in
     let out = c.loop-word.out.items in
     let more = words_more out ws at (omega arith) in
-    rw (c.in_ok-put_digits.ensures, c.in_ok-push.ensures.items, c.from.ensures) (sym more ∙ c.loop-word.invariant)
+    rw (c.in_ok-put_number.ensures, c.in_ok-push.ensures.items, c.from.ensures) (sym more ∙ c.loop-word.invariant)

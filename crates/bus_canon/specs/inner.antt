@@ -1,0 +1,4 @@
+-- What the contracts of the reader and of the search for a difference speak of, and no definition of a text needs.
+pub mod CanonAnswer
+pub mod Mask
+pub mod Search

@@ -1,0 +1,22 @@
+-- What readers give.
+use Rattle.std.specs.Prelude.{◌≡◌, ◌<◌, ℕ, Bool, List, Result, Ok, Err}
+use Rattle.line_format.specs.declared.lines.Lines.{Lines}
+use Rattle.line_format.specs.declared.lines.WrongLine.{WrongLine}
+use Rattle.line_format.specs.inner.Reading.{Spot}
+
+-- where a reader stands
+abbrev pub spot : Lines → Spot
+spot l = record { number = l.number; rest = l.rest.now }
+
+-- the start of a text
+abbrev pub start : List ℕ → Spot
+start text = record { number = 1; rest = text }
+
+-- the reader gives what reading the format gives: the value and where it ends, or the number of the wrong line
+abbrev pub Gives : {X Y : Type 0} → (X → Y) → (X → Lines) → Result X WrongLine → Result (Y × Spot) ℕ → Type 0
+Gives view rest (Ok x) read = read ≡ Ok (view x, spot (rest x))
+Gives view rest (Err e) read = read ≡ Err e.line
+
+-- what a closure answers to the numbers below a limit is what the test says
+abbrev pub IsTest : ℕ → (ℕ → Bool → Type 0) → (ℕ → Bool) → Type 0
+IsTest limit answers test = (n : ℕ) (b : Bool) → n < limit → answers n b → b ≡ test n
