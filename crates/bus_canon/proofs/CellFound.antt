@@ -9,7 +9,7 @@ use Rattle.bus_legal.specs.Tables.{has_count, tables_say, is_own_mask, is_broadc
 use Rattle.bus_legal.specs.Parts.{Parts, description_in, IsNormal}
 use Rattle.bus_canon.specs.declared.difference.Difference.TheVariants.{ReceiveCell, TransmitCell, BroadcastReceiveCell, OwnCode, BroadcastCode}
 use Rattle.bus_canon.specs.Difference.{IsFirstDifference}
-use Rattle.bus_canon.specs.inner.Mask.{has_bit}
+use Rattle.bus_word.specs.Mask.{has_bit}
 use Rattle.bus_canon.specs.inner.Search.{IsFirstNumber, IsFirstPlace, AlikeBefore}
 use Rattle.bus_canon.proofs.FirstLaws.{alike_to, first_of_kind}
 use Rattle.bus_canon.proofs.CellSteps.{cells_alike, cells_lower, cells_differ, codes_lower, own_alike, broadcast_alike, own_differ, broadcast_differ, is_own, is_by_broadcast}

@@ -9,7 +9,7 @@ use Rattle.bus_legal.proofs.Bits.{has_bit-and}
 use Rattle.bus_legal.proofs.Descriptions.{cond-guarded}
 use Rattle.bus_legal.proofs.TableSteps.{own_codes-bits, broadcast_codes-bits, row_below, broadcast_row_below}
 use Rattle.bus_canon.specs.Difference.{IsLower}
-use Rattle.bus_canon.specs.inner.Mask.{has_bit}
+use Rattle.bus_word.specs.Mask.{has_bit}
 use Rattle.bus_canon.specs.inner.Search.{IsFirstNumber, IsFirstPlace}
 
 -- what a table of cells says at places of data

@@ -12,7 +12,7 @@ use Rattle.bus_legal.proofs.Counts.{any_to-true}
 use Rattle.bus_legal.proofs.Places.{place_above, place_from, place_high}
 use Rattle.terminal_exchanges.specs.Distinguish.{least_to, least_count}
 use Rattle.bus_canon.specs.Difference.{IsLower}
-use Rattle.bus_canon.specs.inner.Mask.{has_bit}
+use Rattle.bus_word.specs.Mask.{has_bit}
 use Rattle.bus_canon.specs.inner.Search.{IsFirstNumber, IsFirstPlace, least_in}
 
 -- bits that are summed without carry

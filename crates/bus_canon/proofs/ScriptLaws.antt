@@ -6,7 +6,7 @@ use Rattle.bus_word.specs.declared.word.Bus.TheVariants.{A}
 use Rattle.bus_word.specs.Cell.{is_data_place}
 use Rattle.bus_legal.specs.declared.tables.Tables.{Tables}
 use Rattle.bus_legal.specs.Description.{Description, word_at}
-use Rattle.bus_legal.specs.Reach.{any_count, largest_count, transmits}
+use Rattle.bus_legal.specs.Reach.{any_count, largest_count, transmits_at}
 use Rattle.bus_legal.specs.Tables.{has_count, has_any, largest_in, mask_at}
 use Rattle.bus_legal.specs.Parts.{Parts, description_in, IsNormal}
 use Rattle.bus_legal.proofs.TablesReach.{any_count-said, largest_count-said}
@@ -95,7 +95,7 @@ broadcast_asked own address s n script all low same e f =
 pub initial_shown : (v : Parts) (t : Tables) (own block s count slots : ℕ) (none all : List Event) → t ≡ v.tables → own ≡ v.address → block ≡ s - 1 → nat_le 1 s && nat_le s 30 ≡ true → none ≡ [] →
     count ≡ largest_in (get_or t.own_transmit block 0) → slots ≡ count + 1 → all ≡ none ++ exchange_then (transmit own s count slots) [] → all ≡ initial_script (description_in v) s
 initial_shown v t own block s count slots none all tables address at place empty e more f =
-    let counted : count ≡ largest_count (transmits (description_in v) s) =
+    let counted : count ≡ largest_count (transmits_at (description_in v) s) =
     e ∙ ((λ j. largest_in (get_or ((tables j).own_transmit) (at j) 0)) ∙ sym (largest_count-said v.tables.own_transmit s place)) in
     f ∙ (ap (λ n. none ++ exchange_then (transmit own s count n) []) more ∙ (λ j. empty j ++ exchange_then (transmit (address j) s (counted j) (counted j + 1)) []))
 
@@ -126,7 +126,7 @@ module _ (v : Parts) (normal : IsNormal v) (t : Tables) (words : List (List ℕ)
       (λ j. 65535 - get_or (get_or (held j) (at j) []) 0 0)
       ∙ sym (ap (λ b. 65535 - cond b (word_at v.initial s 1) 0) (first_place s low high))
 
-  transmitted : m ≡ least_count (transmits P s)
+  transmitted : m ≡ least_count (transmits_at P s)
   transmitted = sent ∙ ((λ j. least_in (get_or ((tables j).own_transmit) (at j) 0)) ∙ sym (least_count-said v.tables.own_transmit s low high))
 
   own_mask : get_or t.own_receive block 0 ≡ mask_at v.tables.own_receive s
@@ -143,7 +143,7 @@ module _ (v : Parts) (normal : IsNormal v) (t : Tables) (words : List (List ℕ)
       let any : any_count (receives_own P s) ≡ true = any_own ∙ ap not (ne_eqb (mask_at v.tables.own_receive s) 0 (λ none. some (own_mask ∙ none))) in
       shown P s to own n m (65535 - get_or (get_or words block []) 0 0) script all address first f g
       ∙ ((λ j. shown_wraparound P s (same j) (counted j) (transmitted j))
-      ∙ ap (λ b. wraparound_by P s b (least_count (receives_own P s)) (least_count (receives_broadcast P s)) (least_count (transmits P s))) (sym any))
+      ∙ ap (λ b. wraparound_by P s b (least_count (receives_own P s)) (least_count (receives_broadcast P s)) (least_count (transmits_at P s))) (sym any))
 
   pub broadcast_wraparound : (n : ℕ) (script all : List Event) → get_or t.own_receive block 0 ≡ 0 → n ≡ least_in (get_or t.broadcast_receive block 0) →
       script ≡ exchange_then (receive all_terminals s n ((65535 - get_or (get_or words block []) 0 0) ∷ replicate (n - 1) 0)) [] →
@@ -154,4 +154,4 @@ module _ (v : Parts) (normal : IsNormal v) (t : Tables) (words : List (List ℕ)
       let any : any_count (receives_own P s) ≡ false = any_own ∙ ap has_any (sym own_mask ∙ none) in
       shown P s all_terminals own n m (65535 - get_or (get_or words block []) 0 0) script all address first f g
       ∙ ((λ j. shown_wraparound P s all_terminals (counted j) (transmitted j))
-      ∙ ap (λ b. wraparound_by P s b (least_count (receives_own P s)) (least_count (receives_broadcast P s)) (least_count (transmits P s))) (sym any))
+      ∙ ap (λ b. wraparound_by P s b (least_count (receives_own P s)) (least_count (receives_broadcast P s)) (least_count (transmits_at P s))) (sym any))

@@ -1,4 +1,3 @@
 -- What the contracts of the reader and of the search for a difference speak of, and no definition of a text needs.
 pub mod CanonAnswer
-pub mod Mask
 pub mod Search

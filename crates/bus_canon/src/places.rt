@@ -2,7 +2,7 @@
 ghost use Rattle.std.specs.Prelude.{◌≡◌, ◌≤◌, ℕ, get_or};
 ghost use Rattle.bus_legal.specs.Description.{word_at};
 ghost use Rattle.bus_legal.specs.Tables.{has_count};
-ghost use Rattle.bus_canon.specs.inner.Mask.{has_bit};
+ghost use Rattle.bus_word.specs.Mask.{has_bit};
 ghost use Rattle.bus_canon.specs.inner.Search.{FindsNumber, FindsPlace, least_in};
 
 /// The lowest bit in which two masks differ, 0 to 31.

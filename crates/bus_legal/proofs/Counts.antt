@@ -5,7 +5,7 @@ use Rattle.std.proofs.lemmas.Bool.Decides.{nat_tests}
 use Rattle.bus_word.specs.Cell.{is_data_place}
 use Rattle.bus_word.specs.declared.cell.Cell.TheVariants.{OwnTransmit}
 use Rattle.bus_legal.specs.Description.{Description}
-use Rattle.bus_legal.specs.Reach.{largest_to, any_to, largest_count, transmits, can_transmit}
+use Rattle.bus_legal.specs.Reach.{largest_to, any_to, largest_count, transmits_at, can_transmit}
 
 pub largest_to-le : (n : ℕ) (p : ℕ → Bool) → largest_to n p ≤ n
 largest_to-le zero p = omega arith
@@ -40,9 +40,9 @@ pub sent_place : (P : Description) → ((s n : ℕ) → P.legal (OwnTransmit s n
     can_transmit P s i ≡ true → is_data_place s i ≡ true
 unfolding largest_count
 sent_place P places s i sent =
-    let most : ℕ = largest_to 32 (transmits P s) in
-    let high : most ≤ 32 = largest_to-le 32 (transmits P s) in
-    between s i most high sent (λ low. places s most (largest_to-passes 32 (transmits P s) low))
+    let most : ℕ = largest_to 32 (transmits_at P s) in
+    let high : most ≤ 32 = largest_to-le 32 (transmits_at P s) in
+    between s i most high sent (λ low. places s most (largest_to-passes 32 (transmits_at P s) low))
   where
     between : (s i most : ℕ) → most ≤ 32 → (nat_le 1 i && nat_le i most) ≡ true → (1 ≤ most → is_data_place s most ≡ true) → is_data_place s i ≡ true
     between s i most high sent place =

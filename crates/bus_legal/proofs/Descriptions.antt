@@ -7,7 +7,7 @@ use Rattle.bus_word.specs.declared.cell.Cell.{Cell}
 use Rattle.bus_word.specs.declared.cell.Cell.TheVariants.{OwnReceive, OwnTransmit, BroadReceive, OwnMode}
 use Rattle.bus_word.specs.Cell.{is_data_place}
 use Rattle.bus_legal.specs.Description.{Description}
-use Rattle.bus_legal.specs.Reach.{largest_to, any_to, largest_count, any_count, is_heard, transmits, receives, can_wrap, can_transmit, reach}
+use Rattle.bus_legal.specs.Reach.{largest_to, any_to, largest_count, any_count, is_heard, transmits_at, receives_at, can_wrap, can_transmit, reach}
 use Rattle.bus_legal.proofs.Counts.{sent_place, largest_to-bounds, any_to-true}
 
 abbrev built : ℕ → Bool → ℕ → Bool → ℕ → ℕ → (ℕ → ℕ → ℕ) → (Cell → Bool) → Description
@@ -32,11 +32,11 @@ pub cond-guarded : (t : Bool) (a b : ℕ) → (t ≡ true → a ≡ b) → cond 
 cond-guarded true a b h = h refl
 cond-guarded false a b h = refl
 
-receives-reach : (P : Description) (s n : ℕ) → receives (reach P) s n ≡ receives P s n
+receives-reach : (P : Description) (s n : ℕ) → receives_at (reach P) s n ≡ receives_at P s n
 receives-reach P s n = ap (λ b. P.legal (OwnReceive s n) || b) (and-twice P.broadcast (P.legal (BroadReceive s n)))
 
 can_wrap-reach : (P : Description) (s : ℕ) → can_wrap (reach P) s ≡ can_wrap P s
-can_wrap-reach P s = λ j. any_count (λ n. receives-reach P s n j) && any_count (transmits P s)
+can_wrap-reach P s = λ j. any_count (λ n. receives-reach P s n j) && any_count (transmits_at P s)
 
 pub cond-none : (a : Bool) (n : ℕ) → n ≡ 0 → cond a n 0 ≡ 0
 cond-none true n e = e
@@ -76,25 +76,25 @@ same_reach P Q address broadcast wrap accept vector bit initial legal places =
     ∙ ap reach (same_description (with_initial P Q.initial) Q address broadcast wrap accept vector bit (λ s i. refl) legal)
 
 -- the words that a legal command asks for are reached
-pub initial-reach : (P : Description) (s n i : ℕ) → transmits P s n ≡ true → n ≤ 32 → 1 ≤ i → i ≤ n → (reach P).initial s i ≡ P.initial s i
+pub initial-reach : (P : Description) (s n i : ℕ) → transmits_at P s n ≡ true → n ≤ 32 → 1 ≤ i → i ≤ n → (reach P).initial s i ≡ P.initial s i
 unfolding largest_count
 initial-reach P s n i legal high from to =
-    let most : n ≤ largest_to 32 (transmits P s) = largest_to-bounds 32 (transmits P s) n legal (omega arith) high in
-    ap (λ t. cond t (P.initial s i) 0) (within i (largest_to 32 (transmits P s)) from (omega arith))
+    let most : n ≤ largest_to 32 (transmits_at P s) = largest_to-bounds 32 (transmits_at P s) n legal (omega arith) high in
+    ap (λ t. cond t (P.initial s i) 0) (within i (largest_to 32 (transmits_at P s)) from (omega arith))
   where
     within : (i m : ℕ) → 1 ≤ i → i ≤ m → (nat_le 1 i && nat_le i m) ≡ true
     within i m low high = grind (arith, nat_tests)
 
 -- wraparound is reached where legal commands show it
-pub wrap-reach : (P : Description) (s m n : ℕ) → 1 ≤ s → receives P s m ≡ true → 1 ≤ m → m ≤ 32 → transmits P s n ≡ true → 1 ≤ n →
+pub wrap-reach : (P : Description) (s m n : ℕ) → 1 ≤ s → receives_at P s m ≡ true → 1 ≤ m → m ≤ 32 → transmits_at P s n ≡ true → 1 ≤ n →
     n ≤ 32 → (s == (reach P).wrap) ≡ (s == P.wrap)
 unfolding any_count
 wrap-reach P s m n some receive low high transmit from to = by_place (s == P.wrap) refl
   where
     wraps : can_wrap P s ≡ true
     wraps =
-        ap (λ t. t && any_to 32 (transmits P s)) (any_to-true 32 (receives P s) m receive low high)
-        ∙ any_to-true 32 (transmits P s) n transmit from to
+        ap (λ t. t && any_to 32 (transmits_at P s)) (any_to-true 32 (receives_at P s) m receive low high)
+        ∙ any_to-true 32 (transmits_at P s) n transmit from to
 
     other : (b : Bool) → (s == P.wrap) ≡ false → (s == cond b P.wrap 0) ≡ false
     other true e = e

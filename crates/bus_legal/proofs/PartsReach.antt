@@ -7,7 +7,7 @@ use Rattle.bus_word.specs.declared.cell.Cell.TheVariants.{OwnReceive, OwnTransmi
 use Rattle.bus_word.specs.Cell.{is_data_place}
 use Rattle.bus_word.specs.Mask.{has_bit}
 use Rattle.bus_legal.specs.Description.{Description, word_at}
-use Rattle.bus_legal.specs.Reach.{largest_count, any_count, is_heard, transmits, can_wrap, can_transmit, reach}
+use Rattle.bus_legal.specs.Reach.{largest_count, any_count, is_heard, transmits_at, can_wrap, can_transmit, reach}
 use Rattle.bus_legal.specs.Tables.{tables_say, largest_in, masks_wrap}
 use Rattle.bus_legal.specs.Parts.{Parts, description_in, AreMasks}
 use Rattle.bus_legal.proofs.Bools.{left_of}
@@ -49,7 +49,7 @@ wrap_alike P v (suc s) small made = ap (λ b. cond b (suc s) 0) (wraps P v (suc 
 sent : (P : Description) (v : Parts) → AreMadeOf P v → (s i : ℕ) → is_data_place s i ≡ true →
     nat_lt (i - 1) (largest_in (get_or v.tables.own_transmit (s - 1) 0)) ≡ can_transmit P s i
 sent P v made s i place =
-    let most : largest_count (transmits P s) ≡ largest_in (get_or v.tables.own_transmit (s - 1) 0) =
+    let most : largest_count (transmits_at P s) ≡ largest_in (get_or v.tables.own_transmit (s - 1) 0) =
     (λ j. largest_count (λ n. sym (made.legal (OwnTransmit s n)) j)) ∙ largest_count-said v.tables.own_transmit s (left_of _ _ place) in
     by_number (largest_in (get_or v.tables.own_transmit (s - 1) 0)) (place_from s i place) ∙ ap (λ n. nat_le 1 i && nat_le i n) (sym most)
   where

@@ -33,20 +33,20 @@ is_heard broadcast (BroadReceive s n) = broadcast
 is_heard broadcast (BroadMode c) = broadcast
 
 -- the terminal can be made to transmit so many words of this subaddress
-abbrev pub transmits : Description → ℕ → ℕ → Bool
-transmits P subaddress count = P.legal (OwnTransmit subaddress count)
+abbrev pub transmits_at : Description → ℕ → ℕ → Bool
+transmits_at P subaddress count = P.legal (OwnTransmit subaddress count)
 
 -- the terminal can be made to receive so many words at this subaddress
-abbrev pub receives : Description → ℕ → ℕ → Bool
-receives P subaddress count = P.legal (OwnReceive subaddress count) || (P.broadcast && P.legal (BroadReceive subaddress count))
+abbrev pub receives_at : Description → ℕ → ℕ → Bool
+receives_at P subaddress count = P.legal (OwnReceive subaddress count) || (P.broadcast && P.legal (BroadReceive subaddress count))
 
 -- words that were received at this subaddress can be transmitted from it
 abbrev pub can_wrap : Description → ℕ → Bool
-can_wrap P subaddress = any_count (receives P subaddress) && any_count (transmits P subaddress)
+can_wrap P subaddress = any_count (receives_at P subaddress) && any_count (transmits_at P subaddress)
 
 -- word number i of subaddress s is among those that some legal command makes the terminal transmit
 abbrev pub can_transmit : Description → ℕ → ℕ → Bool
-can_transmit P s i = nat_le 1 i && nat_le i (largest_count (transmits P s))
+can_transmit P s i = nat_le 1 i && nat_le i (largest_count (transmits_at P s))
 
 -- all of a description but its address and its broadcast option
 pub record Rest : Type 0 where

@@ -13,7 +13,7 @@ ghost use Rattle.bus_legal.specs.declared.setup.Setup.{Setup};
 ghost use Rattle.bus_legal.specs.Description.{Description, described};
 ghost use Rattle.bus_legal.specs.Legal.{is_legal};
 ghost use Rattle.bus_legal.specs.Meaning.{description_of, SetsUp};
-ghost use Rattle.bus_legal.specs.Reach.{is_heard, transmits, receives, reach};
+ghost use Rattle.bus_legal.specs.Reach.{is_heard, transmits_at, receives_at, reach};
 ghost use Rattle.bus_legal.specs.Tables.{tables_say};
 ghost use Rattle.bus_legal.specs.Parts.{Parts, parts_of, description_in, IsNormal};
 
@@ -49,14 +49,14 @@ pub fn reach_keeps_heard_cells()
 
 /// The words that a legal transmit command asks for stay in what can be reached.
 pub fn reach_keeps_sent_words()
-    ensures { (P : Description) (s n i : ℕ) → transmits P s n ≡ true → n ≤ 32 → 1 ≤ i → i ≤ n → (reach P).initial s i ≡ P.initial s i }
+    ensures { (P : Description) (s n i : ℕ) → transmits_at P s n ≡ true → n ≤ 32 → 1 ≤ i → i ≤ n → (reach P).initial s i ≡ P.initial s i }
 {}
 
 /// Wraparound stays in what can be reached where a legal receive command and a legal transmit
 /// command show it.
 pub fn reach_keeps_shown_wraparound()
-    ensures { (P : Description) (s m n : ℕ) → 1 ≤ s → receives P s m ≡ true → 1 ≤ m → m ≤ 32
-        → transmits P s n ≡ true → 1 ≤ n → n ≤ 32 → (s == (reach P).wrap) ≡ (s == P.wrap) }
+    ensures { (P : Description) (s m n : ℕ) → 1 ≤ s → receives_at P s m ≡ true → 1 ≤ m → m ≤ 32
+        → transmits_at P s n ≡ true → 1 ≤ n → n ≤ 32 → (s == (reach P).wrap) ≡ (s == P.wrap) }
 {}
 
 /// A terminal that is set up by a profile, with a legality that is the profile's, has in reach what

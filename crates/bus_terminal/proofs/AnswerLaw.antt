@@ -24,7 +24,7 @@ use Rattle.terminal_rules.specs.Out.{Out, Silence, handing_over, sending_out, se
 use Rattle.terminal_state.specs.inner.Standing.{gap_ends}
 use Rattle.terminal_state.specs.inner.Registers.{registers_now}
 use Rattle.terminal_state.specs.inner.Replies.{shown_reply, has_place, can_send}
-use Rattle.bus_terminal.specs.Stands.{StandsAt, held_word, description_of}
+use Rattle.bus_terminal.specs.Stands.{StandsAt, held_word, own_description}
 use Rattle.bus_terminal.specs.inner.Terminal.{reply_word_from, sends_from, ends_at_gap, IsSameSetup}
 use Rattle.terminal_state.proofs.CollectedLaw.{gap_ends_law}
 use Rattle.terminal_state.proofs.CanSendLaw.{can_send_law}
@@ -47,7 +47,7 @@ ignored_answers is_legal P h e t i s = by_event e (ap (λ r. ignores r e) (sym s
 -- a terminal that stood at a history answers a gap that is not ignored, once it has taken it, as the definitions say
 pub gap_answers : {L : Type 0} (is_legal : L → Cell → Bool) (P : Description) (h : List Event) (b : Bus) (t u : Terminal L) (x : Ending) (o : Out) →
     ignores (shown_reply t.reply) (Gap b) ≡ false → StandsAt is_legal P h t → IsSameSetup is_legal t u →
-    x ≡ ends_at_gap is_legal t b → o ≡ handing_over (hands (description_of is_legal u) x) → o ≡ out P h (Gap b)
+    x ≡ ends_at_gap is_legal t b → o ≡ handing_over (hands (own_description is_legal u) x) → o ≡ out P h (Gap b)
 gap_answers is_legal P h b t u x o i s same ended answered =
     let e : ignores (reply_now (past P h)) (Gap b) ≡ false = ap (λ r. ignores r (Gap b)) (sym s.reply) ∙ i in
     answered

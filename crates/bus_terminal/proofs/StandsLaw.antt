@@ -33,7 +33,7 @@ use Rattle.terminal_state.specs.inner.Replies.{shown_reply}
 use Rattle.terminal_state.specs.inner.Buses.{on_bus, with_bus}
 use Rattle.terminal_state.specs.inner.Message.{standing_on}
 use Rattle.terminal_state.specs.inner.Held.{word_in}
-use Rattle.bus_terminal.specs.Stands.{StandsAt, description_of, heard_on_buses}
+use Rattle.bus_terminal.specs.Stands.{StandsAt, own_description, heard_on_buses}
 use Rattle.bus_terminal.specs.inner.Terminal.{heard_after_word, ends_at_gap, begins_at_gap, TakesWord, TakesNoise, TakesGap, TakesSlot, TakesWrite}
 use Rattle.terminal_rules.proofs.OpenLaw.{word_law, noise_law, gap_law, slot_law, after_word, after_gap, after_entry, unheard}
 use Rattle.terminal_state.proofs.CollectedLaw.{gap_ends_law, gap_leaves_law, entry_leaves_law, entry_ends_law, free_law, fresh_law}
@@ -389,7 +389,7 @@ setting_stands : {L : Type 0} (is_legal : L → Cell → Bool) (P : Description)
     r.power_up ≡ t.registers.power_up →
     StandsAt is_legal P h t → StandsAt is_legal P (e ∷ h) (record t { registers = r })
 setting_stands is_legal P h e t r stays heard held reply registers power_up s = record {
-  description = (λ j. record (description_of is_legal t) { vector = (power_up j).vector; bit = (power_up j).bit }) ∙ s.description;
+  description = (λ j. record (own_description is_legal t) { vector = (power_up j).vector; bit = (power_up j).bit }) ∙ s.description;
   heard = s.heard ∙ sym heard;
   standing = λ c. s.standing c ∙ ap (standing_of P) (sym (stays c));
   registers = sym registers;

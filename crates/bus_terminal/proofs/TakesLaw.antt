@@ -15,14 +15,14 @@ use Rattle.terminal_state.specs.inner.Buses.{on_bus, with_bus}
 use Rattle.terminal_state.specs.inner.Held.{held_after}
 use Rattle.terminal_state.specs.inner.Replies.{shown_reply}
 use Rattle.bus_terminal.specs.declared.terminal.Terminal.{Terminal}
-use Rattle.bus_terminal.specs.Stands.{description_of, held_word}
+use Rattle.bus_terminal.specs.Stands.{own_description, held_word}
 use Rattle.bus_terminal.specs.inner.Terminal.{heard_after_word, starts_in, IsSameSetup, TakesStart, TakesWord, TakesGap}
 
 -- the set-up is kept where the settings, the legality and the words of power-up are
 pub same_setup : {L : Type 0} (is_legal : L → Cell → Bool) (t u : Terminal L) →
     u.settings ≡ t.settings → u.legality ≡ t.legality → u.registers.power_up ≡ t.registers.power_up → u.held.initial ≡ t.held.initial → IsSameSetup is_legal t u
 same_setup is_legal t u settings legality power_up initial = record {
-  description = λ j. description_of is_legal (record t {
+  description = λ j. own_description is_legal (record t {
     settings = settings j;
     legality = legality j;
     registers = record t.registers { power_up = power_up j };
@@ -33,8 +33,8 @@ same_setup is_legal t u settings legality power_up initial = record {
 -- the terminal with which a word starts a message: a transfer that waited has failed, and the word is noted
 abbrev pub before_start : {L : Type 0} → (L → Cell → Bool) → Bus → Raw → Terminal L → Terminal L
 before_start is_legal b w t = record t {
-  heard = heard_after_word (description_of is_legal t) b w t.heard;
-  registers = failed_by (description_of is_legal t) (entry_fails (Some w) (standing_on b t.in_progress)) t.registers;
+  heard = heard_after_word (own_description is_legal t) b w t.heard;
+  registers = failed_by (own_description is_legal t) (entry_fails (Some w) (standing_on b t.in_progress)) t.registers;
 }
 
 -- a word that starts a message
@@ -44,14 +44,14 @@ starting_word is_legal b w t u e k = record {
   setup = record { description = k.setup.description };
   heard = k.heard;
   standing = λ c. k.standing c ∙ ap (λ s. word_leaves t.settings.address s (same_bus c b) w (standing_on c t.in_progress)) (sym e);
-  registers = k.registers ∙ ap (λ s. started_if s (spares (description_of is_legal t) w.bits) w.bits (before_start is_legal b w t).registers) (sym e);
+  registers = k.registers ∙ ap (λ s. started_if s (spares (own_description is_legal t) w.bits) w.bits (before_start is_legal b w t).registers) (sym e);
   reply = ap shown_reply k.reply ∙ ap (λ s. dropped_if s (shown_reply t.reply)) (sym e);
   held = k.held;
 }
 
 -- a gap, by what was asked of it before it was settled; the reply is the caller's
 pub settled_gap : {L : Type 0} (is_legal : L → Cell → Bool) (b : Bus) (x : Ending) (begins spares : Bool) (t u : Terminal L) →
-    begins ≡ is_answered (on_bus b t.registers.off) x → spares ≡ adds_error (description_of is_legal t) x →
+    begins ≡ is_answered (on_bus b t.registers.off) x → spares ≡ adds_error (own_description is_legal t) x →
     IsSameSetup is_legal t u →
     u.heard ≡ with_bus b false t.heard →
     ((c : Bus) → standing_on c u.in_progress ≡ (if same_bus c b then gap_leaves (standing_on c t.in_progress) else standing_on c t.in_progress)) →

@@ -46,7 +46,7 @@ impl<L: Legality> Terminal<L> {
     ghost use Rattle.terminal_state.specs.inner.Buses.{on_bus};
     ghost use Rattle.bus_terminal.specs.Answer.{shown_answer, IsSmall};
     ghost use Rattle.bus_terminal.specs.inner.Answer.{shown_sent};
-    ghost use Rattle.bus_terminal.specs.Stands.{StandsAt, description_of, held_word};
+    ghost use Rattle.bus_terminal.specs.Stands.{StandsAt, own_description, held_word};
     ghost use Rattle.bus_terminal.specs.contracts.terminal.Terminal.{the_row};
     ghost use Rattle.bus_terminal.specs.inner.Terminal.{sends_from, heard_after_word, ends_at_gap, begins_at_gap, TakesStart, TakesWord, TakesNoise, TakesGap, TakesSlot, TakesWrite};
 
@@ -139,7 +139,7 @@ impl<L: Legality> Terminal<L> {
 
     /// Tells whether a command is a legal own mode code 2 or 18, which spares the kept status.
     fn spares(&self, command: Command) -> bool
-        ensures { result ≡ spares (description_of L.is_legal self.now) command }
+        ensures { result ≡ spares (own_description L.is_legal self.now) command }
     {
         match cell_of(command) {
             Some(cell) => reports_kept(cell) && self.legality.legal(cell),
@@ -149,7 +149,7 @@ impl<L: Legality> Terminal<L> {
 
     /// Tells how a message ends that has the words that its command expects.
     fn verdict(&self, command: Command) -> Ended
-        ensures { (ds : List ℕ) → ending_of result ds ≡ well (description_of L.is_legal self.now) self.now.registers.flags.busy command ds }
+        ensures { (ds : List ℕ) → ending_of result ds ≡ well (own_description L.is_legal self.now) self.now.registers.flags.busy command ds }
     {
         match cell_of(command) {
             Some(cell) => {
@@ -162,7 +162,7 @@ impl<L: Legality> Terminal<L> {
 
     /// Tells how a gap on this bus ends the message in progress.
     fn end_at_gap(&self, bus: Bus) -> Ended
-        ensures { ending_of result self.now.in_progress.words.items ≡ gap_ends (description_of L.is_legal self.now) self.now.registers.flags.busy (standing_on bus self.now.in_progress) }
+        ensures { ending_of result self.now.in_progress.words.items ≡ gap_ends (own_description L.is_legal self.now) self.now.registers.flags.busy (standing_on bus self.now.in_progress) }
     {
         match self.in_progress.end_at_gap(bus) {
             GapEnd::Whole(command) => self.verdict(command),
@@ -173,7 +173,7 @@ impl<L: Legality> Terminal<L> {
 
     /// Tells whether a word for the terminal starts a message.
     fn starts(&self, bus: Bus, word: Raw) -> bool
-        ensures { result ≡ starts_by (description_of L.is_legal self.now) word (on_bus bus self.now.heard) (standing_on bus self.now.in_progress) }
+        ensures { result ≡ starts_by (own_description L.is_legal self.now) word (on_bus bus self.now.heard) (standing_on bus self.now.in_progress) }
     {
         let command = Command::of(word.bits);
         word.is_for(self.settings.address, self.settings.broadcast)
@@ -185,7 +185,7 @@ impl<L: Legality> Terminal<L> {
 
     /// Tells whether a message that ended in error spares the kept status.
     fn fails_sparing(&self, ended: &Ended) -> bool
-        ensures { (ds : List ℕ) → result ≡ adds_error (description_of L.is_legal self.now) (ending_of ended.now ds) }
+        ensures { (ds : List ℕ) → result ≡ adds_error (own_description L.is_legal self.now) (ending_of ended.now ds) }
     {
         match ended {
             Ended::Badly(command) => self.spares(*command),
@@ -252,7 +252,7 @@ impl<L: Legality> Terminal<L> {
     /// Takes the end in error of a transfer that waits, where there is one.
     #[inline(always)]
     fn fail(&mut self, failed: Option<Command>)
-        ensures { self.new ≡ record self.old { registers = failed_by (description_of L.is_legal self.old) failed self.old.registers } }
+        ensures { self.new ≡ record self.old { registers = failed_by (own_description L.is_legal self.old) failed self.old.registers } }
     {
         if let Some(command) = failed {
             let spares = self.spares(command);
@@ -286,7 +286,7 @@ impl<L: Legality> Terminal<L> {
 
     /// Notes that the run of this bus holds a word for the terminal, if this is one.
     fn note_word(&mut self, bus: Bus, word: Raw)
-        ensures { self.new ≡ record self.old { heard = heard_after_word (description_of L.is_legal self.old) bus word self.old.heard } }
+        ensures { self.new ≡ record self.old { heard = heard_after_word (own_description L.is_legal self.old) bus word self.old.heard } }
     {
         if word.is_for(self.settings.address, self.settings.broadcast) {
             self.heard.set(bus, true);

@@ -4,7 +4,7 @@ use Rattle.bus_word.specs.declared.cell.Cell.TheVariants.{OwnReceive, BroadRecei
 use Rattle.bus_word.specs.Command.{word_of}
 use Rattle.bus_word.specs.Mode as mode
 use Rattle.bus_legal.specs.Description.{Description}
-use Rattle.bus_legal.specs.Reach.{any_to, any_count, largest_count, transmits}
+use Rattle.bus_legal.specs.Reach.{any_to, any_count, largest_count, transmits_at}
 use Rattle.terminal_rules.specs.declared.event.Event.{Event}
 use Rattle.terminal_rules.specs.Out.{outs}
 use Rattle.terminal_rules.specs.Same.{AreProper}
@@ -105,7 +105,7 @@ bit_script address = script_of (mode_code_with 2 address mode.bit_word ∷ [])
 -- 11: an initial word of a subaddress, with the longest legal transmit command
 abbrev pub initial_script : Description → ℕ → List Event
 initial_script P s =
-    let m : ℕ = largest_count (transmits P s) in
+    let m : ℕ = largest_count (transmits_at P s) in
     script_of (transmit P.address s m (m + 1) ∷ [])
 
 -- Wraparound at subaddress s is shown by n words received, by the own address or by broadcast, and m transmitted.
@@ -124,7 +124,7 @@ receives_broadcast P s n = P.legal (BroadReceive s n)
 -- and the shortest legal transmit command
 abbrev pub wraparound_script : Description → ℕ → List Event
 wraparound_script P s =
-    let m : ℕ = least_count (transmits P s) in
+    let m : ℕ = least_count (transmits_at P s) in
     if any_count (receives_own P s)
     then shown_wraparound P s P.address (least_count (receives_own P s)) m
     else shown_wraparound P s all_terminals (least_count (receives_broadcast P s)) m

@@ -6,7 +6,7 @@ use Rattle.terminal_rules.specs.declared.event.Flag.{Flag}
 use Rattle.terminal_rules.specs.LookBack.{latest, or_else, since}
 use Rattle.terminal_rules.specs.History.{Noted}
 use Rattle.terminal_rules.specs.Flags.{flag_set, flag_now}
-use Rattle.terminal_rules.specs.SinceReset.{is_reset, since_reset, inhibits, inhibited_now, shuts, off_now, vector_set, vector_now, bit_set, bit_now, held_set, held_now, recorded_by, start_bits, last_now}
+use Rattle.terminal_rules.specs.SinceReset.{is_reset, since_reset, inhibits, inhibited_now, shuts, off_now, vector_word_set, vector_now, bit_word_set, bit_now, held_set, held_now, recorded_by, start_bits, last_now}
 use Rattle.terminal_rules.specs.inner.Steps.{unless_reset}
 
 -- the latest answer, or that of the newest element
@@ -28,11 +28,11 @@ inhibited_step p h = recent inhibits false p h
 pub off_step : (b : Bus) (p : Noted) (h : List Noted) → off_now (p ∷ h) b ≡ unless_reset (is_reset p) false (shuts b p) (off_now h b)
 off_step b p h = recent (shuts b) false p h
 
-pub vector_step : (P : Description) (p : Noted) (h : List Noted) → vector_now P (p ∷ h) ≡ unless_reset (is_reset p) P.vector (vector_set p.event) (vector_now P h)
-vector_step P p h = recent (λ p. vector_set p.event) P.vector p h
+pub vector_step : (P : Description) (p : Noted) (h : List Noted) → vector_now P (p ∷ h) ≡ unless_reset (is_reset p) P.vector (vector_word_set p.event) (vector_now P h)
+vector_step P p h = recent (λ p. vector_word_set p.event) P.vector p h
 
-pub bit_step : (P : Description) (p : Noted) (h : List Noted) → bit_now P (p ∷ h) ≡ unless_reset (is_reset p) P.bit (bit_set p.event) (bit_now P h)
-bit_step P p h = recent (λ p. bit_set p.event) P.bit p h
+pub bit_step : (P : Description) (p : Noted) (h : List Noted) → bit_now P (p ∷ h) ≡ unless_reset (is_reset p) P.bit (bit_word_set p.event) (bit_now P h)
+bit_step P p h = recent (λ p. bit_word_set p.event) P.bit p h
 
 pub held_step : (P : Description) (s i : ℕ) (p : Noted) (h : List Noted) → held_now P (p ∷ h) s i ≡ unless_reset (is_reset p) (P.initial s i) (held_set P s i p) (held_now P h s i)
 held_step P s i p h = recent (held_set P s i) (P.initial s i) p h

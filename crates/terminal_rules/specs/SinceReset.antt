@@ -68,20 +68,20 @@ abbrev pub off_now : List Noted → Bus → Bool
 off_now h b = or_else (latest (shuts b) (since_reset h)) false
 
 -- the vector word (4.3.3.5.1.7.11): that of the subsystem's latest event
-abbrev pub vector_set : Event → Option ℕ
-vector_set (Vector v) = Some v
-vector_set _ = None
+abbrev pub vector_word_set : Event → Option ℕ
+vector_word_set (Vector v) = Some v
+vector_word_set _ = None
 
 abbrev pub vector_now : Description → List Noted → ℕ
-vector_now P h = or_else (latest (λ p. vector_set p.event) (since_reset h)) P.vector
+vector_now P h = or_else (latest (λ p. vector_word_set p.event) (since_reset h)) P.vector
 
 -- the BIT word (4.3.3.5.1.7.14): that of the subsystem's latest event
-abbrev pub bit_set : Event → Option ℕ
-bit_set (Bit v) = Some v
-bit_set _ = None
+abbrev pub bit_word_set : Event → Option ℕ
+bit_word_set (Bit v) = Some v
+bit_word_set _ = None
 
 abbrev pub bit_now : Description → List Noted → ℕ
-bit_now P h = or_else (latest (λ p. bit_set p.event) (since_reset h)) P.bit
+bit_now P h = or_else (latest (λ p. bit_word_set p.event) (since_reset h)) P.bit
 
 -- word number i of a list, from 1
 abbrev pub number : ℕ → List ℕ → Option ℕ

@@ -1,6 +1,6 @@
 -- What the search for the first difference finds: in two masks, in two tables, and of two terminals.
 use Rattle.std.specs.Prelude.{◌≡◌, ℕ, ◌-◌, ◌<◌, true, Option, Some, None}
-use Rattle.bus_canon.specs.inner.Mask.{has_bit}
+use Rattle.bus_word.specs.Mask.{has_bit}
 use Rattle.bus_word.specs.Cell.{is_data_place}
 use Rattle.bus_legal.specs.Description.{Description}
 use Rattle.terminal_exchanges.specs.Distinguish.{least_count}

@@ -25,7 +25,7 @@ use Rattle.terminal_rules.specs.inner.Steps.{resets_at_gap, dropped_if, begun_if
 use Rattle.terminal_state.specs.inner.Buses.{on_bus, with_bus}
 use Rattle.terminal_state.specs.inner.Held.{held_after}
 use Rattle.terminal_state.specs.inner.Replies.{shown_reply}
-use Rattle.bus_terminal.specs.Stands.{description_of, held_word}
+use Rattle.bus_terminal.specs.Stands.{own_description, held_word}
 
 -- the data word of an own mode code, from the registers
 abbrev pub code_word_from : Registers → ℕ → ℕ
@@ -58,11 +58,11 @@ heard_after_word P b w heard = if is_for P w then with_bus b true heard else hea
 
 -- whether a word starts a message
 abbrev pub starts_in : {L : Type 0} → (L → Cell → Bool) → Terminal L → Bus → Raw → Bool
-starts_in is_legal t b w = starts_by (description_of is_legal t) w (on_bus b t.heard) (standing_on b t.in_progress)
+starts_in is_legal t b w = starts_by (own_description is_legal t) w (on_bus b t.heard) (standing_on b t.in_progress)
 
 -- how a gap on this bus ends the message in progress
 abbrev pub ends_at_gap : {L : Type 0} → (L → Cell → Bool) → Terminal L → Bus → Ending
-ends_at_gap is_legal t b = gap_ends (description_of is_legal t) t.registers.flags.busy (standing_on b t.in_progress)
+ends_at_gap is_legal t b = gap_ends (own_description is_legal t) t.registers.flags.busy (standing_on b t.in_progress)
 
 -- whether a reply to it begins
 abbrev pub begins_at_gap : {L : Type 0} → (L → Cell → Bool) → Terminal L → Bus → Bool
@@ -70,23 +70,23 @@ begins_at_gap is_legal t b = is_answered (on_bus b t.registers.off) (ends_at_gap
 
 -- the same set-up and legality
 pub record IsSameSetup {L : Type 0} (is_legal : L → Cell → Bool) (t u : Terminal L) : Type 0 where
-  pub description : description_of is_legal u ≡ description_of is_legal t
+  pub description : own_description is_legal u ≡ own_description is_legal t
 
 -- what a command makes of it that starts a message
 pub record TakesStart {L : Type 0} (is_legal : L → Cell → Bool) (b : Bus) (c : ℕ) (t u : Terminal L) : Type 0 where
   pub setup : IsSameSetup is_legal t u
   pub heard : u.heard ≡ t.heard
   pub standing : (d : Bus) → standing_on d u.in_progress ≡ (if same_bus d b then Collects c (Words []) else Idle)
-  pub registers : u.registers ≡ started (spares (description_of is_legal t) c) c t.registers
+  pub registers : u.registers ≡ started (spares (own_description is_legal t) c) c t.registers
   pub reply : u.reply ≡ None
   pub held : u.held ≡ t.held
 
 -- what a word that isn't ignored makes of a terminal t
 pub record TakesWord {L : Type 0} (is_legal : L → Cell → Bool) (b : Bus) (w : Raw) (t u : Terminal L) : Type 0 where
   pub setup : IsSameSetup is_legal t u
-  pub heard : u.heard ≡ heard_after_word (description_of is_legal t) b w t.heard
+  pub heard : u.heard ≡ heard_after_word (own_description is_legal t) b w t.heard
   pub standing : (c : Bus) → standing_on c u.in_progress ≡ word_leaves t.settings.address (starts_in is_legal t b w) (same_bus c b) w (standing_on c t.in_progress)
-  pub registers : u.registers ≡ started_if (starts_in is_legal t b w) (spares (description_of is_legal t) w.bits) w.bits (failed_by (description_of is_legal t) (entry_fails (Some w) (standing_on b t.in_progress)) t.registers)
+  pub registers : u.registers ≡ started_if (starts_in is_legal t b w) (spares (own_description is_legal t) w.bits) w.bits (failed_by (own_description is_legal t) (entry_fails (Some w) (standing_on b t.in_progress)) t.registers)
   pub reply : shown_reply u.reply ≡ dropped_if (starts_in is_legal t b w) (shown_reply t.reply)
   pub held : u.held ≡ t.held
 
@@ -95,7 +95,7 @@ pub record TakesNoise {L : Type 0} (is_legal : L → Cell → Bool) (b : Bus) (t
   pub setup : IsSameSetup is_legal t u
   pub heard : u.heard ≡ t.heard
   pub standing : (c : Bus) → standing_on c u.in_progress ≡ (if same_bus c b then entry_leaves t.settings.address None (standing_on c t.in_progress) else standing_on c t.in_progress)
-  pub registers : u.registers ≡ failed_by (description_of is_legal t) (entry_fails None (standing_on b t.in_progress)) t.registers
+  pub registers : u.registers ≡ failed_by (own_description is_legal t) (entry_fails None (standing_on b t.in_progress)) t.registers
   pub reply : u.reply ≡ t.reply
   pub held : u.held ≡ t.held
 
@@ -104,7 +104,7 @@ pub record TakesGap {L : Type 0} (is_legal : L → Cell → Bool) (b : Bus) (beg
   pub setup : IsSameSetup is_legal t u
   pub heard : u.heard ≡ with_bus b false t.heard
   pub standing : (c : Bus) → standing_on c u.in_progress ≡ (if same_bus c b then gap_leaves (standing_on c t.in_progress) else standing_on c t.in_progress)
-  pub registers : u.registers ≡ settled t.settings.accept (adds_error (description_of is_legal t) x) b begins x t.registers
+  pub registers : u.registers ≡ settled t.settings.accept (adds_error (own_description is_legal t) x) b begins x t.registers
   pub reply : shown_reply u.reply ≡ begun_if begins b (done_cell x) (shown_reply t.reply)
   pub held : (s i : ℕ) → 1 ≤ s → s ≤ 30 → 1 ≤ i → i ≤ 32 → held_word u s i ≡ held_after t.held t.settings.wrap s i (resets_at_gap begins x) x
 

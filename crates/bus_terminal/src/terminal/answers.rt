@@ -13,7 +13,7 @@ impl<L: Legality> Terminal<L> {
     ghost use Rattle.bus_terminal.specs.inner.Terminal.{reply_word_from, sends_from};
     ghost use Rattle.bus_terminal.specs.Answer.{shown_answer, AreFew, IsSmall};
     ghost use Rattle.bus_terminal.specs.inner.Answer.{shown_sent, shown_hand};
-    ghost use Rattle.bus_terminal.specs.Stands.{description_of, held_word};
+    ghost use Rattle.bus_terminal.specs.Stands.{own_description, held_word};
 
     /// Gives data word `number` of a reply, by the cell of what was done.
     fn reply_word(&self, cell: Option<Cell>, number: u8) -> u16
@@ -52,7 +52,7 @@ impl<L: Legality> Terminal<L> {
 
     /// Gives what is handed over, where a gap ended a message so, as an answer.
     pub fn handed(&self, ended: &Ended) -> Answer<'_>
-        ensures answer { shown_answer result ≡ handing_over (hands (description_of L.is_legal self.now) (ending_of ended.now self.now.in_progress.words.items)) }
+        ensures answer { shown_answer result ≡ handing_over (hands (own_description L.is_legal self.now) (ending_of ended.now self.now.in_progress.words.items)) }
         ensures small { IsSmall (shown_answer result) }
     {
         match self.hand(ended) {
@@ -63,7 +63,7 @@ impl<L: Legality> Terminal<L> {
 
     /// Gives what is handed over, where a gap ended a message so.
     fn hand(&self, ended: &Ended) -> Option<Hand<'_>>
-        ensures hand { shown_hand result ≡ hands (description_of L.is_legal self.now) (ending_of ended.now self.now.in_progress.words.items) }
+        ensures hand { shown_hand result ≡ hands (own_description L.is_legal self.now) (ending_of ended.now self.now.in_progress.words.items) }
         ensures few { AreFew (shown_hand result) }
     {
         match ended {

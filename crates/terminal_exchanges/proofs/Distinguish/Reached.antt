@@ -7,7 +7,7 @@ use Rattle.bus_word.specs.declared.cell.Cell.{Cell}
 use Rattle.bus_word.specs.declared.cell.Cell.TheVariants.{OwnReceive, OwnTransmit, BroadReceive, OwnMode, BroadMode}
 use Rattle.bus_word.specs.Cell.{is_data_place, is_allowed}
 use Rattle.bus_legal.specs.Description.{Description}
-use Rattle.bus_legal.specs.Reach.{any_to, any_count, largest_count, is_heard, transmits, receives, can_wrap, can_transmit, reach}
+use Rattle.bus_legal.specs.Reach.{any_to, any_count, largest_count, is_heard, transmits_at, receives_at, can_wrap, can_transmit, reach}
 use Rattle.bus_legal.specs.Parts.{Parts, description_in, IsNormal}
 use Rattle.bus_legal.proofs.Descriptions.{same_description}
 use Rattle.bus_legal.proofs.Counts.{sent_place, largest_to-passes, any_to-or, any_to-and}
@@ -135,10 +135,10 @@ apart_by_initial P Q s i p q same alike other =
     let can_alike : can_transmit P s i ≡ can_transmit Q s i = (λ j. nat_le 1 i && nat_le i (largest_count (λ n. alike n j))) in
     let can : can_transmit P s i ≡ true =
     asked_for_word (P.initial s i) (Q.initial s i) (can_transmit P s i) other (initial_unsent P s i p) (λ e. initial_unsent Q s i q (sym can_alike ∙ e)) in
-    let m : ℕ = largest_count (transmits P s) in
+    let m : ℕ = largest_count (transmits_at P s) in
     let from : 1 ≤ i = at_least i m can in
     let upto : i ≤ m = at_most i m can in
-    let legal : P.legal (OwnTransmit s m) ≡ true = largest_passes (transmits P s) (omega arith) in
+    let legal : P.legal (OwnTransmit s m) ≡ true = largest_passes (transmits_at P s) (omega arith) in
     initial_tells P Q s m i p.low same (p.allowed (OwnTransmit s m) legal) legal (sym (alike m) ∙ legal) from upto other
   where
     at_least : (i m : ℕ) → nat_le 1 i && nat_le i m ≡ true → 1 ≤ i
@@ -163,7 +163,7 @@ unfolding any_count least_count
 least_passes p some = least_to-passes 32 p some
 
 -- words can be received by the own address, or by broadcast
-any_received : (P : Description) (s : ℕ) → any_count (receives P s) ≡ any_count (receives_own P s) || (P.broadcast && any_count (receives_broadcast P s))
+any_received : (P : Description) (s : ℕ) → any_count (receives_at P s) ≡ any_count (receives_own P s) || (P.broadcast && any_count (receives_broadcast P s))
 unfolding any_count
 any_received P s =
     any_to-or 32 (receives_own P s) (λ n. P.broadcast && receives_broadcast P s n)
@@ -217,24 +217,24 @@ apart_by_wraparound P Q p q same alike other = apart_at (shown_subaddress P.wrap
     apart_at : (s : ℕ) → WrapAlike s P Q → Shows P Q s → TellsApart P Q (wraparound_script P s)
     apart_at s alike shown = by_own (any_count (receives_own P s)) refl
       where
-        both : (any_count (receives P s) ≡ true) × (any_count (transmits P s) ≡ true)
-        both = and_parts (any_count (receives P s)) (any_count (transmits P s)) shown.wraps
+        both : (any_count (receives_at P s) ≡ true) × (any_count (transmits_at P s) ≡ true)
+        both = and_parts (any_count (receives_at P s)) (any_count (transmits_at P s)) shown.wraps
 
-        sends : P.legal (OwnTransmit s (least_count (transmits P s))) ≡ true
-        sends = least_passes (transmits P s) both.1
+        sends : P.legal (OwnTransmit s (least_count (transmits_at P s))) ≡ true
+        sends = least_passes (transmits_at P s) both.1
 
         by_own : (b : Bool) → any_count (receives_own P s) ≡ b →
-            TellsApart P Q (if b then shown_wraparound P s P.address (least_count (receives_own P s)) (least_count (transmits P s)) else shown_wraparound P s all_terminals (least_count (receives_broadcast P s)) (least_count (transmits P s)))
+            TellsApart P Q (if b then shown_wraparound P s P.address (least_count (receives_own P s)) (least_count (transmits_at P s)) else shown_wraparound P s all_terminals (least_count (receives_broadcast P s)) (least_count (transmits_at P s)))
         by_own true e =
             let n : ℕ = least_count (receives_own P s) in
-            let m : ℕ = least_count (transmits P s) in
+            let m : ℕ = least_count (transmits_at P s) in
             let legal : P.legal (OwnReceive s n) ≡ true = least_passes (receives_own P s) e in
             own_wraparound_tells P Q s n m p.low same
             (p.allowed (OwnReceive s n) legal) legal (sym (alike.own_receive n) ∙ legal)
             (p.allowed (OwnTransmit s m) sends) sends (sym (alike.own_transmit m) ∙ sends) alike.initial shown.differ
         by_own false e =
             let n : ℕ = least_count (receives_broadcast P s) in
-            let m : ℕ = least_count (transmits P s) in
+            let m : ℕ = least_count (transmits_at P s) in
             let parts : (P.broadcast ≡ true) × (any_count (receives_broadcast P s) ≡ true) =
             and_parts P.broadcast (any_count (receives_broadcast P s)) (ap (λ b. b || (P.broadcast && any_count (receives_broadcast P s))) (sym e) ∙ (sym (any_received P s) ∙ both.0)) in
             let legal : P.legal (BroadReceive s n) ≡ true = least_passes (receives_broadcast P s) parts.1 in

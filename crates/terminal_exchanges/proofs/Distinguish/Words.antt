@@ -4,7 +4,7 @@ use Rattle.bus_word.specs.declared.cell.Cell.TheVariants.{OwnMode}
 use Rattle.bus_word.specs.Status.{status_word}
 use Rattle.bus_legal.specs.Description.{Description}
 use Rattle.terminal_rules.specs.LookBack.{or_else}
-use Rattle.terminal_rules.specs.SinceReset.{vector_set, bit_set}
+use Rattle.terminal_rules.specs.SinceReset.{vector_word_set, bit_word_set}
 use Rattle.terminal_exchanges.specs.Exchanges.{Exchange}
 use Rattle.terminal_exchanges.specs.Distinguish.{TellsApart, mode_code, mode_code_with, acceptance_script, vector_script, bit_script}
 use Rattle.terminal_exchanges.proofs.Distinguish.Commands.{IsTo, slots_for-own, code_to_own, code_to_own_with, moved}
@@ -41,7 +41,7 @@ vector_sent : (P : Description) (x : Exchange) → P.address ≤ 30 → IsTo P.a
     bits_in (slot_at 1 P [] x) ≡ P.vector
 vector_sent P x low to legal =
     ap bits_in (own_sent P [] x (OwnMode 16) true 1 low to legal tt refl)
-    ∙ ap (λ o. or_else o P.vector) (own_back P (λ p. vector_set p.event) [] x (OwnMode 16) 1 low to legal tt refl (λ k. refl) (λ d. refl) refl refl)
+    ∙ ap (λ o. or_else o P.vector) (own_back P (λ p. vector_word_set p.event) [] x (OwnMode 16) 1 low to legal tt refl (λ k. refl) (λ d. refl) refl refl)
 
 pub vector_tells : (P Q : Description) → P.address ≤ 30 → P.address ≡ Q.address → P.legal (OwnMode 16) ≡ true → Q.legal (OwnMode 16) ≡ true → P.vector ≢ Q.vector →
     TellsApart P Q (vector_script P.address)
@@ -60,7 +60,7 @@ bit_sent : (P : Description) (x : Exchange) → P.address ≤ 30 → IsTo P.addr
     bits_in (slot_at 1 P [] x) ≡ P.bit
 bit_sent P x low to legal =
     ap bits_in (own_sent P [] x (OwnMode 19) true 1 low to legal tt refl)
-    ∙ ap (λ o. or_else o P.bit) (own_back P (λ p. bit_set p.event) [] x (OwnMode 19) 1 low to legal tt refl (λ k. refl) (λ d. refl) refl refl)
+    ∙ ap (λ o. or_else o P.bit) (own_back P (λ p. bit_word_set p.event) [] x (OwnMode 19) 1 low to legal tt refl (λ k. refl) (λ d. refl) refl refl)
 
 pub bit_tells : (P Q : Description) → P.address ≤ 30 → P.address ≡ Q.address → P.legal (OwnMode 19) ≡ true → Q.legal (OwnMode 19) ≡ true → P.bit ≢ Q.bit →
     TellsApart P Q (bit_script P.address)

@@ -17,7 +17,7 @@ use Rattle.terminal_rules.specs.Open.{open_now}
 use Rattle.terminal_rules.specs.Reply.{words_after_status, begun, begins_reply, supersedes, slots_in, reply_after, reply_of, reply_now, replies_on}
 use Rattle.terminal_rules.specs.Flags.{flag_now}
 use Rattle.terminal_rules.specs.Ends.{unless_ignored, ends_now}
-use Rattle.terminal_rules.specs.SinceReset.{since_reset, vector_set, vector_now, bit_set, bit_now, last_now, off_now}
+use Rattle.terminal_rules.specs.SinceReset.{since_reset, vector_word_set, vector_now, bit_word_set, bit_now, last_now, off_now}
 use Rattle.terminal_rules.specs.Status.{kept_now}
 use Rattle.terminal_rules.specs.Turn.{is_answered, done_cell, turn_of_entry, turn_of_gap, turn_of_slot}
 use Rattle.terminal_rules.specs.Past.{note, past}
@@ -39,8 +39,8 @@ chosen_word false false false v w last b d f g = refl
 code_word_alike : (P : Description) (R : Rest) → Agrees P R → (h : List Noted) (code : ℕ) → P.legal (OwnMode code) ≡ true → code_word (with_rest P R) h code ≡ code_word P h code
 code_word_alike P R a h code l =
     chosen_word (code == 16) (code == 18) (code == 19) (vector_now (with_rest P R) h) (vector_now P h) (last_now h) (bit_now (with_rest P R) h) (bit_now P h)
-    (λ e. ap (or_else (latest (λ p. vector_set p.event) (since_reset h))) (a.vector (legal_at P code 16 l e)))
-    (λ e. ap (or_else (latest (λ p. bit_set p.event) (since_reset h))) (a.bit (legal_at P code 19 l e)))
+    (λ e. ap (or_else (latest (λ p. vector_word_set p.event) (since_reset h))) (a.vector (legal_at P code 16 l e)))
+    (λ e. ap (or_else (latest (λ p. bit_word_set p.event) (since_reset h))) (a.bit (legal_at P code 19 l e)))
 
 -- the cell of a reply is one that can be done, and its next word is one of its words
 abbrev CellCan : Description → Option Cell → Type 0

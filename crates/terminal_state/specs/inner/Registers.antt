@@ -15,7 +15,7 @@ use Rattle.terminal_rules.specs.Buses.{same_bus}
 use Rattle.terminal_rules.specs.LookBack.{or_else}
 use Rattle.terminal_rules.specs.History.{Noted, Ending, Nothing, Badly, Illegal, Blocked, Done, of_word, is_gap_on}
 use Rattle.terminal_rules.specs.Flags.{flag_set, flag_now}
-use Rattle.terminal_rules.specs.SinceReset.{switched, done_code, inhibited_now, off_now, vector_set, vector_now, bit_set, bit_now, recorded_by, last_now}
+use Rattle.terminal_rules.specs.SinceReset.{switched, done_code, inhibited_now, off_now, vector_word_set, vector_now, bit_word_set, bit_now, recorded_by, last_now}
 use Rattle.terminal_rules.specs.Status.{no_parts, with_error_if, accepts, inhibited_after, reports_kept, spares, kept_by_start, start_first, reset_first, adds_error, kept_now}
 use Rattle.terminal_rules.specs.inner.Steps.{kept_after, unless_reset, resets_at_gap}
 
@@ -169,8 +169,8 @@ registers_after P e reset starts ends r =
         a = unless_reset reset false (shuts_by A e ends) r.off.a;
         b = unless_reset reset false (shuts_by B e ends) r.off.b;
       };
-      vector = unless_reset reset r.power_up.vector (vector_set e) r.vector;
-      bit = unless_reset reset r.power_up.bit (bit_set e) r.bit;
+      vector = unless_reset reset r.power_up.vector (vector_word_set e) r.vector;
+      bit = unless_reset reset r.power_up.bit (bit_word_set e) r.bit;
       last = unless_reset reset 0 (recorded_by (started_bits e starts)) r.last;
       kept = kept_after (start_first (kept_by_start P (started_bits e starts)) (reset_first reset (kept_from P r ends))) (adds_error P ends) r.kept;
     }

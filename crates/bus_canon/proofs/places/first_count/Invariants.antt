@@ -1,5 +1,5 @@
 use Rattle.std.proofs.Common.{get_or}
-use Rattle.bus_canon.specs.inner.Mask.{has_bit}
+use Rattle.bus_word.specs.Mask.{has_bit}
 use Rattle.bus_canon.proofs.PlaceLaws.{AlikeBelow}
 use Rattle.bus_canon.proofs.places.first_count.Given as goal
 

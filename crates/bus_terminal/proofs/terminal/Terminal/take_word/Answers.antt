@@ -1,6 +1,6 @@
 use Rattle.std.proofs.Common.{sym, ◌∙◌, subst}
 use Rattle.terminal_state.specs.inner.Registers.{failed_by}
-use Rattle.bus_terminal.specs.Stands.{description_of}
+use Rattle.bus_terminal.specs.Stands.{own_description}
 use Rattle.bus_terminal.specs.inner.Terminal.{heard_after_word, TakesStart}
 use Rattle.bus_terminal.proofs.TakesLaw.{starting_word}
 use Rattle.bus_terminal.proofs.terminal.Terminal.take_word.Goals as goal
@@ -12,7 +12,7 @@ returns-then-starts g c =
     let u = c.start.new.self in
     let b = c.args.bus in
     let w = c.args.word in
-    let failed = c.fail.ensures ∙ (λ j. record t { registers = failed_by (description_of is_legal t) (c.failed_by-failed.ensures j) t.registers }) in
-    let noted = c.note_word.ensures ∙ (λ j. record (failed j) { heard = heard_after_word (description_of is_legal (failed j)) b w (failed j).heard }) in
+    let failed = c.fail.ensures ∙ (λ j. record t { registers = failed_by (own_description is_legal t) (c.failed_by-failed.ensures j) t.registers }) in
+    let noted = c.note_word.ensures ∙ (λ j. record (failed j) { heard = heard_after_word (own_description is_legal (failed j)) b w (failed j).heard }) in
     starting_word is_legal b w t u (sym c.starts-starts.ensures ∙ c.if-starts.true)
     (subst (λ t. TakesStart is_legal b w.bits t u) noted (subst (λ bits. TakesStart is_legal b bits c.note_word.new.self u) c.of.ensures c.start.ensures))
