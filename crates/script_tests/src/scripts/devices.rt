@@ -3,7 +3,7 @@ ghost use Rattle.std.specs.Prelude.{None};
 
 use super::{ANSWERED, terminal};
 use bus_script::{FromRead, FromWrite, RunFault, Sink, Source, run_script, write_all};
-use std::alloc::AllocError;
+use std::alloc::{AllocError, Global};
 use std::io::{self, ErrorKind, Read, Write};
 
 /// Gives a script a few bytes a call, and answers `kind` at every other call.
@@ -69,9 +69,41 @@ fn bytes_in_memory(rt: HostRuntime) {
     assert_eq!(rt; transcript.as_slice(), b"A s 2800\nA s 2800\n".as_slice());
 }
 
+/// So many of a byte.
+fn many(alloc: Global, byte: u8, count: usize) -> Result<Vec<u8>, AllocError> {
+    let mut bytes = Vec::new(alloc);
+    for _ in 0..count {
+        bytes.push(byte)?;
+    }
+    Ok(bytes)
+}
+
+/// Whether three pieces are written as they are, one behind the other.
+fn pieces_are_written(
+    alloc: Global,
+    first: usize,
+    second: usize,
+    third: usize,
+) -> Result<bool, AllocError> {
+    let pieces = [
+        many(alloc, b'x', first)?,
+        many(alloc, b'y', second)?,
+        many(alloc, b'z', third)?,
+    ];
+    let mut written = Vec::new(alloc);
+    let mut wanted = Vec::new(alloc);
+    let mut writer = FromWrite::new(&mut written);
+    let mut fine = true;
+    for piece in &pieces {
+        wanted.extend_from_slice(piece.as_slice())?;
+        fine = fine && write_all(&mut writer, piece.as_slice()).is_ok();
+    }
+    fine = fine && writer.flush().is_ok();
+    Ok(fine && written.as_slice() == wanted.as_slice())
+}
+
 #[test]
 fn pieces_longer_than_what_is_held_back(rt: HostRuntime) -> Result<(), AllocError> {
-    let piece = vec![in rt.alloc(); b'x'; 10_000]?;
     for (first, second, third) in [
         (1usize, 8191usize, 1usize),
         (8192, 0, 1),
@@ -80,23 +112,8 @@ fn pieces_longer_than_what_is_held_back(rt: HostRuntime) -> Result<(), AllocErro
         (3, 10_000, 2),
         (10_000, 10_000, 10_000),
     ] {
-        let mut written = Vec::new(rt.alloc());
-        {
-            let mut writer = FromWrite::new(&mut written);
-            assert_eq!(rt; write_all(&mut writer, &piece.as_slice()[..first]), Ok(()));
-            assert_eq!(rt; write_all(&mut writer, &piece.as_slice()[..second]), Ok(()));
-            assert_eq!(rt; write_all(&mut writer, &piece.as_slice()[..third]), Ok(()));
-            assert_eq!(rt; writer.flush(), Ok(()));
-        }
-        let mut wanted = Vec::new(rt.alloc());
-        wanted.extend_from_slice(&piece.as_slice()[..first])?;
-        wanted.extend_from_slice(&piece.as_slice()[..second])?;
-        wanted.extend_from_slice(&piece.as_slice()[..third])?;
-        assert_eq!(rt;
-            written.as_slice(),
-            wanted.as_slice(),
-            "{first} {second} {third}"
-        );
+        let fine = pieces_are_written(rt.alloc(), first, second, third)?;
+        assert!(rt; fine, "{first} {second} {third}");
     }
     Ok(())
 }
