@@ -1,12 +1,14 @@
 -- Laws of a chunk: its lines are played, one after another.
-use Rattle.std.proofs.Common.{ℕ, ◌≡◌, ◌≤◌, ◌+◌, ◌-◌, List, [], ◌∷◌, ◌++◌, length, take, drop, length-append, sym, arith, append-nil, take-append-drop, subst, Option}
+use Rattle.std.proofs.Common.{ℕ, ◌≡◌, ◌≤◌, ◌+◌, List, [], ◌∷◌, ◌++◌, length, take, drop, length-append, sym, ap, ◌∙◌, arith, append-nil, take-append-drop, subst, Option}
 use Rattle.std.proofs.lemmas.Grind.{common_steps}
 use Rattle.std.proofs.Math.Seq.{take-add}
 use Rattle.terminal_rules.specs.declared.event.Event.{Event}
 use Rattle.bus_script.specs.declared.fault.RunFault.{RunFault}
 use Rattle.bus_script.specs.declared.fault.RunFault.TheVariants.{Line, LongLine, TooLong, Read, Write}
 use Rattle.bus_script.specs.Reading.{Meaning, ByFault}
-use Rattle.bus_script.specs.Playing.{Reads, Faults, Plays, PlaysPart, Means, IsRefused, StartsLine, Feeding}
+use Rattle.bus_script.specs.inner.Lines.{Reads, Faults, Means, IsRefused, StartsLine}
+use Rattle.bus_script.specs.Playing.{Plays, PlaysPart}
+use Rattle.bus_script.specs.inner.Feeding.{Feeding}
 use Rattle.bus_script.proofs.ReadingLaws.{Reads-nil, Reads-trans, Reads-Faults, Reads-line, Faults-line}
 use Rattle.bus_script.proofs.PlayLaws.{Plays-nil, Plays-trans, Plays-part}
 
@@ -66,9 +68,10 @@ pub Feeding-fault : {D M W : Type 0} {meaning : Meaning} {stands : D → List Ev
     {written : W → Option (List ℕ)} {m m' m'' : M} {w w' w'' : W} {lines events lines' events' : ℕ} {chunk : List ℕ} {at : ℕ} {es : List Event} (f : RunFault)
     → Feeding meaning stands out written m m' w w' lines events lines' events' chunk at es
     → Faults meaning lines' (drop at chunk) [] f → Plays stands out written m' m'' w' w'' []
-    → (gs : List Event) × Faults meaning lines chunk gs f × Plays stands out written m m'' w w'' gs
-Feeding-fault {meaning = meaning} {lines = lines} {chunk = chunk} {at = at} {es = es} f p q r = (
+    → (gs : List Event) × (events' ≡ events + length gs) × Faults meaning lines chunk gs f × Plays stands out written m m'' w w'' gs
+Feeding-fault {meaning = meaning} {lines = lines} {events = events} {chunk = chunk} {at = at} {es = es} f p q r = (
   es ++ [],
+  p.count ∙ ap (λ gs. events + length gs) (sym (append-nil es)),
   subst (λ xs. Faults meaning lines xs (es ++ []) f) (take-append-drop at chunk) (Reads-Faults p.reads q),
   Plays-trans p.plays r,
 )
@@ -94,7 +97,3 @@ Feeding-part {meaning = meaning} {lines = lines} {lines' = lines'} {chunk = chun
   f,
   Plays-part p.plays q,
 )
-
--- the value of `&chunk[at..]`
-pub from_there : (at : ℕ) (chunk : List ℕ) → take (length chunk - at) (drop at chunk) ≡ drop at chunk
-from_there at chunk = grind (arith, common_steps)

@@ -6,3 +6,4 @@ pub mod ReadingLaws
 pub mod PlayLaws
 pub mod FeedLaws
 pub mod RunLaws
+pub mod SinkLaws

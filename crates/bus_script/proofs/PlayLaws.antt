@@ -5,7 +5,8 @@ use Rattle.std.proofs.KnownBytes.{Appends-nil, Appends-trans, Appends-kept}
 use Rattle.terminal_rules.specs.declared.event.Event.{Event}
 use Rattle.bus_script.specs.Transcript.{transcript}
 use Rattle.terminal_rules.specs.Past.{after}
-use Rattle.bus_script.specs.Playing.{Plays, PlaysPart, IsPartWritten}
+use Rattle.bus_script.specs.Playing.{Plays, PlaysPart}
+use Rattle.bus_script.specs.Device.{IsPartWritten}
 
 pub after_append : (h es fs : List Event) → after (es ++ fs) h ≡ after fs (after es h)
 after_append h [] fs = refl

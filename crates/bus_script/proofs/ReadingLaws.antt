@@ -7,7 +7,7 @@ use Rattle.bus_script.specs.declared.fault.RunFault.{RunFault}
 use Rattle.bus_script.specs.declared.fault.RunFault.TheVariants.{LongLine, TooLong}
 use Rattle.bus_script.specs.Text.{lines_of, NoLineFeed}
 use Rattle.bus_script.specs.Reading.{Meaning, Reading, adds, stops, then_reads, reading}
-use Rattle.bus_script.specs.Playing.{Reads, Faults, IsRefused}
+use Rattle.bus_script.specs.inner.Lines.{Reads, Faults, IsRefused}
 use Rattle.bus_script.proofs.LineLaws.{EndsLine-append, EndsLine-line, lines-line, lines-some, lines-front}
 
 pub adds-nil : (r : Reading) → adds [] r ≡ r

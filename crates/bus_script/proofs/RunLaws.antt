@@ -1,5 +1,5 @@
 -- The run loop, read by read.
-use Rattle.std.proofs.Common.{ℕ, ◌≡◌, ◌<◌, ◌≤◌, ◌+◌, ◌-◌, List, [], ◌∷◌, ◌++◌, length, take, drop, length-append, refl, sym, ap, ◌∙◌, arith, append_assoc, append-nil, take-append-drop, subst, zero-add, add-zero, length-take, length-drop, Option, Some, None, IfSome}
+use Rattle.std.proofs.Common.{ℕ, ◌≡◌, ◌<◌, ◌≤◌, ◌+◌, ◌-◌, List, [], ◌∷◌, ◌++◌, length, take, drop, length-append, refl, sym, ap, ◌∙◌, arith, append_assoc, append-nil, take-append-drop, subst, zero-add, add-zero, length-take, length-drop, Option, Some, None, IfSome, true, rules}
 use Rattle.std.proofs.lemmas.Grind.{common_steps}
 use Rattle.std.proofs.lemmas.List.Edits.{take-paste}
 use Rattle.std.proofs.lemmas.Slice.{between_is}
@@ -12,9 +12,12 @@ use Rattle.std.proofs.KnownBytes.{Consumes-trans, Consumes-kept, Consumes-nil}
 use Rattle.terminal_rules.specs.declared.event.Event.{Event}
 use Rattle.bus_script.specs.declared.fault.RunFault.{RunFault}
 use Rattle.bus_script.specs.declared.fault.RunFault.TheVariants.{Line, LongLine, TooLong, Read, Write}
+use Rattle.bus_script.specs.Fault.{is_of_script}
 use Rattle.bus_script.specs.Text.{lines_of, NoLineFeed, EndsLine}
 use Rattle.bus_script.specs.Reading.{Meaning, Reading, adds, stops, nothing, reading, ByFault}
-use Rattle.bus_script.specs.Playing.{Reads, Faults, Plays, PlaysPart, Means, IsRefused, IsRest, Feeds, RunsTo, BreaksAt}
+use Rattle.bus_script.specs.inner.Lines.{Reads, Faults, Means, IsRefused, IsRest}
+use Rattle.bus_script.specs.Playing.{Plays, PlaysPart, RunsTo, BreaksAt}
+use Rattle.bus_script.specs.inner.Feeding.{Feeds}
 use Rattle.bus_script.proofs.LineLaws.{lines-last}
 use Rattle.bus_script.proofs.ReadingLaws.{adds-adds, reading-line, Reads-nil, Reads-trans, Reads-Faults}
 use Rattle.bus_script.proofs.PlayLaws.{Plays-nil, Plays-trans, Plays-part, Plays-last, Plays-kept, PlaysPart-kept}
@@ -60,13 +63,13 @@ pub record Running {D M R W : Type 0} (meaning : Meaning) (stands : D → List E
   pub plays : Plays stands out written m m' w w' es
 
 pub Running-nil : {D M R W : Type 0} (meaning : Meaning) (stands : D → List Event → M → Type 0) (out : D → List Event → Event → List ℕ)
-    (left : R → Option (List ℕ)) (written : W → Option (List ℕ)) (m : M) (r : R) (w : W)
-    → Running meaning stands out left written m m r r w w 0 0 [] [] []
-Running-nil meaning stands out left written m r w = record {
+    (left : R → Option (List ℕ)) (written : W → Option (List ℕ)) (m : M) (r : R) (w : W) (lines events : ℕ) → lines ≡ 0 → events ≡ 0
+    → Running meaning stands out left written m m r r w w lines events [] [] []
+Running-nil meaning stands out left written m r w lines events no_line no_event = record {
   taken = Consumes-nil (left r);
-  reads = Reads-nil meaning 0;
+  reads = subst (Reads meaning 0 [] []) (sym no_line) (Reads-nil meaning 0);
   rest = record { none = tt; short = omega arith; room = λ h. omega arith };
-  count = refl;
+  count = no_event;
   most = omega arith;
   few = omega arith;
   plays = Plays-nil stands out written m w;
@@ -170,17 +173,18 @@ Running-unread {meaning = meaning} {left = left} {r = r} {r' = r'} {lines = line
 
 -- the script has a fault
 pub Running-refused : {D M R W : Type 0} {meaning : Meaning} {stands : D → List Event → M → Type 0} {out : D → List Event → Event → List ℕ}
-    {left : R → Option (List ℕ)} {written : W → Option (List ℕ)} {m m' m'' : M} {r r' : R} {w w' w'' w3 : W} {lines events : ℕ} {pending whole : List ℕ} {es fs : List Event} {f : RunFault}
+    {left : R → Option (List ℕ)} {written : W → Option (List ℕ)} {m m' m'' : M} {r r' : R} {w w' w'' w3 : W} {lines events n : ℕ} {pending whole : List ℕ} {es fs : List Event} {f : RunFault}
     (r'' : R)
     (bytes chunk : List ℕ)
     → Running meaning stands out left written m m' r r' w w' lines events pending whole es
     → Keeps (written w') (written w'') → Consumes (left r') (left r'') bytes → chunk ≡ pending ++ bytes
-    → Faults meaning lines chunk fs f → Plays stands out written m' m'' w'' w3 fs
-    → IfSome (left r) (λ script. (es : List Event) × RunsTo meaning stands out written m m'' w w3 script es (stops f))
-Running-refused {meaning = meaning} {left = left} {r = r} {r' = r'} {pending = pending} {whole = whole} {es = es} {fs = fs} {f = f} r'' bytes chunk p kept took is faults plays =
+    → n ≡ events + length fs → Faults meaning lines chunk fs f → Plays stands out written m' m'' w'' w3 fs
+    → IfSome (left r) (λ script. (es : List Event) × (n ≡ length es) × RunsTo meaning stands out written m m'' w w3 script es (stops f))
+Running-refused {meaning = meaning} {left = left} {r = r} {r' = r'} {pending = pending} {whole = whole} {es = es} {fs = fs} {f = f} r'' bytes chunk p kept took is count faults plays =
+    let counted = p.count in
     IfSome-script (left r) (left r'') (whole ++ chunk) _
     (subst (Consumes (left r) (left r'')) (append_assoc whole pending bytes ∙ ap (λ x. whole ++ x) (sym is)) (Consumes-trans (left r) (left r') (left r'') (whole ++ pending) bytes p.taken took))
-    (λ more. (es ++ fs, record { says = (Reads-Faults p.reads faults).each more; plays = Plays-trans (Plays-kept p.plays kept) plays }))
+    (λ more. (es ++ fs, omega (arith, length-append es fs), record { says = (Reads-Faults p.reads faults).each more; plays = Plays-trans (Plays-kept p.plays kept) plays }))
 
 -- a write fails
 pub Running-broken : {D M R W : Type 0} {meaning : Meaning} {stands : D → List Event → M → Type 0} {out : D → List Event → Event → List ℕ}
@@ -228,49 +232,28 @@ Running-end {left = left} {r = r} {r' = r'} {r'' = r''} {pending = pending} {who
 
 pub Running-done : {D M R W : Type 0} {meaning : Meaning} {stands : D → List Event → M → Type 0} {out : D → List Event → Event → List ℕ}
     {left : R → Option (List ℕ)} {written : W → Option (List ℕ)} {m m' m'' : M} {r r' : R} {w w' w'' : W} {lines events n : ℕ} {pending whole : List ℕ} {es fs : List Event}
-    (w3 : W)
     → Running meaning stands out left written m m' r r' w w' lines events pending whole es → IsAtEnd (left r')
-    → reading meaning lines (lines_of pending) ≡ adds fs nothing → n ≡ events + length fs → Plays stands out written m' m'' w' w'' fs → Keeps (written w'') (written w3)
-    → IfSome (left r) (λ script. (es : List Event) × (n ≡ length es) × RunsTo meaning stands out written m m'' w w3 script es nothing)
-Running-done {meaning = meaning} {left = left} {r = r} {r' = r'} {pending = pending} {whole = whole} {es = es} {fs = fs} w3 p end says count plays kept =
+    → reading meaning lines (lines_of pending) ≡ adds fs nothing → n ≡ events + length fs → Plays stands out written m' m'' w' w'' fs
+    → IfSome (left r) (λ script. (es : List Event) × (n ≡ length es) × RunsTo meaning stands out written m m'' w w'' script es nothing)
+Running-done {meaning = meaning} {left = left} {r = r} {r' = r'} {pending = pending} {whole = whole} {es = es} {fs = fs} p end says count plays =
     let counted = p.count in
     IfSome-end (left r) (left r') (whole ++ pending) _ p.taken end (
       es ++ fs,
       omega (arith, length-append es fs),
       record {
         says = p.reads.each pending ∙ ap (adds es) says ∙ adds-adds es fs nothing;
-        plays = Plays-kept (Plays-trans p.plays plays) kept;
-      },
-    )
-
-pub Running-done_unsent : {D M R W : Type 0} {meaning : Meaning} {stands : D → List Event → M → Type 0} {out : D → List Event → Event → List ℕ}
-    {left : R → Option (List ℕ)} {written : W → Option (List ℕ)} {m m' m'' : M} {r r' : R} {w w' w'' : W} {lines events n : ℕ} {pending whole : List ℕ} {es fs : List Event}
-    (w3 : W)
-    → Running meaning stands out left written m m' r r' w w' lines events pending whole es → IsAtEnd (left r')
-    → reading meaning lines (lines_of pending) ≡ adds fs nothing → n ≡ events + length fs → Plays stands out written m' m'' w' w'' fs → Keeps (written w'') (written w3) → 0 < n
-    → IfSome (left r) (λ script. (es : List Event) × (e : Event) × (others : Reading) × BreaksAt meaning stands out written m m'' w w3 script es e others)
-Running-done_unsent {meaning = meaning} {stands = stands} {out = out} {left = left} {written = written} {m = m} {m'' = m''} {r = r} {r' = r'} {w = w} {pending = pending} {whole = whole} {es = es} {fs = fs} w3 p end says count plays kept some =
-    let counted = p.count in
-    let many : 0 < length (es ++ fs) = omega (arith, length-append es fs) in
-    let l = last_of (es ++ fs) many in
-    IfSome-end (left r) (left r') (whole ++ pending) _ p.taken end (
-      l.0,
-      l.1,
-      nothing,
-      record {
-        says = p.reads.each pending ∙ ap (adds es) says ∙ adds-adds es fs nothing ∙ ap (λ x. adds x nothing) l.2;
-        plays = Plays-last l.0 l.1 (subst (Plays stands out written m m'' w w3) l.2 (Plays-kept (Plays-trans p.plays plays) kept));
+        plays = Plays-trans p.plays plays;
       },
     )
 
 pub Running-last_refused : {D M R W : Type 0} {meaning : Meaning} {stands : D → List Event → M → Type 0} {out : D → List Event → Event → List ℕ}
-    {left : R → Option (List ℕ)} {written : W → Option (List ℕ)} {m m' m'' : M} {r r' : R} {w w' w'' : W} {lines events : ℕ} {pending whole : List ℕ} {es : List Event} {f : RunFault}
+    {left : R → Option (List ℕ)} {written : W → Option (List ℕ)} {m m' m'' : M} {r r' : R} {w w' w'' : W} {lines events n : ℕ} {pending whole : List ℕ} {es : List Event} {f : RunFault}
     → Running meaning stands out left written m m' r r' w w' lines events pending whole es → IsAtEnd (left r')
-    → reading meaning lines (lines_of pending) ≡ stops f → Plays stands out written m' m'' w' w'' []
-    → IfSome (left r) (λ script. (es : List Event) × RunsTo meaning stands out written m m'' w w'' script es (stops f))
-Running-last_refused {meaning = meaning} {left = left} {r = r} {r' = r'} {pending = pending} {whole = whole} {es = es} {f = f} p end says plays =
+    → reading meaning lines (lines_of pending) ≡ stops f → n ≡ events → Plays stands out written m' m'' w' w'' []
+    → IfSome (left r) (λ script. (es : List Event) × (n ≡ length es) × RunsTo meaning stands out written m m'' w w'' script es (stops f))
+Running-last_refused {meaning = meaning} {left = left} {r = r} {r' = r'} {pending = pending} {whole = whole} {es = es} {f = f} p end says count plays =
     IfSome-end (left r) (left r') (whole ++ pending) _ p.taken end
-    (es ++ [], record { says = p.reads.each pending ∙ ap (adds es) says ∙ adds-adds es [] (stops f); plays = Plays-trans p.plays plays })
+    (es ++ [], count ∙ p.count ∙ ap length (sym (append-nil es)), record { says = p.reads.each pending ∙ ap (adds es) says ∙ adds-adds es [] (stops f); plays = Plays-trans p.plays plays })
 
 pub Running-last_broken : {D M R W : Type 0} {meaning : Meaning} {stands : D → List Event → M → Type 0} {out : D → List Event → Event → List ℕ}
     {left : R → Option (List ℕ)} {written : W → Option (List ℕ)} {m m' m'' : M} {r r' : R} {w w' w'' : W} {lines events : ℕ} {pending whole : List ℕ} {es : List Event} {e : Event}
@@ -324,3 +307,27 @@ pub BreaksAt-kept : {D M W : Type 0} {meaning : Meaning} {stands : D → List Ev
     {m m' : M} {w w' w'' : W} {text : List ℕ} {es : List Event} {e : Event} {r : Reading} → Keeps (written w') (written w'')
     → BreaksAt meaning stands out written m m' w w' text es e r → BreaksAt meaning stands out written m m' w w'' text es e r
 BreaksAt-kept k p = record { says = p.says; plays = PlaysPart-kept p.plays k }
+
+-- what was played can't be handed on
+pub RunsTo-unsent : {D M W : Type 0} {meaning : Meaning} {stands : D → List Event → M → Type 0} {out : D → List Event → Event → List ℕ} {written : W → Option (List ℕ)}
+    {m m' : M} {w w' w'' : W} {text : List ℕ} {es : List Event} {r : Reading} {n : ℕ} → 0 < n → n ≡ length es → Keeps (written w') (written w'')
+    → RunsTo meaning stands out written m m' w w' text es r
+    → (es : List Event) × (e : Event) × (others : Reading) × BreaksAt meaning stands out written m m' w w'' text es e others
+RunsTo-unsent {stands = stands} {out = out} {written = written} {m = m} {m' = m'} {w = w} {w'' = w''} {es = es} {r = r} some count k p =
+    let l = last_of es (subst (λ n. 0 < n) count some) in (
+      l.0,
+      l.1,
+      r,
+      record {
+        says = p.says ∙ ap (λ x. adds x r) l.2;
+        plays = Plays-last l.0 l.1 (subst (Plays stands out written m m' w w'') l.2 (Plays-kept p.plays k));
+      },
+    )
+
+-- a fault of the script comes with the fact of the script
+pub ByFault-script : (S R W : Type 0) (f : RunFault) → is_of_script f ≡ true → ByFault f S R W → S
+ByFault-script S R W (Line n) is x = x
+ByFault-script S R W (LongLine n) is x = x
+ByFault-script S R W TooLong is x = x
+ByFault-script S R W Read is x = absurd (search rules)
+ByFault-script S R W Write is x = absurd (search rules)

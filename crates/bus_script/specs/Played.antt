@@ -1,11 +1,14 @@
--- What the terminal and a sink have done.
-use Rattle.std.specs.Prelude.{ℕ, Bool, List, Option}
+-- What the terminal and a sink have done, and how a run ended.
+use Rattle.std.specs.Prelude.{ℕ, ◌≡◌, Bool, List, ◌++◌, length, Option, IfSome}
+use Rattle.std.specs.Io.KnownBytes.{Consumes}
 use Rattle.bus_word.specs.declared.cell.Cell.{Cell}
 use Rattle.terminal_rules.specs.declared.event.Event.{Event}
 use Rattle.bus_terminal.specs.declared.terminal.Terminal.{Terminal}
 use Rattle.bus_terminal.specs.Stands.{StandsAt}
-use Rattle.bus_script.specs.Reading.{Reading}
+use Rattle.bus_script.specs.declared.fault.RunFault.{RunFault}
+use Rattle.bus_script.specs.Reading.{Reading, stops, nothing, ByFault}
 use Rattle.bus_script.specs.Line.{meaning}
+use Rattle.bus_script.specs.Text.{NoLineFeed, EndsLine}
 use Rattle.bus_script.specs.Transcript.{text_at}
 use Rattle.bus_script.specs.Playing.{Plays, PlaysPart, RunsTo, BreaksAt}
 
@@ -24,3 +27,27 @@ Ran is_legal written t t' w w' text es r = RunsTo meaning (StandsAt is_legal) te
 -- the text says these events, one more and then r; of the last one's text a part was written
 abbrev pub Broke : {L W : Type 0} → (L → Cell → Bool) → (W → Option (List ℕ)) → Terminal L → Terminal L → W → W → List ℕ → List Event → Event → Reading → Type 0
 Broke is_legal written t t' w w' text es e r = BreaksAt meaning (StandsAt is_legal) text_at written t t' w w' text es e r
+
+-- where a reader that told `left` told the script: it has no fault and n events, and just these were played
+abbrev pub Completed : {L W : Type 0} → (L → Cell → Bool) → (W → Option (List ℕ)) → Terminal L → Terminal L → W → W → Option (List ℕ) → ℕ → Type 0
+Completed is_legal written t t' w w' left n = IfSome left (λ script. (es : List Event) × (n ≡ length es)
+    × Ran is_legal written t t' w w' script es nothing)
+
+-- of what was read, `left` before and `left'` after, the whole lines have no fault, and just their events were played
+abbrev pub StoppedReading : {L W : Type 0} → (L → Cell → Bool) → (W → Option (List ℕ)) → Terminal L → Terminal L → W → W → Option (List ℕ) → Option (List ℕ) → Type 0
+StoppedReading is_legal written t t' w w' left left' = (es : List Event) × (whole : List ℕ) × (part : List ℕ)
+    × Consumes left left' (whole ++ part) × EndsLine whole × NoLineFeed part
+    × Ran is_legal written t t' w w' whole es nothing
+
+-- the script says some events, one more and then others; of that one's text a part was written
+abbrev pub StoppedWriting : {L W : Type 0} → (L → Cell → Bool) → (W → Option (List ℕ)) → Terminal L → Terminal L → W → W → List ℕ → Type 0
+StoppedWriting is_legal written t t' w w' script = (es : List Event) × (e : Event) × (others : Reading)
+    × Broke is_legal written t t' w w' script es e others
+
+-- Where a reader told the script, why it was not run to its end: its fault, and just the events before that were
+-- played; or a read or a write that failed.
+abbrev pub Stopped : {L W : Type 0} → (L → Cell → Bool) → (W → Option (List ℕ)) → Terminal L → Terminal L → W → W → Option (List ℕ) → Option (List ℕ) → RunFault → Type 0
+Stopped is_legal written t t' w w' left left' f = IfSome left (λ script. ByFault f
+    ((es : List Event) × Ran is_legal written t t' w w' script es (stops f))
+    (StoppedReading is_legal written t t' w w' left left')
+    (StoppedWriting is_legal written t t' w w' script))

@@ -1,7 +1,7 @@
 //! The next line of a piece of a script.
 ghost use Rattle.std.specs.Prelude.{◌≡◌, ◌≢◌, ◌≤◌, ◌<◌, [], ℕ, length, IfOk, IfErr, IfSome, IfNone, MatchOption, slice_index};
 ghost use Rattle.bus_script.specs.Reading.{Meaning, ByFault};
-ghost use Rattle.bus_script.specs.Playing.{Faults, StartsLine, IsRest};
+ghost use Rattle.bus_script.specs.inner.Lines.{Faults, StartsLine, IsRest};
 
 use crate::RunFault;
 

@@ -20,3 +20,34 @@ pub enum RunFault {
     #[error("output: write failed")]
     Write,
 }
+
+impl RunFault {
+    ghost use Rattle.std.specs.Prelude.{◌≡◌};
+    ghost use Rattle.bus_script.specs.Fault.{fault_number, fault_name};
+
+    /// The number of the fault among those of a run, from 1.
+    pub fn number(&self) -> u8
+        ensures { result ≡ fault_number self.now }
+    {
+        match self {
+            RunFault::Line(_) => 1,
+            RunFault::LongLine(_) => 2,
+            RunFault::TooLong => 3,
+            RunFault::Read => 4,
+            RunFault::Write => 5,
+        }
+    }
+
+    /// The name of the fault.
+    pub fn name(&self) -> &'static str
+        ensures { result.now ≡ fault_name self.now }
+    {
+        match self {
+            RunFault::Line(_) => "Line",
+            RunFault::LongLine(_) => "LongLine",
+            RunFault::TooLong => "TooLong",
+            RunFault::Read => "Read",
+            RunFault::Write => "Write",
+        }
+    }
+}

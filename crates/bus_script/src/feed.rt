@@ -1,11 +1,12 @@
 //! The whole lines of a piece of a script are played.
-ghost use Rattle.std.specs.Prelude.{◌≡◌, ◌≤◌, ◌∷◌, ◌++◌, [], List, ℕ, true, IfOk, IfErr};
+ghost use Rattle.std.specs.Prelude.{◌≡◌, ◌≤◌, ◌+◌, length, ◌∷◌, ◌++◌, [], List, ℕ, true, IfOk, IfErr};
 ghost use Rattle.terminal_rules.specs.declared.event.Event.{Event};
 ghost use Rattle.bus_script.specs.Line.{meaning};
 ghost use Rattle.bus_script.specs.Reading.{ByFault};
 ghost use Rattle.bus_terminal.specs.Stands.{StandsAt};
 ghost use Rattle.bus_script.specs.Transcript.{text_at};
-ghost use Rattle.bus_script.specs.Playing.{Faults, Reads, Feeds};
+ghost use Rattle.bus_script.specs.inner.Lines.{Faults, Reads};
+ghost use Rattle.bus_script.specs.inner.Feeding.{Feeds};
 ghost use Rattle.bus_script.specs.Played.{Played, PlayedPart};
 
 use crate::chunk::next_line;
@@ -14,9 +15,9 @@ use crate::{RunFault, Sink};
 use bus_legal::Legality;
 use bus_terminal::Terminal;
 
-/// How many lines and events there were.
+/// How many lines and how many events were played.
 #[derive(Clone, Copy)]
-pub struct Place {
+pub struct Counts {
     pub lines: u64,
     pub events: u64,
 }
@@ -25,33 +26,33 @@ pub struct Place {
 pub fn feed_lines<L: Legality, W: Sink>(
     terminal: &mut Terminal<L>,
     writer: &mut W,
-    place: &mut Place,
+    counts: &mut Counts,
     chunk: &[u8],
 ) -> Result<usize, RunFault>
-    requires most { place.old.lines ≤ 1048576 }
-    requires few { place.old.events ≤ place.old.lines }
+    requires most { counts.old.lines ≤ 1048576 }
+    requires few { counts.old.events ≤ counts.old.lines }
     ensures ok { IfOk result (λ done. (es : List Event) × Feeds meaning (StandsAt L.is_legal) text_at W.written terminal.old terminal.new writer.old writer.new
-        place.old.lines place.old.events place.new.lines place.new.events chunk.now done es) }
+        counts.old.lines counts.old.events counts.new.lines counts.new.events chunk.now done es) }
     ensures fault { IfErr result (λ f. ByFault f
-        ((es : List Event) × Faults meaning place.old.lines chunk.now es f × Played L.is_legal W.written terminal.old terminal.new writer.old writer.new es)
+        ((es : List Event) × (counts.new.events ≡ counts.old.events + length es) × Faults meaning counts.old.lines chunk.now es f × Played L.is_legal W.written terminal.old terminal.new writer.old writer.new es)
         ⊥
         ((es : List Event) × (e : Event) × (whole : List ℕ) × (rest : List ℕ) × (m : ℕ) × (chunk.now ≡ whole ++ rest)
-        × Reads meaning place.old.lines whole (es ++ e ∷ []) m × (W.has_failed writer.new ≡ true)
+        × Reads meaning counts.old.lines whole (es ++ e ∷ []) m × (W.has_failed writer.new ≡ true)
         × PlayedPart L.is_legal W.written terminal.old terminal.new writer.old writer.new es e)) }
 {
     let mut at = 0;
     'lines: loop {
         let rest = &chunk[at..];
-        let len = match next_line(place.lines, rest) {
+        let len = match next_line(counts.lines, rest) {
             Ok(Some(len)) => len,
             Ok(None) => return Ok(at),
             Err(fault) => return Err(fault),
         };
-        match play_line(terminal, writer, place.lines, &rest[..len]) {
-            Ok(events) => place.events += events,
+        match play_line(terminal, writer, counts.lines, &rest[..len]) {
+            Ok(events) => counts.events += events,
             Err(fault) => return Err(fault),
         }
-        place.lines += 1;
+        counts.lines += 1;
         at += len + 1;
     }
 }

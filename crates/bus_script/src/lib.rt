@@ -13,6 +13,7 @@ mod play;
 mod run;
 mod transcript;
 mod wrapped;
+mod writing;
 
 pub use device::{IoFailed, Sink, Source};
 pub use event_line::write_event;
@@ -22,3 +23,4 @@ pub use memory::{MemorySink, MemorySource};
 pub use run::run_script;
 pub use transcript::write_answer;
 pub use wrapped::{FromRead, FromWrite};
+pub use writing::write_all;

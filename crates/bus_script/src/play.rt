@@ -6,35 +6,16 @@ ghost use Rattle.bus_script.specs.Line.{meaning};
 ghost use Rattle.bus_script.specs.Reading.{ByFault};
 ghost use Rattle.bus_terminal.specs.Answer.{shown_answer, IsSmall};
 ghost use Rattle.bus_script.specs.Transcript.{answer_text, may_be_answered};
-ghost use Rattle.bus_script.specs.Playing.{IsPartWritten, Means, IsRefused};
+ghost use Rattle.bus_script.specs.Device.{IsPartWritten};
+ghost use Rattle.bus_script.specs.inner.Lines.{Means, IsRefused};
 ghost use Rattle.bus_script.specs.Played.{Played, PlayedPart};
 
 use crate::line::read_event;
-use crate::transcript::push_answer;
+use crate::transcript::write_answer;
+use crate::writing::write_all;
 use crate::{IoFailed, RunFault, Sink};
-use arrayvec::ArrayString;
 use bus_legal::Legality;
 use bus_terminal::{Answer, Event, Terminal};
-
-/// Writes all the bytes.
-fn put_all<W: Sink>(writer: &mut W, bytes: &[u8]) -> Result<(), IoFailed>
-    ensures ok { OnOk result (Appends (W.written writer.old) (W.written writer.new) bytes.now) }
-    ensures err { OnErr result (IsPartWritten (W.written writer.old) (W.written writer.new) bytes.now) }
-    ensures failed { OnErr result (W.has_failed writer.new ≡ true) }
-{
-    let mut rest = bytes;
-    while !rest.is_empty() {
-        let count = match writer.write(rest) {
-            Ok(count) => count,
-            Err(_) => return Err(IoFailed),
-        };
-        if count == 0 {
-            return Err(IoFailed);
-        }
-        rest = &rest[count..];
-    }
-    Ok(())
-}
 
 /// Whether an answer has no line.
 fn is_silent(answer: &Answer) -> bool
@@ -50,9 +31,8 @@ fn send<W: Sink>(writer: &mut W, answer: &Answer) -> Result<(), IoFailed>
     ensures err { OnErr result (IsPartWritten (W.written writer.old) (W.written writer.new) (answer_text (shown_answer answer.now))) }
     ensures failed { OnErr result (W.has_failed writer.new ≡ true) }
 {
-    let mut text = ArrayString::new();
-    push_answer(&mut text, answer);
-    put_all(writer, text.as_str().as_bytes())
+    let text = write_answer(answer);
+    write_all(writer, text.as_str().as_bytes())
 }
 
 /// Whether the event is one that may be answered.

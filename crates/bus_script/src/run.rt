@@ -5,10 +5,12 @@ ghost use Rattle.terminal_rules.specs.declared.event.Event.{Event};
 ghost use Rattle.bus_script.specs.Line.{meaning};
 ghost use Rattle.bus_script.specs.Text.{lines_of, NoLineFeed, EndsLine};
 ghost use Rattle.bus_script.specs.Reading.{Reading, reading, adds, stops, nothing, ByFault};
-ghost use Rattle.bus_script.specs.Playing.{IsRest};
-ghost use Rattle.bus_script.specs.Played.{Played, PlayedPart, Ran, Broke};
+ghost use Rattle.bus_script.specs.inner.Lines.{IsRest};
+ghost use Rattle.bus_script.specs.Fault.{is_of_script};
+ghost use Rattle.bus_script.specs.inner.Counted.{StoppedAfter};
+ghost use Rattle.bus_script.specs.Played.{Played, PlayedPart, Completed, Stopped};
 
-use crate::feed::{Place, feed_lines};
+use crate::feed::{Counts, feed_lines};
 use crate::play::play_line;
 use crate::{IoFailed, RunFault, Sink, Source};
 use bus_legal::Legality;
@@ -50,68 +52,59 @@ fn hand_on<W: Sink>(writer: &mut W, events: u64) -> Result<(), IoFailed>
     if events == 0 {
         return Ok(());
     }
-    match writer.flush() {
-        Ok(()) => Ok(()),
-        Err(_) => Err(IoFailed),
-    }
+    writer.flush()
 }
 
-/// Plays a last line that lacks its line feed, and gives the number of all events.
+/// Plays a last line that lacks its line feed, and counts its event.
 fn finish<L: Legality, W: Sink>(
     terminal: &mut Terminal<L>,
     writer: &mut W,
-    place: Place,
+    counts: &mut Counts,
     rest: &[u8],
-) -> Result<u64, RunFault>
-    requires rest { IsRest place.lines rest.now }
-    requires few { place.events ≤ 1048576 }
-    ensures ok { IfOk result (λ n. (es : List Event) × (reading meaning place.lines (lines_of rest.now) ≡ adds es nothing) × (n ≡ place.events + length es)
+) -> Result<(), RunFault>
+    requires rest { IsRest counts.old.lines rest.now }
+    requires few { counts.old.events ≤ 1048576 }
+    ensures ok { OnOk result ((es : List Event) × (reading meaning counts.old.lines (lines_of rest.now) ≡ adds es nothing) × (counts.new.events ≡ counts.old.events + length es)
         × Played L.is_legal W.written terminal.old terminal.new writer.old writer.new es) }
     ensures fault { IfErr result (λ f. ByFault f
-        ((reading meaning place.lines (lines_of rest.now) ≡ stops f) × Played L.is_legal W.written terminal.old terminal.new writer.old writer.new [])
+        ((reading meaning counts.old.lines (lines_of rest.now) ≡ stops f) × (counts.new ≡ counts.old) × Played L.is_legal W.written terminal.old terminal.new writer.old writer.new [])
         ⊥
-        ((e : Event) × (reading meaning place.lines (lines_of rest.now) ≡ adds (e ∷ []) nothing) × (W.has_failed writer.new ≡ true)
+        ((e : Event) × (reading meaning counts.old.lines (lines_of rest.now) ≡ adds (e ∷ []) nothing) × (W.has_failed writer.new ≡ true)
         × PlayedPart L.is_legal W.written terminal.old terminal.new writer.old writer.new [] e)) }
 {
     if rest.is_empty() {
-        return Ok(place.events);
+        return Ok(());
     }
-    match play_line(terminal, writer, place.lines, rest) {
-        Ok(events) => Ok(place.events + events),
+    match play_line(terminal, writer, counts.lines, rest) {
+        Ok(events) => {
+            counts.events += events;
+            Ok(())
+        }
         Err(fault) => Err(fault),
     }
 }
 
-/// Runs a script. Where it ends early, the writer may hold back the end of the transcript.
+/// Plays the lines of a script, and counts the events. The writer may hold back the end of the transcript.
 fn run_lines<L: Legality, R: Source, W: Sink>(
     terminal: &mut Terminal<L>,
     reader: &mut R,
     writer: &mut W,
-) -> Result<u64, RunFault>
+    counts: &mut Counts,
+) -> Result<(), RunFault>
     requires reader { R.has_failed reader.old ≡ false }
     requires writer { W.has_failed writer.old ≡ false }
+    requires lines { counts.old.lines ≡ 0 }
+    requires events { counts.old.events ≡ 0 }
 
     ensures read_failed { IsErrOf result RunFault.Read → R.has_failed reader.new ≡ true }
     ensures write_failed { IsErrOf result RunFault.Write → W.has_failed writer.new ≡ true }
-
-    ensures ok { IfOk result (λ n. IfSome (R.left reader.old) (λ script. (es : List Event) × (n ≡ length es)
-        × Ran L.is_legal W.written terminal.old terminal.new writer.old writer.new script es nothing)) }
-
-    ensures fault { IfErr result (λ f. IfSome (R.left reader.old) (λ script. ByFault f
-        ((es : List Event) × Ran L.is_legal W.written terminal.old terminal.new writer.old writer.new script es (stops f))
-        ((es : List Event) × (whole : List ℕ) × (part : List ℕ) × Consumes (R.left reader.old) (R.left reader.new) (whole ++ part) × EndsLine whole × NoLineFeed part
-        × Ran L.is_legal W.written terminal.old terminal.new writer.old writer.new whole es nothing)
-        ((es : List Event) × (e : Event) × (others : Reading)
-        × Broke L.is_legal W.written terminal.old terminal.new writer.old writer.new script es e others))) }
+    ensures ok { OnOk result (Completed L.is_legal W.written terminal.old terminal.new writer.old writer.new (R.left reader.old) counts.new.events) }
+    ensures fault { IfErr result (StoppedAfter L.is_legal W.written terminal.old terminal.new writer.old writer.new (R.left reader.old) (R.left reader.new) counts.new.events) }
 {
     let mut buffer = [0u8; BLOCK];
-    let mut place = Place {
-        lines: 0,
-        events: 0,
-    };
     let mut held = 0;
     'reads: loop {
-        match hand_on(writer, place.events) {
+        match hand_on(writer, counts.events) {
             Ok(()) => {}
             Err(_) => return Err(RunFault::Write),
         }
@@ -123,24 +116,30 @@ fn run_lines<L: Legality, R: Source, W: Sink>(
             break 'reads;
         }
         let total = held + count;
-        let done = match feed_lines(terminal, writer, &mut place, &buffer[..total]) {
+        let done = match feed_lines(terminal, writer, counts, &buffer[..total]) {
             Ok(done) => done,
             Err(fault) => return Err(fault),
         };
         keep(&mut buffer, done, total);
         held = total - done;
     }
-    let events = match finish(terminal, writer, place, &buffer[..held]) {
-        Ok(events) => events,
-        Err(fault) => return Err(fault),
-    };
-    match hand_on(writer, events) {
-        Ok(()) => Ok(events),
-        Err(_) => Err(RunFault::Write),
+    finish(terminal, writer, counts, &buffer[..held])
+}
+
+/// Says whether the script has the fault, and no device.
+fn is_of_script(fault: &RunFault) -> bool
+    ensures { result ≡ is_of_script fault.now }
+{
+    match fault {
+        RunFault::Line(_) | RunFault::LongLine(_) | RunFault::TooLong => true,
+        RunFault::Read | RunFault::Write => false,
     }
 }
 
-/// Runs a script and writes its transcript, and gives the number of its events.
+/// Runs a script and writes its transcript, and gives the number of its events. Where there are events, what the
+/// writer holds back is handed on before each read that follows one, at the end of the script, and where a line is
+/// refused; where that fails, the answer is `Write`. Without events the writer is left as it was, with what a
+/// caller had put into it.
 pub fn run_script<L: Legality, R: Source, W: Sink>(
     terminal: &mut Terminal<L>,
     reader: &mut R,
@@ -151,18 +150,26 @@ pub fn run_script<L: Legality, R: Source, W: Sink>(
 
     ensures read_failed { IsErrOf result RunFault.Read → R.has_failed reader.new ≡ true }
     ensures write_failed { IsErrOf result RunFault.Write → W.has_failed writer.new ≡ true }
-
-    ensures ok { IfOk result (λ n. IfSome (R.left reader.old) (λ script. (es : List Event) × (n ≡ length es)
-        × Ran L.is_legal W.written terminal.old terminal.new writer.old writer.new script es nothing)) }
-
-    ensures fault { IfErr result (λ f. IfSome (R.left reader.old) (λ script. ByFault f
-        ((es : List Event) × Ran L.is_legal W.written terminal.old terminal.new writer.old writer.new script es (stops f))
-        ((es : List Event) × (whole : List ℕ) × (part : List ℕ) × Consumes (R.left reader.old) (R.left reader.new) (whole ++ part) × EndsLine whole × NoLineFeed part
-        × Ran L.is_legal W.written terminal.old terminal.new writer.old writer.new whole es nothing)
-        ((es : List Event) × (e : Event) × (others : Reading)
-        × Broke L.is_legal W.written terminal.old terminal.new writer.old writer.new script es e others))) }
+    ensures ok { IfOk result (Completed L.is_legal W.written terminal.old terminal.new writer.old writer.new (R.left reader.old)) }
+    ensures fault { IfErr result (Stopped L.is_legal W.written terminal.old terminal.new writer.old writer.new (R.left reader.old) (R.left reader.new)) }
 {
-    let result = run_lines(terminal, reader, writer);
-    let _ = writer.flush();
-    result
+    let mut counts = Counts {
+        lines: 0,
+        events: 0,
+    };
+    match run_lines(terminal, reader, writer, &mut counts) {
+        Ok(()) => match hand_on(writer, counts.events) {
+            Ok(()) => Ok(counts.events),
+            Err(_) => Err(RunFault::Write),
+        },
+        Err(fault) => {
+            if !is_of_script(&fault) {
+                return Err(fault);
+            }
+            match hand_on(writer, counts.events) {
+                Ok(()) => Err(fault),
+                Err(_) => Err(RunFault::Write),
+            }
+        }
+    }
 }

@@ -1,13 +1,53 @@
-//! A source and a sink over std's readers and writers, which tell no bytes.
-ghost use Rattle.std.specs.Prelude.{◌≡◌, ◌≤◌, ◌<◌, None, length, not, is_ok, ◌||◌, false};
+//! A source and a sink over std's readers and writers, which tell the bytes that those tell.
+ghost use Rattle.std.specs.Prelude.{◌≡◌, ◌≤◌, ◌+◌, [], length, drop, not, is_ok, ◌||◌, false, Ok, IfOk, OnOk};
+ghost use Rattle.std.specs.Io.KnownBytes.{Keeps, Appends, ReadConsumes, WriteAppends, append_known};
 
+use crate::writing::write_front;
 use crate::{IoFailed, Sink, Source};
-use std::io::{Read, Write};
+use arrayvec::ArrayVec;
+use std::io::{ErrorKind, Read, Write};
 
 /// How many bytes a `FromWrite` holds back at most.
 const HELD: usize = 8192;
 
-/// Gives what a reader gives: a file, or the standard input.
+/// Reads once. A read that was interrupted is tried again.
+fn read_once<R: Read>(reader: &mut R, out: &mut [u8]) -> Result<usize, IoFailed>
+    ensures count { IfOk result (λ n. n ≤ length out.new) }
+    ensures bytes { ReadConsumes (R.remaining reader.old) (R.remaining reader.new) result out.new }
+{
+    for _ in 0..u64::MAX {
+        match reader.read(out) {
+            Ok(count) => return Ok(count),
+            Err(error) => {
+                if error.kind() != ErrorKind::Interrupted {
+                    return Err(IoFailed);
+                }
+            }
+        }
+    }
+    Err(IoFailed)
+}
+
+/// Writes once. A write that was interrupted is tried again.
+fn write_once<W: Write>(writer: &mut W, bytes: &[u8]) -> Result<usize, IoFailed>
+    ensures count { IfOk result (λ n. n ≤ length bytes.now) }
+    ensures bytes { WriteAppends (W.contents writer.old) (W.contents writer.new) result bytes.now }
+{
+    for _ in 0..u64::MAX {
+        match writer.write(bytes) {
+            Ok(count) => return Ok(count),
+            Err(error) => {
+                if error.kind() != ErrorKind::Interrupted {
+                    return Err(IoFailed);
+                }
+            }
+        }
+    }
+    Err(IoFailed)
+}
+
+/// Gives what a reader gives: a file, the standard input, or bytes in memory. A read that was interrupted is
+/// tried again.
 #[derive(Drop)]
 pub struct FromRead<R: Read + Drop> {
     reader: R,
@@ -17,7 +57,8 @@ pub struct FromRead<R: Read + Drop> {
 impl<R: Read + Drop> FromRead<R> {
     /// Over this reader, which needs no buffer of its own.
     pub fn new(reader: R) -> Self
-        ensures { ⟦<FromRead<R> as Source>⟧.has_failed result ≡ false }
+        ensures left { ⟦<FromRead<R> as Source>⟧.left result ≡ R.remaining reader }
+        ensures fresh { ⟦<FromRead<R> as Source>⟧.has_failed result ≡ false }
     {
         FromRead {
             reader,
@@ -27,18 +68,16 @@ impl<R: Read + Drop> FromRead<R> {
 }
 
 impl<R: Read + Drop> Source for FromRead<R> {
-    ghost left = { λ _. None };
+    ghost left = { λ s. R.remaining s.reader };
 
     ghost has_failed = { λ s. s.failed };
 
     fn read(&mut self, out: &mut [u8]) -> Result<usize, IoFailed> {
-        match self.reader.read(out) {
-            Ok(count) => Ok(count),
-            Err(_) => {
-                self.failed = true;
-                Err(IoFailed)
-            }
+        let result = read_once(&mut self.reader, out);
+        if result.is_err() {
+            self.failed = true;
         }
+        result
     }
 
     fn failed(&self) -> bool {
@@ -46,88 +85,27 @@ impl<R: Read + Drop> Source for FromRead<R> {
     }
 }
 
-/// Hands on to a writer, a file or the standard output, in blocks: what is written is held back
-/// until there are 8,192 bytes, or until a flush.
+/// Gives a writer what is written, at once.
 #[derive(Drop)]
-pub struct FromWrite<W: Write + Drop> {
+struct Direct<W: Write + Drop> {
     writer: W,
-    held: [u8; HELD],
-    len: usize,
     failed: bool,
-    ghost within: { len ≤ 8192 },
 }
 
-impl<W: Write + Drop> FromWrite<W> {
-    /// Over this writer, which needs no buffer of its own. What is held back when the value is
-    /// dropped is lost: flush first.
-    pub fn new(writer: W) -> Self
-        ensures { ⟦<FromWrite<W> as Sink>⟧.has_failed result ≡ false }
-    {
-        FromWrite {
-            writer,
-            held: [0; HELD],
-            len: 0,
-            failed: false,
-        }
-    }
-
-    /// Writes out what is held back.
-    fn drain(&mut self) -> Result<(), IoFailed>
-        ensures failed { self.new.failed ≡ (self.old.failed || not (is_ok result)) }
-    {
-        let len = self.len;
-        self.len = 0;
-        if write_whole(&mut self.writer, &self.held[..len]).is_err() {
-            self.failed = true;
-            return Err(IoFailed);
-        }
-        Ok(())
-    }
-
-    /// Writes out bytes that would not fit into what is held back.
-    fn write_out(&mut self, bytes: &[u8]) -> Result<(), IoFailed>
-        ensures failed { self.new.failed ≡ (self.old.failed || not (is_ok result)) }
-    {
-        if write_whole(&mut self.writer, bytes).is_err() {
-            self.failed = true;
-            return Err(IoFailed);
-        }
-        Ok(())
-    }
-}
-
-/// Writes all the bytes. An error is not tried again.
-fn write_whole<W: Write>(writer: &mut W, bytes: &[u8]) -> Result<(), IoFailed> {
-    let mut rest = bytes;
-    while !rest.is_empty() {
-        match writer.write(rest) {
-            Ok(0) | Err(_) => return Err(IoFailed),
-            Ok(count) => rest = &rest[count..],
-        }
-    }
-    Ok(())
-}
-
-impl<W: Write + Drop> Sink for FromWrite<W> {
-    ghost written = { λ _. None };
+impl<W: Write + Drop> Sink for Direct<W> {
+    ghost written = { λ s. W.contents s.writer };
 
     ghost has_failed = { λ s. s.failed };
 
     fn write(&mut self, bytes: &[u8]) -> Result<usize, IoFailed> {
-        if bytes.len() > HELD - self.len {
-            self.drain()?;
+        let result = write_once(&mut self.writer, bytes);
+        if result.is_err() || (result == Ok(0) && !bytes.is_empty()) {
+            self.failed = true;
         }
-        if bytes.len() > HELD - self.len {
-            self.write_out(bytes)?;
-            return Ok(bytes.len());
-        }
-        self.held[self.len..self.len + bytes.len()].copy_from_slice(bytes);
-        self.len += bytes.len();
-        Ok(bytes.len())
+        result
     }
 
     fn flush(&mut self) -> Result<(), IoFailed> {
-        self.drain()?;
         if self.writer.flush().is_err() {
             self.failed = true;
             return Err(IoFailed);
@@ -137,5 +115,93 @@ impl<W: Write + Drop> Sink for FromWrite<W> {
 
     fn failed(&self) -> bool {
         self.failed
+    }
+}
+
+/// Hands on to a writer, a file, the standard output or bytes in memory, in blocks: what is written is held back
+/// until there are 8,192 bytes, or until a flush. A write that was interrupted is tried again. After a failure nothing
+/// is written any more.
+#[derive(Drop)]
+pub struct FromWrite<W: Write + Drop> {
+    sink: Direct<W>,
+    held: ArrayVec<u8, HELD>,
+    /// How many of the held bytes the writer has taken: none, where no write has failed.
+    taken: usize,
+    ghost within: { taken ≤ length held.items },
+}
+
+impl<W: Write + Drop> FromWrite<W> {
+    /// Over this writer, which needs no buffer of its own. What is held back when the value is
+    /// dropped is lost: flush first.
+    pub fn new(writer: W) -> Self
+        ensures written { ⟦<FromWrite<W> as Sink>⟧.written result ≡ W.contents writer }
+        ensures fresh { ⟦<FromWrite<W> as Sink>⟧.has_failed result ≡ false }
+    {
+        FromWrite {
+            sink: Direct {
+                writer,
+                failed: false,
+            },
+            held: ArrayVec::new(),
+            taken: 0,
+        }
+    }
+
+    /// Writes out what is held back, where no write has failed.
+    fn drain(&mut self) -> Result<(), IoFailed>
+        ensures bytes { Keeps (⟦<FromWrite<W> as Sink>⟧.written self.old) (⟦<FromWrite<W> as Sink>⟧.written self.new) }
+        ensures empty { OnOk result (self.new.held.items ≡ []) }
+        ensures failed { self.new.sink.failed ≡ (self.old.sink.failed || not (is_ok result)) }
+    {
+        if self.sink.failed {
+            return Err(IoFailed);
+        }
+        self.taken += write_front(&mut self.sink, &self.held.as_slice()[self.taken..]);
+        if self.taken < self.held.len() {
+            return Err(IoFailed);
+        }
+        self.held.clear();
+        self.taken = 0;
+        Ok(())
+    }
+
+    /// Holds back bytes for which there is room.
+    fn hold(&mut self, bytes: &[u8]) -> Result<usize, IoFailed>
+        requires { length self.old.held.items + length bytes.now ≤ 8192 }
+        ensures all { result ≡ Ok (length bytes.now) }
+        ensures bytes { Appends (⟦<FromWrite<W> as Sink>⟧.written self.old) (⟦<FromWrite<W> as Sink>⟧.written self.new) bytes.now }
+        ensures failed { self.new.sink.failed ≡ self.old.sink.failed }
+    {
+        let _ = self.held.try_extend_from_slice(bytes);
+        Ok(bytes.len())
+    }
+}
+
+impl<W: Write + Drop> Sink for FromWrite<W> {
+    ghost written = { λ s. append_known (W.contents s.sink.writer) (drop s.taken s.held.items) };
+
+    ghost has_failed = { λ s. s.sink.failed };
+
+    fn write(&mut self, bytes: &[u8]) -> Result<usize, IoFailed> {
+        if self.sink.failed {
+            return Err(IoFailed);
+        }
+        if bytes.len() <= self.held.remaining_capacity() {
+            return self.hold(bytes);
+        }
+        self.drain()?;
+        if bytes.len() > HELD {
+            return self.sink.write(bytes);
+        }
+        self.hold(bytes)
+    }
+
+    fn flush(&mut self) -> Result<(), IoFailed> {
+        self.drain()?;
+        self.sink.flush()
+    }
+
+    fn failed(&self) -> bool {
+        self.sink.failed
     }
 }

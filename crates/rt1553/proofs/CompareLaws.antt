@@ -12,24 +12,24 @@ use Rattle.terminal_exchanges.proofs.Distinguish.Apart.{apart-reach}
 use Rattle.bus_canon.specs.Canon.{Text}
 use Rattle.bus_canon.specs.declared.difference.Difference.{Difference}
 use Rattle.bus_canon.specs.Difference.{IsFirstDifference, script_for}
-use Rattle.bus_canon.proofs.CanonLaws.{written_normal, written_value_one, text_one}
+use Rattle.bus_canon.proofs.CanonLaws.{normal_text, written_normal, written_value_one, text_one}
 use Rattle.bus_canon.proofs.SameLaws.{equal_where_same}
 use Rattle.rt1553.specs.Load.{Of, Reaches}
 use Rattle.rt1553.specs.Canon.{IsCanon}
-use Rattle.rt1553.specs.Compare.{HaveSameCanon, AreSame, AreDifferent, Headline}
-use Rattle.rt1553.proofs.LoadLaws.{one_description, one_value}
+use Rattle.rt1553.specs.Compare.{AreSame, AreDifferent, Headline}
+use Rattle.rt1553.proofs.LoadLaws.{one_description}
 
--- the canonical bytes of a text are the text of what can be reached of it
-canon_of : (text bytes : List ℕ) (v : Parts) → IsNormal v → Reaches text v → IsCanon text bytes → Text v bytes
-canon_of text bytes v normal p c = subst (λ w. Text w bytes) (one_value text c.value v (written_normal c.value bytes c.means) normal c.reaches p) c.means
+-- ---- an accepted text has canonical bytes: the text of what can be reached of it
 
-pub same_canon : (first second : List ℕ) (v : Parts) → IsNormal v → Reaches first v → Reaches second v → HaveSameCanon first second
-same_canon first second v normal p q a b c d = text_one v a b (canon_of first a v normal p c) (canon_of second b v normal q d)
+abbrev bytes_of : (v : Parts) → IsNormal v → List ℕ
+bytes_of v normal = (normal_text v normal).0
 
-pub other_canon : (first second : List ℕ) (v w : Parts) → IsNormal v → IsNormal w → Reaches first v → Reaches second w → v ≢ w
-    → (a b : List ℕ) → IsCanon first a → IsCanon second b → a ≢ b
-other_canon first second v w normal normal' p q other a b c d e =
-    other (written_value_one v w b (subst (Text v) e (canon_of first a v normal p c)) (canon_of second b w normal' q d))
+canon_of : (text : List ℕ) (v : Parts) (normal : IsNormal v) → Reaches text v → IsCanon text (bytes_of v normal)
+canon_of text v normal p = record { value = v; reaches = p; means = (normal_text v normal).1 }
+
+other_bytes : (v w : Parts) (normal : IsNormal v) (normal' : IsNormal w) → v ≢ w → bytes_of v normal ≢ bytes_of w normal'
+other_bytes v w normal normal' other e =
+    other (written_value_one v w (bytes_of w normal') (subst (Text v) e (normal_text v normal).1) (normal_text w normal').1)
 
 -- the address of an accepted text's terminal
 pub own_address : (text : List ℕ) (v : Parts) → IsNormal v → (p : Reaches text v) → p.description.address ≤ 30
@@ -47,7 +47,9 @@ are_same first second v normal p q = record {
   q = q.description;
   of_first = p.of;
   of_second = q.of;
-  canonical = same_canon first second v normal p q;
+  bytes = bytes_of v normal;
+  canon_first = canon_of first v normal p;
+  canon_second = canon_of second v normal q;
   same = same_terminals first second v normal p q;
 }
 
@@ -64,7 +66,11 @@ are_different first second v w script normal normal' p q f t = record {
   q = q.description;
   of_first = p.of;
   of_second = q.of;
-  canonical = other_canon first second v w normal normal' p q (λ e. t.differ (ap (λ x. outs (description_in x) script) e));
+  first_bytes = bytes_of v normal;
+  second_bytes = bytes_of w normal';
+  canon_first = canon_of first v normal p;
+  canon_second = canon_of second w normal' q;
+  canonical = other_bytes v w normal normal' (λ e. t.differ (ap (λ x. outs (description_in x) script) e));
   difference = f.0;
   first_difference = of_reached (λ A B. IsFirstDifference A B f.0) v w p.description q.description p.reached q.reached f.1;
   shows = f.2 ∙ (λ j. script_for (p.reached j) (q.reached j) f.0);

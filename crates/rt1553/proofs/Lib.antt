@@ -1,3 +1,4 @@
 pub mod LoadLaws
 pub mod CompareLaws
 pub mod EngineLaws
+pub mod OneLineLaws

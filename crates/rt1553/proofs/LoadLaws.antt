@@ -5,18 +5,20 @@ use Rattle.std.proofs.lemmas.Bool.{eqb-true}
 use Rattle.line_format.specs.Shapes.{number_line}
 use Rattle.line_format.proofs.OneText.{parted, number_one, number_value, number_fits}
 use Rattle.line_format.proofs.Writes.{number_text, number_spelled}
-use Rattle.bus_profile.specs.Read.{IsTree}
+use Rattle.bus_profile.specs.declared.profile.Profile.{Profile}
+use Rattle.bus_profile.specs.Read.{IsTree, Accepts}
 use Rattle.bus_profile.specs.Plain.{profile_of}
 use Rattle.bus_legal.specs.Description.{Description}
+use Rattle.bus_legal.specs.Meaning.{description_of}
 use Rattle.bus_legal.specs.Parts.{Parts, description_in, IsNormal}
 use Rattle.bus_legal.specs.Reach.{reach}
 use Rattle.bus_legal.proofs.NormalLaws.{reach-normal}
 use Rattle.bus_legal.proofs.SameNormals.{same_normals}
 use Rattle.bus_legal.proofs.PlainLaws.{described_alike}
 use Rattle.bus_canon.specs.Canon.{version_field, is_read, canon, Text, AnyText}
-use Rattle.bus_canon.proofs.CanonLaws.{text_read, text_normal, written_normal, value_one, text_one}
+use Rattle.bus_canon.proofs.CanonLaws.{text_read, text_normal, normal_text, written_normal, value_one, text_one}
 use Rattle.rt1553.specs.Load.{is_canon_text, OfBy, Reaches}
-use Rattle.rt1553.specs.Canon.{CanonIsItsOwn, OneCanon, OneDescription}
+use Rattle.rt1553.specs.Canon.{CanonIsItsOwn, OneCanon, OneDescription, HasCanon, CanonTextsHaveCanon}
 
 -- ---- a canonical text begins as such
 
@@ -77,3 +79,18 @@ pub one_canon : OneCanon
 one_canon text bytes others p q =
     let same : p.value ≡ q.value = one_value text p.value q.value (written_normal p.value bytes p.means) (written_normal q.value others q.means) p.reaches q.reaches in
     text_one q.value bytes others (subst (λ v. Text v bytes) same p.means) q.means
+
+-- an accepted text has canonical bytes: the text of what can be reached of it
+pub has_canon : (text : List ℕ) (v : Parts) → IsNormal v → Reaches text v → HasCanon text
+has_canon text v normal p = let t = normal_text v normal in (t.0, record { value = v; reaches = p; means = t.1 })
+
+pub canon_has_canon : CanonTextsHaveCanon
+canon_has_canon text v means = has_canon text v (text_normal v text means) (canon_reaches v text means)
+
+-- a text that is no canonical text, of this profile
+pub profile_reaches : (text : List ℕ) (p : Profile) (v : Parts) → Accepts text p → is_canon_text text ≡ false → description_in v ≡ reach (description_of p) → Reaches text v
+profile_reaches text p v accepts toml reached = record {
+  description = description_of p;
+  of = subst (λ b. OfBy b text (description_of p)) (sym toml) (record { profile = p; accepts = accepts; gives = refl });
+  reached = reached;
+}

@@ -2,7 +2,7 @@
 use Rattle.std.specs.Prelude.{◌≡◌, ℕ, List}
 use Rattle.bus_legal.specs.Description.{Description}
 use Rattle.bus_legal.specs.Parts.{Parts}
-use Rattle.bus_canon.specs.Canon.{Text}
+use Rattle.bus_canon.specs.Canon.{Text, AnyText}
 use Rattle.rt1553.specs.Load.{Of, Reaches}
 
 -- These bytes are the canonical bytes of the text: it is accepted, and they are the canonical text of what can be
@@ -23,3 +23,11 @@ OneCanon = (text bytes others : List ℕ) → IsCanon text bytes → IsCanon tex
 -- a text is of one description
 abbrev pub OneDescription : Type 0
 OneDescription = (text : List ℕ) (P Q : Description) → Of text P → Of text Q → P ≡ Q
+
+-- the text has canonical bytes
+abbrev pub HasCanon : List ℕ → Type 0
+HasCanon text = (bytes : List ℕ) × IsCanon text bytes
+
+-- each canonical text, of either version, has canonical bytes
+abbrev pub CanonTextsHaveCanon : Type 0
+CanonTextsHaveCanon = (text : List ℕ) (value : Parts) → AnyText value text → HasCanon text

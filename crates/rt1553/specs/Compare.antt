@@ -13,27 +13,29 @@ use Rattle.rt1553.specs.declared.fault.LoadFault.{LoadFault}
 use Rattle.rt1553.specs.Load.{Of, IsNotLoaded}
 use Rattle.rt1553.specs.Canon.{IsCanon}
 
--- both texts have the same canonical bytes
-abbrev pub HaveSameCanon : List ℕ → List ℕ → Type 0
-HaveSameCanon first second = (a b : List ℕ) → IsCanon first a → IsCanon second b → a ≡ b
-
--- both texts are accepted, and their terminals answer alike for ever
+-- both texts are accepted and have these canonical bytes, and their terminals answer alike for ever
 pub record AreSame (first second : List ℕ) : Type 0 where
   pub p : Description
   pub q : Description
   pub of_first : Of first p
   pub of_second : Of second q
-  pub canonical : HaveSameCanon first second
+  pub bytes : List ℕ
+  pub canon_first : IsCanon first bytes
+  pub canon_second : IsCanon second bytes
   pub same : Same p q
 
--- Both texts are accepted, and their canonical bytes differ. The script is the one of the first difference between
--- what can be reached of their terminals, and the terminals answer it otherwise.
+-- Both texts are accepted, and these are their canonical bytes, which differ. The script is the one of the first
+-- difference between what can be reached of their terminals, and the terminals answer it otherwise.
 pub record AreDifferent (first second : List ℕ) (script : List Event) : Type 0 where
   pub p : Description
   pub q : Description
   pub of_first : Of first p
   pub of_second : Of second q
-  pub canonical : (a b : List ℕ) → IsCanon first a → IsCanon second b → a ≢ b
+  pub first_bytes : List ℕ
+  pub second_bytes : List ℕ
+  pub canon_first : IsCanon first first_bytes
+  pub canon_second : IsCanon second second_bytes
+  pub canonical : first_bytes ≢ second_bytes
   pub difference : Difference
   pub first_difference : IsFirstDifference (reach p) (reach q) difference
   pub shows : script ≡ script_for (reach p) (reach q) difference

@@ -3,3 +3,5 @@ pub mod Canon
 pub mod Compare
 pub mod Engine
 pub mod Report
+pub mod OneLine
+pub mod Fault

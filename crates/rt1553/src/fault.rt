@@ -18,6 +18,33 @@ pub enum LoadFault {
     Memory,
 }
 
+impl LoadFault {
+    ghost use Rattle.std.specs.Prelude.{◌≡◌};
+    ghost use Rattle.rt1553.specs.Fault.{load_fault_number, load_fault_name};
+
+    /// The number of the fault among those of loading, from 1. The fault inside has one of its own.
+    pub fn number(&self) -> u8
+        ensures { result ≡ load_fault_number self.now }
+    {
+        match self {
+            LoadFault::Profile(_) => 1,
+            LoadFault::Canon(_) => 2,
+            LoadFault::Memory => 3,
+        }
+    }
+
+    /// The name of the fault.
+    pub fn name(&self) -> &'static str
+        ensures { result.now ≡ load_fault_name self.now }
+    {
+        match self {
+            LoadFault::Profile(_) => "Profile",
+            LoadFault::Canon(_) => "Canon",
+            LoadFault::Memory => "Memory",
+        }
+    }
+}
+
 impl From<ProfileFault> for LoadFault {
     ghost use Rattle.std.specs.Prelude.{◌≡◌};
     ghost use Rattle.rt1553.specs.Load.{load_fault};
@@ -41,4 +68,29 @@ pub enum EngineFault {
     /// The script was not run to its end.
     #[error(transparent)]
     Script(RunFault),
+}
+
+impl EngineFault {
+    ghost use Rattle.std.specs.Prelude.{◌≡◌};
+    ghost use Rattle.rt1553.specs.Fault.{engine_fault_number, engine_fault_name};
+
+    /// The number of the fault among those of a run of a profile, from 1. The fault inside has one of its own.
+    pub fn number(&self) -> u8
+        ensures { result ≡ engine_fault_number self.now }
+    {
+        match self {
+            EngineFault::Load(_) => 1,
+            EngineFault::Script(_) => 2,
+        }
+    }
+
+    /// The name of the fault.
+    pub fn name(&self) -> &'static str
+        ensures { result.now ≡ engine_fault_name self.now }
+    {
+        match self {
+            EngineFault::Load(_) => "Load",
+            EngineFault::Script(_) => "Script",
+        }
+    }
 }

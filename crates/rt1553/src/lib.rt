@@ -7,14 +7,18 @@ mod engine;
 mod fault;
 pub mod laws;
 mod loading;
+mod one_line;
 mod report;
 
 pub use bus_canon::{CanonFault, Script};
-pub use bus_legal::Normal;
+pub use bus_legal::{Normal, Setup};
+pub use bus_profile::{Key, Part, ProfileFault};
 pub use bus_script::{
-    FromRead, FromWrite, IoFailed, MemorySink, MemorySource, RunFault, Sink, Source, write_event,
+    FromRead, FromWrite, IoFailed, MemorySink, MemorySource, RunFault, Sink, Source, write_all,
+    write_event,
 };
-pub use bus_terminal::Event;
+pub use bus_terminal::{Answer, Event, Flag, Hand, Sent, Terminal, WordPlace};
+pub use bus_word::{Bus, Kind, Raw};
 pub use comparison::{Verdict, compare};
 pub use engine::run;
 pub use fault::{EngineFault, LoadFault};

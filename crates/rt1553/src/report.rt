@@ -1,7 +1,9 @@
 //! Faults, as a program tells them.
 ghost use Rattle.std.specs.Prelude.{◌≡◌};
+ghost use Rattle.rt1553.specs.OneLine.{IsOneLine};
 ghost use Rattle.rt1553.specs.Report.{status_of};
 
+use crate::one_line::OneLine;
 use crate::{EngineFault, LoadFault, RunFault};
 use arrayvec::ArrayString;
 use std::fmt::Write;
@@ -21,10 +23,11 @@ fn status_of(fault: &EngineFault) -> u8
 
 /// The status that a program ends with and the line that it prints, with its line feed.
 pub fn describe(fault: &EngineFault) -> (u8, ArrayString<128>)
-    ensures { result.0 ≡ status_of fault.now }
+    ensures status { result.0 ≡ status_of fault.now }
+    ensures line { IsOneLine result.1.bytes }
 {
-    let mut line = ArrayString::new();
-    // the longest text is far below 128 bytes
-    let _ = writeln!(line, "{fault}");
-    (status_of(fault), line)
+    let mut text = OneLine::new();
+    // the longest text is far below 127 bytes
+    let _ = write!(text, "{fault}");
+    (status_of(fault), text.ended())
 }

@@ -12,3 +12,12 @@ ends_with (CannotRead name) = 4
 ends_with (TooLarge name) = 4
 ends_with Output = 4
 ends_with (Engine fault) = status_of fault
+
+-- a fault of a file: it can't be read, is too large, or memory was wanting
+abbrev pub IsOfFile : Fault → Type 0
+IsOfFile Memory = Unit {0}
+IsOfFile (CannotRead name) = Unit {0}
+IsOfFile (TooLarge name) = Unit {0}
+IsOfFile Usage = ⊥
+IsOfFile Output = ⊥
+IsOfFile (Engine fault) = ⊥

@@ -10,9 +10,9 @@ pub enum Fault {
     Usage,
     /// Memory was wanting.
     Memory,
-    /// The file of this name can't be opened or read.
+    /// The file of this name, which is escaped, can't be opened or read.
     CannotRead(String),
-    /// The file of this name has more bytes than a profile may have.
+    /// The file of this name, which is escaped, has more bytes than a profile may have.
     TooLarge(String),
     /// The output can't be written.
     Output,
@@ -20,17 +20,18 @@ pub enum Fault {
     Engine(EngineFault),
 }
 
+/// The line that the program prints, with its line feed.
 impl fmt::Display for Fault {
     fn fmt<W: fmt::Write>(&self, f: &mut fmt::Formatter<W>) -> fmt::Result {
         match self {
             Fault::Usage => {
-                f.write_str("usage: rt1553 [check P, canon P, run P SCRIPT, compare P Q]")
+                f.write_str("usage: rt1553 [check P, canon P, run P SCRIPT, compare P Q]\n")
             }
-            Fault::Memory => f.write_str("out of memory"),
-            Fault::CannotRead(name) => write!(f, "file: cannot read {name}"),
-            Fault::TooLarge(name) => write!(f, "file: too large {name}"),
-            Fault::Output => f.write_str("output: write failed"),
-            Fault::Engine(fault) => write!(f, "{fault}"),
+            Fault::Memory => f.write_str("out of memory\n"),
+            Fault::CannotRead(name) => writeln!(f, "file: cannot read {name}"),
+            Fault::TooLarge(name) => writeln!(f, "file: too large {name}"),
+            Fault::Output => f.write_str("output: write failed\n"),
+            Fault::Engine(fault) => f.write_str(describe(fault).1.as_str()),
         }
     }
 }

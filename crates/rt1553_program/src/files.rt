@@ -1,7 +1,9 @@
 //! Files that are read: profiles whole, scripts piece by piece.
-ghost use Rattle.std.specs.Prelude.{◌≤◌, length, IfOk};
+ghost use Rattle.std.specs.Prelude.{◌≡◌, ◌≤◌, ◌<◌, length, IfOk, IfErr, IfSome, MatchOption};
+ghost use Rattle.rt1553_program.specs.Fault.{IsOfFile};
 
 use crate::fault::Fault;
+use std::alloc::Global;
 use std::fs;
 use std::io::{self, ErrorKind, Read};
 use std::rt::Files;
@@ -9,19 +11,23 @@ use std::rt::Files;
 /// How many bytes a profile file may have.
 const MOST: usize = 1_048_576;
 
-/// A name that a fault tells.
-fn owned<R: AllocGlobal>(rt: &R, name: &str) -> Result<String, Fault> {
-    match String::from_str(rt.alloc(), name) {
+/// Gives a name as faults tell it, on one line: with control characters, quotes and backslashes escaped.
+fn escaped<R: AllocGlobal>(rt: &R, name: &str) -> Result<String, Fault>
+    ensures refused { IfErr result (λ fault. fault ≡ Fault.Memory) }
+{
+    match format!(in rt.alloc(); "{}", name.escape_debug()) {
         Ok(name) => Ok(name),
         Err(_) => Err(Fault::Memory),
     }
 }
 
-/// The fault of a file of this name that can't be opened or read.
-fn file_fault<R: AllocGlobal>(rt: &R, error: &io::Error, name: &str) -> Fault {
+/// Gives the fault of a file of this name that can't be opened or read.
+fn file_fault<R: AllocGlobal>(rt: &R, error: &io::Error, name: &str) -> Fault
+    ensures { IsOfFile result }
+{
     match error.kind() {
         ErrorKind::OutOfMemory => Fault::Memory,
-        _ => match owned(rt, name) {
+        _ => match escaped(rt, name) {
             Ok(name) => Fault::CannotRead(name),
             Err(fault) => fault,
         },
@@ -29,24 +35,39 @@ fn file_fault<R: AllocGlobal>(rt: &R, error: &io::Error, name: &str) -> Fault {
 }
 
 /// The file of this name, opened to be read.
-pub fn open_file<R: Files + AllocGlobal>(rt: &R, name: &str) -> Result<R::File, Fault> {
+pub fn open_file<R: Files + AllocGlobal>(rt: &R, name: &str) -> Result<R::File, Fault>
+    ensures refused { IfErr result IsOfFile }
+{
     match fs::open(rt, name) {
         Ok(file) => Ok(file),
         Err(error) => Err(file_fault(rt, &error, name)),
     }
 }
 
+/// Reads all the bytes, of which there may be 1,048,576; None where there are more.
+fn read_most<I: Read + Drop>(alloc: Global, input: I) -> io::Result<Option<Vec<u8>>>
+    ensures few { IfOk result (λ found. IfSome found (λ bytes. length bytes.items ≤ 1048576)) }
+    ensures whole { IfOk result (λ found. IfSome (I.remaining input) (λ all. MatchOption found (1048576 < length all) (λ bytes. bytes.items ≡ all))) }
+{
+    let mut bytes = Vec::new(alloc);
+    // one byte more tells that there are too many
+    let mut part = input.take(1_048_577);
+    part.read_to_end(&mut bytes)?;
+    if bytes.len() > MOST {
+        return Ok(None);
+    }
+    Ok(Some(bytes))
+}
+
 /// The bytes of a profile file, of at most 1,048,576 bytes.
 pub fn read_profile_file<R: Files + AllocGlobal>(rt: &R, name: &str) -> Result<Vec<u8>, Fault>
     ensures few { IfOk result (λ bytes. length bytes.items ≤ 1048576) }
+    ensures refused { IfErr result IsOfFile }
 {
     let file = open_file(rt, name)?;
-    let mut bytes = Vec::new(rt.alloc());
-    // one byte more tells a file that is too large
-    let mut part = file.take(1_048_577);
-    match part.read_to_end(&mut bytes) {
-        Ok(_) if bytes.len() > MOST => Err(Fault::TooLarge(owned(rt, name)?)),
-        Ok(_) => Ok(bytes),
+    match read_most(rt.alloc(), file) {
+        Ok(Some(bytes)) => Ok(bytes),
+        Ok(None) => Err(Fault::TooLarge(escaped(rt, name)?)),
         Err(error) => Err(file_fault(rt, &error, name)),
     }
 }

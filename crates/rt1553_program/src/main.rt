@@ -12,7 +12,7 @@ fn main(rt: HostRuntime) -> ExitCode {
         Ok(status) => ExitCode::from(status),
         Err(fault) => {
             // there is nowhere to tell that this could not be written
-            let _ = eprintln!(rt; "{fault}");
+            let _ = eprint!(rt; "{fault}");
             ExitCode::from(fault.status())
         }
     }

@@ -1,12 +1,20 @@
 //! What the program does.
-ghost use Rattle.std.specs.Prelude.{◌≡◌, false};
+ghost use Rattle.std.specs.Prelude.{◌≡◌, ◌≤◌, ℕ, List, false, codes, OnOk, IfOk, IfErr, IfSome};
+ghost use Rattle.std.specs.Io.KnownBytes.{Appends, Keeps};
+ghost use Rattle.bus_legal.specs.Description.{Description};
+ghost use Rattle.rt1553.specs.Load.{Of};
+ghost use Rattle.rt1553.specs.Canon.{IsCanon};
+ghost use Rattle.rt1553.specs.Engine.{Completes};
+ghost use Rattle.rt1553_program.specs.Work.{event_line, script_text, Accepted, Tells, IsComparison};
 
 use crate::fault::Fault;
 use crate::files::{open_file, read_profile_file};
 use rt1553::{
-    FromRead, FromWrite, Script, Sink, Verdict, canonical, compare, load, run, write_event,
+    Event, FromRead, FromWrite, Script, Sink, Verdict, canonical, compare, load, run, write_all,
+    write_event,
 };
 use rt1553_words::{Job, WordFault, read_words};
+use std::alloc::Global;
 use std::env;
 use std::io::{ErrorKind, Read, Write};
 use std::rt::{Env, Files};
@@ -14,34 +22,93 @@ use std::rt::{Env, Files};
 /// The profile that the program without words runs.
 const STANDARD_PROFILE: &[u8] = b"address = 5";
 
+/// The status where all was done, and a comparison finds no difference.
+const SAME: u8 = 0;
+
 /// The status of a comparison that finds a difference.
 const DIFFERENT: u8 = 1;
 
 /// Writes all the bytes.
-fn put<W: Sink>(writer: &mut W, bytes: &[u8]) -> Result<(), Fault> {
-    let mut rest = bytes;
-    while !rest.is_empty() {
-        match writer.write(rest) {
-            Ok(0) | Err(_) => return Err(Fault::Output),
-            Ok(count) => rest = &rest[count..],
-        }
-    }
-    Ok(())
+fn put<W: Sink>(writer: &mut W, bytes: &[u8]) -> Result<(), Fault>
+    ensures ok { OnOk result (Appends (W.written writer.old) (W.written writer.new) bytes.now) }
+    ensures refused { IfErr result (λ fault. fault ≡ Fault.Output) }
+{
+    write_all(writer, bytes).map_err(|_| Fault::Output)
 }
 
-/// Writes all the bytes and hands them on.
-fn say<W: Sink>(writer: &mut W, bytes: &[u8]) -> Result<(), Fault> {
-    put(writer, bytes)?;
+/// Hands on what was written.
+fn hand_on<W: Sink>(writer: &mut W) -> Result<(), Fault>
+    ensures ok { OnOk result (Keeps (W.written writer.old) (W.written writer.new)) }
+    ensures refused { IfErr result (λ fault. fault ≡ Fault.Output) }
+{
     writer.flush().map_err(|_| Fault::Output)
 }
 
+/// Writes all the bytes and hands them on.
+fn say<W: Sink>(writer: &mut W, bytes: &[u8]) -> Result<(), Fault>
+    ensures ok { OnOk result (Appends (W.written writer.old) (W.written writer.new) bytes.now) }
+    ensures refused { IfErr result (λ fault. fault ≡ Fault.Output) }
+{
+    put(writer, bytes)?;
+    hand_on(writer)
+}
+
+/// Writes the line of an event.
+fn say_event<W: Sink>(writer: &mut W, event: &Event) -> Result<(), Fault>
+    ensures ok { OnOk result (Appends (W.written writer.old) (W.written writer.new) (event_line event.now)) }
+    ensures refused { IfErr result (λ fault. fault ≡ Fault.Output) }
+{
+    put(writer, write_event(event).as_str().as_bytes())?;
+    put(writer, b"\n")?;
+    Ok(())
+}
+
 /// Writes a script, an event a line.
-fn say_script<W: Sink>(writer: &mut W, script: &Script) -> Result<(), Fault> {
+fn say_script<W: Sink>(writer: &mut W, script: &Script) -> Result<(), Fault>
+    ensures ok { OnOk result (Appends (W.written writer.old) (W.written writer.new) (script_text script.now.items)) }
+    ensures refused { IfErr result (λ fault. fault ≡ Fault.Output) }
+{
     for event in script.as_slice() {
-        put(writer, write_event(event).as_str().as_bytes())?;
-        put(writer, b"\n")?;
+        say_event(writer, event)?;
     }
-    say(writer, b"")
+    hand_on(writer)
+}
+
+/// Loads a text, and says so.
+fn check<W: Sink>(alloc: Global, text: &[u8], writer: &mut W) -> Result<(), Fault>
+    ensures ok { OnOk result (Accepted text.now × Appends (W.written writer.old) (W.written writer.new) (codes "ok\n")) }
+{
+    load(alloc, text)?;
+    say(writer, b"ok\n")
+}
+
+/// Writes the canonical bytes of a text.
+fn canon<W: Sink>(alloc: Global, text: &[u8], writer: &mut W) -> Result<(), Fault>
+    ensures ok { OnOk result ((bytes : List ℕ) × IsCanon text.now bytes × Appends (W.written writer.old) (W.written writer.new) bytes) }
+{
+    let bytes = canonical(alloc, text)?;
+    say(writer, bytes.as_slice())
+}
+
+/// Compares two texts, tells the verdict, and gives the status to end with.
+fn tell_verdict<W: Sink>(
+    alloc: Global,
+    first: &[u8],
+    second: &[u8],
+    writer: &mut W,
+) -> Result<u8, Fault>
+    ensures ok { IfOk result (Tells first.now second.now (W.written writer.old) (W.written writer.new)) }
+{
+    match compare(alloc, first, second)? {
+        Verdict::Same => {
+            say(writer, b"same\n")?;
+            Ok(SAME)
+        }
+        Verdict::Differ(script) => {
+            say_script(writer, &script)?;
+            Ok(DIFFERENT)
+        }
+    }
 }
 
 /// Runs a profile over the script that an input gives.
@@ -52,6 +119,8 @@ fn run_over<R: AllocGlobal, I: Read + Drop, W: Sink>(
     writer: &mut W,
 ) -> Result<(), Fault>
     requires { W.has_failed writer.old ≡ false }
+    ensures ok { OnOk result ((P : Description) × Of profile.now P × (n : ℕ)
+        × IfSome (I.remaining input) (λ script. Completes P script (W.written writer.old) (W.written writer.new) n)) }
 {
     let mut reader = FromRead::new(input);
     match run(rt.alloc(), profile, &mut reader, writer) {
@@ -75,24 +144,18 @@ fn run_files<R: Files + AllocGlobal, W: Sink>(
     run_over(rt, text.as_slice(), input, writer)
 }
 
+/// Compares two profiles, both files, and gives the status to end with.
 fn compare_files<R: Files + AllocGlobal, W: Sink>(
     rt: &R,
     first: &str,
     second: &str,
     writer: &mut W,
-) -> Result<u8, Fault> {
+) -> Result<u8, Fault>
+    ensures { IfOk result (λ status. status ≤ 1) }
+{
     let p = read_profile_file(rt, first)?;
     let q = read_profile_file(rt, second)?;
-    match compare(rt.alloc(), p.as_slice(), q.as_slice())? {
-        Verdict::Same => {
-            say(writer, b"same\n")?;
-            Ok(0)
-        }
-        Verdict::Differ(script) => {
-            say_script(writer, &script)?;
-            Ok(DIFFERENT)
-        }
-    }
+    tell_verdict(rt.alloc(), p.as_slice(), q.as_slice(), writer)
 }
 
 /// Does a job, and gives the status to end with.
@@ -103,23 +166,23 @@ fn do_job<R: Files + AllocGlobal, I: Read + Drop, W: Sink>(
     writer: &mut W,
 ) -> Result<u8, Fault>
     requires { W.has_failed writer.old ≡ false }
+    ensures ok { IfOk result (λ status. status ≤ 1) }
+    ensures different { IfOk result (λ status. status ≡ 1 → IsComparison job.entry) }
 {
     match job {
         Job::Standard => run_over(rt, STANDARD_PROFILE, input, writer)?,
         Job::Check(name) => {
             let text = read_profile_file(rt, name)?;
-            load(rt.alloc(), text.as_slice())?;
-            say(writer, b"ok\n")?;
+            check(rt.alloc(), text.as_slice(), writer)?;
         }
         Job::Canon(name) => {
             let text = read_profile_file(rt, name)?;
-            let bytes = canonical(rt.alloc(), text.as_slice())?;
-            say(writer, bytes.as_slice())?;
+            canon(rt.alloc(), text.as_slice(), writer)?;
         }
         Job::Run(profile, script) => run_files(rt, profile, script, writer)?,
         Job::Compare(first, second) => return compare_files(rt, first, second, writer),
     }
-    Ok(0)
+    Ok(SAME)
 }
 
 /// Does what the command line asks for, and gives the status to end with.
@@ -127,7 +190,9 @@ pub fn work<R: Env + Files + AllocGlobal, I: Read + Drop, O: Write + Drop>(
     rt: &R,
     input: I,
     output: O,
-) -> Result<u8, Fault> {
+) -> Result<u8, Fault>
+    ensures { IfOk result (λ status. status ≤ 1) }
+{
     let words = match env::args(rt) {
         Ok(words) => words,
         // words that are no text are none that the program takes

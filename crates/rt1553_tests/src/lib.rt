@@ -3,6 +3,8 @@
 #![tactic(auto)]
 
 #[cfg(test)]
+mod by_hand;
+#[cfg(test)]
 mod whole;
 #[cfg(test)]
 mod words;

@@ -1,5 +1,6 @@
 //! Tests of lines, transcripts, limits, and devices that fail.
 
+mod devices;
 mod lines;
 mod transcripts;
 
@@ -11,6 +12,9 @@ use bus_script::{IoFailed, MemorySink, MemorySource, RunFault, Sink, run_script}
 use bus_terminal::Terminal;
 use bus_word::Cell;
 use std::alloc::AllocError;
+
+/// A script of six events with two answers.
+const ANSWERED: &[u8] = b"A c 2c02\nA gap\nslot\nA c 2c02\nA gap\nslot\n";
 
 /// Every cell is legal.
 #[derive(Drop)]
@@ -123,9 +127,8 @@ fn limits(rt: HostRuntime) -> Result<(), AllocError> {
 
 #[test]
 fn reads_that_fail(rt: HostRuntime) {
-    let script = b"A c 2c02\nA gap\nslot\nA c 2c02\nA gap\nslot\n";
     for call in 0..42u64 {
-        let mut reader = MemorySource::new(script, 1, Some(call));
+        let mut reader = MemorySource::new(ANSWERED, 1, Some(call));
         let mut writer: MemorySink<512> = MemorySink::new(100, None);
         let result = run_script(&mut terminal(), &mut reader, &mut writer);
         // the answers of the slots whose line feed was read
@@ -149,10 +152,9 @@ fn reads_that_fail(rt: HostRuntime) {
 
 #[test]
 fn writes_that_fail(rt: HostRuntime) {
-    let script = b"A c 2c02\nA gap\nslot\nA c 2c02\nA gap\nslot\n";
     let transcript = b"A s 2800\nA s 2800\n";
     for call in 0..19u64 {
-        let mut reader = MemorySource::new(script, 100, None);
+        let mut reader = MemorySource::new(ANSWERED, 100, None);
         let mut writer: MemorySink<512> = MemorySink::new(1, Some(call));
         let result = run_script(&mut terminal(), &mut reader, &mut writer);
         if call < 18 {
@@ -163,7 +165,7 @@ fn writes_that_fail(rt: HostRuntime) {
             assert_eq!(rt; result, Ok(6));
         }
     }
-    let mut reader = MemorySource::new(script, 100, None);
+    let mut reader = MemorySource::new(ANSWERED, 100, None);
     let mut full: MemorySink<10> = MemorySink::new(100, None);
     let result = run_script(&mut terminal(), &mut reader, &mut full);
     assert_eq!(rt; result, Err(RunFault::Write));
@@ -204,10 +206,13 @@ impl Sink for Holding {
 #[test]
 fn what_is_held_back_is_handed_on(rt: HostRuntime) {
     for (script, flushes) in [
-        // before the reads that follow events, at the end, and on the way out
-        (b"A c 2c02\nA gap\nslot\n".as_slice(), 5u64),
+        // before the reads that follow events, and at the end
+        (b"A c 2c02\nA gap\nslot\n".as_slice(), 4u64),
+        // before the reads that follow events, and where a line is refused
         (b"A c 2c02\nA gap\nslot\nA x\n".as_slice(), 3),
-        (b"# nothing\n".as_slice(), 1),
+        // a run of no events leaves the sink alone
+        (b"# nothing\n".as_slice(), 0),
+        (b"# nothing\nA x\n".as_slice(), 0),
     ] {
         let mut reader = MemorySource::new(script, 9, None);
         let mut writer = Holding {
@@ -218,5 +223,63 @@ fn what_is_held_back_is_handed_on(rt: HostRuntime) {
         let _ = run_script(&mut terminal(), &mut reader, &mut writer);
         assert_eq!(rt; writer.handed_on, writer.held.len());
         assert_eq!(rt; writer.flushes, flushes);
+    }
+}
+
+/// A sink that takes all and can't hand it on.
+#[derive(Drop)]
+struct Stuck {
+    failed: bool,
+}
+
+impl Sink for Stuck {
+    ghost written = { λ _. None };
+
+    ghost has_failed = { λ s. s.failed };
+
+    fn write(&mut self, bytes: &[u8]) -> Result<usize, IoFailed> {
+        Ok(bytes.len())
+    }
+
+    fn flush(&mut self) -> Result<(), IoFailed> {
+        self.failed = true;
+        Err(IoFailed)
+    }
+
+    fn failed(&self) -> bool {
+        self.failed
+    }
+}
+
+#[test]
+fn what_is_held_back_and_can_not_be_handed_on(rt: HostRuntime) {
+    let rows: [(&[u8], Result<u64, RunFault>); 6] = [
+        (b"A gap\n", Err(RunFault::Write)),
+        (b"A gap\nA x\n", Err(RunFault::Write)),
+        (b"A gap\nA x", Err(RunFault::Write)),
+        (b"", Ok(0)),
+        (b"# nothing", Ok(0)),
+        (b"A x\n", Err(RunFault::Line(1))),
+    ];
+    for (script, wanted) in rows {
+        let mut reader = MemorySource::new(script, 100, None);
+        let mut writer = Stuck { failed: false };
+        let result = run_script(&mut terminal(), &mut reader, &mut writer);
+        assert_eq!(rt; result, wanted);
+    }
+}
+
+#[test]
+fn faults_have_numbers_and_names(rt: HostRuntime) {
+    let rows = [
+        (RunFault::Line(7), 1u8, "Line"),
+        (RunFault::LongLine(7), 2, "LongLine"),
+        (RunFault::TooLong, 3, "TooLong"),
+        (RunFault::Read, 4, "Read"),
+        (RunFault::Write, 5, "Write"),
+    ];
+    for (fault, number, name) in rows {
+        assert_eq!(rt; fault.number(), number);
+        assert_eq!(rt; fault.name(), name);
     }
 }

@@ -1,4 +1,4 @@
-use Rattle.std.proofs.Common.{[], ◌∷◌, ◌≡◌, ◌+◌, ◌<◌, length, arith, ◌∙◌, ap, sym}
+use Rattle.std.proofs.Common.{[], ◌∷◌, ◌≡◌, ◌+◌, ◌<◌, length, arith, ◌∙◌, ap, sym, refl}
 use Rattle.std.proofs.lemmas.Grind.{common_steps}
 use Rattle.bus_terminal.specs.Stands.{StandsAt}
 use Rattle.bus_script.specs.Transcript.{text_at}
@@ -14,7 +14,7 @@ pub returns-then-is_empty-clause-ok : goal.returns-then-is_empty-clause-ok
 returns-then-is_empty-clause-ok g c =
     let none : c.args.rest.now ≡ [] = grind (arith, common_steps) in (
       [],
-      ap (λ xs. reading meaning c.args.place.lines (lines_of xs)) none ∙ reading-empty meaning c.args.place.lines,
+      ap (λ xs. reading meaning c.args.counts.now.lines (lines_of xs)) none ∙ reading-empty meaning c.args.counts.now.lines,
       omega arith,
       Plays-nil (StandsAt g.L.Legality.is_legal) text_at g.W.Sink.written c.args.terminal.now c.args.writer.now,
     )
@@ -23,13 +23,13 @@ pub returns-in-Ok-clause-ok : goal.returns-in-Ok-clause-ok
 returns-in-Ok-clause-ok g c =
     let some : 0 < length c.args.rest.now = grind (arith, common_steps) in
     let p = c.in-Ok.ensures.ok in
-    (p.0, reading-last meaning c.args.place.lines c.args.rest.now p.0 some c.requires.rest p.2, ap (λ n. c.args.place.events + n) (sym p.1), p.3)
+    (p.0, reading-last meaning c.args.counts.now.lines c.args.rest.now p.0 some c.requires.rest p.2, ap (λ n. c.args.counts.now.events + n) (sym p.1), p.3)
 
 pub returns-in-Err-clause-fault : goal.returns-in-Err-clause-fault
 returns-in-Err-clause-fault g c =
     let some : 0 < length c.args.rest.now = grind (arith, common_steps) in
     ByFault-weaker c.in-Err.fault
-    (λ f. (reading-last_refused meaning c.args.place.lines c.args.rest.now c.in-Err.fault some c.requires.rest f.0, f.1))
+    (λ f. (reading-last_refused meaning c.args.counts.now.lines c.args.rest.now c.in-Err.fault some c.requires.rest f.0, refl, f.1))
     (λ x. x)
-    (λ w. (w.0, reading-last meaning c.args.place.lines c.args.rest.now (w.0 ∷ []) some c.requires.rest w.1, w.2, w.3))
+    (λ w. (w.0, reading-last meaning c.args.counts.now.lines c.args.rest.now (w.0 ∷ []) some c.requires.rest w.1, w.2, w.3))
     c.in-Err.ensures.fault

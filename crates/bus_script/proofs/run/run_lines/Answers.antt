@@ -1,16 +1,17 @@
-use Rattle.std.proofs.Common.{[], ◌++◌, ◌≡◌, ◌≤◌, ◌+◌, length, take, subst, refl, sym, arith}
+use Rattle.std.proofs.Common.{[], ◌++◌, ◌≡◌, ◌≤◌, ◌+◌, length, take, subst, refl, sym, ap, arith}
+use Rattle.std.proofs.lemmas.Result.{on_ok_weaker, IfErr-weaker}
 use Rattle.bus_script.specs.Line.{meaning}
 use Rattle.bus_terminal.specs.Stands.{StandsAt}
 use Rattle.bus_script.specs.Transcript.{text_at}
 use Rattle.bus_script.proofs.FeedLaws.{ByFault-weaker}
-use Rattle.bus_script.proofs.RunLaws.{Running, Running-nil, Running-fed, Running-unsent, Running-unread, Running-refused, Running-broken, Running-end, Running-done, Running-done_unsent, Running-last_refused, Running-last_broken, ByFault-IfSome, rest_len, no_bytes, same_front}
+use Rattle.bus_script.proofs.RunLaws.{Running, Running-nil, Running-fed, Running-unsent, Running-unread, Running-refused, Running-broken, Running-end, Running-done, Running-last_refused, Running-last_broken, ByFault-IfSome, rest_len, no_bytes, same_front}
 use Rattle.bus_script.proofs.run.run_lines.Goals as goal
 
 pub reads-init : goal.reads-init
 reads-init g c = record {
   held = omega arith;
   fits = refl;
-  running = ([], [], Running-nil meaning (StandsAt g.L.Legality.is_legal) text_at g.R.Source.left g.W.Sink.written c.args.terminal.now c.args.reader.now c.args.writer.now);
+  running = ([], [], Running-nil meaning (StandsAt g.L.Legality.is_legal) text_at g.R.Source.left g.W.Sink.written c.args.terminal.now c.args.reader.now c.args.writer.now _ _ c.requires.lines c.requires.events);
 }
 
 pub returns-in-Err-clause-fault : goal.returns-in-Err-clause-fault
@@ -26,7 +27,7 @@ returns-in-Err-feed_lines-clause-fault g c =
     let r = c.reads.invariant.running.2 in
     ByFault-IfSome c.in-Err-feed_lines.fault (g.R.Source.left c.args.reader.now) _ _ _
     (ByFault-weaker c.in-Err-feed_lines.fault
-    (λ s. Running-refused c.fill.new.reader f.0 chunk r c.hand_on.ensures.kept f.3 f.2 s.1 s.2)
+    (λ s. Running-refused c.fill.new.reader f.0 chunk r c.hand_on.ensures.kept f.3 f.2 s.1 s.2 s.3)
     (λ x. x)
     (λ w. Running-broken c.fill.new.reader f.0 chunk w.2 w.3 r c.hand_on.ensures.kept f.3 f.2 w.5 w.6 w.8)
     c.in-Err-feed_lines.ensures.fault)
@@ -46,40 +47,32 @@ reads-preserved g c =
         c.reads.invariant.running.0 ++ take c.in-Ok-feed_lines.done chunk,
         c.reads.invariant.running.1 ++ p.0,
         subst (λ xs. Running meaning (StandsAt g.L.Legality.is_legal) text_at g.R.Source.left g.W.Sink.written c.args.terminal.now c.feed_lines.new.terminal
-            c.args.reader.now c.fill.new.reader c.args.writer.now c.feed_lines.new.writer c.feed_lines.new.place.lines c.feed_lines.new.place.events xs
+            c.args.reader.now c.fill.new.reader c.args.writer.now c.feed_lines.new.writer c.feed_lines.new.counts.lines c.feed_lines.new.counts.events xs
             (c.reads.invariant.running.0 ++ take c.in-Ok-feed_lines.done chunk) (c.reads.invariant.running.1 ++ p.0))
             (sym c.keep.ensures)
             (Running-fed f.0 chunk c.reads.invariant.running.2 c.hand_on.ensures.kept f.3 f.2 p.1),
       );
     }
 
-pub returns-in-Err-finish-clause-fault : goal.returns-in-Err-finish-clause-fault
-returns-in-Err-finish-clause-fault g c =
+pub returns-clause-fault : goal.returns-clause-fault
+returns-clause-fault g c =
     let f = c.in-Ok-fill.ensures.ok in
     let none : f.0 ≡ [] = no_bytes f.0 c.in-Ok-fill.count f.1 c.if-count-eq0.true in
     let still = same_front c.reads.held c.in-Ok-fill.count f.0 c.reads.buffer c.fill.new.buffer c.if-count-eq0.true none f.2 in
     let r = Running-end f.0 c.reads.invariant.running.2 c.hand_on.ensures.kept f.3 none in
-    ByFault-IfSome c.in-Err-finish.fault (g.R.Source.left c.args.reader.now) _ _ _
-    (ByFault-weaker c.in-Err-finish.fault
-    (λ s. Running-last_refused r (f.4 c.if-count-eq0.true) (rw still at s.0) s.1)
+    IfErr-weaker c.finish.result _ _
+    (λ fault stopped. ByFault-IfSome fault (g.R.Source.left c.args.reader.now) _ _ _
+    (ByFault-weaker fault
+    (λ s. Running-last_refused r (f.4 c.if-count-eq0.true) (rw still at s.0) (ap (λ counts. counts.events) s.1) s.2)
     (λ x. x)
     (λ w. Running-last_broken r (f.4 c.if-count-eq0.true) (rw still at w.1) w.3)
-    c.in-Err-finish.ensures.fault)
+    stopped))
+    c.finish.ensures.fault
 
-pub returns-in-Ok-hand_on-clause-ok : goal.returns-in-Ok-hand_on-clause-ok
-returns-in-Ok-hand_on-clause-ok g c =
+pub returns-clause-ok : goal.returns-clause-ok
+returns-clause-ok g c =
     let f = c.in-Ok-fill.ensures.ok in
     let none : f.0 ≡ [] = no_bytes f.0 c.in-Ok-fill.count f.1 c.if-count-eq0.true in
     let still = same_front c.reads.held c.in-Ok-fill.count f.0 c.reads.buffer c.fill.new.buffer c.if-count-eq0.true none f.2 in
     let r = Running-end f.0 c.reads.invariant.running.2 c.hand_on.ensures.kept f.3 none in
-    let p = c.in-Ok-finish.ensures.ok in
-    Running-done c.hand_on-2.new.writer r (f.4 c.if-count-eq0.true) (rw still at p.1) p.2 p.3 c.hand_on-2.ensures.kept
-
-pub returns-in-Err-hand_on-clause-fault : goal.returns-in-Err-hand_on-clause-fault
-returns-in-Err-hand_on-clause-fault g c =
-    let f = c.in-Ok-fill.ensures.ok in
-    let none : f.0 ≡ [] = no_bytes f.0 c.in-Ok-fill.count f.1 c.if-count-eq0.true in
-    let still = same_front c.reads.held c.in-Ok-fill.count f.0 c.reads.buffer c.fill.new.buffer c.if-count-eq0.true none f.2 in
-    let r = Running-end f.0 c.reads.invariant.running.2 c.hand_on.ensures.kept f.3 none in
-    let p = c.in-Ok-finish.ensures.ok in
-    Running-done_unsent c.hand_on-2.new.writer r (f.4 c.if-count-eq0.true) (rw still at p.1) p.2 p.3 c.hand_on-2.ensures.kept c.in-Err-hand_on.ensures.some
+    on_ok_weaker c.finish.result (λ p. Running-done r (f.4 c.if-count-eq0.true) (rw still at p.1) p.2 p.3) c.finish.ensures.ok

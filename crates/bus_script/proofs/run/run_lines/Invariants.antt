@@ -12,8 +12,8 @@ invariant-reads g l = record {
   fits : length l.buffer ≡ 16384;
   running : (whole : List ℕ) × (es : List Event)
       × Running meaning (StandsAt g.L.Legality.is_legal) text_at g.R.Source.left g.W.Sink.written l.fn.terminal l.terminal l.fn.reader l.reader l.fn.writer l.writer
-      l.place.lines l.place.events (take l.held l.buffer) whole es;
+      l.counts.lines l.counts.events (take l.held l.buffer) whole es;
 }
 
 abbrev pub decreases-reads : goal.decreases-reads
-decreases-reads g l = 68157505 - (65 * l.place.lines + l.held)
+decreases-reads g l = 68157505 - (65 * l.counts.lines + l.held)

@@ -1,0 +1,26 @@
+-- The faults of a run: their numbers, their names, and which are of the script.
+use Rattle.std.specs.Prelude.{ℕ, Bool, true, false, List, codes}
+use Rattle.bus_script.specs.declared.fault.RunFault.{RunFault}
+use Rattle.bus_script.specs.declared.fault.RunFault.TheVariants.{Line, LongLine, TooLong, Read, Write}
+
+abbrev pub fault_number : RunFault → ℕ
+fault_number (Line n) = 1
+fault_number (LongLine n) = 2
+fault_number TooLong = 3
+fault_number Read = 4
+fault_number Write = 5
+
+abbrev pub fault_name : RunFault → List ℕ
+fault_name (Line n) = codes "Line"
+fault_name (LongLine n) = codes "LongLine"
+fault_name TooLong = codes "TooLong"
+fault_name Read = codes "Read"
+fault_name Write = codes "Write"
+
+-- the script has the fault, and no device
+abbrev pub is_of_script : RunFault → Bool
+is_of_script (Line n) = true
+is_of_script (LongLine n) = true
+is_of_script TooLong = true
+is_of_script Read = false
+is_of_script Write = false

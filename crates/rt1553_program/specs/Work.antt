@@ -1,0 +1,36 @@
+-- What the program's words do over texts.
+use Rattle.std.specs.Prelude.{ℕ, ◌≡◌, ◌⊎◌, List, [], ◌∷◌, ◌++◌, Option, codes}
+use Rattle.std.specs.List.{flat_map}
+use Rattle.std.specs.Io.KnownBytes.{Appends}
+use Rattle.bus_legal.specs.Description.{Description}
+use Rattle.terminal_rules.specs.declared.event.Event.{Event}
+use Rattle.bus_script.specs.EventLine.{event_text}
+use Rattle.rt1553.specs.Load.{Of}
+use Rattle.rt1553.specs.Compare.{AreSame, AreDifferent}
+use Rattle.rt1553_words.specs.declared.words.Job.{Job}
+use Rattle.rt1553_words.specs.declared.words.Job.TheVariants as job
+
+abbrev pub event_line : Event → List ℕ
+event_line e = event_text e ++ 10 ∷ []
+
+-- the lines of a script
+abbrev pub script_text : List Event → List ℕ
+script_text es = flat_map event_line es
+
+-- the text is of a terminal
+abbrev pub Accepted : List ℕ → Type 0
+Accepted text = (P : Description) × Of text P
+
+-- Status 0: the two are the same, and this was written. Status 1: they are different, and a script was written that
+-- shows it.
+abbrev pub Tells : List ℕ → List ℕ → Option (List ℕ) → Option (List ℕ) → ℕ → Type 0
+Tells first second old new status =
+    ((status ≡ 0) × AreSame first second × Appends old new (codes "same\n"))
+    ⊎ ((status ≡ 1) × (script : List Event) × AreDifferent first second script × Appends old new (script_text script))
+
+abbrev pub IsComparison : Job → Type 0
+IsComparison (job.Compare p q) = Unit {0}
+IsComparison job.Standard = ⊥
+IsComparison (job.Check p) = ⊥
+IsComparison (job.Canon p) = ⊥
+IsComparison (job.Run p q) = ⊥
