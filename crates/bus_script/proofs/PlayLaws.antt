@@ -4,20 +4,20 @@ use Rattle.std.specs.Io.KnownBytes.{Appends, Keeps}
 use Rattle.std.proofs.KnownBytes.{Appends-nil, Appends-trans, Appends-kept}
 use Rattle.terminal_rules.specs.declared.event.Event.{Event}
 use Rattle.bus_script.specs.Transcript.{transcript}
-use Rattle.terminal_rules.specs.Past.{after}
+use Rattle.terminal_rules.specs.Past.{history_after}
 use Rattle.bus_script.specs.Playing.{Plays, PlaysPart}
 use Rattle.bus_script.specs.Device.{IsPartWritten}
 
-pub after_append : (h es fs : List Event) → after (es ++ fs) h ≡ after fs (after es h)
+pub after_append : (h es fs : List Event) → history_after (es ++ fs) h ≡ history_after fs (history_after es h)
 after_append h [] fs = refl
 after_append h (e ∷ es) fs = after_append (e ∷ h) es fs
 
-pub transcript-append : (text : List Event → Event → List ℕ) (h es fs : List Event) → transcript text h (es ++ fs) ≡ transcript text h es ++ transcript text (after es h) fs
+pub transcript-append : (text : List Event → Event → List ℕ) (h es fs : List Event) → transcript text h (es ++ fs) ≡ transcript text h es ++ transcript text (history_after es h) fs
 unfolding transcript
 transcript-append text h [] fs = refl
 transcript-append text h (e ∷ es) fs =
     ap (λ x. text h e ++ x) (transcript-append text (e ∷ h) es fs)
-    ∙ sym (append_assoc (text h e) (transcript text (e ∷ h) es) (transcript text (after es (e ∷ h)) fs))
+    ∙ sym (append_assoc (text h e) (transcript text (e ∷ h) es) (transcript text (history_after es (e ∷ h)) fs))
 
 pub transcript-one : (text : List Event → Event → List ℕ) (h : List Event) (e : Event) → transcript text h (e ∷ []) ≡ text h e
 unfolding transcript
@@ -32,23 +32,23 @@ pub Plays-trans : {D M W : Type 0} {stands : D → List Event → M → Type 0} 
     {m m' m'' : M} {w w' w'' : W} {es fs : List Event}
     → Plays stands out written m m' w w' es → Plays stands out written m' m'' w' w'' fs → Plays stands out written m m'' w w'' (es ++ fs)
 Plays-trans {stands = stands} {out = out} {written = written} {m'' = m''} {w = w} {w' = w'} {w'' = w''} {es = es} {fs = fs} p q = record {
-  at = λ P h s. subst (λ g. stands P g m'') (sym (after_append h es fs)) (q.at P (after es h) (p.at P h s));
+  at = λ P h s. subst (λ g. stands P g m'') (sym (after_append h es fs)) (q.at P (history_after es h) (p.at P h s));
   text = λ P h s. subst (Appends (written w) (written w'')) (sym (transcript-append (out P) h es fs))
-      (Appends-trans (written w) (written w') (written w'') (transcript (out P) h es) (transcript (out P) (after es h) fs) (p.text P h s) (q.text P (after es h) (p.at P h s)));
+      (Appends-trans (written w) (written w') (written w'') (transcript (out P) h es) (transcript (out P) (history_after es h) fs) (p.text P h s) (q.text P (history_after es h) (p.at P h s)));
 }
 
 pub Plays-part : {D M W : Type 0} {stands : D → List Event → M → Type 0} {out : D → List Event → Event → List ℕ} {written : W → Option (List ℕ)}
     {m m' m'' : M} {w w' w'' : W} {es fs : List Event} {e : Event}
     → Plays stands out written m m' w w' es → PlaysPart stands out written m' m'' w' w'' fs e → PlaysPart stands out written m m'' w w'' (es ++ fs) e
 Plays-part {stands = stands} {out = out} {written = written} {m'' = m''} {w = w} {w' = w'} {w'' = w''} {es = es} {fs = fs} {e = e} p q = record {
-  at = λ P h s. subst (λ g. stands P (e ∷ g) m'') (sym (after_append h es fs)) (q.at P (after es h) (p.at P h s));
-  text = λ P h s. let t = q.text P (after es h) (p.at P h s) in (
+  at = λ P h s. subst (λ g. stands P (e ∷ g) m'') (sym (after_append h es fs)) (q.at P (history_after es h) (p.at P h s));
+  text = λ P h s. let t = q.text P (history_after es h) (p.at P h s) in (
     t.0,
     t.1,
     t.2 ∙ ap (λ g. out P g e) (sym (after_append h es fs)),
     subst (Appends (written w) (written w''))
-        (sym (append_assoc (transcript (out P) h es) (transcript (out P) (after es h) fs) t.0) ∙ ap (λ x. x ++ t.0) (sym (transcript-append (out P) h es fs)))
-        (Appends-trans (written w) (written w') (written w'') (transcript (out P) h es) (transcript (out P) (after es h) fs ++ t.0) (p.text P h s) t.3),
+        (sym (append_assoc (transcript (out P) h es) (transcript (out P) (history_after es h) fs) t.0) ∙ ap (λ x. x ++ t.0) (sym (transcript-append (out P) h es fs)))
+        (Appends-trans (written w) (written w') (written w'') (transcript (out P) h es) (transcript (out P) (history_after es h) fs ++ t.0) (p.text P h s) t.3),
   );
 }
 
@@ -79,10 +79,10 @@ pub Plays-last : {D M W : Type 0} {stands : D → List Event → M → Type 0} {
 Plays-last {stands = stands} {out = out} {written = written} {m' = m'} {w = w} {w' = w'} es e p = record {
   at = λ P h s. subst (λ g. stands P g m') (after_append h es (e ∷ [])) (p.at P h s);
   text = λ P h s. (
-    out P (after es h) e,
+    out P (history_after es h) e,
     [],
-    append-nil (out P (after es h) e),
-    subst (Appends (written w) (written w')) (transcript-append (out P) h es (e ∷ []) ∙ ap (λ x. transcript (out P) h es ++ x) (transcript-one (out P) (after es h) e)) (p.text P h s),
+    append-nil (out P (history_after es h) e),
+    subst (Appends (written w) (written w')) (transcript-append (out P) h es (e ∷ []) ∙ ap (λ x. transcript (out P) h es ++ x) (transcript-one (out P) (history_after es h) e)) (p.text P h s),
   );
 }
 

@@ -8,19 +8,19 @@ use Rattle.terminal_rules.specs.declared.event.Event.{Event}
 use Rattle.bus_script.specs.Text.{lines_of}
 use Rattle.bus_script.specs.Reading.{Meaning, Reading, adds, reading}
 use Rattle.bus_script.specs.Transcript.{transcript}
-use Rattle.terminal_rules.specs.Past.{after}
+use Rattle.terminal_rules.specs.Past.{history_after}
 
 -- the terminal took these events, and just their transcript was written
 pub record Plays {D M W : Type 0} (stands : D → List Event → M → Type 0) (out : D → List Event → Event → List ℕ) (written : W → Option (List ℕ))
     (m m' : M) (w w' : W) (es : List Event) : Type 0 where
-  pub at : (P : D) (h : List Event) → stands P h m → stands P (after es h) m'
+  pub at : (P : D) (h : List Event) → stands P h m → stands P (history_after es h) m'
   pub text : (P : D) (h : List Event) → stands P h m → Appends (written w) (written w') (transcript (out P) h es)
 
 -- the terminal took these events and one more, and of that one's text a part was written
 pub record PlaysPart {D M W : Type 0} (stands : D → List Event → M → Type 0) (out : D → List Event → Event → List ℕ) (written : W → Option (List ℕ))
     (m m' : M) (w w' : W) (es : List Event) (e : Event) : Type 0 where
-  pub at : (P : D) (h : List Event) → stands P h m → stands P (e ∷ after es h) m'
-  pub text : (P : D) (h : List Event) → stands P h m → (part : List ℕ) × (more : List ℕ) × (part ++ more ≡ out P (after es h) e)
+  pub at : (P : D) (h : List Event) → stands P h m → stands P (e ∷ history_after es h) m'
+  pub text : (P : D) (h : List Event) → stands P h m → (part : List ℕ) × (more : List ℕ) × (part ++ more ≡ out P (history_after es h) e)
       × Appends (written w) (written w') (transcript (out P) h es ++ part)
 
 -- the text says these events and then r, and just these events were played

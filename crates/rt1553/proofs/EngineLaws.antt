@@ -12,7 +12,7 @@ use Rattle.terminal_rules.specs.declared.event.Event.{Event}
 use Rattle.bus_terminal.specs.declared.terminal.Terminal.{Terminal}
 use Rattle.terminal_rules.specs.Out.{out}
 use Rattle.bus_terminal.specs.Stands.{StandsAt}
-use Rattle.terminal_rules.specs.Past.{after}
+use Rattle.terminal_rules.specs.Past.{history_after}
 use Rattle.terminal_rules.proofs.Reach.Same.{out-reach}
 use Rattle.bus_script.specs.declared.fault.RunFault.{RunFault}
 use Rattle.bus_script.specs.Text.{NoLineFeed, EndsLine}
@@ -68,7 +68,7 @@ stopped is_legal written P Q t t' w w' left left' script f s alike known =
       part = text.0;
       more = text.1;
       says = k.3.says;
-      splits = text.2 ∙ ap answer_text (alike (after k.0 []) k.1);
+      splits = text.2 ∙ ap answer_text (alike (history_after k.0 []) k.1);
       wrote = subst (λ x. Appends (written w) (written w') (x ++ text.0)) (transcripts_alike Q P alike [] k.0) text.3;
     })
     known

@@ -3,7 +3,7 @@
 use Rattle.std.specs.Prelude.{◌≡◌, ℕ, List, [], ◌∷◌, ◌++◌, length, Option}
 use Rattle.std.specs.Io.KnownBytes.{Appends, Consumes}
 use Rattle.bus_legal.specs.Description.{Description}
-use Rattle.terminal_rules.specs.Past.{after}
+use Rattle.terminal_rules.specs.Past.{history_after}
 use Rattle.terminal_rules.specs.declared.event.Event.{Event}
 use Rattle.bus_script.specs.declared.fault.RunFault.{RunFault}
 use Rattle.bus_script.specs.Line.{meaning}
@@ -47,7 +47,7 @@ pub record StopsWriting (P : Description) (script : List ℕ) (old new : Option 
   pub part : List ℕ
   pub more : List ℕ
   pub says : reading meaning 0 (lines_of script) ≡ adds (events ++ event ∷ []) others
-  pub splits : part ++ more ≡ text_at P (after events []) event
+  pub splits : part ++ more ≡ text_at P (history_after events []) event
   pub wrote : Appends old new (transcript (text_at P) [] events ++ part)
 
 -- what is known where a script is not run to its end

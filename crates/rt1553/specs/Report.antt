@@ -6,12 +6,12 @@ use Rattle.rt1553.specs.declared.fault.EngineFault.{EngineFault}
 use Rattle.rt1553.specs.declared.fault.EngineFault.TheVariants.{Load, Script}
 
 -- 2 for a profile or a script that is refused; 4 where a read or a write failed or memory was wanting
-abbrev pub status_of : EngineFault → ℕ
-status_of (Load (Profile fault)) = 2
-status_of (Load (Canon fault)) = 2
-status_of (Load Memory) = 4
-status_of (Script (Line n)) = 2
-status_of (Script (LongLine n)) = 2
-status_of (Script TooLong) = 2
-status_of (Script Read) = 4
-status_of (Script Write) = 4
+abbrev pub exit_status_of : EngineFault → ℕ
+exit_status_of (Load (Profile fault)) = 2
+exit_status_of (Load (Canon fault)) = 2
+exit_status_of (Load Memory) = 4
+exit_status_of (Script (Line n)) = 2
+exit_status_of (Script (LongLine n)) = 2
+exit_status_of (Script TooLong) = 2
+exit_status_of (Script Read) = 4
+exit_status_of (Script Write) = 4

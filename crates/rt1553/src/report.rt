@@ -1,7 +1,7 @@
 //! Faults, as a program tells them.
 ghost use Rattle.std.specs.Prelude.{◌≡◌};
 ghost use Rattle.rt1553.specs.OneLine.{IsOneLine};
-ghost use Rattle.rt1553.specs.Report.{status_of};
+ghost use Rattle.rt1553.specs.Report.{exit_status_of};
 
 use crate::one_line::OneLine;
 use crate::{EngineFault, LoadFault, RunFault};
@@ -10,8 +10,8 @@ use std::fmt::Write;
 
 /// The status that a program ends with: 2 for a profile or a script that is refused, 4 where a read or a
 /// write failed or memory was wanting.
-fn status_of(fault: &EngineFault) -> u8
-    ensures { result ≡ status_of fault.now }
+fn exit_status_of(fault: &EngineFault) -> u8
+    ensures { result ≡ exit_status_of fault.now }
 {
     match fault {
         EngineFault::Load(LoadFault::Memory) => 4,
@@ -23,11 +23,11 @@ fn status_of(fault: &EngineFault) -> u8
 
 /// The status that a program ends with and the line that it prints, with its line feed.
 pub fn describe(fault: &EngineFault) -> (u8, ArrayString<128>)
-    ensures status { result.0 ≡ status_of fault.now }
+    ensures status { result.0 ≡ exit_status_of fault.now }
     ensures line { IsOneLine result.1.bytes }
 {
     let mut text = OneLine::new();
     // the longest text is far below 127 bytes
     let _ = write!(text, "{fault}");
-    (status_of(fault), text.ended())
+    (exit_status_of(fault), text.ended())
 }

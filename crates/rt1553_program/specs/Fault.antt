@@ -1,6 +1,6 @@
 -- The status that the program ends with.
 use Rattle.std.specs.Prelude.{ℕ}
-use Rattle.rt1553.specs.Report.{status_of}
+use Rattle.rt1553.specs.Report.{exit_status_of}
 use Rattle.rt1553_program.specs.declared.fault.Fault.{Fault}
 use Rattle.rt1553_program.specs.declared.fault.Fault.TheVariants.{Usage, Memory, CannotRead, TooLarge, Output, Engine}
 
@@ -11,7 +11,7 @@ ends_with Memory = 4
 ends_with (CannotRead name) = 4
 ends_with (TooLarge name) = 4
 ends_with Output = 4
-ends_with (Engine fault) = status_of fault
+ends_with (Engine fault) = exit_status_of fault
 
 -- a fault of a file: it can't be read, is too large, or memory was wanting
 abbrev pub IsOfFile : Fault → Type 0

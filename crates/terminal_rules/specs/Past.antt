@@ -24,6 +24,6 @@ abbrev pub open_at : Description → List Event → Bus → Open
 open_at P h b = open_now P (past P h) b
 
 -- the history after these events, the first of them first
-abbrev pub after : List Event → List Event → List Event
-after [] h = h
-after (e ∷ es) h = after es (e ∷ h)
+abbrev pub history_after : List Event → List Event → List Event
+history_after [] h = h
+history_after (e ∷ es) h = history_after es (e ∷ h)
