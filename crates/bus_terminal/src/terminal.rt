@@ -133,8 +133,7 @@ impl<L: Legality> Terminal<L> {
     fn write(&mut self, place: WordPlace, value: u16)
         ensures { TakesWrite L.is_legal place value self.old self.new }
     {
-        self.held
-            .write(place.subaddress(), place.number(), value);
+        self.held.write(place.subaddress(), place.number(), value);
     }
 
     /// Tells whether a command is a legal own mode code 2 or 18, which spares the kept status.
@@ -204,8 +203,7 @@ impl<L: Legality> Terminal<L> {
     {
         let begins = ended.is_answered(self.registers.off.on(bus));
         let spares = self.fails_sparing(ended);
-        self.registers
-            .settle(bus, ended, status, spares, begins);
+        self.registers.settle(bus, ended, status, spares, begins);
         self.held.settle(
             self.settings.wrap,
             ended.resets_at_gap(begins),
@@ -280,7 +278,8 @@ impl<L: Legality> Terminal<L> {
         if starts {
             self.start(bus, Command::of(word.bits));
         } else {
-            self.in_progress.follow(bus, self.settings.address, Some(word));
+            self.in_progress
+                .follow(bus, self.settings.address, Some(word));
         }
     }
 

@@ -22,8 +22,8 @@ returns-then-begins-clause-takes g c =
     (c.settle.ensures.registers t.settings.accept ds (c.requires ds))
     ((λ j. shown_reply (Some (record { bus = c.args.bus; cell = c.done_cell.ensures ds j; next = 0 }))) ∙ ap (λ k. begun_if k c.args.bus (done_cell x) (shown_reply t.reply)) (sym c.if-begins.true))
     (λ s i low high first last.
-      c.settle-2.ensures.words s i low high first last
-      ∙ (λ j. held_after t.held t.settings.wrap s i (c.resets_at_gap.ensures ds j) (ending_of c.args.ended.now (c.as_slice.ensures.value j))))
+    c.settle-2.ensures.words s i low high first last
+    ∙ (λ j. held_after t.held t.settings.wrap s i (c.resets_at_gap.ensures ds j) (ending_of c.args.ended.now (c.as_slice.ensures.value j))))
 
 pub returns-else-begins-clause-takes : goal.returns-else-begins-clause-takes
 returns-else-begins-clause-takes g c =
@@ -40,5 +40,5 @@ returns-else-begins-clause-takes g c =
     (c.settle.ensures.registers t.settings.accept ds (c.requires ds))
     (ap (λ k. begun_if k c.args.bus (done_cell x) (shown_reply t.reply)) (sym c.if-begins.false))
     (λ s i low high first last.
-      c.settle-2.ensures.words s i low high first last
-      ∙ (λ j. held_after t.held t.settings.wrap s i (c.resets_at_gap.ensures ds j) (ending_of c.args.ended.now (c.as_slice.ensures.value j))))
+    c.settle-2.ensures.words s i low high first last
+    ∙ (λ j. held_after t.held t.settings.wrap s i (c.resets_at_gap.ensures ds j) (ending_of c.args.ended.now (c.as_slice.ensures.value j))))
