@@ -334,6 +334,11 @@ file_rows() {
     row 'no such file' 4 '' $'file: cannot read missing\n' canon missing
     row 'a folder' 4 '' $'file: cannot read folder\n' check folder
     row 'an empty name' 4 '' $'file: cannot read \n' check ''
+    row 'a name of more lines' 4 '' $'file: cannot read a\\nb\\u{1}\n' check $'a\nb\001'
+    row 'a name with a quote and a backslash' 4 '' $'file: cannot read \\"\\\\\n' check '"\'
+    row 'a name with an accent' 4 '' $'file: cannot read \303\251\n' check $'\303\251'
+    text=$(printf 'x%.0s' {1..250})
+    row 'a name of 250 bytes' 4 '' "file: cannot read $text"$'\n' check "$text"
     for text in 'check five' 'canon five' 'compare five five' 'compare five also-five' 'compare five six'; do
         # the words of a line are the words of the command line
         # shellcheck disable=SC2086
@@ -381,6 +386,47 @@ run_file_rows() {
     (cd "$work" && "$program" run five script >/dev/full 2>stderr)
     [[ $? -eq 4 && $(cat "$work/stderr") == 'output: write failed' ]]
     count 'run on a full device' $?
+    row 'run, a script that is a folder' 4 '' $'input: read failed\n' run five folder
+}
+
+# where the transcript before a refused line can't be written, that is told; where there is none, the line is
+lost_output_rows() {
+    (cd "$work" && printf %b "${exchange}A x\n" | "$program" >/dev/full 2>stderr)
+    [[ $? -eq 4 && $(cat "$work/stderr") == 'output: write failed' ]]
+    count 'a refused line behind an answer, on a full device' $?
+    (cd "$work" && printf 'A x\n' | "$program" >/dev/full 2>stderr)
+    [[ $? -eq 2 && $(cat "$work/stderr") == 'script: line 1' ]]
+    count 'a refused line behind nothing, on a full device' $?
+    script "$exchange"
+    (cd "$work" && "$program" run five script >&- 2>stderr)
+    [[ $? -eq 4 && $(cat "$work/stderr") == 'output: write failed' ]]
+    count 'run, a closed output' $?
+    (cd "$work" && "$program" run five /dev/null >&- 2>stderr)
+    [[ $? -eq 0 && ! -s $work/stderr ]]
+    count 'run of nothing, a closed output' $?
+}
+
+# a pipe whose reader has gone
+gone_reader_rows() {
+    yes $'A c 2c02\nA gap\nslot' | head -n 300000 >"$work/script"
+    (cd "$work" && { "$program" run five script 2>stderr; echo $? >status; } | head -c 1 >/dev/null)
+    [[ $(cat "$work/status") -eq 4 && $(cat "$work/stderr") == 'output: write failed' ]]
+    count 'run, the reader has gone' $?
+    script "$exchange"
+}
+
+# a profile that comes through a pipe with a name, and a script that grows while it is read
+moving_file_rows() {
+    mkfifo "$work/pipe"
+    (cd "$work" && { printf 'address'; sleep 0.2; printf ' = 5\n'; } >pipe) &
+    row 'a profile from a pipe' 0 "$smallest" '' canon pipe
+    wait "$!"
+    rm "$work/pipe"
+    # it grows by its own transcript, to which nothing answers
+    printf 'A c 2c02\nA gap\nslot\n' >"$work/growing"
+    (cd "$work" && "$program" run five growing 2>stderr | sed 's/^/# /' >>growing)
+    [[ $(tail -n 1 "$work/growing") == '# A s 2800' && ! -s $work/stderr ]]
+    count 'run of a script that grows' $?
 }
 
 # each fault that a whole profile may have, as a run tells it
@@ -895,6 +941,9 @@ changed_texts() {
 run_rows() {
     run_file_rows
     input ''
+    lost_output_rows
+    gone_reader_rows
+    moving_file_rows
     run_profile_rows
     run_line_rows
     run_length_rows
