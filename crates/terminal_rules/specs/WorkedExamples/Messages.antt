@@ -4,7 +4,7 @@ use Rattle.bus_word.specs.declared.word.Bus.TheVariants.{A}
 use Rattle.bus_word.specs.declared.cell.Cell.TheVariants.{OwnReceive, OwnTransmit}
 use Rattle.terminal_rules.specs.declared.event.Event.TheVariants.{Noise}
 use Rattle.terminal_rules.specs.Out.{HandsReceived}
-use Rattle.terminal_rules.specs.WorkedExamples.Words.{five, five_hearing_all, command, data_word, invalid, quiet, gap, gap_sends, gap_sends_and_hands, Answers}
+use Rattle.terminal_rules.specs.WorkedExamples.Words.{five, five_hearing_all, command, data_word, invalid, quiet, gap, idle_slot, gap_sends, gap_sends_and_hands, Answers}
 
 -- transmit status word is answered by the status
 abbrev pub TransmitStatus : Type 0
@@ -12,7 +12,7 @@ TransmitStatus = Answers (five []) (quiet (command A 0x2c02) ∷ gap_sends A 0x2
 
 -- a command of wrong parity is none
 abbrev pub WrongParity : Type 0
-WrongParity = Answers (five []) (quiet (invalid A 0x2c02) ∷ gap A ∷ [])
+WrongParity = Answers (five []) (quiet (invalid A 0x2c02) ∷ gap A ∷ idle_slot ∷ [])
 
 -- subaddress 31 means a mode code, as 0 does
 abbrev pub ModeBy31 : Type 0
@@ -32,7 +32,7 @@ IllegalReceive = Answers (five [])
 -- a word that is missing is told by the next status
 abbrev pub ShortMessage : Type 0
 ShortMessage = Answers (five (OwnReceive 3 2 ∷ []))
-    (quiet (command A 0x2862) ∷ quiet (data_word A 0x1111) ∷ gap A ∷ quiet (command A 0x2c02) ∷ gap_sends A 0x2c00 [] ∷ [])
+    (quiet (command A 0x2862) ∷ quiet (data_word A 0x1111) ∷ gap A ∷ idle_slot ∷ quiet (command A 0x2c02) ∷ gap_sends A 0x2c00 [] ∷ [])
 
 -- a count of 0 means 32 words
 abbrev pub Transmit32 : Type 0
@@ -41,17 +41,17 @@ Transmit32 = Answers (five (OwnTransmit 3 32 ∷ [])) (quiet (command A 0x2c60) 
 -- a broadcast is not answered, and the next status tells of it
 abbrev pub BroadcastStatus : Type 0
 BroadcastStatus = Answers (five_hearing_all [])
-    (quiet (command A 0xfc02) ∷ gap A ∷ quiet (command A 0x2c02) ∷ gap_sends A 0x2c10 [] ∷ [])
+    (quiet (command A 0xfc02) ∷ gap A ∷ idle_slot ∷ quiet (command A 0x2c02) ∷ gap_sends A 0x2c10 [] ∷ [])
 
 -- without the option a broadcast isn't heard
 abbrev pub BroadcastUnheard : Type 0
 BroadcastUnheard = Answers (five [])
-    (quiet (command A 0xfc02) ∷ gap A ∷ quiet (command A 0x2c02) ∷ gap_sends A 0x2800 [] ∷ [])
+    (quiet (command A 0xfc02) ∷ gap A ∷ idle_slot ∷ quiet (command A 0x2c02) ∷ gap_sends A 0x2800 [] ∷ [])
 
 -- a mode code takes no word that it doesn't expect
 abbrev pub WordAfterMode : Type 0
 WordAfterMode = Answers (five [])
-    (quiet (command A 0x2c02) ∷ quiet (data_word A 0) ∷ gap A ∷ quiet (command A 0x2c02) ∷ gap_sends A 0x2c00 [] ∷ [])
+    (quiet (command A 0x2c02) ∷ quiet (data_word A 0) ∷ gap A ∷ idle_slot ∷ quiet (command A 0x2c02) ∷ gap_sends A 0x2c00 [] ∷ [])
 
 -- nothing comes, and nothing is answered
 abbrev pub EmptyScript : Type 0
@@ -66,5 +66,5 @@ NoiseBefore = Answers (five (OwnReceive 3 2 ∷ []))
 -- noise in a message
 abbrev pub NoiseInMessage : Type 0
 NoiseInMessage = Answers (five (OwnReceive 3 2 ∷ []))
-    (quiet (command A 0x2862) ∷ quiet (data_word A 0x1111) ∷ quiet (Noise A) ∷ gap A
+    (quiet (command A 0x2862) ∷ quiet (data_word A 0x1111) ∷ quiet (Noise A) ∷ gap A ∷ idle_slot
     ∷ quiet (command A 0x2c02) ∷ gap_sends A 0x2c00 [] ∷ [])

@@ -5,7 +5,7 @@ use Rattle.bus_word.specs.declared.cell.Cell.TheVariants.{OwnReceive, OwnTransmi
 use Rattle.terminal_rules.specs.declared.event.Event.TheVariants.{Vector, Flag as FlagIs}
 use Rattle.terminal_rules.specs.declared.event.Flag.TheVariants.{Busy, Terminal}
 use Rattle.terminal_rules.specs.Out.{HandsReceived, HandsSynchronizeWith, HandsBusControl}
-use Rattle.terminal_rules.specs.WorkedExamples.Words.{five, five_hearing_all, command, data_word, write, quiet, gap_sends, gap_hands, gap_sends_and_hands, Answers}
+use Rattle.terminal_rules.specs.WorkedExamples.Words.{five, five_hearing_all, command, data_word, write, quiet, idle_slot, gap_sends, gap_hands, gap_sends_and_hands, Answers}
 
 -- what is received at the wraparound subaddress is sent from there
 abbrev pub Wraparound : Type 0
@@ -79,7 +79,7 @@ BusControl = Answers (record (five (OwnMode 0 ∷ [])) { accept = true })
 -- synchronize with data word by broadcast
 abbrev pub BroadcastSync : Type 0
 BroadcastSync = Answers (five_hearing_all (BroadMode 17 ∷ []))
-    (quiet (command A 0xf811) ∷ quiet (data_word A 0x00ff) ∷ gap_hands A (HandsSynchronizeWith 0x00ff)
+    (quiet (command A 0xf811) ∷ quiet (data_word A 0x00ff) ∷ gap_hands A (HandsSynchronizeWith 0x00ff) ∷ idle_slot
     ∷ quiet (command A 0x2c02) ∷ gap_sends A 0x2810 [] ∷ [])
 
 abbrev pub ten_first : ℕ → ℕ → ℕ
