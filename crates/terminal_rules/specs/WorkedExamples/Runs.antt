@@ -30,3 +30,8 @@ BroadcastThenOwnReceive = Answers (five_hearing_all (OwnReceive 3 1 ∷ BroadRec
 abbrev pub BroadcastThenBroadcastCode : Type 0
 BroadcastThenBroadcastCode = Answers (five_hearing_all (BroadReceive 3 1 ∷ BroadMode 1 ∷ []))
     (quiet (command A 0xf861) ∷ quiet (command A 0xfc01) ∷ gap A ∷ idle_slot ∷ quiet (command A 0x2c02) ∷ gap_sends A 0x2c10 [] ∷ [])
+
+-- a command after one by broadcast, to a terminal without the broadcast option: what isn't for it is passed over
+abbrev pub UnheardBroadcastThenOwn : Type 0
+UnheardBroadcastThenOwn = Answers (five [])
+    (quiet (command A 0xfc02) ∷ quiet (command A 0x2c02) ∷ gap_sends A 0x2800 [] ∷ [])

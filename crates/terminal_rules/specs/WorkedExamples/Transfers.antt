@@ -24,10 +24,17 @@ BroadcastRtToRt = Answers (five_hearing_all (BroadReceive 3 1 ∷ []))
     (quiet (command A 0xf861) ∷ quiet (command A 0x3c81) ∷ gap A ∷ idle_slot ∷ quiet (command A 0x3800) ∷ quiet (data_word A 0x0007)
     ∷ gap_hands A (HandsReceived true 3 (0x0007 ∷ [])) ∷ idle_slot ∷ [])
 
+-- on bus B as on bus A
+abbrev pub RtToRtOnB : Type 0
+RtToRtOnB = Answers (five (OwnReceive 3 1 ∷ []))
+    (quiet (command B 0x2861) ∷ quiet (command B 0x3c81) ∷ gap B ∷ idle_slot ∷ quiet (command B 0x3800) ∷ quiet (data_word B 0x0007)
+    ∷ gap_sends_and_hands B 0x2800 (HandsReceived false 3 (0x0007 ∷ [])) ∷ [])
+
 -- the other terminal keeps silent
 abbrev pub RtToRtTimeout : Type 0
 RtToRtTimeout = Answers (five (OwnReceive 3 1 ∷ []))
-    (quiet (command A 0x2861) ∷ quiet (command A 0x3c81) ∷ gap A ∷ idle_slot ∷ gap A ∷ idle_slot ∷ quiet (command A 0x2c02) ∷ gap_sends A 0x2c00 [] ∷ [])
+    (quiet (command A 0x2861) ∷ quiet (command A 0x3c81) ∷ gap A ∷ idle_slot ∷ gap A ∷ idle_slot
+    ∷ quiet (command A 0x2c02) ∷ gap_sends A 0x2c00 [] ∷ [])
 
 -- a command that comes in place of the awaited status starts a message of its own
 abbrev pub CommandEndsWaiting : Type 0
@@ -49,8 +56,8 @@ InvalidStatus = Answers (five (OwnReceive 3 2 ∷ []))
 -- noise after the awaited status
 abbrev pub NoiseAfterStatus : Type 0
 NoiseAfterStatus = Answers (five (OwnReceive 3 2 ∷ []))
-    (quiet (command A 0x2862) ∷ quiet (command A 0x3c81) ∷ gap A ∷ idle_slot ∷ quiet (command A 0x3800) ∷ quiet (Noise A) ∷ gap A ∷ idle_slot
-    ∷ quiet (command A 0x2c02) ∷ gap_sends A 0x2c00 [] ∷ [])
+    (quiet (command A 0x2862) ∷ quiet (command A 0x3c81) ∷ gap A ∷ idle_slot ∷ quiet (command A 0x3800) ∷ quiet (Noise A)
+    ∷ gap A ∷ idle_slot ∷ quiet (command A 0x2c02) ∷ gap_sends A 0x2c00 [] ∷ [])
 
 -- this terminal is the transmitter of a broadcast transfer
 abbrev pub BroadcastTransmitter : Type 0
@@ -74,10 +81,21 @@ Superseded = Answers (five (OwnReceive 3 2 ∷ []))
     (quiet (command A 0x2862) ∷ quiet (data_word A 0x1111) ∷ quiet (command B 0x2c02) ∷ gap_sends B 0x2800 []
     ∷ quiet (data_word A 0x2222) ∷ gap A ∷ idle_slot ∷ [])
 
+-- noise on the other bus doesn't matter
+abbrev pub NoiseOnOtherBus : Type 0
+NoiseOnOtherBus = Answers (five (OwnReceive 3 1 ∷ []))
+    (quiet (command A 0x2861) ∷ quiet (Noise B) ∷ quiet (data_word A 0x0007)
+    ∷ gap_sends_and_hands A 0x2800 (HandsReceived false 3 (0x0007 ∷ [])) ∷ [])
+
 -- a word that starts nothing drops nothing: the run of bus A holds an earlier word for the terminal
 abbrev pub EarlierWordInRun : Type 0
 EarlierWordInRun = Answers (five [])
     (quiet (command A 0x2862) ∷ quiet (command B 0x2c02) ∷ quiet (command A 0x2c02) ∷ gap A ∷ idle_slot ∷ gap_sends B 0x2800 [] ∷ [])
+
+-- nor does a gap on bus B end that run
+abbrev pub GapOnOtherBus : Type 0
+GapOnOtherBus = Answers (five [])
+    (quiet (command A 0x2c02) ∷ quiet (command B 0x2c02) ∷ gap_sends B 0x2800 [] ∷ quiet (command A 0x2c02) ∷ gap A ∷ idle_slot ∷ [])
 
 -- the awaited status is no word for the terminal: after it and a command on the other bus, a command in the
 -- same run starts a message
@@ -97,6 +115,18 @@ abbrev pub ShutdownOtherBus : Type 0
 ShutdownOtherBus = Answers (five [])
     (quiet (command A 0x2c04) ∷ gap_sends A 0x2800 [] ∷ quiet (command B 0x2c02) ∷ gap B ∷ idle_slot
     ∷ quiet (command A 0x2c05) ∷ gap_sends A 0x2800 [] ∷ quiet (command B 0x2c02) ∷ gap_sends B 0x2800 [] ∷ [])
+
+-- override transmitter shutdown on its own bus doesn't bring it back: it is the other one that comes back
+abbrev pub OverrideOnOwnBus : Type 0
+OverrideOnOwnBus = Answers (five [])
+    (quiet (command A 0x2c04) ∷ gap_sends A 0x2800 [] ∷ quiet (command B 0x2c05) ∷ gap B ∷ idle_slot
+    ∷ quiet (command B 0x2c02) ∷ gap B ∷ idle_slot ∷ [])
+
+-- nor does a transmitter shutdown on its own bus, which shuts down the other one
+abbrev pub ShutdownOnOwnBus : Type 0
+ShutdownOnOwnBus = Answers (five [])
+    (quiet (command A 0x2c04) ∷ gap_sends A 0x2800 [] ∷ quiet (command B 0x2c04) ∷ gap B ∷ idle_slot
+    ∷ quiet (command B 0x2c02) ∷ gap B ∷ idle_slot ∷ [])
 
 -- where the transmitter is shut down, words are received all the same
 abbrev pub ReceivedInSilence : Type 0

@@ -1,8 +1,9 @@
 -- Worked examples: which transfers wait, and for what.
-use Rattle.std.specs.Prelude.{[], ◌∷◌, false}
-use Rattle.bus_word.specs.declared.word.Bus.TheVariants.{A}
+use Rattle.std.specs.Prelude.{[], ◌∷◌, true, false}
+use Rattle.bus_word.specs.declared.word.Bus.TheVariants.{A, B}
 use Rattle.bus_word.specs.declared.cell.Cell.TheVariants.{OwnReceive, OwnMode}
-use Rattle.terminal_rules.specs.declared.event.Event.TheVariants.{Noise}
+use Rattle.terminal_rules.specs.declared.event.Event.TheVariants.{Noise, Flag as FlagIs}
+use Rattle.terminal_rules.specs.declared.event.Flag.TheVariants.{Service}
 use Rattle.terminal_rules.specs.Out.{HandsReceived}
 use Rattle.terminal_rules.specs.WorkedExamples.Words.{five, command, data_word, invalid, quiet, gap, idle_slot, gap_sends, gap_sends_and_hands, Answers}
 
@@ -18,10 +19,27 @@ NoiseEndsWaitingForGood = Answers (five (OwnReceive 3 1 ∷ []))
     (quiet (command A 0x2861) ∷ quiet (command A 0x3c81) ∷ gap A ∷ idle_slot ∷ quiet (Noise A) ∷ quiet (command A 0x3800)
     ∷ quiet (data_word A 0x0007) ∷ gap A ∷ idle_slot ∷ quiet (command A 0x2c02) ∷ gap_sends A 0x2c00 [] ∷ [])
 
+-- noise ends the message in error, and the next status shows the flags as they stood
+abbrev pub NoiseInWaitingShowsFlags : Type 0
+NoiseInWaitingShowsFlags = Answers (five [])
+    (quiet (FlagIs Service true) ∷ quiet (command A 0x2861) ∷ quiet (command A 0x3c81) ∷ gap A ∷ idle_slot ∷ quiet (Noise A)
+    ∷ quiet (command A 0x2c02) ∷ gap_sends A 0x2d00 [] ∷ [])
+
+-- a command on the other bus ends the waiting too, and that is no error
+abbrev pub OtherBusEndsWaiting : Type 0
+OtherBusEndsWaiting = Answers (five [])
+    (quiet (command A 0x2861) ∷ quiet (command A 0x3c81) ∷ gap A ∷ idle_slot ∷ quiet (command B 0x2c02) ∷ gap_sends B 0x2800 [] ∷ [])
+
 -- the awaited status is one whatever its other bits
 abbrev pub AwaitedStatusWithError : Type 0
 AwaitedStatusWithError = Answers (five (OwnReceive 3 1 ∷ []))
     (quiet (command A 0x2861) ∷ quiet (command A 0x3c81) ∷ gap A ∷ idle_slot ∷ quiet (command A 0x3c00)
+    ∷ quiet (data_word A 0x0007) ∷ gap_sends_and_hands A 0x2800 (HandsReceived false 3 (0x0007 ∷ [])) ∷ [])
+
+-- and from whatever other address: here 21
+abbrev pub HighTransmitter : Type 0
+HighTransmitter = Answers (five (OwnReceive 3 1 ∷ []))
+    (quiet (command A 0x2861) ∷ quiet (command A 0xac81) ∷ gap A ∷ idle_slot ∷ quiet (command A 0xa800)
     ∷ quiet (data_word A 0x0007) ∷ gap_sends_and_hands A 0x2800 (HandsReceived false 3 (0x0007 ∷ [])) ∷ [])
 
 -- a data word with the bits of the awaited status is none
@@ -66,6 +84,12 @@ DataWordIsNoSecondCommand = Answers (five (OwnReceive 3 2 ∷ []))
     (quiet (command A 0x2862) ∷ quiet (data_word A 0x3c81) ∷ gap A ∷ idle_slot ∷ quiet (command A 0x3800)
     ∷ quiet (data_word A 0x0001) ∷ quiet (data_word A 0x0002) ∷ gap A ∷ idle_slot ∷ quiet (command A 0x2c02)
     ∷ gap_sends A 0x2c00 [] ∷ [])
+
+-- nor does a second command after data
+abbrev pub NoTransferAfterData : Type 0
+NoTransferAfterData = Answers (five (OwnReceive 3 1 ∷ []))
+    (quiet (command A 0x2861) ∷ quiet (data_word A 0x0001) ∷ quiet (command A 0x3c81) ∷ gap A ∷ idle_slot ∷ quiet (command A 0x3800)
+    ∷ quiet (data_word A 0x0007) ∷ gap A ∷ idle_slot ∷ quiet (command A 0x2c02) ∷ gap_sends A 0x2c00 [] ∷ [])
 
 -- after the awaited status a command and a gap make no second transfer
 abbrev pub WaitsOnce : Type 0
