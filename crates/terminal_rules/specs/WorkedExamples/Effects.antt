@@ -1,28 +1,39 @@
 -- Worked examples: what a message leaves, of the kept status, of the words held ready, and of what a reset brings back.
-use Rattle.std.specs.Prelude.{[], ◌∷◌, true, false}
+use Rattle.std.specs.Prelude.{[], ◌∷◌, ℕ, true, false, ◌==◌, ◌&&◌, if◌then◌else◌}
 use Rattle.bus_word.specs.declared.word.Bus.TheVariants.{A, B}
 use Rattle.bus_word.specs.declared.cell.Cell.TheVariants.{OwnReceive, OwnTransmit, BroadReceive, OwnMode, BroadMode}
 use Rattle.terminal_rules.specs.declared.event.Event.TheVariants.{Flag as FlagIs}
-use Rattle.terminal_rules.specs.declared.event.Flag.TheVariants.{Service, Busy}
+use Rattle.terminal_rules.specs.declared.event.Flag.TheVariants.{Service, Busy, Terminal}
 use Rattle.terminal_rules.specs.Out.{HandsReceived}
-use Rattle.terminal_rules.specs.WorkedExamples.Words.{five, five_hearing_all, command, data_word, quiet, gap, gap_sends, gap_hands, gap_sends_and_hands, Answers}
+use Rattle.terminal_rules.specs.WorkedExamples.Words.{five, five_hearing_all, command, data_word, write, quiet, gap, idle_slot, gap_sends, gap_hands, gap_sends_and_hands, Answers}
 
 -- transmit status word that ends in error adds message error to the kept status, which keeps its other bits
 abbrev pub SparedStatusKeepsItsBits : Type 0
 SparedStatusKeepsItsBits = Answers (five_hearing_all [])
-    (quiet (command A 0xfc02) ∷ gap A ∷ quiet (command A 0x2c02) ∷ quiet (data_word A 0x0000) ∷ gap A
+    (quiet (command A 0xfc02) ∷ gap A ∷ idle_slot ∷ quiet (command A 0x2c02) ∷ quiet (data_word A 0x0000) ∷ gap A ∷ idle_slot
     ∷ quiet (command A 0x2c02) ∷ gap_sends A 0x2c10 [] ∷ [])
 
 -- the status of a message that ends in error shows the flags as they stood at its end
 abbrev pub ErrorShowsFlags : Type 0
 ErrorShowsFlags = Answers (five (OwnReceive 3 2 ∷ []))
-    (quiet (FlagIs Busy true) ∷ quiet (command A 0x2862) ∷ quiet (data_word A 0x0001) ∷ gap A
+    (quiet (FlagIs Busy true) ∷ quiet (command A 0x2862) ∷ quiet (data_word A 0x0001) ∷ gap A ∷ idle_slot
     ∷ quiet (FlagIs Busy false) ∷ quiet (command A 0x2c02) ∷ gap_sends A 0x2c08 [] ∷ [])
+
+-- but not the terminal flag while it is inhibited: here a broadcast is illegal
+abbrev pub ErrorHidesInhibitedFlag : Type 0
+ErrorHidesInhibitedFlag = Answers (five_hearing_all (OwnMode 6 ∷ []))
+    (quiet (FlagIs Terminal true) ∷ quiet (command A 0x2c06) ∷ gap_sends A 0x2800 [] ∷ quiet (command A 0xfc02)
+    ∷ gap A ∷ idle_slot ∷ quiet (command A 0x2c02) ∷ gap_sends A 0x2c10 [] ∷ [])
 
 -- a start clears the kept status: until its message ends no flag shows
 abbrev pub StartClearsFlags : Type 0
 StartClearsFlags = Answers (five (OwnReceive 3 2 ∷ []))
     (quiet (FlagIs Busy true) ∷ quiet (command A 0x2862) ∷ quiet (command B 0x2c02) ∷ gap_sends B 0x2800 [] ∷ [])
+
+-- and no earlier broadcast: a transmit last command that isn't legal clears it too, and tells of itself alone
+abbrev pub IllegalForgetsBroadcast : Type 0
+IllegalForgetsBroadcast = Answers (five_hearing_all [])
+    (quiet (command A 0xfc02) ∷ gap A ∷ idle_slot ∷ quiet (command A 0x2c12) ∷ gap_sends A 0x2c00 [] ∷ [])
 
 -- while busy, the last command is told
 abbrev pub BusyLastCommand : Type 0
@@ -38,8 +49,14 @@ BusySynchronizeWithData = Answers (five (OwnMode 17 ∷ []))
 -- while busy, a broadcast is not handed over, and the kept status shows both
 abbrev pub BusyBroadcast : Type 0
 BusyBroadcast = Answers (five_hearing_all (BroadReceive 3 1 ∷ []))
-    (quiet (FlagIs Busy true) ∷ quiet (command A 0xf861) ∷ quiet (data_word A 0x0007) ∷ gap A
+    (quiet (FlagIs Busy true) ∷ quiet (command A 0xf861) ∷ quiet (data_word A 0x0007) ∷ gap A ∷ idle_slot
     ∷ quiet (command A 0x2c02) ∷ gap_sends A 0x2818 [] ∷ [])
+
+-- while busy, no words are held for wraparound
+abbrev pub BusyWraparound : Type 0
+BusyWraparound = Answers (five (OwnReceive 30 1 ∷ OwnTransmit 30 1 ∷ []))
+    (quiet (FlagIs Busy true) ∷ quiet (command A 0x2bc1) ∷ quiet (data_word A 0x0007) ∷ gap_sends A 0x2808 []
+    ∷ quiet (FlagIs Busy false) ∷ quiet (command A 0x2fc1) ∷ gap_sends A 0x2800 (0x0000 ∷ []) ∷ [])
 
 -- a shorter message by wraparound leaves the words behind its own, and a reset brings all back
 abbrev pub WraparoundInPart : Type 0
@@ -53,19 +70,39 @@ WraparoundInPart = Answers (five (OwnReceive 30 1 ∷ OwnReceive 30 2 ∷ OwnTra
 -- words that come by broadcast are held too
 abbrev pub WraparoundByBroadcast : Type 0
 WraparoundByBroadcast = Answers (five_hearing_all (BroadReceive 30 1 ∷ OwnTransmit 30 1 ∷ []))
-    (quiet (command A 0xfbc1) ∷ quiet (data_word A 0xbeef) ∷ gap_hands A (HandsReceived true 30 (0xbeef ∷ []))
+    (quiet (command A 0xfbc1) ∷ quiet (data_word A 0xbeef) ∷ gap_hands A (HandsReceived true 30 (0xbeef ∷ [])) ∷ idle_slot
     ∷ quiet (command A 0x2fc1) ∷ gap_sends A 0x2800 (0xbeef ∷ []) ∷ [])
+
+abbrev pub ten_at_one : ℕ → ℕ → ℕ
+ten_at_one s i = if (s == 1) && (i == 1) then 0x000a else 0
+
+-- the words of another subaddress are not sent
+abbrev pub WordOfAnotherSubaddress : Type 0
+WordOfAnotherSubaddress = Answers (record (five (OwnTransmit 30 1 ∷ [])) { initial = ten_at_one })
+    (quiet (command A 0x2fc1) ∷ gap_sends A 0x2800 (0x0000 ∷ []) ∷ [])
+
+-- a reset takes back the words that the subsystem wrote
+abbrev pub WrittenWordAndReset : Type 0
+WrittenWordAndReset = Answers (five (OwnTransmit 3 1 ∷ []))
+    (quiet (write 3 1 0x1234) ∷ quiet (command A 0x2c08) ∷ gap_sends A 0x2800 [] ∷ quiet (command A 0x2c61)
+    ∷ gap_sends A 0x2800 (0x0000 ∷ []) ∷ [])
 
 -- by broadcast too, the transmitter of the other bus is shut down
 abbrev pub BroadcastShutdown : Type 0
 BroadcastShutdown = Answers (five_hearing_all (BroadMode 4 ∷ []))
-    (quiet (command A 0xfc04) ∷ gap A ∷ quiet (command B 0x2c02) ∷ gap B ∷ quiet (command A 0x2c02)
+    (quiet (command A 0xfc04) ∷ gap A ∷ idle_slot ∷ quiet (command B 0x2c02) ∷ gap B ∷ idle_slot ∷ quiet (command A 0x2c02)
+    ∷ gap_sends A 0x2810 [] ∷ [])
+
+-- by broadcast too, the terminal flag is inhibited
+abbrev pub BroadcastInhibit : Type 0
+BroadcastInhibit = Answers (five_hearing_all (BroadMode 6 ∷ []))
+    (quiet (FlagIs Terminal true) ∷ quiet (command A 0xfc06) ∷ gap A ∷ idle_slot ∷ quiet (command A 0x2c02)
     ∷ gap_sends A 0x2810 [] ∷ [])
 
 -- by broadcast too, all is reset
 abbrev pub BroadcastReset : Type 0
 BroadcastReset = Answers (five_hearing_all (BroadMode 8 ∷ OwnMode 18 ∷ []))
-    (quiet (command A 0x2c61) ∷ gap_sends A 0x2c00 [] ∷ quiet (command A 0xfc08) ∷ gap A ∷ quiet (command A 0x2c12)
+    (quiet (command A 0x2c61) ∷ gap_sends A 0x2c00 [] ∷ quiet (command A 0xfc08) ∷ gap A ∷ idle_slot ∷ quiet (command A 0x2c12)
     ∷ gap_sends A 0x2800 (0x0000 ∷ []) ∷ [])
 
 -- a reset clears the kept status after its own was sent

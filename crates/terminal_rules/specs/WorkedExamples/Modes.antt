@@ -3,9 +3,9 @@ use Rattle.std.specs.Prelude.{[], ◌∷◌, ℕ, true, false, ◌==◌, ◌&&�
 use Rattle.bus_word.specs.declared.word.Bus.TheVariants.{A, B}
 use Rattle.bus_word.specs.declared.cell.Cell.TheVariants.{OwnReceive, OwnTransmit, OwnMode, BroadMode}
 use Rattle.terminal_rules.specs.declared.event.Event.TheVariants.{Vector, Flag as FlagIs}
-use Rattle.terminal_rules.specs.declared.event.Flag.TheVariants.{Busy, Terminal}
-use Rattle.terminal_rules.specs.Out.{HandsReceived, HandsSynchronizeWith, HandsBusControl}
-use Rattle.terminal_rules.specs.WorkedExamples.Words.{five, five_hearing_all, command, data_word, write, quiet, gap_sends, gap_hands, gap_sends_and_hands, Answers}
+use Rattle.terminal_rules.specs.declared.event.Flag.TheVariants.{Busy, Subsystem, Terminal}
+use Rattle.terminal_rules.specs.Out.{HandsReceived, HandsSynchronizeWith, HandsSelfTest, HandsBusControl}
+use Rattle.terminal_rules.specs.WorkedExamples.Words.{five, five_hearing_all, command, data_word, write, quiet, gap, idle_slot, gap_sends, gap_hands, gap_sends_and_hands, Answers}
 
 -- what is received at the wraparound subaddress is sent from there
 abbrev pub Wraparound : Type 0
@@ -32,6 +32,11 @@ LastCommand = Answers (five (OwnMode 18 ∷ []))
 abbrev pub LastCommandAfterReset : Type 0
 LastCommandAfterReset = Answers (five (OwnMode 18 ∷ []))
     (quiet (command A 0x2c08) ∷ gap_sends A 0x2800 [] ∷ quiet (command A 0x2c12) ∷ gap_sends A 0x2800 (0 ∷ []) ∷ [])
+
+-- a broadcast command is told whole
+abbrev pub LastCommandAfterBroadcast : Type 0
+LastCommandAfterBroadcast = Answers (five_hearing_all (OwnMode 18 ∷ []))
+    (quiet (command A 0xfc02) ∷ gap A ∷ idle_slot ∷ quiet (command A 0x2c12) ∷ gap_sends A 0x2c10 (0xfc02 ∷ []) ∷ [])
 
 -- while busy, no data is taken
 abbrev pub BusyReceive : Type 0
@@ -65,11 +70,26 @@ InhibitedUntilReset = Answers (five (OwnMode 6 ∷ []))
     ∷ gap_sends A 0x2800 [] ∷ quiet (command A 0x2c02) ∷ gap_sends A 0x2800 [] ∷ quiet (command A 0x2c05)
     ∷ gap_sends A 0x2801 [] ∷ [])
 
+-- the subsystem flag shows, and no other bit with it
+abbrev pub SubsystemFlag : Type 0
+SubsystemFlag = Answers (five [])
+    (quiet (FlagIs Subsystem true) ∷ quiet (command A 0x2c05) ∷ gap_sends A 0x2804 [] ∷ [])
+
 -- a reset takes back the vector word that the subsystem gave
 abbrev pub VectorAndReset : Type 0
 VectorAndReset = Answers (record (five (OwnMode 16 ∷ [])) { vector = 0x00aa })
     (quiet (Vector 0x1234) ∷ quiet (command A 0x2c10) ∷ gap_sends A 0x2800 (0x1234 ∷ []) ∷ quiet (command A 0x2c08)
     ∷ gap_sends A 0x2800 [] ∷ quiet (command A 0x2c10) ∷ gap_sends A 0x2800 (0x00aa ∷ []) ∷ [])
+
+-- the subsystem may give it while busy
+abbrev pub VectorGivenWhileBusy : Type 0
+VectorGivenWhileBusy = Answers (five (OwnMode 16 ∷ []))
+    (quiet (FlagIs Busy true) ∷ quiet (Vector 0x1234) ∷ quiet (FlagIs Busy false) ∷ quiet (command A 0x2c10)
+    ∷ gap_sends A 0x2800 (0x1234 ∷ []) ∷ [])
+
+-- a self-test is handed over
+abbrev pub SelfTest : Type 0
+SelfTest = Answers (five (OwnMode 3 ∷ [])) (quiet (command A 0x2c03) ∷ gap_sends_and_hands A 0x2800 HandsSelfTest ∷ [])
 
 -- dynamic bus control is accepted
 abbrev pub BusControl : Type 0
@@ -79,7 +99,7 @@ BusControl = Answers (record (five (OwnMode 0 ∷ [])) { accept = true })
 -- synchronize with data word by broadcast
 abbrev pub BroadcastSync : Type 0
 BroadcastSync = Answers (five_hearing_all (BroadMode 17 ∷ []))
-    (quiet (command A 0xf811) ∷ quiet (data_word A 0x00ff) ∷ gap_hands A (HandsSynchronizeWith 0x00ff)
+    (quiet (command A 0xf811) ∷ quiet (data_word A 0x00ff) ∷ gap_hands A (HandsSynchronizeWith 0x00ff) ∷ idle_slot
     ∷ quiet (command A 0x2c02) ∷ gap_sends A 0x2810 [] ∷ [])
 
 abbrev pub ten_first : ℕ → ℕ → ℕ

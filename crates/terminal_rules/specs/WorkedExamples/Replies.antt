@@ -56,7 +56,8 @@ ResetDropped = Answers vector_ready
 -- where nothing is to be sent, it acts at its gap
 abbrev pub ResetInSilenceAtTheGap : Type 0
 ResetInSilenceAtTheGap = Answers (five [])
-    (quiet (command A 0x2c04) ∷ gap_sends A 0x2800 [] ∷ quiet (command B 0x2c08) ∷ gap B ∷ quiet (command B 0x2c02) ∷ gap B ∷ slot_status B 0x2800 ∷ [])
+    (quiet (command A 0x2c04) ∷ gap_sends A 0x2800 [] ∷ quiet (command B 0x2c08) ∷ gap B ∷ idle_slot
+    ∷ quiet (command B 0x2c02) ∷ gap B ∷ slot_status B 0x2800 ∷ [])
 
 -- a reset that was dropped leaves the status formed at its gap as the kept one
 abbrev pub DroppedResetKeepsStatus : Type 0
