@@ -146,8 +146,8 @@ failing() {
     count "$variable=$number $*" $?
 }
 
-# runs `five` over `script` with one read or write that fails: strike VARIABLE NUMBER. Sets `given`, the status,
-# and `struck`, 0 if one has failed; $work holds what the run gave
+# runs `five` over `script` with one read or write that fails, or with few bytes at once: strike VARIABLE NUMBER. Sets
+# `given`, the status, and `struck`, 0 if it met that; $work holds what the run gave
 strike() {
     rm -f "$work/mark"
     (cd "$work" && env LD_PRELOAD="$work/refuse.so" REFUSE_MARK="$work/mark" "$1=$2" "$program" run five script <stdin >stdout 2>stderr)
@@ -201,11 +201,13 @@ run_with_failing_writes() {
 
 # a run over `script`, whose transcript is $work/want-stdout, where the system takes and gives few bytes at once
 run_in_pieces() {
-    local piece
-    for piece in SHORT_{READ,WRITE}={1,2,3,7,63}; do
-        (cd "$work" && env "LD_PRELOAD=$work/refuse.so" "$piece" "$program" run five script <stdin >stdout 2>stderr)
-        [[ $? -eq 0 && ! -s $work/stderr ]] && cmp -s "$work/stdout" "$work/want-stdout"
-        count "run, $piece" $?
+    local kind size
+    for kind in READ WRITE; do
+        for size in 1 2 3 7 63; do
+            strike "SHORT_$kind" "$size"
+            [[ $given -eq 0 && $struck -eq 0 && ! -s $work/stderr ]] && cmp -s "$work/stdout" "$work/want-stdout"
+            count "run, $size bytes at once, $kind" $?
+        done
     done
 }
 
