@@ -83,12 +83,12 @@ fn job_of<'a>(matches: &ArgMatches<'a>) -> Option<Job<'a>>
 
 /// Reads the words of the command line, of which the first is the program's own name. Accepts just words
 /// that clap finds no fault with, and names the job that they mean. Refuses words with `Usage` only where clap
-/// finds a fault with them or they name no job, so that want of memory is never told as wrong words. As clap has
-/// it, `--` alone counts as no words, and `check -- P` as `check P`.
+/// finds a fault with them, and others for want of memory alone. As clap has it, `--` alone counts as no words, and
+/// `check -- P` as `check P`.
 pub fn read_words<'a, S: AsStr>(alloc: Global, words: &'a [S]) -> Result<Job<'a>, WordFault>
     ensures accepted { IfOk result (λ _. fault_of program (map S.text words.entry.now) ≡ []) }
     ensures job { IfOk result (λ job. MeansJob job (subcommand_of program (map S.text words.entry.now))) }
-    ensures refused { IfErr result (λ fault. fault ≡ WordFault.Usage → fault_of program (map S.text words.entry.now) ≡ [] → MeansNoJob (subcommand_of program (map S.text words.entry.now))) }
+    ensures refused { IfErr result (λ fault. fault ≡ WordFault.Usage → fault_of program (map S.text words.entry.now) ≡ [] → ⊥) }
 {
     let Ok(command) = command(alloc) else {
         return Err(WordFault::Memory);
