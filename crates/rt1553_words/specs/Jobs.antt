@@ -27,3 +27,7 @@ MeansJob (job.Check p) met = HasOneFile (codes "check") p.now met
 MeansJob (job.Canon p) met = HasOneFile (codes "canon") p.now met
 MeansJob (job.Run p q) met = HasTwoFiles (codes "run") p.now q.now met
 MeansJob (job.Compare p q) met = HasTwoFiles (codes "compare") p.now q.now met
+
+-- the words name no job
+abbrev pub MeansNoJob : Option (Text × List Row) → Type 0
+MeansNoJob met = (job : Job) → MeansJob job met → ⊥

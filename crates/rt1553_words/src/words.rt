@@ -1,8 +1,8 @@
 //! The words of the command line.
-ghost use Rattle.std.specs.Prelude.{◌≡◌, IfOk, IfSome, Some, codes, [], false, map};
+ghost use Rattle.std.specs.Prelude.{◌≡◌, IfErr, IfNone, IfOk, IfSome, Some, codes, [], false, map};
 ghost use Rattle.clap.specs.Words.{app_of, fault_of, rule_of, subcommand_of, subcommand_rows_of};
 ghost use Rattle.clap.specs.declared.builder.command.Command.TheViews.{out-Command};
-ghost use Rattle.rt1553_words.specs.Jobs.{MeansJob};
+ghost use Rattle.rt1553_words.specs.Jobs.{MeansJob, MeansNoJob};
 ghost use Rattle.rt1553_words.specs.Program.{file_rule, one_file_app, two_files_app, program};
 
 use clap::error::ErrorKind;
@@ -66,7 +66,8 @@ fn command<'a>(alloc: Global) -> Result<Command<'a>, AllocError>
 }
 
 fn job_of<'a>(matches: &ArgMatches<'a>) -> Option<Job<'a>>
-    ensures { IfSome result (λ job. MeansJob job (subcommand_rows_of matches.now)) }
+    ensures some { IfSome result (λ job. MeansJob job (subcommand_rows_of matches.now)) }
+    ensures none { IfNone result (MeansNoJob (subcommand_rows_of matches.now)) }
 {
     let Some((name, words)) = matches.subcommand() else {
         return Some(Job::Standard);
@@ -81,11 +82,13 @@ fn job_of<'a>(matches: &ArgMatches<'a>) -> Option<Job<'a>>
 }
 
 /// Reads the words of the command line, of which the first is the program's own name. Accepts just words
-/// that clap finds no fault with, and names the job that they mean. As clap has it, `--` alone counts as no
-/// words, and `check -- P` as `check P`.
+/// that clap finds no fault with, and names the job that they mean. Refuses words with `Usage` only where clap
+/// finds a fault with them, and others for want of memory alone. As clap has it, `--` alone counts as no words, and
+/// `check -- P` as `check P`.
 pub fn read_words<'a, S: AsStr>(alloc: Global, words: &'a [S]) -> Result<Job<'a>, WordFault>
     ensures accepted { IfOk result (λ _. fault_of program (map S.text words.entry.now) ≡ []) }
     ensures job { IfOk result (λ job. MeansJob job (subcommand_of program (map S.text words.entry.now))) }
+    ensures refused { IfErr result (λ fault. fault ≡ WordFault.Usage → fault_of program (map S.text words.entry.now) ≡ [] → ⊥) }
 {
     let Ok(command) = command(alloc) else {
         return Err(WordFault::Memory);
