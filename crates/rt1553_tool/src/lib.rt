@@ -2,8 +2,14 @@
 //! terminal, and a terminal that is played line by line.
 #![tactic(auto)]
 
+mod numbers;
+mod profile_text;
+mod session;
 mod stated;
-mod verify;
+mod verifying;
+mod written;
 
+pub use profile_text::{TomlFault, toml_of};
+pub use session::{play, serve};
 pub use stated::{Stated, StatedFault, read_stated};
-pub use verify::{Difference, differences};
+pub use verifying::{Difference, differences, verify};

@@ -1,5 +1,4 @@
-use Rattle.std.proofs.Common.{map, arith}
-use Rattle.rt1553_tool.specs.Verify.{event_of}
+use Rattle.std.proofs.Common.{arith}
 use Rattle.rt1553_tool.proofs.StatedLaws.{reads_on, read_all}
 use Rattle.rt1553_tool.proofs.stated.read_stated.Goals as goal
 

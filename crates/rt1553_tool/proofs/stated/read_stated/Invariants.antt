@@ -1,4 +1,4 @@
-use Rattle.std.proofs.Common.{ℕ, ◌≡◌, ◌≤◌, length, map}
+use Rattle.std.proofs.Common.{◌≡◌, ◌≤◌, length, map}
 use Rattle.bus_script.specs.Line.{meaning}
 use Rattle.bus_script.specs.Text.{lines_of}
 use Rattle.bus_script.specs.Reading.{reading, adds}

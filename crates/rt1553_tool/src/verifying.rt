@@ -5,9 +5,9 @@ ghost use Rattle.bus_legal.specs.Parts.{description_in};
 ghost use Rattle.bus_legal.specs.Reach.{reach};
 ghost use Rattle.terminal_rules.specs.declared.event.Event.{Event};
 ghost use Rattle.bus_terminal.specs.Stands.{StandsAt};
-ghost use Rattle.rt1553_tool.specs.Verify.{told, differing_at, differing};
+ghost use Rattle.rt1553_tool.specs.Verify.{told, differing_at, differing, Verifies};
 
-use crate::Stated;
+use crate::{Stated, StatedFault, read_stated};
 use bus_legal::{Legality, Normal};
 use bus_script::write_answer;
 use bus_terminal::Terminal;
@@ -61,4 +61,13 @@ pub fn differences(alloc: Global, normal: &Normal, script: &[Stated]) -> Result<
         compare(alloc, &mut terminal, stated, &mut found)?;
     }
     Ok(found)
+}
+
+/// Plays a script that states its answers to a terminal from power-up, and tells each event that is not answered so, in
+/// their order. Nothing is told of a script that is refused.
+pub fn verify(alloc: Global, normal: &Normal, script: &[u8]) -> Result<Vec<Difference>, StatedFault>
+    ensures { (P : Description) → description_in normal.now ≡ reach P → IfOk result (λ found. Verifies P script.now (map told found.items)) }
+{
+    let read = read_stated(alloc, script)?;
+    Ok(differences(alloc, normal, read.as_slice())?)
 }

@@ -4,7 +4,7 @@ use Rattle.bus_legal.specs.Tables.{tables_say}
 use Rattle.terminal_rules.specs.declared.event.Event.{Event}
 use Rattle.bus_terminal.specs.Stands.{StandsAt}
 use Rattle.rt1553_tool.specs.Verify.{told, differing}
-use Rattle.rt1553_tool.proofs.verify.differences.Given as goal
+use Rattle.rt1553_tool.proofs.verifying.differences.Given as goal
 
 abbrev pub invariant-loop-stated : goal.invariant-loop-stated
 invariant-loop-stated l = (P : Description) → StandsAt (λ normal. tables_say normal.tables) P [] l.initial.terminal

@@ -1,11 +1,10 @@
-use Rattle.std.proofs.Common.{ℕ, ◌≡◌, ◌∙◌, ◌+◌, List, [], ◌∷◌, ◌++◌, map, drop, sym, ap, rules, arith}
+use Rattle.std.proofs.Common.{◌∙◌, ◌+◌, [], ◌∷◌, drop, ap, rules, arith}
 use Rattle.std.proofs.lemmas.List.{drop_more, drop_all}
 use Rattle.bus_legal.specs.Tables.{tables_say}
 use Rattle.bus_legal.specs.Description.{described}
 use Rattle.rt1553.proofs.EngineLaws.{set_up_alike}
-use Rattle.rt1553_tool.specs.Verify.{told, differing}
 use Rattle.rt1553_tool.proofs.VerifyLaws.{one_more, all_told, differing-alike}
-use Rattle.rt1553_tool.proofs.verify.differences.Goals as goal
+use Rattle.rt1553_tool.proofs.verifying.differences.Goals as goal
 
 pub loop-stated-preserved : goal.loop-stated-preserved
 loop-stated-preserved c P s =
