@@ -52,6 +52,15 @@ passes() {
         [[ ! -s $work/stdout && ! -s $work/stderr ]]
 }
 
+# whether the broken copy of a script differs at this event alone, by this stated and this given answer:
+# differs NAME PATH LINE EXPECTED CAME
+differs() {
+    "$program" verify "$profile" "$work/broken.script" </dev/null >"$work/stdout" 2>"$work/stderr"
+    [[ $? -eq 1 && ! -s $work/stderr && $(head -n 1 "$work/stdout") == "$work/broken.script:$3: expected $4, came $5" &&
+        $(tail -n +2 "$work/stdout") == "$work/broken.script: 1 differ" ]]
+    count "$1: ${2##*/}" $?
+}
+
 # every protocol test passes; one in which an answer was changed, or of which one was dropped, differs at its event
 validation() {
     local path profile number line event
@@ -70,13 +79,13 @@ generate.write(pathlib.Path('$work/families'))" || return
         [[ -n $number && -f $profile ]] || continue
         line=$(sed -n "${number}s/^#> //p" "$path")
         event=$(head -n "$((number - 1))" "$path" | grep -n '^[^#]' | tail -n 1 | cut -d : -f 1)
+        # an answer that goes on in the next line is more than this one
+        sed -n "$((number + 1))p" "$path" | grep -q '^#+ ' && continue
         sed "${number}d" "$path" >"$work/broken.script"
-        # an answer that goes on can't be dropped by its first line alone
-        if ! sed -n "$((number + 1))p" "$path" | grep -q '^#+ '; then
-            "$program" verify "$profile" "$work/broken.script" </dev/null >"$work/stdout" 2>/dev/null
-            [[ $? -eq 1 && $(head -n 1 "$work/stdout") == "$work/broken.script:$event: expected nothing, came $line" ]] &&
-                [[ $(tail -n 1 "$work/stdout") == "$work/broken.script: 1 differ" ]]
-            count "an answer dropped: ${path##*/}" $?
+        differs 'an answer dropped' "$path" "$event" nothing "$line"
+        if [[ $line != hand* ]]; then
+            sed "${number}s/.*/#> A s ffff/" "$path" >"$work/broken.script"
+            differs 'an answer changed' "$path" "$event" 'A s ffff' "$line"
         fi
     done
 }

@@ -1,11 +1,11 @@
 -- Laws of what a script says that states its answers.
-use Rattle.std.proofs.Common.{ℕ, ◌≡◌, ◌≢◌, ◌∙◌, ◌+◌, ◌-◌, ◌<◌, ◌≤◌, List, [], ◌∷◌, ◌++◌, Option, Some, None, Ok, length, get_or, take, drop, refl, sym, ap, subst, arith, map}
-use Rattle.std.proofs.lemmas.List.{take_all, drop_all, length-drop, append-nil}
+use Rattle.std.proofs.Common.{ℕ, ◌≡◌, ◌≢◌, ◌∙◌, ◌+◌, ◌-◌, ◌<◌, ◌≤◌, List, [], ◌∷◌, ◌++◌, Some, None, Ok, length, get_or, take, drop, refl, sym, ap, arith}
+use Rattle.std.proofs.lemmas.List.{take_all, drop_all, length-drop}
 use Rattle.terminal_rules.specs.declared.event.Event.{Event}
 use Rattle.line_format.specs.Reading.{after}
 use Rattle.line_format.proofs.Digits.{after-is}
 use Rattle.bus_script.specs.Line.{meaning}
-use Rattle.bus_script.specs.Text.{lines_of, NoLineFeed}
+use Rattle.bus_script.specs.Text.{lines_of}
 use Rattle.bus_script.specs.Reading.{Reading, reading, adds, nothing, then_reads}
 use Rattle.bus_script.specs.Playing.{Means}
 use Rattle.bus_script.proofs.LineLaws.{line_at, lines-line, lines-last, no_line_feed}
@@ -29,7 +29,7 @@ pub first-without_feed : (bytes : List ℕ) → 0 < length bytes → ((k : ℕ) 
 first-without_feed [] some none = absurd (omega arith)
 first-without_feed (b ∷ bytes) some none =
     let rest : take (length (b ∷ bytes) - length (b ∷ bytes)) (drop (length (b ∷ bytes)) (b ∷ bytes)) ≡ []
-        = ap (take (length (b ∷ bytes) - length (b ∷ bytes))) (drop_all (length (b ∷ bytes)) (b ∷ bytes) (omega arith)) ∙ take_all _ _ (omega arith) in
+    = ap (take (length (b ∷ bytes) - length (b ∷ bytes))) (drop_all (length (b ∷ bytes)) (b ∷ bytes) (omega arith)) ∙ take_all _ _ (omega arith) in
     lines-last b bytes (no_line_feed (b ∷ bytes) none) ∙ ap (λ ls. (b ∷ bytes) ∷ ls) (sym no-lines ∙ ap lines_of (sym rest))
 
 -- a comment says no event

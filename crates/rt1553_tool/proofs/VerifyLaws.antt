@@ -1,10 +1,8 @@
 -- Laws of what is told of a script that states its answers.
 use Rattle.std.proofs.Common.{ℕ, ◌≡◌, ◌∙◌, ◌+◌, List, [], ◌∷◌, ◌++◌, drop, refl, sym, ap, ap₂, append_assoc, append-nil}
-use Rattle.std.specs.Str.{bytes_eq}
 use Rattle.bus_legal.specs.Description.{Description}
 use Rattle.terminal_rules.specs.declared.event.Event.{Event}
-use Rattle.terminal_rules.specs.Out.{out}
-use Rattle.bus_script.specs.Transcript.{answer_text, text_at}
+use Rattle.bus_script.specs.Transcript.{answer_text}
 use Rattle.rt1553.proofs.EngineLaws.{AnswersAlike}
 use Rattle.rt1553_tool.specs.declared.stated.Stated.{Stated}
 use Rattle.rt1553_tool.specs.Verify.{Told, told_of, differing_at, differing}

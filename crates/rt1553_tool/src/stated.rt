@@ -76,7 +76,12 @@ fn is_open_to(latest: &Stated, line: &[u8]) -> bool {
 }
 
 /// Keeps what a line states of the answer to the latest event.
-fn state(alloc: Global, script: &mut Vec<Stated>, number: u64, line: &[u8]) -> Result<(), StatedFault>
+fn state(
+    alloc: Global,
+    script: &mut Vec<Stated>,
+    number: u64,
+    line: &[u8],
+) -> Result<(), StatedFault>
     ensures { OnOk result (map event_of script.new.items ≡ map event_of script.old.items) }
 {
     let Some(mut latest) = script.pop() else {
@@ -112,7 +117,12 @@ fn go_on(script: &mut Vec<Stated>, number: u64, rest: &[u8]) -> Result<(), State
 }
 
 /// Reads a line of a script that states no answer.
-fn read_plain(alloc: Global, script: &mut Vec<Stated>, lines: u64, line: &[u8]) -> Result<(), StatedFault>
+fn read_plain(
+    alloc: Global,
+    script: &mut Vec<Stated>,
+    lines: u64,
+    line: &[u8],
+) -> Result<(), StatedFault>
     requires { lines < 1048576 }
     ensures { OnOk result ((es : List Event) × Means meaning line.now lines es × (map event_of script.new.items ≡ map event_of script.old.items ++ es)) }
 {
@@ -131,7 +141,12 @@ fn read_plain(alloc: Global, script: &mut Vec<Stated>, lines: u64, line: &[u8]) 
 }
 
 /// Reads a line of a script, which follows `lines` lines.
-fn read_line(alloc: Global, script: &mut Vec<Stated>, lines: u64, line: &[u8]) -> Result<(), StatedFault>
+fn read_line(
+    alloc: Global,
+    script: &mut Vec<Stated>,
+    lines: u64,
+    line: &[u8],
+) -> Result<(), StatedFault>
     requires { lines < 1048576 }
     ensures { OnOk result ((es : List Event) × Means meaning line.now lines es × (map event_of script.new.items ≡ map event_of script.old.items ++ es)) }
 {

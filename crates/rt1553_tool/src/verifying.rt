@@ -51,7 +51,11 @@ fn compare<L: Legality>(
 
 /// Plays a script to a terminal from power-up, and tells each event that is not answered as the script states, in their
 /// order. An event without a stated answer is to be answered by nothing.
-pub fn differences(alloc: Global, normal: &Normal, script: &[Stated]) -> Result<Vec<Difference>, AllocError>
+pub fn differences(
+    alloc: Global,
+    normal: &Normal,
+    script: &[Stated],
+) -> Result<Vec<Difference>, AllocError>
     ensures { (P : Description) → description_in normal.now ≡ reach P → IfOk result (λ found. map told found.items ≡ differing P [] script.now) }
 {
     let setup = normal.setup();

@@ -176,9 +176,30 @@ pub fn write_profile(alloc: Global, normal: &Normal) -> Result<String, AllocErro
     if normal.bit() != 0 {
         writeln!(text, "bit = 0x{:04x}", normal.bit())?;
     }
-    push_rules(&mut text, "own", "receive", &tables.own_receive, Some(&tables.own_transmit), false)?;
-    push_rules(&mut text, "own", "transmit", &tables.own_transmit, Some(&tables.own_receive), true)?;
-    push_rules(&mut text, "broadcast", "receive", &tables.broadcast_receive, None, false)?;
+    push_rules(
+        &mut text,
+        "own",
+        "receive",
+        &tables.own_receive,
+        Some(&tables.own_transmit),
+        false,
+    )?;
+    push_rules(
+        &mut text,
+        "own",
+        "transmit",
+        &tables.own_transmit,
+        Some(&tables.own_receive),
+        true,
+    )?;
+    push_rules(
+        &mut text,
+        "broadcast",
+        "receive",
+        &tables.broadcast_receive,
+        None,
+        false,
+    )?;
     // what is legal in each profile needs no entry
     push_codes(&mut text, "own", tables.own_mode & !REQUIRED_CODES)?;
     push_codes(&mut text, "broadcast", tables.broadcast_mode)?;

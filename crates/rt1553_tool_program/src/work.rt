@@ -7,10 +7,9 @@ use bus_terminal::Terminal;
 use clap::ArgMatches;
 use rt1553::load;
 use rt1553_tool::{Difference, serve, toml_of, verify};
-use std::env;
-use std::fmt;
 use std::io::{BufReader, ErrorKind, Read, Write};
 use std::rt::{Env, Files};
+use std::{env, fmt};
 
 /// The status of a comparison that finds a difference.
 const DIFFERENT: u8 = 1;
@@ -37,7 +36,11 @@ fn put_answer<W: Write>(output: &mut W, answer: &[u8]) -> Result<(), Fault> {
 }
 
 /// Writes where a file differs.
-fn put_difference<W: Write>(output: &mut W, name: &str, difference: &Difference) -> Result<(), Fault> {
+fn put_difference<W: Write>(
+    output: &mut W,
+    name: &str,
+    difference: &Difference,
+) -> Result<(), Fault> {
     let line = difference.line;
     if write!(output, "{name}:{line}: expected ").is_err() {
         return Err(Fault::Output);
@@ -49,7 +52,12 @@ fn put_difference<W: Write>(output: &mut W, name: &str, difference: &Difference)
 }
 
 /// Plays a script, writes where it differs, and gives whether it does.
-fn verify_file<R: Files + AllocGlobal, W: Write>(rt: &R, normal: &Normal, name: &str, output: &mut W) -> Result<bool, Fault> {
+fn verify_file<R: Files + AllocGlobal, W: Write>(
+    rt: &R,
+    normal: &Normal,
+    name: &str,
+    output: &mut W,
+) -> Result<bool, Fault> {
     let script = read_script_file(rt, name)?;
     let found = match verify(rt.alloc(), normal, script.as_slice()) {
         Ok(found) => found,

@@ -1,4 +1,4 @@
-use Rattle.std.proofs.Common.{◌≤◌, arith, length}
+use Rattle.std.proofs.Common.{arith}
 use Rattle.bus_script.proofs.TranscriptLaws.{small_text}
 use Rattle.rt1553_tool.proofs.session.play.Goals as goal
 
