@@ -1,15 +1,19 @@
 # rt1553: build, install and test. All proofs, compilers and runs are the toolchain's command `rt`.
 PREFIX ?= /usr/local
 PROGRAM = crates/rt1553_program
+TOOL = crates/rt1553_tool_program
 
-# proves the program and all below it, and leaves it as bin/rt1553
+# proves the two programs and all below them, and leaves them as bin/rt1553 and bin/rt1553-tool
 build:
 	cd $(PROGRAM) && rt run </dev/null
+	cd $(TOOL) && rt run -- --version </dev/null
 	mkdir -p bin
 	cp $(PROGRAM)/out/rt1553_program bin/rt1553
+	cp $(TOOL)/out/rt1553_tool_program bin/rt1553-tool
 
 install: build
 	install -D bin/rt1553 $(DESTDIR)$(PREFIX)/bin/rt1553
+	install -D bin/rt1553-tool $(DESTDIR)$(PREFIX)/bin/rt1553-tool
 
 # the gate: proofs from nothing, tests, must-fail edits, the program from end to end, the sessions of the pages
 test:

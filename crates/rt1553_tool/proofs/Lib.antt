@@ -1,0 +1,2 @@
+pub mod StatedLaws
+pub mod VerifyLaws

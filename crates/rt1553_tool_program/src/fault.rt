@@ -1,0 +1,58 @@
+//! Why the program ends early, the line that it prints then, and the status that it ends with.
+use rt1553::LoadFault;
+use rt1553_tool::{StatedFault, TomlFault};
+use std::alloc::AllocError;
+use std::fmt;
+
+/// Why the program ends early. A text is the name of a file.
+#[derive(Debug, Drop)]
+pub enum Fault {
+    /// Memory was wanting.
+    Memory,
+    /// The file can't be opened or read.
+    CannotRead(String),
+    /// The file has more bytes than it may have.
+    TooLarge(String),
+    /// The input can't be read or the output can't be written.
+    Stream,
+    /// The output can't be written.
+    Output,
+    /// The profile or canonical text is refused.
+    Profile(String, LoadFault),
+    /// The script is refused.
+    Script(String, StatedFault),
+    /// No profile was made that means the same terminal.
+    Toml(TomlFault),
+}
+
+impl fmt::Display for Fault {
+    fn fmt<W: fmt::Write>(&self, f: &mut fmt::Formatter<W>) -> fmt::Result {
+        match self {
+            Fault::Memory => f.write_str("out of memory"),
+            Fault::CannotRead(name) => write!(f, "file: cannot read {name}"),
+            Fault::TooLarge(name) => write!(f, "file: too large {name}"),
+            Fault::Stream => f.write_str("stream: read or write failed"),
+            Fault::Output => f.write_str("output: write failed"),
+            Fault::Profile(name, fault) => write!(f, "{name}: {fault}"),
+            Fault::Script(name, fault) => write!(f, "{name}: {fault}"),
+            Fault::Toml(fault) => write!(f, "{fault}"),
+        }
+    }
+}
+
+impl Fault {
+    /// The status that the program ends with.
+    pub fn status(&self) -> u8 {
+        match self {
+            Fault::Profile(_, LoadFault::Memory) | Fault::Script(_, StatedFault::Memory) => 4,
+            Fault::Profile(_, _) | Fault::Script(_, _) => 2,
+            _ => 4,
+        }
+    }
+}
+
+impl From<AllocError> for Fault {
+    fn from(_error: AllocError) -> Fault {
+        Fault::Memory
+    }
+}

@@ -1,0 +1,65 @@
+//! Files that are read whole, and lines that are written.
+ghost use Rattle.std.specs.Prelude.{◌≤◌};
+
+use crate::fault::Fault;
+use std::fs;
+use std::io::{ErrorKind, Read, Write};
+use std::rt::Files;
+
+/// How many bytes a profile file may have.
+const MOST: usize = 1_048_576;
+
+/// How many bytes a script may have: 1,048,576 lines of 64 bytes and their line feeds.
+const MOST_OF_SCRIPT: usize = 68_157_440;
+
+/// A name that a fault tells.
+pub fn owned<R: AllocGlobal>(rt: &R, name: &str) -> Result<String, Fault> {
+    match String::from_str(rt.alloc(), name) {
+        Ok(name) => Ok(name),
+        Err(_) => Err(Fault::Memory),
+    }
+}
+
+/// The fault of a file of this name that can't be opened or read.
+fn unread<R: AllocGlobal>(rt: &R, name: &str, kind: ErrorKind) -> Fault {
+    match kind {
+        ErrorKind::OutOfMemory => Fault::Memory,
+        _ => match owned(rt, name) {
+            Ok(name) => Fault::CannotRead(name),
+            Err(fault) => fault,
+        },
+    }
+}
+
+/// The bytes of a file of at most so many.
+fn read_file<R: Files + AllocGlobal>(rt: &R, name: &str, most: usize) -> Result<Vec<u8>, Fault>
+    requires { most ≤ 68157440 }
+{
+    let file = match fs::open(rt, name) {
+        Ok(file) => file,
+        Err(error) => return Err(unread(rt, name, error.kind())),
+    };
+    let mut bytes = Vec::new(rt.alloc());
+    // one byte more tells a file that is too large
+    let mut part = file.take(most as u64 + 1);
+    match part.read_to_end(&mut bytes) {
+        Ok(_) if bytes.len() > most => Err(Fault::TooLarge(owned(rt, name)?)),
+        Ok(_) => Ok(bytes),
+        Err(error) => Err(unread(rt, name, error.kind())),
+    }
+}
+
+/// The bytes of a profile file, of at most 1,048,576 bytes.
+pub fn read_profile_file<R: Files + AllocGlobal>(rt: &R, name: &str) -> Result<Vec<u8>, Fault> {
+    read_file(rt, name, MOST)
+}
+
+/// The bytes of a script, no more than any script that is played can have.
+pub fn read_script_file<R: Files + AllocGlobal>(rt: &R, name: &str) -> Result<Vec<u8>, Fault> {
+    read_file(rt, name, MOST_OF_SCRIPT)
+}
+
+/// Writes all the bytes.
+pub fn put<W: Write>(output: &mut W, bytes: &[u8]) -> Result<(), Fault> {
+    output.write_all(bytes).map_err(|_| Fault::Output)
+}

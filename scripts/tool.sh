@@ -1,0 +1,218 @@
+#!/usr/bin/env bash
+# The program `rt1553-tool` from end to end: what it prints, what it prints as errors, and its status.
+#
+#     scripts/tool.sh PROGRAM..
+#
+# Each PROGRAM is a build of it. Where the program `rt1553` of the same build stands beside it, in the crate's own folder,
+# canonical texts are compared with its help. The last line is 'N passed, M failed'.
+set -u
+cd "$(dirname "$0")/.." || exit 1
+top=$PWD
+work=$(mktemp -d) || exit 1
+trap 'rm -rf "$work"' EXIT
+passed=0 failed=0
+
+# counts a row: its name, and whether it holds
+count() {
+    if [[ $2 -eq 0 ]]; then
+        passed=$((passed + 1))
+    else
+        failed=$((failed + 1))
+        echo "FAILED: $1"
+    fi
+}
+
+# runs the program in the folder of the test on WORD.., with what stands in $work/stdin, and compares all that it gives:
+# row NAME STATUS OUTPUT ERRORS WORD..
+row() {
+    local name=$1 status=$2 output=$3 errors=$4 given
+    shift 4
+    (cd "$work" && "$program" "$@" <stdin >stdout 2>stderr)
+    given=$?
+    printf %b "$output" >"$work/want-stdout"
+    printf %b "$errors" >"$work/want-stderr"
+    [[ $given -eq $status ]] && cmp -s "$work/stdout" "$work/want-stdout" && cmp -s "$work/stderr" "$work/want-stderr"
+    count "$name" $?
+}
+
+# what the program reads in the rows that follow
+input() { printf %b "$1" >"$work/stdin"; }
+
+# a script of this name in the folder of the test
+script() { printf %b "$2" >"$work/$1"; }
+
+# whether a script of a folder passes, by the profile that its first line names
+passes() {
+    local folder=$1 path=$2 profile
+    profile=$(head -n 1 "$path")
+    profile=${profile#\# Profile: }
+    [[ -f $folder/profiles/$profile ]] || profile=$top/examples/validation/profiles/$profile
+    [[ -f $profile ]] || profile=$folder/profiles/$profile
+    "$program" verify "$profile" "$path" </dev/null >"$work/stdout" 2>"$work/stderr" &&
+        [[ ! -s $work/stdout && ! -s $work/stderr ]]
+}
+
+# whether the broken copy of a script differs at this event alone, by this stated and this given answer:
+# differs NAME PATH LINE EXPECTED CAME
+differs() {
+    "$program" verify "$profile" "$work/broken.script" </dev/null >"$work/stdout" 2>"$work/stderr"
+    [[ $? -eq 1 && ! -s $work/stderr && $(head -n 1 "$work/stdout") == "$work/broken.script:$3: expected $4, came $5" &&
+        $(tail -n +2 "$work/stdout") == "$work/broken.script: 1 differ" ]]
+    count "$1: ${2##*/}" $?
+}
+
+# every protocol test passes; one in which an answer was changed, or of which one was dropped, differs at its event
+validation() {
+    local path profile number line event
+    python3 -c "
+import pathlib, sys
+sys.path.insert(0, 'tests/validation')
+import generate
+generate.write(pathlib.Path('$work/families'))" || return
+    for path in examples/validation/{scripts,choices}/*.script "$work"/families/*.script; do
+        passes "$work/families" "$path"
+        count "verify ${path##*/}" $?
+    done
+    for path in examples/validation/scripts/*.script; do
+        profile=examples/validation/profiles/$(sed -n '1s/^# Profile: //p' "$path")
+        number=$(grep -n -m 1 '^#> ' "$path" | cut -d : -f 1)
+        [[ -n $number && -f $profile ]] || continue
+        line=$(sed -n "${number}s/^#> //p" "$path")
+        event=$(head -n "$((number - 1))" "$path" | grep -n '^[^#]' | tail -n 1 | cut -d : -f 1)
+        # an answer that goes on in the next line is more than this one
+        sed -n "$((number + 1))p" "$path" | grep -q '^#+ ' && continue
+        sed "${number}d" "$path" >"$work/broken.script"
+        differs 'an answer dropped' "$path" "$event" nothing "$line"
+        if [[ $line != hand* ]]; then
+            sed "${number}s/.*/#> A s ffff/" "$path" >"$work/broken.script"
+            differs 'an answer changed' "$path" "$event" 'A s ffff' "$line"
+        fi
+    done
+}
+
+# what `verify` tells of small scripts over the profile `address = 5`
+verify_rows() {
+    printf 'address = 5\n' >"$work/five"
+    script good 'A c 2c02\nA gap\nslot\n# of the terminal\n\n#> A s 2800\n'
+    script wrong 'A c 2c02\nA gap\nslot\n#> A s 2c00\nslot\n#> A d 0000\nA gap\n'
+    script silent 'A c 2c02\nA gap\nslot'
+    script refused 'A c 2c02\nA gap\nslot \n'
+    script long 'A gap\n#> hand sync 12345678901234567890123456789012345678901234567890123456789\n'
+    script first '#> A s 2800\nslot\n'
+    script twice 'A c 2c02\nA gap\nslot\n#> A s 2800\n#> A s 2800\n'
+    script word 'A c 2c02\n#> A s 2800\nA gap\nslot\n'
+    script hand 'A c 2c02\nA gap\n#> A s 2800\nslot\n'
+    script slot 'A c 2c02\nA gap\nslot\n#> hand sync\n'
+    script on 'A c 2c02\nA gap\nslot\n#+ A s 2800\n'
+    script halves 'A c 2c02\nA gap\nslot\n#> A s\n#| nothing\n#+ 2800\n'
+    input ''
+    row 'nothing differs' 0 '' '' verify five good
+    row 'an answer in two parts' 0 '' '' verify five halves
+    row 'two events differ' 1 'wrong:3: expected A s 2c00, came A s 2800\nwrong:5: expected A d 0000, came nothing\nwrong: 2 differ\n' '' \
+        verify five good wrong good
+    row 'an answer that is not stated' 1 'silent:3: expected nothing, came A s 2800\nsilent: 1 differ\n' '' verify five silent
+    row 'a line of no script' 2 '' 'refused: script: line 3\n' verify five refused
+    row 'a line that is too long' 2 '' 'long: script: line 2 is too long\n' verify five long
+    row 'an answer without an event' 2 '' 'first: script: line 1: not behind the event that it answers\n' verify five first
+    row 'two answers to an event' 2 '' 'twice: script: line 5: not behind the event that it answers\n' verify five twice
+    row 'an answer to a word' 2 '' 'word: script: line 2: not behind the event that it answers\n' verify five word
+    row 'a word that is sent at a gap' 2 '' 'hand: script: line 3: not behind the event that it answers\n' verify five hand
+    row 'what is handed over in a slot' 2 '' 'slot: script: line 4: not behind the event that it answers\n' verify five slot
+    row 'an answer goes on that was not begun' 2 '' 'on: script: line 4: not behind the event that it answers\n' verify five on
+    row 'a refused script, and others' 2 'silent:3: expected nothing, came A s 2800\nsilent: 1 differ\n' 'refused: script: line 3\n' \
+        verify five refused silent
+    row 'a script that is not there' 4 '' 'file: cannot read none\n' verify five none good
+    row 'a profile that is not there' 4 '' 'file: cannot read none\n' verify none good
+    row 'a profile that is refused' 2 '' 'silent: profile: not TOML\n' verify silent good
+    head -c 1048577 /dev/zero >"$work/large"
+    row 'a profile that is too large' 4 '' 'file: too large large\n' verify large good
+    yes '' | head -n 1048576 >"$work/lines"
+    row 'as many lines as may be' 0 '' '' verify five lines
+    echo >>"$work/lines"
+    row 'too many lines' 2 '' 'lines: script: too many lines\n' verify five lines
+}
+
+# the TOML of a profile means the same terminal: its canonical text is that of the profile
+toml_row() {
+    local path=$1
+    "$program" toml "$path" >"$work/profile.toml" 2>"$work/stderr" </dev/null &&
+        "$rt1553" canon "$path" >"$work/canon" && "$rt1553" canon "$work/profile.toml" | cmp -s - "$work/canon" &&
+        ! head -c 7 "$work/profile.toml" | grep -q '^rt1553 '
+    count "toml ${path#"$top"/}" $?
+}
+
+toml_rows() {
+    local path
+    for path in examples/profiles/*.toml examples/canonical/* examples/validation/profiles/* tests/vectors/*/*; do
+        "$rt1553" check "$path" >/dev/null 2>&1 </dev/null || continue
+        toml_row "$top/$path"
+    done
+    input ''
+    printf 'address = 5\n' >"$work/five"
+    row 'the smallest profile as TOML' 0 'address = 5\n' '' toml five
+    printf 'address = 31\n' >"$work/thirty_one"
+    row 'the TOML of a refused profile' 2 '' 'thirty_one: profile: root: address is out of range\n' toml thirty_one
+}
+
+# two live terminals, through pipes: an answer and its dot come before the next line is typed
+live_answers_at_once() {
+    local line dot
+    coproc terminal { "$program" live "$work/five" 2>/dev/null; }
+    printf 'A c 2c02\nA gap\nslot\n' >&"${terminal[1]}"
+    read -r -t 10 dot <&"${terminal[0]}" && read -r -t 10 dot <&"${terminal[0]}" && read -r -t 10 line <&"${terminal[0]}" &&
+        read -r -t 10 dot <&"${terminal[0]}" && [[ $line == 'A s 2800' && $dot == . ]]
+    count 'live: an answer comes before the next line' $?
+    eval "exec ${terminal[1]}>&-"
+    wait "$terminal_PID" 2>/dev/null
+}
+
+live_rows() {
+    input 'A c 2c02\nA gap\nslot\n'
+    row 'live: a status' 0 '.\n.\nA s 2800\n.\n' '' live five
+    input 'A c 2c02\nA gap \n# so\n\nA gap\nslot'
+    row 'live: a refused line changes nothing' 0 '.\n? no line of a script\n.\n.\n.\n.\nA s 2800\n.\n' '' live five
+    input 'A c 2c02\nA g\377p\nA gap\nslot\n'
+    row 'live: a line that is no text' 0 '.\n? no line of a script\n.\n.\nA s 2800\n.\n' '' live five
+    input ''
+    row 'live: no lines' 0 '' '' live five
+    yes 'slot' | head -n 1500000 | "$program" live "$work/five" | cksum >"$work/given"
+    yes '.' | head -n 1500000 | cksum | cmp -s - "$work/given"
+    count 'live: a million and a half lines' $?
+    live_answers_at_once
+}
+
+# the words and their help
+word_rows() {
+    local word
+    input ''
+    (cd "$work" && "$program" --version >stdout 2>stderr) && [[ $(cat "$work/stdout") == 'rt1553-tool 0.1 (canonical text 2)' && ! -s $work/stderr ]]
+    count '--version' $?
+    for word in verify toml live; do
+        "$program" "$word" --help >"$work/stdout" 2>"$work/stderr" </dev/null && grep -q '^Example: ' "$work/stdout" && [[ ! -s $work/stderr ]]
+        count "$word --help" $?
+        "$program" "$word" >"$work/stdout" 2>"$work/stderr" </dev/null
+        [[ $? -eq 3 && ! -s $work/stdout && -s $work/stderr ]]
+        count "$word without its words" $?
+    done
+    for word in '' none; do
+        # no word at all where it is empty
+        "$program" ${word:+"$word"} >"$work/stdout" 2>"$work/stderr" </dev/null
+        [[ $? -eq 3 && ! -s $work/stdout && -s $work/stderr ]]
+        count "words that it doesn't take: '$word'" $?
+    done
+    "$program" --help >"$work/stdout" 2>"$work/stderr" </dev/null && [[ ! -s $work/stderr ]]
+    count '--help' $?
+}
+
+for program in "$@"; do
+    program=$(realpath "$program") || exit 1
+    rt1553=${program//rt1553_tool_program/rt1553_program}
+    rt1553=${rt1553%-tool}
+    verify_rows
+    validation
+    toml_rows
+    live_rows
+    word_rows
+done
+echo "$passed passed, $failed failed"
+[[ $failed -eq 0 && $passed -gt 0 ]]
