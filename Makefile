@@ -15,7 +15,7 @@ install: build
 	install -D bin/rt1553 $(DESTDIR)$(PREFIX)/bin/rt1553
 	install -D bin/rt1553-tool $(DESTDIR)$(PREFIX)/bin/rt1553-tool
 
-# the gate: proofs from nothing, tests, must-fail edits, the program from end to end, the sessions of the pages
+# the gate: proofs from nothing, tests, must-fail edits, the programs from end to end, protocol tests, the sessions of the pages
 test:
 	bash scripts/gate.sh
 

@@ -1,7 +1,7 @@
 #!/usr/bin/env bash
 # The gate: every proof, test and program from nothing, then the must-fail edits, then the built program from
 # end to end, the protocol tests, and the sessions of the pages. The last line, 'N passed, M failed', adds the counts
-# of the five.
+# of the six parts.
 set -uo pipefail
 cd "$(dirname "$0")/.." || exit 1
 work=$(mktemp -d) || exit 1
@@ -15,6 +15,14 @@ tar -c --exclude='crates/*/out' --exclude='crates/*/must-fail' HANDLES crates.tx
 
 # proves, tests and builds the copy
 proved() { (cd "$built" && rt ci); }
+
+# the builds of a program, that of LLVM and that of Rattle's own compiler: builds_of NAME
+builds_of() {
+    local program
+    for program in "$built/crates/$1/out/$1"{,.by-rattle}; do
+        if [[ -x $program ]]; then echo "$program"; fi
+    done
+}
 
 # runs a part, whose last line is to be a count, and adds it; a part with another last line has failed
 part() {
@@ -35,11 +43,10 @@ part proved
 if [[ $failed -eq 0 ]]; then
     part python3 scripts/must-fail.py "$built"
     part bash scripts/end-to-end.sh "$built"
-    programs=()
-    for program in "$built"/crates/rt1553_program/out/rt1553_program{,.by-rattle}; do
-        [[ -x $program ]] && programs+=("$program")
-    done
-    part python3 scripts/validation.py ${programs[@]+"${programs[@]}"}
+    mapfile -t programs < <(builds_of rt1553_program)
+    mapfile -t tools < <(builds_of rt1553_tool_program)
+    part python3 scripts/validation.py "${programs[@]}"
+    part bash scripts/tool.sh "${tools[@]}"
     part python3 scripts/sessions.py "$built/crates/rt1553_program/out/rt1553_program"
 fi
 echo "$passed passed, $failed failed"
