@@ -2,12 +2,12 @@
 use Rattle.std.proofs.Common.{ℕ, ◌≡◌, ◌≢◌, ◌∙◌, ◌+◌, ◌-◌, ◌<◌, ◌≤◌, List, [], ◌∷◌, ◌++◌, Some, None, Ok, length, get_or, take, drop, refl, sym, ap, arith}
 use Rattle.std.proofs.lemmas.List.{take_all, drop_all, length-drop}
 use Rattle.terminal_rules.specs.declared.event.Event.{Event}
-use Rattle.line_format.specs.Reading.{after}
+use Rattle.line_format.specs.Front.{after}
 use Rattle.line_format.proofs.Digits.{after-is}
 use Rattle.bus_script.specs.Line.{meaning}
 use Rattle.bus_script.specs.Text.{lines_of}
 use Rattle.bus_script.specs.Reading.{Reading, reading, adds, nothing, then_reads}
-use Rattle.bus_script.specs.Playing.{Means}
+use Rattle.bus_script.specs.inner.Lines.{Means}
 use Rattle.bus_script.proofs.LineLaws.{line_at, lines-line, lines-last, no_line_feed}
 use Rattle.bus_script.proofs.ReadingLaws.{reading-line, adds-adds}
 

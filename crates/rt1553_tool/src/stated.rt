@@ -4,7 +4,7 @@ ghost use Rattle.terminal_rules.specs.declared.event.Event.{Event};
 ghost use Rattle.bus_script.specs.Line.{meaning};
 ghost use Rattle.bus_script.specs.Text.{lines_of};
 ghost use Rattle.bus_script.specs.Reading.{reading, adds, nothing};
-ghost use Rattle.bus_script.specs.Playing.{Means};
+ghost use Rattle.bus_script.specs.inner.Lines.{Means};
 ghost use Rattle.rt1553_tool.specs.Verify.{event_of};
 
 use bus_script::{LineFault, read_event};
