@@ -1,5 +1,6 @@
 -- The canonical text, versions 1 and 2, line by line.
 use Rattle.std.specs.Prelude.{ℕ, zero, suc, ◌-◌, Bool, true, false, ◌==◌, ◌&&◌, ◌||◌, nat_le, if◌then◌else◌, List, [], ◌∷◌, ◌++◌, codes, replicate}
+use Rattle.bus_word.specs.Command.{wraparound_subaddress}
 use Rattle.bus_word.specs.Mode as mode
 use Rattle.bus_word.specs.declared.cell.Cell.TheVariants.{OwnMode}
 use Rattle.bus_legal.specs.declared.tables.Tables.{Tables}
@@ -54,19 +55,15 @@ blocks s (counts ∷ masks) = do
   others ← blocks (suc s) masks
   done (words ∷ others)
 
--- the subaddress that wraparound is at where a terminal chooses no other (MIL-STD-1553B, Notice 2, 30.7)
-abbrev pub default_wraparound : ℕ
-default_wraparound = 30
-
 -- whether that is the wraparound subaddress
 abbrev pub wrap_bit : Format ℕ
 wrap_bit = do
   on ← bit_line (codes "wraparound")
-  done (if on then default_wraparound else 0)
+  done (if on then wraparound_subaddress else 0)
 
 -- In version 1 no other can be. The line stands where words can be received at it and transmitted from it.
 unfoldable pub wrap_switch : Tables → Format ℕ
-wrap_switch tables = when (masks_wrap tables default_wraparound) 0 wrap_bit
+wrap_switch tables = when (masks_wrap tables wraparound_subaddress) 0 wrap_bit
 
 -- none, or a subaddress at which words can be received and from which they can be transmitted
 abbrev pub may_wrap : Tables → ℕ → Bool

@@ -4,23 +4,20 @@ ghost use Rattle.line_format.specs.inner.Reading.{read};
 ghost use Rattle.line_format.specs.Shapes.{decimal, word, number_line, bit_line};
 ghost use Rattle.line_format.specs.inner.Views.{Gives, spot};
 ghost use Rattle.line_format.specs.inner.Writing.{Adds};
+ghost use Rattle.bus_word.specs.Command.{wraparound_subaddress};
 ghost use Rattle.bus_word.specs.Mode.{dynamic_bus_control};
 ghost use Rattle.bus_word.specs.declared.cell.Cell.TheVariants.{OwnMode};
 ghost use Rattle.bus_legal.specs.Tables.{tables_say, masks_wrap};
-ghost use Rattle.bus_canon.specs.Canon.{when, default_wraparound, wrap_bit, wrap_switch, may_wrap, wrap_name, wrap_lines};
+ghost use Rattle.bus_canon.specs.Canon.{when, wrap_bit, wrap_switch, may_wrap, wrap_name, wrap_lines};
 
 use crate::names::{ACCEPT, WRAPAROUND};
 use bus_legal::{Legality, Tables};
-use bus_word::Cell;
 use bus_word::mode::DYNAMIC_BUS_CONTROL;
+use bus_word::{Cell, WRAPAROUND_SUBADDRESS};
 use line_format::{
     FieldKind, Lines, WrongLine, bit_line, number_line, put_bit_line, put_number_line, word_line,
 };
 use std::alloc::AllocError;
-
-/// The subaddress that wraparound is at where a terminal chooses no other (MIL-STD-1553B, Notice 2, 30.7), and the only
-/// one that texts of version 1 know.
-const DEFAULT_WRAPAROUND: u8 = 30;
 
 /// Reads a line with a 0 or a 1, if the text has it.
 fn bit_where<'a>(lines: Lines<'a>, given: bool, name: &[u8]) -> Result<(bool, Lines<'a>), WrongLine>
@@ -69,10 +66,10 @@ pub fn asked_word<'a>(
 
 /// Gives the wraparound subaddress that a text of version 1 tells by this bit.
 fn switched(on: bool) -> u8
-    ensures value { result ≡ (if on then default_wraparound else 0) }
+    ensures value { result ≡ (if on then wraparound_subaddress else 0) }
     ensures own { result ≤ 30 }
 {
-    if on { DEFAULT_WRAPAROUND } else { 0 }
+    if on { WRAPAROUND_SUBADDRESS } else { 0 }
 }
 
 /// Reads the line of version 1.
@@ -90,7 +87,7 @@ fn wrap_switch<'a>(lines: Lines<'a>, tables: &Tables) -> Result<(u8, Lines<'a>),
     ensures answer { Gives (λ r. r.0) (λ r. r.1) result (read (wrap_switch tables.now) (spot lines.entry)) }
     ensures own { IfOk result (λ r. r.0 ≤ 30) }
 {
-    if tables.can_wrap(DEFAULT_WRAPAROUND) {
+    if tables.can_wrap(WRAPAROUND_SUBADDRESS) {
         wrap_bit(lines)
     } else {
         Ok((0, lines))
