@@ -154,7 +154,7 @@ toml_rows() {
     row 'the TOML of a refused profile' 2 '' 'thirty_one: profile: root: address is out of range\n' toml thirty_one
 }
 
-# two live terminals, through pipes: an answer and its dot come before the next line is typed
+# a live terminal, through pipes: an answer and its dot come before the next line is typed
 live_answers_at_once() {
     local line dot
     coproc terminal { "$program" live "$work/five" 2>/dev/null; }
