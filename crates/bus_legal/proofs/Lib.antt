@@ -16,3 +16,5 @@ pub mod NormalLaws
 pub mod SameNormals
 pub mod LegalLaws
 pub mod PlainLaws
+pub mod Made
+pub mod ProfileRanges
