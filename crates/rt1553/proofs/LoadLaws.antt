@@ -8,17 +8,20 @@ use Rattle.line_format.proofs.Writes.{number_text, number_spelled}
 use Rattle.bus_profile.specs.declared.profile.Profile.{Profile}
 use Rattle.bus_profile.specs.Read.{IsTree, Accepts}
 use Rattle.bus_profile.specs.Plain.{profile_of}
+use Rattle.bus_profile.proofs.Faultless.{faultless_gives}
 use Rattle.bus_legal.specs.Description.{Description}
 use Rattle.bus_legal.specs.Meaning.{description_of}
 use Rattle.bus_legal.specs.Parts.{Parts, description_in, IsNormal}
 use Rattle.bus_legal.specs.Reach.{reach}
+use Rattle.bus_legal.proofs.Made.{made_of, made-normal, made-reach}
 use Rattle.bus_legal.proofs.NormalLaws.{reach-normal}
 use Rattle.bus_legal.proofs.SameNormals.{same_normals}
 use Rattle.bus_legal.proofs.PlainLaws.{described_alike}
 use Rattle.bus_canon.specs.Canon.{version_field, is_read, canon, Text, AnyText}
 use Rattle.bus_canon.proofs.CanonLaws.{text_read, text_normal, normal_text, written_normal, value_one, text_one}
-use Rattle.rt1553.specs.Load.{is_canon_text, OfBy, Reaches}
-use Rattle.rt1553.specs.Canon.{CanonIsItsOwn, OneCanon, OneDescription, HasCanon, CanonTextsHaveCanon}
+use Rattle.rt1553.specs.Load.{is_canon_text, IsProfileText, OfBy, Reaches}
+use Rattle.rt1553.specs.Canon.{CanonIsItsOwn, OneCanon, OneDescription, HasCanon, AcceptedHaveCanon, CanonTextsHaveCanon, FaultlessHaveCanon}
+use Rattle.bus_legal.proofs.ProfileRanges.{accepted_in_range}
 
 -- ---- a canonical text begins as such
 
@@ -94,3 +97,35 @@ profile_reaches text p v accepts toml reached = record {
   of = subst (λ b. OfBy b text (description_of p)) (sym toml) (record { profile = p; accepts = accepts; gives = refl });
   reached = reached;
 }
+
+-- ---- each accepted text has canonical bytes
+
+of_profile : (text : List ℕ) (P : Description) → IsProfileText text P → is_canon_text text ≡ false → HasCanon text
+of_profile text P of toml =
+    let described = description_of of.profile in
+    let range = accepted_in_range text of.profile of.accepts in
+    has_canon text (made_of described) (made-normal described range) (profile_reaches text of.profile (made_of described) of.accepts toml (made-reach described range))
+
+of_has_canon : (by : Bool) (text : List ℕ) (P : Description) → is_canon_text text ≡ by → OfBy by text P → HasCanon text
+of_has_canon true text P is of = canon_has_canon text of.value of.means
+of_has_canon false text P is of = of_profile text P of is
+
+pub accepted_have_canon : AcceptedHaveCanon
+accepted_have_canon text = (
+  λ accepted. of_has_canon (is_canon_text text) text accepted.0 refl accepted.1,
+  λ canon. let reaches = canon.1.reaches in (reaches.description, reaches.of),
+)
+
+-- the profile of a text that is accepted as a profile text
+profile_in : (text : List ℕ) → is_canon_text text ≡ false → HasCanon text → (profile : Profile) × Accepts text profile
+profile_in text toml canon =
+    let reaches = canon.1.reaches in
+    let of : IsProfileText text reaches.description = subst (λ b. OfBy b text reaches.description) toml reaches.of in
+    (of.profile, of.accepts)
+
+pub faultless_have_canon : FaultlessHaveCanon
+faultless_have_canon text tree toml is =
+    let gives = faultless_gives text tree is in (
+      λ none. let given = gives.0 none in of_profile text (description_of given.0) (record { profile = given.0; accepts = given.1; gives = refl }) toml,
+      λ canon. gives.1 (profile_in text toml canon),
+    )

@@ -1,9 +1,13 @@
 -- The canonical bytes of a text.
-use Rattle.std.specs.Prelude.{◌≡◌, ℕ, List}
+use Rattle.std.specs.Prelude.{◌≡◌, ◌↔◌, ℕ, false, List}
+use Rattle.toml.specs.Data.{Members}
+use Rattle.bus_profile.specs.Checks.{HasNoFault}
+use Rattle.bus_profile.specs.Faults.{faults}
+use Rattle.bus_profile.specs.Read.{IsTree}
 use Rattle.bus_legal.specs.Description.{Description}
 use Rattle.bus_legal.specs.Parts.{Parts}
 use Rattle.bus_canon.specs.Canon.{Text, AnyText}
-use Rattle.rt1553.specs.Load.{Of, Reaches}
+use Rattle.rt1553.specs.Load.{is_canon_text, Of, Reaches}
 
 -- These bytes are the canonical bytes of the text: it is accepted, and they are the canonical text of what can be
 -- reached of its terminal.
@@ -28,6 +32,14 @@ OneDescription = (text : List ℕ) (P Q : Description) → Of text P → Of text
 abbrev pub HasCanon : List ℕ → Type 0
 HasCanon text = (bytes : List ℕ) × IsCanon text bytes
 
+-- a text has canonical bytes exactly if it is accepted
+abbrev pub AcceptedHaveCanon : Type 0
+AcceptedHaveCanon = (text : List ℕ) → ((P : Description) × Of text P) ↔ HasCanon text
+
 -- each canonical text, of either version, has canonical bytes
 abbrev pub CanonTextsHaveCanon : Type 0
 CanonTextsHaveCanon = (text : List ℕ) (value : Parts) → AnyText value text → HasCanon text
+
+-- a profile text with this tree has canonical bytes exactly if the tree has no fault
+abbrev pub FaultlessHaveCanon : Type 0
+FaultlessHaveCanon = (text : List ℕ) (tree : Members) → is_canon_text text ≡ false → IsTree text tree → HasNoFault (faults tree) ↔ HasCanon text
