@@ -1,2 +1,3 @@
 pub mod TakenLaws
 pub mod TellingLaws
+pub mod RunLaws

@@ -1,5 +1,6 @@
 //! Why the program ends early, the line that it prints then, and the status that it ends with.
 use rt1553::{EngineFault, LoadFault, describe};
+use rt1553_words::WordFault;
 use std::alloc::AllocError;
 use std::fmt;
 
@@ -53,13 +54,38 @@ impl Fault {
 }
 
 impl From<AllocError> for Fault {
+    ghost use Rattle.std.specs.Prelude.{◌≡◌};
+    ghost use Rattle.rt1553_program.specs.declared.fault.Fault.TheVariants.{Memory};
+
+    ghost from_gives = { λ _ fault. fault ≡ Memory };
+
     fn from(_error: AllocError) -> Fault {
         Fault::Memory
     }
 }
 
 impl From<LoadFault> for Fault {
+    ghost use Rattle.std.specs.Prelude.{◌≡◌};
+    ghost use Rattle.rt1553.specs.declared.fault.EngineFault.TheVariants.{Load};
+    ghost use Rattle.rt1553_program.specs.declared.fault.Fault.TheVariants.{Engine};
+
+    ghost from_gives = { λ load fault. fault ≡ Engine (Load load) };
+
     fn from(fault: LoadFault) -> Fault {
         Fault::Engine(EngineFault::Load(fault))
+    }
+}
+
+impl From<WordFault> for Fault {
+    ghost use Rattle.std.specs.Prelude.{◌≡◌};
+    ghost use Rattle.rt1553_program.specs.Fault.{fault_of_words};
+
+    ghost from_gives = { λ words fault. fault ≡ fault_of_words words };
+
+    fn from(fault: WordFault) -> Fault {
+        match fault {
+            WordFault::Usage => Fault::Usage,
+            WordFault::Memory => Fault::Memory,
+        }
     }
 }

@@ -1,22 +1,25 @@
 //! What the program does.
-ghost use Rattle.std.specs.Prelude.{◌≡◌, ◌≤◌, ℕ, List, false, codes, OnOk, IfOk, IfErr, IfSome};
+ghost use Rattle.std.specs.Prelude.{◌≡◌, ◌≤◌, ◌⊎◌, ℕ, List, Option, false, codes, Ok, OnOk, IfOk, IfErr, IsErrAnd, IfSome};
+ghost use Rattle.std.specs.IoError.{error_kind};
 ghost use Rattle.std.specs.Io.KnownBytes.{Appends, Keeps};
 ghost use Rattle.bus_legal.specs.Description.{Description};
-ghost use Rattle.rt1553.specs.Load.{Of};
+ghost use Rattle.rt1553.specs.Load.{Of, IsNotLoaded};
 ghost use Rattle.rt1553.specs.Canon.{IsCanon};
-ghost use Rattle.rt1553.specs.Engine.{Completes};
+ghost use Rattle.rt1553.specs.Compare.{IsNotCompared};
+ghost use Rattle.rt1553.specs.Engine.{Completes, StopsBy, OnLoad, OnScript};
+ghost use Rattle.rt1553_program.specs.Fault.{IsWithoutWords, Refuses, IsOfRun, IsOfJob};
 ghost use Rattle.rt1553_program.specs.Work.{event_line, script_text, Accepted, Tells, IsComparison};
 
 use crate::fault::Fault;
 use crate::files::{open_file, read_profile_file};
 use rt1553::{
-    Event, FromRead, FromWrite, Script, Sink, Verdict, canonical, compare, load, run, write_all,
-    write_event,
+    Event, FromRead, FromWrite, LoadFault, Script, Sink, Verdict, canonical, compare, load, run,
+    write_all, write_event,
 };
-use rt1553_words::{Job, WordFault, read_words};
+use rt1553_words::{Job, read_words};
 use std::alloc::Global;
 use std::env;
-use std::io::{ErrorKind, Read, Write};
+use std::io::{self, ErrorKind, Read, Write};
 use std::rt::{Env, Files};
 
 /// The profile that the program without words runs.
@@ -77,6 +80,7 @@ fn say_script<W: Sink>(writer: &mut W, script: &Script) -> Result<(), Fault>
 /// Loads a text, and says so.
 fn check<W: Sink>(alloc: Global, text: &[u8], writer: &mut W) -> Result<(), Fault>
     ensures ok { OnOk result (Accepted text.now × Appends (W.written writer.old) (W.written writer.new) (codes "ok\n")) }
+    ensures refused { IfErr result (Refuses (IsNotLoaded text.now) (writer.new ≡ writer.old)) }
 {
     load(alloc, text)?;
     say(writer, b"ok\n")
@@ -85,6 +89,7 @@ fn check<W: Sink>(alloc: Global, text: &[u8], writer: &mut W) -> Result<(), Faul
 /// Writes the canonical bytes of a text.
 fn canon<W: Sink>(alloc: Global, text: &[u8], writer: &mut W) -> Result<(), Fault>
     ensures ok { OnOk result ((bytes : List ℕ) × IsCanon text.now bytes × Appends (W.written writer.old) (W.written writer.new) bytes) }
+    ensures refused { IfErr result (Refuses (λ fault. (fault ≡ LoadFault.Memory) ⊎ IsNotLoaded text.now fault) (writer.new ≡ writer.old)) }
 {
     let bytes = canonical(alloc, text)?;
     say(writer, bytes.as_slice())
@@ -98,6 +103,7 @@ fn tell_verdict<W: Sink>(
     writer: &mut W,
 ) -> Result<u8, Fault>
     ensures ok { IfOk result (Tells first.now second.now (W.written writer.old) (W.written writer.new)) }
+    ensures refused { IfErr result (Refuses (IsNotCompared first.now second.now) (writer.new ≡ writer.old)) }
 {
     match compare(alloc, first, second)? {
         Verdict::Same => {
@@ -121,6 +127,9 @@ fn run_over<R: AllocGlobal, I: Read + Drop, W: Sink>(
     requires { W.has_failed writer.old ≡ false }
     ensures ok { OnOk result ((P : Description) × Of profile.now P × (n : ℕ)
         × IfSome (I.remaining input) (λ script. Completes P script (W.written writer.old) (W.written writer.new) n)) }
+    ensures not_loaded { IfErr result (IsOfRun (λ fault. OnLoad fault (λ f. IsNotLoaded profile.now f × (writer.new ≡ writer.old)))) }
+    ensures stopped { IfErr result (IsOfRun (λ fault. OnScript fault (λ f. (P : Description) × Of profile.now P × (left : Option (List ℕ))
+        × IfSome (I.remaining input) (λ script. StopsBy P script (I.remaining input) left (W.written writer.old) (W.written writer.new) f)))) }
 {
     let mut reader = FromRead::new(input);
     match run(rt.alloc(), profile, &mut reader, writer) {
@@ -138,6 +147,7 @@ fn run_files<R: Files + AllocGlobal, W: Sink>(
     writer: &mut W,
 ) -> Result<(), Fault>
     requires { W.has_failed writer.old ≡ false }
+    ensures refused { IfErr result IsOfJob }
 {
     let text = read_profile_file(rt, profile)?;
     let input = open_file(rt, script)?;
@@ -151,7 +161,8 @@ fn compare_files<R: Files + AllocGlobal, W: Sink>(
     second: &str,
     writer: &mut W,
 ) -> Result<u8, Fault>
-    ensures { IfOk result (λ status. status ≤ 1) }
+    ensures ok { IfOk result (λ status. status ≤ 1) }
+    ensures refused { IfErr result IsOfJob }
 {
     let p = read_profile_file(rt, first)?;
     let q = read_profile_file(rt, second)?;
@@ -168,6 +179,7 @@ fn do_job<R: Files + AllocGlobal, I: Read + Drop, W: Sink>(
     requires { W.has_failed writer.old ≡ false }
     ensures ok { IfOk result (λ status. status ≤ 1) }
     ensures different { IfOk result (λ status. status ≡ 1 → IsComparison job.entry) }
+    ensures refused { IfErr result IsOfJob }
 {
     match job {
         Job::Standard => run_over(rt, STANDARD_PROFILE, input, writer)?,
@@ -185,6 +197,20 @@ fn do_job<R: Files + AllocGlobal, I: Read + Drop, W: Sink>(
     Ok(SAME)
 }
 
+/// Gives the words of the command line as they were found. Words that are no text are none that the program takes.
+fn given<T: Drop>(found: io::Result<T>) -> Result<T, Fault>
+    ensures ok { IfOk result (λ words. found ≡ Ok words) }
+    ensures refused { IfErr result (λ fault. IsErrAnd found (λ error. IsWithoutWords (error_kind error ≡ ErrorKind.OutOfMemory) fault)) }
+{
+    match found {
+        Ok(words) => Ok(words),
+        Err(error) => match error.kind() {
+            ErrorKind::OutOfMemory => Err(Fault::Memory),
+            _ => Err(Fault::Usage),
+        },
+    }
+}
+
 /// Does what the command line asks for, and gives the status to end with.
 pub fn work<R: Env + Files + AllocGlobal, I: Read + Drop, O: Write + Drop>(
     rt: &R,
@@ -193,19 +219,9 @@ pub fn work<R: Env + Files + AllocGlobal, I: Read + Drop, O: Write + Drop>(
 ) -> Result<u8, Fault>
     ensures { IfOk result (λ status. status ≤ 1) }
 {
-    let words = match env::args(rt) {
-        Ok(words) => words,
-        // words that are no text are none that the program takes
-        Err(error) => match error.kind() {
-            ErrorKind::OutOfMemory => return Err(Fault::Memory),
-            _ => return Err(Fault::Usage),
-        },
-    };
+    let words = given(env::args(rt))?;
     let words: Vec<String> = words.collect(rt.alloc())?;
     let mut writer = FromWrite::new(output);
-    match read_words(rt.alloc(), words.as_slice()) {
-        Ok(job) => do_job(rt, job, input, &mut writer),
-        Err(WordFault::Usage) => Err(Fault::Usage),
-        Err(WordFault::Memory) => Err(Fault::Memory),
-    }
+    let job = read_words(rt.alloc(), words.as_slice())?;
+    do_job(rt, job, input, &mut writer)
 }
