@@ -2,3 +2,4 @@ pub mod LoadLaws
 pub mod CompareLaws
 pub mod EngineLaws
 pub mod OneLineLaws
+pub mod RefusalLaws

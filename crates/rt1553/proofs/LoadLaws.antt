@@ -44,7 +44,7 @@ text_begins v bytes means =
 
 -- ---- a text is of one terminal
 
-one_tree : (text : List ℕ) (s t : Members) → IsTree text s → IsTree text t → s ≡ t
+pub one_tree : (text : List ℕ) (s t : Members) → IsTree text s → IsTree text t → s ≡ t
 one_tree text s t p q = let both : Some s ≡ Some t = sym p.reads ∙ q.reads in cc both
 
 one_of : (by : Bool) (text : List ℕ) (P Q : Description) → OfBy by text P → OfBy by text Q → P ≡ Q

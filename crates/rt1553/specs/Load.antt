@@ -56,11 +56,16 @@ abbrev pub IsNoCanon : List ℕ → CanonFault → Type 0
 IsNoCanon text (Line n) = HasWrongLine (canon is_read) text n
 IsNoCanon text Trailing = Trails (canon is_read) text
 
+-- want of memory is no fault of a profile text
+abbrev pub IsNoProfile : List ℕ → ProfileFault → Type 0
+IsNoProfile text profile.Memory = ⊥
+IsNoProfile text fault = Refuses text fault
+
 abbrev pub IsNotLoadedBy : Bool → List ℕ → LoadFault → Type 0
 IsNotLoadedBy true text (load.Canon fault) = IsNoCanon text fault
 IsNotLoadedBy true text (load.Profile fault) = ⊥
 IsNotLoadedBy true text load.Memory = ⊥
-IsNotLoadedBy false text (load.Profile fault) = Refuses text fault
+IsNotLoadedBy false text (load.Profile fault) = IsNoProfile text fault
 IsNotLoadedBy false text (load.Canon fault) = ⊥
 IsNotLoadedBy false text load.Memory = Unit {0}
 
@@ -68,3 +73,7 @@ IsNotLoadedBy false text load.Memory = Unit {0}
 -- text never meets it.
 abbrev pub IsNotLoaded : List ℕ → LoadFault → Type 0
 IsNotLoaded text fault = IsNotLoadedBy (is_canon_text text) text fault
+
+-- an accepted text isn't loaded for want of memory alone
+abbrev pub OnlyMemoryRefuses : Type 0
+OnlyMemoryRefuses = (text : List ℕ) (P : Description) (fault : LoadFault) → Of text P → IsNotLoaded text fault → fault ≡ load.Memory

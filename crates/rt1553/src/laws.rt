@@ -1,4 +1,5 @@
 //! Laws over the definitions. Each is a function that does nothing, and whose contract is the law.
+ghost use Rattle.rt1553.specs.Load.{OnlyMemoryRefuses};
 ghost use Rattle.rt1553.specs.Canon.{CanonIsItsOwn, OneCanon, AcceptedHaveCanon, FaultlessHaveCanon, CanonTextsHaveCanon, OneDescription};
 ghost use Rattle.rt1553.specs.Compare.{Headline};
 
@@ -14,6 +15,11 @@ pub fn canonical_bytes()
 pub fn accepted_texts_have_canonical_bytes()
     ensures canonical { CanonTextsHaveCanon }
     ensures profile { FaultlessHaveCanon }
+{}
+
+/// An accepted text is refused for want of memory alone.
+pub fn only_memory_refuses_accepted_texts()
+    ensures { OnlyMemoryRefuses }
 {}
 
 /// An accepted text is of one description.
