@@ -78,7 +78,7 @@ impl From<LoadFault> for Fault {
 
 impl From<WordFault> for Fault {
     ghost use Rattle.std.specs.Prelude.{◌≡◌};
-    ghost use Rattle.rt1553_program.specs.Fault.{fault_of_words};
+    ghost use Rattle.rt1553_program.specs.Causes.{fault_of_words};
 
     ghost from_gives = { λ words fault. fault ≡ fault_of_words words };
 

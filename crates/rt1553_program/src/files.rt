@@ -1,7 +1,7 @@
 //! Files that are read: profiles whole, scripts piece by piece.
 ghost use Rattle.std.specs.Prelude.{◌≡◌, ◌≤◌, ◌<◌, length, Some, Ok, IfOk, IfErr, IsErrAnd, IfSome, MatchOption};
 ghost use Rattle.std.specs.IoError.{error_kind};
-ghost use Rattle.rt1553_program.specs.Fault.{ComesOf, IsUnread, IsTooLarge, IsRefusal, IsOfFile};
+ghost use Rattle.rt1553_program.specs.Causes.{ComesOf, IsUnread, IsTooLarge, IsRefusal, IsOfFile};
 
 use crate::fault::Fault;
 use std::alloc::Global;

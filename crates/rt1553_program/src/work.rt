@@ -7,7 +7,7 @@ ghost use Rattle.rt1553.specs.Load.{Of, IsNotLoaded};
 ghost use Rattle.rt1553.specs.Canon.{IsCanon};
 ghost use Rattle.rt1553.specs.Compare.{IsNotCompared};
 ghost use Rattle.rt1553.specs.Engine.{Completes, StopsBy, OnLoad, OnScript};
-ghost use Rattle.rt1553_program.specs.Fault.{IsWithoutWords, Refuses, IsOfRun, IsOfJob};
+ghost use Rattle.rt1553_program.specs.Causes.{IsWithoutWords, Refuses, IsOfRun, IsOfJob};
 ghost use Rattle.rt1553_program.specs.Work.{event_line, script_text, Accepted, Tells, IsComparison};
 
 use crate::fault::Fault;

@@ -1,0 +1,71 @@
+-- Which cause is which fault of the program.
+use Rattle.std.specs.Prelude.{◌≡◌, ◌⊎◌, Option, Some, None, Result, Ok, Err}
+use Rattle.rt1553.specs.declared.fault.LoadFault.{LoadFault}
+use Rattle.rt1553.specs.declared.fault.EngineFault.{EngineFault}
+use Rattle.rt1553.specs.declared.fault.EngineFault.TheVariants as engine
+use Rattle.rt1553_words.specs.declared.words.WordFault.{WordFault}
+use Rattle.rt1553_words.specs.declared.words.WordFault.TheVariants as word
+use Rattle.rt1553_program.specs.declared.fault.Fault.{Fault}
+use Rattle.rt1553_program.specs.declared.fault.Fault.TheVariants.{Usage, Memory, CannotRead, TooLarge, Output, Engine}
+
+-- ---- the command line
+
+-- why words aren't a job
+abbrev pub fault_of_words : WordFault → Fault
+fault_of_words word.Usage = Usage
+fault_of_words word.Memory = Memory
+
+-- why there are no words: memory was wanting, where that holds, or else a word is no text
+abbrev pub IsWithoutWords : Type 0 → Fault → Type 0
+IsWithoutWords WantsMemory fault = (WantsMemory → fault ≡ Memory) × ((WantsMemory → ⊥) → fault ≡ Usage)
+
+-- ---- files
+
+-- a file can't be opened or read, or memory was wanting, for its name too
+abbrev pub IsUnread : Fault → Type 0
+IsUnread Memory = Unit {0}
+IsUnread (CannotRead name) = Unit {0}
+IsUnread (TooLarge name) = ⊥
+IsUnread Usage = ⊥
+IsUnread Output = ⊥
+IsUnread (Engine fault) = ⊥
+
+-- the fault of a file after an error of the system: memory was wanting, where that holds, or else the file can't be read
+abbrev pub ComesOf : Type 0 → Fault → Type 0
+ComesOf WantsMemory fault = (WantsMemory → fault ≡ Memory) × ((WantsMemory → ⊥) → IsUnread fault)
+
+-- a file is too large
+abbrev pub IsTooLarge : Fault → Type 0
+IsTooLarge (TooLarge name) = Unit {0}
+IsTooLarge fault = ⊥
+
+-- the fault of a file of which this was read: too many bytes, None, or an error, of which some are want of memory
+abbrev pub IsRefusal : {A E : Type 0} → (E → Type 0) → Result (Option A) E → Fault → Type 0
+IsRefusal WantsMemory (Ok (Some bytes)) fault = ⊥
+IsRefusal WantsMemory (Ok None) fault = IsTooLarge fault ⊎ (fault ≡ Memory)
+IsRefusal WantsMemory (Err error) fault = ComesOf (WantsMemory error) fault
+
+-- a fault of a file: it can't be read, is too large, or memory was wanting
+abbrev pub IsOfFile : Fault → Type 0
+IsOfFile fault = IsUnread fault ⊎ IsTooLarge fault
+
+-- ---- texts
+
+-- the fault of a text that isn't loaded, of which this holds
+abbrev pub IsOfLoad : (LoadFault → Type 0) → Fault → Type 0
+IsOfLoad P (Engine (engine.Load fault)) = P fault
+IsOfLoad P fault = ⊥
+
+-- the output can't be written, or a text isn't loaded, for such a reason, and then the output is untouched
+abbrev pub Refuses : (LoadFault → Type 0) → Type 0 → Fault → Type 0
+Refuses P Untouched fault = (fault ≡ Output) ⊎ (IsOfLoad P fault × Untouched)
+
+-- a run of a profile over a script ended early, for a reason of which this holds
+abbrev pub IsOfRun : (EngineFault → Type 0) → Fault → Type 0
+IsOfRun P (Engine fault) = P fault
+IsOfRun P fault = ⊥
+
+-- a fault of a job: any but that of words that the program doesn't take
+abbrev pub IsOfJob : Fault → Type 0
+IsOfJob Usage = ⊥
+IsOfJob fault = Unit {0}
