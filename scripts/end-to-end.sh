@@ -146,6 +146,45 @@ failing() {
     count "$variable=$number $*" $?
 }
 
+# each read of `compare five six` fails in turn until a run meets no failure: first reads of the one file, then of the other
+compare_with_failing_reads() {
+    local number given mark=0 first=0 second=0
+    for ((number = 1; number < 50; number++)); do
+        rm -f "$work/mark"
+        (cd "$work" && env LD_PRELOAD="$work/refuse.so" REFUSE_MARK="$work/mark" REFUSE_READ="$number" "$program" compare five six <stdin >stdout 2>stderr)
+        given=$?
+        [[ -e $work/mark ]]
+        mark=$?
+        [[ $mark -eq 0 && $given -eq 4 && ! -s $work/stdout ]] || break
+        case $(cat "$work/stderr") in
+            'file: cannot read five')
+                [[ $second -eq 0 ]] || break
+                first=$((first + 1))
+                ;;
+            'file: cannot read six') second=$((second + 1)) ;;
+            *) break ;;
+        esac
+    done
+    [[ $mark -ne 0 && $given -eq 1 && $first -ge 1 && $second -ge 1 ]]
+    count "compare, failing reads, $first of the first file and $second of the second" $?
+}
+
+# runs the program with WORD.. where the system gives, or takes, few bytes at once: the answer is the ample one
+in_pieces() {
+    local kind size want given
+    (cd "$work" && "$program" "$@" <stdin >want-stdout 2>want-stderr)
+    want=$?
+    for kind in READ WRITE; do
+        for size in 1 2; do
+            rm -f "$work/mark"
+            (cd "$work" && env LD_PRELOAD="$work/refuse.so" REFUSE_MARK="$work/mark" "SHORT_$kind=$size" "$program" "$@" <stdin >stdout 2>stderr)
+            given=$?
+            [[ $given -eq $want && -e $work/mark ]] && cmp -s "$work/stdout" "$work/want-stdout" && cmp -s "$work/stderr" "$work/want-stderr"
+            count "$*, $size bytes at once, $kind" $?
+        done
+    done
+}
+
 # runs `five` over `script` with one read or write that fails, or with few bytes at once: strike VARIABLE NUMBER. Sets
 # `given`, the status, and `struck`, 0 if it met that; $work holds what the run gave
 strike() {
@@ -868,10 +907,14 @@ pair() {
 comparison_rows() {
     local both='[[rule]]\ndirection = "both"\nsubaddresses = 30\ncounts = 1\n'
     local word='[[rule]]\ndirection = "transmit"\nsubaddresses = 7\ncounts = "2, 5"\n[[initial]]\nsubaddress = 7\nat = 4\nwords = '
-    local slots='slot\nslot\nslot\nslot\nslot\nslot\n'
+    local slots='slot\nslot\nslot\nslot\nslot\nslot\n' received
     pair 'the broadcast option' 'broadcast = true\n' '' 'A c fc02\nA gap\nA c 2c02\nA gap\nslot\n'
     pair 'an own receive cell' '[[rule]]\ndirection = "receive"\nsubaddresses = 3\ncounts = 2\n' '' \
         'A c 2862\nA d 0000\nA d 0000\nA gap\nslot\n'
+    # 36 events
+    received='broadcast = true\n[[rule]]\nto = "broadcast"\ndirection = "receive"\nsubaddresses = 3\ncounts = 31\n'
+    pair 'a broadcast receive cell of 31 words' "$received" 'broadcast = true\n' \
+        "A c f87f\n$(printf 'A d 0000\\n%.0s' {1..31})A gap\nA c 2c02\nA gap\nslot\n"
     pair 'an own mode code' '[[mode]]\ncodes = "3, 7"\n' '' 'A c 2c03\nA gap\nslot\n'
     pair 'a broadcast mode code' 'broadcast = true\n[[mode]]\nto = "broadcast"\ncodes = 4\n' 'broadcast = true\n' \
         'A c fc04\nA gap\nA c 2c02\nA gap\nslot\n'
@@ -971,6 +1014,11 @@ fault_rows() {
     failing REFUSE_WRITE 1 4 'output: write failed' compare five five
     failing REFUSE_WRITE 1 4 'output: write failed' compare five six
     failing REFUSE_WRITE 1 4 'output: write failed'
+    compare_with_failing_reads
+    in_pieces check five
+    in_pieces canon five
+    in_pieces compare five also-five
+    in_pieces compare five six
 }
 
 rows() {
