@@ -363,6 +363,11 @@ file_rows() {
     row 'one line feed more' 2 '' $'canonical text: bytes after the end\n' canon trailing
     row 'compare, the same' 0 $'same\n' '' compare five also-five
     row 'compare, the same file' 0 $'same\n' '' compare five five
+    # a file with itself is read and loaded like any other
+    row 'compare, a refused profile with itself' 2 '' $'profile: root: address is out of range\n' compare bad bad
+    row 'compare, a refused canonical text with itself' 2 '' $'canonical text: line 64\n' compare cut cut
+    row 'compare, a file too large with itself' 4 '' $'file: too large over\n' compare over over
+    row 'compare, an absent file with itself' 4 '' $'file: cannot read missing\n' compare missing missing
     row 'compare with a canonical text' 0 $'same\n' '' compare canonical five
     row 'address-and-option, the addresses' 1 $'A c 2c02\nA gap\nslot\n' '' compare five six
     row 'the first one is asked' 1 $'A c 3402\nA gap\nslot\n' '' compare six five
