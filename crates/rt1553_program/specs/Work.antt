@@ -6,6 +6,7 @@ use Rattle.bus_legal.specs.Description.{Description}
 use Rattle.terminal_rules.specs.declared.event.Event.{Event}
 use Rattle.bus_script.specs.EventLine.{event_text}
 use Rattle.rt1553.specs.Load.{Of}
+use Rattle.rt1553.specs.Canon.{IsCanon}
 use Rattle.rt1553.specs.Compare.{AreSame, AreDifferent}
 use Rattle.rt1553_words.specs.declared.words.Job.{Job}
 use Rattle.rt1553_words.specs.declared.words.Job.TheVariants as job
@@ -34,3 +35,11 @@ IsComparison job.Standard = ⊥
 IsComparison (job.Check p) = ⊥
 IsComparison (job.Canon p) = ⊥
 IsComparison (job.Run p q) = ⊥
+
+-- What was done for a job, for some texts. No contract says that these are what its files hold.
+abbrev pub Does : Job → Option (List ℕ) → Option (List ℕ) → ℕ → Type 0
+Does job.Standard old new status = Unit {0}
+Does (job.Check p) old new status = (text : List ℕ) × Accepted text × Appends old new (codes "ok\n")
+Does (job.Canon p) old new status = (text : List ℕ) × (bytes : List ℕ) × IsCanon text bytes × Appends old new bytes
+Does (job.Run p q) old new status = Unit {0}
+Does (job.Compare p q) old new status = (first : List ℕ) × (second : List ℕ) × Tells first second old new status

@@ -8,7 +8,7 @@ ghost use Rattle.rt1553.specs.Canon.{IsCanon};
 ghost use Rattle.rt1553.specs.Compare.{IsNotCompared};
 ghost use Rattle.rt1553.specs.Engine.{Completes, StopsBy, OnLoad, OnScript};
 ghost use Rattle.rt1553_program.specs.Causes.{IsWithoutWords, Refuses, IsOfRun, IsOfJob};
-ghost use Rattle.rt1553_program.specs.Work.{event_line, script_text, Accepted, Tells, IsComparison};
+ghost use Rattle.rt1553_program.specs.Work.{event_line, script_text, Accepted, Tells, IsComparison, Does};
 
 use crate::fault::Fault;
 use crate::files::{open_file, read_profile_file};
@@ -162,6 +162,7 @@ fn compare_files<R: Files + AllocGlobal, W: Sink>(
     writer: &mut W,
 ) -> Result<u8, Fault>
     ensures ok { IfOk result (λ status. status ≤ 1) }
+    ensures tells { IfOk result (λ status. (p : List ℕ) × (q : List ℕ) × Tells p q (W.written writer.old) (W.written writer.new) status) }
     ensures refused { IfErr result IsOfJob }
 {
     let p = read_profile_file(rt, first)?;
@@ -178,6 +179,7 @@ fn do_job<R: Files + AllocGlobal, I: Read + Drop, W: Sink>(
 ) -> Result<u8, Fault>
     requires { W.has_failed writer.old ≡ false }
     ensures ok { IfOk result (λ status. status ≤ 1) }
+    ensures does { IfOk result (Does job.entry (W.written writer.old) (W.written writer.new)) }
     ensures different { IfOk result (λ status. status ≡ 1 → IsComparison job.entry) }
     ensures refused { IfErr result IsOfJob }
 {
