@@ -1,0 +1,12 @@
+//! What is wrong with a profile text, all of it, and what in it has no effect, each with its line.
+#![tactic(auto)]
+
+mod place;
+mod spare;
+mod spot;
+
+pub use place::{Place, place_of};
+pub use spare::{
+    Setting, is_spare_initial, is_spare_mode, is_spare_rule, is_spare_setting, is_spare_word,
+};
+pub use spot::Spot;
