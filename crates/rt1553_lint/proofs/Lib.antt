@@ -1,2 +1,3 @@
 mod Alike
 mod Back
+mod Told
