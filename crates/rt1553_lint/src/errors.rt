@@ -18,7 +18,7 @@ use std::alloc::{AllocError, Global};
 use toml::Table;
 
 /// How many bytes of beginnings of the text are read, at most, to find where the findings stand.
-pub const MOST_BYTES: usize = 134_217_728;
+pub const MOST_BYTES: usize = 67_108_864;
 
 /// What a key takes.
 fn allowed(key: Key) -> &'static str {

@@ -1,4 +1,7 @@
 //! One line of what is told of a profile text.
+ghost use Rattle.std.specs.Prelude.{◌≡◌, is_some, codes, if◌then◌else◌};
+ghost use Rattle.rt1553_lint.specs.Findings.{number_of, name_of};
+
 use bus_canon::CanonFault;
 use bus_profile::ProfileFault;
 use serde::Serialize;
@@ -21,7 +24,9 @@ pub enum Fault {
 
 impl Fault {
     /// The number of the fault among those of its type.
-    pub fn number(self) -> u8 {
+    pub fn number(self) -> u8
+        ensures { result ≡ number_of self }
+    {
         match self {
             Fault::Profile(fault) => fault.number(),
             Fault::Canon(fault) => fault.number(),
@@ -29,7 +34,9 @@ impl Fault {
     }
 
     /// The name of the fault.
-    pub fn name(self) -> &'static str {
+    pub fn name(self) -> &'static str
+        ensures { result.now ≡ name_of self }
+    {
         match self {
             Fault::Profile(fault) => fault.name(),
             Fault::Canon(fault) => fault.name(),
@@ -50,7 +57,9 @@ pub struct Finding {
 
 impl Finding {
     /// `error` or `warning`.
-    pub fn severity(&self) -> &'static str {
+    pub fn severity(&self) -> &'static str
+        ensures { result.now ≡ (if is_some self.now.fault then codes "error" else codes "warning") }
+    {
         match self.fault {
             Some(_) => "error",
             None => "warning",

@@ -54,7 +54,7 @@ pub fn why_rule(profile: &Profile, rule: &Rule, later: &[Rule]) -> &'static str 
     } else if !rule.own && !rule.receive {
         "a broadcast command to transmit is never legal"
     } else if is_covered(rule, later, profile.broadcast) {
-        "later rules say of all its commands"
+        "later rules decide all its commands"
     } else if rule.legal {
         "its commands are legal without it"
     } else {
@@ -85,7 +85,7 @@ pub fn why_mode(profile: &Profile, mode: &ModeRule, later: &[ModeRule]) -> &'sta
         }
     }
     if own == 0 && broadcast == 0 {
-        "later entries say of all its codes"
+        "later entries decide all its codes"
     } else if mode.legal {
         "its codes are legal without it"
     } else {
