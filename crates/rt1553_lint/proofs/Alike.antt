@@ -1,20 +1,16 @@
 -- Profiles whose `Normal`s are equal have the same in reach.
-use Rattle.std.proofs.Common.{◌≡◌, ◌≤◌, ◌↔◌, ℕ, List, [], Bool, true, false, IsTrue, refl, ap, ◌∙◌, sym}
-use Rattle.bus_word.specs.declared.cell.Cell.TheVariants.{OwnMode}
-use Rattle.bus_word.specs.Mode.{is_required_code}
+use Rattle.std.proofs.Common.{◌≡◌, ◌≤◌, ◌↔◌, ℕ, [], Bool, true, false, IsTrue, ap, ◌∙◌, sym}
 use Rattle.bus_profile.specs.declared.profile.Profile.{Profile}
-use Rattle.bus_profile.specs.OwnCodes.{has_required_codes, is_own_code_legal}
+use Rattle.bus_profile.specs.OwnCodes.{has_required_codes}
 use Rattle.bus_legal.specs.Meaning.{description_of}
 use Rattle.bus_legal.specs.Reach.{reach}
 use Rattle.terminal_rules.specs.Out.{outs}
 use Rattle.terminal_rules.specs.Same.{Same}
 use Rattle.terminal_rules.proofs.Reach.Same.{same_where_reached, outs_from-reach}
 use Rattle.bus_canon.proofs.SameLaws.{equal_where_same}
-use Rattle.bus_legal.proofs.LegalLaws.{own_codes, required_codes}
 use Rattle.rt1553_lint.specs.Without.{without, without_mode, IsSpareMode}
 use Rattle.bus_legal.specs.Description.{Description}
 use Rattle.bus_legal.specs.Parts.{Parts, description_in, IsNormal}
-use Rattle.bus_legal.proofs.SameNormals.{same_normals}
 
 pub alike : (b : Bool) (v w : Parts) (P Q : Description) → P.address ≤ 30 → Q.address ≤ 30 → IsNormal v → IsNormal w → description_in v ≡ reach P → description_in w ≡ reach Q
     → (IsTrue b ↔ (v ≡ w)) → (IsTrue b ↔ Same P Q)

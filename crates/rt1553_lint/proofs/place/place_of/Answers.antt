@@ -1,4 +1,4 @@
-use Rattle.std.proofs.Common.{ℕ, ◌-◌, ◌≤◌, length, option_map, subst, refl, arith}
+use Rattle.std.proofs.Common.{ℕ, ◌-◌, option_map, subst, refl, arith}
 use Rattle.rt1553_lint.specs.Places.{SeesBack}
 use Rattle.rt1553_lint.specs.Spots.{is_there}
 use Rattle.rt1553_lint.proofs.Back.{none_back, none_here}

@@ -1,4 +1,4 @@
-use Rattle.std.proofs.Common.{◌≡◌, ◌≤◌, ◌<◌, ◌+◌, ℕ, true, take, length, option_map}
+use Rattle.std.proofs.Common.{◌≤◌, ◌<◌, ◌+◌, ℕ, true, take, length, option_map}
 use Rattle.rt1553_lint.specs.Places.{IsDocument, IsNone, EndsLine}
 use Rattle.rt1553_lint.specs.Spots.{is_there}
 use Rattle.rt1553_lint.proofs.place.place_of.Given as goal

@@ -1,5 +1,4 @@
-use Rattle.std.proofs.Common.{rules, ◌≡◌, ap, ◌∙◌, sym, false}
-use Rattle.bus_profile.specs.OwnCodes.{has_required_codes}
+use Rattle.std.proofs.Common.{rules}
 use Rattle.rt1553_lint.proofs.Alike.{has_effect}
 use Rattle.rt1553_lint.proofs.spare.is_spare_mode.Goals as goal
 
