@@ -1,3 +1,4 @@
+pub mod AllFaults
 pub mod Arrays
 pub mod Bits
 pub mod Defaults

@@ -13,4 +13,5 @@ pub mod Plain
 pub mod Read
 pub mod Last
 pub mod OwnCodes
+pub mod AllFaults
 pub mod inner

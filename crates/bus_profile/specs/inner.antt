@@ -5,3 +5,4 @@ pub mod Choice
 pub mod FirstWord
 pub mod RangeParts
 pub mod MissingCode
+pub mod AllFaults

@@ -16,7 +16,8 @@ use crate::section::{Section, in_range, items_of};
 use std::alloc::Global;
 use toml::{Table, Value};
 
-const KEYS: [Key; 3] = [Key::Subaddress, Key::At, Key::Words];
+/// The keys of an initial entry.
+pub const KEYS: [Key; 3] = [Key::Subaddress, Key::At, Key::Words];
 
 /// The initial entries that are the items of an array.
 pub fn initials_of(alloc: Global, values: &[Value]) -> Result<Entries<InitialWords>, ProfileFault>
@@ -101,7 +102,7 @@ fn words_of(values: &[Value], part: Part) -> Result<[u16; 32], ProfileFault>
 
 /// Reads one word.
 #[tactic(auto, unfolding(crate::specs::Checks::in_order))]
-fn word_of(value: &Value, part: Part) -> Result<u16, ProfileFault>
+pub fn word_of(value: &Value, part: Part) -> Result<u16, ProfileFault>
     ensures { Reads (first_fault (word_checks part (view value.now))) (word_in (view value.now)) result }
 {
     let Some(n) = value.as_integer() else {

@@ -14,9 +14,11 @@ mod ranges;
 mod read;
 mod rule;
 mod section;
+mod told;
 
 pub use entries::{Entries, InitialWords, ModeRule, Rule};
 pub use fault::{Key, Part, ProfileFault};
 pub use profile::Profile;
 pub use ranges::{RangeFault, parse_ranges};
 pub use read::read_profile;
+pub use told::{all_faults, known_keys, unknown_keys, word_fault};

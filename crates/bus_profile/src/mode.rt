@@ -12,7 +12,8 @@ use crate::section::Section;
 use std::alloc::Global;
 use toml::{Table, Value};
 
-const KEYS: [Key; 3] = [Key::To, Key::Codes, Key::Legal];
+/// The keys of a mode entry.
+pub const KEYS: [Key; 3] = [Key::To, Key::Codes, Key::Legal];
 
 /// The mode entries that are the items of an array.
 pub fn modes_of(alloc: Global, values: &[Value]) -> Result<Entries<ModeRule>, ProfileFault>

@@ -22,7 +22,7 @@ pub fn missing_code(modes: &[ModeRule]) -> Option<u8>
 
 /// Tells whether the profile makes the own mode code legal: the last mode entry that speaks of it says.
 #[tactic(auto, using(crate::proofs::OwnCodes::last_says))]
-fn is_own_code_legal(modes: &[ModeRule], code: u8) -> bool
+pub fn is_own_code_legal(modes: &[ModeRule], code: u8) -> bool
     requires { code < 32 }
     ensures { result ≡ is_own_code_legal modes.now code }
 {

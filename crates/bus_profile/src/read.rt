@@ -16,7 +16,8 @@ use crate::section::Section;
 use std::alloc::Global;
 use toml::Table;
 
-const KEYS: [Key; 9] = [
+/// The keys of the root.
+pub const KEYS: [Key; 9] = [
     Key::Address,
     Key::Broadcast,
     Key::Wraparound,

@@ -12,7 +12,8 @@ use crate::section::Section;
 use std::alloc::Global;
 use toml::{Table, Value};
 
-const KEYS: [Key; 5] = [
+/// The keys of a rule.
+pub const KEYS: [Key; 5] = [
     Key::To,
     Key::Direction,
     Key::Subaddresses,

@@ -199,7 +199,7 @@ pub fn in_range(n: i64, low: u16, high: u16) -> Option<u16>
 }
 
 /// Tells whether a name is that of one of the keys.
-fn is_known(keys: &[Key], name: &str) -> bool
+pub fn is_known(keys: &[Key], name: &str) -> bool
     ensures { result ≡ is_known keys.now name.now }
 {
     for key in keys {

@@ -1,0 +1,103 @@
+-- What the readers of all faults tell, table by table.
+use Rattle.std.specs.Prelude.{ℕ, Bool, not, List, [], ◌∷◌, ◌++◌, Option, Some, None, is_some, map, if◌then◌else◌}
+use Rattle.toml.specs.Data.{Data, Members, as_array}
+use Rattle.bus_profile.specs.declared.told.EntryKind.{EntryKind}
+use Rattle.bus_profile.specs.declared.told.EntryKind.TheVariants as kind
+use Rattle.bus_profile.specs.declared.entries.ModeRule.{ModeRule}
+use Rattle.bus_profile.specs.declared.fault.Key.{Key}
+use Rattle.bus_profile.specs.declared.fault.Key.TheVariants as key
+use Rattle.bus_profile.specs.declared.fault.Part.{Part}
+use Rattle.bus_profile.specs.declared.fault.Part.TheVariants as part
+use Rattle.bus_profile.specs.declared.fault.ProfileFault.{ProfileFault}
+use Rattle.bus_profile.specs.declared.fault.ProfileFault.TheVariants.{UnknownKey, Missing, WrongKind, RequiredCode}
+use Rattle.bus_word.specs.Mode.{transmit_status, shutdown, override_shutdown, reset}
+use Rattle.bus_profile.specs.Checks.{Check}
+use Rattle.bus_profile.specs.Keys.{Row, keys_of, address_row, broadcast_row, wraparound_row, accept_row, vector_row, bit_row, rule_row, mode_row, initial_row, to_row, direction_row, subaddresses_row, counts_row, legal_row, codes_row, subaddress_row, at_row, words_row, rule_rows, mode_rows, initial_rows}
+use Rattle.bus_profile.specs.Kinds.{has_unknown}
+use Rattle.bus_profile.specs.Faults.{row_checks, entry_checks, words_checks}
+use Rattle.bus_profile.specs.OwnCodes.{is_own_code_legal}
+use Rattle.bus_profile.specs.AllFaults.{failing}
+use Rattle.bus_profile.specs.inner.FirstFault.{first_fault}
+
+-- the faults of several parts, one after the other
+abbrev pub failing_parts : List (List Check) → List ProfileFault
+failing_parts [] = []
+failing_parts (part ∷ parts) = failing part ++ failing_parts parts
+
+abbrev pub present : Option ProfileFault → List ProfileFault
+present None = []
+present (Some f) = f ∷ []
+
+-- the line of the table of keys that a key has
+abbrev pub row_of : Key → Row
+row_of key.Address = address_row
+row_of key.Broadcast = broadcast_row
+row_of key.Wraparound = wraparound_row
+row_of key.AcceptBusControl = accept_row
+row_of key.Vector = vector_row
+row_of key.Bit = bit_row
+row_of key.Rule = rule_row
+row_of key.Mode = mode_row
+row_of key.Initial = initial_row
+row_of key.To = to_row
+row_of key.Direction = direction_row
+row_of key.Subaddresses = subaddresses_row
+row_of key.Counts = counts_row
+row_of key.Legal = legal_row
+row_of key.Codes = codes_row
+row_of key.Subaddress = subaddress_row
+row_of key.At = at_row
+row_of key.Words = words_row
+
+-- the fault of a table with a key that it may not have
+abbrev pub unknown_told : Part → List Row → Members → Option ProfileFault
+unknown_told part rows ms = if has_unknown (keys_of rows) ms then Some (UnknownKey part) else None
+
+-- the fault of a key
+abbrev pub key_told : Part → Members → Key → Option ProfileFault
+key_told part ms key = first_fault (row_checks part ms (row_of key))
+
+-- the fault of an array as such, of its kind or of what isn't there
+abbrev pub array_told : Part → Key → Bool → Option Data → Option ProfileFault
+array_told part key required None = if required then Some (Missing part key) else None
+array_told part key required (Some d) = if is_some (as_array d) then None else Some (WrongKind part key)
+
+-- those of several keys
+abbrev pub keys_told : Part → Members → List Key → List ProfileFault
+keys_told part ms keys = failing_parts (map (λ key. row_checks part ms (row_of key)) keys)
+
+-- ---- the entries of the three arrays
+
+abbrev pub array_row : EntryKind → Row
+array_row kind.Rule = rule_row
+array_row kind.Mode = mode_row
+array_row kind.Initial = initial_row
+
+abbrev pub part_of : EntryKind → ℕ → Part
+part_of kind.Rule n = part.Rule n
+part_of kind.Mode n = part.Mode n
+part_of kind.Initial n = part.Initial n
+
+abbrev pub rows_of : EntryKind → List Row
+rows_of kind.Rule = rule_rows
+rows_of kind.Mode = mode_rows
+rows_of kind.Initial = initial_rows
+
+-- the checks of the keys of an entry
+abbrev pub keys_in : EntryKind → ℕ → Members → List (List Check)
+keys_in kind.Rule n ms = map (row_checks (part.Rule n) ms) rule_rows
+keys_in kind.Mode n ms = map (row_checks (part.Mode n) ms) mode_rows
+keys_in kind.Initial n ms = row_checks (part.Initial n) ms subaddress_row ∷ row_checks (part.Initial n) ms at_row ∷ words_checks (part.Initial n) ms ∷ []
+
+-- the checks of an entry: those of `Faults` of its kind
+abbrev pub checks_of : EntryKind → ℕ → Data → List Check
+checks_of k n = entry_checks (part_of k n) (array_row k) (rows_of k) (λ ms. keys_in k n ms)
+
+-- ---- codes
+
+-- the fault of a code that must be legal, where it isn't
+abbrev pub code_told : List ModeRule → ℕ → List ProfileFault
+code_told modes code = if not (is_own_code_legal modes code) then RequiredCode code ∷ [] else []
+
+abbrev pub codes_told : List ModeRule → List ProfileFault
+codes_told modes = code_told modes transmit_status ++ (code_told modes shutdown ++ (code_told modes override_shutdown ++ code_told modes reset))

@@ -1,0 +1,4 @@
+pub mod Findings
+pub mod Places
+pub mod Spots
+pub mod Without

@@ -1,0 +1,170 @@
+//! The lines of a profile text at which it gets something.
+ghost use Rattle.std.specs.Prelude.{◌≤◌, ◌<◌, IfOk, IfSome, take, length, option_map};
+ghost use Rattle.rt1553_lint.specs.Places.{IsPlace, Sees, SeesBack};
+ghost use Rattle.rt1553_lint.specs.Spots.{is_there};
+
+use crate::spot::Spot;
+use std::alloc::{AllocError, Global};
+
+/// Lines of a text: those after its first `start` bytes, up to its first `end`.
+#[derive(Clone, Copy, Debug, PartialEq, Eq)]
+pub struct Place {
+    pub start: usize,
+    pub end: usize,
+}
+
+/// What a text is to one who looks for something.
+#[derive(Clone, Copy, Debug, PartialEq, Eq)]
+enum Look {
+    NoDocument,
+    Without,
+    With,
+    TooMuch,
+}
+
+/// Whether the first `end` bytes of the text are a document that has what is looked for. `left` is how many bytes may still be read.
+fn look_at(
+    alloc: Global,
+    text: &[u8],
+    end: usize,
+    spot: &Spot<'_>,
+    left: &mut usize,
+) -> Result<Look, AllocError>
+    requires { end ≤ length text.now }
+    ensures { IfOk result (Sees (is_there spot.now.key.now spot.now.entry (option_map (λ n. n.now) spot.now.name) spot.now.word) (take end text.now)) }
+{
+    if *left < end {
+        return Ok(Look::TooMuch);
+    }
+    *left -= end;
+    match toml::table_from_slice(alloc, &text[..end]) {
+        Ok(table) => {
+            if spot.is_in(&table) {
+                Ok(Look::With)
+            } else {
+                Ok(Look::Without)
+            }
+        }
+        Err(error) => {
+            if error.is_memory() {
+                Err(AllocError)
+            } else {
+                Ok(Look::NoDocument)
+            }
+        }
+    }
+}
+
+/// Where the line ends that has the byte at this place, or the text.
+fn line_end(text: &[u8], from: usize) -> usize
+    ensures { result ≤ length text.now }
+{
+    for at in from..text.len() {
+        if text[at] == b'\n' {
+            return at + 1;
+        }
+    }
+    text.len()
+}
+
+/// The first end of a line after `middle` up to which the text is a document, below `upper`.
+fn next_document(
+    alloc: Global,
+    text: &[u8],
+    middle: usize,
+    upper: usize,
+    spot: &Spot<'_>,
+    left: &mut usize,
+) -> Result<(usize, Look), AllocError>
+    ensures { IfOk result (λ found. found.0 ≤ length text.now) }
+{
+    let mut at = line_end(text, middle);
+    for _line in 0..text.len() {
+        if upper <= at {
+            return Ok((at, Look::NoDocument));
+        }
+        match look_at(alloc, text, at, spot, left)? {
+            Look::NoDocument => at = line_end(text, at),
+            seen => return Ok((at, seen)),
+        }
+    }
+    Ok((at, Look::NoDocument))
+}
+
+/// An end of a line up to which the text has what is looked for, found by halving; what is looked for is mostly in the last line before it.
+fn some_end(
+    alloc: Global,
+    text: &[u8],
+    spot: &Spot<'_>,
+    left: &mut usize,
+) -> Result<usize, AllocError>
+    ensures { IfOk result (λ end. end ≤ length text.now) }
+{
+    let mut end = text.len();
+    let mut lower = 0usize;
+    let mut upper = text.len();
+    for _half in 0..64 {
+        if upper <= lower {
+            break;
+        }
+        let middle = lower + (upper - lower) / 2;
+        let (at, seen) = next_document(alloc, text, middle, upper, spot, left)?;
+        match seen {
+            Look::With => {
+                end = at;
+                upper = middle;
+            }
+            Look::Without => lower = at,
+            Look::NoDocument => upper = middle,
+            Look::TooMuch => break,
+        }
+    }
+    Ok(end)
+}
+
+/// As `look_at`, at an end of a line alone; any other is passed over like one up to which the text is no document.
+fn look_back(
+    alloc: Global,
+    text: &[u8],
+    at: usize,
+    spot: &Spot<'_>,
+    left: &mut usize,
+) -> Result<Look, AllocError>
+    requires { at < length text.now }
+    ensures { IfOk result (SeesBack (is_there spot.now.key.now spot.now.entry (option_map (λ n. n.now) spot.now.name) spot.now.word) text.now at) }
+{
+    if at == 0 || text[at - 1] == b'\n' {
+        return look_at(alloc, text, at, spot, left);
+    }
+    Ok(Look::NoDocument)
+}
+
+/// Gives the lines at which a text gets what is looked for: up to their end it is a document that has it, up to their start one
+/// that doesn't, and up to no end of a line between them it is a document.
+///
+/// `left` is how many bytes may still be read, of all beginnings of the text that are; where there are too few, no place is given.
+/// The error is that memory was wanting.
+pub fn place_of(
+    alloc: Global,
+    text: &[u8],
+    spot: &Spot<'_>,
+    left: &mut usize,
+) -> Result<Option<Place>, AllocError>
+    ensures { IfOk result (λ found. IfSome found (λ place. IsPlace (is_there spot.now.key.now spot.now.entry (option_map (λ n. n.now) spot.now.name) spot.now.word) text.now place.start place.end)) }
+{
+    let most = some_end(alloc, text, spot, left)?;
+    let Look::With = look_at(alloc, text, most, spot, left)? else {
+        return Ok(None);
+    };
+    let mut end = most;
+    for back in 0..most {
+        let at = most - 1 - back;
+        match look_back(alloc, text, at, spot, left)? {
+            Look::With => end = at,
+            Look::Without => return Ok(Some(Place { start: at, end })),
+            Look::NoDocument => {}
+            Look::TooMuch => return Ok(None),
+        }
+    }
+    Ok(None)
+}
