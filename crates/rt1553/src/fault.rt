@@ -45,6 +45,17 @@ impl LoadFault {
     }
 }
 
+impl From<CanonFault> for LoadFault {
+    ghost use Rattle.std.specs.Prelude.{◌≡◌};
+    ghost use Rattle.rt1553.specs.declared.fault.LoadFault.TheVariants.{Canon};
+
+    ghost from_gives = { λ fault loading. loading ≡ Canon fault };
+
+    fn from(fault: CanonFault) -> LoadFault {
+        LoadFault::Canon(fault)
+    }
+}
+
 impl From<ProfileFault> for LoadFault {
     ghost use Rattle.std.specs.Prelude.{◌≡◌};
     ghost use Rattle.rt1553.specs.Load.{load_fault};

@@ -29,10 +29,7 @@ pub fn load(alloc: Global, text: &[u8]) -> Result<Normal, LoadFault>
     ensures refused { IfErr result (IsNotLoaded text.now) }
 {
     if is_canon_text(text) {
-        return match read_canon(text) {
-            Ok(normal) => Ok(normal),
-            Err(fault) => Err(LoadFault::Canon(fault)),
-        };
+        return Ok(read_canon(text)?);
     }
     let profile = read_profile(alloc, text)?;
     Ok(normalise(&profile))

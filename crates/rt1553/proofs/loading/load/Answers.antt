@@ -2,8 +2,8 @@ use Rattle.std.proofs.Common.{sym, ◌∙◌}
 use Rattle.rt1553.proofs.LoadLaws.{canon_reaches, profile_reaches}
 use Rattle.rt1553.proofs.loading.load.Goals as goal
 
-pub returns-in-Ok-clause-ok : goal.returns-in-Ok-clause-ok
-returns-in-Ok-clause-ok c = canon_reaches c.in-Ok.normal c.args.text.now c.in-Ok.ensures
+pub returns-then-is_canon_text-clause-ok : goal.returns-then-is_canon_text-clause-ok
+returns-then-is_canon_text-clause-ok c = canon_reaches c.in_ok-read_canon.field-0 c.args.text.now c.in_ok-read_canon.ensures
 
 pub returns-clause-ok : goal.returns-clause-ok
 returns-clause-ok c =
