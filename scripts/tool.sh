@@ -90,6 +90,40 @@ generate.write(pathlib.Path('$work/families'))" || return
     done
 }
 
+# what `verify` tells of what passes, by the clauses and the profiles that scripts name
+summary_rows() {
+    mkdir -p "$work/folder"
+    printf 'address = 5\n' >"$work/folder/five.toml"
+    printf 'address = 6\n' >"$work/folder/six.toml"
+    script one '# Profile: five.toml\n# Plan: 5.2.10, 5.2.2\nA c 2c02\nA gap\nslot\n#> A s 2800\n'
+    script two '# It is so.\n# Profile: six.toml\n# Standard: 30.1\nA c 3402\nA gap\nslot\n#> A s 3000\nA c 3402\nA gap\nslot\n#> A s 3000\n'
+    script wrong '# Profile: five.toml\n# Plan: 5.2.2\nA c 2c02\nA gap\nslot\n#> A s 2c00\n'
+    script bare '# Plan: 5.2.2\n'
+    script late 'A gap\n# Profile: five.toml\n'
+    script strange '# Profile: seven.toml\nA gap\n'
+    script broken '# Profile: five.toml\n# Plan: 5.2.3\nslot \n'
+    input ''
+    row 'a summary' 0 'one: passed (1 answers)\n5.2.2: 1 of 1 scripts pass\n5.2.10: 1 of 1 scripts pass\nall: 1 of 1 scripts pass\n' '' \
+        verify --summary folder/five.toml one
+    row 'each script names its profile' 0 '' '' verify --profiles folder one two
+    row 'a summary over two profiles' 1 \
+        'one: passed (1 answers)\ntwo: passed (2 answers)\nwrong:5: expected A s 2c00, came A s 2800\nwrong: 1 differ\n5.2.2: 1 of 2 scripts pass\n5.2.10: 1 of 1 scripts pass\n30.1: 1 of 1 scripts pass\nall: 2 of 3 scripts pass\n' '' \
+        verify --summary --profiles folder one two wrong
+    row 'a script that names no profile' 2 '' "bare: script: no line '# Profile: NAME' at its front\n" verify --profiles folder bare one
+    row 'a profile that is named behind an event' 2 '' "late: script: no line '# Profile: NAME' at its front\n" verify --profiles folder late
+    row 'a named profile that is not there' 4 '' 'file: cannot read folder/seven.toml\n' verify --profiles folder strange
+    row 'a summary of scripts that are refused' 4 \
+        'no clause: 0 of 1 scripts pass\n5.2.3: 0 of 1 scripts pass\nall: 0 of 2 scripts pass\n' \
+        'broken: script: line 3\nfile: cannot read none\n' verify --summary --profiles folder broken none
+    row 'no script is named' 3 '' 'words: see --help\n' verify --profiles folder
+    # the protocol tests, by the command that their page tells
+    (cd "$top" && "$program" verify --summary --profiles examples/validation/profiles examples/validation/{scripts,choices}/*.script) \
+        >"$work/stdout" 2>"$work/stderr" </dev/null && [[ ! -s $work/stderr ]] &&
+        [[ $(tail -n 1 "$work/stdout") == 'all: 154 of 154 scripts pass' ]] &&
+        grep -q '^5.2.1.1.1: 9 of 9 scripts pass$' "$work/stdout"
+    count 'a summary of the protocol tests' $?
+}
+
 # what `verify` tells of small scripts over the profile `address = 5`
 verify_rows() {
     printf 'address = 5\n' >"$work/five"
@@ -209,6 +243,7 @@ for program in "$@"; do
     rt1553=${program//rt1553_tool_program/rt1553_program}
     rt1553=${rt1553%-tool}
     verify_rows
+    summary_rows
     validation
     toml_rows
     live_rows

@@ -2,14 +2,15 @@
 //! terminal, and a terminal that is played line by line.
 #![tactic(auto)]
 
-mod numbers;
+mod heading;
 mod profile_text;
 mod session;
 mod stated;
 mod verifying;
 mod written;
 
+pub use heading::named;
 pub use profile_text::{TomlFault, toml_of};
 pub use session::{play, serve};
-pub use stated::{Stated, StatedFault, read_stated};
+pub use stated::{Stated, StatedFault, answers_in, read_stated};
 pub use verifying::{Difference, differences, verify};

@@ -3,6 +3,10 @@
 
 mod fault;
 mod files;
+mod live;
+mod profile_toml;
+mod summary;
+mod verify;
 mod words;
 mod work;
 

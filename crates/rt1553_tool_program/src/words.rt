@@ -14,23 +14,39 @@ fn profile<'a>(alloc: Global) -> Arg<'a> {
         .help("a profile or a canonical text")
 }
 
-/// Words that name scripts, at least one.
-fn scripts<'a>(alloc: Global) -> Arg<'a> {
-    Arg::new(alloc, "script")
-        .required(true)
+/// The word `verify`.
+fn verify<'a>(alloc: Global) -> Result<Command<'a>, AllocError> {
+    let profile = Arg::new(alloc, "profile")
+        .required_unless_present("profiles")?
+        .action(ArgAction::Set)
+        .value_name("P")
+        .help("a profile or a canonical text");
+    let scripts = Arg::new(alloc, "script")
+        .required_unless_present("profiles")?
         .action(ArgAction::Append)
         .num_args(1..)
         .value_name("SCRIPT")
-        .help("scripts that state their answers")
+        .help("scripts that state their answers");
+    let summary = Arg::new(alloc, "summary")
+        .long("summary")
+        .action(ArgAction::SetTrue)
+        .help("tells what passes too, clause by clause");
+    let profiles = Arg::new(alloc, "profiles")
+        .long("profiles")
+        .action(ArgAction::Set)
+        .value_name("FOLDER")
+        .help("no P: each script names its profile of FOLDER");
+    Command::new(alloc, "verify")
+        .about("Tells where a terminal doesn't answer as scripts state")
+        .after_help("Example: rt1553-tool verify pump.toml pump.script")
+        .arg(profile)?
+        .arg(scripts)?
+        .arg(summary)?
+        .arg(profiles)
 }
 
 /// The words that the program takes.
 pub fn command<'a>(alloc: Global) -> Result<Command<'a>, AllocError> {
-    let verify = Command::new(alloc, "verify")
-        .about("Tells where a terminal doesn't answer as scripts state")
-        .after_help("Example: rt1553-tool verify pump.toml pump.script")
-        .arg(profile(alloc))?
-        .arg(scripts(alloc))?;
     let toml = Command::new(alloc, "toml")
         .about("Writes a small profile that means the same terminal")
         .after_help("Example: rt1553-tool toml pump.canon > pump.toml")
@@ -43,7 +59,7 @@ pub fn command<'a>(alloc: Global) -> Result<Command<'a>, AllocError> {
         .version(VERSION)
         .about("What people ask of a profile of a remote terminal")
         .subcommand_required(true)
-        .subcommand(verify)?
+        .subcommand(verify(alloc)?)?
         .subcommand(toml)?
         .subcommand(live)
 }
