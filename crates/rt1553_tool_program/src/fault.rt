@@ -1,8 +1,12 @@
 //! Why the program ends early, the line that it prints then, and the status that it ends with.
 use rt1553::LoadFault;
+use rt1553_differ::DifferFault;
 use rt1553_tool::{StatedFault, TomlFault};
 use std::alloc::{AllocError, AllocFailed};
 use std::fmt;
+
+/// The status of a comparison that finds a difference, and of what else was found.
+pub const DIFFERENT: u8 = 1;
 
 /// The status of words that the program doesn't take.
 pub const USAGE: u8 = 3;
@@ -28,6 +32,8 @@ pub enum Fault {
     NoProfile(String),
     /// A word is missing, or is no text.
     Usage,
+    /// What differs was not found.
+    Differ(DifferFault),
     /// No profile was made that means the same terminal.
     Toml(TomlFault),
 }
@@ -47,6 +53,7 @@ impl fmt::Display for Fault {
                 "{name}: script: no line '# Profile: NAME' at its front"
             ),
             Fault::Usage => f.write_str("words: see --help"),
+            Fault::Differ(fault) => write!(f, "{fault}"),
             Fault::Toml(fault) => write!(f, "{fault}"),
         }
     }
@@ -73,5 +80,11 @@ impl From<AllocError> for Fault {
 impl<T: Drop> From<AllocFailed<T>> for Fault {
     fn from(_failed: AllocFailed<T>) -> Fault {
         Fault::Memory
+    }
+}
+
+impl From<DifferFault> for Fault {
+    fn from(fault: DifferFault) -> Fault {
+        Fault::Differ(fault)
     }
 }

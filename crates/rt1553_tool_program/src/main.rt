@@ -1,6 +1,9 @@
 //! The program `rt1553-tool`: what people ask of a profile, over files and the standard streams.
 #![tactic(auto)]
 
+mod bus_words;
+mod differ;
+mod explain;
 mod fault;
 mod files;
 mod live;

@@ -1,5 +1,5 @@
 //! The word `verify`: scripts that state their answers are played.
-use crate::fault::Fault;
+use crate::fault::{DIFFERENT, Fault};
 use crate::files::{load_profile, owned, put, read_script_file};
 use crate::summary::Summary;
 use bus_legal::Normal;
@@ -8,9 +8,6 @@ use rt1553_tool::{Difference, answers_in, differences, named, read_stated};
 use std::io::Write;
 use std::rt::Files;
 use std::{fmt, format};
-
-/// The status of a comparison that finds a difference.
-const DIFFERENT: u8 = 1;
 
 /// Which terminal a script is played to.
 #[derive(Drop)]

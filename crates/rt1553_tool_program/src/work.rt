@@ -1,4 +1,7 @@
 //! What the program does.
+use crate::bus_words::bus_words;
+use crate::differ::differ;
+use crate::explain::explain;
 use crate::fault::{Fault, USAGE};
 use crate::live::live;
 use crate::profile_toml::toml;
@@ -22,6 +25,9 @@ fn do_words<R: Files + AllocGlobal + Eprint, I: Read + Drop, W: Write>(
     match name {
         "verify" => verify(rt, words, output),
         "toml" => toml(rt, words, output),
+        "explain" => explain(rt, words, output),
+        "differ" => differ(rt, words, output),
+        "words" => bus_words(rt, input, output),
         _ => live(rt, words, input, output),
     }
 }
