@@ -220,10 +220,10 @@ bus_word_rows() {
     local kind
     input 'rx 5 3 2\ntx 5 3 2\nrx 5 3 32\nmode 5 19 tx\nmode all 1\nmode 5 17\nmode 5 1 tx 31\nmode 5 9 rx\nstatus 5 error busy\ndata 1234\n'
     row 'words of fields' 0 \
-        'c 2862 0\nc 2c62 1\nc 2860 1\nc 2c13 1\nc fc01 0\nc 2811 1\nc 2fe1 1\nc 2809 1\ns 2c08 1\nd 1234 0\n' '' words
+        'c 2862 0\nc 2c62 1\nc 2860 1\nc 2c13 1\nc fc01 0\nc 2811 1\nc 2fe1 0\nc 2809 1\ns 2c08 1\nd 1234 0\n' '' words
     input '# so\n\nc 2862\nc 2862 0\nc 2c13\nc fc01\nc 2fe1\nc 2809\ns 2c08\ns 2AE1\nd 1234 # what\nrx all 30 1'
     row 'fields of words' 0 \
-        '# so\n\nrx 5 3 2\nrx 5 3 2\nmode 5 19 tx # transmit BIT word\nmode all 1 tx # synchronize\nmode 5 1 tx 31 # synchronize\nmode 5 9 rx # always illegal\nstatus 5 error busy\nstatus 5 instrumentation reserved1 reserved2 reserved3 terminal\ndata 1234\nc fbc1 0\n' '' words
+        '# so\n\nrx 5 3 2\nrx 5 3 2\nmode 5 19 tx # transmit BIT word\nmode all 1 tx # synchronize\nmode 5 1 tx 31 # synchronize\nmode 5 9 rx # always illegal\nstatus 5 error busy\nstatus 5 instrumentation reserved1 reserved2 reserved3 terminal\ndata 1234\nc fbc1 1\n' '' words
     input 'c 2862 1\nrx 32 3 2\nrx 5 31 2\nrx 5 3 33\nrx 5 3\nmode 5 9\nmode 5 32\nmode 5 1 tx 30\nstatus 5 none\nx\nc 286\nc 2862 0 x\nrx 5 3 2\n\377\n'
     row 'words that are refused' 1 \
         "? the parity bit is wrong: the word isn't valid\n? an address is 0 to 30, or all\n? a subaddress is 1 to 30\n? a count is 1 to 32\n? a count is 1 to 32\n? tx or rx is wanted behind a mode code that has no row in the table\n? a mode code is 0 to 31\n? the subaddress of a mode code is 0 or 31\n? a status has error, instrumentation, service, reserved1 to 3, broadcast, busy, subsystem, accept, terminal\n? a line begins with rx, tx, mode, status, data, c, s or d\n? a word is four hexadecimal digits\n? too much in a line\nc 2862 0\n? a line begins with rx, tx, mode, status, data, c, s or d\n" '' words

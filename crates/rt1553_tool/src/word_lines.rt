@@ -66,12 +66,9 @@ pub struct WordLine {
     pub by_fields: bool,
 }
 
-/// Gives the next part of a line; what is behind `#` is a comment.
-fn next_part<'a>(parts: &mut SplitWhitespace<'a>) -> Option<&'a str> {
-    match parts.next() {
-        Some(part) if part.as_bytes().starts_with(b"#") => None,
-        part => part,
-    }
+/// Gives a line without its comment.
+fn without_comment(line: &[u8]) -> &[u8] {
+    line.split(|byte| *byte == b'#').next().unwrap_or(line)
 }
 
 /// Gives the decimal number that a part is, up to the most.
@@ -111,11 +108,11 @@ fn digits(part: Option<&str>) -> Result<u16, WordFault> {
 fn read_transfer(parts: &mut SplitWhitespace<'_>, transmit: bool) -> Result<WordFields, WordFault>
     ensures { IfOk result AreOfWidth }
 {
-    let address = address(next_part(parts))?;
-    let Some(subaddress @ 1..=30) = number(next_part(parts), 30) else {
+    let address = address(parts.next())?;
+    let Some(subaddress @ 1..=30) = number(parts.next(), 30) else {
         return Err(WordFault::Subaddress);
     };
-    let Some(count @ 1..=32) = number(next_part(parts), 32) else {
+    let Some(count @ 1..=32) = number(parts.next(), 32) else {
         return Err(WordFault::Count);
     };
     Ok(WordFields::Command(CommandFields {
@@ -130,17 +127,17 @@ fn read_transfer(parts: &mut SplitWhitespace<'_>, transmit: bool) -> Result<Word
 fn read_mode(parts: &mut SplitWhitespace<'_>) -> Result<WordFields, WordFault>
     ensures { IfOk result AreOfWidth }
 {
-    let address = address(next_part(parts))?;
-    let Some(low) = number(next_part(parts), 31) else {
+    let address = address(parts.next())?;
+    let Some(low) = number(parts.next(), 31) else {
         return Err(WordFault::Code);
     };
-    let transmit = match (next_part(parts), mode_row(low)) {
+    let transmit = match (parts.next(), mode_row(low)) {
         (Some("tx"), _) => true,
         (Some("rx"), _) => false,
         (None, Some(row)) => row.transmit,
         _ => return Err(WordFault::Direction),
     };
-    let subaddress = match next_part(parts) {
+    let subaddress = match parts.next() {
         None | Some("0") => 0,
         Some("31") => 31,
         Some(_) => return Err(WordFault::ModeSubaddress),
@@ -180,14 +177,14 @@ fn with_bit(mut status: StatusFields, name: &str) -> Result<StatusFields, WordFa
 fn read_status(parts: &mut SplitWhitespace<'_>) -> Result<WordFields, WordFault>
     ensures { IfOk result AreOfWidth }
 {
-    let Some(address) = number(next_part(parts), 31) else {
+    let Some(address) = number(parts.next(), 31) else {
         return Err(WordFault::Address);
     };
     let mut status = status_fields(0);
     status.address = address;
     // no more bits have names
     for _bit in 0..12 {
-        match next_part(parts) {
+        match parts.next() {
             Some(name) => status = with_bit(status, name)?,
             None => return Ok(WordFields::Status(status)),
         }
@@ -199,8 +196,8 @@ fn read_status(parts: &mut SplitWhitespace<'_>) -> Result<WordFields, WordFault>
 fn read_digits(parts: &mut SplitWhitespace<'_>, kind: Kind) -> Result<Raw, WordFault>
     ensures { IfOk result (λ word. word ≡ valid_word kind word.bits) }
 {
-    let word = Raw::of(kind, digits(next_part(parts))?);
-    match (next_part(parts), word.parity) {
+    let word = Raw::of(kind, digits(parts.next())?);
+    match (parts.next(), word.parity) {
         (None, _) | (Some("0"), false) | (Some("1"), true) => Ok(word),
         (Some("0" | "1"), _) => Err(WordFault::Parity),
         _ => Err(WordFault::Much),
@@ -247,11 +244,14 @@ fn read_by_digits(parts: &mut SplitWhitespace<'_>, name: &str) -> Result<WordLin
 
 /// Reads a line that says a word by its fields, or by its digits: what it tells of both is of one word. Parts of a line are
 /// separated by spaces, and what stands behind `#` is a comment.
-pub fn read_word_line(line: &str) -> Result<WordLine, WordFault>
+pub fn read_word_line(line: &[u8]) -> Result<WordLine, WordFault>
     ensures { IfOk result (λ line. IsWordOf line.word line.fields) }
 {
-    let mut parts = line.split_whitespace();
-    let Some(name) = next_part(&mut parts) else {
+    let Ok(text) = str::from_utf8(without_comment(line)) else {
+        return Err(WordFault::Name);
+    };
+    let mut parts = text.split_whitespace();
+    let Some(name) = parts.next() else {
         return Err(WordFault::Name);
     };
     let line = match name {
@@ -259,10 +259,10 @@ pub fn read_word_line(line: &str) -> Result<WordLine, WordFault>
         "tx" => by_fields(read_transfer(&mut parts, true)?),
         "mode" => by_fields(read_mode(&mut parts)?),
         "status" => by_fields(read_status(&mut parts)?),
-        "data" => by_fields(WordFields::Data(digits(next_part(&mut parts))?)),
+        "data" => by_fields(WordFields::Data(digits(parts.next())?)),
         _ => read_by_digits(&mut parts, name)?,
     };
-    match next_part(&mut parts) {
+    match parts.next() {
         None => Ok(line),
         Some(_) => Err(WordFault::Much),
     }
@@ -360,11 +360,7 @@ fn answer<W: Write>(line: &[u8], writer: &mut W) -> io::Result<bool> {
         writer.write_all(b"\n")?;
         return Ok(true);
     }
-    let read = match str::from_utf8(line) {
-        Ok(line) => read_word_line(line),
-        Err(_) => Err(WordFault::Name),
-    };
-    match read {
+    match read_word_line(line) {
         Ok(line) => {
             writeln!(writer, "{line}")?;
             Ok(true)
