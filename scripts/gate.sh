@@ -47,7 +47,7 @@ if [[ $failed -eq 0 ]]; then
     mapfile -t tools < <(builds_of rt1553_tool_program)
     part python3 scripts/validation.py "${programs[@]}"
     part bash scripts/tool.sh "${tools[@]}"
-    part python3 scripts/sessions.py "$built/crates/rt1553_program/out/rt1553_program"
+    part python3 scripts/sessions.py "$built"/crates/rt1553_{program/out/rt1553_program,tool_program/out/rt1553_tool_program}
 fi
 echo "$passed passed, $failed failed"
 [[ $failed -eq 0 && $passed -gt 0 ]]

@@ -1,9 +1,9 @@
 #!/usr/bin/env python3
-"""Plays the sessions of the pages: sessions.py PROGRAM
+"""Plays the sessions of the pages: sessions.py PROGRAM TOOL
 
 A session is an indented line `$ COMMAND` of a page, with what it prints in the lines below it, to the letter. Those of a
-page are played one after the other, in a temporary folder of the page's own that has `examples/` and the program, as
-`bin/rt1553` and as `rt1553`. Commands that build or measure are left out. The last line is 'N passed, M failed'.
+page are played one after the other, in a temporary folder of the page's own that has `examples/` and the two programs, as
+`bin/rt1553` and `rt1553`, and with `-tool` behind it. Commands that build or measure are left out. The last line is 'N passed, M failed'.
 """
 
 import os
@@ -58,11 +58,12 @@ def printed(command, folder):
     return done.stdout.strip("\n")
 
 
-def played(page, program):
+def played(page, program, tool):
     """Each command of a page that is played, what it is to print, and what it prints."""
     with tempfile.TemporaryDirectory() as folder:
         os.mkdir(f"{folder}/bin")
         os.symlink(program, f"{folder}/bin/rt1553")
+        os.symlink(tool, f"{folder}/bin/rt1553-tool")
         os.symlink(TOP / "examples", f"{folder}/examples")
         for block in blocks_of((TOP / page).read_text()):
             for command, wanted in sessions_of(block):
@@ -71,10 +72,10 @@ def played(page, program):
 
 
 def main():
-    program = os.path.realpath(sys.argv[1])
+    program, tool = map(os.path.realpath, sys.argv[1:3])
     passed = failed = 0
     for page in PAGES:
-        for command, wanted, found in played(page, program):
+        for command, wanted, found in played(page, program, tool):
             if found == wanted:
                 passed += 1
             else:

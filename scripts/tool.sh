@@ -90,6 +90,40 @@ generate.write(pathlib.Path('$work/families'))" || return
     done
 }
 
+# what `verify` tells of what passes, by the clauses and the profiles that scripts name
+summary_rows() {
+    mkdir -p "$work/folder"
+    printf 'address = 5\n' >"$work/folder/five.toml"
+    printf 'address = 6\n' >"$work/folder/six.toml"
+    script one '# Profile: five.toml\n# Plan: 5.2.10, 5.2.2\nA c 2c02\nA gap\nslot\n#> A s 2800\n'
+    script two '# It is so.\n# Profile: six.toml\n# Standard: 30.1\nA c 3402\nA gap\nslot\n#> A s 3000\nA c 3402\nA gap\nslot\n#> A s 3000\n'
+    script wrong '# Profile: five.toml\n# Plan: 5.2.2\nA c 2c02\nA gap\nslot\n#> A s 2c00\n'
+    script bare '# Plan: 5.2.2\n'
+    script late 'A gap\n# Profile: five.toml\n'
+    script strange '# Profile: seven.toml\nA gap\n'
+    script broken '# Profile: five.toml\n# Plan: 5.2.3\nslot \n'
+    input ''
+    row 'a summary' 0 'one: passed (1 answers)\n5.2.2: 1 of 1 scripts pass\n5.2.10: 1 of 1 scripts pass\nall: 1 of 1 scripts pass\n' '' \
+        verify --summary folder/five.toml one
+    row 'each script names its profile' 0 '' '' verify --profiles folder one two
+    row 'a summary over two profiles' 1 \
+        'one: passed (1 answers)\ntwo: passed (2 answers)\nwrong:5: expected A s 2c00, came A s 2800\nwrong: 1 differ\n5.2.2: 1 of 2 scripts pass\n5.2.10: 1 of 1 scripts pass\n30.1: 1 of 1 scripts pass\nall: 2 of 3 scripts pass\n' '' \
+        verify --summary --profiles folder one two wrong
+    row 'a script that names no profile' 2 '' "bare: script: no line '# Profile: NAME' at its front\n" verify --profiles folder bare one
+    row 'a profile that is named behind an event' 2 '' "late: script: no line '# Profile: NAME' at its front\n" verify --profiles folder late
+    row 'a named profile that is not there' 4 '' 'file: cannot read folder/seven.toml\n' verify --profiles folder strange
+    row 'a summary of scripts that are refused' 4 \
+        'no clause: 0 of 1 scripts pass\n5.2.3: 0 of 1 scripts pass\nall: 0 of 2 scripts pass\n' \
+        'broken: script: line 3\nfile: cannot read none\n' verify --summary --profiles folder broken none
+    row 'no script is named' 3 '' 'words: see --help\n' verify --profiles folder
+    # the protocol tests, by the command that their page tells
+    (cd "$top" && "$program" verify --summary --profiles examples/validation/profiles examples/validation/{scripts,choices}/*.script) \
+        >"$work/stdout" 2>"$work/stderr" </dev/null && [[ ! -s $work/stderr ]] &&
+        [[ $(tail -n 1 "$work/stdout") == 'all: 154 of 154 scripts pass' ]] &&
+        grep -q '^5.2.1.1.1: 9 of 9 scripts pass$' "$work/stdout"
+    count 'a summary of the protocol tests' $?
+}
+
 # what `verify` tells of small scripts over the profile `address = 5`
 verify_rows() {
     printf 'address = 5\n' >"$work/five"
@@ -181,15 +215,77 @@ live_rows() {
     live_answers_at_once
 }
 
+# words of the bus by their fields, and back
+bus_word_rows() {
+    local kind
+    input 'rx 5 3 2\ntx 5 3 2\nrx 5 3 32\nmode 5 19 tx\nmode all 1\nmode 5 17\nmode 5 1 tx 31\nmode 5 9 rx\nstatus 5 error busy\ndata 1234\n'
+    row 'words of fields' 0 \
+        'c 2862 0\nc 2c62 1\nc 2860 1\nc 2c13 1\nc fc01 0\nc 2811 1\nc 2fe1 0\nc 2809 1\ns 2c08 1\nd 1234 0\n' '' words
+    input '# so\n\nc 2862\nc 2862 0\nc 2c13\nc fc01\nc 2fe1\nc 2809\ns 2c08\ns 2AE1\nd 1234 # what\nrx all 30 1'
+    row 'fields of words' 0 \
+        '# so\n\nrx 5 3 2\nrx 5 3 2\nmode 5 19 tx # transmit BIT word\nmode all 1 tx # synchronize\nmode 5 1 tx 31 # synchronize\nmode 5 9 rx # always illegal\nstatus 5 error busy\nstatus 5 instrumentation reserved1 reserved2 reserved3 terminal\ndata 1234\nc fbc1 1\n' '' words
+    input 'c 2862 1\nrx 32 3 2\nrx 5 31 2\nrx 5 3 33\nrx 5 3\nmode 5 9\nmode 5 32\nmode 5 1 tx 30\nstatus 5 none\nx\nc 286\nc 2862 0 x\nrx 5 3 2\n\377\n'
+    row 'words that are refused' 1 \
+        "? the parity bit is wrong: the word isn't valid\n? an address is 0 to 30, or all\n? a subaddress is 1 to 30\n? a count is 1 to 32\n? a count is 1 to 32\n? tx or rx is wanted behind a mode code that has no row in the table\n? a mode code is 0 to 31\n? the subaddress of a mode code is 0 or 31\n? a status has error, instrumentation, service, reserved1 to 3, broadcast, busy, subsystem, accept, terminal\n? a line begins with rx, tx, mode, status, data, c, s or d\n? a word is four hexadecimal digits\n? too much in a line\nc 2862 0\n? a line begins with rx, tx, mode, status, data, c, s or d\n" '' words
+    # each word by its fields, and back
+    for kind in c s d; do
+        # shellcheck disable=SC2046
+        printf "$kind %04x\n" $(seq 0 65535) >"$work/all"
+        "$program" words <"$work/all" 2>"$work/stderr" | "$program" words 2>>"$work/stderr" | cut -c 1-6 | cmp -s - "$work/all" && [[ ! -s $work/stderr ]]
+        count "each word behind $kind, and back" $?
+    done
+}
+
+# a profile as a table
+explain_rows() {
+    input ''
+    printf 'address = 5\n' >"$work/five"
+    row 'the smallest profile explained' 0 \
+        'remote terminal 5\nbroadcast: not heard\nwraparound: none\n\nno word count is legal at any subaddress\n\nmode codes\n2: transmit status word\n4: transmitter shutdown\n5: override transmitter shutdown\n8: reset remote terminal\n' '' explain five
+    row 'the same as JSON' 0 \
+        '{"address":5,"broadcast":false,"wraparound":null,"accept_bus_control":null,"vector":null,"bit":null,"subaddresses":[],"mode_codes":[{"code":2,"name":"transmit status word"},{"code":4,"name":"transmitter shutdown"},{"code":5,"name":"override transmitter shutdown"},{"code":8,"name":"reset remote terminal"}],"broadcast_mode_codes":[]}\n' '' explain --format json five
+    printf 'address = 6\nbroadcast = true\naccept_bus_control = true\nbit = 0x1234\n[[rule]]\ndirection = "both"\nsubaddresses = "1-3,30"\ncounts = "1-4,32"\n[[rule]]\nto = "broadcast"\ndirection = "receive"\nsubaddresses = 2\n[[mode]]\ncodes = "0,19"\n[[mode]]\nto = "broadcast"\ncodes = 1\n[[initial]]\nsubaddress = 3\nwords = [0, 0x0301]\n' >"$work/six"
+    row 'a profile explained' 0 \
+        'remote terminal 6\nbroadcast: heard\nwraparound: at subaddress 30\nbus control: accepted\nBIT word: 1234\n\nsubaddresses    receive         transmit        broadcast receive\n1,3,30          1-4,32          1-4,32          -\n2               1-4,32          1-4,32          1-32\n\nwords at power-up\n3: 0000 0301\n\nmode codes\n0: dynamic bus control\n2: transmit status word\n4: transmitter shutdown\n5: override transmitter shutdown\n8: reset remote terminal\n19: transmit BIT word\n\nmode codes by broadcast\n1: synchronize\n' '' explain six
+    row 'another format' 3 '' "$(cd "$work" && "$program" explain --format none six 2>&1 >/dev/null | sed 's/\\/\\\\/g')\n" explain --format none six
+    row 'a refused profile explained' 2 '' 'stdin: profile: root: address is missing\n' explain stdin
+    # each profile has as JSON what Python reads, and the counts of its canonical text
+    python3 tests/tool/explained.py "$program" "$rt1553" examples/profiles/*.toml examples/validation/profiles/*.toml
+    count 'each profile as JSON' $?
+}
+
+# in what two profiles differ
+differ_rows() {
+    input ''
+    printf 'address = 5\n' >"$work/five"
+    printf 'address = 6\n' >"$work/six"
+    printf 'address = 5\n[[rule]]\ndirection = "receive"\nsubaddresses = 3\ncounts = "1-8"\n' >"$work/eight"
+    printf 'address = 5\n[[rule]]\ndirection = "receive"\nsubaddresses = 3\ncounts = "1-4"\n[[mode]]\ncodes = "16"\n' >"$work/four"
+    row 'the same' 0 '' '' differ five five
+    row 'the same as JSON' 0 '[]\n' '' differ --format json five five
+    row 'another address' 1 'address: 5 in five, 6 in six\n' '' differ five six
+    row 'word counts and a mode code' 1 \
+        'receive 3: counts 5-8 legal in eight alone\nmode code 16 (transmit vector word): legal in four alone\n' '' differ eight four
+    row 'word counts with their script' 1 \
+        'receive 3: counts 5-8 legal in eight alone\n    A c 2865\n    A d 0000\n    A d 0000\n    A d 0000\n    A d 0000\n    A d 0000\n    A gap\n    slot\nmode code 16 (transmit vector word): legal in four alone\n    A c 2c10\n    A gap\n    slot\n' '' differ --scripts eight four
+    row 'word counts as JSON' 1 \
+        '[{"what":"address","subaddresses":[],"numbers":[],"first":"5","second":"6","script":["A c 2c02","A gap","slot"]}]\n' '' differ --scripts --format json five six
+    row 'a profile that is not there' 4 '' 'file: cannot read none\n' differ five none
+    # each script that is given tells the two apart, and what differs is what `compare` finds
+    python3 tests/tool/differing.py "$program" "$rt1553" examples/validation/profiles/*.toml examples/profiles/*.toml examples/canonical/*
+    count 'each script tells two profiles apart' $?
+}
+
 # the words and their help
 word_rows() {
     local word
     input ''
     (cd "$work" && "$program" --version >stdout 2>stderr) && [[ $(cat "$work/stdout") == 'rt1553-tool 0.1 (canonical text 2)' && ! -s $work/stderr ]]
     count '--version' $?
-    for word in verify toml live; do
+    for word in verify toml explain differ words live; do
         "$program" "$word" --help >"$work/stdout" 2>"$work/stderr" </dev/null && grep -q '^Example: ' "$work/stdout" && [[ ! -s $work/stderr ]]
         count "$word --help" $?
+        [[ $word == words ]] && continue
         "$program" "$word" >"$work/stdout" 2>"$work/stderr" </dev/null
         [[ $? -eq 3 && ! -s $work/stdout && -s $work/stderr ]]
         count "$word without its words" $?
@@ -209,8 +305,12 @@ for program in "$@"; do
     rt1553=${program//rt1553_tool_program/rt1553_program}
     rt1553=${rt1553%-tool}
     verify_rows
+    summary_rows
     validation
     toml_rows
+    bus_word_rows
+    explain_rows
+    differ_rows
     live_rows
     word_rows
 done

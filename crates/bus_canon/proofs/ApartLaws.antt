@@ -1,9 +1,12 @@
 -- The script of the first difference tells apart, and `Normal`s that are alike are equal.
-use Rattle.std.proofs.Common.{◌≡◌, ◌<◌, inl, arith}
+use Rattle.std.proofs.Common.{◌≡◌, ℕ, ◌<◌, ◌&&◌, ◌∙◌, ap, sym, subst, inl, arith}
+use Rattle.bus_word.specs.Cell.{is_allowed}
 use Rattle.bus_word.specs.declared.cell.Cell.{Cell}
 use Rattle.bus_word.specs.declared.cell.Cell.TheVariants.{OwnReceive, OwnTransmit, BroadReceive, OwnMode, BroadMode}
+use Rattle.bus_legal.specs.declared.tables.Tables.{Tables}
 use Rattle.bus_legal.specs.Description.{Description}
 use Rattle.bus_legal.specs.Parts.{Parts, description_in, IsNormal}
+use Rattle.bus_legal.specs.Tables.{has_count}
 use Rattle.bus_legal.proofs.Descriptions.{same_description}
 use Rattle.bus_legal.proofs.SameNormals.{same_normals}
 use Rattle.terminal_exchanges.specs.Distinguish.{TellsApart, shown_subaddress}
@@ -12,6 +15,7 @@ use Rattle.bus_canon.specs.declared.difference.Difference.{Difference}
 use Rattle.bus_canon.specs.declared.difference.Difference.TheVariants.{Address, BroadcastOption, ReceiveCell, TransmitCell, BroadcastReceiveCell, OwnCode, BroadcastCode, Acceptance, VectorWord, BitWord, InitialWord, Wraparound}
 use Rattle.bus_canon.specs.Difference.{rank, AreAlike, IsFirstDifference, script_for}
 use Rattle.bus_canon.specs.inner.Search.{AlikeBefore}
+use Rattle.bus_canon.specs.inner.Shows.{AreAlikeAt, ShowsAlone}
 
 earlier : (P Q : Description) (d c : Difference) → IsFirstDifference P Q d → rank c < rank d → AreAlike P Q c
 earlier P Q d c first l = first.alike c (inl l)
@@ -67,3 +71,45 @@ equal_by_all v w p q alike =
     (alike VectorWord (omega arith)) (alike BitWord (omega arith))
     (λ s i. alike (InitialWord s i) (omega arith))
     (legal_alike (description_in v) (description_in w) alike))
+
+-- the script of a difference that shows by itself tells apart
+shown_alone : (P Q : Description) (d : Difference) → IsReached P → IsReached Q → (AreAlike P Q d → ⊥) → ShowsAlone P Q d → TellsApart P Q (script_for P Q d)
+shown_alone P Q Address p q other a = apart_by_address P Q p q other
+shown_alone P Q BroadcastOption p q other a = apart_by_option P Q p q a other
+shown_alone P Q (ReceiveCell s n) p q other a = apart_by_own_receive P Q s n p q a other
+shown_alone P Q (TransmitCell s n) p q other a = apart_by_own_transmit P Q s n p q a other
+shown_alone P Q (BroadcastReceiveCell s n) p q other a = apart_by_broadcast_receive P Q s n p q a.0 a.1 other
+shown_alone P Q (OwnCode code) p q other a = apart_by_own_code P Q code p q a other
+shown_alone P Q (BroadcastCode code) p q other a = apart_by_broadcast_code P Q code p q a.0 a.1 other
+shown_alone P Q Acceptance p q other a = apart_by_acceptance P Q p q a.0 a.1 other
+shown_alone P Q VectorWord p q other a = apart_by_vector P Q p q a.0 a.1 other
+shown_alone P Q BitWord p q other a = apart_by_bit P Q p q a.0 a.1 other
+shown_alone P Q (InitialWord s i) p q other a = apart_by_initial P Q s i p q a.0 a.1 other
+shown_alone P Q Wraparound p q other a =
+    apart_by_wraparound P Q p q a.0
+    (record {
+      broadcast = a.1.broadcast;
+      own_receive = a.1.own_receive;
+      own_transmit = a.1.own_transmit;
+      broadcast_receive = a.1.broadcast_receive;
+      initial = a.1.initial;
+    })
+    other
+
+pub apart_by_shown : (v w : Parts) (d : Difference) → IsNormal v → IsNormal w → (AreAlike (description_in v) (description_in w) d → ⊥) → ShowsAlone (description_in v) (description_in w) d
+    → TellsApart (description_in v) (description_in w) (script_for (description_in v) (description_in w) d)
+apart_by_shown v w d p q other a = shown_alone (description_in v) (description_in w) d (normal-reached v p) (normal-reached w q) other a
+
+-- where words come back is alike, by the tables
+pub alike_at : (v w : Parts) (ours theirs : Tables) (s t : ℕ) → ours ≡ v.tables → theirs ≡ w.tables → s ≡ t → v.broadcast ≡ w.broadcast
+    → ((n : ℕ) → has_count ours.own_receive s n ≡ has_count theirs.own_receive s n)
+    → ((n : ℕ) → has_count ours.own_transmit s n ≡ has_count theirs.own_transmit s n)
+    → ((n : ℕ) → has_count ours.broadcast_receive s n ≡ has_count theirs.broadcast_receive s n)
+    → (description_in v).initial s 1 ≡ (description_in w).initial s 1 → AreAlikeAt t (description_in v) (description_in w)
+alike_at v w ours theirs s t first second at option receive transmit broadcast word = subst (λ t. AreAlikeAt t (description_in v) (description_in w)) at (record {
+  broadcast = option;
+  own_receive = λ n. ap (λ b. is_allowed (OwnReceive s n) && b) (ap (λ x. has_count x.own_receive s n) (sym first) ∙ receive n ∙ ap (λ x. has_count x.own_receive s n) second);
+  own_transmit = λ n. ap (λ b. is_allowed (OwnTransmit s n) && b) (ap (λ x. has_count x.own_transmit s n) (sym first) ∙ transmit n ∙ ap (λ x. has_count x.own_transmit s n) second);
+  broadcast_receive = λ n. ap (λ b. is_allowed (BroadReceive s n) && b) (ap (λ x. has_count x.broadcast_receive s n) (sym first) ∙ broadcast n ∙ ap (λ x. has_count x.broadcast_receive s n) second);
+  initial = word;
+})

@@ -1,5 +1,6 @@
 -- The first difference between two terminals, by what can be reached of them, and the script that shows it.
-use Rattle.std.specs.Prelude.{◌≡◌, ℕ, ◌<◌, ◌⊎◌, List}
+use Rattle.std.specs.Prelude.{◌≡◌, ℕ, ◌<◌, ◌⊎◌, true, List}
+use Rattle.bus_word.specs.Cell.{is_data_place}
 use Rattle.bus_word.specs.declared.cell.Cell.TheVariants.{OwnReceive, OwnTransmit, BroadReceive, OwnMode, BroadMode}
 use Rattle.bus_legal.specs.Description.{Description}
 use Rattle.terminal_rules.specs.declared.event.Event.{Event}
@@ -39,6 +40,16 @@ second_number (TransmitCell s n) = n
 second_number (BroadcastReceiveCell s n) = n
 second_number (InitialWord s i) = i
 second_number _ = 0
+
+-- subaddresses, word counts and mode codes are in their ranges
+abbrev pub IsInRange : Difference → Type 0
+IsInRange (ReceiveCell s n) = is_data_place s n ≡ true
+IsInRange (TransmitCell s n) = is_data_place s n ≡ true
+IsInRange (BroadcastReceiveCell s n) = is_data_place s n ≡ true
+IsInRange (OwnCode code) = code < 32
+IsInRange (BroadcastCode code) = code < 32
+IsInRange (InitialWord s i) = is_data_place s i ≡ true
+IsInRange _ = Unit {0}
 
 -- two numbers come before two others, by the first of them and then by the second
 abbrev pub IsLower : ℕ → ℕ → ℕ → ℕ → Type 0

@@ -1,5 +1,5 @@
-//! The canonical text of what of a profile can be reached, written and read back, and the script that
-//! tells two terminals apart.
+//! The canonical text of what of a profile can be reached, written and read back, and the scripts that
+//! tell two terminals apart.
 #![tactic(auto)]
 
 mod apart;
@@ -15,7 +15,8 @@ mod read;
 mod script;
 mod write;
 
-pub use apart::distinguish;
+pub use apart::{distinguish, script_showing};
+pub use difference::Difference;
 pub use fault::CanonFault;
 pub use read::read_canon;
 pub use script::Script;

@@ -7,8 +7,7 @@ ghost use Rattle.bus_legal.specs.Parts.{description_in, IsNormal};
 ghost use Rattle.terminal_rules.specs.declared.event.Event.TheVariants.{Word, Gap, Slot};
 ghost use Rattle.terminal_exchanges.specs.Exchanges.{words_then, slots_then, exchange_then, command_event, script_of};
 ghost use Rattle.terminal_exchanges.specs.Distinguish.{slots_for, command_of, receive, transmit, mode_code_with, ask, initial_script, wraparound_script, shown_subaddress};
-ghost use Rattle.bus_canon.specs.Difference.{AreAlike, script_for};
-ghost use Rattle.bus_canon.specs.inner.Search.{IsInRange};
+ghost use Rattle.bus_canon.specs.Difference.{AreAlike, IsInRange, script_for};
 
 use crate::difference::Difference;
 use crate::places::least_count;
@@ -191,9 +190,9 @@ fn wraparound_script(p: &Normal, subaddress: u8) -> Script
     with_transmit(script, p.address(), subaddress, count, count + 1)
 }
 
-/// Gives the subaddress that shows that two terminals don't have the same wraparound subaddress: that of the first, or
+/// The subaddress that shows that two terminals don't have the same wraparound subaddress: that of the first, or
 /// of the other where the first has none.
-fn shown_subaddress(p: &Normal, q: &Normal) -> u8
+pub fn shown_subaddress(p: &Normal, q: &Normal) -> u8
     requires first { IsNormal p.now }
     requires second { IsNormal q.now }
     requires differ { p.now.wrap ≢ q.now.wrap }

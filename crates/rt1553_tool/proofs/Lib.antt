@@ -1,2 +1,3 @@
 pub mod StatedLaws
 pub mod VerifyLaws
+pub mod HeadingLaws

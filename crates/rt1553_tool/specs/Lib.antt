@@ -1,2 +1,4 @@
+pub mod Fields
+pub mod Heading
 pub mod Session
 pub mod Verify

@@ -1,5 +1,5 @@
 -- What is told of a script that states its answers.
-use Rattle.std.specs.Prelude.{ℕ, ◌≡◌, map, if◌then◌else◌, List, [], ◌∷◌, ◌++◌}
+use Rattle.std.specs.Prelude.{ℕ, ◌≡◌, Bool, not, ◌==◌, length, map, if◌then◌else◌, List, [], ◌∷◌, ◌++◌}
 use Rattle.std.specs.Str.{bytes_eq}
 use Rattle.bus_legal.specs.Description.{Description}
 use Rattle.terminal_rules.specs.declared.event.Event.{Event}
@@ -12,6 +12,10 @@ use Rattle.rt1553_tool.specs.declared.verifying.Difference.{Difference}
 
 abbrev pub event_of : Stated → Event
 event_of s = s.event
+
+-- an answer is stated of the event
+abbrev pub states_answer : Stated → Bool
+states_answer s = not (length s.answer.items == 0)
 
 -- the event of this line was to be answered by one text, and was answered by another
 pub record Told : Type 0 where

@@ -1,11 +1,11 @@
 //! Scripts that state their answers.
-ghost use Rattle.std.specs.Prelude.{◌≡◌, ◌≢◌, ◌<◌, ◌∷◌, ◌++◌, ℕ, List, length, map, slice_index, IfOk, IfSome, IfNone, OnOk};
+ghost use Rattle.std.specs.Prelude.{◌≡◌, ◌≢◌, ◌<◌, ◌∷◌, ◌++◌, ℕ, List, length, map, slice_index, filter, IfOk, IfSome, IfNone, OnOk};
 ghost use Rattle.terminal_rules.specs.declared.event.Event.{Event};
 ghost use Rattle.bus_script.specs.Line.{meaning};
 ghost use Rattle.bus_script.specs.Text.{lines_of};
 ghost use Rattle.bus_script.specs.Reading.{reading, adds, nothing};
 ghost use Rattle.bus_script.specs.inner.Lines.{Means};
-ghost use Rattle.rt1553_tool.specs.Verify.{event_of};
+ghost use Rattle.rt1553_tool.specs.Verify.{event_of, states_answer};
 
 use bus_script::{LineFault, read_event};
 use bus_terminal::Event;
@@ -174,8 +174,8 @@ fn find_line_feed(bytes: &[u8]) -> Option<usize>
     None
 }
 
-/// Gives the first line, without its line feed, and what follows it.
-fn first_line(bytes: &[u8]) -> (&[u8], &[u8])
+/// The first line, without its line feed, and what follows it.
+pub fn first_line(bytes: &[u8]) -> (&[u8], &[u8])
     requires { 0 < length bytes.now }
     ensures lines { lines_of bytes.now ≡ result.0.now ∷ lines_of result.1.now }
     ensures shorter { length result.1.now < length bytes.now }
@@ -207,4 +207,14 @@ pub fn read_stated(alloc: Global, script: &[u8]) -> Result<Vec<Stated>, StatedFa
         rest = more;
     }
     Ok(read)
+}
+
+/// How many events of a script have an answer that is stated.
+pub fn answers_in(script: &[Stated]) -> usize
+    ensures { result ≡ length (filter states_answer script.now) }
+{
+    script
+        .iter()
+        .filter(|stated| !stated.answer.is_empty())
+        .count()
 }

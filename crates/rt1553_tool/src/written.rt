@@ -1,6 +1,6 @@
 //! The text of a TOML profile.
-use crate::numbers::Numbers;
 use bus_legal::{Normal, REQUIRED_CODES};
+use rt1553_differ::{Numbers, mode_name};
 use std::alloc::{AllocError, Global};
 use std::fmt;
 
@@ -47,26 +47,6 @@ impl fmt::Display for RuleText {
             writeln!(f, "counts = \"{counts}\"")?;
         }
         Ok(())
-    }
-}
-
-/// Gives what a mode code is called.
-fn mode_name(code: u8) -> &'static str {
-    match code {
-        0 => "dynamic bus control",
-        1 => "synchronize",
-        2 => "transmit status word",
-        3 => "initiate self test",
-        4 => "transmitter shutdown",
-        5 => "override transmitter shutdown",
-        6 => "inhibit terminal flag bit",
-        7 => "override inhibit terminal flag bit",
-        8 => "reset remote terminal",
-        16 => "transmit vector word",
-        17 => "synchronize with data word",
-        18 => "transmit last command",
-        19 => "transmit BIT word",
-        _ => "reserved",
     }
 }
 

@@ -1,8 +1,15 @@
 //! Why the program ends early, the line that it prints then, and the status that it ends with.
 use rt1553::LoadFault;
+use rt1553_differ::DifferFault;
 use rt1553_tool::{StatedFault, TomlFault};
-use std::alloc::AllocError;
+use std::alloc::{AllocError, AllocFailed};
 use std::fmt;
+
+/// The status of a comparison that finds a difference, and of what else was found.
+pub const DIFFERENT: u8 = 1;
+
+/// The status of words that the program doesn't take.
+pub const USAGE: u8 = 3;
 
 /// Why the program ends early. A text is the name of a file.
 #[derive(Debug, Drop)]
@@ -21,6 +28,12 @@ pub enum Fault {
     Profile(String, LoadFault),
     /// The script is refused.
     Script(String, StatedFault),
+    /// The script names no profile.
+    NoProfile(String),
+    /// A word is missing, or is no text.
+    Usage,
+    /// What differs was not found.
+    Differ(DifferFault),
     /// No profile was made that means the same terminal.
     Toml(TomlFault),
 }
@@ -35,6 +48,12 @@ impl fmt::Display for Fault {
             Fault::Output => f.write_str("output: write failed"),
             Fault::Profile(name, fault) => write!(f, "{name}: {fault}"),
             Fault::Script(name, fault) => write!(f, "{name}: {fault}"),
+            Fault::NoProfile(name) => write!(
+                f,
+                "{name}: script: no line '# Profile: NAME' at its front"
+            ),
+            Fault::Usage => f.write_str("words: see --help"),
+            Fault::Differ(fault) => write!(f, "{fault}"),
             Fault::Toml(fault) => write!(f, "{fault}"),
         }
     }
@@ -45,7 +64,8 @@ impl Fault {
     pub fn status(&self) -> u8 {
         match self {
             Fault::Profile(_, LoadFault::Memory) | Fault::Script(_, StatedFault::Memory) => 4,
-            Fault::Profile(_, _) | Fault::Script(_, _) => 2,
+            Fault::Profile(_, _) | Fault::Script(_, _) | Fault::NoProfile(_) => 2,
+            Fault::Usage => USAGE,
             _ => 4,
         }
     }
@@ -54,5 +74,17 @@ impl Fault {
 impl From<AllocError> for Fault {
     fn from(_error: AllocError) -> Fault {
         Fault::Memory
+    }
+}
+
+impl<T: Drop> From<AllocFailed<T>> for Fault {
+    fn from(_failed: AllocFailed<T>) -> Fault {
+        Fault::Memory
+    }
+}
+
+impl From<DifferFault> for Fault {
+    fn from(fault: DifferFault) -> Fault {
+        Fault::Differ(fault)
     }
 }

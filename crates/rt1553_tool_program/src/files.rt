@@ -1,7 +1,10 @@
-//! Files that are read whole, and lines that are written.
+//! Files that are read whole, and what the words of all modules need.
 ghost use Rattle.std.specs.Prelude.{◌≤◌};
 
 use crate::fault::Fault;
+use bus_legal::Normal;
+use clap::ArgMatches;
+use rt1553::load;
 use std::fs;
 use std::io::{ErrorKind, Read, Write};
 use std::rt::Files;
@@ -49,9 +52,21 @@ fn read_file<R: Files + AllocGlobal>(rt: &R, name: &str, most: usize) -> Result<
     }
 }
 
-/// The bytes of a profile file, of at most 1,048,576 bytes.
-pub fn read_profile_file<R: Files + AllocGlobal>(rt: &R, name: &str) -> Result<Vec<u8>, Fault> {
-    read_file(rt, name, MOST)
+/// What can be reached of the terminal of a profile file, of at most 1,048,576 bytes.
+pub fn load_profile<R: Files + AllocGlobal>(rt: &R, name: &str) -> Result<Normal, Fault> {
+    let bytes = read_file(rt, name, MOST)?;
+    match load(rt.alloc(), bytes.as_slice()) {
+        Ok(normal) => Ok(normal),
+        Err(fault) => Err(Fault::Profile(owned(rt, name)?, fault)),
+    }
+}
+
+/// A word of the command line that has to be there.
+pub fn word<'a>(words: &ArgMatches<'a>, id: &str) -> Result<&'a str, Fault> {
+    match words.get_str(id) {
+        Some(word) => Ok(word),
+        None => Err(Fault::Usage),
+    }
 }
 
 /// The bytes of a script, no more than any script that is played can have.

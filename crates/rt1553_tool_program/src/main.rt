@@ -1,8 +1,15 @@
 //! The program `rt1553-tool`: what people ask of a profile, over files and the standard streams.
 #![tactic(auto)]
 
+mod bus_words;
+mod differ;
+mod explain;
 mod fault;
 mod files;
+mod live;
+mod profile_toml;
+mod summary;
+mod verify;
 mod words;
 mod work;
 

@@ -1,107 +1,16 @@
 //! What the program does.
-use crate::fault::Fault;
-use crate::files::{owned, put, read_profile_file, read_script_file};
+use crate::bus_words::bus_words;
+use crate::differ::differ;
+use crate::explain::explain;
+use crate::fault::{Fault, USAGE};
+use crate::live::live;
+use crate::profile_toml::toml;
+use crate::verify::verify;
 use crate::words::command;
-use bus_legal::Normal;
-use bus_terminal::Terminal;
 use clap::ArgMatches;
-use rt1553::load;
-use rt1553_tool::{Difference, serve, toml_of, verify};
-use std::io::{BufReader, ErrorKind, Read, Write};
+use std::env;
+use std::io::{ErrorKind, Read, Write};
 use std::rt::{Env, Files};
-use std::{env, fmt};
-
-/// The status of a comparison that finds a difference.
-const DIFFERENT: u8 = 1;
-
-/// The status of words that the program doesn't take.
-const USAGE: u8 = 3;
-
-/// What can be reached of the terminal of a profile file.
-fn load_file<R: Files + AllocGlobal>(rt: &R, name: &str) -> Result<Normal, Fault> {
-    let bytes = read_profile_file(rt, name)?;
-    match load(rt.alloc(), bytes.as_slice()) {
-        Ok(normal) => Ok(normal),
-        Err(fault) => Err(Fault::Profile(owned(rt, name)?, fault)),
-    }
-}
-
-/// Writes a line of a transcript without its line feed, or that there is none.
-fn put_answer<W: Write>(output: &mut W, answer: &[u8]) -> Result<(), Fault> {
-    match answer {
-        [] => put(output, b"nothing"),
-        [line @ .., b'\n'] => put(output, line),
-        line => put(output, line),
-    }
-}
-
-/// Writes where a file differs.
-fn put_difference<W: Write>(
-    output: &mut W,
-    name: &str,
-    difference: &Difference,
-) -> Result<(), Fault> {
-    let line = difference.line;
-    if write!(output, "{name}:{line}: expected ").is_err() {
-        return Err(Fault::Output);
-    }
-    put_answer(output, difference.expected.as_slice())?;
-    put(output, b", came ")?;
-    put_answer(output, difference.came.as_slice())?;
-    put(output, b"\n")
-}
-
-/// Plays a script, writes where it differs, and gives whether it does.
-fn verify_file<R: Files + AllocGlobal, W: Write>(
-    rt: &R,
-    normal: &Normal,
-    name: &str,
-    output: &mut W,
-) -> Result<bool, Fault> {
-    let script = read_script_file(rt, name)?;
-    let found = match verify(rt.alloc(), normal, script.as_slice()) {
-        Ok(found) => found,
-        Err(fault) => return Err(Fault::Script(owned(rt, name)?, fault)),
-    };
-    for difference in found.as_slice() {
-        put_difference(output, name, difference)?;
-    }
-    let count = found.len();
-    if count == 0 {
-        return Ok(false);
-    }
-    match writeln!(output, "{name}: {count} differ") {
-        Ok(()) => Ok(true),
-        Err(_) => Err(Fault::Output),
-    }
-}
-
-/// Plays scripts, and gives the status to end with.
-fn verify_files<R: Files + AllocGlobal + Eprint, W: Write>(
-    rt: &R,
-    normal: &Normal,
-    names: &[&str],
-    output: &mut W,
-) -> Result<u8, Fault> {
-    let mut status = 0;
-    for name in names {
-        match verify_file(rt, normal, name, output) {
-            Ok(differs) => {
-                if differs && status < DIFFERENT {
-                    status = DIFFERENT;
-                }
-            }
-            // the other scripts are played all the same
-            Err(fault) => {
-                let _ = eprintln!(rt; "{fault}");
-                if status < fault.status() {
-                    status = fault.status();
-                }
-            }
-        }
-    }
-    Ok(status)
-}
 
 /// Does what the words ask for, and gives the status to end with.
 fn do_words<R: Files + AllocGlobal + Eprint, I: Read + Drop, W: Write>(
@@ -111,39 +20,15 @@ fn do_words<R: Files + AllocGlobal + Eprint, I: Read + Drop, W: Write>(
     output: &mut W,
 ) -> Result<u8, Fault> {
     let Some((name, words)) = matches.subcommand() else {
-        return Ok(USAGE);
+        return Err(Fault::Usage);
     };
-    let Some(profile) = words.get_str("profile") else {
-        return Ok(USAGE);
-    };
-    let normal = load_file(rt, profile)?;
     match name {
-        "verify" => {
-            let Some(names) = words.get_strs("script") else {
-                return Ok(USAGE);
-            };
-            verify_files(rt, &normal, names, output)
-        }
-        "toml" => match toml_of(rt.alloc(), &normal) {
-            Ok(text) => {
-                put(output, text.as_str().as_bytes())?;
-                Ok(0)
-            }
-            Err(fault) => Err(Fault::Toml(fault)),
-        },
-        _ => {
-            let terminal = Terminal::power_up(normal.setup(), normal);
-            let Ok(reader) = BufReader::new(rt.alloc(), input) else {
-                return Err(Fault::Memory);
-            };
-            match serve(rt.alloc(), terminal, reader, output) {
-                Ok(()) => Ok(0),
-                Err(error) => match error.kind() {
-                    ErrorKind::OutOfMemory => Err(Fault::Memory),
-                    _ => Err(Fault::Stream),
-                },
-            }
-        }
+        "verify" => verify(rt, words, output),
+        "toml" => toml(rt, words, output),
+        "explain" => explain(rt, words, output),
+        "differ" => differ(rt, words, output),
+        "words" => bus_words(rt, input, output),
+        _ => live(rt, words, input, output),
     }
 }
 
@@ -157,7 +42,7 @@ pub fn work<R: Env + Files + AllocGlobal + Print + Eprint, I: Read + Drop, O: Wr
         Ok(words) => words,
         Err(error) => match error.kind() {
             ErrorKind::OutOfMemory => return Err(Fault::Memory),
-            _ => return Ok(USAGE),
+            _ => return Err(Fault::Usage),
         },
     };
     let words: Vec<String> = words.collect(rt.alloc())?;

@@ -5,8 +5,7 @@ use Rattle.bus_word.specs.Cell.{is_data_place}
 use Rattle.bus_legal.specs.Description.{Description}
 use Rattle.terminal_exchanges.specs.Distinguish.{least_count}
 use Rattle.bus_canon.specs.declared.difference.Difference.{Difference}
-use Rattle.bus_canon.specs.declared.difference.Difference.TheVariants.{ReceiveCell, TransmitCell, BroadcastReceiveCell, OwnCode, BroadcastCode, InitialWord}
-use Rattle.bus_canon.specs.Difference.{rank, IsLower, AreAlike, IsFirstDifference}
+use Rattle.bus_canon.specs.Difference.{rank, IsLower, AreAlike, IsFirstDifference, IsInRange}
 
 -- the first number below this, from 0, at which two functions differ
 pub record IsFirstNumber {X : Type 0} (below : ℕ) (f g : ℕ → X) (i : ℕ) : Type 0 where
@@ -35,16 +34,6 @@ least_in mask = least_count (λ count. has_bit mask (count - 1))
 -- the two are alike in all that is of a kind before this one
 abbrev pub AlikeBefore : ℕ → Description → Description → Type 0
 AlikeBefore kind P Q = (d : Difference) → rank d < kind → AreAlike P Q d
-
--- subaddresses, word counts and mode codes are in their ranges
-abbrev pub IsInRange : Difference → Type 0
-IsInRange (ReceiveCell s n) = is_data_place s n ≡ true
-IsInRange (TransmitCell s n) = is_data_place s n ≡ true
-IsInRange (BroadcastReceiveCell s n) = is_data_place s n ≡ true
-IsInRange (OwnCode code) = code < 32
-IsInRange (BroadcastCode code) = code < 32
-IsInRange (InitialWord s i) = is_data_place s i ≡ true
-IsInRange _ = Unit {0}
 
 -- The first difference is found, or the two are alike in all that is of a kind before this one.
 abbrev pub Found : ℕ → Description → Description → Option Difference → Type 0

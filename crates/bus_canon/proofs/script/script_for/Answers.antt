@@ -3,8 +3,7 @@ use Rattle.bus_word.specs.Cell.{is_data_place}
 use Rattle.bus_legal.specs.Parts.{description_in}
 use Rattle.bus_legal.proofs.Places.{place_from}
 use Rattle.terminal_exchanges.specs.Distinguish.{wraparound_script}
-use Rattle.bus_canon.specs.Difference.{script_for}
-use Rattle.bus_canon.specs.inner.Search.{IsInRange}
+use Rattle.bus_canon.specs.Difference.{IsInRange, script_for}
 use Rattle.bus_canon.proofs.ScriptLaws.{own_received, broadcast_asked}
 use Rattle.bus_canon.proofs.script.script_for.Goals as goal
 

@@ -1,0 +1,2 @@
+mod CodeLaws
+mod Lists

@@ -1,0 +1,96 @@
+//! What can be reached of a terminal, as a table for people.
+ghost use Rattle.std.specs.Prelude.{◌≡◌, ◌-◌, ◌≤◌, ◌<◌, ℕ, true, get_or, []};
+ghost use Rattle.bus_word.specs.declared.cell.Cell.TheVariants.{OwnReceive, OwnTransmit, BroadReceive, OwnMode, BroadMode};
+ghost use Rattle.bus_word.specs.Cell.{is_data_place};
+ghost use Rattle.bus_word.specs.Mask.{has_bit};
+ghost use Rattle.bus_legal.specs.Parts.{description_in};
+
+use bus_legal::Normal;
+
+/// What is so at one subaddress. In a mask bit `n - 1` stands for a word count of `n`.
+#[derive(Clone, Copy, PartialEq, Eq, Debug)]
+pub struct Row {
+    pub subaddress: u8,
+    /// The word counts that the own address may receive.
+    pub receive: u32,
+    /// The word counts that the own address may transmit.
+    pub transmit: u32,
+    /// The word counts that may be received by broadcast.
+    pub broadcast: u32,
+    /// The words held at power-up: those that can't be transmitted are 0.
+    pub words: [u16; 32],
+}
+
+/// The mode codes that are legal, bit `c` for code `c`.
+#[derive(Clone, Copy, PartialEq, Eq, Debug)]
+pub struct Codes {
+    pub own: u32,
+    pub broadcast: u32,
+}
+
+/// What is so of a terminal beside its legal cells and the words that it holds.
+#[derive(Clone, Copy, PartialEq, Eq, Debug)]
+pub struct Settings {
+    pub address: u8,
+    pub broadcast: bool,
+    /// The wraparound subaddress; 0 where words can't come back anywhere.
+    pub wraparound: u8,
+    /// Whether dynamic bus control is accepted.
+    pub accept: bool,
+    pub vector: u16,
+    pub bit: u16,
+}
+
+/// The row of a subaddress, 1 to 30, by what can be reached.
+pub fn row_of(normal: &Normal, subaddress: u8) -> Row
+    requires low { 1 ≤ subaddress }
+    requires high { subaddress ≤ 30 }
+    ensures subaddress { result.subaddress ≡ subaddress }
+    ensures receive { (n : ℕ) → is_data_place subaddress n ≡ true → has_bit result.receive (n - 1) ≡ (description_in normal.now).legal (OwnReceive subaddress n) }
+    ensures transmit { (n : ℕ) → is_data_place subaddress n ≡ true → has_bit result.transmit (n - 1) ≡ (description_in normal.now).legal (OwnTransmit subaddress n) }
+    ensures broadcast { (n : ℕ) → is_data_place subaddress n ≡ true → has_bit result.broadcast (n - 1) ≡ (description_in normal.now).legal (BroadReceive subaddress n) }
+    ensures words { (i : ℕ) → is_data_place subaddress i ≡ true → get_or result.words (i - 1) 0 ≡ (description_in normal.now).initial subaddress i }
+{
+    let tables = normal.tables();
+    let index = usize::from(subaddress) - 1;
+    Row {
+        subaddress,
+        receive: tables.own_receive[index],
+        transmit: tables.own_transmit[index],
+        broadcast: tables.broadcast_receive[index],
+        words: normal.initial()[index],
+    }
+}
+
+/// The mode codes that are legal, by what can be reached.
+pub fn codes_of(normal: &Normal) -> Codes
+    ensures own { (c : ℕ) → c < 32 → has_bit result.own c ≡ (description_in normal.now).legal (OwnMode c) }
+    ensures broadcast { (c : ℕ) → c < 32 → has_bit result.broadcast c ≡ (description_in normal.now).legal (BroadMode c) }
+{
+    // With a set-up comes the promise that no bit is set of a code that can't be legal.
+    normal.setup();
+    let tables = normal.tables();
+    Codes {
+        own: tables.own_mode,
+        broadcast: tables.broadcast_mode,
+    }
+}
+
+/// What is so beside, by what can be reached.
+pub fn settings_of(normal: &Normal) -> Settings
+    ensures address { result.address ≡ (description_in normal.now).address }
+    ensures option { result.broadcast ≡ (description_in normal.now).broadcast }
+    ensures wraparound { result.wraparound ≡ (description_in normal.now).wrap }
+    ensures accept { result.accept ≡ (description_in normal.now).accept }
+    ensures vector { result.vector ≡ (description_in normal.now).vector }
+    ensures bit { result.bit ≡ (description_in normal.now).bit }
+{
+    Settings {
+        address: normal.address(),
+        broadcast: normal.broadcast(),
+        wraparound: normal.wrap(),
+        accept: normal.accept(),
+        vector: normal.vector(),
+        bit: normal.bit(),
+    }
+}

@@ -1,0 +1,292 @@
+//! Differences in groups, as people read them.
+use crate::names::mode_name;
+use crate::numbers::Numbers;
+use bus_canon::Difference;
+use bus_legal::{Legality, Normal};
+use bus_word::Cell;
+use std::alloc::{AllocError, Global};
+use std::fmt;
+
+/// Differences that are told in one line: in what may be received or transmitted all subaddresses that have the same, and
+/// else one.
+#[derive(Clone, Copy, PartialEq, Eq, Debug)]
+pub struct Group {
+    /// The first of them.
+    pub difference: Difference,
+    /// Their subaddresses, bit `s - 1` for `s`.
+    pub subaddresses: u32,
+    /// Their word counts, bit `n - 1` for `n`.
+    pub counts: u32,
+    /// Whether they are legal in the first terminal alone, or accepted there alone.
+    pub in_first: bool,
+}
+
+/// What is legal in one terminal alone: for each subaddress a mask of word counts.
+#[derive(Clone, Copy)]
+struct Alone {
+    counts: [u32; 30],
+}
+
+impl Alone {
+    /// Adds a word count of a subaddress.
+    fn add(&mut self, s: u8, n: u8) {
+        for (index, mask) in self.counts.iter_mut().enumerate() {
+            if index + 1 == usize::from(s) && n >= 1 && n <= 32 {
+                *mask |= 1 << u32::from(n - 1);
+            }
+        }
+    }
+
+    /// Gives the subaddresses, bit `s - 1` for `s`, with this mask.
+    fn subaddresses(&self, mask: u32) -> u32 {
+        let mut bits = 0;
+        for (index, other) in self.counts.iter().enumerate() {
+            if *other == mask {
+                bits |= 1 << (index as u32);
+            }
+        }
+        bits
+    }
+}
+
+/// The three kinds of differences in word counts.
+#[derive(Clone, Copy, PartialEq, Eq)]
+enum Counts {
+    Receive,
+    Transmit,
+    Broadcast,
+}
+
+/// Gives the kind, the cell, the subaddress and the word count of a difference in word counts.
+fn counts_of(difference: Difference) -> Option<(Counts, Cell, u8, u8)> {
+    match difference {
+        Difference::ReceiveCell(s, n) => Some((Counts::Receive, Cell::OwnReceive(s, n), s, n)),
+        Difference::TransmitCell(s, n) => Some((Counts::Transmit, Cell::OwnTransmit(s, n), s, n)),
+        Difference::BroadcastReceiveCell(s, n) => {
+            Some((Counts::Broadcast, Cell::BroadReceive(s, n), s, n))
+        }
+        _ => None,
+    }
+}
+
+/// Gives the difference of a kind at a subaddress and a word count.
+fn difference_at(kind: Counts, s: u8, n: u8) -> Difference {
+    match kind {
+        Counts::Receive => Difference::ReceiveCell(s, n),
+        Counts::Transmit => Difference::TransmitCell(s, n),
+        Counts::Broadcast => Difference::BroadcastReceiveCell(s, n),
+    }
+}
+
+/// Gives what of a kind is legal in one terminal alone.
+fn alone_of(found: &[Difference], p: &Normal, kind: Counts, in_first: bool) -> Alone {
+    let mut alone = Alone { counts: [0; 30] };
+    for difference in found {
+        if let Some((of, cell, s, n)) = counts_of(*difference) {
+            if of == kind && p.legal(cell) == in_first {
+                alone.add(s, n);
+            }
+        }
+    }
+    alone
+}
+
+/// Adds the groups of a kind: one for each mask that some subaddress has, where its first subaddress stands.
+fn push_counts(
+    groups: &mut Vec<Group>,
+    found: &[Difference],
+    p: &Normal,
+    kind: Counts,
+) -> Result<(), AllocError> {
+    let ours = alone_of(found, p, kind, true);
+    let theirs = alone_of(found, p, kind, false);
+    for s in 1..31u8 {
+        for (alone, in_first) in [(ours, true), (theirs, false)] {
+            let counts = alone.counts[usize::from(s) - 1];
+            let subaddresses = alone.subaddresses(counts);
+            if counts != 0 && subaddresses.trailing_zeros() == u32::from(s) - 1 {
+                let least = counts.trailing_zeros() as u8 + 1;
+                groups.push(Group {
+                    difference: difference_at(kind, s, least),
+                    subaddresses,
+                    counts,
+                    in_first,
+                })?;
+            }
+        }
+    }
+    Ok(())
+}
+
+/// Gives whether what differs is so in the first terminal.
+fn is_in_first(p: &Normal, difference: Difference) -> bool {
+    match difference {
+        Difference::BroadcastOption => p.broadcast(),
+        Difference::OwnCode(code) => p.legal(Cell::OwnMode(code)),
+        Difference::BroadcastCode(code) => p.legal(Cell::BroadMode(code)),
+        Difference::Acceptance => p.accept(),
+        _ => true,
+    }
+}
+
+/// Differences in groups, in their order. `found` are those of `p` and another.
+pub fn groups_of(
+    alloc: Global,
+    found: &[Difference],
+    p: &Normal,
+) -> Result<Vec<Group>, AllocError> {
+    let mut groups = Vec::new(alloc);
+    let mut counted = false;
+    for difference in found {
+        // word counts come together, where the first of any stands
+        if counts_of(*difference).is_none() {
+            groups.push(Group {
+                difference: *difference,
+                subaddresses: 0,
+                counts: 0,
+                in_first: is_in_first(p, *difference),
+            })?;
+        } else if !counted {
+            counted = true;
+            for kind in [Counts::Receive, Counts::Transmit, Counts::Broadcast] {
+                push_counts(&mut groups, found, p, kind)?;
+            }
+        }
+    }
+    Ok(groups)
+}
+
+/// A group as a line, without its line feed.
+#[derive(Clone, Copy)]
+pub struct GroupLine<'a> {
+    pub group: Group,
+    pub p: &'a Normal,
+    pub q: &'a Normal,
+    /// What the two are called.
+    pub first: &'a str,
+    pub second: &'a str,
+}
+
+/// A word that is held; 0 at what is no place of one.
+pub fn word_at(normal: &Normal, s: u8, i: u8) -> u16 {
+    for (row, words) in normal.initial().iter().enumerate() {
+        for (at, word) in words.iter().enumerate() {
+            if row + 1 == usize::from(s) && at + 1 == usize::from(i) {
+                return *word;
+            }
+        }
+    }
+    0
+}
+
+impl GroupLine<'_> {
+    /// Writes which word counts are legal in one alone.
+    fn put_counts<W: fmt::Write>(&self, f: &mut fmt::Formatter<W>, what: &str) -> fmt::Result {
+        let subaddresses = Numbers {
+            bits: self.group.subaddresses,
+            first: 1,
+        };
+        let counts = Numbers {
+            bits: self.group.counts,
+            first: 1,
+        };
+        let plural = if self.group.counts.count_ones() == 1 {
+            ""
+        } else {
+            "s"
+        };
+        write!(f, "{what} {subaddresses}: count{plural} {counts} ")?;
+        self.put_alone(f, "legal")
+    }
+
+    /// Writes in which of the two it is so.
+    fn put_alone<W: fmt::Write>(&self, f: &mut fmt::Formatter<W>, so: &str) -> fmt::Result {
+        let name = if self.group.in_first {
+            self.first
+        } else {
+            self.second
+        };
+        write!(f, "{so} in {name} alone")
+    }
+
+    /// Writes the words of both.
+    fn put_words<W: fmt::Write>(
+        &self,
+        f: &mut fmt::Formatter<W>,
+        ours: u16,
+        theirs: u16,
+    ) -> fmt::Result {
+        write!(
+            f,
+            "{ours:04x} in {}, {theirs:04x} in {}",
+            self.first, self.second
+        )
+    }
+
+    /// Writes where words come back in one.
+    fn put_wrap<W: fmt::Write>(
+        &self,
+        f: &mut fmt::Formatter<W>,
+        wrap: u8,
+        name: &str,
+    ) -> fmt::Result {
+        if wrap == 0 {
+            write!(f, "none in {name}")
+        } else {
+            write!(f, "at {wrap} in {name}")
+        }
+    }
+}
+
+impl fmt::Display for GroupLine<'_> {
+    fn fmt<W: fmt::Write>(&self, f: &mut fmt::Formatter<W>) -> fmt::Result {
+        let (p, q) = (self.p, self.q);
+        match self.group.difference {
+            Difference::Address => {
+                let (ours, theirs) = (p.address(), q.address());
+                write!(
+                    f,
+                    "address: {ours} in {}, {theirs} in {}",
+                    self.first, self.second
+                )
+            }
+            Difference::BroadcastOption => {
+                f.write_str("broadcast: ")?;
+                self.put_alone(f, "heard")
+            }
+            Difference::ReceiveCell(_, _) => self.put_counts(f, "receive"),
+            Difference::TransmitCell(_, _) => self.put_counts(f, "transmit"),
+            Difference::BroadcastReceiveCell(_, _) => self.put_counts(f, "broadcast receive"),
+            Difference::OwnCode(code) => {
+                write!(f, "mode code {code} ({}): ", mode_name(code))?;
+                self.put_alone(f, "legal")
+            }
+            Difference::BroadcastCode(code) => {
+                write!(f, "broadcast mode code {code} ({}): ", mode_name(code))?;
+                self.put_alone(f, "legal")
+            }
+            Difference::Acceptance => {
+                f.write_str("bus control: ")?;
+                self.put_alone(f, "accepted")
+            }
+            Difference::VectorWord => {
+                f.write_str("vector word: ")?;
+                self.put_words(f, p.vector(), q.vector())
+            }
+            Difference::BitWord => {
+                f.write_str("BIT word: ")?;
+                self.put_words(f, p.bit(), q.bit())
+            }
+            Difference::InitialWord(s, i) => {
+                write!(f, "word {i} of subaddress {s}: ")?;
+                self.put_words(f, word_at(p, s, i), word_at(q, s, i))
+            }
+            Difference::Wraparound => {
+                f.write_str("wraparound: ")?;
+                self.put_wrap(f, p.wrap(), self.first)?;
+                f.write_str(", ")?;
+                self.put_wrap(f, q.wrap(), self.second)
+            }
+        }
+    }
+}

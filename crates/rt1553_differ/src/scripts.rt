@@ -1,0 +1,54 @@
+//! The scripts that show differences.
+ghost use Rattle.std.specs.Prelude.{◌≡◌, IfSome, true};
+ghost use Rattle.bus_legal.specs.Parts.{description_in};
+ghost use Rattle.terminal_exchanges.specs.Distinguish.{TellsApart};
+ghost use Rattle.bus_word.specs.Cell.{is_data_place};
+ghost use Rattle.bus_canon.specs.Difference.{IsInRange};
+
+use bus_canon::{Difference, Script, script_showing};
+use bus_legal::Normal;
+use bus_script::write_event;
+use std::alloc::{AllocError, Global};
+
+/// Tells whether a subaddress is 1 to 30, and a word count or the number of a word 1 to 32.
+fn is_place(s: u8, n: u8) -> bool
+    ensures { result ≡ is_data_place s n }
+{
+    1 <= s && s <= 30 && 1 <= n && n <= 32
+}
+
+/// Tells whether the numbers of a difference are in their ranges.
+fn is_in_range(difference: Difference) -> bool
+    ensures { result ≡ true → IsInRange difference }
+{
+    match difference {
+        Difference::ReceiveCell(s, n)
+        | Difference::TransmitCell(s, n)
+        | Difference::BroadcastReceiveCell(s, n)
+        | Difference::InitialWord(s, n) => is_place(s, n),
+        Difference::OwnCode(code) | Difference::BroadcastCode(code) => code < 32,
+        _ => true,
+    }
+}
+
+/// The script that shows a difference, where it shows whatever else differs: from power-up the two answer it otherwise. None
+/// where something else is in its way; with another address nothing else can be shown.
+pub fn script_of(p: &Normal, q: &Normal, difference: Difference) -> Option<Script>
+    ensures { IfSome result (λ script. TellsApart (description_in p.now) (description_in q.now) script.items) }
+{
+    if is_in_range(difference) {
+        script_showing(p, q, difference)
+    } else {
+        None
+    }
+}
+
+/// The lines of a script.
+pub fn lines_of(alloc: Global, script: &Script) -> Result<Vec<String>, AllocError> {
+    let mut lines = Vec::new(alloc);
+    for event in script.as_slice() {
+        let line = write_event(event);
+        lines.push(String::from_str(alloc, line.as_str())?)?;
+    }
+    Ok(lines)
+}

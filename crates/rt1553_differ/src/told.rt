@@ -1,0 +1,198 @@
+//! What differs, as text and as JSON.
+use crate::groups::{Group, GroupLine, word_at};
+use crate::scripts::{lines_of, script_of};
+use bus_canon::Difference;
+use bus_legal::{Legality, Normal};
+use bus_word::Cell;
+use serde::Serialize;
+use std::alloc::{AllocError, Global};
+use std::format;
+
+/// Gives the lines of the script that shows the first difference of a group, where there is one.
+fn script_lines(
+    alloc: Global,
+    p: &Normal,
+    q: &Normal,
+    group: &Group,
+) -> Result<Option<Vec<String>>, AllocError> {
+    match script_of(p, q, group.difference) {
+        Some(script) => Ok(Some(lines_of(alloc, &script)?)),
+        None => Ok(None),
+    }
+}
+
+/// The two terminals that differ, and what they are called.
+#[derive(Clone, Copy)]
+pub struct Pair<'a> {
+    pub p: &'a Normal,
+    pub q: &'a Normal,
+    pub first: &'a str,
+    pub second: &'a str,
+}
+
+/// What differs, a line for each group; with scripts behind each line that of the first difference of the group, indented,
+/// where there is one.
+pub fn differ_text(
+    alloc: Global,
+    pair: &Pair<'_>,
+    groups: &[Group],
+    with_scripts: bool,
+) -> Result<String, AllocError> {
+    let mut text = String::new(alloc);
+    for group in groups {
+        let line = GroupLine {
+            group: *group,
+            p: pair.p,
+            q: pair.q,
+            first: pair.first,
+            second: pair.second,
+        };
+        writeln!(text, "{line}")?;
+        if with_scripts {
+            if let Some(lines) = script_lines(alloc, pair.p, pair.q, group)? {
+                for event in lines.as_slice() {
+                    writeln!(text, "    {}", event.as_str())?;
+                }
+            }
+        }
+    }
+    Ok(text)
+}
+
+/// A group as JSON.
+#[derive(Debug, Drop, Serialize)]
+struct Entry {
+    /// In what the two differ.
+    what: &'static str,
+    subaddresses: Vec<u8>,
+    /// Word counts, a mode code, or the number of a word.
+    numbers: Vec<u8>,
+    /// What is so in the first, and in the second.
+    first: String,
+    second: String,
+    /// The lines of the script that shows it; null where there is none, or none was asked for.
+    script: Option<Vec<String>>,
+}
+
+/// Gives what a kind of difference is called.
+fn name_of(difference: Difference) -> &'static str {
+    match difference {
+        Difference::Address => "address",
+        Difference::BroadcastOption => "broadcast",
+        Difference::ReceiveCell(_, _) => "receive",
+        Difference::TransmitCell(_, _) => "transmit",
+        Difference::BroadcastReceiveCell(_, _) => "broadcast receive",
+        Difference::OwnCode(_) => "mode code",
+        Difference::BroadcastCode(_) => "broadcast mode code",
+        Difference::Acceptance => "bus control",
+        Difference::VectorWord => "vector word",
+        Difference::BitWord => "BIT word",
+        Difference::InitialWord(_, _) => "word",
+        Difference::Wraparound => "wraparound",
+    }
+}
+
+/// Gives what is said of a cell.
+fn legality(normal: &Normal, cell: Cell) -> &'static str {
+    if normal.legal(cell) {
+        "legal"
+    } else {
+        "illegal"
+    }
+}
+
+/// Gives what a truth value is called.
+fn truth(value: bool) -> &'static str {
+    if value { "true" } else { "false" }
+}
+
+/// Gives what is so in a terminal, of what differs.
+fn value_of(alloc: Global, normal: &Normal, difference: Difference) -> Result<String, AllocError> {
+    match difference {
+        Difference::Address => format!(in alloc; "{}", normal.address()),
+        Difference::BroadcastOption => String::from_str(alloc, truth(normal.broadcast())),
+        Difference::ReceiveCell(s, n) => {
+            String::from_str(alloc, legality(normal, Cell::OwnReceive(s, n)))
+        }
+        Difference::TransmitCell(s, n) => {
+            String::from_str(alloc, legality(normal, Cell::OwnTransmit(s, n)))
+        }
+        Difference::BroadcastReceiveCell(s, n) => {
+            String::from_str(alloc, legality(normal, Cell::BroadReceive(s, n)))
+        }
+        Difference::OwnCode(code) => String::from_str(alloc, legality(normal, Cell::OwnMode(code))),
+        Difference::BroadcastCode(code) => {
+            String::from_str(alloc, legality(normal, Cell::BroadMode(code)))
+        }
+        Difference::Acceptance => String::from_str(alloc, truth(normal.accept())),
+        Difference::VectorWord => format!(in alloc; "{:04x}", normal.vector()),
+        Difference::BitWord => format!(in alloc; "{:04x}", normal.bit()),
+        Difference::InitialWord(s, i) => format!(in alloc; "{:04x}", word_at(normal, s, i)),
+        Difference::Wraparound => format!(in alloc; "{}", normal.wrap()),
+    }
+}
+
+/// Gives the numbers of a mask, of which the first is 1.
+fn numbers_in(alloc: Global, bits: u32) -> Result<Vec<u8>, AllocError> {
+    let mut list = Vec::new(alloc);
+    for bit in 0..32u8 {
+        if (bits >> bit) & 1 == 1 {
+            list.push(bit + 1)?;
+        }
+    }
+    Ok(list)
+}
+
+/// Gives the subaddresses and the numbers of a group.
+fn places_of(alloc: Global, group: &Group) -> Result<(Vec<u8>, Vec<u8>), AllocError> {
+    let mut subaddresses = numbers_in(alloc, group.subaddresses)?;
+    let mut numbers = numbers_in(alloc, group.counts)?;
+    match group.difference {
+        Difference::OwnCode(code) | Difference::BroadcastCode(code) => numbers.push(code)?,
+        Difference::InitialWord(s, i) => {
+            subaddresses.push(s)?;
+            numbers.push(i)?;
+        }
+        _ => {}
+    }
+    Ok((subaddresses, numbers))
+}
+
+/// Gives a group as JSON has it.
+fn entry_of(
+    alloc: Global,
+    pair: &Pair<'_>,
+    group: &Group,
+    with_scripts: bool,
+) -> Result<Entry, AllocError> {
+    let (subaddresses, numbers) = places_of(alloc, group)?;
+    let script = if with_scripts {
+        script_lines(alloc, pair.p, pair.q, group)?
+    } else {
+        None
+    };
+    Ok(Entry {
+        what: name_of(group.difference),
+        subaddresses,
+        numbers,
+        first: value_of(alloc, pair.p, group.difference)?,
+        second: value_of(alloc, pair.q, group.difference)?,
+        script,
+    })
+}
+
+/// What differs as JSON: an array of the groups. None where memory is wanting.
+pub fn differ_json(
+    alloc: Global,
+    pair: &Pair<'_>,
+    groups: &[Group],
+    with_scripts: bool,
+) -> Option<String> {
+    let mut entries = Vec::new(alloc);
+    for group in groups {
+        entries
+            .push(entry_of(alloc, pair, group, with_scripts).ok()?)
+            .ok()?;
+    }
+    serde_json::to_string(alloc, &entries).ok()
+}

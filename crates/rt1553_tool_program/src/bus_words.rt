@@ -1,0 +1,23 @@
+//! The word `words`: words of a bus by their fields and by their digits.
+use crate::fault::{DIFFERENT, Fault};
+use rt1553_tool::answer_words;
+use std::io::{BufReader, ErrorKind, Read, Write};
+
+/// Does what the word asks for, and gives the status to end with.
+pub fn bus_words<R: AllocGlobal, I: Read + Drop, W: Write>(
+    rt: &R,
+    input: I,
+    output: &mut W,
+) -> Result<u8, Fault> {
+    let Ok(reader) = BufReader::new(rt.alloc(), input) else {
+        return Err(Fault::Memory);
+    };
+    match answer_words(rt.alloc(), reader, output) {
+        Ok(0) => Ok(0),
+        Ok(_) => Ok(DIFFERENT),
+        Err(error) => match error.kind() {
+            ErrorKind::OutOfMemory => Err(Fault::Memory),
+            _ => Err(Fault::Stream),
+        },
+    }
+}

@@ -1,0 +1,197 @@
+//! The word `verify`: scripts that state their answers are played.
+use crate::fault::{DIFFERENT, Fault};
+use crate::files::{load_profile, owned, put, read_script_file};
+use crate::summary::Summary;
+use bus_legal::Normal;
+use clap::ArgMatches;
+use rt1553_tool::{Difference, answers_in, differences, named, read_stated};
+use std::io::Write;
+use std::rt::Files;
+use std::{fmt, format};
+
+/// Which terminal a script is played to.
+#[derive(Drop)]
+enum Profiles<'a> {
+    /// All scripts to one.
+    One(Normal),
+    /// Each to that of the file of this folder that its line `# Profile: ` names.
+    Folder(&'a str),
+}
+
+impl Profiles<'_> {
+    /// Gives what can be reached of the terminal that a script is played to.
+    fn of_script<R: Files + AllocGlobal>(
+        &self,
+        rt: &R,
+        name: &str,
+        script: &[u8],
+    ) -> Result<Normal, Fault> {
+        let folder = match self {
+            Profiles::One(normal) => return Ok(*normal),
+            Profiles::Folder(folder) => folder,
+        };
+        let profile = match named(script, b"# Profile: ") {
+            Some(profile) => str::from_utf8(profile),
+            None => return Err(Fault::NoProfile(owned(rt, name)?)),
+        };
+        match profile {
+            Ok(profile) => {
+                let path = format!(in rt.alloc(); "{folder}/{profile}")?;
+                load_profile(rt, path.as_str())
+            }
+            Err(_) => Err(Fault::NoProfile(owned(rt, name)?)),
+        }
+    }
+}
+
+/// Writes a line of a transcript without its line feed, or that there is none.
+fn put_answer<W: Write>(output: &mut W, answer: &[u8]) -> Result<(), Fault> {
+    match answer {
+        [] => put(output, b"nothing"),
+        [line @ .., b'\n'] => put(output, line),
+        line => put(output, line),
+    }
+}
+
+/// Writes where a file differs.
+fn put_difference<W: Write>(
+    output: &mut W,
+    name: &str,
+    difference: &Difference,
+) -> Result<(), Fault> {
+    let line = difference.line;
+    if write!(output, "{name}:{line}: expected ").is_err() {
+        return Err(Fault::Output);
+    }
+    put_answer(output, difference.expected.as_slice())?;
+    put(output, b", came ")?;
+    put_answer(output, difference.came.as_slice())?;
+    put(output, b"\n")
+}
+
+/// Plays a script, writes where it differs, or, where it is asked for, that it passes, and gives whether it does.
+fn play<R: Files + AllocGlobal, W: Write>(
+    rt: &R,
+    profiles: &Profiles<'_>,
+    name: &str,
+    script: &[u8],
+    each: bool,
+    output: &mut W,
+) -> Result<bool, Fault> {
+    let normal = profiles.of_script(rt, name, script)?;
+    let stated = match read_stated(rt.alloc(), script) {
+        Ok(stated) => stated,
+        Err(fault) => return Err(Fault::Script(owned(rt, name)?, fault)),
+    };
+    let found = differences(rt.alloc(), &normal, stated.as_slice())?;
+    for difference in found.as_slice() {
+        put_difference(output, name, difference)?;
+    }
+    let count = found.len();
+    let written = if count > 0 {
+        writeln!(output, "{name}: {count} differ")
+    } else if each {
+        let answers = answers_in(stated.as_slice());
+        writeln!(output, "{name}: passed ({answers} answers)")
+    } else {
+        Ok(())
+    };
+    match written {
+        Ok(()) => Ok(count == 0),
+        Err(_) => Err(Fault::Output),
+    }
+}
+
+/// Gives the clauses that a script names, of the test plan or of the standard; none where it names none.
+fn clauses_of(script: &[u8]) -> &[u8] {
+    match named(script, b"# Plan: ") {
+        Some(clauses) => clauses,
+        None => named(script, b"# Standard: ").unwrap_or(b""),
+    }
+}
+
+/// Plays a script of a file, keeps in the summary whether it passes, and gives that.
+fn play_file<R: Files + AllocGlobal, W: Write>(
+    rt: &R,
+    profiles: &Profiles<'_>,
+    name: &str,
+    each: bool,
+    summary: &mut Summary,
+    output: &mut W,
+) -> Result<bool, Fault> {
+    let script = match read_script_file(rt, name) {
+        Ok(script) => script,
+        Err(fault) => {
+            summary.add(rt.alloc(), b"", false)?;
+            return Err(fault);
+        }
+    };
+    let outcome = play(rt, profiles, name, script.as_slice(), each, output);
+    let passes = match &outcome {
+        Ok(passes) => *passes,
+        Err(_) => false,
+    };
+    summary.add(rt.alloc(), clauses_of(script.as_slice()), passes)?;
+    outcome
+}
+
+/// Plays scripts of files, and gives the status to end with.
+fn play_files<R: Files + AllocGlobal + Eprint, W: Write>(
+    rt: &R,
+    profiles: &Profiles<'_>,
+    names: &[&str],
+    each: bool,
+    output: &mut W,
+) -> Result<u8, Fault> {
+    let mut summary = Summary::new(rt.alloc());
+    let mut status = 0;
+    for name in names {
+        let of_script = match play_file(rt, profiles, name, each, &mut summary, output) {
+            Ok(true) => 0,
+            Ok(false) => DIFFERENT,
+            // the other scripts are played all the same
+            Err(fault) => {
+                let _ = eprintln!(rt; "{fault}");
+                fault.status()
+            }
+        };
+        if status < of_script {
+            status = of_script;
+        }
+    }
+    if each {
+        summary.put(output)?;
+    }
+    Ok(status)
+}
+
+/// Does what the word asks for, and gives the status to end with. With a folder of profiles no profile stands before the
+/// scripts.
+pub fn verify<R: Files + AllocGlobal + Eprint, W: Write>(
+    rt: &R,
+    words: &ArgMatches<'_>,
+    output: &mut W,
+) -> Result<u8, Fault> {
+    let each = words.get_flag("summary");
+    let mut names = Vec::new(rt.alloc());
+    let first = words.get_str("profile");
+    let profiles = match words.get_str("profiles") {
+        Some(folder) => {
+            if let Some(name) = first {
+                names.push(name)?;
+            }
+            Profiles::Folder(folder)
+        }
+        None => match first {
+            Some(name) => Profiles::One(load_profile(rt, name)?),
+            None => return Err(Fault::Usage),
+        },
+    };
+    if let Some(more) = words.get_strs("script") {
+        names.extend_from_slice(more)?;
+    }
+    if names.is_empty() {
+        return Err(Fault::Usage);
+    }
+    play_files(rt, &profiles, names.as_slice(), each, output)
+}
