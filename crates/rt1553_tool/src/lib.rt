@@ -13,3 +13,4 @@ pub use profile_text::{TomlFault, toml_of};
 pub use session::{play, serve};
 pub use stated::{Stated, StatedFault, read_stated};
 pub use verifying::{Difference, differences, verify};
+pub use written::mode_name;

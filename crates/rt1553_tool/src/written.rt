@@ -50,8 +50,8 @@ impl fmt::Display for RuleText {
     }
 }
 
-/// Gives what a mode code is called.
-fn mode_name(code: u8) -> &'static str {
+/// What a mode code is called (MIL-STD-1553B, 4.3.3.5.1.7).
+pub fn mode_name(code: u8) -> &'static str {
     match code {
         0 => "dynamic bus control",
         1 => "synchronize",

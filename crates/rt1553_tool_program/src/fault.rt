@@ -1,5 +1,6 @@
 //! Why the program ends early, the line that it prints then, and the status that it ends with.
 use rt1553::LoadFault;
+use rt1553_draw::DrawFault;
 use rt1553_tool::{StatedFault, TomlFault};
 use std::alloc::AllocError;
 use std::fmt;
@@ -21,6 +22,8 @@ pub enum Fault {
     Profile(String, LoadFault),
     /// The script is refused.
     Script(String, StatedFault),
+    /// There is no drawing of the script.
+    Drawing(String, DrawFault),
     /// No profile was made that means the same terminal.
     Toml(TomlFault),
 }
@@ -35,6 +38,7 @@ impl fmt::Display for Fault {
             Fault::Output => f.write_str("output: write failed"),
             Fault::Profile(name, fault) => write!(f, "{name}: {fault}"),
             Fault::Script(name, fault) => write!(f, "{name}: {fault}"),
+            Fault::Drawing(name, fault) => write!(f, "{name}: {fault}"),
             Fault::Toml(fault) => write!(f, "{fault}"),
         }
     }
@@ -44,8 +48,10 @@ impl Fault {
     /// The status that the program ends with.
     pub fn status(&self) -> u8 {
         match self {
-            Fault::Profile(_, LoadFault::Memory) | Fault::Script(_, StatedFault::Memory) => 4,
-            Fault::Profile(_, _) | Fault::Script(_, _) => 2,
+            Fault::Profile(_, LoadFault::Memory)
+            | Fault::Script(_, StatedFault::Memory)
+            | Fault::Drawing(_, DrawFault::Memory) => 4,
+            Fault::Profile(_, _) | Fault::Script(_, _) | Fault::Drawing(_, _) => 2,
             _ => 4,
         }
     }

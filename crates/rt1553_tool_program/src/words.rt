@@ -24,6 +24,15 @@ fn scripts<'a>(alloc: Global) -> Arg<'a> {
         .help("scripts that state their answers")
 }
 
+/// A word that names a script.
+fn script<'a>(alloc: Global) -> Arg<'a> {
+    Arg::new(alloc, "script")
+        .required(true)
+        .action(ArgAction::Set)
+        .value_name("SCRIPT")
+        .help("a script")
+}
+
 /// The words that the program takes.
 pub fn command<'a>(alloc: Global) -> Result<Command<'a>, AllocError> {
     let verify = Command::new(alloc, "verify")
@@ -39,11 +48,17 @@ pub fn command<'a>(alloc: Global) -> Result<Command<'a>, AllocError> {
         .about("Plays lines as they come, and ends each answer by a dot")
         .after_help("Example: printf 'A c 2c02\\nA gap\\nslot\\n' | rt1553-tool live pump.toml")
         .arg(profile(alloc))?;
+    let draw = Command::new(alloc, "draw")
+        .about("Draws a run: the words on the buses, and what is handed over")
+        .after_help("Example: rt1553-tool draw pump.toml pump.script > pump.svg")
+        .arg(profile(alloc))?
+        .arg(script(alloc))?;
     Command::new(alloc, "rt1553-tool")
         .version(VERSION)
         .about("What people ask of a profile of a remote terminal")
         .subcommand_required(true)
         .subcommand(verify)?
         .subcommand(toml)?
-        .subcommand(live)
+        .subcommand(live)?
+        .subcommand(draw)
 }

@@ -1,4 +1,5 @@
 //! What the program does.
+use crate::draw::draw_run;
 use crate::fault::Fault;
 use crate::files::{owned, put, read_profile_file, read_script_file};
 use crate::words::command;
@@ -123,6 +124,13 @@ fn do_words<R: Files + AllocGlobal + Eprint, I: Read + Drop, W: Write>(
                 return Ok(USAGE);
             };
             verify_files(rt, &normal, names, output)
+        }
+        "draw" => {
+            let Some(script) = words.get_str("script") else {
+                return Ok(USAGE);
+            };
+            draw_run(rt, &normal, script, output)?;
+            Ok(0)
         }
         "toml" => match toml_of(rt.alloc(), &normal) {
             Ok(text) => {
