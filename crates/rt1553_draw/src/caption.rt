@@ -81,7 +81,7 @@ impl Caption {
         }
     }
 
-    /// Whether a line can be longer than the box is wide, and is to be made to fit.
+    /// Whether the second line is longer than the box is wide at the size of the others.
     pub fn is_long(&self) -> bool {
         match self {
             Caption::Command(bits) => {

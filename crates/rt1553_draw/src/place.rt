@@ -1,10 +1,10 @@
 //! Where things stand in a drawing, in its units. Time runs to the right, and goes on below where a row is full.
 
 /// How far right of a row's begin the lanes begin, behind their names.
-pub const LANES_FROM: u32 = 76;
+pub const LANES_FROM: u32 = 84;
 
 /// How wide the lanes are.
-pub const LANES_WIDTH: u32 = 1010;
+pub const LANES_WIDTH: u32 = 1210;
 
 /// How high a row of three lanes is, with what parts it from the next.
 const ROW_HEIGHT: u32 = 216;

@@ -4,7 +4,7 @@ use crate::place::{Column, LANES_FROM, LANES_WIDTH, Lane};
 use std::alloc::AllocError;
 
 /// How wide the column of a box is.
-pub const BOX_COLUMN: u32 = 118;
+pub const BOX_COLUMN: u32 = 130;
 
 /// How wide the column of a gap, or of a slot in which nothing is sent, is.
 pub const NARROW_COLUMN: u32 = 30;
@@ -15,14 +15,12 @@ const BOX_HEIGHT: u32 = 54;
 /// How far a box stands from the edges of its column.
 const MARGIN: u32 = 4;
 
-/// How wide a text may be in a box.
-const TEXT_WIDTH: u32 = 102;
-
-/// What stands at the begin of each drawing, behind its size: how it looks, in light and in dark surroundings.
+/// What stands at the begin of each drawing, behind its size: how it looks.
 const STYLE: &str = "<style>\
 text{font:12px sans-serif;fill:#222;text-anchor:middle}\
 .name{text-anchor:start;font-weight:bold}\
 .hex{font-family:monospace}\
+.long{font-size:8px}\
 .lane{stroke:#bbb}\
 .gap{stroke:#888;stroke-dasharray:3 3}\
 rect{stroke:#444;rx:4px}\
@@ -40,19 +38,14 @@ fn push_line<T: std::fmt::Display>(
     text: &mut String,
     column: Column,
     top: u32,
-    is_long: bool,
     class: &str,
     line: &T,
 ) -> Result<(), AllocError> {
     let middle = column.left().saturating_add(column.width() / 2);
-    write!(text, "<text class=\"{class}\" x=\"{middle}\" y=\"{top}\"")?;
-    if is_long {
-        write!(
-            text,
-            " textLength=\"{TEXT_WIDTH}\" lengthAdjust=\"spacingAndGlyphs\""
-        )?;
-    }
-    writeln!(text, ">{line}</text>")
+    writeln!(
+        text,
+        "<text class=\"{class}\" x=\"{middle}\" y=\"{top}\">{line}</text>"
+    )
 }
 
 /// Draws a box with its three lines.
@@ -70,31 +63,16 @@ pub fn push_box(
         text,
         "<rect class=\"{class}\" x=\"{left}\" y=\"{top}\" width=\"{width}\" height=\"{BOX_HEIGHT}\"/>"
     )?;
-    let is_long = caption.is_long();
+    let more = if caption.is_long() { "long" } else { "more" };
     push_line(
         text,
         column,
         top.saturating_add(16),
-        false,
         "what",
         &First(caption),
     )?;
-    push_line(
-        text,
-        column,
-        top.saturating_add(32),
-        is_long,
-        "more",
-        &Second(caption),
-    )?;
-    push_line(
-        text,
-        column,
-        top.saturating_add(48),
-        false,
-        "hex",
-        &Third(caption),
-    )
+    push_line(text, column, top.saturating_add(32), more, &Second(caption))?;
+    push_line(text, column, top.saturating_add(48), "hex", &Third(caption))
 }
 
 /// Draws a gap on a bus.
