@@ -3,7 +3,9 @@
 
 mod caption;
 mod drawing;
+mod page;
 mod place;
 mod shape;
 
 pub use drawing::{DrawFault, MAX_EVENTS, draw};
+pub use page::page_of;
