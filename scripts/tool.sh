@@ -212,7 +212,14 @@ live_rows() {
     yes 'slot' | head -n 1500000 | "$program" live "$work/five" | cksum >"$work/given"
     yes '.' | head -n 1500000 | cksum | cmp -s - "$work/given"
     count 'live: a million and a half lines' $?
+    rm -f "$work/fifo" && mkfifo "$work/fifo" || return
+    yes 'slot' | head -n 1500000 >"$work/fifo" &
+    "$program" live "$work/five" <"$work/fifo" | cksum >"$work/given"
+    yes '.' | head -n 1500000 | cksum | cmp -s - "$work/given"
+    count 'live: a million and a half lines of a named pipe' $?
     live_answers_at_once
+    [[ $(python3 scripts/two-terminals.py "$program" | tail -n 1) == *' passed, 0 failed' ]]
+    count 'live: a terminal transmits to another one' $?
 }
 
 # words of the bus by their fields, and back

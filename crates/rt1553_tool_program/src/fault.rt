@@ -1,12 +1,16 @@
 //! Why the program ends early, the line that it prints then, and the status that it ends with.
 use rt1553::LoadFault;
 use rt1553_differ::DifferFault;
+use rt1553_draw::DrawFault;
 use rt1553_tool::{StatedFault, TomlFault};
 use std::alloc::{AllocError, AllocFailed};
 use std::fmt;
 
 /// The status of a comparison that finds a difference, and of what else was found.
 pub const DIFFERENT: u8 = 1;
+
+/// The status of a text that is refused.
+pub const REFUSED: u8 = 2;
 
 /// The status of words that the program doesn't take.
 pub const USAGE: u8 = 3;
@@ -30,6 +34,8 @@ pub enum Fault {
     Script(String, StatedFault),
     /// The script names no profile.
     NoProfile(String),
+    /// There is no drawing of the script.
+    Drawing(String, DrawFault),
     /// A word is missing, or is no text.
     Usage,
     /// What differs was not found.
@@ -48,6 +54,7 @@ impl fmt::Display for Fault {
             Fault::Output => f.write_str("output: write failed"),
             Fault::Profile(name, fault) => write!(f, "{name}: {fault}"),
             Fault::Script(name, fault) => write!(f, "{name}: {fault}"),
+            Fault::Drawing(name, fault) => write!(f, "{name}: {fault}"),
             Fault::NoProfile(name) => write!(
                 f,
                 "{name}: script: no line '# Profile: NAME' at its front"
@@ -63,8 +70,13 @@ impl Fault {
     /// The status that the program ends with.
     pub fn status(&self) -> u8 {
         match self {
-            Fault::Profile(_, LoadFault::Memory) | Fault::Script(_, StatedFault::Memory) => 4,
-            Fault::Profile(_, _) | Fault::Script(_, _) | Fault::NoProfile(_) => 2,
+            Fault::Profile(_, LoadFault::Memory)
+            | Fault::Script(_, StatedFault::Memory)
+            | Fault::Drawing(_, DrawFault::Memory) => 4,
+            Fault::Profile(_, _)
+            | Fault::Script(_, _)
+            | Fault::Drawing(_, _)
+            | Fault::NoProfile(_) => REFUSED,
             Fault::Usage => USAGE,
             _ => 4,
         }

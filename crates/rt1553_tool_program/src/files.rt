@@ -52,9 +52,14 @@ fn read_file<R: Files + AllocGlobal>(rt: &R, name: &str, most: usize) -> Result<
     }
 }
 
-/// What can be reached of the terminal of a profile file, of at most 1,048,576 bytes.
+/// The bytes of a profile file, of at most 1,048,576 bytes.
+pub fn read_profile_file<R: Files + AllocGlobal>(rt: &R, name: &str) -> Result<Vec<u8>, Fault> {
+    read_file(rt, name, MOST)
+}
+
+/// What can be reached of the terminal of a profile file.
 pub fn load_profile<R: Files + AllocGlobal>(rt: &R, name: &str) -> Result<Normal, Fault> {
-    let bytes = read_file(rt, name, MOST)?;
+    let bytes = read_profile_file(rt, name)?;
     match load(rt.alloc(), bytes.as_slice()) {
         Ok(normal) => Ok(normal),
         Err(fault) => Err(Fault::Profile(owned(rt, name)?, fault)),

@@ -3,9 +3,11 @@
 
 mod bus_words;
 mod differ;
+mod draw;
 mod explain;
 mod fault;
 mod files;
+mod lint;
 mod live;
 mod profile_toml;
 mod summary;

@@ -100,6 +100,40 @@ fn differ<'a>(alloc: Global) -> Result<Command<'a>, AllocError> {
         .arg(format(alloc))
 }
 
+/// The word `lint`.
+fn lint<'a>(alloc: Global) -> Result<Command<'a>, AllocError> {
+    let files = Arg::new(alloc, "file")
+        .required(true)
+        .action(ArgAction::Append)
+        .num_args(1..)
+        .value_name("P")
+        .help("profiles or canonical texts");
+    Command::new(alloc, "lint")
+        .about("Tells all that is wrong with profiles, and what has no effect")
+        .after_help("Example: rt1553-tool lint pump.toml")
+        .arg(files)?
+        .arg(format(alloc))
+}
+
+/// The word `draw`.
+fn draw<'a>(alloc: Global) -> Result<Command<'a>, AllocError> {
+    let script = Arg::new(alloc, "script")
+        .required(true)
+        .action(ArgAction::Set)
+        .value_name("SCRIPT")
+        .help("a script");
+    let html = Arg::new(alloc, "html")
+        .long("html")
+        .action(ArgAction::SetTrue)
+        .help("a page of its own, with what is legal");
+    Command::new(alloc, "draw")
+        .about("Draws a run: the words on the buses, and what is handed over")
+        .after_help("Example: rt1553-tool draw pump.toml pump.script > pump.svg")
+        .arg(profile(alloc))?
+        .arg(script)?
+        .arg(html)
+}
+
 /// The word `words`.
 fn words<'a>(alloc: Global) -> Command<'a> {
     Command::new(alloc, "words")
@@ -113,10 +147,12 @@ pub fn command<'a>(alloc: Global) -> Result<Command<'a>, AllocError> {
         .version(VERSION)
         .about("What people ask of a profile of a remote terminal")
         .subcommand_required(true)
+        .subcommand(lint(alloc)?)?
         .subcommand(verify(alloc)?)?
         .subcommand(toml(alloc)?)?
         .subcommand(explain(alloc)?)?
         .subcommand(differ(alloc)?)?
+        .subcommand(draw(alloc)?)?
         .subcommand(words(alloc))?
         .subcommand(live(alloc)?)
 }

@@ -1,8 +1,10 @@
 //! What the program does.
 use crate::bus_words::bus_words;
 use crate::differ::differ;
+use crate::draw::draw;
 use crate::explain::explain;
 use crate::fault::{Fault, USAGE};
+use crate::lint::lint;
 use crate::live::live;
 use crate::profile_toml::toml;
 use crate::verify::verify;
@@ -23,10 +25,12 @@ fn do_words<R: Files + AllocGlobal + Eprint, I: Read + Drop, W: Write>(
         return Err(Fault::Usage);
     };
     match name {
+        "lint" => lint(rt, words, output),
         "verify" => verify(rt, words, output),
         "toml" => toml(rt, words, output),
         "explain" => explain(rt, words, output),
         "differ" => differ(rt, words, output),
+        "draw" => draw(rt, words, output),
         "words" => bus_words(rt, input, output),
         _ => live(rt, words, input, output),
     }

@@ -1,0 +1,38 @@
+//! The word `draw`: a run as a drawing.
+use crate::fault::Fault;
+use crate::files::{load_profile, owned, put, read_script_file, word};
+use bus_legal::Normal;
+use clap::ArgMatches;
+use rt1553_differ::explain;
+use rt1553_draw::{draw as drawing_of, page_of};
+use std::io::Write;
+use std::rt::Files;
+
+/// The drawing of a run, by the script of the file of this name.
+fn draw_file<R: Files + AllocGlobal>(rt: &R, normal: &Normal, name: &str) -> Result<String, Fault> {
+    let script = read_script_file(rt, name)?;
+    match drawing_of(rt.alloc(), normal, script.as_slice()) {
+        Ok(drawing) => Ok(drawing),
+        Err(fault) => Err(Fault::Drawing(owned(rt, name)?, fault)),
+    }
+}
+
+/// Does what the word asks for, and gives the status to end with.
+pub fn draw<R: Files + AllocGlobal, W: Write>(
+    rt: &R,
+    words: &ArgMatches<'_>,
+    output: &mut W,
+) -> Result<u8, Fault> {
+    let (profile, script) = (word(words, "profile")?, word(words, "script")?);
+    let normal = load_profile(rt, profile)?;
+    let drawing = draw_file(rt, &normal, script)?;
+    if words.get_flag("html") {
+        let title = format!(in rt.alloc(); "{profile}: {script}")?;
+        let table = explain(rt.alloc(), &normal)?;
+        let page = page_of(rt.alloc(), title.as_str(), drawing.as_str(), table.as_str())?;
+        put(output, page.as_str().as_bytes())?;
+    } else {
+        put(output, drawing.as_str().as_bytes())?;
+    }
+    Ok(0)
+}
