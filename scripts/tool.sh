@@ -283,13 +283,87 @@ differ_rows() {
     count 'each script tells two profiles apart' $?
 }
 
+# what `lint` tells of small texts, each a file of this name: FILE:LINE:COLUMN
+lint_rows() {
+    local path
+    input ''
+    printf 'address = 31\n\n[[rule]]\ndirection = "receive"\nsubadress = 3\nsubaddresses = "1-3"\n' >"$work/two"
+    row 'lint: two faults' 2 'two:1:1: error: profile: root: address is out of range: 31; allowed is a whole number from 0 to 30\ntwo:5:1: error: profile: rule 1: unknown key "subadress"; known are to, direction, subaddresses, counts, legal\n' '' \
+        lint two
+    printf 'address = 5\n[[rule]\n' >"$work/open"
+    row 'lint: no TOML' 2 'open:2:8: error: profile: not TOML: unclosed array table, expected `]]`\n' '' lint open
+    printf 'address = 5\nvector = 1\naddress = 6\n' >"$work/again"
+    row 'lint: a key given twice' 2 'again:3:1: error: profile: not TOML: duplicate key\n' '' lint again
+    printf 'address = 5\r\n\r\n[[rule]]\r\ndirection = "up"\r\nsubaddresses = 1\r\n' >"$work/crlf"
+    row 'lint: lines that end in CR and LF' 2 'crlf:4:1: error: profile: rule 1: direction is out of range: "up"; allowed is "receive", "transmit" or "both"\n' '' lint crlf
+    printf 'address = 5\nrule = [\n  { direction = "both", subaddresses = 1 },\n  { direction = "up", subaddresses = 2 },\n]\n' >"$work/inline"
+    row 'lint: a rule in brackets' 2 'inline:2:1: error: profile: rule 2: direction is out of range: "up"; allowed is "receive", "transmit" or "both"\n' '' lint inline
+    printf 'address = 5\n\n[[mode]]\ncodes = "2, 8"\nlegal = false\n' >"$work/required"
+    row 'lint: codes that must be legal' 2 'required:3:1: error: profile: mode code 2 must be legal; mode 1 makes it illegal\nrequired:3:1: error: profile: mode code 8 must be legal; mode 1 makes it illegal\n' '' lint required
+    { echo 'address = 5'; for _ in $(seq 257); do printf '[[rule]]\ndirection = "up"\n'; done; } >"$work/many"
+    row 'lint: 257 rules' 2 'many:514:1: error: profile: root: rule has too many items: an array of 257 items; allowed is at most 256 tables [[rule]]\n' '' lint many
+    printf 'rt1553 2\naddress 05\nbroadcast 2\n' >"$work/canonical"
+    row 'lint: a canonical text that is refused' 2 'canonical:3:1: error: canonical text: line 3\n' '' lint canonical
+    { echo 'address = 5'; yes '# a comment' | head -n 4996; printf '[[rule]]\ndirection = "up"\nsubaddresses = 1\n'; } >"$work/far"
+    row 'lint: a fault far down' 2 'far:4999:1: error: profile: rule 1: direction is out of range: "up"; allowed is "receive", "transmit" or "both"\n' '' lint far
+    printf 'address = 5\nvector = 7\n' >"$work/idle"
+    row 'lint: a word that no mode code asks for' 1 'idle:2:1: warning: vector has no effect: mode code 16 is not legal\n' '' lint idle
+    row 'lint: files that are fine, refused and not there' 4 'open:2:8: error: profile: not TOML: unclosed array table, expected `]]`\nidle:2:1: warning: vector has no effect: mode code 16 is not legal\n' \
+        'file: cannot read none\n' lint five open none idle
+    row 'lint: JSON' 1 '{"file":"idle","line":2,"column":1,"severity":"warning","number":null,"name":null,"message":"vector has no effect: mode code 16 is not legal"}\n' '' \
+        lint --format json idle
+    row 'lint: a fault as JSON' 2 '{"file":"again","line":3,"column":1,"severity":"error","number":1,"name":"NotToml","message":"profile: not TOML: duplicate key"}\n' '' lint again --format json
+    for path in examples/profiles/*.toml examples/canonical/* examples/validation/profiles/*; do
+        "$program" lint "$path" >"$work/stdout" 2>"$work/stderr" </dev/null && [[ ! -s $work/stdout && ! -s $work/stderr ]]
+        count "lint: nothing to say of $path" $?
+    done
+    # it refuses what `check` refuses, and by the same first fault where that one is told first
+    for path in tests/vectors/*/*.{toml,rt1553}; do
+        "$rt1553" check "$path" >/dev/null 2>&1 </dev/null
+        local checked=$?
+        "$program" lint "$path" >"$work/stdout" 2>"$work/stderr" </dev/null
+        local linted=$?
+        [[ ! -s $work/stderr && $((checked == 2)) -eq $((linted == 2)) && $linted -le 2 ]] && "$program" lint --format json "$path" </dev/null >"$work/stdout"
+        [[ $? -eq $linted ]] && python3 scripts/schema.py docs/lint.schema.json --lines <"$work/stdout"
+        count "lint: $path" $?
+    done
+}
+
+# drawings, and the pages that they stand in
+draw_rows() {
+    local line
+    input ''
+    python3 scripts/drawings.py "$program" "$rt1553" >"$work/drawings" 2>&1
+    line=$(tail -n 1 "$work/drawings")
+    [[ $line == *' passed, 0 failed' ]]
+    count "drawings: $(grep -v ' passed, ' "$work/drawings")" $?
+    row 'draw: a script that is refused' 2 '' 'refused: script: line 3\n' draw five refused
+    yes 'slot' | head -n 4096 >"$work/stdin"
+    cp "$work/stdin" "$work/most"
+    (cd "$work" && "$program" draw five most >stdout 2>stderr) && [[ ! -s $work/stderr ]] && tail -n 1 "$work/stdout" | grep -q '</svg>'
+    count 'draw: as many events as may be' $?
+    echo slot >>"$work/most"
+    row 'draw: too many events' 2 '' 'most: script: too many events to draw\n' draw five most
+}
+
+# what is written as JSON fits its schema
+schema_rows() {
+    local path
+    for path in examples/profiles/*.toml examples/validation/profiles/*; do
+        "$program" explain --format json "$path" </dev/null | python3 scripts/schema.py docs/explain.schema.json
+        count "explain: schema, $path" $?
+        "$program" differ --scripts --format json examples/profiles/sensor.toml "$path" </dev/null | python3 scripts/schema.py docs/differ.schema.json
+        count "differ: schema, $path" $?
+    done
+}
+
 # the words and their help
 word_rows() {
     local word
     input ''
     (cd "$work" && "$program" --version >stdout 2>stderr) && [[ $(cat "$work/stdout") == 'rt1553-tool 0.1 (canonical text 2)' && ! -s $work/stderr ]]
     count '--version' $?
-    for word in verify toml explain differ words live; do
+    for word in lint verify toml explain differ draw words live; do
         "$program" "$word" --help >"$work/stdout" 2>"$work/stderr" </dev/null && grep -q '^Example: ' "$work/stdout" && [[ ! -s $work/stderr ]]
         count "$word --help" $?
         [[ $word == words ]] && continue
@@ -318,6 +392,9 @@ for program in "$@"; do
     bus_word_rows
     explain_rows
     differ_rows
+    lint_rows
+    draw_rows
+    schema_rows
     live_rows
     word_rows
 done

@@ -1,6 +1,7 @@
 //! The names of mode codes.
 
-/// What a mode code is called (MIL-STD-1553B, 4.3.3.5.1.7).
+/// What a mode code, 0 to 31, is called (MIL-STD-1553B, 4.3.3.5.1.7); those of selected transmitter shutdown, 20 and 21,
+/// without the word transmitter.
 pub fn mode_name(code: u8) -> &'static str {
     match code {
         0 => "dynamic bus control",
@@ -16,6 +17,8 @@ pub fn mode_name(code: u8) -> &'static str {
         17 => "synchronize with data word",
         18 => "transmit last command",
         19 => "transmit BIT word",
+        20 => "selected shutdown",
+        21 => "override selected shutdown",
         _ => "reserved",
     }
 }
