@@ -1,5 +1,5 @@
 -- Laws of what the comments at the front of a script name.
-use Rattle.std.proofs.Common.{ℕ, ◌≡◌, ◌∙◌, List, [], ◌∷◌, Option, Some, None, length, is_some, if◌then◌else◌, refl, sym, ap, ap₂, arith}
+use Rattle.std.proofs.Common.{ℕ, ◌≡◌, List, [], ◌∷◌, Some, None, length, is_some, if◌then◌else◌, refl, ap, ap₂, arith}
 use Rattle.line_format.specs.Front.{after}
 use Rattle.bus_script.specs.Text.{lines_of}
 use Rattle.rt1553_tool.specs.Heading.{first_of, named}

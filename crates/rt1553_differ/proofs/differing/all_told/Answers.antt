@@ -1,4 +1,4 @@
-use Rattle.std.proofs.Common.{◌≡◌, ◌∷◌, [], ◌++◌, ◌∙◌, false, true, ap, rules}
+use Rattle.std.proofs.Common.{◌∷◌, [], ◌++◌, ◌∙◌, false, true, ap}
 use Rattle.bus_canon.specs.declared.difference.Difference.TheVariants.{Address, BroadcastOption, Acceptance, VectorWord, BitWord, Wraparound}
 use Rattle.rt1553_differ.specs.declared.differing.PlaceKind.TheVariants.{Receiving, Transmitting, Broadcasting, Holding}
 use Rattle.rt1553_differ.specs.Told.{at_place, of_code, told, in_row, in_rows, possible}

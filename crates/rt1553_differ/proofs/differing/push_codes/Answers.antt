@@ -1,4 +1,4 @@
-use Rattle.std.proofs.Common.{◌≡◌, ◌∷◌, [], ◌-◌, ◌++◌, ◌∙◌, sym, ap, arith, rules}
+use Rattle.std.proofs.Common.{◌∷◌, [], ◌++◌, ◌∙◌, sym, ap, rules}
 use Rattle.rt1553_differ.specs.Told.{of_code, told}
 use Rattle.rt1553_differ.proofs.Lists.{row_step, row_end}
 use Rattle.rt1553_differ.proofs.differing.push_codes.Goals as goal

@@ -1,4 +1,4 @@
-use Rattle.std.proofs.Common.{◌≡◌, ◌-◌, ◌∙◌, sym, arith, rules}
+use Rattle.std.proofs.Common.{◌∙◌, sym, rules}
 use Rattle.rt1553_differ.specs.Told.{at_place}
 use Rattle.rt1553_differ.proofs.Lists.{rows_step, rows_end}
 use Rattle.rt1553_differ.proofs.differing.push_rows.Goals as goal

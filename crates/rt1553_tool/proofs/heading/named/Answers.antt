@@ -1,4 +1,4 @@
-use Rattle.std.proofs.Common.{◌∙◌, sym, ap, rules, arith}
+use Rattle.std.proofs.Common.{◌∙◌, sym, ap, arith}
 use Rattle.bus_script.specs.Text.{lines_of}
 use Rattle.rt1553_tool.specs.Heading.{named}
 use Rattle.rt1553_tool.proofs.HeadingLaws.{named-here, named-next, named-ends, named-nowhere}
