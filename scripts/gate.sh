@@ -1,5 +1,5 @@
 #!/usr/bin/env bash
-# The gate: every proof, test and program from nothing, then the must-fail edits, then the built program from
+# The gate: every proof, test and program from nothing, then the must-fail edits, and beside them the built programs from
 # end to end, the protocol tests, and the sessions of the pages. The last line, 'N passed, M failed', adds the counts
 # of the six parts.
 set -uo pipefail
@@ -41,13 +41,17 @@ part() {
 part proved
 # what was not proved is not edited, and not run
 if [[ $failed -eq 0 ]]; then
-    part python3 scripts/must-fail.py "$built"
+    # the edits take all processors for long; the programs, which mostly wait for one another, are played beside them
+    python3 scripts/must-fail.py "$built" >"$work/edits" 2>&1 </dev/null &
+    edits=$!
     part bash scripts/end-to-end.sh "$built"
     mapfile -t programs < <(builds_of rt1553_program)
     mapfile -t tools < <(builds_of rt1553_tool_program)
     part python3 scripts/validation.py "${programs[@]}"
     part bash scripts/tool.sh "${tools[@]}"
     part python3 scripts/sessions.py "$built"/crates/rt1553_{program/out/rt1553_program,tool_program/out/rt1553_tool_program}
+    wait "$edits"
+    part cat "$work/edits"
 fi
 echo "$passed passed, $failed failed"
 [[ $failed -eq 0 && $passed -gt 0 ]]
