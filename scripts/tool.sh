@@ -333,10 +333,10 @@ lint_rows() {
 draw_rows() {
     local line
     input ''
-    python3 scripts/drawings.py "$program" "$rt1553" >"$work/drawings" 2>&1
-    line=$(tail -n 1 "$work/drawings")
+    line=$(python3 scripts/drawings.py "$program" "$rt1553" 2>&1 | tee "$work/drawings" | tail -n 1)
+    [[ $line == *' passed, 0 failed' ]] || cat "$work/drawings"
     [[ $line == *' passed, 0 failed' ]]
-    count "drawings: $(grep -v ' passed, ' "$work/drawings")" $?
+    count 'drawings' $?
     row 'draw: a script that is refused' 2 '' 'refused: script: line 3\n' draw five refused
     yes 'slot' | head -n 4096 >"$work/stdin"
     cp "$work/stdin" "$work/most"
