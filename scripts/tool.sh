@@ -313,6 +313,11 @@ lint_rows() {
     row 'lint: JSON' 1 '{"file":"idle","line":2,"column":1,"severity":"warning","number":null,"name":null,"message":"vector has no effect: mode code 16 is not legal"}\n' '' \
         lint --format json idle
     row 'lint: a fault as JSON' 2 '{"file":"again","line":3,"column":1,"severity":"error","number":1,"name":"NotToml","message":"profile: not TOML: duplicate key"}\n' '' lint again --format json
+    # each kind of fault, and each reason for which something has no effect, in one profile each
+    for path in ten_faults no_effect; do
+        (cd tests/tool/lint && "$program" lint "$path.toml" 2>&1 </dev/null) | cmp -s - "tests/tool/lint/$path.txt"
+        count "lint: $path.toml" $?
+    done
     for path in examples/profiles/*.toml examples/canonical/* examples/validation/profiles/*; do
         "$program" lint "$path" >"$work/stdout" 2>"$work/stderr" </dev/null && [[ ! -s $work/stdout && ! -s $work/stderr ]]
         count "lint: nothing to say of $path" $?
@@ -344,6 +349,18 @@ draw_rows() {
     count 'draw: as many events as may be' $?
     echo slot >>"$work/most"
     row 'draw: too many events' 2 '' 'most: script: too many events to draw\n' draw five most
+}
+
+# `differ` finds something where `compare` does, and refuses what it refuses
+differ_beside_compare() {
+    local args words status
+    for args in tests/vectors/*/compare-*.args; do
+        mapfile -t words <"$args"
+        (cd "${args%/*}" && "$program" differ --scripts "${words[@]:1}" >"$work/stdout" 2>"$work/stderr" </dev/null)
+        status=$?
+        [[ $status -eq $(cat "${args%.args}.status") ]] && if [[ $status -eq 1 ]]; then [[ -s $work/stdout ]]; else [[ ! -s $work/stdout ]]; fi
+        count "differ: ${args%.args}" $?
+    done
 }
 
 # what is written as JSON fits its schema
@@ -392,6 +409,7 @@ for program in "$@"; do
     bus_word_rows
     explain_rows
     differ_rows
+    differ_beside_compare
     lint_rows
     draw_rows
     schema_rows
