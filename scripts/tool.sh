@@ -64,11 +64,13 @@ differs() {
 # every protocol test passes; one in which an answer was changed, or of which one was dropped, differs at its event
 validation() {
     local path profile number line event
+    rm -rf "$work/families"
     python3 -c "
 import pathlib, sys
 sys.path.insert(0, 'tests/validation')
 import generate
-generate.write(pathlib.Path('$work/families'))" || return
+generate.write(pathlib.Path('$work/families'))"
+    count 'the families are written' $?
     for path in examples/validation/{scripts,choices}/*.script "$work"/families/*.script; do
         passes "$work/families" "$path"
         count "verify ${path##*/}" $?
