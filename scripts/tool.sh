@@ -310,6 +310,10 @@ lint_rows() {
     row 'lint: a fault far down' 2 'far:4999:1: error: profile: rule 1: direction is out of range: "up"; allowed is "receive", "transmit" or "both"\n' '' lint far
     printf 'address = 5\nvector = 7\n' >"$work/idle"
     row 'lint: a word that no mode code asks for' 1 'idle:2:1: warning: vector has no effect: mode code 16 is not legal\n' '' lint idle
+    printf 'address = 5\n\n[[rule]]\ndirection = "receive"\nsubaddresses = 1\nlegal = false\n' >"$work/first"
+    row 'lint: the first rule alone' 1 'first:3:1: warning: rule 1 has no effect: its commands are illegal without it\n' '' lint first
+    printf 'address = 5\n\n[[initial]]\nsubaddress = 4\nwords = [1]\n' >"$work/held"
+    row 'lint: the first initial entry alone' 1 'held:3:1: warning: initial 1 has no effect: no command to transmit is legal there\n' '' lint held
     row 'lint: files that are fine, refused and not there' 4 'open:2:8: error: profile: not TOML: unclosed array table, expected `]]`\nidle:2:1: warning: vector has no effect: mode code 16 is not legal\n' \
         'file: cannot read none\n' lint five open none idle
     row 'lint: JSON' 1 '{"file":"idle","line":2,"column":1,"severity":"warning","number":null,"name":null,"message":"vector has no effect: mode code 16 is not legal"}\n' '' \
