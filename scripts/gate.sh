@@ -1,7 +1,7 @@
 #!/usr/bin/env bash
 # The gate: every proof, test and program from nothing, then the must-fail edits, and beside them the built programs from
-# end to end, the protocol tests, and the sessions of the pages. The last line, 'N passed, M failed', adds the counts
-# of the six parts.
+# end to end, texts with known answers, the protocol tests, and the sessions of the pages. The last line, 'N passed, M
+# failed', adds the counts of the parts.
 set -uo pipefail
 cd "$(dirname "$0")/.." || exit 1
 work=$(mktemp -d) || exit 1
@@ -47,6 +47,7 @@ if [[ $failed -eq 0 ]]; then
     part bash scripts/end-to-end.sh "$built"
     mapfile -t programs < <(builds_of rt1553_program)
     mapfile -t tools < <(builds_of rt1553_tool_program)
+    part python3 scripts/texts.py "${programs[@]}"
     part python3 scripts/validation.py "${programs[@]}"
     part bash scripts/tool.sh "${tools[@]}"
     part python3 scripts/sessions.py "$built"/crates/rt1553_{program/out/rt1553_program,tool_program/out/rt1553_tool_program}

@@ -39,8 +39,9 @@ PARTS = ("src", "specs", "proofs")
 # the first line of a function, and of a block of methods with the type that it is for
 HEAD = re.compile(r"^( *)(?:pub(?:\(\w+\))? )?(?:const )?fn (\w+)", re.M)
 OWNER = re.compile(r"^( *)(?:impl|trait)\b(?:[^\n{]*[ >])?(\w+)(?:<[^\n{]*>)? \{$", re.M)
-# an error in an answer by hand: the file, and the answer's name
+# an error in an answer by hand: the file, and the answer's name; and one for answers that name such an answer: their names
 UNFIT = re.compile(r"^(?:\./)?(proofs/\S+/Answers\.antt):\d+:\d+: error: `([^`]+)`: ")
+UNREAD = re.compile(r"^(?:\./)?(proofs/\S+/Answers\.antt):\d+:\d+: error: \d+ declarations? that depends? on .* not checked: (.+)$")
 
 
 def read(path):
@@ -154,8 +155,9 @@ class Answer:
         return f"{name}: {next(errors, said)}"
 
     def unfit_answers(self):
-        """The answers by hand that don't fit their goals: the file and the name of each."""
-        return {(it[1], it[2]) for it in map(UNFIT.match, self.lines) if it}
+        """The answers by hand that don't fit their goals, and those that rest on them: the file and the name of each."""
+        unfit = {(it[1], it[2]) for it in map(UNFIT.match, self.lines) if it}
+        return unfit | {(it[1], name) for it in map(UNREAD.match, self.lines) if it for name in it[2].split(", ")}
 
     def names(self, functions):
         """How the functions are named here, those for which one name alone fits."""
@@ -221,18 +223,25 @@ class Crate:
         how = {"stdin": subprocess.DEVNULL, "stdout": subprocess.PIPE, "stderr": subprocess.STDOUT, "errors": "replace"}
         return Answer(subprocess.run(self.words(), cwd=place, **how))
 
-    def refused_by_contracts(self, texts):
-        """What the prover says of the crate with these texts, once the answers by hand that don't fit them are gone."""
-        answer, texts = self.checked(texts), dict(texts)
-        while unfit := {it for it in answer.unfit_answers() if texts.get(it[0], "") is not None}:
-            before = dict(texts)
+    def refused_by_contracts(self, texts, answers=()):
+        """What the prover says of the crate with these texts, once the answers by hand that don't fit them are gone; and
+        the files of answers that had to change, with those of `answers`, which had to before."""
+        answers = dict(answers)
+        answer = self.checked({**texts, **answers})
+        while unfit := {it for it in answer.unfit_answers() if answers.get(it[0], "") is not None}:
+            before = dict(answers)
             for file, name in unfit:
-                text = texts.get(file, "") or read(f"{self.folder}/{file}")
-                texts[file] = without_answer(text, name)
-            if texts == before:
+                text = answers.get(file, "") or texts.get(file) or read(f"{self.folder}/{file}")
+                answers[file] = without_answer(text, name)
+            if answers == before:
                 break
-            answer = self.checked(texts)
-        return answer
+            answer = self.checked({**texts, **answers})
+        return answer, answers
+
+    def is_proof_of(self, file, functions):
+        """Whether a file of answers is of one of these functions."""
+        told = "::".join([self.name, *file.split("/")[1:-1]])
+        return any(it.is_told_by(told) for it in functions)
 
     def with_bodies(self, edits):
         """The files with the bodies of these edits, no two of one function."""
@@ -243,32 +252,36 @@ class Crate:
         return texts
 
     def tried_together(self, edits):
-        """Tries edits of bodies, in each check one of each function. Returns what was said of those that were refused, and
-        the edits of the last check: a body stays wrong until the next of its function, since what was said of it is kept."""
-        refused, left, wrong = {}, list(edits), {}
+        """Tries edits of bodies, in each check one of each function. Returns what was said of those that were refused, the
+        edits of the last check, and the files of answers that had to change for them: a body stays wrong until the next of
+        its function, since what was said of it is kept."""
+        refused, left, wrong, answers = {}, list(edits), {}, {}
         while left:
             now = {it.function: it for it in reversed(left)}
             wrong.update(now)
-            answer = self.refused_by_contracts(self.with_bodies(wrong.values()))
+            # an answer that didn't fit the function's last body may fit this one
+            answers = {file: text for file, text in answers.items() if not self.is_proof_of(file, now)}
+            answer, answers = self.refused_by_contracts(self.with_bodies(wrong.values()), answers)
             names = answer.names(wrong)
             others = answer.refused_beside(names.values())
             if others or not answer.is_refused:
                 print(f"note: {self.name}: a check of {len(wrong)} edits tells nothing: {[answer.lines[-1], *others][-1]}", flush=True)
-                return refused, {}
+                return refused, {}, {}
             refused.update({now[it].label: said for it in now if (said := answer.own_refusal(names.get(it, "")))})
             left = [it for it in left if it not in now.values()]
-        return refused, wrong
+        return refused, wrong, answers
 
-    def tried_in_its_files(self, edit, wrong):
+    def tried_in_its_files(self, edit, wrong, answers):
         """What was said of a function that is refused for this edit, where the bodies of other files are wrong; or ''."""
         others = {function: it for function, it in wrong.items() if function.file not in edit.texts}
-        answer = self.refused_by_contracts({**self.with_bodies(others.values()), **edit.texts})
+        answers = {file: text for file, text in answers.items() if self.is_proof_of(file, others)}
+        answer, _ = self.refused_by_contracts({**self.with_bodies(others.values()), **edit.texts}, answers)
         refused = answer.refused_beside(answer.names(others).values())
         return refused[0] if refused and answer.is_refused else ""
 
     def tried_alone(self, edit):
         """Whether the prover refuses the crate with the edit alone, and what it said."""
-        answer = self.refused_by_contracts(edit.texts)
+        answer, _ = self.refused_by_contracts(edit.texts)
         said = next((it for it in answer.lines if re.match(r"(note: )?\S+:\d+:\d+:", it)), answer.lines[-1])
         if answer.is_proved:
             return False, "NOT REFUSED: the crate is proved with this edit"
@@ -285,7 +298,7 @@ class Crate:
 
     def tried(self):
         """Each edit's label, whether it is refused, and why."""
-        refused, wrong = self.tried_together([it for it in self.edits if it.function and not it.error])
+        refused, wrong, answers = self.tried_together([it for it in self.edits if it.function and not it.error])
         for it in self.edits:
             if it.fault:
                 yield it.label, False, f"BAD EDIT: {it.fault}"
@@ -293,7 +306,7 @@ class Crate:
             if it.error:
                 yield it.label, *self.not_compiled(it)
                 continue
-            said = refused.get(it.label) or (not it.function and self.tried_in_its_files(it, wrong))
+            said = refused.get(it.label) or (not it.function and self.tried_in_its_files(it, wrong, answers))
             yield it.label, *((True, said) if said else self.tried_alone(it))
 
 

@@ -1,4 +1,3 @@
-//! Texts with what reading them answers, row by row.
-mod accepted;
+//! Ranges, and faults of profiles.
+mod faults;
 mod ranges;
-mod refused;

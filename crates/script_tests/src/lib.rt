@@ -1,4 +1,4 @@
-//! The tests of scripts and of canonical texts. They stand in a crate of their own, since a crate with tests is
+//! The tests of scripts, and of the faults of canonical texts. They stand in a crate of their own, since a crate with tests is
 //! proved twice.
 #![tactic(auto)]
 
