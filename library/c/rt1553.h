@@ -6,7 +6,7 @@
    Statuses. Each call but rt1553_version returns one of RT1553_DONE, RT1553_DIFFER, RT1553_REFUSED, RT1553_NO_MEMORY and
    RT1553_NO_ROOM. With RT1553_REFUSED and RT1553_NO_MEMORY *fault says why; with all others it stays as it was.
 
-   Pointers. No pointer may be null, but for one with a length or a room of 0. A call reads and writes only what its
+   Pointers. No pointer may be null, also not one with a length or a room of 0. A call reads and writes only what its
    pointers name, and keeps none of them. What it writes to may not overlap with anything else that it is given.
 
    Threads. There is no global state, so calls may be made by any number of threads at once. A terminal takes one call at

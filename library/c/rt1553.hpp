@@ -84,7 +84,10 @@ class answer_view {
 
 namespace detail {
 
-inline const std::uint8_t *at(std::string_view text) { return reinterpret_cast<const std::uint8_t *>(text.data()); }
+// an empty view may be null, which no pointer may be that crosses
+inline const std::uint8_t *at(std::string_view text) {
+    return reinterpret_cast<const std::uint8_t *>(text.empty() ? "" : text.data());
+}
 inline std::uint8_t *at(std::string &text) { return reinterpret_cast<std::uint8_t *>(text.data()); }
 
 // throws where a call was not done

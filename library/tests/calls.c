@@ -70,7 +70,7 @@ static void checks(void) {
     row("its fault", tells(&fault, RT1553_OF_PROFILE, 2, 0, "profile: root: unknown key\n"));
     row("a refused canonical text", rt1553_check(TEXT("rt1553 2\naddress 31\n"), &fault) == RT1553_REFUSED);
     row("its line", tells(&fault, RT1553_OF_CANONICAL_TEXT, 1, 2, "canonical text: line 2\n"));
-    row("no text", rt1553_check(NULL, 0, &fault) == RT1553_REFUSED);
+    row("no text", rt1553_check(bytes(""), 0, &fault) == RT1553_REFUSED);
     row("its address is missing", tells(&fault, RT1553_OF_PROFILE, 3, 0, "profile: root: address is missing\n"));
 }
 
@@ -86,7 +86,7 @@ static void canonical_texts(void) {
     row("a byte of room too few", rt1553_canonical(TEXT(WHOLE), again, length - 1, &other, &fault) == RT1553_NO_ROOM);
     row("what is needed is told", other == length && is_untouched(&fault) && again[0] == 0xa5 && again[length - 2] == 0xa5);
     row("just enough room", rt1553_canonical(TEXT(WHOLE), again, length, &other, &fault) == RT1553_DONE && other == length);
-    row("no room", rt1553_canonical(TEXT(FIVE), NULL, 0, &other, &fault) == RT1553_NO_ROOM && other > 0);
+    row("no room", rt1553_canonical(TEXT(FIVE), again, 0, &other, &fault) == RT1553_NO_ROOM && other > 0);
     row("a refused text", rt1553_canonical(TEXT(REFUSED), to, sizeof to, &other, &fault) == RT1553_REFUSED && other == 0);
     row("its fault", fault.kind == RT1553_OF_PROFILE && fault.number == 2);
 }
@@ -119,7 +119,7 @@ static void runs(void) {
     row("a refused line", rt1553_run(TEXT(FIVE), TEXT(wrong), to, sizeof to, &length, &fault) == RT1553_REFUSED);
     row("its number", length == 9 && tells(&fault, RT1553_OF_SCRIPT, 1, 4, "script: line 4\n"));
     row("a refused text", rt1553_run(TEXT(REFUSED), TEXT(script), to, sizeof to, &length, &fault) == RT1553_REFUSED && length == 0);
-    row("no script", rt1553_run(TEXT(FIVE), NULL, 0, NULL, 0, &length, &fault) == RT1553_DONE && length == 0);
+    row("no script", rt1553_run(TEXT(FIVE), TEXT(""), to, 0, &length, &fault) == RT1553_DONE && length == 0);
 }
 
 static int is_answer(const rt1553_terminal *terminal, uint8_t what, uint8_t bus, uint16_t bits) {
@@ -230,7 +230,7 @@ static void batches(void) {
     row("their answers", answered == 2 && places[0] == 2 && places[1] == 6 && answers[1].bits == 0x2800);
     row("a full room", rt1553_terminal_play(t, events, 7, answers, places, 1, &answered) == 3 && answered == 1);
     row("those behind", rt1553_terminal_play(t, events + 3, 4, answers, places, 1, &answered) == 4 && places[0] == 3);
-    row("no room", rt1553_terminal_play(t, events, 7, NULL, NULL, 0, &answered) == 0 && answered == 0);
+    row("no room", rt1553_terminal_play(t, events, 7, answers, places, 0, &answered) == 0 && answered == 0);
     rt1553_terminal_free(t);
 }
 

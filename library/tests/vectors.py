@@ -1,5 +1,5 @@
 #!/usr/bin/env python3
-"""Plays the cases of tests/vectors and the scripts of examples/ to a player: vectors.py WORD..
+"""Plays the cases of tests/vectors, those of FOLDER, and the scripts of examples/ to a player: vectors.py FOLDER WORD..
 
 A player is a program with the words of `rt1553` (WORD.. is how it is run): the last line is 'N passed, M failed'.
 """
@@ -18,22 +18,22 @@ def run(player, words, folder):
     return done.returncode, done.stdout, done.stderr
 
 
-def cases():
+def cases(folder):
     """Each case: its name, its folder, its words, and what is wanted. Those that need a file which isn't there are left out."""
-    for path in sorted(TOP.glob("tests/vectors/*/*.args")):
+    for path in sorted([*TOP.glob("tests/vectors/*/*.args"), *pathlib.Path(folder).glob("*.args")]):
         words = path.read_text().split("\n")[:-1]
         if words and words[0] in WORDS and all((path.parent / name).exists() for name in words[1:]):
             wanted = [path.with_suffix(kind).read_bytes() for kind in (".status", ".stdout", ".stderr")]
-            yield path.relative_to(TOP), path.parent, words, (int(wanted[0]), *wanted[1:])
+            yield path, path.parent, words, (int(wanted[0]), *wanted[1:])
     for path in sorted(TOP.glob("examples/scripts/*.script")):
         profile = path.read_text().split("\n")[0].split(": ")[1]
         wanted = (0, path.with_suffix(".transcript").read_bytes(), b"")
-        yield path.relative_to(TOP), TOP, ["run", f"examples/profiles/{profile}", path], wanted
+        yield path, TOP, ["run", f"examples/profiles/{profile}", path], wanted
 
 
-def main(*player):
+def main(more, *player):
     passed = failed = 0
-    for name, folder, words, wanted in cases():
+    for name, folder, words, wanted in cases(more):
         if (found := run(player, words, folder)) == wanted:
             passed += 1
         else:
@@ -44,4 +44,4 @@ def main(*player):
 
 
 if __name__ == "__main__":
-    sys.exit(main(*sys.argv[1:]) if len(sys.argv) > 1 else __doc__)
+    sys.exit(main(*sys.argv[1:]) if len(sys.argv) > 2 else __doc__)
