@@ -3,7 +3,7 @@
 #
 #     scripts/library.sh build [BUILT]   proves the calls in BUILT, a copy of this repository, or here, and leaves the library in
 #                                        BUILT/bin/library: include/, lib/ with its pkg-config file, python/ and the wheel
-#     scripts/library.sh install         copies what `build` left here to $DESTDIR$PREFIX; PREFIX is /usr/local where it isn't set
+#     scripts/library.sh install [BUILT] copies what `build` left there to $DESTDIR$PREFIX; PREFIX is /usr/local where it isn't set
 set -euo pipefail
 top=$(realpath "$(dirname "$0")/..")
 
@@ -58,7 +58,7 @@ build() {
 }
 
 install_library() {
-    local from=$top/bin/library to=${DESTDIR:-}${PREFIX:-/usr/local} file
+    local from=${1:-"$top"}/bin/library to=${DESTDIR:-}${PREFIX:-/usr/local} file
     [[ -e $from/lib/librt1553.a ]] || { echo "scripts/library.sh: build the library first" >&2; exit 1; }
     for file in include/rt1553.h include/rt1553.hpp lib/librt1553.a; do
         install -D -m 644 "$from/$file" "$to/$file"
@@ -72,6 +72,6 @@ install_library() {
 
 case ${1:-} in
     build) build "${2:-}" ;;
-    install) install_library ;;
-    *) sed -n '2,7s/^# \{0,1\}//p' "$0" >&2; exit 3 ;;
+    install) install_library "${2:-}" ;;
+    *) sed -n '4,7s/^# \{0,1\}//p' "$0" >&2; exit 3 ;;
 esac

@@ -7,8 +7,8 @@ fn main() -> Result<(), Fault> {
     terminal.step(Event::word(Bus::A, Sync::Command, 0x2c02))?;
     terminal.step(Event::Gap(Bus::A))?;
     // the reply: in each slot a word, till there are no more
-    while let Answer::Sends { bus, bits, .. } = terminal.step(Event::Slot)? {
-        println!("{bus:?} {bits:04x}");
+    while let Answer::Sends { bus, sync, bits } = terminal.step(Event::Slot)? {
+        println!("{bus:?} {} {bits:04x}", if sync == Sync::Command { 's' } else { 'd' });
     }
     Ok(())
 }
