@@ -96,9 +96,9 @@ uint8_t rt1553_compare(const uint8_t *first, size_t first_length, const uint8_t 
 
 /* Plays a script (docs/script.md) to the terminal of a text, from power-up, and writes the transcript to the front of `to`,
    and to *length the number of its bytes. RT1553_DONE: the whole script. RT1553_REFUSED: the text is refused, *length is 0;
-   or a line of the script, and the transcript of the lines before it is there. RT1553_NO_ROOM and RT1553_NO_MEMORY: a
-   beginning of the transcript is there, and neither says anything of the texts. The transcript is gathered in memory of its
-   own before it is written to `to`. */
+   or a line of the script, and the transcript of the lines before it is there. RT1553_NO_ROOM: the text is accepted, and a
+   beginning of the transcript is there; RT1553_NO_MEMORY: at most that. Neither says anything of the script. The transcript is
+   gathered in memory of its own before it is written to `to`; where that is wanting, the fault is RT1553_OF_SCRIPT, number 5. */
 uint8_t rt1553_run(const uint8_t *text, size_t text_length, const uint8_t *script, size_t script_length, uint8_t *to,
                    size_t room, size_t *length, rt1553_fault *fault);
 
