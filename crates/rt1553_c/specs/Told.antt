@@ -1,0 +1,52 @@
+-- What a call tells with its status.
+use Rattle.std.specs.Prelude.{◌≡◌, ◌<◌, ◌⊎◌, ℕ, List, [], Some, Option, length}
+use Rattle.bus_legal.specs.Description.{Description}
+use Rattle.terminal_rules.specs.declared.event.Event.{Event}
+use Rattle.rt1553.specs.declared.fault.LoadFault.{LoadFault}
+use Rattle.rt1553.specs.declared.fault.LoadFault.TheVariants as load
+use Rattle.rt1553.specs.declared.fault.EngineFault.{EngineFault}
+use Rattle.rt1553.specs.declared.fault.EngineFault.TheVariants.{Load}
+use Rattle.rt1553.specs.Load.{Of, IsNotLoaded}
+use Rattle.rt1553.specs.Canon.{IsCanon}
+use Rattle.rt1553.specs.Compare.{AreDifferent}
+use Rattle.rt1553.specs.Engine.{Completes, StopsBy, OnLoad, OnScript}
+use Rattle.rt1553.specs.Report.{exit_status_of}
+use Rattle.rt1553_live.specs.PlainFault.{Tells}
+use Rattle.rt1553_live.specs.declared.fault.PlainFault.{PlainFault}
+
+-- A fault for which this holds is told by its numbers and its line, with the status of the program `rt1553` for it: 2
+-- where a text is refused, 4 where memory was wanting.
+pub record IsTold (Why : LoadFault → Type 0) (to : PlainFault) (status : ℕ) : Type 0 where
+  pub fault : LoadFault
+  pub why : Why fault
+  pub tells : Tells to (Load fault)
+  pub answers : status ≡ exit_status_of (Load fault)
+
+-- the text is refused by this fault, its first, or memory was wanting
+abbrev pub IsNotWritten : List ℕ → LoadFault → Type 0
+IsNotWritten text fault = (fault ≡ load.Memory) ⊎ IsNotLoaded text fault
+
+-- the text is accepted, and its canonical bytes are this many, which is more than the room
+pub record IsTooLong (text : List ℕ) (needed room : ℕ) : Type 0 where
+  pub bytes : List ℕ
+  pub canon : IsCanon text bytes
+  pub counts : needed ≡ length bytes
+  pub more : room < needed
+
+-- the two texts are not of the same terminal
+abbrev pub Differ : List ℕ → List ℕ → Type 0
+Differ first second = (script : List Event) × AreDifferent first second script
+
+-- the text is accepted, and this is the transcript of the whole script
+abbrev pub RunsThrough : List ℕ → List ℕ → List ℕ → Type 0
+RunsThrough profile script transcript = (P : Description) × Of profile P × (n : ℕ) × Completes P script (Some []) (Some transcript) n
+
+-- Where a run was stopped: by the profile, of which this is the first fault; or by the script, or want of memory, behind
+-- the events whose transcript this is.
+pub record IsStopped (profile script transcript : List ℕ) (to : PlainFault) (status : ℕ) : Type 0 where
+  pub fault : EngineFault
+  pub left : Option (List ℕ)
+  pub not_loaded : OnLoad fault (λ f. IsNotLoaded profile f × (transcript ≡ []))
+  pub stopped : OnScript fault (λ f. (P : Description) × Of profile P × StopsBy P script (Some script) left (Some []) (Some transcript) f)
+  pub tells : Tells to fault
+  pub answers : status ≡ exit_status_of fault

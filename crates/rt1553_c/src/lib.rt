@@ -1,0 +1,214 @@
+//! The calls of `rt1553.h`, for programs in C and in languages that call C. A status is as that of the program `rt1553`: 0
+//! done, or the same; 1 the two differ; 2 refused; 4 memory was wanting; and 5 where the room that the caller gives was too
+//! small. With 2 and 4 the fault is told; with the others it stays as it was.
+#![tactic(auto)]
+
+ghost use Rattle.std.specs.Prelude.{◌≡◌, ◌≢◌, ℕ, List, length, take};
+ghost use Rattle.std.specs.Borrow.{full_share, sem};
+ghost use Rattle.std.specs.Ptr.{lies_at};
+ghost use base.Fml.{ftrue, fsep, fex};
+ghost use Rattle.bus_legal.specs.Description.{Description};
+ghost use Rattle.terminal_rules.specs.declared.event.Event.{Event};
+ghost use Rattle.rt1553.specs.Load.{Of, IsNotLoaded};
+ghost use Rattle.rt1553.specs.Canon.{IsCanon};
+ghost use Rattle.rt1553.specs.Compare.{AreSame, AreDifferent, IsNotCompared};
+ghost use Rattle.rt1553.specs.Report.{exit_status_of};
+ghost use Rattle.rt1553_live.specs.PlainFault.{Tells};
+ghost use Rattle.rt1553_live.specs.declared.live.Live.{Live};
+ghost use Rattle.rt1553_live.specs.contracts.live.Live.{the_row};
+ghost use Rattle.rt1553_live.specs.Live.{Steps};
+ghost use Rattle.rt1553_c.specs.Scripts.{script_text};
+ghost use Rattle.rt1553_c.specs.Told.{IsTold, IsNotWritten, IsTooLong, Differ, RunsThrough, IsStopped};
+
+mod kept;
+mod room;
+
+use kept::Kept;
+use room::{put, put_script};
+use rt1553::{EngineFault, LoadFault, MemorySource, Verdict, canonical, compare, load, run};
+use rt1553_live::{Live, PlainAnswer, PlainEvent, PlainFault, new_live, step_live, tell_fault};
+use std::alloc::Global;
+
+const DONE: u8 = 0;
+
+const DIFFER: u8 = 1;
+
+const NO_ROOM: u8 = 5;
+
+/// The version of the library.
+#[repr(C)]
+#[derive(Clone, Copy, Drop, PartialEq, Eq, Debug)]
+pub struct Version {
+    pub major: u16,
+    pub minor: u16,
+    /// The version of the canonical texts that are written. Those of earlier versions are read.
+    pub canonical_text: u16,
+}
+
+/// What C sees of a terminal: the event that is played next, and what was answered last.
+#[repr(C)]
+#[derive(Drop)]
+pub struct Front {
+    pub event: PlainEvent,
+    pub answer: PlainAnswer,
+}
+
+/// The version of the library.
+#[unsafe(no_mangle)]
+pub extern "C" fn rt1553_version(version: &mut Version)
+    ensures { version.new ≡ record { major = 0; minor = 1; canonical_text = 2 } }
+{
+    *version = Version {
+        major: 0,
+        minor: 1,
+        canonical_text: 2,
+    };
+}
+
+/// Tells why a text is not loaded, and gives the status for it.
+fn told(fault: &mut PlainFault, why: LoadFault) -> u8
+    ensures told { Tells fault.new (EngineFault.Load why) }
+    ensures status { result ≡ exit_status_of (EngineFault.Load why) }
+    ensures not_done { result ≢ DONE }
+    ensures not_compared { result ≢ DIFFER }
+    ensures not_room { result ≢ NO_ROOM }
+{
+    tell_fault(fault, &EngineFault::Load(why))
+}
+
+/// Says whether a profile text or a canonical text is accepted.
+#[unsafe(no_mangle)]
+pub extern "C" fn rt1553_check(alloc: Global, text: &[u8], fault: &mut PlainFault) -> u8
+    ensures accepted { result ≡ DONE → (P : Description) × Of text.now P × (fault.new ≡ fault.old) }
+    ensures refused { result ≢ DONE → IsTold (IsNotLoaded text.now) fault.new result }
+{
+    match load(alloc, text) {
+        Ok(_) => DONE,
+        Err(why) => told(fault, why),
+    }
+}
+
+/// Writes the canonical bytes of a text at the front of the room, and how many they are. Where the room is too small it
+/// stays as it was.
+#[unsafe(no_mangle)]
+pub extern "C" fn rt1553_canonical(
+    alloc: Global,
+    text: &[u8],
+    to: &mut [u8],
+    filled: &mut usize,
+    fault: &mut PlainFault,
+) -> u8
+    ensures canonical { result ≡ DONE → IsCanon text.now (take filled.new to.new) × (fault.new ≡ fault.old) }
+    ensures no_room { result ≡ NO_ROOM → IsTooLong text.now filled.new (length to.old) × (to.new ≡ to.old) × (fault.new ≡ fault.old) }
+    ensures refused { result ≢ DONE → result ≢ NO_ROOM → IsTold (IsNotWritten text.now) fault.new result × (to.new ≡ to.old) }
+{
+    *filled = 0;
+    match canonical(alloc, text) {
+        Ok(bytes) => {
+            if put(to, filled, bytes.as_slice()) {
+                DONE
+            } else {
+                *filled = bytes.len();
+                NO_ROOM
+            }
+        }
+        Err(why) => told(fault, why),
+    }
+}
+
+/// Says whether two texts mean the same terminal. Where they don't, writes a script that shows it at the front of the room,
+/// its lines with their line feeds, and how many bytes it has.
+#[unsafe(no_mangle)]
+pub extern "C" fn rt1553_compare(
+    alloc: Global,
+    first: &[u8],
+    second: &[u8],
+    to: &mut [u8],
+    filled: &mut usize,
+    fault: &mut PlainFault,
+) -> u8
+    ensures same { result ≡ DONE → AreSame first.now second.now × (fault.new ≡ fault.old) }
+    ensures differ { result ≡ DIFFER → (script : List Event) × AreDifferent first.now second.now script
+        × (take filled.new to.new ≡ script_text script) × (fault.new ≡ fault.old) }
+    ensures no_room { result ≡ NO_ROOM → Differ first.now second.now × (fault.new ≡ fault.old) }
+    ensures refused { result ≢ DONE → result ≢ DIFFER → result ≢ NO_ROOM → IsTold (IsNotCompared first.now second.now) fault.new result }
+{
+    *filled = 0;
+    match compare(alloc, first, second) {
+        Ok(Verdict::Same) => DONE,
+        Ok(Verdict::Differ(script)) => {
+            if put_script(to, filled, script.as_slice()) {
+                DIFFER
+            } else {
+                NO_ROOM
+            }
+        }
+        Err(why) => told(fault, why),
+    }
+}
+
+/// Plays a script to the terminal of a text, from power-up, and writes its transcript at the front of the room, and how many
+/// bytes it has. Where the run is stopped, the transcript so far is there.
+#[unsafe(no_mangle)]
+pub extern "C" fn rt1553_run(
+    alloc: Global,
+    profile: &[u8],
+    script: &[u8],
+    to: &mut [u8],
+    filled: &mut usize,
+    fault: &mut PlainFault,
+) -> u8
+    ensures done { result ≡ DONE → RunsThrough profile.now script.now (take filled.new to.new) × (fault.new ≡ fault.old) }
+    ensures stopped { result ≢ DONE → result ≢ NO_ROOM → IsStopped profile.now script.now (take filled.new to.new) fault.new result }
+    ensures no_room { result ≡ NO_ROOM → fault.new ≡ fault.old }
+{
+    *filled = 0;
+    let mut source = MemorySource::new(script, usize::MAX, None);
+    let mut sink = Kept::new(alloc, to.len());
+    let answer = run(alloc, profile, &mut source, &mut sink);
+    if !put(to, filled, sink.as_slice()) {
+        return NO_ROOM;
+    }
+    match answer {
+        Ok(_) => DONE,
+        Err(why) => {
+            if sink.is_full() {
+                NO_ROOM
+            } else {
+                tell_fault(fault, &why)
+            }
+        }
+    }
+}
+
+/// Makes the terminal of a text, at power-up, in a block of the C library's. Where it isn't made, `to` stays as it was.
+#[unsafe(no_mangle)]
+pub extern "C" fn rt1553_terminal_new(
+    alloc: Global,
+    text: &[u8],
+    to: &mut *mut Front,
+    fault: &mut PlainFault,
+) -> u8
+    ensures made { result ≡ DONE → (P : Description) × Of text.now P × (fault.new ≡ fault.old) }
+    ensures refused { result ≢ DONE → IsTold (IsNotWritten text.now) fault.new result × (to.new ≡ to.old) }
+{
+    match new_live(alloc, text) {
+        Ok(live) => {
+            *to = Box::into_raw(live) as *mut Front;
+            DONE
+        }
+        Err(why) => told(fault, why),
+    }
+}
+
+/// Plays the event that stands in front of the terminal, and leaves there what is answered: 0. The status is 2 where the
+/// numbers mean no event, and then nothing changes.
+#[unsafe(no_mangle)]
+pub unsafe extern "C" fn rt1553_terminal_step(terminal: *mut Front) -> u8
+    ghost x: { Live }
+    requires* { sem 𝓛 (lies_at the_row full_share terminal x) }
+    ensures* { sem 𝓛 (fex Live (λ w. fsep (lies_at the_row full_share terminal w) (fex (Steps x result w) (λ _. ftrue)))) }
+{
+    let live = terminal as *mut Live;
+    step_live(unsafe { &mut *live })
+}

@@ -1,0 +1,4 @@
+pub mod PlainEvent
+pub mod PlainAnswer
+pub mod PlainFault
+pub mod Live

@@ -1,0 +1,15 @@
+//! A terminal for callers in other languages: it is stepped by events that are plain numbers, and what it answers and why
+//! a text is refused are plain numbers too.
+#![tactic(auto)]
+
+mod answer;
+mod event;
+mod fault;
+mod live;
+#[cfg(test)]
+mod tests;
+
+pub use answer::PlainAnswer;
+pub use event::{PlainEvent, event_of};
+pub use fault::{PlainFault, tell_fault};
+pub use live::{Live, new_live, step_live};

@@ -1,0 +1,143 @@
+//! The calls and structs of `rt1553.h`, which says what they mean and what their callers owe.
+#![no_std]
+#![allow(non_camel_case_types)]
+
+pub const RT1553_DONE: u8 = 0;
+pub const RT1553_DIFFER: u8 = 1;
+pub const RT1553_REFUSED: u8 = 2;
+pub const RT1553_NO_MEMORY: u8 = 4;
+pub const RT1553_NO_ROOM: u8 = 5;
+
+pub const RT1553_CANONICAL_ROOM: usize = 7680;
+pub const RT1553_SCRIPT_ROOM: usize = 4608;
+
+pub const RT1553_RIGHT_PARITY: u8 = 2;
+
+pub const RT1553_WORD: u8 = 0;
+pub const RT1553_NOISE: u8 = 1;
+pub const RT1553_GAP: u8 = 2;
+pub const RT1553_WRITE: u8 = 3;
+pub const RT1553_VECTOR: u8 = 4;
+pub const RT1553_BIT: u8 = 5;
+pub const RT1553_FLAG: u8 = 6;
+pub const RT1553_SLOT: u8 = 7;
+
+pub const RT1553_SILENT: u8 = 0;
+pub const RT1553_SENDS_STATUS: u8 = 1;
+pub const RT1553_SENDS_DATA: u8 = 2;
+pub const RT1553_HANDS_RECEIVED: u8 = 3;
+pub const RT1553_HANDS_SYNCHRONIZE: u8 = 4;
+pub const RT1553_HANDS_SYNCHRONIZE_WITH: u8 = 5;
+pub const RT1553_HANDS_SELF_TEST: u8 = 6;
+pub const RT1553_HANDS_BUS_CONTROL: u8 = 7;
+
+#[repr(C)]
+#[derive(Clone, Copy, Debug, Default, PartialEq, Eq)]
+pub struct rt1553_versions {
+    pub major: u16,
+    pub minor: u16,
+    pub canonical_text: u16,
+}
+
+#[repr(C)]
+#[derive(Clone, Copy)]
+pub struct rt1553_fault {
+    pub kind: u8,
+    pub number: u8,
+    pub length: u8,
+    pub line: u64,
+    pub text: [u8; 136],
+}
+
+#[repr(C)]
+#[derive(Clone, Copy, Debug, Default, PartialEq, Eq)]
+pub struct rt1553_event {
+    pub what: u8,
+    pub bus: u8,
+    pub sync: u8,
+    pub parity: u8,
+    pub subaddress: u8,
+    pub number: u8,
+    pub flag: u8,
+    pub value: u8,
+    pub bits: u16,
+}
+
+#[repr(C)]
+#[derive(Clone, Copy, Debug, Default, PartialEq, Eq)]
+pub struct rt1553_answer {
+    pub what: u8,
+    pub bus: u8,
+    pub bits: u16,
+    pub broadcast: bool,
+    pub subaddress: u8,
+    pub count: u8,
+    pub words: [u16; 32],
+}
+
+#[repr(C)]
+pub struct rt1553_terminal {
+    pub event: rt1553_event,
+    pub answer: rt1553_answer,
+}
+
+const _: () = assert!(size_of::<rt1553_event>() == 10 && size_of::<rt1553_answer>() == 72 && size_of::<rt1553_fault>() == 152);
+
+extern "C" {
+    pub fn rt1553_version(version: *mut rt1553_versions);
+    pub fn rt1553_check(text: *const u8, text_length: usize, fault: *mut rt1553_fault) -> u8;
+    pub fn rt1553_canonical(
+        text: *const u8,
+        text_length: usize,
+        to: *mut u8,
+        room: usize,
+        length: *mut usize,
+        fault: *mut rt1553_fault,
+    ) -> u8;
+    pub fn rt1553_compare(
+        first: *const u8,
+        first_length: usize,
+        second: *const u8,
+        second_length: usize,
+        to: *mut u8,
+        room: usize,
+        length: *mut usize,
+        fault: *mut rt1553_fault,
+    ) -> u8;
+    pub fn rt1553_run(
+        text: *const u8,
+        text_length: usize,
+        script: *const u8,
+        script_length: usize,
+        to: *mut u8,
+        room: usize,
+        length: *mut usize,
+        fault: *mut rt1553_fault,
+    ) -> u8;
+    pub fn rt1553_terminal_new(
+        text: *const u8,
+        text_length: usize,
+        terminal: *mut *mut rt1553_terminal,
+        fault: *mut rt1553_fault,
+    ) -> u8;
+    pub fn rt1553_terminal_step(terminal: *mut rt1553_terminal) -> u8;
+    pub fn rt1553_terminal_play(
+        terminal: *mut rt1553_terminal,
+        events: *const rt1553_event,
+        count: usize,
+        answers: *mut rt1553_answer,
+        places: *mut usize,
+        room: usize,
+        answered: *mut usize,
+    ) -> usize;
+    fn free(block: *mut core::ffi::c_void);
+}
+
+/// Gives the memory of a terminal back.
+///
+/// # Safety
+///
+/// The terminal was made by `rt1553_terminal_new`, and isn't used again.
+pub unsafe fn rt1553_terminal_free(terminal: *mut rt1553_terminal) {
+    free(terminal.cast());
+}

@@ -1,0 +1,77 @@
+#!/usr/bin/env bash
+# The terminal as a library for C, C++, Python and Rust.
+#
+#     scripts/library.sh build [BUILT]   proves the calls in BUILT, a copy of this repository, or here, and leaves the library in
+#                                        BUILT/bin/library: include/, lib/ with its pkg-config file, python/ and the wheel
+#     scripts/library.sh install [BUILT] copies what `build` left there to $DESTDIR$PREFIX; PREFIX is /usr/local where it isn't set
+set -euo pipefail
+top=$(realpath "$(dirname "$0")/..")
+
+# says what is missing, and ends
+needs() {
+    local tool
+    for tool in "$@"; do
+        command -v "$tool" >/dev/null || { echo "scripts/library.sh: $tool is missing" >&2; exit 1; }
+    done
+}
+
+# one object file with the calls of the header and no other name for the linker: whole_object TO FILE..
+whole_object() {
+    local to=$1
+    shift
+    ld -r -o "$to" --whole-archive "$@"
+    objcopy --wildcard --keep-global-symbol='rt1553_*' "$to"
+}
+
+# the newest version of the C library that a shared library asks for: newest_glibc FILE
+newest_glibc() { objdump -T "$1" | grep -o 'GLIBC_[0-9.]*' | sort -V | tail -n 1 | sed s/GLIBC_//; }
+
+build() {
+    local built to kit version
+    built=$(realpath "${1:-"$top"}")
+    to=$built/bin/library
+    needs rt cc ar ld objcopy objdump python3
+    (cd "$built/crates/rt1553_c" && rt lib)
+    # the calls of malloc, realloc and free that the toolchain brings
+    kit=$(dirname "$(rt doc)")/c/liblibc_c.a
+
+    rm -rf "$to"
+    mkdir -p "$to"/{include,lib/pkgconfig,python}
+    cp "$top"/library/c/rt1553.{h,hpp} "$to/include"
+    cc -O2 -fPIC -Wall -Wextra -Werror -c -o "$to/batch.o" "$top/library/c/rt1553_batch.c"
+    whole_object "$to/rt1553.o" "$built/crates/rt1553_c/out/librt1553_c.a" "$kit" "$to/batch.o"
+    ar rcs "$to/lib/librt1553.a" "$to/rt1553.o"
+    cc -shared -o "$to/lib/librt1553.so.0" -Wl,-soname,librt1553.so.0 -Wl,--version-script="$top/library/c/rt1553.map" \
+        -Wl,-z,defs,-z,text "$to/rt1553.o"
+    ln -s librt1553.so.0 "$to/lib/librt1553.so"
+    rm "$to"/{batch,rt1553}.o
+
+    cp -r "$top/library/python/rt1553" "$to/python"
+    rm -rf "$to/python/rt1553/__pycache__"
+    cp "$to/lib/librt1553.so.0" "$to/python/rt1553/librt1553.so"
+    version=$(PYTHONDONTWRITEBYTECODE=1 PYTHONPATH=$to/python python3 -c 'import rt1553; print("{}.{}".format(*rt1553.version()))')
+    sed "s/@VERSION@/$version/" "$top/library/c/rt1553.pc.in" >"$to/lib/pkgconfig/rt1553.pc"
+    # the wheel says which C library it needs
+    [[ $(printf '%s\n2.17\n' "$(newest_glibc "$to/lib/librt1553.so.0")" | sort -V | tail -n 1) == 2.17 ]] \
+        || { echo "scripts/library.sh: the shared library needs a newer C library than its wheel says" >&2; exit 1; }
+    python3 "$top/library/python/wheel.py" "$to/python" "$to" "$version" manylinux_2_17_x86_64
+}
+
+install_library() {
+    local from=${1:-"$top"}/bin/library to=${DESTDIR:-}${PREFIX:-/usr/local} file
+    [[ -e $from/lib/librt1553.a ]] || { echo "scripts/library.sh: build the library first" >&2; exit 1; }
+    for file in include/rt1553.h include/rt1553.hpp lib/librt1553.a; do
+        install -D -m 644 "$from/$file" "$to/$file"
+    done
+    install -D -m 755 "$from/lib/librt1553.so.0" "$to/lib/librt1553.so.0"
+    ln -sf librt1553.so.0 "$to/lib/librt1553.so"
+    install -d "$to/lib/pkgconfig"
+    sed "s|@PREFIX@|${PREFIX:-/usr/local}|" "$from/lib/pkgconfig/rt1553.pc" >"$to/lib/pkgconfig/rt1553.pc"
+    install -D -m 644 -t "$to/share/rt1553" "$from"/rt1553-*.whl
+}
+
+case ${1:-} in
+    build) build "${2:-}" ;;
+    install) install_library "${2:-}" ;;
+    *) sed -n '4,7s/^# \{0,1\}//p' "$0" >&2; exit 3 ;;
+esac
