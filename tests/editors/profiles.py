@@ -9,6 +9,7 @@ the schema can see doesn't. The last line is 'N passed, M failed'.
 import json
 import pathlib
 import random
+import re
 import subprocess
 import sys
 import tempfile
@@ -164,8 +165,12 @@ def is_hidden(fault, text):
     if fault["name"] == "RequiredCode":
         return True
     if fault["name"] == "OutOfRange":
-        # an item n-m with n greater than m
-        return "-" in fault["message"].split("out of range: ")[-1].split(";")[0]
+        # a text whose numbers are all in range has an item n-m with n greater than m
+        value, allowed = fault["message"].split("out of range: ")[1].split("; allowed is ")
+        if not value.startswith('"') or "ranges" not in allowed:
+            return False
+        low, high = map(int, re.search(r"from (\d+) to (\d+)", allowed).groups())
+        return all(low <= int(it) <= high for it in re.findall(r"\d+", value))
     # words that go beyond the 32 of a subaddress, though they are at most 32
     return fault["name"] == "TooMany" and "words has too many items" in fault["message"] and "at = " in text
 
