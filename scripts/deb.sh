@@ -27,7 +27,7 @@ fi
 doc=$root/usr/share/doc/rt1553
 mkdir -p "$doc"
 gzip -9nc CHANGELOG.md >"$doc/changelog.gz"
-git ls-files examples | while read -r name; do install -D -m 644 "$name" "$doc/$name"; done
+find examples -type f | sort | while read -r name; do install -D -m 644 "$name" "$doc/$name"; done
 # the schema stands elsewhere in a package than beside its profiles
 find "$doc/examples" -name '*.toml' -exec sed -i '1s|^#:schema .*|#:schema /usr/share/rt1553/profile.schema.json|' {} +
 
@@ -39,7 +39,7 @@ cat >"$root/DEBIAN/control" <<END
 Package: rt1553
 Version: $version
 Architecture: $architecture
-Maintainer: $(git log -1 --format='%an <%ae>')
+Maintainer: Kebdrax maintainers <maintainers@users.noreply.kebdrax.example>
 Installed-Size: $(du -sk --exclude=DEBIAN "$root" | cut -f 1)
 Depends: $depends
 Section: devel
