@@ -14,6 +14,7 @@ import re
 import subprocess
 import sys
 import tempfile
+import textwrap
 
 TOP = pathlib.Path(__file__).resolve().parent.parent
 PAGES = ["README.md", "CHANGELOG.md", "examples/README.md", "examples/validation/README.md", "editors/README.md", *sorted(f"docs/{page.name}" for page in TOP.glob("docs/*.md"))]
@@ -39,7 +40,7 @@ def blocks_of(page):
             block.append(line[4:])
         elif line or not block:
             if block:
-                yield block
+                yield textwrap.dedent("\n".join(block)).split("\n")
             block = []
         else:
             block.append("")
