@@ -197,7 +197,7 @@ deb_rows() {
     dpkg-deb -f "$deb" Depends | grep -q '^libc6 (>= [0-9.]*)'
     count 'the package says on what it depends' $?
     mkdir -p "$root/var/lib/dpkg/"{info,updates} && : >"$root/var/lib/dpkg/status"
-    local words=(dpkg --root="$root" --log=/dev/null --force-not-root --force-depends)
+    local words=(dpkg --root="$root" --log=/dev/null --force-not-root --force-bad-path --force-depends)
     "${words[@]}" --install "$deb" >"$work/told" 2>&1
     count 'the package is installed' $?
     answers_below "$root/usr"

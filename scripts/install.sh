@@ -29,7 +29,7 @@ install)
         echo "bin/rt1553 and bin/rt1553-tool aren't there: run 'make build' first" >&2
         exit 1
     fi
-    files | while read -r file mode place; do install -D -m "$mode" "$file" "$to/$place"; done
+    files | while read -r file mode place; do install -D -m "$mode" "$file" "$to/$place" || exit 1; done
     echo "rt1553 and rt1553-tool are installed in $to: man rt1553"
     ;;
 uninstall)

@@ -91,7 +91,7 @@ def item(low, high):
     """A number or a pair of numbers of a text of ranges, spelled in one of many ways."""
     def one(value):
         return " " * random.choice([0, 0, 0, 1, 2]) + str(value).zfill(random.choice([1, 1, 2, 3])) + " " * random.choice([0, 0, 1])
-    first, second = sorted(random.choices(range(low, high + 1), k=2))
+    first, second = sorted(random.choices(range(low, high + 1), k=2), reverse=random.randrange(40) == 0)
     return random.choice([one(first), f"{one(first)}-{one(second)}"])
 
 
