@@ -37,6 +37,38 @@ part() {
     fi
 }
 
+# what `make build` tells, with an `rt` that proves nothing: it fails in the crate BROKEN, and its line is LINE
+build_rows() {
+    local count_of kit
+    mkdir -p "$work/fake" "$work/building"
+    cat >"$work/fake/rt" <<END
+#!/usr/bin/env bash
+name=\${PWD##*/}
+case \$1 in
+version) echo "\$LINE" ;;
+lib) if [[ \$name == "\$BROKEN" ]]; then echo "fn \$name::broken: refused"; exit 1; fi ;;
+run) mkdir -p out && cp "$work/fake/\$name" out/ ;;
+esac
+END
+    chmod +x "$work/fake/rt"
+    cp "$rt1553" "$work/fake/rt1553_program" && cp "$tool" "$work/fake/rt1553_tool_program"
+    tar -c Makefile scripts crates.txt crates/*/src crates/*/args | tar -x -C "$work/building"
+    kit=$(sed -n 's/^export KIT = //p' Makefile)
+    (cd "$work/building" && LINE=$kit BROKEN='' PATH=$work/fake:$PATH make --silent build) >"$work/told" 2>&1
+    count 'make build' $?
+    count_of=$(sed -n 's|^\[ 1/\([0-9]*\)\] bus_word .*|\1|p' "$work/told")
+    [[ $count_of -gt 10 && $(grep -c "^\[ *[0-9]*/$count_of\] [a-z0-9_]*  *0 min 0[0-9] s$" "$work/told") -eq $count_of && $(wc -l <"$work/told") -eq $((count_of + 2)) ]]
+    count 'make build tells each crate in a line' $?
+    [[ $(cd "$work/building" && bash -c "$(tail -n 1 "$work/told")") == 'A s 2800' ]]
+    count 'make build tells what to run next' $?
+    (cd "$work/building" && LINE=$kit BROKEN=bus_legal PATH=$work/fake:$PATH make --silent build) >"$work/told" 2>&1
+    [[ $? -ne 0 ]] && grep -q '^\[ *[0-9]*/[0-9]*\] bus_legal  *failed after ' "$work/told" && grep -q '^fn bus_legal::broken: refused$' "$work/told" && grep -q 'out/build.log' "$work/told"
+    count 'make build tells which crate failed, and where its log is' $?
+    (cd "$work/building" && LINE='another kit' BROKEN='' PATH=$work/fake:$PATH make --silent build) >"$work/told" 2>&1
+    grep -q "^This release was proved with '$kit', and this is 'another kit'" "$work/told"
+    count 'make build tells of another toolchain' $?
+}
+
 # what `make` says: its words, each tool that is missing, and what isn't built
 make_rows() {
     local word
@@ -237,6 +269,7 @@ if ! bash scripts/need.sh python3 groff vim dpkg-deb dpkg-shlibdeps git; then
 fi
 before=$(git status --porcelain 2>/dev/null)
 make_rows
+build_rows
 man_rows
 part 'manual' python3 scripts/manual.py check "$tool" "$rt1553"
 completion_rows
