@@ -21,11 +21,11 @@ _rt1553_tool() {
     shift words
     ((CURRENT--))
     case $word in
-        lint) _arguments '--help[tells what the word takes]' '--format[how it is written]:FORMAT:(text json)' '*:P:_files -g "*.(toml|rt1553)(-.)"' ;;
+        lint) _arguments '--help[tells what the word takes]' '--format[how it is written]:format:(text json)' '*:P:_files -g "*.(toml|rt1553)(-.)"' ;;
         verify) _arguments '--help[tells what the word takes]' '--summary[tells what passes too, clause by clause]' '(1)--profiles[no P\: each script names its profile of FOLDER]:FOLDER:_files -/' '(--profiles)1:P:_files -g "*.(toml|rt1553)(-.)"' '*:SCRIPT:_files -g "*.(script)(-.)"' ;;
         toml) _arguments '--help[tells what the word takes]' '1:P:_files -g "*.(toml|rt1553)(-.)"' ;;
-        explain) _arguments '--help[tells what the word takes]' '--format[how it is written]:FORMAT:(text json)' '1:P:_files -g "*.(toml|rt1553)(-.)"' ;;
-        differ) _arguments '--help[tells what the word takes]' '--scripts[gives the script that shows it, where there is one]' '--format[how it is written]:FORMAT:(text json)' '1:P:_files -g "*.(toml|rt1553)(-.)"' '2:Q:_files -g "*.(toml|rt1553)(-.)"' ;;
+        explain) _arguments '--help[tells what the word takes]' '--format[how it is written]:format:(text json)' '1:P:_files -g "*.(toml|rt1553)(-.)"' ;;
+        differ) _arguments '--help[tells what the word takes]' '--scripts[gives the script that shows it, where there is one]' '--format[how it is written]:format:(text json)' '1:P:_files -g "*.(toml|rt1553)(-.)"' '2:Q:_files -g "*.(toml|rt1553)(-.)"' ;;
         draw) _arguments '--help[tells what the word takes]' '--html[a page of its own, with what is legal]' '1:P:_files -g "*.(toml|rt1553)(-.)"' '2:SCRIPT:_files -g "*.(script)(-.)"' ;;
         words) _arguments '--help[tells what the word takes]' ;;
         live) _arguments '--help[tells what the word takes]' '1:P:_files -g "*.(toml|rt1553)(-.)"' ;;
