@@ -1,6 +1,7 @@
 #!/usr/bin/env bash
 # Proves and builds the programs and all that they stand on, one crate after the other, a line for each: what each is and how
-# long it took. What the tools print stands in out/build.log. Crates that are unchanged since take a second or two.
+# long it took. What the tools print stands in out/build.log. A crate that is unchanged since takes
+# seconds, in which `rt` sees that it is.
 set -uo pipefail
 cd "$(dirname "$0")/.." || exit 1
 log=out/build.log

@@ -19,11 +19,11 @@ import textwrap
 TOP = pathlib.Path(__file__).resolve().parent.parent
 PAGES = ["README.md", "CHANGELOG.md", "examples/README.md", "examples/validation/README.md", "editors/README.md", *sorted(f"docs/{page.name}" for page in TOP.glob("docs/*.md"))]
 NOT_PLAYED = {
-    r"make build$": "proves for many minutes; the programs that it leaves are those that are played",
-    r"make test$": "is what plays this",
-    r"(sudo )?make (un)?install$": "writes into the system; scripts/first-hour.sh installs into a folder of its own",
-    r"make library$": "proves for many minutes",
-    r"make bench$|bash bench/": "measures for minutes",
+    r"make build\b": "proves for many minutes; the programs that it leaves are those that are played",
+    r"make test\b": "is what plays this",
+    r"(sudo )?make (un)?install\b": "writes into the system; scripts/first-hour.sh installs into a folder of its own",
+    r"make library\b": "proves for many minutes",
+    r"make bench\b|bash bench/": "measures for minutes",
 }
 COMMANDS = re.compile(r"(bin/)?(rt1553|rt1553-tool|make|bash|python3|awk|sed|sudo|git|cd|rt|cc|gcc|g\+\+|rustc) ")
 # a line that tells how a command is used: a name in capital letters stands for something, or a description stands behind it
