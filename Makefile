@@ -31,7 +31,7 @@ uninstall: ## removes them
 	@bash scripts/install.sh uninstall
 
 deb: ## a Debian package of what is built: bin/rt1553_VERSION_ARCHITECTURE.deb
-	@bash scripts/need.sh dpkg-deb dpkg-shlibdeps
+	@bash scripts/need.sh python3 dpkg-deb dpkg-shlibdeps
 	@bash scripts/deb.sh
 
 pages: ## writes man pages and completions anew from manual/words.toml

@@ -28,8 +28,8 @@ doc=$root/usr/share/doc/rt1553
 mkdir -p "$doc"
 gzip -9nc CHANGELOG.md >"$doc/changelog.gz"
 find examples -type f | sort | while read -r name; do install -D -m 644 "$name" "$doc/$name"; done
-# the schema stands elsewhere in a package than beside its profiles
-find "$doc/examples" -name '*.toml' -exec sed -i '1s|^#:schema .*|#:schema /usr/share/rt1553/profile.schema.json|' {} +
+# the schema stands elsewhere in a package: as seen from share/doc/rt1553
+find "$doc/examples" -name '*.toml' -exec sed -i '1s|^\(#:schema [./]*\)editors/|\1../../rt1553/|' {} +
 
 # on which packages the programs depend is asked of the programs
 mkdir -p "$work/debian" "$root/DEBIAN"

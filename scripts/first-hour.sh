@@ -242,6 +242,10 @@ deb_rows() {
     given=$root/usr/share/doc/rt1553/examples
     env -i "$root/usr/bin/rt1553" run "$given/profiles/sensor.toml" "$given/scripts/poll.script" | cmp -s - "$given/scripts/poll.transcript"
     count 'the examples of the package are played' $?
+    for file in "$given"/{profiles/sensor,validation/profiles/full}.toml; do
+        [[ $(realpath "${file%/*}/$(sed -n '1s/^#:schema //p' "$file")") == "$(realpath "$root")/usr/share/rt1553/profile.schema.json" ]]
+        count "${file#"$given/"} of the package names the schema" $?
+    done
     "${words[@]}" --purge rt1553 >"$work/told" 2>&1 && [[ -z $(find "$root/usr" -type f 2>/dev/null) ]]
     count 'the package is removed, and leaves nothing' $?
 }
