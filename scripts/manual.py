@@ -141,7 +141,13 @@ def page_of(program, others):
 
 
 def flags_of(word):
+    """The options of a word."""
     return [option["name"] for option in word.get("options", [])]
+
+
+def about_of(word):
+    """What a word does, in a few words: those of the program's own help, else the first sentence of its text."""
+    return word.get("about", re.sub("[`.]", "", word["text"].split(". ")[0]))
 
 
 def bash_files(kind):
@@ -242,8 +248,7 @@ def zsh_of(program):
     yield "    local -a commands"
     yield "    commands=("
     for word in program["word"]:
-        about = word.get("about", re.sub("[`.]", "", word["text"].split(". ")[0]))
-        yield f"        '{word['name']}:{zsh_text(about)}'"
+        yield f"        '{word['name']}:{zsh_text(about_of(word))}'"
     yield "    )"
     yield "    if ((CURRENT == 2)); then"
     if not program["alone"]:
@@ -264,6 +269,7 @@ def zsh_of(program):
 
 
 def fish_text(text):
+    """A text between quotes of fish."""
     return "'" + text.replace("\\", "\\\\").replace("'", "\\'") + "'"
 
 
@@ -276,8 +282,7 @@ def fish_of(program):
         yield f"complete -c {name} -n __fish_use_subcommand -l help -d 'tells the words'"
         yield f"complete -c {name} -n __fish_use_subcommand -l version -d 'tells the versions'"
     for word in program["word"]:
-        about = word.get("about", re.sub("[`.]", "", word["text"].split(". ")[0]))
-        yield f"complete -c {name} -n __fish_use_subcommand -a {word['name']} -d {fish_text(about)}"
+        yield f"complete -c {name} -n __fish_use_subcommand -a {word['name']} -d {fish_text(about_of(word))}"
         seen = f"-n '__fish_seen_subcommand_from {word['name']}'"
         for option in word.get("options", []):
             value = ""
