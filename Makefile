@@ -1,26 +1,45 @@
-# rt1553: build, install and test. All proofs, compilers and runs are the toolchain's command `rt`.
+# rt1553: `make help` tells the words. All proofs, compilers and runs are the toolchain's command `rt`.
 PREFIX ?= /usr/local
-PROGRAM = crates/rt1553_program
-TOOL = crates/rt1553_tool_program
+export PREFIX DESTDIR
+# the toolchain with which this release was proved: what `rt version` prints
+export KIT = rattle-kit-13b logic dac8208d650f15bf
 
-# proves the two programs and all below them, and leaves them as bin/rt1553 and bin/rt1553-tool
-build:
-	cd $(PROGRAM) && rt run </dev/null
-	cd $(TOOL) && rt run -- --version </dev/null
-	mkdir -p bin
-	cp $(PROGRAM)/out/rt1553_program bin/rt1553
-	cp $(TOOL)/out/rt1553_tool_program bin/rt1553-tool
+build: ## proves and builds the two programs, a line a crate: bin/rt1553, bin/rt1553-tool
+	@bash scripts/need.sh rt
+	@bash scripts/build.sh
 
-install: build
-	install -D bin/rt1553 $(DESTDIR)$(PREFIX)/bin/rt1553
-	install -D bin/rt1553-tool $(DESTDIR)$(PREFIX)/bin/rt1553-tool
+help: ## tells these words
+	@awk -F ':.*## ' '/^[a-z]+:.*## / { printf "make %-12s %s\n", $$1, $$2 }' Makefile
 
-# the gate: proofs from nothing, tests, must-fail edits, the programs from end to end, protocol tests, the sessions of the pages
-test:
+check: ## proves one crate, and what it stands on: make check CRATE=bus_word
+	@bash scripts/need.sh rt
+	@if [ -z "$(CRATE)" ] || [ ! -d "crates/$(CRATE)" ]; then echo "make check CRATE=NAME, where NAME is one of:" $$(ls crates) >&2; exit 1; fi
+	cd "crates/$(CRATE)" && rt check
+
+test: ## the gate: proves and tests everything from nothing; the last line is 'N passed, M failed'
+	@bash scripts/need.sh rt python3 cc
 	bash scripts/gate.sh
 
-# the program's speed beside that of two programs in plain Rust; no test
-bench:
+bench: ## the speed beside that of two programs in plain Rust; no test
+	@bash scripts/need.sh rt rustc
 	bash bench/run.sh
 
-.PHONY: build install test bench
+install: ## copies programs, man pages, completions and schemas below PREFIX, /usr/local
+	@bash scripts/install.sh install
+
+uninstall: ## removes them
+	@bash scripts/install.sh uninstall
+
+deb: ## a Debian package of what is built: bin/rt1553_VERSION_ARCHITECTURE.deb
+	@bash scripts/need.sh python3 dpkg-deb dpkg-shlibdeps
+	@bash scripts/deb.sh
+
+pages: ## writes man pages and completions anew from manual/words.toml
+	@bash scripts/need.sh python3
+	@python3 scripts/manual.py write
+
+clean: ## removes what was built: bin/, and crates/*/out, the work of the proofs and the built libraries
+	@du -shc bin out crates/*/out 2>/dev/null | tail -n 1 | sed 's/\ttotal/ are freed; make build proves and builds anew/'
+	@rm -rf bin out crates/*/out
+
+.PHONY: build help check test bench install uninstall deb pages clean

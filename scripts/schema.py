@@ -3,14 +3,16 @@
 
     scripts/schema.py SCHEMA [--lines] <JSON
 
-With `--lines` each line of the input is a text of JSON of its own. It knows the words of JSON Schema that the schemas of docs/ use,
-and refuses a schema with others. The status is 0 where all fits, else 1, and then what doesn't fit is printed.
+With `--lines` each line of the input is a text of JSON of its own. It knows the words of JSON Schema that the schemas of docs/ and
+editors/ use, and refuses a schema with others. The status is 0 where all fits, else 1, and then what doesn't fit is printed.
 """
 import json
+import re
 import sys
 
 TYPES = {"object": dict, "array": list, "string": str, "integer": int, "boolean": bool, "null": type(None)}
-KNOWN = {"$schema", "$id", "title", "description", "type", "properties", "required", "additionalProperties", "items", "enum", "minimum", "maximum"}
+KNOWN = {"$schema", "$id", "$ref", "definitions", "title", "description", "default", "type", "properties", "required", "additionalProperties", "items",
+         "maxItems", "enum", "minimum", "maximum", "pattern"}
 
 
 def is_of(value, name):
@@ -18,8 +20,20 @@ def is_of(value, name):
     return isinstance(value, TYPES[name]) and not (name == "integer" and isinstance(value, bool))
 
 
-def misfits(value, schema, place):
-    """What of a value doesn't fit."""
+def found_at(root, reference):
+    """The part of a schema that a reference names, as `#/definitions/NAME`."""
+    part = root
+    for name in reference.removeprefix("#/").split("/"):
+        part = part[name]
+    return part
+
+
+def misfits(value, schema, place, root=None):
+    """What of a value doesn't fit. The root is the whole schema, which references speak of."""
+    root = schema if root is None else root
+    if "$ref" in schema:
+        yield from misfits(value, found_at(root, schema["$ref"]), place, root)
+        return
     if not KNOWN.issuperset(schema):
         yield f"{place}: the schema has {sorted(set(schema) - KNOWN)}"
     types = schema.get("type", [])
@@ -30,6 +44,8 @@ def misfits(value, schema, place):
         yield f"{place}: {value!r} is none of {schema['enum']}"
     if is_of(value, "integer") and not schema.get("minimum", value) <= value <= schema.get("maximum", value):
         yield f"{place}: {value!r} is out of range"
+    if isinstance(value, str) and not re.search(schema.get("pattern", ""), value):
+        yield f"{place}: {value!r} is of another form"
     if isinstance(value, dict):
         properties = schema.get("properties", {})
         for name in schema.get("required", []):
@@ -37,12 +53,14 @@ def misfits(value, schema, place):
                 yield f"{place}: {name} is missing"
         for name, part in value.items():
             if name in properties:
-                yield from misfits(part, properties[name], f"{place}.{name}")
+                yield from misfits(part, properties[name], f"{place}.{name}", root)
             elif schema.get("additionalProperties", True) is False:
                 yield f"{place}: {name} is unknown"
     if isinstance(value, list):
+        if len(value) > schema.get("maxItems", len(value)):
+            yield f"{place}: {len(value)} items are too many"
         for index, part in enumerate(value):
-            yield from misfits(part, schema.get("items", {}), f"{place}[{index}]")
+            yield from misfits(part, schema.get("items", {}), f"{place}[{index}]", root)
 
 
 def main(path, *words):

@@ -2,8 +2,10 @@
 """Plays the sessions of the pages: sessions.py PROGRAM TOOL
 
 A session is an indented line `$ COMMAND` of a page, with what it prints in the lines below it, to the letter. Those of a
-page are played one after the other, in a temporary folder of the page's own that has `examples/` and the two programs, as
-`bin/rt1553` and `rt1553`, and with `-tool` behind it. Commands that build or measure are left out. The last line is 'N passed, M failed'.
+page are played one after the other, each in the folder in which the one before ended; they begin in a temporary folder of the page's
+own that has `examples/` and the two programs, as `bin/rt1553` and `rt1553`, and with `-tool` behind it. A command that isn't
+played stands in NOT_PLAYED with its reason. What looks like a command and is in no session is told, a block of TOML is to be a profile that is
+accepted, and what a page names of this repository is to be there. The last line is 'N passed, M failed'.
 """
 
 import os
@@ -12,10 +14,22 @@ import re
 import subprocess
 import sys
 import tempfile
+import textwrap
 
 TOP = pathlib.Path(__file__).resolve().parent.parent
-PAGES = ["README.md", "CHANGELOG.md", "examples/README.md", "examples/validation/README.md", *sorted(f"docs/{page.name}" for page in TOP.glob("docs/*.md"))]
-LEFT_OUT = re.compile(r"make |bash bench/")
+PAGES = ["README.md", "CHANGELOG.md", "examples/README.md", "examples/validation/README.md", "editors/README.md", *sorted(f"docs/{page.name}" for page in TOP.glob("docs/*.md"))]
+NOT_PLAYED = {
+    r"make build\b": "proves for many minutes; the programs that it leaves are those that are played",
+    r"make test\b": "is what plays this",
+    r"(sudo )?make (un)?install\b": "writes into the system; scripts/first-hour.sh installs into a folder of its own",
+    r"make library\b": "proves for many minutes",
+    r"make bench\b|bash bench/": "measures for minutes",
+}
+COMMANDS = re.compile(r"(bin/)?(rt1553|rt1553-tool|make|bash|python3|awk|sed|sudo|git|cd|rt|cc|gcc|g\+\+|rustc) ")
+# a line that tells how a command is used: a name in capital letters stands for something, or a description stands behind it
+USAGE = re.compile(r"\b(P|Q|SCRIPT|FOLDER|NAME)\b|\S {2,}\S")
+# what a page names of this repository
+NAMED = re.compile(r"`((?:docs|examples|scripts|tests|bench|editors|manual|crates)/[\w./-]*\w/?)`|\]\(([\w./-]+)\)")
 
 
 def blocks_of(page):
@@ -26,7 +40,7 @@ def blocks_of(page):
             block.append(line[4:])
         elif line or not block:
             if block:
-                yield block
+                yield textwrap.dedent("\n".join(block)).split("\n")
             block = []
         else:
             block.append("")
@@ -50,37 +64,70 @@ def sessions_of(block):
                     break
 
 
-def printed(command, folder):
-    """What a command prints in a folder, faults among it."""
-    path = f"{folder}/bin:{os.environ['PATH']}"
-    done = subprocess.run(["bash", "-c", command], cwd=folder, env={**os.environ, "PATH": path}, stdin=subprocess.DEVNULL,
-                          stdout=subprocess.PIPE, stderr=subprocess.STDOUT, text=True, timeout=60, check=False)
-    return done.stdout.strip("\n")
+def printed(command, top, folder):
+    """What a command prints in a folder, faults among it, and the folder in which it ends."""
+    ended = f"{top}/.ended"
+    done = subprocess.run(["bash", "-c", f"{command}\npwd >{ended}"], cwd=folder, env={**os.environ, "PATH": f"{top}/bin:{os.environ['PATH']}"},
+                          stdin=subprocess.DEVNULL, stdout=subprocess.PIPE, stderr=subprocess.STDOUT, text=True, timeout=60, check=False)
+    return done.stdout.strip("\n"), pathlib.Path(ended).read_text().strip("\n")
 
 
 def played(page, program, tool):
     """Each command of a page that is played, what it is to print, and what it prints."""
-    with tempfile.TemporaryDirectory() as folder:
-        os.mkdir(f"{folder}/bin")
-        os.symlink(program, f"{folder}/bin/rt1553")
-        os.symlink(tool, f"{folder}/bin/rt1553-tool")
-        os.symlink(TOP / "examples", f"{folder}/examples")
+    with tempfile.TemporaryDirectory() as top:
+        os.mkdir(f"{top}/bin")
+        os.symlink(program, f"{top}/bin/rt1553")
+        os.symlink(tool, f"{top}/bin/rt1553-tool")
+        os.symlink(TOP / "examples", f"{top}/examples")
+        folder = top
         for block in blocks_of((TOP / page).read_text()):
             for command, wanted in sessions_of(block):
-                if not LEFT_OUT.match(command):
-                    yield command, wanted, printed(command, folder)
+                # what stands behind several spaces is a description
+                if any(re.match(pattern, re.split(r" {2,}", command)[0]) for pattern in NOT_PLAYED):
+                    continue
+                found, folder = printed(command, top, folder)
+                yield command, wanted, found
+
+
+def unplayed(page):
+    """The lines of a page that look like commands and stand in no session."""
+    for block in blocks_of((TOP / page).read_text()):
+        if not any(line.startswith("$ ") for line in block):
+            for line in block:
+                if COMMANDS.match(f"{line} ") and not USAGE.search(line):
+                    yield line, "a session, with `$ `", "no session"
+
+
+def profiles_in(page, program):
+    """The profiles of a page: what `check` is to say of each, and what it says."""
+    for text in re.findall(r"^```toml\n(.*?)^```$", (TOP / page).read_text(), re.MULTILINE | re.DOTALL):
+        with tempfile.NamedTemporaryFile("w", suffix=".toml") as file:
+            file.write(text)
+            file.flush()
+            done = subprocess.run([program, "check", file.name], stdin=subprocess.DEVNULL, stdout=subprocess.PIPE, stderr=subprocess.STDOUT, text=True, check=False)
+        yield text, "ok\n", done.stdout
+
+
+def named(page):
+    """What a page names of this repository, and whether it is there."""
+    text = "\n".join(line for line in (TOP / page).read_text().split("\n") if not line.startswith("    "))
+    for found in NAMED.finditer(text):
+        name = found[1] or found[2]
+        folder = TOP if found[1] else (TOP / page).parent
+        # NAME stands for any name
+        yield name, "something that is there", "something that is there" if any(folder.glob(name.replace("NAME", "*"))) else "nothing"
 
 
 def main():
     program, tool = map(os.path.realpath, sys.argv[1:3])
     passed = failed = 0
     for page in PAGES:
-        for command, wanted, found in played(page, program, tool):
+        for what, wanted, found in [*played(page, program, tool), *unplayed(page), *profiles_in(page, program), *named(page)]:
             if found == wanted:
                 passed += 1
             else:
                 failed += 1
-                print(f"FAIL {page}: {command}\nis to print\n{wanted}\nand prints\n{found}")
+                print(f"FAIL {page}: {what}\nis to print\n{wanted}\nand prints\n{found}")
     print(f"{passed} passed, {failed} failed")
     sys.exit(failed > 0)
 

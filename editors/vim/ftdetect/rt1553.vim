@@ -1,0 +1,2 @@
+" scripts of rt1553, docs/script.md
+autocmd BufNewFile,BufRead *.script setfiletype rt1553script

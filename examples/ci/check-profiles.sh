@@ -1,0 +1,39 @@
+#!/usr/bin/env bash
+# Checks the profiles of a folder: check-profiles.sh FOLDER
+#
+# - lint: each profile NAME.toml; an error fails, a warning is told;
+# - verify: each script NAME.script, which states its answers, is played to the profile of its name;
+# - differ: each canonical text NAME.rt1553 that is kept means the same terminal as the profile of its name.
+#
+# What is found is told as an annotation, with file and line, that GitHub Actions shows beside the text.
+# It needs rt1553-tool. The status is 0 where nothing fails.
+set -uo pipefail
+folder=$1
+status=0
+
+# findings in lines FILE:LINE:COLUMN: KIND: TEXT, or FILE:LINE: TEXT, or FILE: TEXT, as annotations
+annotate() {
+    sed -E -e 's/%/%25/g' \
+        -e 's/^([^:]+):([0-9]+):([0-9]+): (error|warning): (.*)$/::\4 file=\1,line=\2,col=\3::\5/; t' \
+        -e 's/^([^:]+):([0-9]+): (.*)$/::error file=\1,line=\2::\3/; t' \
+        -e 's/^([^:]+): (.*)$/::error file=\1::\2/'
+}
+
+# ends the check with a failure where a status is at least this one: failed_from LEAST STATUS
+failed_from() { (($2 < $1)) || status=1; }
+
+shopt -s nullglob
+for profile in "$folder"/*.toml; do
+    rt1553-tool lint "$profile" 2>&1 | annotate
+    failed_from 2 "${PIPESTATUS[0]}"
+done
+for script in "$folder"/*.script; do
+    rt1553-tool verify "${script%.script}.toml" "$script" 2>&1 | annotate
+    failed_from 1 "${PIPESTATUS[0]}"
+done
+for kept in "$folder"/*.rt1553; do
+    profile=${kept%.rt1553}.toml
+    rt1553-tool differ "$kept" "$profile" 2>&1 | sed "s|^|$profile: |" | annotate
+    failed_from 1 "${PIPESTATUS[0]}"
+done
+exit "$status"

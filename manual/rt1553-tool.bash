@@ -1,0 +1,46 @@
+# completion of rt1553-tool in bash, made by scripts/manual.py of manual/words.toml
+_rt1553_tool() {
+    local now=${COMP_WORDS[COMP_CWORD]} before=${COMP_WORDS[COMP_CWORD - 1]} flags='' kinds=() many='' count=0 index kind
+    COMPREPLY=()
+    if ((COMP_CWORD == 1)); then
+        mapfile -t COMPREPLY < <(compgen -W 'lint verify toml explain differ draw words live --help --version' -- "$now")
+        return
+    fi
+    case ${COMP_WORDS[1]}:$before in
+        lint:--format) mapfile -t COMPREPLY < <(compgen -W 'text json' -- "$now"); return ;;
+        verify:--profiles) mapfile -t COMPREPLY < <(compgen -d -- "$now"); return ;;
+        explain:--format) mapfile -t COMPREPLY < <(compgen -W 'text json' -- "$now"); return ;;
+        differ:--format) mapfile -t COMPREPLY < <(compgen -W 'text json' -- "$now"); return ;;
+    esac
+    case ${COMP_WORDS[1]} in
+        lint) flags='--format --help' kinds=(profile) many='profile' ;;
+        verify) flags='--summary --profiles --help' kinds=(profile script) many='script' ;;
+        toml) flags='--help' kinds=(profile) many='' ;;
+        explain) flags='--format --help' kinds=(profile) many='' ;;
+        differ) flags='--scripts --format --help' kinds=(profile profile) many='' ;;
+        draw) flags='--html --help' kinds=(profile script) many='' ;;
+        words) flags='--help' kinds=() many='' ;;
+        live) flags='--help' kinds=(profile) many='' ;;
+    esac
+    # how many files stand before this one
+    for ((index = 2; index < COMP_CWORD; index++)); do
+        case ${COMP_WORDS[1]}:${COMP_WORDS[index]} in
+            lint:--format) index=$((index + 1)) ;;
+            verify:--profiles) kinds=("${kinds[@]:1}") index=$((index + 1)) ;;
+            explain:--format) index=$((index + 1)) ;;
+            differ:--format) index=$((index + 1)) ;;
+            *:-*) ;;
+            *) count=$((count + 1)) ;;
+        esac
+    done
+    kind=${kinds[count]:-$many}
+    if [[ $now == -* ]]; then
+        mapfile -t COMPREPLY < <(compgen -W "$flags" -- "$now")
+    else
+        case $kind in
+            profile) mapfile -t COMPREPLY < <(compgen -f -X '!*.toml' -- "$now"; compgen -f -X '!*.rt1553' -- "$now"; compgen -d -- "$now") ;;
+            script) mapfile -t COMPREPLY < <(compgen -f -X '!*.script' -- "$now"; compgen -d -- "$now") ;;
+        esac
+    fi
+}
+complete -o filenames -F _rt1553_tool rt1553-tool

@@ -1,0 +1,54 @@
+#!/usr/bin/env bash
+# Makes a Debian package of what was built: deb.sh [FOLDER], which it is left in; else in bin/. It prints the package's name.
+# Programs, man pages, completions, schemas and examples; and the C library, if bin/library is there.
+set -euo pipefail
+cd "$(dirname "$0")/.."
+folder=${1:-bin}
+work=$(mktemp -d)
+trap 'rm -rf "$work"' EXIT
+root=$work/root
+version=$(python3 scripts/manual.py version)
+architecture=$(dpkg --print-architecture)
+
+DESTDIR=$root PREFIX=/usr ZSH_FUNCTIONS=share/zsh/vendor-completions bash scripts/install.sh install >/dev/null
+gzip -9n "$root"/usr/share/man/man1/*.1
+# what `make library` leaves: headers, libraries, and else what its users read
+if [[ -d bin/library ]]; then
+    find bin/library -type f -printf '%P\n' | sort | while read -r name; do
+        case $name in
+        *.h | *.hpp) place=include/${name##*/} ;;
+        *.a | *.so | *.so.*) place=lib/${name##*/} ;;
+        *.pc) place=lib/pkgconfig/${name##*/} ;;
+        *) place=share/rt1553/library/$name ;;
+        esac
+        install -D -m 644 "bin/library/$name" "$root/usr/$place"
+    done
+fi
+doc=$root/usr/share/doc/rt1553
+mkdir -p "$doc"
+gzip -9nc CHANGELOG.md >"$doc/changelog.gz"
+find examples -type f | sort | while read -r name; do install -D -m 644 "$name" "$doc/$name"; done
+# the schema stands elsewhere in a package: as seen from share/doc/rt1553
+find "$doc/examples" -name '*.toml' -exec sed -i '1s|^\(#:schema [./]*\)editors/|\1../../rt1553/|' {} +
+
+# on which packages the programs depend is asked of the programs
+mkdir -p "$work/debian" "$root/DEBIAN"
+printf 'Source: rt1553\n\nPackage: rt1553\nArchitecture: any\n' >"$work/debian/control"
+depends=$(cd "$work" && dpkg-shlibdeps -O "$root/usr/bin/rt1553" "$root/usr/bin/rt1553-tool" 2>/dev/null | sed -n 's/^shlibs:Depends=//p')
+cat >"$root/DEBIAN/control" <<END
+Package: rt1553
+Version: $version
+Architecture: $architecture
+Maintainer: Kebdrax maintainers <maintainers@users.noreply.kebdrax.example>
+Installed-Size: $(du -sk --exclude=DEBIAN "$root" | cut -f 1)
+Depends: $depends
+Section: devel
+Priority: optional
+Description: remote terminal of MIL-STD-1553B with Notice 2, over words
+ It plays scripts of bus traffic to the terminal of a profile, and compares
+ profiles: rt1553 and rt1553-tool.
+END
+mkdir -p "$folder"
+name=$folder/rt1553_${version}_$architecture.deb
+dpkg-deb --root-owner-group --build "$root" "$name" >/dev/null
+echo "$name"

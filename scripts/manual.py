@@ -1,0 +1,404 @@
+#!/usr/bin/env python3
+"""The man pages and the completions of the two programs, made of manual/words.toml.
+
+    scripts/manual.py write                writes them
+    scripts/manual.py version              tells the version of the programs, as it stands in the program's source
+    scripts/manual.py check TOOL RT1553    whether the files are those that are written, and whether the description is what the
+                                           programs tell of themselves and do; the last line is 'N passed, M failed'
+
+What a page says of a version is what `rt1553-tool --version` tells: both are the constant VERSION of the program's source.
+"""
+import os
+import pathlib
+import re
+import subprocess
+import sys
+import tempfile
+import textwrap
+import tomllib
+
+TOP = pathlib.Path(__file__).resolve().parent.parent
+WORDS = TOP / "manual/words.toml"
+VERSION = TOP / "crates/rt1553_tool_program/src/words.rt"
+MADE = "made by scripts/manual.py of manual/words.toml"
+# the endings by which files are completed
+ENDINGS = {"profile": ["toml", "rt1553"], "script": ["script"], "folder": []}
+
+
+def version():
+    """The version of the programs, and that of the canonical text which they write."""
+    found = re.search(r'^const VERSION: &str = "(\S+) \(canonical text (\d+)\)";$', VERSION.read_text(), re.MULTILINE)
+    return found[1], found[2]
+
+
+# --- man pages, in mdoc ---
+
+
+def escaped(text):
+    """A line of text as mdoc takes it."""
+    return re.sub(r"^(?=[.'])", r"\\&", text.replace("\\", "\\e"))
+
+
+def typed(text):
+    """Text that is typed or printed so: its hyphens are those of the keyboard."""
+    return escaped(text).replace("-", "\\-")
+
+
+def literal(text):
+    """What stands between backticks, as one argument of a macro."""
+    return '"' + typed(text).replace('"', "\\(dq") + '"'
+
+
+def lines_of(sentence):
+    """The lines of a sentence. What stands between backticks is literal."""
+    parts = re.split(r"`([^`]+)`(\S*)", sentence)
+    for place in range(0, len(parts), 3):
+        yield from map(escaped, textwrap.wrap(parts[place].strip(), 78, break_on_hyphens=False))
+        if place + 1 < len(parts):
+            behind = "".join(f" {it}" for it in parts[place + 2])
+            yield f".Ql {literal(parts[place + 1])}{behind}"
+
+
+def paragraphs(text):
+    """Paragraphs, each sentence in lines of its own."""
+    for number, paragraph in enumerate(text.strip().split("\n\n")):
+        if number:
+            yield ".Pp"
+        for sentence in re.split(r"(?<=[.:])\s+", paragraph.replace("\n", " ")):
+            yield from lines_of(sentence)
+
+
+def synopsis_of(word):
+    """The words of a synopsis behind the program's name."""
+    yield f".Cm {word['name']}"
+    instead = False
+    for option in word.get("options", []):
+        value = f" Ar {option['value']}" if "value" in option else ""
+        if option.get("instead"):
+            instead = f"Fl Fl {option['name'][2:]}{value}"
+        else:
+            yield f".Op Fl Fl {option['name'][2:]}{value}"
+    for number, takes in enumerate(word["takes"]):
+        many = " ..." if takes.get("many") else ""
+        if instead and not number:
+            yield f".Brq Ar {takes['name']} | {instead}"
+        else:
+            yield f".Ar {takes['name']}{many}"
+
+
+def page_of(program, others):
+    """The man page of a program."""
+    name = program["name"]
+    number, canonical = version()
+    yield f'.\\" {MADE}'
+    yield f".Dd {PROGRAMS['date']}"
+    yield f".Dt {name.upper()} 1"
+    yield f".Os rt1553 {number}"
+    yield from [".Sh NAME", f".Nm {name}", f".Nd {program['about']}", ".Sh SYNOPSIS"]
+    if program["alone"]:
+        yield ".Nm"
+    for word in program["word"]:
+        yield ".Nm"
+        yield from synopsis_of(word)
+    if not program["alone"]:
+        yield from [".Nm", ".Fl Fl help", ".Nm", ".Fl Fl version"]
+    yield ".Sh DESCRIPTION"
+    yield from paragraphs(program["text"])
+    width = max((word["name"] for word in program["word"]), key=len)
+    yield f".Bl -tag -width {width}"
+    for word in program["word"]:
+        yield f".It Cm {word['name']}"
+        yield from paragraphs(word["text"])
+        for option in word.get("options", []):
+            value = f" Ar {option['value']}" if "value" in option else ""
+            yield ".Pp"
+            yield f".Fl Fl {option['name'][2:]}{value} :"
+            values = f" ({', '.join(option['values'])})" if "values" in option else ""
+            yield escaped(f"{option['help']}{values}.")
+    yield ".El"
+    yield ".Pp"
+    yield from paragraphs(program["after"])
+    yield from [".Sh EXIT STATUS", ".Bl -tag -width 1n -compact"]
+    for status, text in enumerate(program["statuses"]):
+        yield f".It {status}"
+        yield from lines_of(text + ".")
+    yield from [".El", ".Sh EXAMPLES"]
+    for number, example in enumerate(program["example"]):
+        if number:
+            yield ".Pp"
+        yield from lines_of(example["text"])
+        yield ".Bd -literal -offset indent"
+        yield from (typed(line) for line in [f"$ {example['command']}", *example["prints"].splitlines()])
+        yield ".Ed"
+    yield ".Sh SEE ALSO"
+    yield " ,\n".join(f".Xr {other['name']} 1" for other in others)
+    yield ".Sh STANDARDS"
+    yield "The terminal is that of MIL-STD-1553B with Notice 2."
+    yield f"The canonical text that is written is that of version {canonical}."
+
+
+# --- completions ---
+
+
+def flags_of(word):
+    """The options of a word."""
+    return [option["name"] for option in word.get("options", [])]
+
+
+def about_of(word):
+    """What a word does, in a few words: those of the program's own help, else the first sentence of its text."""
+    return word.get("about", re.sub("[`.]", "", word["text"].split(". ")[0]))
+
+
+def bash_files(kind):
+    """The files and folders that bash completes."""
+    return "; ".join([*(f"compgen -f -X '!*.{ending}' -- \"$now\"" for ending in ENDINGS[kind]), 'compgen -d -- "$now"'])
+
+
+def bash_of(program):
+    """The completion of bash."""
+    name = program["name"]
+    function = f"_{name.replace('-', '_')}"
+    first = [word["name"] for word in program["word"]] + ([] if program["alone"] else ["--help", "--version"])
+    yield f"# completion of {name} in bash, {MADE}"
+    yield f"{function}() {{"
+    yield "    local now=${COMP_WORDS[COMP_CWORD]} before=${COMP_WORDS[COMP_CWORD - 1]} flags='' kinds=() many='' count=0 index kind"
+    yield "    COMPREPLY=()"
+    yield "    if ((COMP_CWORD == 1)); then"
+    yield f"        mapfile -t COMPREPLY < <(compgen -W '{' '.join(first)}' -- \"$now\")"
+    yield "        return"
+    yield "    fi"
+    yield "    case ${COMP_WORDS[1]}:$before in"
+    for word in program["word"]:
+        for option in word.get("options", []):
+            if "values" in option:
+                yield f"        {word['name']}:{option['name']}) mapfile -t COMPREPLY < <(compgen -W '{' '.join(option['values'])}' -- \"$now\"); return ;;"
+            elif "value" in option:
+                yield f"        {word['name']}:{option['name']}) mapfile -t COMPREPLY < <({bash_files(option['kind'])}); return ;;"
+    yield "    esac"
+    yield "    case ${COMP_WORDS[1]} in"
+    for word in program["word"]:
+        kinds = " ".join(takes["kind"] for takes in word["takes"])
+        many = next((takes["kind"] for takes in word["takes"] if takes.get("many")), "")
+        flags = " ".join(flags_of(word) + ([] if program["alone"] else ["--help"]))
+        yield f"        {word['name']}) flags='{flags}' kinds=({kinds}) many='{many}' ;;"
+    yield "    esac"
+    yield "    # how many files stand before this one"
+    yield "    for ((index = 2; index < COMP_CWORD; index++)); do"
+    yield "        case ${COMP_WORDS[1]}:${COMP_WORDS[index]} in"
+    for word in program["word"]:
+        for option in word.get("options", []):
+            if option.get("instead"):
+                yield f"            {word['name']}:{option['name']}) kinds=(\"${{kinds[@]:1}}\") index=$((index + 1)) ;;"
+            elif "value" in option:
+                yield f"            {word['name']}:{option['name']}) index=$((index + 1)) ;;"
+    yield "            *:-*) ;;"
+    yield "            *) count=$((count + 1)) ;;"
+    yield "        esac"
+    yield "    done"
+    yield "    kind=${kinds[count]:-$many}"
+    yield "    if [[ $now == -* ]]; then"
+    yield "        mapfile -t COMPREPLY < <(compgen -W \"$flags\" -- \"$now\")"
+    yield "    else"
+    yield "        case $kind in"
+    for kind in ("profile", "script"):
+        yield f"            {kind}) mapfile -t COMPREPLY < <({bash_files(kind)}) ;;"
+    yield "        esac"
+    yield "    fi"
+    yield "}"
+    yield f"complete -o filenames -F {function} {name}"
+
+
+def zsh_files(kind):
+    """The files that zsh completes."""
+    if not ENDINGS[kind]:
+        return "_files -/"
+    return f'_files -g "*.({"|".join(ENDINGS[kind])})(-.)"'
+
+
+def zsh_text(text):
+    """A text inside a specification of zsh."""
+    return re.sub(r"([\[\]:\\])", r"\\\1", text).replace("'", "'\\''")
+
+
+def zsh_specs(word):
+    """What zsh's `_arguments` is told of a word."""
+    instead = next((option["name"] for option in word.get("options", []) if option.get("instead")), None)
+    for option in word.get("options", []):
+        value = ""
+        if "values" in option:
+            value = f":{option['value']}:({' '.join(option['values'])})"
+        elif "value" in option:
+            value = f":{option['value']}:{zsh_files(option['kind'])}"
+        but = "(1)" if option.get("instead") else ""
+        yield f"'{but}{option['name']}[{zsh_text(option['help'])}]{value}'"
+    for number, takes in enumerate(word["takes"], 1):
+        but = f"({instead})" if instead and number == 1 else ""
+        place = "*" if takes.get("many") else f"{but}{number}"
+        yield f"'{place}:{takes['name']}:{zsh_files(takes['kind'])}'"
+
+
+def zsh_of(program):
+    """The completion of zsh."""
+    name = program["name"]
+    function = f"_{name.replace('-', '_')}"
+    yield f"#compdef {name}"
+    yield f"# completion of {name} in zsh, {MADE}"
+    yield f"{function}() {{"
+    yield "    local -a commands"
+    yield "    commands=("
+    for word in program["word"]:
+        yield f"        '{word['name']}:{zsh_text(about_of(word))}'"
+    yield "    )"
+    yield "    if ((CURRENT == 2)); then"
+    if not program["alone"]:
+        yield "        if [[ $words[2] == -* ]]; then _arguments '--help[tells the words]' '--version[tells the versions]'; return; fi"
+    yield "        _describe -t commands word commands"
+    yield "        return"
+    yield "    fi"
+    yield "    local word=$words[2]"
+    yield "    shift words"
+    yield "    ((CURRENT--))"
+    yield "    case $word in"
+    for word in program["word"]:
+        specs = [] if program["alone"] else ["'--help[tells what the word takes]'"]
+        yield f"        {word['name']}) _arguments {' '.join([*specs, *zsh_specs(word)])} ;;"
+    yield "    esac"
+    yield "}"
+    yield f"{function} \"$@\""
+
+
+def fish_text(text):
+    """A text between quotes of fish."""
+    return "'" + text.replace("\\", "\\\\").replace("'", "\\'") + "'"
+
+
+def fish_of(program):
+    """The completion of fish."""
+    name = program["name"]
+    yield f"# completion of {name} in fish, {MADE}"
+    yield f"complete -c {name} -f"
+    if not program["alone"]:
+        yield f"complete -c {name} -n __fish_use_subcommand -l help -d 'tells the words'"
+        yield f"complete -c {name} -n __fish_use_subcommand -l version -d 'tells the versions'"
+    for word in program["word"]:
+        yield f"complete -c {name} -n __fish_use_subcommand -a {word['name']} -d {fish_text(about_of(word))}"
+        seen = f"-n '__fish_seen_subcommand_from {word['name']}'"
+        for option in word.get("options", []):
+            value = ""
+            if "values" in option:
+                value = f" -x -a '{' '.join(option['values'])}'"
+            elif "value" in option:
+                value = " -x -a '(__fish_complete_directories)'"
+            yield f"complete -c {name} {seen} -l {option['name'][2:]}{value} -d {fish_text(option['help'])}"
+        if word["takes"]:
+            yield f"complete -c {name} {seen} -F"
+
+
+# --- the files ---
+
+
+def made():
+    """Each file that is made, with its text."""
+    for program in PROGRAMS["program"]:
+        others = [other for other in PROGRAMS["program"] if other is not program]
+        name = program["name"]
+        for ending, lines in ((".1", page_of(program, others)), (".bash", bash_of(program)), (".zsh", zsh_of(program)), (".fish", fish_of(program))):
+            yield TOP / f"manual/{name}{ending}", "\n".join(lines) + "\n"
+
+
+# --- whether the programs are what is described ---
+
+
+def run(*words):
+    """What a program prints, to either stream, and its status."""
+    done = subprocess.run(words, stdin=subprocess.DEVNULL, stdout=subprocess.PIPE, stderr=subprocess.STDOUT, text=True, check=False)
+    return done.stdout, done.returncode
+
+
+def usage_of(program):
+    """The usage line of `rt1553`, which tells its words."""
+    words = (" ".join([word["name"], *(takes["name"] for takes in word["takes"])]) for word in program["word"])
+    return f"usage: {program['name']} [{', '.join(words)}]\n", 3
+
+
+def rows_of(text, title):
+    """The rows of a part of clap's help: the first word of each with what stands behind it."""
+    part = re.search(rf"^{title}:\n((?:  .*\n?)*)", text, re.MULTILINE)
+    return [re.split(r"\s{2,}", line.strip(), maxsplit=1) for line in part[1].splitlines()] if part else []
+
+
+def option_row(option):
+    """A row of clap's help that tells an option."""
+    shown = option["name"] + (f" <{option['value']}>" if "value" in option else "")
+    values = f" [default: {option['values'][0]}] [possible values: {', '.join(option['values'])}]" if "values" in option else ""
+    return [shown, option["help"] + values]
+
+
+def told(tool, program):
+    """Rows: a name, what is described, and what `rt1553-tool` tells."""
+    text, _ = run(tool, "--help")
+    found = [row for row in rows_of(text, "Commands") if row[0] != "help"]
+    yield "the words of rt1553-tool", [[word["name"], word["about"]] for word in program["word"]], found
+    for word in program["word"]:
+        text, _ = run(tool, word["name"], "--help")
+        found = [[re.sub(r"[^A-Z]", "", name), help] for name, help in rows_of(text, "Arguments")]
+        yield f"what {word['name']} takes", [[takes["name"], takes["help"]] for takes in word["takes"]], found
+        found = [row for row in rows_of(text, "Options") if "--help" not in row[0]]
+        yield f"the options of {word['name']}", [option_row(option) for option in word.get("options", [])], found
+    number, canonical = version()
+    yield "the version", (f"rt1553-tool {number} (canonical text {canonical})\n", 0), run(tool, "--version")
+
+
+def examples(program, folder):
+    """Rows: what the examples of a page are to print, and what they print."""
+    for example in program["example"]:
+        done = subprocess.run(["bash", "-c", example["command"]], cwd=folder, env={**os.environ, "PATH": f"{folder}/bin:{os.environ['PATH']}"},
+                              stdin=subprocess.DEVNULL, stdout=subprocess.PIPE, stderr=subprocess.STDOUT, text=True, check=False)
+        yield example["command"], example["prints"], done.stdout
+
+
+def rows(tool, program):
+    """All that is compared: a name, what is wanted, and what is found."""
+    for path, text in made():
+        yield f"{path.name} is as it is written", text, path.read_text() if path.is_file() else None
+    first, second = PROGRAMS["program"]
+    yield "the usage line of rt1553", usage_of(first), run(program, "--help")
+    yield from told(tool, second)
+    with tempfile.TemporaryDirectory() as folder:
+        os.mkdir(f"{folder}/bin")
+        os.symlink(program, f"{folder}/bin/rt1553")
+        os.symlink(tool, f"{folder}/bin/rt1553-tool")
+        os.symlink(TOP / "examples", f"{folder}/examples")
+        yield from examples(first, folder)
+        yield from examples(second, folder)
+
+
+def check(tool, program):
+    passed = failed = 0
+    for name, wanted, found in rows(os.path.realpath(tool), os.path.realpath(program)):
+        passed, failed = passed + (wanted == found), failed + (wanted != found)
+        if wanted != found:
+            print(f"FAILED: {name}\nis to be\n{wanted}\nand is\n{found}")
+    print(f"{passed} passed, {failed} failed")
+    return 1 if failed or not passed else 0
+
+
+def main(words):
+    match words:
+        case ["write"]:
+            for path, text in made():
+                path.write_text(text)
+        case ["version"]:
+            print(version()[0])
+        case ["check", tool, program]:
+            return check(tool, program)
+        case _:
+            return __doc__
+    return 0
+
+
+PROGRAMS = tomllib.loads(WORDS.read_text())
+
+if __name__ == "__main__":
+    sys.exit(main(sys.argv[1:]))
