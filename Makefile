@@ -16,21 +16,25 @@ check: ## proves one crate, and what it stands on: make check CRATE=bus_word
 	@if [ -z "$(CRATE)" ] || [ ! -d "crates/$(CRATE)" ]; then echo "make check CRATE=NAME, where NAME is one of:" $$(ls crates) >&2; exit 1; fi
 	cd "crates/$(CRATE)" && rt check
 
+library: ## proves and builds the library for C, C++, Python and Rust: bin/library
+	@bash scripts/need.sh rt cc ar ld objcopy objdump python3
+	@bash scripts/library.sh build
+
 test: ## the gate: proves and tests everything from nothing; the last line is 'N passed, M failed'
-	@bash scripts/need.sh rt python3 cc
+	@bash scripts/need.sh rt python3 cc c++ cargo groff vim dpkg-deb git
 	bash scripts/gate.sh
 
 bench: ## the speed beside that of two programs in plain Rust; no test
 	@bash scripts/need.sh rt rustc
 	bash bench/run.sh
 
-install: ## copies programs, man pages, completions and schemas below PREFIX, /usr/local
+install: ## copies programs, man pages, completions, schemas and, where it is built, the library below PREFIX, /usr/local
 	@bash scripts/install.sh install
 
 uninstall: ## removes them
 	@bash scripts/install.sh uninstall
 
-deb: ## a Debian package of what is built: bin/rt1553_VERSION_ARCHITECTURE.deb
+deb: ## a Debian package of what is built, the library too where it is: bin/rt1553_VERSION_ARCHITECTURE.deb
 	@bash scripts/need.sh python3 dpkg-deb dpkg-shlibdeps
 	@bash scripts/deb.sh
 
@@ -42,4 +46,4 @@ clean: ## removes what was built: bin/, and crates/*/out, the work of the proofs
 	@du -shc bin out crates/*/out 2>/dev/null | tail -n 1 | sed 's/\ttotal/ are freed; make build proves and builds anew/'
 	@rm -rf bin out crates/*/out
 
-.PHONY: build help check test bench install uninstall deb pages clean
+.PHONY: build help check library test bench install uninstall deb pages clean

@@ -73,7 +73,7 @@ END
 make_rows() {
     local word
     make --silent help >"$work/help"
-    for word in build help check test bench install uninstall deb pages clean; do
+    for word in build help check library test bench install uninstall deb pages clean; do
         grep -q "^make $word  *[a-z]" "$work/help"
         count "make help tells of $word" $?
     done

@@ -1,7 +1,7 @@
 #!/usr/bin/env bash
 # The gate: every proof, test and program from nothing, then the must-fail edits, and beside them the built programs from
-# end to end, texts with known answers, the protocol tests, and the sessions of the pages. The last line, 'N passed, M
-# failed', adds the counts of the parts.
+# end to end, texts with known answers, the protocol tests, the library in C, C++, Python and Rust, the sessions of the
+# pages, and what is installed. The last line, 'N passed, M failed', adds the counts of the parts.
 set -uo pipefail
 cd "$(dirname "$0")/.." || exit 1
 work=$(mktemp -d) || exit 1
@@ -50,7 +50,9 @@ if [[ $failed -eq 0 ]]; then
     part python3 scripts/texts.py "${programs[@]}"
     part python3 scripts/validation.py "${programs[@]}"
     part bash scripts/tool.sh "${tools[@]}"
-    part python3 scripts/sessions.py "$built"/crates/rt1553_{program/out/rt1553_program,tool_program/out/rt1553_tool_program}
+    part bash scripts/callers.sh "$built"
+    part python3 scripts/sessions.py "${programs[0]}" "${tools[0]}"
+    part bash scripts/first-hour.sh "${programs[0]}" "${tools[0]}"
     wait "$edits"
     part cat "$work/edits"
 fi

@@ -1,5 +1,6 @@
 #!/usr/bin/env bash
 # Copies what was built, and its pages, below $DESTDIR$PREFIX, or removes them: install.sh install|uninstall
+# The library goes with them where `make library` has built it.
 set -euo pipefail
 cd "$(dirname "$0")/.."
 to=${DESTDIR:-}${PREFIX:-/usr/local}
@@ -30,10 +31,12 @@ install)
         exit 1
     fi
     files | while read -r file mode place; do install -D -m "$mode" "$file" "$to/$place" || exit 1; done
+    if [[ -d bin/library ]]; then bash scripts/library.sh install; fi
     echo "rt1553 and rt1553-tool are installed in $to: man rt1553"
     ;;
 uninstall)
     files | while read -r _ _ place; do rm -f "$to/$place"; done
+    bash scripts/library.sh uninstall
     if [[ -d $to/share/rt1553 ]]; then find "$to/share/rt1553" -type d -empty -delete; fi
     echo "rt1553 and rt1553-tool are removed from $to"
     ;;

@@ -4,6 +4,7 @@
 #     scripts/library.sh build [BUILT]   proves the calls in BUILT, a copy of this repository, or here, and leaves the library in
 #                                        BUILT/bin/library: include/, lib/ with its pkg-config file, python/ and the wheel
 #     scripts/library.sh install [BUILT] copies what `build` left there to $DESTDIR$PREFIX; PREFIX is /usr/local where it isn't set
+#     scripts/library.sh uninstall       removes it from there
 set -euo pipefail
 top=$(realpath "$(dirname "$0")/..")
 
@@ -26,20 +27,41 @@ whole_object() {
 # the newest version of the C library that a shared library asks for: newest_glibc FILE
 newest_glibc() { objdump -T "$1" | grep -o 'GLIBC_[0-9.]*' | sort -V | tail -n 1 | sed s/GLIBC_//; }
 
+# the crates below one, as crates.txt has them: below NAME
+below() { sed -n "s/^$1\( staticlib\)\?: *//p" crates.txt; }
+
+# Proves and builds the calls, as crates/rt1553_c/out/librt1553_c.a: archive KIT. Where `rt ci` has run, the libraries below
+# stand as it left them, without the stamp by which `rt lib` knows that they needn't be proved again.
+archive() {
+    local kit=$1 name words
+    if [[ ! -d crates/rt1553/out/rlib || -e crates/rt1553/out/rlib/stamp ]]; then
+        (cd crates/rt1553_c && rt lib)
+        return
+    fi
+    words=(--crate-name rt1553_c src/lib.rt --crate-type staticlib --links rt1553_c= --extern "std=$kit/rlibs/std.rlib"
+        --antt-project "$kit/rattle/logic/antt-project.json" --logic-built "$kit/logic_built" --toolchain "$kit/toolchain"
+        --backend llvm -L "dependency=$kit/rlibs")
+    for name in crates/*/out/rlib; do words+=(-L "dependency=$PWD/$name"); done
+    for name in $(below rt1553_c); do words+=(--extern "$name=$PWD/crates/$name/out/rlib/$name.rlib"); done
+    mkdir -p crates/rt1553_c/out
+    (cd crates/rt1553_c && "$kit/bin/rattle" build "${words[@]}" -o out/librt1553_c.a)
+}
+
 build() {
     local built to kit version
     built=$(realpath "${1:-"$top"}")
     to=$built/bin/library
     needs rt cc ar ld objcopy objdump python3
-    (cd "$built/crates/rt1553_c" && rt lib)
-    # the calls of malloc, realloc and free that the toolchain brings
-    kit=$(dirname "$(rt doc)")/c/liblibc_c.a
+    # the toolchain's first page stands at its top
+    kit=$(dirname "$(rt doc)")
+    (cd "$built" && archive "$kit")
 
     rm -rf "$to"
     mkdir -p "$to"/{include,lib/pkgconfig,python}
     cp "$top"/library/c/rt1553.{h,hpp} "$to/include"
     cc -O2 -fPIC -Wall -Wextra -Werror -c -o "$to/batch.o" "$top/library/c/rt1553_batch.c"
-    whole_object "$to/rt1553.o" "$built/crates/rt1553_c/out/librt1553_c.a" "$kit" "$to/batch.o"
+    # with the calls of malloc, realloc and free that the toolchain brings
+    whole_object "$to/rt1553.o" "$built/crates/rt1553_c/out/librt1553_c.a" "$kit/c/liblibc_c.a" "$to/batch.o"
     ar rcs "$to/lib/librt1553.a" "$to/rt1553.o"
     cc -shared -o "$to/lib/librt1553.so.0" -Wl,-soname,librt1553.so.0 -Wl,--version-script="$top/library/c/rt1553.map" \
         -Wl,-z,defs,-z,text "$to/rt1553.o"
@@ -70,8 +92,14 @@ install_library() {
     install -D -m 644 -t "$to/share/rt1553" "$from"/rt1553-*.whl
 }
 
+uninstall_library() {
+    local to=${DESTDIR:-}${PREFIX:-/usr/local}
+    rm -f "$to"/include/rt1553.h{,pp} "$to"/lib/librt1553.{a,so,so.0} "$to"/lib/pkgconfig/rt1553.pc "$to"/share/rt1553/rt1553-*.whl
+}
+
 case ${1:-} in
     build) build "${2:-}" ;;
     install) install_library "${2:-}" ;;
-    *) sed -n '4,7s/^# \{0,1\}//p' "$0" >&2; exit 3 ;;
+    uninstall) uninstall_library ;;
+    *) sed -n '4,8s/^# \{0,1\}//p' "$0" >&2; exit 3 ;;
 esac

@@ -322,7 +322,8 @@ def tried(crate):
 def listed_crates():
     """The crates of crates.txt with what each stands on, lowest first."""
     lines = [it.partition(":") for it in read(f"{TOP}/crates.txt").split("\n") if it and not it.startswith("#")]
-    return {name: rest.split() for name, _, rest in lines}
+    # a static library has that word behind its name
+    return {name.split()[0]: rest.split() for name, _, rest in lines}
 
 
 def main(built, *names):

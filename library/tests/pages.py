@@ -21,16 +21,16 @@ PAGE = "docs/library.md"
 
 def main(library):
     passed = failed = 0
-    with tempfile.TemporaryDirectory() as folder:
-        os.mkdir(f"{folder}/bin")
-        os.symlink(os.path.realpath(library), f"{folder}/bin/library")
+    with tempfile.TemporaryDirectory() as top:
+        os.mkdir(f"{top}/bin")
+        os.symlink(os.path.realpath(library), f"{top}/bin/library")
         for name in ("examples", "library"):
-            os.symlink(TOP / name, f"{folder}/{name}")
+            os.symlink(TOP / name, f"{top}/{name}")
+        folder = top
         for block in sessions.blocks_of((TOP / PAGE).read_text()):
             for command, wanted in sessions.sessions_of(block):
-                if sessions.LEFT_OUT.match(command):
-                    continue
-                if (found := sessions.printed(command, folder)) == wanted:
+                found, folder = sessions.printed(command, top, folder)
+                if found == wanted:
                     passed += 1
                 else:
                     failed += 1
