@@ -137,6 +137,8 @@ in_python() {
     export PYTHONPATH=$package
     done_by 'the docstrings of the package' python3 -c 'import doctest, rt1553, sys; sys.exit(doctest.testmod(rt1553).failed)'
     part 'the package' python3 "$tests/package.py"
+    [[ $(python3 -c 'import rt1553; print("{}.{}".format(*rt1553.version()))') == "$(python3 "$top/scripts/manual.py" version)" ]]
+    count 'the library has the version of the programs' $?
     mkdir "$work/cases"
     printf '#!/bin/sh\nexec python3 %q "$@"\n' "$tests/player.py" >"$work/player-python"
     chmod +x "$work/player-python"

@@ -19,7 +19,7 @@ import tomllib
 
 TOP = pathlib.Path(__file__).resolve().parent.parent
 WORDS = TOP / "manual/words.toml"
-VERSION = TOP / "crates/rt1553_tool_program/src/words.rt"
+VERSION = TOP / "crates/rt1553_tool_words/src/words.rt"
 MADE = "made by scripts/manual.py of manual/words.toml"
 # the endings by which files are completed
 ENDINGS = {"profile": ["toml", "rt1553"], "script": ["script"], "folder": []}

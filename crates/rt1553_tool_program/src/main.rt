@@ -12,7 +12,6 @@ mod live;
 mod profile_toml;
 mod summary;
 mod verify;
-mod words;
 mod work;
 
 use std::process::ExitCode;
