@@ -37,7 +37,7 @@ from typing import NamedTuple, Optional
 TOP = os.path.dirname(os.path.dirname(os.path.realpath(__file__)))
 PARTS = ("src", "specs", "proofs")
 # the first line of a function, and of a block of methods with the type that it is for
-HEAD = re.compile(r"^( *)(?:pub(?:\(\w+\))? )?(?:const )?fn (\w+)", re.M)
+HEAD = re.compile(r"^( *)(?:pub(?:\(\w+\))? )?(?:const )?(?:unsafe )?(?:extern \"C\" )?fn (\w+)", re.M)
 OWNER = re.compile(r"^( *)(?:impl|trait)\b(?:[^\n{]*[ >])?(\w+)(?:<[^\n{]*>)? \{$", re.M)
 # an error in an answer by hand: the file, and the answer's name; and one for answers that name such an answer: their names
 UNFIT = re.compile(r"^(?:\./)?(proofs/\S+/Answers\.antt):\d+:\d+: error: `([^`]+)`: ")
@@ -87,7 +87,8 @@ def functions_of(file, text):
         closes = opens and re.compile(rf"^{indent}\}}$", re.M).search(text, opens.end() - 1)
         if closes:
             owners = [it[2] for it in OWNER.finditer(text, 0, head.start()) if len(it[1]) < len(indent)]
-            yield Function(file, owners[-1] if owners else "", head[2], opens.end(), closes.start())
+            # the body begins behind the brace, on its line
+            yield Function(file, owners[-1] if owners else "", head[2], opens.end() - 1, closes.start())
 
 
 def applied(text, folder):
