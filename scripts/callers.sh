@@ -159,7 +159,11 @@ in_rust() {
 # --- the same texts and scripts in each language
 
 players() {
-    local name
+    local name program
+    # the program itself, where it is built, gives the same transcripts
+    for program in "$built"/crates/rt1553_program/out/rt1553_program{,.by-rattle}; do
+        [[ ! -x $program ]] || part "cases, ${program##*/}" python3 "$tests/vectors.py" "$work/cases" "$program"
+    done
     for name in c c-checked cpp cpp-checked rust python; do
         part "cases, player-$name" python3 "$tests/vectors.py" "$work/cases" "$work/player-$name"
         part "protocol tests, player-$name" python3 "$top/scripts/validation.py" "$work/player-$name"

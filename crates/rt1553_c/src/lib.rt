@@ -100,7 +100,7 @@ pub extern "C" fn rt1553_canonical(
 ) -> u8
     ensures canonical { result ≡ DONE → IsCanon text.now (take filled.new to.new) × (fault.new ≡ fault.old) }
     ensures no_room { result ≡ NO_ROOM → IsTooLong text.now filled.new (length to.old) × (to.new ≡ to.old) × (fault.new ≡ fault.old) }
-    ensures refused { result ≢ DONE → result ≢ NO_ROOM → IsTold (IsNotWritten text.now) fault.new result × (to.new ≡ to.old) }
+    ensures refused { result ≢ DONE → result ≢ NO_ROOM → IsTold (IsNotWritten text.now) fault.new result × (to.new ≡ to.old) × (filled.new ≡ 0) }
 {
     *filled = 0;
     match canonical(alloc, text) {
@@ -127,11 +127,12 @@ pub extern "C" fn rt1553_compare(
     filled: &mut usize,
     fault: &mut PlainFault,
 ) -> u8
-    ensures same { result ≡ DONE → AreSame first.now second.now × (fault.new ≡ fault.old) }
+    ensures same { result ≡ DONE → AreSame first.now second.now × (to.new ≡ to.old) × (filled.new ≡ 0) × (fault.new ≡ fault.old) }
     ensures differ { result ≡ DIFFER → (script : List Event) × AreDifferent first.now second.now script
         × (take filled.new to.new ≡ script_text script) × (fault.new ≡ fault.old) }
     ensures no_room { result ≡ NO_ROOM → Differ first.now second.now × (fault.new ≡ fault.old) }
-    ensures refused { result ≢ DONE → result ≢ DIFFER → result ≢ NO_ROOM → IsTold (IsNotCompared first.now second.now) fault.new result }
+    ensures refused { result ≢ DONE → result ≢ DIFFER → result ≢ NO_ROOM → IsTold (IsNotCompared first.now second.now) fault.new result
+        × (to.new ≡ to.old) × (filled.new ≡ 0) }
 {
     *filled = 0;
     match compare(alloc, first, second) {
@@ -160,22 +161,25 @@ pub extern "C" fn rt1553_run(
 ) -> u8
     ensures done { result ≡ DONE → RunsThrough profile.now script.now (take filled.new to.new) × (fault.new ≡ fault.old) }
     ensures stopped { result ≢ DONE → result ≢ NO_ROOM → IsStopped profile.now script.now (take filled.new to.new) fault.new result }
-    ensures no_room { result ≡ NO_ROOM → fault.new ≡ fault.old }
+    ensures no_room { result ≡ NO_ROOM → (P : Description) × Of profile.now P × (fault.new ≡ fault.old) }
 {
     *filled = 0;
     let mut source = MemorySource::new(script, usize::MAX, None);
     let mut sink = Kept::new(alloc, to.len());
-    let answer = run(alloc, profile, &mut source, &mut sink);
-    if !put(to, filled, sink.as_slice()) {
-        return NO_ROOM;
-    }
-    match answer {
-        Ok(_) => DONE,
-        Err(why) => {
-            if sink.is_full() {
+    match run(alloc, profile, &mut source, &mut sink) {
+        Ok(_) => {
+            if put(to, filled, sink.as_slice()) {
+                DONE
+            } else {
+                NO_ROOM
+            }
+        }
+        Err(EngineFault::Load(why)) => told(fault, why),
+        Err(EngineFault::Script(why)) => {
+            if !put(to, filled, sink.as_slice()) || sink.is_full() {
                 NO_ROOM
             } else {
-                tell_fault(fault, &why)
+                tell_fault(fault, &EngineFault::Script(why))
             }
         }
     }
