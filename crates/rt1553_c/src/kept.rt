@@ -18,6 +18,7 @@ impl Kept {
     pub fn new(alloc: Global, most: usize) -> Kept
         ensures written { ⟦<Kept as Sink>⟧.written result ≡ Some [] }
         ensures fresh { ⟦<Kept as Sink>⟧.has_failed result ≡ false }
+        ensures most { result.most ≡ most }
     {
         Kept {
             bytes: Vec::new(alloc),
@@ -28,7 +29,9 @@ impl Kept {
     }
 
     /// Whether a write failed because there would have been more than `most` bytes.
-    pub fn is_full(&self) -> bool {
+    pub fn is_full(&self) -> bool
+        ensures { result ≡ self.now.full }
+    {
         self.full
     }
 
