@@ -12,18 +12,7 @@ architecture=$(dpkg --print-architecture)
 
 DESTDIR=$root PREFIX=/usr ZSH_FUNCTIONS=share/zsh/vendor-completions bash scripts/install.sh install >/dev/null
 gzip -9n "$root"/usr/share/man/man1/*.1
-# what `make library` leaves: headers, libraries, and else what its users read
-if [[ -d bin/library ]]; then
-    find bin/library -type f -printf '%P\n' | sort | while read -r name; do
-        case $name in
-        *.h | *.hpp) place=include/${name##*/} ;;
-        *.a | *.so | *.so.*) place=lib/${name##*/} ;;
-        *.pc) place=lib/pkgconfig/${name##*/} ;;
-        *) place=share/rt1553/library/$name ;;
-        esac
-        install -D -m 644 "bin/library/$name" "$root/usr/$place"
-    done
-fi
+if [[ -d bin/library ]]; then DESTDIR=$root PREFIX=/usr bash scripts/library.sh install >/dev/null; fi
 doc=$root/usr/share/doc/rt1553
 mkdir -p "$doc"
 gzip -9nc CHANGELOG.md >"$doc/changelog.gz"
