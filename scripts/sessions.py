@@ -4,8 +4,9 @@
 A session is an indented line `$ COMMAND` of a page, with what it prints in the lines below it, to the letter. Those of a
 page are played one after the other, each in the folder in which the one before ended; they begin in a temporary folder of the page's
 own that has `examples/` and the two programs, as `bin/rt1553` and `rt1553`, and with `-tool` behind it. A command that isn't
-played stands in NOT_PLAYED with its reason, a page that another script plays in ELSEWHERE. What looks like a command and is in no session is told, a block of TOML is to be a profile that is
-accepted, and what a page names of this repository is to be there. The last line is 'N passed, M failed'.
+played stands in NOT_PLAYED with its reason, a page that another script plays in ELSEWHERE. What looks like a command and is in no
+session is told, a block of TOML is to be a profile that is accepted, and what a page names of this repository is to be there. The
+last line is 'N passed, M failed'.
 """
 
 import os
