@@ -12,10 +12,6 @@ architecture=$(dpkg --print-architecture)
 
 DESTDIR=$root PREFIX=/usr ZSH_FUNCTIONS=share/zsh/vendor-completions bash scripts/install.sh install >/dev/null
 gzip -9n "$root"/usr/share/man/man1/*.1
-<<<<<<< HEAD
-=======
-if [[ -d bin/library ]]; then DESTDIR=$root PREFIX=/usr bash scripts/library.sh install >/dev/null; fi
->>>>>>> firsthour
 doc=$root/usr/share/doc/rt1553
 mkdir -p "$doc"
 gzip -9nc CHANGELOG.md >"$doc/changelog.gz"

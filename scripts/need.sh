@@ -7,11 +7,8 @@ declare -A from=(
     [python3]='Debian package python3'
     [cc]='a C compiler; Debian package gcc'
     [c++]='a C++ compiler; Debian package g++'
-<<<<<<< HEAD
     [cargo]='Rust with cargo; Debian package cargo'
     [git]='Debian package git'
-=======
->>>>>>> firsthour
     [ar]='Debian package binutils'
     [ld]='Debian package binutils'
     [objcopy]='Debian package binutils'
