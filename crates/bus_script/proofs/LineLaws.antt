@@ -11,7 +11,7 @@ use Rattle.bus_script.specs.Digits.{word_of}
 use Rattle.bus_script.specs.Line.{bus_of, kind_of}
 use Rattle.bus_script.proofs.DigitLaws.{no_feed_in_digits}
 use Rattle.bus_script.specs.Reading.{Meaning}
-use Rattle.bus_script.specs.inner.Lines.{StartsLine, StandsFirst}
+use Rattle.bus_script.specs.inner.Lines.{StandsFirst}
 
 -- a byte that is no line feed
 pub lines-other : (b : ℕ) (bytes : List ℕ) → b ≢ 10 → lines_of (b ∷ bytes) ≡ onto_first b (lines_of bytes)

@@ -48,11 +48,6 @@ sent_ascii s =
     (IsAscii-append (sent_kind s.kind) (digits_of s.bits ++ 10 ∷ []) (kind_ascii s.kind)
     (IsAscii-append (digits_of s.bits) (10 ∷ []) (digits_ascii s.bits) (ascii_at (10 ∷ []) refl)))
 
--- a line of nine bytes, by its letters
-pub sent_bytes : (s : Sending) (l k : ℕ) (digits : List ℕ) → l ∷ [] ≡ bus_letter s.bus → 32 ∷ k ∷ 32 ∷ [] ≡ sent_kind s.kind → digits ≡ digits_of s.bits
-    → (l ∷ []) ++ ((32 ∷ k ∷ 32 ∷ []) ++ (digits ++ 10 ∷ [])) ≡ sent_text s
-sent_bytes s l k digits a b c = λ i. a i ++ (b i ++ (c i ++ 10 ∷ []))
-
 pub received_length : (broadcast : Bool) (subaddress : ℕ) (words : List ℕ) → length (received_text broadcast subaddress words) ≡ length (received_by broadcast) + (3 + 5 * length words)
 received_length true subaddress words = omega (arith, length-append (flat_map word_field words) (10 ∷ []), fields_length words)
 received_length false subaddress words = omega (arith, length-append (flat_map word_field words) (10 ∷ []), fields_length words)
