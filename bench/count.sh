@@ -1,5 +1,5 @@
 #!/usr/bin/env bash
-# The benchmark in instructions: how many the program and its two peers take for scripts of 100,000 lines, as
+# The benchmark in instructions: how many the program and its three peers take for scripts of 100,000 lines, as
 # callgrind (of valgrind) counts them. The counts hardly differ from run to run; they are no times.
 #
 #   LINES_EACH   how many lines a script has      PROGRAM  another program than bin/rt1553
@@ -18,14 +18,14 @@ instructions() {
 
 prepare "$lines"
 echo "instructions for $lines lines"
-row='%-10s %14s %14s %14s %14s %18s\n'
+row='%-10s %12s %12s %12s %12s %13s %14s %18s\n'
 # shellcheck disable=SC2059
-printf "$row" script program tuned idiomatic program/tuned program/idiomatic
+printf "$row" script program best tuned idiomatic program/best program/tuned program/idiomatic
 for script in "${scripts[@]}"; do
     demand_same_transcript "$script"
     declare -A count=()
     for contender in "${contenders[@]}"; do count[$contender]=$(instructions "$contender" "$script"); done
     # shellcheck disable=SC2059
-    printf "$row" "$script" "${count[program]}" "${count[tuned]}" "${count[idiomatic]}" \
-        "$(quotient "${count[program]}" "${count[tuned]}")" "$(quotient "${count[program]}" "${count[idiomatic]}")"
+    printf "$row" "$script" "${count[program]}" "${count[best]}" "${count[tuned]}" "${count[idiomatic]}" \
+        "$(quotient "${count[program]}" "${count[best]}")" "$(quotient "${count[program]}" "${count[tuned]}")" "$(quotient "${count[program]}" "${count[idiomatic]}")"
 done

@@ -6,8 +6,8 @@
 work=$(mktemp -d)
 trap 'rm -rf "$work"' EXIT
 
-contenders=(program tuned idiomatic)
-read -ra scripts <<<"${SCRIPTS:-receive transmit single mixed slots comments}"
+contenders=(program best tuned idiomatic)
+read -ra scripts <<<"${SCRIPTS:-receive transmit single status mixed slots comments}"
 
 # makes all that is measured, with scripts of so many lines: prepare LINES
 prepare() {
@@ -17,6 +17,8 @@ prepare() {
     for peer in tuned idiomatic make_scripts; do
         rustc --edition 2021 -O "bench/peer/$peer.rs" -o "$work/$peer"
     done
+    # for the processors that the program is built for
+    rustc --edition 2021 -O -C target-cpu=x86-64-v2 bench/peer/best.rs -o "$work/best"
     ln -s "$program" "$work/program"
     "$work/make_scripts" "$work" "$1"
 }

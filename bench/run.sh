@@ -1,5 +1,5 @@
 #!/usr/bin/env bash
-# The benchmark: the least processor time, user and system together, that the program and its two peers take
+# The benchmark: the least processor time, user and system together, that the program and its three peers take
 # for scripts of 1,000,000 lines, and what `wc -l` takes for them. They run in turns, several rounds, and
 # write their transcripts to /dev/null. Nothing here is a test: times differ from run to run.
 #
@@ -40,15 +40,16 @@ in_milliseconds() { quotient "$1" "$runs"; }
 
 prepare "$lines"
 echo "milliseconds of processor time for $lines lines, the least of $rounds rounds"
-row='%-10s %10s %10s %10s %10s %14s %18s\n'
+row='%-10s %9s %9s %9s %9s %9s %13s %14s %18s\n'
 # shellcheck disable=SC2059
-printf "$row" script program tuned idiomatic 'wc -l' program/tuned program/idiomatic
+printf "$row" script program best tuned idiomatic 'wc -l' program/best program/tuned program/idiomatic
 for script in "${scripts[@]}"; do
     demand_same_transcript "$script"
     declare -A least=()
     for ((round = 0; round < rounds; round++)); do measure "$script"; done
     # shellcheck disable=SC2059
-    printf "$row" "$script" "$(in_milliseconds "${least[program]}")" "$(in_milliseconds "${least[tuned]}")" \
-        "$(in_milliseconds "${least[idiomatic]}")" "$(in_milliseconds "${least[lines]}")" \
-        "$(quotient "${least[program]}" "${least[tuned]}")" "$(quotient "${least[program]}" "${least[idiomatic]}")"
+    printf "$row" "$script" "$(in_milliseconds "${least[program]}")" "$(in_milliseconds "${least[best]}")" \
+        "$(in_milliseconds "${least[tuned]}")" "$(in_milliseconds "${least[idiomatic]}")" "$(in_milliseconds "${least[lines]}")" \
+        "$(quotient "${least[program]}" "${least[best]}")" "$(quotient "${least[program]}" "${least[tuned]}")" \
+        "$(quotient "${least[program]}" "${least[idiomatic]}")"
 done

@@ -1,5 +1,5 @@
 //! Makes the scripts of the benchmark: `make_scripts FOLDER LINES` writes into the folder a profile,
-//! `profile.toml`, and six scripts of so many lines for it. The same words give the same scripts.
+//! `profile.toml`, and seven scripts of so many lines for it. The same words give the same scripts.
 use std::fs::File;
 use std::io::{self, BufWriter, Write};
 use std::path::Path;
@@ -62,10 +62,11 @@ type Part = fn(&mut Maker) -> io::Result<()>;
 
 fn make_all(folder: &Path, lines: usize) -> io::Result<()> {
     std::fs::write(folder.join("profile.toml"), PROFILE)?;
-    let scripts: [(&str, Part); 6] = [
+    let scripts: [(&str, Part); 7] = [
         ("receive", receive),
         ("transmit", transmit),
         ("single", single),
+        ("status", status),
         ("mixed", mixed),
         ("slots", slot),
         ("comments", comment),
@@ -173,6 +174,12 @@ fn transmit(maker: &mut Maker) -> io::Result<()> {
 fn single(maker: &mut Maker) -> io::Result<()> {
     maker.command('A', OWN | field(1, 1))?;
     maker.data('A', 1)?;
+    maker.answered_gap('A', 0)
+}
+
+/// A message that asks for the status word alone, by mode code 2.
+fn status(maker: &mut Maker) -> io::Result<()> {
+    maker.command('A', OWN | TRANSMIT | field(0, 2))?;
     maker.answered_gap('A', 0)
 }
 

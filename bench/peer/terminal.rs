@@ -653,3 +653,7 @@ impl Terminal {
         self.last_command = 0;
     }
 }
+
+#[allow(dead_code)]
+#[path = "whole.rs"]
+pub mod whole;

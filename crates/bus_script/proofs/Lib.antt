@@ -7,3 +7,4 @@ pub mod PlayLaws
 pub mod FeedLaws
 pub mod RunLaws
 pub mod SinkLaws
+mod ChunkLaws

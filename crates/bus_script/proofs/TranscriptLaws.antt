@@ -1,5 +1,8 @@
 -- Laws of the lines of a transcript: how long they are.
-use Rattle.std.proofs.Common.{ℕ, ◌≡◌, ◌≤◌, ◌+◌, ◌*◌, ◌∙◌, List, [], ◌∷◌, length, length-append, refl, arith, flat_map, Bool, true, false}
+use Rattle.std.specs.Str.{IsAscii}
+use Rattle.std.proofs.lemmas.Str.{IsAscii-append}
+use Rattle.bus_script.proofs.DigitLaws.{ascii_at, digits_ascii}
+use Rattle.std.proofs.Common.{ℕ, ◌≡◌, ◌≤◌, ◌+◌, ◌*◌, ◌∙◌, List, [], ◌∷◌, ◌++◌, length, length-append, refl, arith, flat_map, Bool, true, false}
 use Rattle.hex.specs.Hex.{encode_with}
 use Rattle.bus_word.specs.declared.word.Bus.{Bus}
 use Rattle.bus_word.specs.declared.word.Bus.TheVariants.{A, B}
@@ -11,7 +14,7 @@ use Rattle.terminal_rules.specs.declared.event.Event.TheVariants as event
 use Rattle.terminal_rules.specs.Out.{Sending, Handing, HandsReceived, HandsSynchronize, HandsSynchronizeWith, HandsSelfTest, HandsBusControl, Out, Silence, SendsWord, HandsOver}
 use Rattle.bus_terminal.specs.Answer.{words_handed, IsSmall}
 use Rattle.bus_script.specs.Digits.{digits_of}
-use Rattle.bus_script.specs.Transcript.{sent_text, word_field, received_by, received_text, hand_text, answer_text, text_at, may_be_answered}
+use Rattle.bus_script.specs.Transcript.{bus_letter, sent_kind, sent_text, word_field, received_by, received_text, hand_text, answer_text, text_at, may_be_answered}
 
 pub four_digits : (word : ℕ) → length (digits_of word) ≡ 4
 unfolding encode_with
@@ -30,6 +33,20 @@ sent_length s = on_bus s.bus s.kind
     on_bus A Dat = refl
     on_bus B Com = refl
     on_bus B Dat = refl
+
+letter_ascii : (bus : Bus) → IsAscii (bus_letter bus)
+letter_ascii A = ascii_at (bus_letter A) refl
+letter_ascii B = ascii_at (bus_letter B) refl
+
+kind_ascii : (kind : Kind) → IsAscii (sent_kind kind)
+kind_ascii Com = ascii_at (sent_kind Com) refl
+kind_ascii Dat = ascii_at (sent_kind Dat) refl
+
+pub sent_ascii : (s : Sending) → IsAscii (sent_text s)
+sent_ascii s =
+    IsAscii-append (bus_letter s.bus) (sent_kind s.kind ++ (digits_of s.bits ++ 10 ∷ [])) (letter_ascii s.bus)
+    (IsAscii-append (sent_kind s.kind) (digits_of s.bits ++ 10 ∷ []) (kind_ascii s.kind)
+    (IsAscii-append (digits_of s.bits) (10 ∷ []) (digits_ascii s.bits) (ascii_at (10 ∷ []) refl)))
 
 pub received_length : (broadcast : Bool) (subaddress : ℕ) (words : List ℕ) → length (received_text broadcast subaddress words) ≡ length (received_by broadcast) + (3 + 5 * length words)
 received_length true subaddress words = omega (arith, length-append (flat_map word_field words) (10 ∷ []), fields_length words)

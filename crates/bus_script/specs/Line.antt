@@ -24,6 +24,10 @@ by_rest None f other = other
 abbrev pub by_front : List ℕ → (List ℕ → Option Event) → List ℕ → Option Event → Option Event
 by_front front f line other = by_rest (after front line) f other
 
+-- the bus of a letter
+abbrev pub bus_of : ℕ → Option Bus
+bus_of b = if b == 65 then Some A else if b == 66 then Some B else None
+
 -- 'c' is the command sync, 'd' the data sync
 abbrev pub kind_of : ℕ → Option Kind
 kind_of b = if b == 99 then Some Com else if b == 100 then Some Dat else None

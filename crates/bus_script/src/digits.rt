@@ -1,19 +1,32 @@
 //! Numbers as they are written in scripts and transcripts.
-ghost use Rattle.std.specs.Prelude.{◌≡◌, ◌<◌, ◌+◌, ◌++◌, ◌≤◌, ℕ, [], ◌∷◌, slice_index};
+ghost use Rattle.std.specs.Prelude.{◌≡◌, ◌<◌, ◌+◌, ◌++◌, ◌≤◌, ℕ, [], ◌∷◌, slice_index, IsAscii};
 ghost use Rattle.arrayvec.specs.ArrayString.{array_string_len};
-ghost use Rattle.bus_script.specs.Digits.{word_of, digits_of, number_of, decimal_digits};
+ghost use Rattle.bus_script.specs.Digits.{byte_of, word_of, digits_of, number_of, decimal_digits};
 
 use arrayvec::ArrayString;
 
-/// The word of four hexadecimal digits, small or capital.
+/// The byte of two hexadecimal digits, small or capital.
 #[inline(always)]
+fn read_pair(high: u8, low: u8) -> Option<u8>
+    ensures { result ≡ byte_of (high ∷ low ∷ []) }
+{
+    let mut byte = [0u8; 1];
+    match hex::decode_to_slice(&[high, low], &mut byte) {
+        Ok(()) => Some(byte[0]),
+        Err(_) => None,
+    }
+}
+
+/// The word of four hexadecimal digits, small or capital. Each pair has a place of its own: a processor that reads
+/// as one word what was just written as two bytes waits until both are in memory.
+#[inline(always)]
+#[tactic(auto, using(crate::proofs::DigitLaws::word_by_pairs))]
 pub fn read_word(a: u8, b: u8, c: u8, d: u8) -> Option<u16>
     ensures { result ≡ word_of (a ∷ b ∷ c ∷ d ∷ []) }
 {
-    let mut bytes = [0u8; 2];
-    match hex::decode_to_slice(&[a, b, c, d], &mut bytes) {
-        Ok(()) => Some(u16::from_be_bytes(bytes)),
-        Err(_) => None,
+    match (read_pair(a, b), read_pair(c, d)) {
+        (Some(high), Some(low)) => Some(u16::from_be_bytes([high, low])),
+        _ => None,
     }
 }
 
@@ -29,7 +42,8 @@ pub fn read_number(tens: u8, ones: u8) -> Option<u8>
 }
 
 /// The four hexadecimal digits of a word, small, the highest first.
-fn digits_of(word: u16) -> [u8; 4]
+#[inline(always)]
+pub fn digits_of(word: u16) -> [u8; 4]
     ensures digits { result ≡ digits_of word }
     ensures ascii { (i : ℕ) → slice_index (digits_of word) i < 128 }
 {
@@ -38,17 +52,23 @@ fn digits_of(word: u16) -> [u8; 4]
     digits
 }
 
-/// Writes a word's four hexadecimal digits.
+/// ASCII bytes as text.
+#[inline(always)]
+pub fn ascii(bytes: &[u8]) -> &str
+    requires { IsAscii bytes.now }
+    ensures { result.now ≡ bytes.now }
+{
+    unsafe { str::from_utf8_unchecked(bytes) }
+}
+
+/// Writes a word's four hexadecimal digits, in one piece.
+#[inline(always)]
 pub fn push_word<const N: usize>(text: &mut ArrayString<N>, word: u16)
     requires { array_string_len text.old + 4 ≤ N }
     ensures bytes { text.new.bytes ≡ text.old.bytes ++ digits_of word }
     ensures len { array_string_len text.new ≡ array_string_len text.old + 4 }
 {
-    let [a, b, c, d] = digits_of(word);
-    text.push(char::from(a));
-    text.push(char::from(b));
-    text.push(char::from(c));
-    text.push(char::from(d));
+    text.push_str(ascii(&digits_of(word)));
 }
 
 /// Writes a number, below 100, in two decimal digits.

@@ -9,11 +9,12 @@ ghost use Rattle.bus_script.specs.inner.Lines.{Faults, Reads};
 ghost use Rattle.bus_script.specs.inner.Feeding.{Feeds};
 ghost use Rattle.bus_script.specs.Played.{Played, PlayedPart};
 
-use crate::chunk::next_line;
-use crate::play::play_line;
+use crate::chunk::{MAX_LINES, next_line};
+use crate::front::{WORD_LINE, usual_answered, usual_word};
+use crate::play::{play_event, play_line};
 use crate::{RunFault, Sink};
 use bus_legal::Legality;
-use bus_terminal::Terminal;
+use bus_terminal::{Event, Terminal};
 
 /// How many lines and how many events were played.
 #[derive(Clone, Copy)]
@@ -43,6 +44,25 @@ pub fn feed_lines<L: Legality, W: Sink>(
     let mut at = 0;
     'lines: loop {
         let rest = &chunk[at..];
+        if counts.lines < MAX_LINES {
+            if let Some((bus, word)) = usual_word(rest) {
+                // a word is never answered
+                terminal.take(Event::Word(bus, word));
+                counts.events += 1;
+                counts.lines += 1;
+                at += WORD_LINE + 1;
+                continue 'lines;
+            }
+            if let Some((event, len)) = usual_answered(rest) {
+                match play_event(terminal, writer, event) {
+                    Ok(()) => counts.events += 1,
+                    Err(_) => return Err(RunFault::Write),
+                }
+                counts.lines += 1;
+                at += len + 1;
+                continue 'lines;
+            }
+        }
         let len = match next_line(counts.lines, rest) {
             Ok(Some(len)) => len,
             Ok(None) => return Ok(at),

@@ -7,6 +7,7 @@ mod digits;
 mod event_line;
 mod fault;
 mod feed;
+mod front;
 mod line;
 mod memory;
 mod play;

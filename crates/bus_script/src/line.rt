@@ -11,7 +11,8 @@ use line_format::after;
 #[derive(Clone, Copy, Debug, PartialEq, Eq)]
 pub struct LineFault;
 
-fn read_kind(byte: u8) -> Option<Kind>
+#[inline(always)]
+pub fn read_kind(byte: u8) -> Option<Kind>
     ensures { result ≡ kind_of byte }
 {
     match byte {

@@ -11,31 +11,50 @@ ghost use Rattle.bus_script.specs.inner.Lines.{Means, IsRefused};
 ghost use Rattle.bus_script.specs.Played.{Played, PlayedPart};
 
 use crate::line::read_event;
-use crate::transcript::write_answer;
+use crate::transcript::{push_answer, sent_line};
 use crate::writing::write_all;
 use crate::{IoFailed, RunFault, Sink};
+use arrayvec::ArrayString;
 use bus_legal::Legality;
 use bus_terminal::{Answer, Event, Terminal};
 
 /// Whether an answer has no line.
+#[inline(always)]
 fn is_silent(answer: &Answer) -> bool
     ensures { result ≡ true → answer_text (shown_answer answer.now) ≡ [] }
 {
     matches!(answer, Answer::Silent)
 }
 
-/// Writes the line of an answer.
+/// Writes the line of an answer by way of a text. It stands apart since a call pays for the text that it holds.
+#[inline(never)]
+fn send_text<W: Sink>(writer: &mut W, answer: &Answer) -> Result<(), IoFailed>
+    requires { IsSmall (shown_answer answer.now) }
+    ensures ok { OnOk result (Appends (W.written writer.old) (W.written writer.new) (answer_text (shown_answer answer.now))) }
+    ensures err { OnErr result (IsPartWritten (W.written writer.old) (W.written writer.new) (answer_text (shown_answer answer.now))) }
+    ensures failed { OnErr result (W.has_failed writer.new ≡ true) }
+{
+    let mut text = ArrayString::new();
+    push_answer(&mut text, answer);
+    write_all(writer, text.as_str().as_bytes())
+}
+
+/// Writes the line of an answer: that of a word, which most are, in one piece.
+#[inline(always)]
 fn send<W: Sink>(writer: &mut W, answer: &Answer) -> Result<(), IoFailed>
     requires { IsSmall (shown_answer answer.now) }
     ensures ok { OnOk result (Appends (W.written writer.old) (W.written writer.new) (answer_text (shown_answer answer.now))) }
     ensures err { OnErr result (IsPartWritten (W.written writer.old) (W.written writer.new) (answer_text (shown_answer answer.now))) }
     ensures failed { OnErr result (W.has_failed writer.new ≡ true) }
 {
-    let text = write_answer(answer);
-    write_all(writer, text.as_str().as_bytes())
+    match answer {
+        Answer::Sends(sent) => write_all(writer, &sent_line(sent)),
+        _ => send_text(writer, answer),
+    }
 }
 
 /// Whether the event is one that may be answered.
+#[inline(always)]
 fn may_be_answered(event: &Event) -> bool
     ensures { result ≡ may_be_answered event.now }
 {
@@ -43,7 +62,8 @@ fn may_be_answered(event: &Event) -> bool
 }
 
 /// Plays an event.
-fn play_event<L: Legality, W: Sink>(
+#[inline(always)]
+pub fn play_event<L: Legality, W: Sink>(
     terminal: &mut Terminal<L>,
     writer: &mut W,
     event: Event,
@@ -64,6 +84,7 @@ fn play_event<L: Legality, W: Sink>(
 }
 
 /// Plays a line that follows `lines` lines, and gives the number of its events: none or one.
+#[inline(never)]
 pub fn play_line<L: Legality, W: Sink>(
     terminal: &mut Terminal<L>,
     writer: &mut W,

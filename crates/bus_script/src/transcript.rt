@@ -1,25 +1,54 @@
 //! Answers as lines of a transcript.
-ghost use Rattle.std.specs.Prelude.{◌≡◌, ◌≤◌, ◌+◌, ◌*◌, ◌++◌, length};
+ghost use Rattle.std.specs.Prelude.{◌≡◌, ◌≤◌, ◌+◌, ◌*◌, ◌++◌, [], ◌∷◌, length, IsAscii};
 ghost use Rattle.std.specs.List.{flat_map};
 ghost use Rattle.arrayvec.specs.ArrayString.{array_string_len};
 ghost use Rattle.bus_terminal.specs.Answer.{shown_answer, shown_word, shown_handing};
-ghost use Rattle.bus_script.specs.Transcript.{sent_kind, sent_text, word_field, received_by, received_text, hand_text, answer_text};
+ghost use Rattle.bus_script.specs.Transcript.{bus_letter, sent_kind, sent_text, word_field, received_by, received_text, hand_text, answer_text};
 ghost use Rattle.terminal_rules.specs.Out.{HandsSynchronizeWith};
 
-use crate::digits::{push_number, push_word};
-use crate::event_line::bus_letter;
+use crate::digits::{ascii, digits_of, push_number, push_word};
 use arrayvec::ArrayString;
 use bus_terminal::{Answer, Hand, Sent};
-use bus_word::Kind;
+use bus_word::{Bus, Kind};
+
+/// The letter of a bus.
+fn letter(bus: Bus) -> u8
+    ensures { result ∷ [] ≡ bus_letter bus }
+{
+    match bus {
+        Bus::A => b'A',
+        Bus::B => b'B',
+    }
+}
 
 /// What tells a status word, which has command sync, from a data word.
-fn sent_kind(kind: Kind) -> &'static str
-    ensures { result.now ≡ sent_kind kind }
+fn sent_letter(kind: Kind) -> u8
+    ensures { 32 ∷ result ∷ 32 ∷ [] ≡ sent_kind kind }
 {
     match kind {
-        Kind::Com => " s ",
-        Kind::Dat => " d ",
+        Kind::Com => b's',
+        Kind::Dat => b'd',
     }
+}
+
+/// The line of a word that was sent, with its line feed.
+#[inline(always)]
+pub fn sent_line(sent: &Sent) -> [u8; 9]
+    ensures line { result ≡ sent_text (shown_word sent.now) }
+    ensures ascii { IsAscii (sent_text (shown_word sent.now)) }
+{
+    let [a, b, c, d] = digits_of(sent.bits);
+    [
+        letter(sent.bus),
+        b' ',
+        sent_letter(sent.kind),
+        b' ',
+        a,
+        b,
+        c,
+        d,
+        b'\n',
+    ]
 }
 
 /// Writes words as fields of a line.
@@ -29,7 +58,7 @@ fn push_fields(text: &mut ArrayString<320>, words: &[u16])
     ensures len { array_string_len text.new ≡ array_string_len text.old + 5 * length words.now }
 {
     for word in words {
-        text.push(' ');
+        text.push_str(" ");
         push_word(text, *word);
     }
 }
@@ -40,10 +69,7 @@ fn push_sent(text: &mut ArrayString<320>, sent: &Sent)
     ensures bytes { text.new.bytes ≡ text.old.bytes ++ sent_text (shown_word sent.now) }
     ensures len { array_string_len text.new ≡ array_string_len text.old + 9 }
 {
-    text.push_str(bus_letter(sent.bus));
-    text.push_str(sent_kind(sent.kind));
-    push_word(text, sent.bits);
-    text.push('\n');
+    text.push_str(ascii(&sent_line(sent)));
 }
 
 fn received_by(broadcast: bool) -> &'static str
@@ -64,7 +90,7 @@ fn push_received(text: &mut ArrayString<320>, broadcast: bool, subaddress: u8, w
     text.push_str(received_by(broadcast));
     push_number(text, subaddress);
     push_fields(text, words);
-    text.push('\n');
+    text.push_str("\n");
 }
 
 /// Writes the line of synchronize with this data word.
@@ -74,7 +100,7 @@ fn push_synchronize_with(text: &mut ArrayString<320>, word: u16)
 {
     text.push_str("hand sync ");
     push_word(text, word);
-    text.push('\n');
+    text.push_str("\n");
 }
 
 /// Writes the line of what was handed over.

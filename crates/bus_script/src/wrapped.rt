@@ -148,6 +148,7 @@ impl<W: Write + Drop> FromWrite<W> {
     }
 
     /// Writes out what is held back, where no write has failed.
+    #[inline(never)]
     fn drain(&mut self) -> Result<(), IoFailed>
         ensures bytes { Keeps (⟦<FromWrite<W> as Sink>⟧.written self.old) (⟦<FromWrite<W> as Sink>⟧.written self.new) }
         ensures empty { OnOk result (self.new.held.items ≡ []) }
@@ -166,6 +167,7 @@ impl<W: Write + Drop> FromWrite<W> {
     }
 
     /// Holds back bytes for which there is room.
+    #[inline(always)]
     fn hold(&mut self, bytes: &[u8]) -> Result<usize, IoFailed>
         requires { length self.old.held.items + length bytes.now ≤ 8192 }
         ensures all { result ≡ Ok (length bytes.now) }
@@ -182,6 +184,7 @@ impl<W: Write + Drop> Sink for FromWrite<W> {
 
     ghost has_failed = { λ s. s.sink.failed };
 
+    #[inline(always)]
     fn write(&mut self, bytes: &[u8]) -> Result<usize, IoFailed> {
         if self.sink.failed {
             return Err(IoFailed);

@@ -6,6 +6,7 @@ ghost use Rattle.bus_script.specs.Device.{IsPartWritten};
 use crate::{IoFailed, Sink};
 
 /// Writes bytes from the front on, and gives the number of those that were taken: all, where no write fails.
+#[inline(always)]
 pub fn write_front<W: Sink>(writer: &mut W, bytes: &[u8]) -> usize
     ensures within { result ≤ length bytes.now }
     ensures bytes { Appends (W.written writer.old) (W.written writer.new) (take result bytes.now) }
@@ -26,6 +27,7 @@ pub fn write_front<W: Sink>(writer: &mut W, bytes: &[u8]) -> usize
 }
 
 /// Writes all the bytes. Where a write fails, a part of them, from the front on, was written.
+#[inline(always)]
 pub fn write_all<W: Sink>(writer: &mut W, bytes: &[u8]) -> Result<(), IoFailed>
     ensures ok { OnOk result (Appends (W.written writer.old) (W.written writer.new) bytes.now) }
     ensures err { OnErr result (IsPartWritten (W.written writer.old) (W.written writer.new) bytes.now) }

@@ -32,6 +32,7 @@ impl<L: Legality> Terminal<L> {
     ghost use Rattle.std.specs.Prelude.{◌≡◌, true, false, ℕ, List, [], ◌∷◌};
     ghost use Rattle.bus_legal.specs.Description.{Description, described};
     ghost use Rattle.terminal_rules.specs.declared.event.Event.{Event};
+    ghost use Rattle.terminal_rules.specs.declared.event.Event.TheVariants.{Word as WordEvent};
     ghost use Rattle.terminal_rules.specs.Ends.{well};
     ghost use Rattle.terminal_rules.specs.Status.{spares, adds_error};
     ghost use Rattle.terminal_rules.specs.Reply.{reply_bus};
@@ -72,6 +73,7 @@ impl<L: Legality> Terminal<L> {
 
     /// Takes one event, and answers it. At a gap something may be handed over, with the terminal's own words; in a
     /// slot the next word of the reply in progress is sent. All else is not answered.
+    #[inline(always)]
     pub fn step(&mut self, event: Event) -> Answer<'_>
         ensures answer { (P : Description) (h : List Event) → StandsAt L.is_legal P h self.old → shown_answer result ≡ out P h event }
         ensures* stands { sem 𝓛 (Rests (the_row L.row) self.entry (λ new. (P : Description) (h : List Event) → StandsAt L.is_legal P h self.old → StandsAt L.is_legal P (event ∷ h) new)) }
@@ -89,20 +91,41 @@ impl<L: Legality> Terminal<L> {
                 None => Answer::Silent,
             },
             _ => {
-                self.take(event);
+                self.take_any(event);
                 Answer::Silent
             }
         }
     }
 
-    /// Takes one event and drops its answer. What comes on the bus of the reply in progress is ignored.
+    /// Takes one event and drops its answer. What comes on the bus of the reply in progress is ignored. Words, of which
+    /// most scripts are made, are taken where this is called.
+    #[inline(always)]
     pub fn take(&mut self, event: Event)
         ensures { (P : Description) (h : List Event) → StandsAt L.is_legal P h self.old → StandsAt L.is_legal P (event ∷ h) self.new }
     {
         match event {
-            Event::Word(bus, word) => if !self.replies_on(bus) {
-                self.take_word(bus, word);
-            },
+            Event::Word(bus, word) => self.hear(bus, word),
+            _ => self.take_any(event),
+        }
+    }
+
+    /// Takes a word on this bus, if no reply is in progress there.
+    #[inline(always)]
+    fn hear(&mut self, bus: Bus, word: Raw)
+        ensures { (P : Description) (h : List Event) → StandsAt L.is_legal P h self.old → StandsAt L.is_legal P (WordEvent bus word ∷ h) self.new }
+    {
+        if !self.replies_on(bus) {
+            self.take_word(bus, word);
+        }
+    }
+
+    /// Takes one event of any kind and drops its answer.
+    #[inline(never)]
+    fn take_any(&mut self, event: Event)
+        ensures { (P : Description) (h : List Event) → StandsAt L.is_legal P h self.old → StandsAt L.is_legal P (event ∷ h) self.new }
+    {
+        match event {
+            Event::Word(bus, word) => self.hear(bus, word),
             Event::Noise(bus) => if !self.replies_on(bus) {
                 self.take_noise(bus);
             },
@@ -120,6 +143,7 @@ impl<L: Legality> Terminal<L> {
     }
 
     /// Tells whether the reply in progress is on this bus.
+    #[inline(always)]
     fn replies_on(&self, bus: Bus) -> bool
         ensures { result ≡ is_on bus (reply_bus (shown_reply self.now.reply)) }
     {
@@ -130,6 +154,7 @@ impl<L: Legality> Terminal<L> {
     }
 
     /// Takes a word of the subsystem that is to be held ready.
+    #[inline(never)]
     fn write(&mut self, place: WordPlace, value: u16)
         ensures { TakesWrite L.is_legal place value self.old self.new }
     {
@@ -137,6 +162,7 @@ impl<L: Legality> Terminal<L> {
     }
 
     /// Tells whether a command is a legal own mode code 2 or 18, which spares the kept status.
+    #[inline(always)]
     fn spares(&self, command: Command) -> bool
         ensures { result ≡ spares (own_description L.is_legal self.now) command }
     {
@@ -147,6 +173,7 @@ impl<L: Legality> Terminal<L> {
     }
 
     /// Tells how a message ends that has the words that its command expects.
+    #[inline(always)]
     fn verdict(&self, command: Command) -> Ended
         ensures { (ds : List ℕ) → ending_of result ds ≡ well (own_description L.is_legal self.now) self.now.registers.flags.busy command ds }
     {
@@ -160,6 +187,7 @@ impl<L: Legality> Terminal<L> {
     }
 
     /// Tells how a gap on this bus ends the message in progress.
+    #[inline(always)]
     fn end_at_gap(&self, bus: Bus) -> Ended
         ensures { ending_of result self.now.in_progress.words.items ≡ gap_ends (own_description L.is_legal self.now) self.now.registers.flags.busy (standing_on bus self.now.in_progress) }
     {
@@ -171,6 +199,7 @@ impl<L: Legality> Terminal<L> {
     }
 
     /// Tells whether a word for the terminal starts a message.
+    #[inline(always)]
     fn starts(&self, bus: Bus, word: Raw) -> bool
         ensures { result ≡ starts_by (own_description L.is_legal self.now) word (on_bus bus self.now.heard) (standing_on bus self.now.in_progress) }
     {
@@ -183,6 +212,7 @@ impl<L: Legality> Terminal<L> {
     }
 
     /// Tells whether a message that ended in error spares the kept status.
+    #[inline(always)]
     fn fails_sparing(&self, ended: &Ended) -> bool
         ensures { (ds : List ℕ) → result ≡ adds_error (own_description L.is_legal self.now) (ending_of ended.now ds) }
     {
@@ -196,6 +226,7 @@ impl<L: Legality> Terminal<L> {
     }
 
     /// Takes the end of a message at a gap on this bus, with this status, or of none, and begins its reply.
+    #[inline(always)]
     fn settle(&mut self, bus: Bus, ended: &Ended, status: Option<StatusParts>)
         requires { (ds : List ℕ) → status ≡ status_from self.old.settings.accept self.old.registers (ending_of ended.now ds) }
         ensures takes { TakesGap L.is_legal bus (is_answered (on_bus bus self.old.registers.off) (ending_of ended.now self.old.in_progress.words.items)) (ending_of ended.now self.old.in_progress.words.items) self.old self.new }
@@ -222,6 +253,7 @@ impl<L: Legality> Terminal<L> {
     }
 
     /// Takes a gap on this bus, which has no reply in progress, and says what it ended.
+    #[inline(always)]
     fn take_gap(&mut self, bus: Bus) -> Ended
         ensures ending { ending_of result self.new.in_progress.words.items ≡ ends_at_gap L.is_legal self.old bus }
         ensures takes { TakesGap L.is_legal bus (begins_at_gap L.is_legal self.old bus) (ends_at_gap L.is_legal self.old bus) self.old self.new }
@@ -233,6 +265,7 @@ impl<L: Legality> Terminal<L> {
     }
 
     /// Takes a slot: the next word of the reply in progress, which is sent in it.
+    #[inline(always)]
     fn take_slot(&mut self) -> Option<Sent>
         ensures sent { can_send (shown_reply self.old.reply) ≡ true → shown_sent result ≡ sends_from self.old.settings.address self.old.registers (held_word self.old) (shown_reply self.old.reply) }
         ensures takes { TakesSlot L.is_legal self.old self.new }
@@ -259,6 +292,7 @@ impl<L: Legality> Terminal<L> {
     }
 
     /// Takes noise on this bus, which has no reply in progress.
+    #[inline(never)]
     fn take_noise(&mut self, bus: Bus)
         ensures { TakesNoise L.is_legal bus self.old self.new }
     {
@@ -268,6 +302,7 @@ impl<L: Legality> Terminal<L> {
     }
 
     /// Takes a word on this bus, which has no reply in progress.
+    #[inline(always)]
     fn take_word(&mut self, bus: Bus, word: Raw)
         ensures { TakesWord L.is_legal bus word self.old self.new }
     {
@@ -284,6 +319,7 @@ impl<L: Legality> Terminal<L> {
     }
 
     /// Notes that the run of this bus holds a word for the terminal, if this is one.
+    #[inline(always)]
     fn note_word(&mut self, bus: Bus, word: Raw)
         ensures { self.new ≡ record self.old { heard = heard_after_word (own_description L.is_legal self.old) bus word self.old.heard } }
     {
@@ -293,6 +329,7 @@ impl<L: Legality> Terminal<L> {
     }
 
     /// Starts the message of a command, and drops the reply in progress.
+    #[inline(always)]
     fn start(&mut self, bus: Bus, command: Command)
         ensures { TakesStart L.is_legal bus command self.old self.new }
     {

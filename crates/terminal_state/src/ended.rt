@@ -26,6 +26,7 @@ pub enum Ended {
 
 impl Ended {
     /// Gives the mode code that was carried out.
+    #[inline(always)]
     pub fn done_code(&self) -> Option<u8>
         ensures { (ds : List ℕ) → result ≡ done_code (ending_of self.now ds) }
     {
@@ -36,6 +37,7 @@ impl Ended {
     }
 
     /// Gives the cell of what was done.
+    #[inline(always)]
     pub fn done_cell(&self) -> Option<Cell>
         ensures { (ds : List ℕ) → result ≡ done_cell (ending_of self.now ds) }
     {
@@ -46,6 +48,7 @@ impl Ended {
     }
 
     /// Tells whether a reply begins, by whether the transmitter is shut down: a broadcast has none.
+    #[inline(always)]
     pub fn is_answered(&self, off: bool) -> bool
         ensures { (ds : List ℕ) → result ≡ is_answered off (ending_of self.now ds) }
     {
@@ -57,6 +60,7 @@ impl Ended {
     }
 
     /// Tells whether a reset acts at the gap, by whether a reply begins.
+    #[inline(always)]
     pub fn resets_at_gap(&self, begins: bool) -> bool
         ensures { (ds : List ℕ) → result ≡ resets_at_gap begins (ending_of self.now ds) }
     {
@@ -65,6 +69,7 @@ impl Ended {
 }
 
 /// Tells whether the busy flag keeps a terminal from what this cell means.
+#[inline(always)]
 fn is_blocked_by_busy(cell: Cell) -> bool
     ensures { result ≡ is_blocked_by_busy cell }
 {
@@ -78,6 +83,7 @@ fn is_blocked_by_busy(cell: Cell) -> bool
 }
 
 /// Tells whether a cell is an own mode code that reports the kept status and spares it.
+#[inline(always)]
 pub fn reports_kept(cell: Cell) -> bool
     ensures { result ≡ reports_kept cell }
 {
@@ -88,6 +94,7 @@ pub fn reports_kept(cell: Cell) -> bool
 }
 
 /// Gives the mode code of a cell, own or by broadcast.
+#[inline(always)]
 pub fn code_in(cell: Cell) -> Option<u8>
     ensures { result ≡ code_in cell }
 {
@@ -98,6 +105,7 @@ pub fn code_in(cell: Cell) -> Option<u8>
 }
 
 /// Tells how a message ends well, by whether its cell is legal and whether the busy flag stands.
+#[inline(always)]
 pub fn verdict_of(command: Command, cell: Cell, is_legal: bool, busy: bool) -> Ended
     ensures { (ds : List ℕ) → ending_of result ds ≡ verdict (λ _. is_legal) busy command ds (Some cell) }
 {

@@ -37,6 +37,7 @@ impl HeldWords {
     }
 
     /// Lends the words of a subaddress, 1 to 30.
+    #[inline(always)]
     pub fn block(&self, subaddress: u8) -> &[u16]
         requires low { 1 ≤ subaddress }
         requires high { subaddress ≤ 30 }
@@ -84,6 +85,7 @@ impl HeldWords {
     }
 
     /// Makes the first words of a subaddress these.
+    #[inline(never)]
     fn replace(&mut self, subaddress: u8, words: &[u16])
         requires low { 1 ≤ subaddress }
         requires high { subaddress ≤ 30 }
@@ -96,6 +98,7 @@ impl HeldWords {
     }
 
     /// Gives word `number`, 1 to 32, of a subaddress, 1 to 30. Where there is none, 0000.
+    #[inline(always)]
     pub fn word(&self, subaddress: u8, number: u8) -> u16
         ensures { is_data_place subaddress number ≡ true → result ≡ word_in self.now subaddress number }
     {
@@ -110,6 +113,7 @@ impl HeldWords {
 
     /// Takes the end of a message, with these words, or of none. Words that were received at the wraparound
     /// subaddress, 1 to 30 or 0 for none, are held there; a reset brings the words of power-up back.
+    #[inline(always)]
     pub fn settle(&mut self, wrap: u8, resets: bool, ended: &Ended, words: &[u16])
         requires wrap { wrap ≤ 30 }
         requires few { length words.now ≤ 32 }
@@ -124,6 +128,7 @@ impl HeldWords {
     }
 
     /// Takes the end of a message, with these words, that resets nothing.
+    #[inline(always)]
     fn receive(&mut self, wrap: u8, ended: &Ended, words: &[u16])
         requires wrap { wrap ≤ 30 }
         requires few { length words.now ≤ 32 }
@@ -138,6 +143,7 @@ impl HeldWords {
     }
 
     /// Holds the words that were received at a subaddress there, if it is that of wraparound.
+    #[inline(always)]
     fn wrap_around(&mut self, wrap: u8, subaddress: u8, words: &[u16])
         requires wrap { wrap ≤ 30 }
         requires few { length words.now ≤ 32 }
@@ -150,6 +156,7 @@ impl HeldWords {
     }
 
     /// Goes back to those of power-up.
+    #[inline(never)]
     pub fn reset(&mut self)
         ensures words { (s : ℕ) → block_in self.new s ≡ get_or self.old.initial (s - 1) [] }
         ensures initial { self.new.initial ≡ self.old.initial }

@@ -1,5 +1,5 @@
 //! The message in progress.
-ghost use Rattle.std.specs.Prelude.{◌≡◌, ◌<◌, if◌then◌else◌, [], Some, None};
+ghost use Rattle.std.specs.Prelude.{◌≡◌, ◌<◌, if◌then◌else◌, [], Some, None, length, IfSome};
 ghost use Rattle.bus_word.specs.declared.word.Bus.{Bus};
 ghost use Rattle.terminal_rules.specs.Buses.{same_bus};
 ghost use Rattle.terminal_rules.specs.Open.{transmitter_at, status_at};
@@ -59,6 +59,7 @@ pub struct InProgress {
 }
 
 /// Gives the bits of a valid data word.
+#[inline(always)]
 fn data_of(word: Option<Raw>) -> Option<u16>
     ensures { result ≡ data_of word }
 {
@@ -115,7 +116,7 @@ impl InProgress {
     pub fn start(&mut self, bus: Bus, command: Command)
         ensures { (b : Bus) → standing_on b self.new ≡ (if same_bus b bus then Collects command (Words []) else Idle) }
     {
-        self.words.clear();
+        self.words = ArrayVec::new();
         self.message = Some(Message {
             bus,
             command,
@@ -124,6 +125,7 @@ impl InProgress {
     }
 
     /// Tells whether a command on this bus may start a message.
+    #[inline(always)]
     pub fn is_free(&self, bus: Bus) -> bool
         ensures { result ≡ stands_free (standing_on bus self.now) }
     {
@@ -135,6 +137,7 @@ impl InProgress {
     }
 
     /// Tells whether the message on this bus is a broadcast receive command that nothing has followed.
+    #[inline(always)]
     pub fn is_fresh_broadcast(&self, bus: Bus) -> bool
         ensures { result ≡ stands_fresh (standing_on bus self.now) }
     {
@@ -151,6 +154,7 @@ impl InProgress {
     }
 
     /// Gives what followed, with one word or noise more.
+    #[inline(always)]
     fn add(&mut self, followed: Followed, own: u8, word: Option<Raw>) -> Followed
         ensures followed { collected_in result self.new.words.items ≡ next (collected_in followed self.old.words.items) (data_of word) (transmitter_at own word) }
         ensures message { self.new.message ≡ self.old.message }
@@ -171,9 +175,39 @@ impl InProgress {
         }
     }
 
-    /// Takes a word or noise that starts nothing.
+    /// Gives the command of a message on this bus that has had nothing but data words and has room for one more.
+    #[inline(always)]
+    fn collects(&self, bus: Bus) -> Option<Command>
+        ensures { IfSome result (λ c. (standing_on bus self.now ≡ Collects c (Words self.now.words.items)) × (length self.now.words.items < 32)) }
+    {
+        match &self.message {
+            Some(message) => match message.phase {
+                Phase::Collects(Followed::Words)
+                    if same_bus(bus, message.bus) && self.words.len() < 32 => Some(message.command),
+                _ => None,
+            },
+            None => None,
+        }
+    }
+
+    /// Takes a word or noise that starts nothing. What is common comes first: a data word of a message that
+    /// collects them.
     #[inline(always)]
     pub fn follow(&mut self, bus: Bus, own: u8, word: Option<Raw>)
+        ensures { (b : Bus) → standing_on b self.new ≡ (if same_bus b bus then entry_leaves own word (standing_on b self.old) else standing_on b self.old) }
+    {
+        if let Some(bits) = data_of(word) {
+            if self.collects(bus).is_some() {
+                self.words.push(bits);
+                return;
+            }
+        }
+        self.follow_any(bus, own, word);
+    }
+
+    /// Takes a word or noise that starts nothing.
+    #[inline(never)]
+    fn follow_any(&mut self, bus: Bus, own: u8, word: Option<Raw>)
         ensures { (b : Bus) → standing_on b self.new ≡ (if same_bus b bus then entry_leaves own word (standing_on b self.old) else standing_on b self.old) }
     {
         if let Some(message) = self.message {
@@ -184,7 +218,7 @@ impl InProgress {
                     ))),
                     Phase::Resumes(followed) => Some(Phase::Resumes(self.add(followed, own, word))),
                     Phase::Waits(address) => {
-                        self.words.clear();
+                        self.words = ArrayVec::new();
                         if is_status_of(address, word) {
                             Some(Phase::Resumes(Followed::Words))
                         } else {
@@ -199,6 +233,7 @@ impl InProgress {
 
     /// Gives the command of the transfer that a word or noise on this bus ends in error: one that waits for
     /// another word.
+    #[inline(always)]
     pub fn failed_by(&self, bus: Bus, word: Option<Raw>) -> Option<Command>
         ensures { result ≡ entry_fails word (standing_on bus self.now) }
     {
@@ -215,6 +250,7 @@ impl InProgress {
     }
 
     /// Gives the first word of the buffer, or 0000.
+    #[inline(always)]
     pub fn first_word(&self) -> u16
         ensures { result ≡ first_word self.now.words.items }
     {
@@ -225,6 +261,7 @@ impl InProgress {
     }
 
     /// Tells how a gap on this bus ends the message.
+    #[inline(always)]
     pub fn end_at_gap(&self, bus: Bus) -> GapEnd
         ensures { stop_with result self.now.words.items ≡ stop_at_gap (standing_on bus self.now) }
     {
@@ -246,6 +283,7 @@ impl InProgress {
     }
 
     /// Takes a gap on this bus: its message is over, or comes to wait. The buffer stays.
+    #[inline(always)]
     pub fn gap(&mut self, bus: Bus)
         ensures standing { (b : Bus) → standing_on b self.new ≡ (if same_bus b bus then gap_leaves (standing_on b self.old) else standing_on b self.old) }
         ensures words { self.new.words ≡ self.old.words }

@@ -90,6 +90,7 @@ impl Registers {
     }
 
     /// Forms the status for a command.
+    #[inline(always)]
     fn formed(&self, command: Command, error: bool, accepts: bool, inhibited: bool) -> StatusParts
         ensures { result ≡ formed_from self.now command error accepts inhibited }
     {
@@ -105,6 +106,7 @@ impl Registers {
     }
 
     /// Forms the status for a command whose message ended in error or is illegal.
+    #[inline(always)]
     fn formed_with_error(&self, command: Command) -> StatusParts
         ensures { result ≡ error_from self.now command }
     {
@@ -112,6 +114,7 @@ impl Registers {
     }
 
     /// Forms the status for a message that is done. Mode codes 6 and 7 have acted already.
+    #[inline(always)]
     fn formed_done(&self, command: Command, cell: Cell, accept: bool) -> StatusParts
         ensures { result ≡ done_from accept self.now command cell }
     {
@@ -126,6 +129,7 @@ impl Registers {
 
     /// Gives the status that goes with a message that ended well. `accept` says whether dynamic bus control is
     /// accepted.
+    #[inline(always)]
     pub fn status_for(&self, ended: &Ended, accept: bool) -> Option<StatusParts>
         ensures { (ds : List ℕ) → result ≡ status_from accept self.now (ending_of ended.now ds) }
     {
@@ -142,6 +146,7 @@ impl Registers {
     }
 
     /// Takes the end of a message in error. `spares` says whether its command spares the kept status.
+    #[inline(never)]
     pub fn fail(&mut self, command: Command, spares: bool)
         ensures registers { self.new ≡ failed spares command self.old }
         ensures power_up { self.new.power_up ≡ self.old.power_up }
@@ -154,6 +159,7 @@ impl Registers {
     }
 
     /// Takes a command that starts a message. `spares` says whether it spares the kept status.
+    #[inline(always)]
     pub fn start(&mut self, command: Command, spares: bool)
         ensures registers { self.new ≡ started spares command self.old }
         ensures power_up { self.new.power_up ≡ self.old.power_up }
@@ -169,6 +175,7 @@ impl Registers {
 
     /// Takes a gap on this bus that ended a message so, with this status, or ended none. `spares` says whether the command
     /// of one that ended in error spares the kept status, and `begins` whether a reply begins.
+    #[inline(always)]
     pub fn settle(
         &mut self,
         bus: Bus,
@@ -191,6 +198,7 @@ impl Registers {
     }
 
     /// Keeps the status that went with a message that ended well.
+    #[inline(always)]
     fn keep(&mut self, status: Option<StatusParts>)
         ensures { self.new ≡ keeping status self.old }
     {
@@ -200,6 +208,7 @@ impl Registers {
     }
 
     /// Carries out a mode code that came on this bus, or resets all.
+    #[inline(always)]
     fn carry_out(&mut self, bus: Bus, resets: bool, code: Option<u8>)
         ensures { self.new ≡ carried bus resets code self.old }
     {
@@ -217,6 +226,7 @@ impl Registers {
     }
 
     /// Goes back to those of power-up. The flags stay.
+    #[inline(never)]
     pub fn reset(&mut self)
         ensures { self.new ≡ reset_if true self.old }
     {

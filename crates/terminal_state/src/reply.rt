@@ -17,6 +17,7 @@ pub struct Reply {
 }
 
 /// Tells how many data words follow the status.
+#[inline(always)]
 fn words_after_status(cell: Option<Cell>) -> u8
     ensures { result ≡ words_after_status cell }
 {
@@ -36,6 +37,7 @@ fn words_after_status(cell: Option<Cell>) -> u8
 
 impl Reply {
     /// Gives what is left once the next word is sent: nothing, where that is the last.
+    #[inline(always)]
     pub fn after_slot(self) -> Option<Reply>
         ensures { shown_reply result ≡ sent_one (shown_reply (Some self)) }
     {
@@ -51,6 +53,7 @@ impl Reply {
     }
 
     /// Tells whether the next word is the status of a reset.
+    #[inline(always)]
     pub fn resets(self) -> bool
         ensures { result ≡ resets_next (shown_reply (Some self)) }
     {

@@ -1,5 +1,5 @@
 -- Pieces of a script: whole lines, a line that stands first, and what has no line feed yet.
-use Rattle.std.specs.Prelude.{ℕ, ◌+◌, ◌≡◌, ◌<◌, ◌≤◌, List, [], ◌∷◌, ◌++◌, length, take, drop}
+use Rattle.std.specs.Prelude.{ℕ, ◌+◌, ◌≡◌, ◌<◌, ◌≤◌, List, [], ◌∷◌, ◌++◌, length, take, drop, Some, Ok}
 use Rattle.terminal_rules.specs.declared.event.Event.{Event}
 use Rattle.bus_script.specs.declared.fault.RunFault.{RunFault}
 use Rattle.bus_script.specs.Text.{lines_of, NoLineFeed, EndsLine}
@@ -30,6 +30,11 @@ pub record StartsLine (lines : ℕ) (bytes : List ℕ) (i : ℕ) : Type 0 where
   pub none : NoLineFeed (take i bytes)
   pub short : i ≤ 64
   pub room : lines < 1048576
+
+-- a line of i bytes stands first, with its line feed, and says this event
+pub record StandsFirst (meaning : Meaning) (bytes : List ℕ) (i : ℕ) (e : Event) : Type 0 where
+  pub starts : (lines : ℕ) → lines < 1048576 → StartsLine lines bytes i
+  pub says : meaning (take i bytes) ≡ Ok (Some e)
 
 -- nothing, or a line whose line feed is not there yet
 pub record IsRest (lines : ℕ) (bytes : List ℕ) : Type 0 where

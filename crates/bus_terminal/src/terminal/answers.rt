@@ -16,6 +16,7 @@ impl<L: Legality> Terminal<L> {
     ghost use Rattle.bus_terminal.specs.Stands.{own_description, held_word};
 
     /// Gives data word `number` of a reply, by the cell of what was done.
+    #[inline(always)]
     fn reply_word(&self, cell: Option<Cell>, number: u8) -> u16
         ensures { has_place cell number ≡ true → result ≡ reply_word_from self.now.registers (held_word self.now) cell number }
     {
@@ -32,6 +33,7 @@ impl<L: Legality> Terminal<L> {
     }
 
     /// Gives the next word of a reply.
+    #[inline(always)]
     pub fn next_sent(&self, reply: Reply) -> Sent
         ensures { can_send (shown_reply (Some reply)) ≡ true → shown_sent (Some result) ≡ sends_from self.now.settings.address self.now.registers (held_word self.now) (shown_reply (Some reply)) }
     {
@@ -51,6 +53,7 @@ impl<L: Legality> Terminal<L> {
     }
 
     /// Gives what is handed over, where a gap ended a message so, as an answer.
+    #[inline(always)]
     pub fn handed(&self, ended: &Ended) -> Answer<'_>
         ensures answer { shown_answer result ≡ handing_over (hands (own_description L.is_legal self.now) (ending_of ended.now self.now.in_progress.words.items)) }
         ensures small { IsSmall (shown_answer result) }
@@ -62,6 +65,7 @@ impl<L: Legality> Terminal<L> {
     }
 
     /// Gives what is handed over, where a gap ended a message so.
+    #[inline(always)]
     fn hand(&self, ended: &Ended) -> Option<Hand<'_>>
         ensures hand { shown_hand result ≡ hands (own_description L.is_legal self.now) (ending_of ended.now self.now.in_progress.words.items) }
         ensures few { AreFew (shown_hand result) }
@@ -82,6 +86,7 @@ impl<L: Legality> Terminal<L> {
     }
 
     /// Lends the words in the buffer, as received at this subaddress.
+    #[inline(always)]
     fn received(&self, broadcast: bool, subaddress: u8) -> Hand<'_>
         ensures hand { shown_hand (Some result) ≡ Some (HandsReceived broadcast subaddress self.now.in_progress.words.items) }
         ensures few { AreFew (shown_hand (Some result)) }
@@ -94,6 +99,7 @@ impl<L: Legality> Terminal<L> {
     }
 
     /// Gives what a mode code hands over.
+    #[inline(never)]
     fn hand_of_code(&self, code: u8, accepts: bool) -> Option<Hand<'_>>
         ensures hand { shown_hand result ≡ code_hands code accepts self.now.in_progress.words.items }
         ensures few { AreFew (shown_hand result) }

@@ -1,9 +1,13 @@
-use Rattle.std.proofs.Common.{[], ◌∷◌, ◌++◌, ◌≡◌, take, drop, subst, true}
+use Rattle.std.proofs.Common.{[], ◌∷◌, ◌++◌, ◌≡◌, take, drop, subst, true, refl, ap, arith}
 use Rattle.bus_script.specs.Line.{meaning}
 use Rattle.bus_terminal.specs.Stands.{StandsAt}
 use Rattle.bus_script.specs.Transcript.{text_at}
-use Rattle.bus_script.specs.inner.Lines.{Faults, StartsLine, IsRest, Means, IsRefused}
-use Rattle.bus_script.proofs.PlayLaws.{Plays-nil}
+use Rattle.bus_script.specs.Reading.{then_reads}
+use Rattle.bus_script.specs.inner.Lines.{Faults, StartsLine, StandsFirst, IsRest, Means, IsRefused}
+use Rattle.std.proofs.KnownBytes.{Appends-nil}
+use Rattle.terminal_rules.specs.declared.event.Event.TheVariants.{Word}
+use Rattle.bus_script.proofs.TranscriptLaws.{unanswered}
+use Rattle.bus_script.proofs.PlayLaws.{Plays-nil, Plays-one}
 use Rattle.bus_script.proofs.FeedLaws.{ByFault-weaker, Faults-first, Feeding-nil, Feeding-line, Feeding-fault, Feeding-part}
 use Rattle.bus_script.proofs.SinkLaws.{from_there}
 use Rattle.bus_script.proofs.feed.feed_lines.Goals as goal
@@ -16,12 +20,12 @@ returns-in-Ok-None-clause-ok g c = let i = c.lines.invariant in
     let rest = rw c.in-Ok-None.field-0-is at c.in-Ok-None.ensures.ok in
     (i.0, record { feeding = i.1; rest = subst (IsRest c.lines.counts.lines) (from_there c.lines.at c.args.chunk.now) rest })
 
-pub returns-in-Err-clause-fault : goal.returns-in-Err-clause-fault
-returns-in-Err-clause-fault g c = let i = c.lines.invariant in
-    ByFault-weaker c.in-Err.fault
-    (λ f. Feeding-fault c.in-Err.fault i.1 (subst (λ xs. Faults meaning c.lines.counts.lines xs [] c.in-Err.fault) (from_there c.lines.at c.args.chunk.now) f)
+pub returns-in-Err-next_line-clause-fault : goal.returns-in-Err-next_line-clause-fault
+returns-in-Err-next_line-clause-fault g c = let i = c.lines.invariant in
+    ByFault-weaker c.in-Err-next_line.fault
+    (λ f. Feeding-fault c.in-Err-next_line.fault i.1 (subst (λ xs. Faults meaning c.lines.counts.lines xs [] c.in-Err-next_line.fault) (from_there c.lines.at c.args.chunk.now) f)
     (Plays-nil (StandsAt g.L.Legality.is_legal) text_at g.W.Sink.written c.lines.terminal c.lines.writer))
-    (λ x. x) (λ x. absurd x) (c.in-Err.ensures.fault meaning)
+    (λ x. x) (λ x. absurd x) (c.in-Err-next_line.ensures.fault meaning)
 
 pub returns-in-Err-play_line-clause-fault : goal.returns-in-Err-play_line-clause-fault
 returns-in-Err-play_line-clause-fault g c = let i = c.lines.invariant in
@@ -42,8 +46,32 @@ lines-preserved g c = let i = c.lines.invariant in
     let found = rw c.in-Ok-Some.field-0-is at c.in-Ok-Some.ensures.ok in
     let same = from_there c.lines.at c.args.chunk.now in
     let starts = subst (λ xs. StartsLine c.lines.counts.lines xs c.in-Ok-Some.len) same found in
-    let played = c.in-Ok.ensures.ok in (
+    let played = c.in-Ok-play_line.ensures.ok in (
       i.0 ++ played.0,
-      Feeding-line c.in-Ok-Some.len played.0 c.in-Ok.events i.1 starts played.1 c.in-Ok.ensures.few
+      Feeding-line c.in-Ok-Some.len played.0 c.in-Ok-play_line.events i.1 starts played.1 c.in-Ok-play_line.ensures.few
           (subst (λ xs. Means meaning (take c.in-Ok-Some.len xs) c.lines.counts.lines played.0) same played.2) played.3,
+    )
+
+pub returns-in-Err-clause-fault : goal.returns-in-Err-clause-fault
+returns-in-Err-clause-fault g c = let i = c.lines.invariant in
+    let first = subst (λ xs. StandsFirst meaning xs c.in-Some-usual_answered.len c.in-Some-usual_answered.event) (from_there c.lines.at c.args.chunk.now) c.in-Some-usual_answered.ensures in
+    Feeding-part c.in-Some-usual_answered.len c.in-Some-usual_answered.event (g.W.Sink.has_failed c.play_event.new.writer ≡ true) i.1 (first.starts c.lines.counts.lines c.if-counts-lt-MAX_LINES.true)
+    (λ r. ap (λ x. then_reads x c.lines.counts.lines r) first.says) c.in-Err.ensures.failed c.in-Err.ensures.err
+
+pub lines-preserved-in-Some-usual_answered : goal.lines-preserved-in-Some-usual_answered
+lines-preserved-in-Some-usual_answered g c = let i = c.lines.invariant in
+    let first = subst (λ xs. StandsFirst meaning xs c.in-Some-usual_answered.len c.in-Some-usual_answered.event) (from_there c.lines.at c.args.chunk.now) c.in-Some-usual_answered.ensures in (
+      i.0 ++ c.in-Some-usual_answered.event ∷ [],
+      Feeding-line c.in-Some-usual_answered.len (c.in-Some-usual_answered.event ∷ []) 1 i.1 (first.starts c.lines.counts.lines c.if-counts-lt-MAX_LINES.true) refl (omega arith)
+          (λ r. ap (λ x. then_reads x c.lines.counts.lines r) first.says) c.in-Ok.ensures.ok,
+    )
+
+pub lines-preserved-in-Some : goal.lines-preserved-in-Some
+lines-preserved-in-Some g c = let i = c.lines.invariant in
+    let e = Word c.in-Some.bus c.in-Some.word in
+    let first = subst (λ xs. StandsFirst meaning xs 8 e) (from_there c.lines.at c.args.chunk.now) c.in-Some.ensures in (
+      i.0 ++ e ∷ [],
+      Feeding-line 8 (e ∷ []) 1 i.1 (first.starts c.lines.counts.lines c.if-counts-lt-MAX_LINES.true) refl (omega arith)
+          (λ r. ap (λ x. then_reads x c.lines.counts.lines r) first.says)
+          (Plays-one (StandsAt g.L.Legality.is_legal) text_at g.W.Sink.written _ _ _ _ e [] c.take.ensures (λ P h s. unanswered P h e refl) (Appends-nil (g.W.Sink.written c.lines.writer))),
     )

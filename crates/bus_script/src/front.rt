@@ -1,0 +1,101 @@
+//! The lines of which most scripts are made, told at fixed places: where a line feed stands there, it needs no search.
+ghost use Rattle.std.specs.Prelude.{◌≡◌, Ok, Some, IfSome};
+ghost use Rattle.terminal_rules.specs.declared.event.Event.TheVariants.{Word as WordEvent};
+ghost use Rattle.bus_script.specs.Line.{bus_of, meaning};
+ghost use Rattle.bus_script.specs.Text.{NoLineFeed};
+ghost use Rattle.bus_script.specs.inner.Lines.{StandsFirst};
+
+use crate::digits::read_word;
+use crate::line::read_kind;
+use bus_terminal::Event;
+use bus_word::{Bus, Raw};
+
+#[inline(always)]
+fn read_bus(byte: u8) -> Option<Bus>
+    ensures { result ≡ bus_of byte }
+{
+    match byte {
+        b'A' => Some(Bus::A),
+        b'B' => Some(Bus::B),
+        _ => None,
+    }
+}
+
+/// The bus and the word of a line `B K XXXX`; None for every other line.
+#[inline(always)]
+#[tactic(auto, using(crate::proofs::LineLaws::no_feed_in_word), unfolding(crate::specs::Line::meaning))]
+fn read_usual_word(line: &[u8]) -> Option<(Bus, Raw)>
+    ensures says { IfSome result (λ found. meaning line.now ≡ Ok (Some (WordEvent found.0 found.1))) }
+    ensures none { IfSome result (λ found. NoLineFeed line.now) }
+{
+    match line {
+        [bus, b' ', kind, b' ', a, b, c, d] => {
+            let bus = read_bus(*bus)?;
+            let kind = read_kind(*kind)?;
+            let bits = read_word(*a, *b, *c, *d)?;
+            Some((bus, Raw::of(kind, bits)))
+        }
+        _ => None,
+    }
+}
+
+/// The event of a line that is a gap; None for every other line.
+#[inline(always)]
+#[tactic(auto, unfolding(crate::specs::Line::meaning))]
+fn read_gap(line: &[u8]) -> Option<Event>
+    ensures { IfSome result (λ event. (meaning line.now ≡ Ok (Some event)) × NoLineFeed line.now) }
+{
+    match line {
+        b"A gap" => Some(Event::Gap(Bus::A)),
+        b"B gap" => Some(Event::Gap(Bus::B)),
+        _ => None,
+    }
+}
+
+/// The event of a line that is a slot; None for every other line.
+#[inline(always)]
+#[tactic(auto, unfolding(crate::specs::Line::meaning))]
+fn read_slot(line: &[u8]) -> Option<Event>
+    ensures { IfSome result (λ event. (meaning line.now ≡ Ok (Some event)) × NoLineFeed line.now) }
+{
+    match line {
+        b"slot" => Some(Event::Slot),
+        _ => None,
+    }
+}
+
+/// How long the line of a word with the right parity is.
+pub const WORD_LINE: usize = 8;
+
+/// The bus and the word of a line that stands first, where it is that of a word with the right parity. None, where
+/// another line stands first, or its line feed isn't there yet.
+#[inline(always)]
+#[tactic(auto, using(crate::proofs::LineLaws::stands_first))]
+pub fn usual_word(bytes: &[u8]) -> Option<(Bus, Raw)>
+    ensures { IfSome result (λ found. StandsFirst meaning bytes.now 8 (WordEvent found.0 found.1)) }
+{
+    if bytes.len() > WORD_LINE && bytes[WORD_LINE] == b'\n' {
+        return read_usual_word(&bytes[..WORD_LINE]);
+    }
+    None
+}
+
+/// The event of a line that stands first, and the line's length: of a gap or of a slot. None, where another line does,
+/// or its line feed isn't there yet.
+#[inline(always)]
+#[tactic(auto, using(crate::proofs::LineLaws::stands_first))]
+pub fn usual_answered(bytes: &[u8]) -> Option<(Event, usize)>
+    ensures { IfSome result (λ found. StandsFirst meaning bytes.now found.1 found.0) }
+{
+    if bytes.len() > 5 && bytes[5] == b'\n' {
+        if let Some(event) = read_gap(&bytes[..5]) {
+            return Some((event, 5));
+        }
+    }
+    if bytes.len() > 4 && bytes[4] == b'\n' {
+        if let Some(event) = read_slot(&bytes[..4]) {
+            return Some((event, 4));
+        }
+    }
+    None
+}
