@@ -147,13 +147,11 @@ class Answer:
 
     def own_refusal(self, name):
         """What was said of the function, where its own proof is refused, and not only what it calls; or ''."""
-        said = self.functions.get(name, "")
-        if not said.startswith(("not proved", "no proof: expected answers")):
-            return ""
-        # the errors in the files of its proof say more
-        place = "/".join(name.split("::")[1:])
-        errors = (it for it in self.lines if re.match(rf"(\./)?proofs/{place}/[^/]*: error: ", it))
-        return f"{name}: {next(errors, said)}"
+        said, place = self.functions.get(name, ""), "/".join(name.split("::")[1:])
+        # the errors in the files of its proof say more; where there is none, it can wait for what it calls
+        error = next((it for it in self.lines if re.match(rf"(\./)?proofs/{place}/[^/]*: error: ", it)), "")
+        is_own = said.startswith("not proved") and (error or "; it calls " not in said)
+        return f"{name}: {error or said}" if is_own or said.startswith("no proof: expected answers") else ""
 
     def unfit_answers(self):
         """The answers by hand that don't fit their goals, and those that rest on them: the file and the name of each."""
