@@ -127,7 +127,8 @@ def without_answer(text, name):
     """A file of answers without the answer of this name; None where no answer is left."""
     kept, within = [], False
     for line in text.split("\n"):
-        if line and not line[0].isspace():
+        # what closes a bracket belongs to the lines above
+        if line and not line[0].isspace() and line[0] not in ")]}":
             within = line.startswith((f"pub {name} :", f"{name} "))
         if not within:
             kept.append(line)
