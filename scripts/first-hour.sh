@@ -256,6 +256,15 @@ workflow_rows() {
     count 'the workflow runs check-profiles.sh' $?
     bash -n examples/ci/check-profiles.sh
     count 'check-profiles.sh is a script' $?
+    mkdir -p "$work/tools" "$work/none"
+    ln -sf "$tool" "$work/tools/rt1553-tool"
+    PATH=$work/tools:$PATH bash examples/ci/check-profiles.sh "$work/none" >"$work/told"
+    [[ $? -eq 1 ]] && grep -q '^::error::there is no profile in ' "$work/told"
+    count 'check-profiles.sh tells that there is no profile' $?
+    echo 'A gap' >"$work/none/alone.script" && echo 'address = 5' >"$work/none/one.toml"
+    PATH=$work/tools:$PATH bash examples/ci/check-profiles.sh "$work/none" >"$work/told"
+    [[ $? -eq 1 ]] && grep -q "^::error file=$work/none/alone.toml::cannot read it" "$work/told"
+    count 'check-profiles.sh tells of a script without its profile' $?
 }
 
 # what stands in the change log of the versions

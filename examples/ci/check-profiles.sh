@@ -6,8 +6,16 @@
 # - differ: each canonical text NAME.rt1553 that is kept means the same terminal as the profile of its name.
 #
 # What is found is told as an annotation, with file and line, that GitHub Actions shows beside the text.
-# It needs rt1553-tool. The status is 0 where nothing fails.
+# It needs rt1553-tool. The status is 0 where nothing fails, and where there is a profile at all: a folder with none is told.
 set -uo pipefail
+if (($# != 1)); then
+    echo 'check-profiles.sh FOLDER' >&2
+    exit 2
+fi
+if ! command -v rt1553-tool >/dev/null; then
+    echo 'check-profiles.sh: rt1553-tool is not in PATH' >&2
+    exit 2
+fi
 folder=$1
 status=0
 
@@ -16,6 +24,7 @@ annotate() {
     sed -E -e 's/%/%25/g' \
         -e 's/^([^:]+):([0-9]+):([0-9]+): (error|warning): (.*)$/::\4 file=\1,line=\2,col=\3::\5/; t' \
         -e 's/^([^:]+):([0-9]+): (.*)$/::error file=\1,line=\2::\3/; t' \
+        -e 's/^file: cannot read (.*)$/::error file=\1::cannot read it/; t' \
         -e 's/^([^:]+): (.*)$/::error file=\1::\2/'
 }
 
@@ -23,7 +32,12 @@ annotate() {
 failed_from() { (($2 < $1)) || status=1; }
 
 shopt -s nullglob
-for profile in "$folder"/*.toml; do
+profiles=("$folder"/*.toml)
+if ((${#profiles[@]} == 0)); then
+    echo "::error::there is no profile in $folder"
+    exit 1
+fi
+for profile in "${profiles[@]}"; do
     rt1553-tool lint "$profile" 2>&1 | annotate
     failed_from 2 "${PIPESTATUS[0]}"
 done
