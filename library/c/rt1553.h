@@ -185,7 +185,7 @@ static inline void rt1553_terminal_free(rt1553_terminal *terminal) { free(termin
 
 /* Plays events one after the other, up to the first that means none, and returns how many were played. An answer other than
    RT1553_SILENT goes to `answers`, and to `places` the number of its event, from 0; *answered is how many these are. Where
-   there are `room` of them, no more events are played: call again for those behind. */
+   there are `room` of them, no more events are played: call again for those behind. The room is 1 or more. */
 size_t rt1553_terminal_play(rt1553_terminal *terminal, const rt1553_event *events, size_t count, rt1553_answer *answers,
                             size_t *places, size_t room, size_t *answered);
 

@@ -84,10 +84,15 @@ def many():
     yield "lines", terminal.play("A c 2c02\nA gap\nslot\n" * 10) == wanted[:10]
     yield "none", terminal.play([]) == [] and terminal.play("# nothing\n\n") == []
     yield "a part of one", refusal(ValueError, terminal.play, [b"\0"])
-    # those before one that is none are played
+    yield "lines with line feeds", terminal.play(["A c 2c02\n", "A gap\n", "slot\n"]) == wanted[:1]
+    yield "bytes alone", terminal.play(b"".join(map(rt1553.packed, ASK))) == wanted[:1]
+    # those before one that is none are played, and their answers are not lost
     terminal.play(ASK[:1])
     yield "one that is none", refusal(ValueError, terminal.play, ["A gap", "A gup", "slot"])
     yield "is not passed over", terminal.slot() == STATUS
+    for last in ("A gup", Word(2, 0, 0), 3, None):
+        fault = refusal(rt1553.NoEvent, terminal.play, [*ASK, last])
+        yield f"answers before {last}", fault and fault.answers == wanted[:1]
 
 
 def lines():

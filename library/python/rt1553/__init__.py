@@ -48,7 +48,8 @@ from dataclasses import dataclass
 from typing import Callable, Optional, Union
 
 __all__ = [
-    "Answer", "Bit", "Bus", "BusControl", "Event", "Fault", "FaultKind", "Flag", "FlagName", "Gap", "NoMemory", "NoRoom", "Noise",
+    "Answer", "Bit", "Bus", "BusControl", "Event", "Fault", "FaultKind", "Flag", "FlagName", "Gap", "NoEvent", "NoMemory", "NoRoom",
+    "Noise",
     "Received", "Refused", "SelfTest", "Sent", "Slot", "Sync", "Synchronize", "Terminal", "Vector", "Word", "Write",
     "canonical", "check", "compare", "packed", "read_event", "run", "version",
 ]  # fmt: skip
@@ -83,7 +84,7 @@ class FlagName(enum.IntEnum):
 
 
 class FaultKind(enum.IntEnum):
-    """What a fault is of."""
+    """What a fault is of; NONE of `NoRoom`, which says nothing of any text."""
 
     NONE = 0
     PROFILE = 1
@@ -99,6 +100,14 @@ class Fault(Exception):
     def __init__(self, text: str, kind: FaultKind = FaultKind.NONE, number: int = 0, line: int = 0) -> None:
         super().__init__(text)
         self.kind, self.number, self.line, self.transcript = kind, number, line, ""
+
+
+class NoEvent(ValueError):
+    """What `Terminal.play` was given means no event. `answers` are those to the events before it, which are played."""
+
+    def __init__(self, text: str, answers: "list[tuple[int, Answer]]") -> None:
+        super().__init__(text)
+        self.answers = answers
 
 
 class Refused(Fault):
@@ -428,7 +437,7 @@ def packed(event: Event) -> bytes:
     """An event as the library takes it. ValueError where it is none: a number is out of range."""
     try:
         return event._packed()
-    except (struct.error, KeyError):
+    except (struct.error, KeyError, AttributeError):
         raise ValueError(f"no event: {event!r}") from None
 
 
@@ -583,18 +592,24 @@ class Terminal:
         """The subsystem sets a flag or takes it back."""
         self.step(Flag(flag, value))
 
-    def play(self, script: Iterable[Union[Event, str, bytes]]) -> list[tuple[int, Answer]]:
-        """Plays many events at once: events, lines of a script, and events that are packed already, one or more in a piece.
-        Gives the answers, each with the number of its event, from 0. Empty lines and lines that begin with `#` count as no
-        event. ValueError where one is none: those before it are played.
+    def play(self, script: Union[str, bytes, Iterable[Union[Event, str, bytes]]]) -> list[tuple[int, Answer]]:
+        """Plays many events at once: a whole script as one text, or a row of events, of lines of a script, with their line feeds or
+        without, and of bytes that `packed` has made, one event or more in a piece. The row is read to its end before anything
+        is played. Gives the answers, each with the number of its event, from 0. Empty lines and lines that begin with `#`
+        count as no event. `NoEvent`, a ValueError, where one is none: those before it are played, and it has their answers.
 
         >>> Terminal("address = 5").play(["# ask", Word(Bus.A, Sync.COMMAND, 0x2c02), "A gap", packed(Slot()) * 33])
         [(2, Sent(bus=<Bus.A: 0>, sync=<Sync.COMMAND: 0>, bits=10240))]
         """
+        if isinstance(script, str):
+            script = script.splitlines()
+        elif isinstance(script, bytes):
+            script = [script]
         pieces, fault = [], None
         try:
-            for piece in script.splitlines() if isinstance(script, str) else script:
+            for piece in script:
                 if isinstance(piece, str):
+                    piece = piece.removesuffix("\n")
                     if not piece or piece.startswith("#"):
                         continue
                     piece = read_event(piece)
@@ -603,13 +618,13 @@ class Terminal:
             fault = error
         answers = self._play_packed(b"".join(pieces))
         if fault:
-            raise fault
+            raise NoEvent(str(fault), answers) from None
         return answers
 
     def _play_packed(self, events: bytes) -> list[tuple[int, Answer]]:
         count, rest = divmod(len(events), _EVENT.size)
         if rest:
-            raise ValueError("a part of an event")
+            raise NoEvent("bytes that `packed` has not made", [])
         room = min(count, 4096)
         to, places, filled = ctypes.create_string_buffer(max(room, 1) * _ANSWER.size), (_size * max(room, 1))(), _size()
         front, played, answers = ctypes.cast(events, _at).value or 0, 0, []
@@ -619,5 +634,5 @@ class Terminal:
                 answers.append((played + places[k], _answer_at(to, k * _ANSWER.size)))
             played += done
             if played < count and filled.value < room:
-                raise ValueError(f"no event: number {played}")
+                raise NoEvent(f"no event: number {played}", answers)
         return answers
