@@ -153,7 +153,8 @@ inline std::string run(std::string_view text, std::string_view script, std::size
     return to;
 }
 
-// A remote terminal, from power-up. It is moved and never copied; one thread at a time may use it.
+// A remote terminal, from power-up. It is moved and never copied; one thread at a time may use it. One that was moved from may
+// be assigned to or destroyed, and nothing else.
 class terminal {
   public:
     explicit terminal(std::string_view text) {
