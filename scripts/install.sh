@@ -32,7 +32,7 @@ install)
     fi
     files | while read -r file mode place; do install -D -m "$mode" "$file" "$to/$place" || exit 1; done
     if [[ -d bin/library ]]; then bash scripts/library.sh install; fi
-    echo "rt1553 and rt1553-tool are installed in $to: man rt1553"
+    echo "rt1553 and rt1553-tool are installed in $to, their man pages in $to/share/man"
     ;;
 uninstall)
     files | while read -r _ _ place; do rm -f "$to/$place"; done
