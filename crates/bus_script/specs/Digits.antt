@@ -3,15 +3,6 @@ use Rattle.std.specs.Prelude.{ℕ, ◌+◌, ◌-◌, ◌*◌, ◌/◌, ◌%◌, 
 use Rattle.hex.specs.Hex.{decode_of, encode_lower}
 use Rattle.hex.specs.declared.error.FromHexError.{FromHexError}
 
--- the number of one byte
-abbrev pub byte_of_bytes : Result (List ℕ) FromHexError → Option ℕ
-byte_of_bytes (Ok (byte ∷ [])) = Some byte
-byte_of_bytes _ = None
-
--- the byte of two hexadecimal digits, small or capital
-abbrev pub byte_of : List ℕ → Option ℕ
-byte_of digits = byte_of_bytes (decode_of digits)
-
 -- the number of two bytes, the high one first
 abbrev pub word_of_bytes : Result (List ℕ) FromHexError → Option ℕ
 word_of_bytes (Ok (high ∷ low ∷ [])) = Some (high * 256 + low)

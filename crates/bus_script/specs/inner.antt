@@ -2,3 +2,4 @@
 pub mod Lines
 pub mod Feeding
 pub mod Counted
+pub mod Digits

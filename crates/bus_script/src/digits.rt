@@ -1,7 +1,9 @@
 //! Numbers as they are written in scripts and transcripts.
 ghost use Rattle.std.specs.Prelude.{◌≡◌, ◌<◌, ◌+◌, ◌++◌, ◌≤◌, ℕ, [], ◌∷◌, slice_index, IsAscii};
 ghost use Rattle.arrayvec.specs.ArrayString.{array_string_len};
-ghost use Rattle.bus_script.specs.Digits.{byte_of, word_of, digits_of, number_of, decimal_digits};
+ghost use Rattle.hex.specs.Hex.{hex_digit_value};
+ghost use Rattle.bus_script.specs.Digits.{word_of, digits_of, number_of, decimal_digits};
+ghost use Rattle.bus_script.specs.inner.Digits.{byte_of, digit_in, AreOfHex};
 
 use arrayvec::ArrayString;
 
@@ -27,6 +29,60 @@ pub fn read_word(a: u8, b: u8, c: u8, d: u8) -> Option<u16>
     match (read_pair(a, b), read_pair(c, d)) {
         (Some(high), Some(low)) => Some(u16::from_be_bytes([high, low])),
         _ => None,
+    }
+}
+
+/// What marks a byte that is no digit.
+const NO_DIGIT: u8 = 255;
+
+/// The value of a byte as a hexadecimal digit, small or capital, as `hex` gives it.
+fn value_of(byte: u8) -> u8
+    ensures { digit_in result ≡ hex_digit_value byte }
+{
+    match read_pair(b'0', byte) {
+        Some(value) => value,
+        None => NO_DIGIT,
+    }
+}
+
+/// What `hex` says of each byte, asked once. A call of `hex` branches by what kind of digit a byte is, and nobody can
+/// foresee that of data: where a script has many lines, it is cheaper to keep the answers.
+#[derive(Drop)]
+pub struct DigitValues {
+    /// The value of each byte as a hexadecimal digit; `NO_DIGIT` where it is none.
+    values: [u8; 256],
+    ghost of_hex: { AreOfHex values },
+}
+
+impl DigitValues {
+    /// Asks `hex` for the value of each byte.
+    pub fn asked() -> DigitValues {
+        let mut values = [NO_DIGIT; 256];
+        'bytes: for byte in 0..256 {
+            values[byte] = value_of(byte as u8);
+        }
+        DigitValues { values }
+    }
+
+    /// The value of a byte as a hexadecimal digit.
+    #[inline(always)]
+    fn value(&self, byte: u8) -> u8
+        ensures { digit_in result ≡ hex_digit_value byte }
+    {
+        self.values[byte as usize]
+    }
+
+    /// The word of four hexadecimal digits, small or capital.
+    #[inline(always)]
+    pub fn word(&self, a: u8, b: u8, c: u8, d: u8) -> Option<u16>
+        ensures { result ≡ word_of (a ∷ b ∷ c ∷ d ∷ []) }
+    {
+        let (a, b, c, d) = (self.value(a), self.value(b), self.value(c), self.value(d));
+        if a < 16 && b < 16 && c < 16 && d < 16 {
+            Some(a as u16 * 4096 + b as u16 * 256 + c as u16 * 16 + d as u16)
+        } else {
+            None
+        }
     }
 }
 
@@ -69,6 +125,14 @@ pub fn push_word<const N: usize>(text: &mut ArrayString<N>, word: u16)
     ensures len { array_string_len text.new ≡ array_string_len text.old + 4 }
 {
     text.push_str(ascii(&digits_of(word)));
+}
+
+/// The two decimal digits of a number below 100.
+#[inline(always)]
+pub fn decimal_digits(number: u8) -> [u8; 2]
+    ensures { result ≡ decimal_digits number }
+{
+    [b'0' + number / 10, b'0' + number % 10]
 }
 
 /// Writes a number, below 100, in two decimal digits.

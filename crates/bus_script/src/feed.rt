@@ -10,11 +10,12 @@ ghost use Rattle.bus_script.specs.inner.Feeding.{Feeds};
 ghost use Rattle.bus_script.specs.Played.{Played, PlayedPart};
 
 use crate::chunk::{MAX_LINES, next_line};
+use crate::digits::DigitValues;
 use crate::front::{WORD_LINE, usual_answered, usual_word};
 use crate::play::{play_event, play_line};
 use crate::{RunFault, Sink};
 use bus_legal::Legality;
-use bus_terminal::{Event, Terminal};
+use bus_terminal::Terminal;
 
 /// How many lines and how many events were played.
 #[derive(Clone, Copy)]
@@ -28,6 +29,7 @@ pub fn feed_lines<L: Legality, W: Sink>(
     terminal: &mut Terminal<L>,
     writer: &mut W,
     counts: &mut Counts,
+    values: &DigitValues,
     chunk: &[u8],
 ) -> Result<usize, RunFault>
     requires most { counts.old.lines ≤ 1048576 }
@@ -45,9 +47,9 @@ pub fn feed_lines<L: Legality, W: Sink>(
     'lines: loop {
         let rest = &chunk[at..];
         if counts.lines < MAX_LINES {
-            if let Some((bus, word)) = usual_word(rest) {
+            if let Some(word) = usual_word(values, rest) {
                 // a word is never answered
-                terminal.take(Event::Word(bus, word));
+                terminal.take_valid(word.bus, word.kind, word.bits);
                 counts.events += 1;
                 counts.lines += 1;
                 at += WORD_LINE + 1;

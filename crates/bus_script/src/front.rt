@@ -1,14 +1,23 @@
 //! The lines of which most scripts are made, told at fixed places: where a line feed stands there, it needs no search.
 ghost use Rattle.std.specs.Prelude.{◌≡◌, Ok, Some, IfSome};
 ghost use Rattle.terminal_rules.specs.declared.event.Event.TheVariants.{Word as WordEvent};
+ghost use Rattle.bus_word.specs.Word.{valid_word};
 ghost use Rattle.bus_script.specs.Line.{bus_of, meaning};
 ghost use Rattle.bus_script.specs.Text.{NoLineFeed};
 ghost use Rattle.bus_script.specs.inner.Lines.{StandsFirst};
 
-use crate::digits::read_word;
+use crate::digits::DigitValues;
 use crate::line::read_kind;
 use bus_terminal::Event;
-use bus_word::{Bus, Raw};
+use bus_word::{Bus, Kind};
+
+/// A word of this sync and these bits, with the right parity, on this bus.
+#[derive(Clone, Copy)]
+pub struct ValidWord {
+    pub bus: Bus,
+    pub kind: Kind,
+    pub bits: u16,
+}
 
 #[inline(always)]
 fn read_bus(byte: u8) -> Option<Bus>
@@ -21,19 +30,19 @@ fn read_bus(byte: u8) -> Option<Bus>
     }
 }
 
-/// The bus and the word of a line `B K XXXX`; None for every other line.
+/// The word of a line `B K XXXX`, whose parity is right; None for every other line.
 #[inline(always)]
 #[tactic(auto, using(crate::proofs::LineLaws::no_feed_in_word), unfolding(crate::specs::Line::meaning))]
-fn read_usual_word(line: &[u8]) -> Option<(Bus, Raw)>
-    ensures says { IfSome result (λ found. meaning line.now ≡ Ok (Some (WordEvent found.0 found.1))) }
+fn read_usual_word(values: &DigitValues, line: &[u8]) -> Option<ValidWord>
+    ensures says { IfSome result (λ word. meaning line.now ≡ Ok (Some (WordEvent word.bus (valid_word word.kind word.bits)))) }
     ensures none { IfSome result (λ found. NoLineFeed line.now) }
 {
     match line {
         [bus, b' ', kind, b' ', a, b, c, d] => {
             let bus = read_bus(*bus)?;
             let kind = read_kind(*kind)?;
-            let bits = read_word(*a, *b, *c, *d)?;
-            Some((bus, Raw::of(kind, bits)))
+            let bits = values.word(*a, *b, *c, *d)?;
+            Some(ValidWord { bus, kind, bits })
         }
         _ => None,
     }
@@ -67,15 +76,15 @@ fn read_slot(line: &[u8]) -> Option<Event>
 /// How long the line of a word with the right parity is.
 pub const WORD_LINE: usize = 8;
 
-/// The bus and the word of a line that stands first, where it is that of a word with the right parity. None, where
+/// The word of a line that stands first, where it is that of a word with the right parity. None, where
 /// another line stands first, or its line feed isn't there yet.
 #[inline(always)]
 #[tactic(auto, using(crate::proofs::LineLaws::stands_first))]
-pub fn usual_word(bytes: &[u8]) -> Option<(Bus, Raw)>
-    ensures { IfSome result (λ found. StandsFirst meaning bytes.now 8 (WordEvent found.0 found.1)) }
+pub fn usual_word(values: &DigitValues, bytes: &[u8]) -> Option<ValidWord>
+    ensures { IfSome result (λ word. StandsFirst meaning bytes.now 8 (WordEvent word.bus (valid_word word.kind word.bits))) }
 {
     if bytes.len() > WORD_LINE && bytes[WORD_LINE] == b'\n' {
-        return read_usual_word(&bytes[..WORD_LINE]);
+        return read_usual_word(values, &bytes[..WORD_LINE]);
     }
     None
 }

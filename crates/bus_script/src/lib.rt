@@ -12,6 +12,7 @@ mod line;
 mod memory;
 mod play;
 mod run;
+mod sending;
 mod transcript;
 mod wrapped;
 mod writing;

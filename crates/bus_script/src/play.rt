@@ -1,20 +1,16 @@
 //! Events are played, and what the terminal answers is written.
 ghost use Rattle.std.specs.Prelude.{◌≡◌, ◌≤◌, ◌<◌, ◌∷◌, [], List, ℕ, true, length, IfOk, IfErr, OnOk, OnErr};
-ghost use Rattle.std.specs.Io.KnownBytes.{Appends};
 ghost use Rattle.terminal_rules.specs.declared.event.Event.{Event};
 ghost use Rattle.bus_script.specs.Line.{meaning};
 ghost use Rattle.bus_script.specs.Reading.{ByFault};
-ghost use Rattle.bus_terminal.specs.Answer.{shown_answer, IsSmall};
+ghost use Rattle.bus_terminal.specs.Answer.{shown_answer};
 ghost use Rattle.bus_script.specs.Transcript.{answer_text, may_be_answered};
-ghost use Rattle.bus_script.specs.Device.{IsPartWritten};
 ghost use Rattle.bus_script.specs.inner.Lines.{Means, IsRefused};
 ghost use Rattle.bus_script.specs.Played.{Played, PlayedPart};
 
 use crate::line::read_event;
-use crate::transcript::{push_answer, sent_line};
-use crate::writing::write_all;
+use crate::sending::send;
 use crate::{IoFailed, RunFault, Sink};
-use arrayvec::ArrayString;
 use bus_legal::Legality;
 use bus_terminal::{Answer, Event, Terminal};
 
@@ -24,33 +20,6 @@ fn is_silent(answer: &Answer) -> bool
     ensures { result ≡ true → answer_text (shown_answer answer.now) ≡ [] }
 {
     matches!(answer, Answer::Silent)
-}
-
-/// Writes the line of an answer by way of a text. It stands apart since a call pays for the text that it holds.
-#[inline(never)]
-fn send_text<W: Sink>(writer: &mut W, answer: &Answer) -> Result<(), IoFailed>
-    requires { IsSmall (shown_answer answer.now) }
-    ensures ok { OnOk result (Appends (W.written writer.old) (W.written writer.new) (answer_text (shown_answer answer.now))) }
-    ensures err { OnErr result (IsPartWritten (W.written writer.old) (W.written writer.new) (answer_text (shown_answer answer.now))) }
-    ensures failed { OnErr result (W.has_failed writer.new ≡ true) }
-{
-    let mut text = ArrayString::new();
-    push_answer(&mut text, answer);
-    write_all(writer, text.as_str().as_bytes())
-}
-
-/// Writes the line of an answer: that of a word, which most are, in one piece.
-#[inline(always)]
-fn send<W: Sink>(writer: &mut W, answer: &Answer) -> Result<(), IoFailed>
-    requires { IsSmall (shown_answer answer.now) }
-    ensures ok { OnOk result (Appends (W.written writer.old) (W.written writer.new) (answer_text (shown_answer answer.now))) }
-    ensures err { OnErr result (IsPartWritten (W.written writer.old) (W.written writer.new) (answer_text (shown_answer answer.now))) }
-    ensures failed { OnErr result (W.has_failed writer.new ≡ true) }
-{
-    match answer {
-        Answer::Sends(sent) => write_all(writer, &sent_line(sent)),
-        _ => send_text(writer, answer),
-    }
 }
 
 /// Whether the event is one that may be answered.

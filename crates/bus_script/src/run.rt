@@ -10,6 +10,7 @@ ghost use Rattle.bus_script.specs.Fault.{is_of_script};
 ghost use Rattle.bus_script.specs.inner.Counted.{StoppedAfter};
 ghost use Rattle.bus_script.specs.Played.{Played, PlayedPart, Completed, Stopped};
 
+use crate::digits::DigitValues;
 use crate::feed::{Counts, feed_lines};
 use crate::play::play_line;
 use crate::{IoFailed, RunFault, Sink, Source};
@@ -101,6 +102,7 @@ fn run_lines<L: Legality, R: Source, W: Sink>(
     ensures ok { OnOk result (Completed L.is_legal W.written terminal.old terminal.new writer.old writer.new (R.left reader.old) counts.new.events) }
     ensures fault { IfErr result (StoppedAfter L.is_legal W.written terminal.old terminal.new writer.old writer.new (R.left reader.old) (R.left reader.new) counts.new.events) }
 {
+    let values = DigitValues::asked();
     let mut buffer = [0u8; BLOCK];
     let mut held = 0;
     'reads: loop {
@@ -116,7 +118,7 @@ fn run_lines<L: Legality, R: Source, W: Sink>(
             break 'reads;
         }
         let total = held + count;
-        let done = match feed_lines(terminal, writer, counts, &buffer[..total]) {
+        let done = match feed_lines(terminal, writer, counts, &values, &buffer[..total]) {
             Ok(done) => done,
             Err(fault) => return Err(fault),
         };

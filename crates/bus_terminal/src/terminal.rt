@@ -7,7 +7,7 @@ mod answers;
 use crate::answer::{Answer, Sent};
 use crate::settings::Settings;
 use bus_legal::{Legality, Setup};
-use bus_word::{Bus, Command, Raw, StatusParts, cell_of};
+use bus_word::{Bus, Command, Kind, Raw, cell_of};
 use terminal_rules::{Event, WordPlace};
 use terminal_state::{
     Ended, GapEnd, HeldWords, InProgress, OnBuses, Registers, Reply, reports_kept, same_bus,
@@ -33,6 +33,7 @@ impl<L: Legality> Terminal<L> {
     ghost use Rattle.bus_legal.specs.Description.{Description, described};
     ghost use Rattle.terminal_rules.specs.declared.event.Event.{Event};
     ghost use Rattle.terminal_rules.specs.declared.event.Event.TheVariants.{Word as WordEvent};
+    ghost use Rattle.bus_word.specs.Word.{valid_word};
     ghost use Rattle.terminal_rules.specs.Ends.{well};
     ghost use Rattle.terminal_rules.specs.Status.{spares, adds_error};
     ghost use Rattle.terminal_rules.specs.Reply.{reply_bus};
@@ -43,7 +44,7 @@ impl<L: Legality> Terminal<L> {
     ghost use Rattle.terminal_state.specs.inner.Standing.{gap_ends, starts_by};
     ghost use Rattle.terminal_state.specs.inner.Message.{standing_on};
     ghost use Rattle.terminal_state.specs.inner.Ended.{ending_of};
-    ghost use Rattle.terminal_state.specs.inner.Registers.{status_from, failed_by};
+    ghost use Rattle.terminal_state.specs.inner.Registers.{failed_by};
     ghost use Rattle.terminal_state.specs.inner.Buses.{on_bus};
     ghost use Rattle.bus_terminal.specs.Answer.{shown_answer, IsSmall};
     ghost use Rattle.bus_terminal.specs.inner.Answer.{shown_sent};
@@ -107,6 +108,21 @@ impl<L: Legality> Terminal<L> {
             Event::Word(bus, word) => self.hear(bus, word),
             _ => self.take_any(event),
         }
+    }
+
+    /// Takes the word of this sync and these bits with the right parity, as nearly all words have it. Most are data words
+    /// of a message that collects them, and change nothing else.
+    #[inline(always)]
+    pub fn take_valid(&mut self, bus: Bus, kind: Kind, bits: u16)
+        ensures { (P : Description) (h : List Event) → StandsAt L.is_legal P h self.old → StandsAt L.is_legal P (WordEvent bus (valid_word kind bits) ∷ h) self.new }
+    {
+        let word = Raw::of(kind, bits);
+        if let Kind::Dat = kind {
+            if !self.replies_on(bus) && self.in_progress.collect(bus, bits) {
+                return;
+            }
+        }
+        self.hear(bus, word);
     }
 
     /// Takes a word on this bus, if no reply is in progress there.
@@ -225,16 +241,16 @@ impl<L: Legality> Terminal<L> {
         }
     }
 
-    /// Takes the end of a message at a gap on this bus, with this status, or of none, and begins its reply.
+    /// Takes the end of a message at a gap on this bus, or of none, and begins its reply.
     #[inline(always)]
-    fn settle(&mut self, bus: Bus, ended: &Ended, status: Option<StatusParts>)
-        requires { (ds : List ℕ) → status ≡ status_from self.old.settings.accept self.old.registers (ending_of ended.now ds) }
+    fn settle(&mut self, bus: Bus, ended: &Ended)
         ensures takes { TakesGap L.is_legal bus (is_answered (on_bus bus self.old.registers.off) (ending_of ended.now self.old.in_progress.words.items)) (ending_of ended.now self.old.in_progress.words.items) self.old self.new }
         ensures words { self.new.in_progress.words ≡ self.old.in_progress.words }
     {
         let begins = ended.is_answered(self.registers.off.on(bus));
         let spares = self.fails_sparing(ended);
-        self.registers.settle(bus, ended, status, spares, begins);
+        self.registers
+            .settle(bus, ended, self.settings.accept, spares, begins);
         self.held.settle(
             self.settings.wrap,
             ended.resets_at_gap(begins),
@@ -259,8 +275,7 @@ impl<L: Legality> Terminal<L> {
         ensures takes { TakesGap L.is_legal bus (begins_at_gap L.is_legal self.old bus) (ends_at_gap L.is_legal self.old bus) self.old self.new }
     {
         let ended = self.end_at_gap(bus);
-        let status = self.registers.status_for(&ended, self.settings.accept);
-        self.settle(bus, &ended, status);
+        self.settle(bus, &ended);
         ended
     }
 

@@ -9,12 +9,15 @@ use Rattle.bus_word.specs.Command.{is_broadcast}
 use Rattle.bus_legal.specs.Description.{Description}
 use Rattle.terminal_rules.specs.declared.event.Flag.TheVariants.{Service, Busy, Subsystem, Terminal}
 use Rattle.terminal_rules.specs.declared.event.Event.TheVariants.{Word, Noise, Gap, Slot}
+use Rattle.terminal_state.specs.declared.ended.Ended.{Ended}
+use Rattle.terminal_state.specs.declared.ended.Ended.TheVariants.{Nothing as EndedNothing, Badly as EndedBadly, Illegal as EndedIllegal, Blocked as EndedBlocked, Done as EndedDone}
 use Rattle.terminal_state.specs.declared.registers.Registers.{Registers}
+use Rattle.terminal_state.specs.inner.Ended.{ending_of}
 use Rattle.terminal_rules.specs.History.{NoTurn, Noted, Ending, Nothing, Badly, Illegal, Blocked, Done}
 use Rattle.terminal_rules.specs.Status.{spares, adds_error, reports_kept, no_parts, with_error_if, kept_by_start, kept_by_command, kept_by_end, start_first, reset_first}
-use Rattle.terminal_rules.specs.SinceReset.{start_bits, resets, is_reset}
+use Rattle.terminal_rules.specs.SinceReset.{start_bits, resets, is_reset, done_code}
 use Rattle.terminal_state.specs.inner.Standing.{fails}
-use Rattle.terminal_state.specs.inner.Registers.{registers_now, registers_after, kept_from, error_from, done_from, failed, failed_by, started, started_if, settled, reset_if}
+use Rattle.terminal_state.specs.inner.Registers.{registers_now, registers_after, kept_from, error_from, done_from, failed, failed_by, started, started_if, keeping, status_from, carried, settled, reset_if}
 use Rattle.terminal_rules.specs.inner.Steps.{kept_after, resets_at_gap}
 use Rattle.terminal_rules.proofs.KeptLaw.{kept_step}
 use Rattle.terminal_rules.proofs.BackLaw.{flag_step, inhibited_step, off_step, vector_step, bit_step, last_step}
@@ -115,3 +118,13 @@ gap_law P (Done c (BroadMode code) ds) b begins r = all_law P c code ds b begins
 pub slot_law : (P : Description) (reset : Bool) (r : Registers) → registers_after P Slot reset false Nothing r ≡ reset_if reset r
 slot_law P true r = refl
 slot_law P false r = refl
+
+-- a gap that ended no message in error
+pub settled_well : (accept spares : Bool) (b : Bus) (begins : Bool) (ended : Ended) (ds : List ℕ) (r u : Registers) → ((c : ℕ) → ended ≡ EndedBadly c → ⊥) →
+    u ≡ carried b (resets_at_gap begins (ending_of ended ds)) (done_code (ending_of ended ds)) (keeping (status_from accept r (ending_of ended ds)) r) →
+    u ≡ settled accept spares b begins (ending_of ended ds) r
+settled_well accept spares b begins EndedNothing ds r u n e = e
+settled_well accept spares b begins (EndedBadly c) ds r u n e = absurd (n c refl)
+settled_well accept spares b begins (EndedIllegal c) ds r u n e = e
+settled_well accept spares b begins (EndedBlocked c cell) ds r u n e = e
+settled_well accept spares b begins (EndedDone c cell) ds r u n e = e

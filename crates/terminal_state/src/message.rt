@@ -1,6 +1,7 @@
 //! The message in progress.
-ghost use Rattle.std.specs.Prelude.{◌≡◌, ◌<◌, if◌then◌else◌, [], Some, None, length, IfSome};
+ghost use Rattle.std.specs.Prelude.{◌≡◌, ◌<◌, if◌then◌else◌, [], Some, None, length, IfSome, ℕ, true, false};
 ghost use Rattle.bus_word.specs.declared.word.Bus.{Bus};
+ghost use Rattle.bus_word.specs.declared.word.Raw.{Raw};
 ghost use Rattle.terminal_rules.specs.Buses.{same_bus};
 ghost use Rattle.terminal_rules.specs.Open.{transmitter_at, status_at};
 ghost use Rattle.terminal_rules.specs.Ends.{data_of};
@@ -188,6 +189,21 @@ impl InProgress {
             },
             None => None,
         }
+    }
+
+    /// Takes the bits of a data word, where a message on this bus collects such words and has room, and says whether
+    /// it did. Such a word can start nothing and end nothing.
+    #[inline(always)]
+    pub fn collect(&mut self, bus: Bus, bits: u16) -> bool
+        ensures collects { result ≡ true → (own : ℕ) (w : Raw) → data_of (Some w) ≡ Some bits → (b : Bus) → standing_on b self.new ≡ (if same_bus b bus then entry_leaves own (Some w) (standing_on b self.old) else standing_on b self.old) }
+        ensures fails { result ≡ true → (w : Raw) → entry_fails (Some w) (standing_on bus self.old) ≡ None }
+        ensures same { result ≡ false → self.new ≡ self.old }
+    {
+        if self.collects(bus).is_some() {
+            self.words.push(bits);
+            return true;
+        }
+        false
     }
 
     /// Takes a word or noise that starts nothing. What is common comes first: a data word of a message that

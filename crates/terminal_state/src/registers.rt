@@ -127,24 +127,6 @@ impl Registers {
         self.formed(command, false, accepts, inhibited)
     }
 
-    /// Gives the status that goes with a message that ended well. `accept` says whether dynamic bus control is
-    /// accepted.
-    #[inline(always)]
-    pub fn status_for(&self, ended: &Ended, accept: bool) -> Option<StatusParts>
-        ensures { (ds : List ℕ) → result ≡ status_from accept self.now (ending_of ended.now ds) }
-    {
-        match ended {
-            Ended::Nothing | Ended::Badly(_) => None,
-            Ended::Illegal(command) => Some(self.formed_with_error(*command)),
-            Ended::Blocked(command, _) => Some(self.formed(*command, false, false, self.inhibited)),
-            Ended::Done(command, cell) => Some(if reports_kept(*cell) {
-                self.kept
-            } else {
-                self.formed_done(*command, *cell, accept)
-            }),
-        }
-    }
-
     /// Takes the end of a message in error. `spares` says whether its command spares the kept status.
     #[inline(never)]
     pub fn fail(&mut self, command: Command, spares: bool)
@@ -173,37 +155,35 @@ impl Registers {
         }
     }
 
-    /// Takes a gap on this bus that ended a message so, with this status, or ended none. `spares` says whether the command
-    /// of one that ended in error spares the kept status, and `begins` whether a reply begins.
+    /// Takes a gap on this bus that ended a message so, or ended none. `accept` says whether dynamic bus control is accepted,
+    /// `spares` whether the command of one that ended in error spares the kept status, and `begins` whether a reply begins.
     #[inline(always)]
-    pub fn settle(
-        &mut self,
-        bus: Bus,
-        ended: &Ended,
-        status: Option<StatusParts>,
-        spares: bool,
-        begins: bool,
-    )
-        ensures registers { (accept : Bool) (ds : List ℕ) → status ≡ status_from accept self.old (ending_of ended.now ds) → self.new ≡ settled accept spares bus begins (ending_of ended.now ds) self.old }
+    pub fn settle(&mut self, bus: Bus, ended: &Ended, accept: bool, spares: bool, begins: bool)
+        ensures registers { (ds : List ℕ) → self.new ≡ settled accept spares bus begins (ending_of ended.now ds) self.old }
         ensures power_up { self.new.power_up ≡ self.old.power_up }
     {
         match ended {
             Ended::Badly(command) => self.fail(*command, spares),
             _ => {
-                self.keep(status);
+                self.keep(ended, accept);
                 let resets = ended.resets_at_gap(begins);
                 self.carry_out(bus, resets, ended.done_code());
             }
         }
     }
 
-    /// Keeps the status that went with a message that ended well.
+    /// Keeps the status that goes with a message that ended well. `accept` says whether dynamic bus control is accepted.
     #[inline(always)]
-    fn keep(&mut self, status: Option<StatusParts>)
-        ensures { self.new ≡ keeping status self.old }
+    fn keep(&mut self, ended: &Ended, accept: bool)
+        ensures { (ds : List ℕ) → self.new ≡ keeping (status_from accept self.old (ending_of ended.now ds)) self.old }
     {
-        if let Some(parts) = status {
-            self.kept = parts;
+        match ended {
+            Ended::Nothing | Ended::Badly(_) => {}
+            Ended::Illegal(command) => self.kept = self.formed_with_error(*command),
+            Ended::Blocked(command, _) => self.kept = self.formed(*command, false, false, self.inhibited),
+            Ended::Done(command, cell) => if !reports_kept(*cell) {
+                self.kept = self.formed_done(*command, *cell, accept);
+            },
         }
     }
 

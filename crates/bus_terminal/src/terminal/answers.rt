@@ -99,7 +99,7 @@ impl<L: Legality> Terminal<L> {
     }
 
     /// Gives what a mode code hands over.
-    #[inline(never)]
+    #[inline(always)]
     fn hand_of_code(&self, code: u8, accepts: bool) -> Option<Hand<'_>>
         ensures hand { shown_hand result ≡ code_hands code accepts self.now.in_progress.words.items }
         ensures few { AreFew (shown_hand result) }

@@ -1,4 +1,5 @@
 use Rattle.std.proofs.Common.{[], ◌∷◌, ◌++◌, ◌≡◌, take, drop, subst, true, refl, ap, arith}
+use Rattle.bus_word.specs.Word.{valid_word}
 use Rattle.bus_script.specs.Line.{meaning}
 use Rattle.bus_terminal.specs.Stands.{StandsAt}
 use Rattle.bus_script.specs.Transcript.{text_at}
@@ -68,10 +69,11 @@ lines-preserved-in-Some-usual_answered g c = let i = c.lines.invariant in
 
 pub lines-preserved-in-Some : goal.lines-preserved-in-Some
 lines-preserved-in-Some g c = let i = c.lines.invariant in
-    let e = Word c.in-Some.bus c.in-Some.word in
+    let word = c.in-Some.word in
+    let e = Word word.bus (valid_word word.kind word.bits) in
     let first = subst (λ xs. StandsFirst meaning xs 8 e) (from_there c.lines.at c.args.chunk.now) c.in-Some.ensures in (
       i.0 ++ e ∷ [],
       Feeding-line 8 (e ∷ []) 1 i.1 (first.starts c.lines.counts.lines c.if-counts-lt-MAX_LINES.true) refl (omega arith)
           (λ r. ap (λ x. then_reads x c.lines.counts.lines r) first.says)
-          (Plays-one (StandsAt g.L.Legality.is_legal) text_at g.W.Sink.written _ _ _ _ e [] c.take.ensures (λ P h s. unanswered P h e refl) (Appends-nil (g.W.Sink.written c.lines.writer))),
+          (Plays-one (StandsAt g.L.Legality.is_legal) text_at g.W.Sink.written _ _ _ _ e [] c.take_valid.ensures (λ P h s. unanswered P h e refl) (Appends-nil (g.W.Sink.written c.lines.writer))),
     )

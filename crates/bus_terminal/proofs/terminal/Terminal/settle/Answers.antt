@@ -19,7 +19,7 @@ returns-then-begins-clause-takes g c =
     (same_setup g.L.Legality.is_legal t _ refl refl c.settle.ensures.power_up c.settle-2.ensures.initial)
     c.set.ensures
     c.gap.ensures.standing
-    (c.settle.ensures.registers t.settings.accept ds (c.requires ds))
+    (c.settle.ensures.registers ds)
     ((λ j. shown_reply (Some (record { bus = c.args.bus; cell = c.done_cell.ensures ds j; next = 0 }))) ∙ ap (λ k. begun_if k c.args.bus (done_cell x) (shown_reply t.reply)) (sym c.if-begins.true))
     (λ s i low high first last.
     c.settle-2.ensures.words s i low high first last
@@ -37,7 +37,7 @@ returns-else-begins-clause-takes g c =
     (same_setup g.L.Legality.is_legal t _ refl refl c.settle.ensures.power_up c.settle-2.ensures.initial)
     c.set.ensures
     c.gap.ensures.standing
-    (c.settle.ensures.registers t.settings.accept ds (c.requires ds))
+    (c.settle.ensures.registers ds)
     (ap (λ k. begun_if k c.args.bus (done_cell x) (shown_reply t.reply)) (sym c.if-begins.false))
     (λ s i low high first last.
     c.settle-2.ensures.words s i low high first last

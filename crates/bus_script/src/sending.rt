@@ -1,0 +1,90 @@
+//! Answers are written as lines, piece by piece: each piece is of a length that the compiler knows.
+ghost use Rattle.std.specs.Prelude.{◌≡◌, true, OnOk, OnErr};
+ghost use Rattle.std.specs.List.{flat_map};
+ghost use Rattle.std.specs.Io.KnownBytes.{Appends};
+ghost use Rattle.bus_terminal.specs.Answer.{shown_answer, IsSmall};
+ghost use Rattle.bus_script.specs.Device.{IsPartWritten};
+ghost use Rattle.bus_script.specs.Transcript.{word_field, received_text, answer_text};
+
+use crate::digits::{decimal_digits, digits_of};
+use crate::transcript::{push_answer, received_by, sent_line};
+use crate::writing::write_all;
+use crate::{IoFailed, Sink};
+use arrayvec::ArrayString;
+use bus_terminal::{Answer, Hand};
+
+/// A word as a field of a line.
+#[inline(always)]
+fn word_field(word: u16) -> [u8; 5]
+    ensures { result ≡ word_field word }
+{
+    let [a, b, c, d] = digits_of(word);
+    [b' ', a, b, c, d]
+}
+
+/// Writes words as fields of a line.
+#[inline(always)]
+fn send_fields<W: Sink>(writer: &mut W, words: &[u16]) -> Result<(), IoFailed>
+    ensures ok { OnOk result (Appends (W.written writer.old) (W.written writer.new) (flat_map word_field words.now)) }
+    ensures err { OnErr result (IsPartWritten (W.written writer.old) (W.written writer.new) (flat_map word_field words.now)) }
+    ensures failed { OnErr result (W.has_failed writer.new ≡ true) }
+{
+    for word in words {
+        write_all(writer, &word_field(*word))?;
+    }
+    Ok(())
+}
+
+/// Writes the line of data words that were received.
+#[inline(never)]
+fn send_received<W: Sink>(
+    writer: &mut W,
+    broadcast: bool,
+    subaddress: u8,
+    words: &[u16],
+) -> Result<(), IoFailed>
+    ensures ok { OnOk result (Appends (W.written writer.old) (W.written writer.new) (received_text broadcast subaddress words.now)) }
+    ensures err { OnErr result (IsPartWritten (W.written writer.old) (W.written writer.new) (received_text broadcast subaddress words.now)) }
+    ensures failed { OnErr result (W.has_failed writer.new ≡ true) }
+{
+    write_all(writer, received_by(broadcast).as_bytes())?;
+    write_all(writer, &decimal_digits(subaddress))?;
+    send_fields(writer, words)?;
+    write_all(writer, b"\n")
+}
+
+/// Writes the line of an answer by way of a text. It stands apart since a call pays for the text that it holds.
+#[inline(never)]
+fn send_text<W: Sink>(writer: &mut W, answer: &Answer) -> Result<(), IoFailed>
+    requires { IsSmall (shown_answer answer.now) }
+    ensures ok { OnOk result (Appends (W.written writer.old) (W.written writer.new) (answer_text (shown_answer answer.now))) }
+    ensures err { OnErr result (IsPartWritten (W.written writer.old) (W.written writer.new) (answer_text (shown_answer answer.now))) }
+    ensures failed { OnErr result (W.has_failed writer.new ≡ true) }
+{
+    let mut text = ArrayString::new();
+    push_answer(&mut text, answer);
+    write_all(writer, text.as_str().as_bytes())
+}
+
+/// Writes the line of an answer: what most answers are, words that are sent or that were received, without a text in between.
+#[inline(always)]
+pub fn send<W: Sink>(writer: &mut W, answer: &Answer) -> Result<(), IoFailed>
+    requires { IsSmall (shown_answer answer.now) }
+    ensures ok { OnOk result (Appends (W.written writer.old) (W.written writer.new) (answer_text (shown_answer answer.now))) }
+    ensures err { OnErr result (IsPartWritten (W.written writer.old) (W.written writer.new) (answer_text (shown_answer answer.now))) }
+    ensures failed { OnErr result (W.has_failed writer.new ≡ true) }
+{
+    match answer {
+        Answer::Sends(sent) => write_all(writer, &sent_line(sent)),
+        Answer::Hands(Hand::Received {
+            broadcast,
+            subaddress,
+            words,
+        }) => send_received(writer, *broadcast, *subaddress, words),
+        _ => {
+            // a copy, so that the others need not stand in memory
+            let rare = *answer;
+            send_text(writer, &rare)
+        }
+    }
+}
