@@ -25,6 +25,7 @@ fn is_data_place(subaddress: u8, count: u8) -> bool
 }
 
 /// Whether some command has the cell.
+#[inline(always)]
 pub fn is_allowed(cell: Cell) -> bool
     ensures { result ≡ is_allowed cell }
 {

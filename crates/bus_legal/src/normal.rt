@@ -122,6 +122,7 @@ impl Normal {
 impl Legality for Normal {
     ghost is_legal = { λ normal. tables_say normal.tables };
 
+    #[inline(always)]
     fn legal(&self, cell: Cell) -> bool {
         self.tables.legal(cell)
     }

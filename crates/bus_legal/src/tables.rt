@@ -158,6 +158,7 @@ impl Tables {
 impl Legality for Tables {
     ghost is_legal = { tables_say };
 
+    #[inline(always)]
     fn legal(&self, cell: Cell) -> bool {
         is_allowed(cell)
             && match cell {

@@ -18,7 +18,7 @@ use bus_legal::Legality;
 use bus_terminal::Terminal;
 
 /// How many bytes are read at most at once.
-const BLOCK: usize = 16_384;
+const BLOCK: usize = 65_536;
 
 /// Reads behind the `held` bytes that stand first.
 fn fill<R: Source>(reader: &mut R, buffer: &mut [u8], held: usize) -> Result<usize, IoFailed>

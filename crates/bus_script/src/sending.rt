@@ -4,10 +4,10 @@ ghost use Rattle.std.specs.List.{flat_map};
 ghost use Rattle.std.specs.Io.KnownBytes.{Appends};
 ghost use Rattle.bus_terminal.specs.Answer.{shown_answer, IsSmall};
 ghost use Rattle.bus_script.specs.Device.{IsPartWritten};
-ghost use Rattle.bus_script.specs.Transcript.{word_field, received_text, answer_text};
+ghost use Rattle.bus_script.specs.Transcript.{word_field, received_by, received_text, answer_text};
 
 use crate::digits::{decimal_digits, digits_of};
-use crate::transcript::{push_answer, received_by, sent_line};
+use crate::transcript::{push_answer, sent_line};
 use crate::writing::write_all;
 use crate::{IoFailed, Sink};
 use arrayvec::ArrayString;
@@ -35,7 +35,22 @@ fn send_fields<W: Sink>(writer: &mut W, words: &[u16]) -> Result<(), IoFailed>
     Ok(())
 }
 
-/// Writes the line of data words that were received.
+/// Writes what the line of data words that were received begins with.
+#[inline(always)]
+fn send_received_by<W: Sink>(writer: &mut W, broadcast: bool) -> Result<(), IoFailed>
+    ensures ok { OnOk result (Appends (W.written writer.old) (W.written writer.new) (received_by broadcast)) }
+    ensures err { OnErr result (IsPartWritten (W.written writer.old) (W.written writer.new) (received_by broadcast)) }
+    ensures failed { OnErr result (W.has_failed writer.new ≡ true) }
+{
+    if broadcast {
+        write_all(writer, b"hand receive broadcast ")
+    } else {
+        write_all(writer, b"hand receive own ")
+    }
+}
+
+/// Writes the line of data words that were received. It stands apart, lest what takes events grow too large to be
+/// inlined.
 #[inline(never)]
 fn send_received<W: Sink>(
     writer: &mut W,
@@ -47,7 +62,7 @@ fn send_received<W: Sink>(
     ensures err { OnErr result (IsPartWritten (W.written writer.old) (W.written writer.new) (received_text broadcast subaddress words.now)) }
     ensures failed { OnErr result (W.has_failed writer.new ≡ true) }
 {
-    write_all(writer, received_by(broadcast).as_bytes())?;
+    send_received_by(writer, broadcast)?;
     write_all(writer, &decimal_digits(subaddress))?;
     send_fields(writer, words)?;
     write_all(writer, b"\n")
@@ -76,11 +91,13 @@ pub fn send<W: Sink>(writer: &mut W, answer: &Answer) -> Result<(), IoFailed>
 {
     match answer {
         Answer::Sends(sent) => write_all(writer, &sent_line(sent)),
-        Answer::Hands(Hand::Received {
-            broadcast,
-            subaddress,
-            words,
-        }) => send_received(writer, *broadcast, *subaddress, words),
+        Answer::Hands(
+            Hand::Received {
+                broadcast,
+                subaddress,
+                words,
+            },
+        ) => send_received(writer, *broadcast, *subaddress, words),
         _ => {
             // a copy, so that the others need not stand in memory
             let rare = *answer;

@@ -72,9 +72,7 @@ fn push_sent(text: &mut ArrayString<320>, sent: &Sent)
     text.push_str(ascii(&sent_line(sent)));
 }
 
-/// What the line of data words that were received begins with.
-#[inline(always)]
-pub fn received_by(broadcast: bool) -> &'static str
+fn received_by(broadcast: bool) -> &'static str
     ensures { result.now ≡ received_by broadcast }
 {
     if broadcast {

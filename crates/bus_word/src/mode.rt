@@ -58,6 +58,7 @@ ghost use Rattle.bus_word.specs.Mode.{mode_row, is_required_code};
 
 /// The row of a mode code, or None for a code that is always illegal: the reserved ones, and
 /// selected transmitter shutdown and its override (20 and 21), which serve more than two buses.
+#[inline(always)]
 pub fn mode_row(code: u8) -> Option<ModeRow>
     ensures { result ≡ mode_row code }
 {

@@ -21,26 +21,19 @@ pub struct StatusParts {
     pub terminal: bool,
 }
 
-/// Gives the mask of a bit that is set, 0 of one that isn't.
-fn masked(is_set: bool, mask: u16) -> u16
-    ensures { result ≡ mask_if is_set mask }
-{
-    if is_set { mask } else { 0 }
-}
-
-ghost use Rattle.bus_word.specs.Status.{mask_if, status_word};
+ghost use Rattle.bus_word.specs.Status.{status_word};
 
 /// The status word of the terminal of this `address`, 0 to 30, with these bits set.
 pub fn status_of(address: u8, parts: StatusParts) -> u16
     requires { address ≤ 30 }
     ensures { result ≡ status_word address parts }
 {
-    (u16::from(address) << 11)
-        | masked(parts.error, 0x0400)
-        | masked(parts.service, 0x0100)
-        | masked(parts.broadcast, 0x0010)
-        | masked(parts.busy, 0x0008)
-        | masked(parts.subsystem, 0x0004)
-        | masked(parts.accept, 0x0002)
-        | masked(parts.terminal, 0x0001)
+    // from the highest bit down, each a step: a compiler makes of seven masks at once something slower
+    let word = u16::from(address) * 2 + u16::from(parts.error);
+    let word = word * 4 + u16::from(parts.service);
+    let word = word * 16 + u16::from(parts.broadcast);
+    let word = word * 2 + u16::from(parts.busy);
+    let word = word * 2 + u16::from(parts.subsystem);
+    let word = word * 2 + u16::from(parts.accept);
+    word * 2 + u16::from(parts.terminal)
 }

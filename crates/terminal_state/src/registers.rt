@@ -180,7 +180,12 @@ impl Registers {
         match ended {
             Ended::Nothing | Ended::Badly(_) => {}
             Ended::Illegal(command) => self.kept = self.formed_with_error(*command),
-            Ended::Blocked(command, _) => self.kept = self.formed(*command, false, false, self.inhibited),
+            Ended::Blocked(command, _) => self.kept = self.formed(
+                *command,
+                false,
+                false,
+                self.inhibited,
+            ),
             Ended::Done(command, cell) => if !reports_kept(*cell) {
                 self.kept = self.formed_done(*command, *cell, accept);
             },

@@ -9,7 +9,7 @@ use Rattle.bus_script.proofs.run.run_lines.Given as goal
 abbrev pub invariant-reads : goal.invariant-reads
 invariant-reads g l = record {
   held : l.held ≤ 64;
-  fits : length l.buffer ≡ 16384;
+  fits : length l.buffer ≡ 65536;
   running : (whole : List ℕ) × (es : List Event)
       × Running meaning (StandsAt g.L.Legality.is_legal) text_at g.R.Source.left g.W.Sink.written l.fn.terminal l.terminal l.fn.reader l.reader l.fn.writer l.writer
       l.counts.lines l.counts.events (take l.held l.buffer) whole es;

@@ -1,4 +1,4 @@
-use Rattle.std.proofs.Common.{subst, sym, ap, get_or, ◌∙◌}
+use Rattle.std.proofs.Common.{subst}
 use Rattle.bus_script.specs.Device.{IsPartWritten}
 use Rattle.bus_script.specs.Transcript.{word_field}
 use Rattle.bus_script.proofs.SinkLaws.{part-among, on_err}

@@ -1,4 +1,4 @@
-use Rattle.std.proofs.Common.{length, ◌∙◌, arith}
+use Rattle.std.proofs.Common.{◌∙◌, arith}
 use Rattle.std.proofs.lemmas.List.{length-set}
 use Rattle.bus_script.proofs.DigitLaws.{one_entry_more}
 use Rattle.bus_script.proofs.digits.DigitValues.asked.Goals as goal

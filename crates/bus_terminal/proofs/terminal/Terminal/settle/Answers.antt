@@ -1,6 +1,6 @@
 use Rattle.std.proofs.Common.{Some, refl, ap, sym, ◌∙◌}
 use Rattle.terminal_rules.specs.Turn.{is_answered, done_cell}
-use Rattle.terminal_rules.specs.inner.Steps.{begun_if, resets_at_gap}
+use Rattle.terminal_rules.specs.inner.Steps.{begun_if}
 use Rattle.terminal_state.specs.inner.Ended.{ending_of}
 use Rattle.terminal_state.specs.inner.Held.{held_after}
 use Rattle.terminal_state.specs.inner.Replies.{shown_reply}
