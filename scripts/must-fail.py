@@ -31,6 +31,7 @@ import shutil
 import subprocess
 import sys
 import tempfile
+import time
 from concurrent.futures import ThreadPoolExecutor
 from typing import NamedTuple, Optional
 
@@ -174,6 +175,8 @@ class Crate:
 
     def __init__(self, name, deps, built, kit, room):
         self.name, self.deps, self.built, self.kit, self.room = name, deps, built, kit, room
+        # how many checks there were so far
+        self.checks = 0
         self.folder = f"{TOP}/crates/{name}"
         folders = [f"{self.folder}/{it}" for it in ("must-fail", "must-not-compile")]
         paths = [f"{edits}/{it}" for edits in folders if os.path.isdir(edits) for it in sorted(os.listdir(edits))]
@@ -209,6 +212,7 @@ class Crate:
 
     def checked(self, texts):
         """What the prover says of the crate with these texts in place of its own."""
+        self.checks += 1
         place = f"{self.room}/crate"
         shutil.rmtree(place, ignore_errors=True)
         for part in PARTS:
@@ -312,9 +316,11 @@ class Crate:
 
 def tried(crate):
     """Tries the edits of a crate and prints a line for each. Returns how many were refused, and how many were not."""
+    began = time.monotonic()
     lines = list(crate.tried())
     for label, is_refused, why in lines:
         print(f"must-fail {label}: {'refused: ' if is_refused else ''}{why[:240]}", flush=True)
+    print(f"note: {crate.name}: {len(lines)} edits in {crate.checks} checks, {time.monotonic() - began:.0f} s", flush=True)
     passed = sum(is_refused for _, is_refused, _ in lines)
     return passed, len(lines) - passed
 
