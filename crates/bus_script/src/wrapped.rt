@@ -8,7 +8,7 @@ use arrayvec::ArrayVec;
 use std::io::{ErrorKind, Read, Write};
 
 /// How many bytes a `FromWrite` holds back at most.
-const HELD: usize = 8192;
+const HELD: usize = 65_536;
 
 /// Reads once. A read that was interrupted is tried again.
 fn read_once<R: Read>(reader: &mut R, out: &mut [u8]) -> Result<usize, IoFailed>
@@ -119,7 +119,7 @@ impl<W: Write + Drop> Sink for Direct<W> {
 }
 
 /// Hands on to a writer, a file, the standard output or bytes in memory, in blocks: what is written is held back
-/// until there are 8,192 bytes, or until a flush. A write that was interrupted is tried again. After a failure nothing
+/// until there are 65,536 bytes, or until a flush. A write that was interrupted is tried again. After a failure nothing
 /// is written any more.
 #[derive(Drop)]
 pub struct FromWrite<W: Write + Drop> {
@@ -169,7 +169,7 @@ impl<W: Write + Drop> FromWrite<W> {
     /// Holds back bytes for which there is room.
     #[inline(always)]
     fn hold(&mut self, bytes: &[u8]) -> Result<usize, IoFailed>
-        requires { length self.old.held.items + length bytes.now ≤ 8192 }
+        requires { length self.old.held.items + length bytes.now ≤ 65536 }
         ensures all { result ≡ Ok (length bytes.now) }
         ensures bytes { Appends (⟦<FromWrite<W> as Sink>⟧.written self.old) (⟦<FromWrite<W> as Sink>⟧.written self.new) bytes.now }
         ensures failed { self.new.sink.failed ≡ self.old.sink.failed }

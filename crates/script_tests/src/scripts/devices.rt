@@ -105,12 +105,12 @@ fn pieces_are_written(
 #[test]
 fn pieces_longer_than_what_is_held_back(rt: HostRuntime) -> Result<(), AllocError> {
     for (first, second, third) in [
-        (1usize, 8191usize, 1usize),
-        (8192, 0, 1),
-        (8192, 1, 8192),
-        (8193, 8193, 0),
-        (3, 10_000, 2),
-        (10_000, 10_000, 10_000),
+        (1usize, 65_535usize, 1usize),
+        (65_536, 0, 1),
+        (65_536, 1, 65_536),
+        (65_537, 65_537, 0),
+        (3, 70_000, 2),
+        (70_000, 70_000, 70_000),
     ] {
         let fine = pieces_are_written(rt.alloc(), first, second, third)?;
         assert!(rt; fine, "{first} {second} {third}");
