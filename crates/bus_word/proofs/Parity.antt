@@ -1,5 +1,5 @@
 -- Ones counted in a list of bits, and ones counted at once; the parity of a valid word.
-use Rattle.std.proofs.Common.{◌≡◌, ℕ, zero, suc, ◌+◌, ◌*◌, ◌/◌, ◌%◌, ◌^◌, ◌<◌, ◌==◌, Bool, true, false, refl, sym, ◌∙◌, ap, arith, pow-suc}
+use Rattle.std.proofs.Common.{◌≡◌, ℕ, zero, suc, ◌+◌, ◌*◌, ◌/◌, ◌%◌, ◌^◌, ◌<◌, ◌==◌, Bool, true, false, not, refl, sym, ◌∙◌, ap, arith, pow-suc}
 use Rattle.std.proofs.lemmas.Bool.Decides.{nat_tests}
 use Rattle.std.proofs.lemmas.Nat.{ones_cat}
 use Rattle.std.specs.Int.RustNames.{count_ones}
@@ -37,6 +37,13 @@ ones-low_bits (suc k) n h = ap (λ m. n % 2 + m) (ones-low_bits k (n / 2) (half_
 -- one more bit, set where the number of ones is even, makes it odd
 pub odd_with_parity : (n : ℕ) → ((bit_of (n % 2 == 0) + n) % 2 == 1) ≡ true
 odd_with_parity n = grind arith
+
+-- a parity bit makes the number of ones odd where it is set and they are even, or is not and they are odd
+pub odd_where_even : (n : ℕ) → (n % 2 == 0) ≡ ((1 + n) % 2 == 1)
+odd_where_even n = grind arith
+
+pub odd_where_odd : (n : ℕ) → not (n % 2 == 0) ≡ ((0 + n) % 2 == 1)
+odd_where_odd n = grind (arith, nat_tests)
 
 -- a parity bit that makes the number of ones odd is set where that number is even
 parity_law : (n : ℕ) (p : Bool) → ((bit_of p + n) % 2 == 1) ≡ true → p ≡ (n % 2 == 0)

@@ -48,7 +48,9 @@ impl Raw {
     pub fn is_valid(&self) -> bool
         ensures { result ≡ is_valid self.now }
     {
-        (self.bits.count_ones() + u32::from(self.parity)) % 2 == 1
+        // the right parity bit is set where the number of ones is even
+        let is_even = self.bits.count_ones() % 2 == 0;
+        if self.parity { is_even } else { !is_even }
     }
 
     /// Whether this is a valid word of command sync: a command word or a status word.
