@@ -24,8 +24,8 @@ test: ## the gate: proves and tests everything from nothing; the last line is 'N
 	@bash scripts/need.sh rt python3 cc c++ cargo groff vim dpkg-deb git
 	bash scripts/gate.sh
 
-bench: ## the speed beside that of two programs in plain Rust; no test
-	@bash scripts/need.sh rt rustc
+bench: ## the speed beside that of three programs in plain Rust; no test
+	@bash scripts/need.sh rt rustc python3
 	bash bench/run.sh
 
 install: ## copies programs, man pages, completions, schemas and, where it is built, the library below PREFIX, /usr/local

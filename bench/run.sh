@@ -1,27 +1,17 @@
 #!/usr/bin/env bash
 # The benchmark: the least processor time, user and system together, that the program and its three peers take
-# for scripts of 1,000,000 lines, and what `wc -l` takes for them. They run in turns, several rounds, and
+# for scripts of 1,000,000 lines, and what `wc -l` takes for them. They run in turns, many rounds, and
 # write their transcripts to /dev/null. Nothing here is a test: times differ from run to run.
 #
 #   LINES_EACH   how many lines a script has      ROUNDS   how many rounds
-#   RUNS         how many runs are timed at once  PROGRAM  another program than bin/rt1553
-#   SCRIPTS      some of the scripts, by name
+#   SCRIPTS      some of the scripts, by name     PROGRAM  another program than bin/rt1553
 set -euo pipefail
 cd "$(dirname "$0")/.."
 source bench/prepare.sh
-lines=${LINES_EACH:-1000000} rounds=${ROUNDS:-9} runs=${RUNS:-3}
+lines=${LINES_EACH:-1000000} rounds=${ROUNDS:-25}
 
-repeat() {
-    local number
-    for ((number = 0; number < runs; number++)); do "$@"; done
-}
-
-# the processor time of `runs` runs of a command, in milliseconds
-processor_time() {
-    local TIMEFORMAT='%3U %3S' spent
-    spent=$({ time repeat "$@" >/dev/null; } 2>&1)
-    awk '{ printf "%d", ($1 + $2) * 1000 + 0.5 }' <<<"$spent"
-}
+# the processor time of a command, in microseconds
+processor_time() { python3 bench/processor_time.py "$@"; }
 
 # measures each contender once for a script, and keeps the least of its times: measure SCRIPT
 measure() {
@@ -30,13 +20,13 @@ measure() {
         if [[ $contender == lines ]]; then
             spent=$(processor_time wc -l "$work/$1.script")
         else
-            spent=$(processor_time play "$contender" "$1")
+            spent=$(processor_time "$work/$contender" run "$work/profile.toml" "$work/$1.script")
         fi
         if [[ -z ${least[$contender]:-} || $spent -lt ${least[$contender]} ]]; then least[$contender]=$spent; fi
     done
 }
 
-in_milliseconds() { quotient "$1" "$runs"; }
+in_milliseconds() { quotient "$1" 1000; }
 
 prepare "$lines"
 echo "milliseconds of processor time for $lines lines, the least of $rounds rounds"

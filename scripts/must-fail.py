@@ -14,6 +14,8 @@ is none here), so a function that is refused on its own account is refused for t
 refused only since it calls such a function does not count. As a control, each function with no edit must be
 proved or refused for its calls alone.
 
+Those that wait for a wrong body that they call are tried again together, without the bodies that were refused.
+
 An edit that changes more than one body, or a contract, a type or a constant, is tried with the other files as
 the last check of many left them: then a function with no wrong body must be refused. An edit that is not
 refused in one of these ways is tried on the crate as it is, and the prover must refuse the crate.
@@ -302,7 +304,14 @@ class Crate:
 
     def tried(self):
         """Each edit's label, whether it is refused, and why."""
-        refused, wrong, answers = self.tried_together([it for it in self.edits if it.function and not it.error])
+        refused, wrong, answers, left = {}, {}, {}, [it for it in self.edits if it.function and not it.error]
+        # one that waits for another wrong body is tried again without those that are refused
+        while len(left) > 1:
+            now, wrong, answers = self.tried_together(left)
+            refused.update(now)
+            if not now:
+                break
+            left = [it for it in left if it.label not in refused]
         for it in self.edits:
             if it.fault:
                 yield it.label, False, f"BAD EDIT: {it.fault}"
