@@ -1,18 +1,14 @@
 -- What an event makes of a terminal, put together from what its functions do one after the other.
-use Rattle.std.proofs.Common.{◌≡◌, ℕ, ◌≤◌, true, false, Bool, if◌then◌else◌, Some, None, refl, ap, sym, ◌∙◌}
+use Rattle.std.proofs.Common.{◌≡◌, ℕ, ◌≤◌, true, false, Bool, if◌then◌else◌, Some, ap, sym, ◌∙◌}
 use Rattle.bus_word.specs.declared.word.Bus.{Bus}
-use Rattle.bus_word.specs.declared.word.Kind.TheVariants.{Dat}
 use Rattle.bus_word.specs.declared.word.Raw.{Raw}
-use Rattle.bus_word.specs.Word.{is_valid, valid_word}
 use Rattle.bus_word.specs.declared.cell.Cell.{Cell}
 use Rattle.terminal_rules.specs.Buses.{same_bus}
-use Rattle.terminal_rules.specs.Ends.{data_of}
 use Rattle.terminal_rules.specs.History.{Ending}
 use Rattle.terminal_rules.specs.Status.{spares, adds_error}
 use Rattle.terminal_rules.specs.Turn.{is_answered, done_cell}
 use Rattle.terminal_rules.specs.inner.Steps.{dropped_if, begun_if, resets_at_gap}
-use Rattle.terminal_state.specs.inner.Standing.{word_leaves, entry_leaves, entry_fails, gap_leaves}
-use Rattle.terminal_state.specs.declared.message.InProgress.{InProgress}
+use Rattle.terminal_state.specs.inner.Standing.{word_leaves, entry_fails, gap_leaves}
 use Rattle.terminal_state.specs.inner.Message.{standing_on}
 use Rattle.terminal_state.specs.inner.Registers.{failed_by, started_if, settled}
 use Rattle.terminal_state.specs.inner.Buses.{on_bus, with_bus}
@@ -70,18 +66,4 @@ settled_gap is_legal b x begins spares t u begin spare setup heard standing regi
   registers = registers ∙ (λ j. settled t.settings.accept (spare j) b (begin j) x t.registers);
   reply = reply ∙ ap (λ k. begun_if k b (done_cell x) (shown_reply t.reply)) begin;
   held = λ s i low high first last. held s i low high first last ∙ ap (λ k. held_after t.held t.settings.wrap s i (resets_at_gap k x) x) begin;
-}
-
--- a valid data word of a message that collects it
-pub collected_word : {L : Type 0} (is_legal : L → Cell → Bool) (b : Bus) (bits : ℕ) (t : Terminal L) (m : InProgress) → is_valid (valid_word Dat bits) ≡ true →
-    ((own : ℕ) (w : Raw) → data_of (Some w) ≡ Some bits → (c : Bus) → standing_on c m ≡ (if same_bus c b then entry_leaves own (Some w) (standing_on c t.in_progress) else standing_on c t.in_progress)) →
-    ((w : Raw) → entry_fails (Some w) (standing_on b t.in_progress) ≡ None) →
-    TakesWord is_legal b (valid_word Dat bits) t (record t { in_progress = m })
-collected_word is_legal b bits t m valid collects fails = record {
-  setup = record { description = refl };
-  heard = refl;
-  standing = collects t.settings.address (valid_word Dat bits) (ap (λ v. if v then Some bits else None) valid);
-  registers = sym (ap (λ f. failed_by (own_description is_legal t) f t.registers) (fails (valid_word Dat bits)));
-  reply = refl;
-  held = refl;
 }

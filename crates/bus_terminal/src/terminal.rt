@@ -10,8 +10,8 @@ use bus_legal::{Legality, Setup};
 use bus_word::{Bus, Command, Kind, Raw, cell_of};
 use terminal_rules::{Event, WordPlace};
 use terminal_state::{
-    Ended, GapEnd, HeldWords, InProgress, OnBuses, Registers, Reply, reports_kept, same_bus,
-    verdict_of,
+    Ended, GapEnd, HeldWords, InProgress, OnBuses, Registers, Reply, advance, reports_kept,
+    same_bus, verdict_of,
 };
 
 /// A remote terminal, with what answers whether a cell is legal. It stores no history: it keeps what of its
@@ -29,11 +29,13 @@ pub struct Terminal<L> {
 }
 
 impl<L: Legality> Terminal<L> {
-    ghost use Rattle.std.specs.Prelude.{◌≡◌, true, false, ℕ, List, [], ◌∷◌};
+    ghost use Rattle.std.specs.Prelude.{◌≡◌, true, false, if◌then◌else◌, ℕ, List, [], ◌∷◌};
     ghost use Rattle.bus_legal.specs.Description.{Description, described};
     ghost use Rattle.terminal_rules.specs.declared.event.Event.{Event};
     ghost use Rattle.terminal_rules.specs.declared.event.Event.TheVariants.{Word as WordEvent};
     ghost use Rattle.bus_word.specs.Word.{valid_word};
+    ghost use Rattle.bus_word.specs.declared.word.Kind.TheVariants.{Com, Dat};
+    ghost use Rattle.terminal_rules.specs.Starts.{is_for};
     ghost use Rattle.terminal_rules.specs.Ends.{well};
     ghost use Rattle.terminal_rules.specs.Status.{spares, adds_error};
     ghost use Rattle.terminal_rules.specs.Reply.{reply_bus};
@@ -45,12 +47,12 @@ impl<L: Legality> Terminal<L> {
     ghost use Rattle.terminal_state.specs.inner.Message.{standing_on};
     ghost use Rattle.terminal_state.specs.inner.Ended.{ending_of};
     ghost use Rattle.terminal_state.specs.inner.Registers.{failed_by};
-    ghost use Rattle.terminal_state.specs.inner.Buses.{on_bus};
+    ghost use Rattle.terminal_state.specs.inner.Buses.{on_bus, with_bus};
     ghost use Rattle.bus_terminal.specs.Answer.{shown_answer, IsSmall};
     ghost use Rattle.bus_terminal.specs.inner.Answer.{shown_sent};
     ghost use Rattle.bus_terminal.specs.Stands.{StandsAt, own_description, held_word};
     ghost use Rattle.bus_terminal.specs.contracts.terminal.Terminal.{the_row};
-    ghost use Rattle.bus_terminal.specs.inner.Terminal.{sends_from, heard_after_word, ends_at_gap, begins_at_gap, TakesStart, TakesWord, TakesNoise, TakesGap, TakesSlot, TakesWrite};
+    ghost use Rattle.bus_terminal.specs.inner.Terminal.{sends_from, ends_at_gap, begins_at_gap, TakesStart, TakesWord, TakesNoise, TakesGap, TakesSlot, TakesWrite};
 
     /// Gives the terminal at power-up.
     pub fn power_up(setup: Setup, legality: L) -> Terminal<L>
@@ -110,19 +112,18 @@ impl<L: Legality> Terminal<L> {
         }
     }
 
-    /// Takes the word of this sync and these bits with the right parity, as nearly all words have it. Most are data words
-    /// of a message that collects them, and change nothing else.
+    /// Takes the word of this sync and these bits with the right parity, as nearly all words have it.
     #[inline(always)]
     pub fn take_valid(&mut self, bus: Bus, kind: Kind, bits: u16)
         ensures { (P : Description) (h : List Event) → StandsAt L.is_legal P h self.old → StandsAt L.is_legal P (WordEvent bus (valid_word kind bits) ∷ h) self.new }
     {
-        let word = Raw::of(kind, bits);
-        if let Kind::Dat = kind {
-            if !self.replies_on(bus) && self.in_progress.collect(bus, bits) {
-                return;
-            }
+        if self.replies_on(bus) {
+            return;
         }
-        self.hear(bus, word);
+        match kind {
+            Kind::Com => self.take_command(bus, bits),
+            Kind::Dat => self.take_data(bus, bits),
+        }
     }
 
     /// Takes a word on this bus, if no reply is in progress there.
@@ -131,7 +132,8 @@ impl<L: Legality> Terminal<L> {
         ensures { (P : Description) (h : List Event) → StandsAt L.is_legal P h self.old → StandsAt L.is_legal P (WordEvent bus word ∷ h) self.new }
     {
         if !self.replies_on(bus) {
-            self.take_word(bus, word);
+            let ours = word.is_for(self.settings.address, self.settings.broadcast);
+            self.take_word(bus, word, ours);
         }
     }
 
@@ -216,15 +218,15 @@ impl<L: Legality> Terminal<L> {
 
     /// Tells whether a word for the terminal starts a message.
     #[inline(always)]
-    fn starts(&self, bus: Bus, word: Raw) -> bool
+    fn starts(&self, bus: Bus, word: Raw, ours: bool) -> bool
+        requires { ours ≡ is_for (own_description L.is_legal self.now) word }
         ensures { result ≡ starts_by (own_description L.is_legal self.now) word (on_bus bus self.now.heard) (standing_on bus self.now.in_progress) }
     {
         let command = Command::of(word.bits);
-        word.is_for(self.settings.address, self.settings.broadcast)
-            && ((!self.heard.on(bus) && self.in_progress.is_free(bus))
-                || (self.in_progress.is_fresh_broadcast(bus)
-                    && command.transmit()
-                    && command.address() == self.settings.address))
+        ours && ((!self.heard.on(bus) && self.in_progress.is_free(bus))
+            || (self.in_progress.is_fresh_broadcast(bus)
+                && command.transmit()
+                && command.address() == self.settings.address))
     }
 
     /// Tells whether a message that ended in error spares the kept status.
@@ -260,11 +262,7 @@ impl<L: Legality> Terminal<L> {
         self.heard.set(bus, false);
         self.in_progress.gap(bus);
         if begins {
-            self.reply = Some(Reply {
-                bus,
-                cell: ended.done_cell(),
-                next: 0,
-            });
+            self.reply = Some(Reply::begun(bus, ended.done_cell()));
         }
     }
 
@@ -285,10 +283,14 @@ impl<L: Legality> Terminal<L> {
         ensures sent { can_send (shown_reply self.old.reply) ≡ true → shown_sent result ≡ sends_from self.old.settings.address self.old.registers (held_word self.old) (shown_reply self.old.reply) }
         ensures takes { TakesSlot L.is_legal self.old self.new }
     {
-        let reply = self.reply?;
-        let sent = self.next_sent(reply);
-        self.reply = reply.after_slot();
-        if reply.resets() {
+        // read where it stands: of a copy the number that the last slot wrote would be read together with what stands beside it,
+        // and a processor waits until such a mixture is in memory
+        let (sent, resets) = match &self.reply {
+            Some(reply) => (self.next_sent(reply), reply.resets()),
+            None => return None,
+        };
+        advance(&mut self.reply);
+        if resets {
             self.registers.reset();
             self.held.reset();
         }
@@ -316,15 +318,16 @@ impl<L: Legality> Terminal<L> {
         self.in_progress.follow(bus, self.settings.address, None);
     }
 
-    /// Takes a word on this bus, which has no reply in progress.
+    /// Takes a word on this bus, which has no reply in progress. `ours` says whether it is for the terminal.
     #[inline(always)]
-    fn take_word(&mut self, bus: Bus, word: Raw)
+    fn take_word(&mut self, bus: Bus, word: Raw, ours: bool)
+        requires { ours ≡ is_for (own_description L.is_legal self.old) word }
         ensures { TakesWord L.is_legal bus word self.old self.new }
     {
-        let starts = self.starts(bus, word);
+        let starts = self.starts(bus, word, ours);
         let failed = self.in_progress.failed_by(bus, Some(word));
         self.fail(failed);
-        self.note_word(bus, word);
+        self.note_word(bus, ours);
         if starts {
             self.start(bus, Command::of(word.bits));
         } else {
@@ -335,12 +338,43 @@ impl<L: Legality> Terminal<L> {
 
     /// Notes that the run of this bus holds a word for the terminal, if this is one.
     #[inline(always)]
-    fn note_word(&mut self, bus: Bus, word: Raw)
-        ensures { self.new ≡ record self.old { heard = heard_after_word (own_description L.is_legal self.old) bus word self.old.heard } }
+    fn note_word(&mut self, bus: Bus, ours: bool)
+        ensures { self.new ≡ record self.old { heard = if ours then with_bus bus true self.old.heard else self.old.heard } }
     {
-        if word.is_for(self.settings.address, self.settings.broadcast) {
+        if ours {
             self.heard.set(bus, true);
         }
+    }
+
+    /// Takes a valid word of command sync on this bus, which has no reply in progress.
+    #[inline(always)]
+    fn take_command(&mut self, bus: Bus, bits: u16)
+        ensures { TakesWord L.is_legal bus (valid_word Com bits) self.old self.new }
+    {
+        let ours = Command::of(bits).is_addressed_to(
+            self.settings.address,
+            self.settings.broadcast,
+        );
+        self.take_word(bus, Raw::of(Kind::Com, bits), ours);
+    }
+
+    /// Takes a valid data word on this bus, which has no reply in progress. Most are those of a message that collects
+    /// them, and change nothing else.
+    #[inline(always)]
+    fn take_data(&mut self, bus: Bus, bits: u16)
+        ensures { TakesWord L.is_legal bus (valid_word Dat bits) self.old self.new }
+    {
+        if !self.in_progress.collect(bus, bits) {
+            self.take_other_data(bus, bits);
+        }
+    }
+
+    /// Takes a valid data word on this bus, which has no reply in progress.
+    #[inline(never)]
+    fn take_other_data(&mut self, bus: Bus, bits: u16)
+        ensures { TakesWord L.is_legal bus (valid_word Dat bits) self.old self.new }
+    {
+        self.take_word(bus, Raw::of(Kind::Dat, bits), false);
     }
 
     /// Starts the message of a command, and drops the reply in progress.

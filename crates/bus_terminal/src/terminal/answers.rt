@@ -34,8 +34,8 @@ impl<L: Legality> Terminal<L> {
 
     /// Gives the next word of a reply.
     #[inline(always)]
-    pub fn next_sent(&self, reply: Reply) -> Sent
-        ensures { can_send (shown_reply (Some reply)) ≡ true → shown_sent (Some result) ≡ sends_from self.now.settings.address self.now.registers (held_word self.now) (shown_reply (Some reply)) }
+    pub fn next_sent(&self, reply: &Reply) -> Sent
+        ensures { can_send (shown_reply (Some reply.now)) ≡ true → shown_sent (Some result) ≡ sends_from self.now.settings.address self.now.registers (held_word self.now) (shown_reply (Some reply.now)) }
     {
         if reply.next == 0 {
             Sent {

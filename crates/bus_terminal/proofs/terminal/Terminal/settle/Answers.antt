@@ -20,7 +20,7 @@ returns-then-begins-clause-takes g c =
     c.set.ensures
     c.gap.ensures.standing
     (c.settle.ensures.registers ds)
-    ((λ j. shown_reply (Some (record { bus = c.args.bus; cell = c.done_cell.ensures ds j; next = 0 }))) ∙ ap (λ k. begun_if k c.args.bus (done_cell x) (shown_reply t.reply)) (sym c.if-begins.true))
+    (c.begun.ensures ∙ (λ j. Some (record { bus = c.args.bus; cell = c.done_cell.ensures ds j; number = 0 })) ∙ ap (λ k. begun_if k c.args.bus (done_cell x) (shown_reply t.reply)) (sym c.if-begins.true))
     (λ s i low high first last.
     c.settle-2.ensures.words s i low high first last
     ∙ (λ j. held_after t.held t.settings.wrap s i (c.resets_at_gap.ensures ds j) (ending_of c.args.ended.now (c.as_slice.ensures.value j))))

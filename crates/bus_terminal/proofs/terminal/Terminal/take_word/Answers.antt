@@ -1,7 +1,8 @@
-use Rattle.std.proofs.Common.{sym, ◌∙◌, subst}
+use Rattle.std.proofs.Common.{sym, ◌∙◌, subst, if◌then◌else◌, true}
+use Rattle.terminal_state.specs.inner.Buses.{with_bus}
 use Rattle.terminal_state.specs.inner.Registers.{failed_by}
 use Rattle.bus_terminal.specs.Stands.{own_description}
-use Rattle.bus_terminal.specs.inner.Terminal.{heard_after_word, TakesStart}
+use Rattle.bus_terminal.specs.inner.Terminal.{TakesStart}
 use Rattle.bus_terminal.proofs.TakesLaw.{starting_word}
 use Rattle.bus_terminal.proofs.terminal.Terminal.take_word.Goals as goal
 
@@ -13,6 +14,6 @@ returns-then-starts g c =
     let b = c.args.bus in
     let w = c.args.word in
     let failed = c.fail.ensures ∙ (λ j. record t { registers = failed_by (own_description is_legal t) (c.failed_by-failed.ensures j) t.registers }) in
-    let noted = c.note_word.ensures ∙ (λ j. record (failed j) { heard = heard_after_word (own_description is_legal (failed j)) b w (failed j).heard }) in
+    let noted = c.note_word.ensures ∙ (λ j. record (failed j) { heard = if c.requires j then with_bus b true (failed j).heard else (failed j).heard }) in
     starting_word is_legal b w t u (sym c.starts-starts.ensures ∙ c.if-starts.true)
     (subst (λ t. TakesStart is_legal b w.bits t u) noted (subst (λ bits. TakesStart is_legal b bits c.note_word.new.self u) c.of.ensures c.start.ensures))

@@ -1,0 +1,49 @@
+//! How a reply begins and goes on.
+ghost use Rattle.std.specs.Prelude.{◌≡◌, Some};
+ghost use Rattle.terminal_state.specs.inner.Replies.{shown_reply};
+ghost use Rattle.terminal_rules.specs.inner.Steps.{sent_one, resets_next};
+
+use super::{Reply, words_after_status};
+use bus_word::{Bus, Cell, mode};
+
+impl Reply {
+    /// Gives the reply on this bus to a message of this cell, where that was done. Its status is sent next.
+    #[inline(always)]
+    pub fn begun(bus: Bus, cell: Option<Cell>) -> Reply
+        ensures { shown_reply (Some result) ≡ Some (record { bus = bus; cell = cell; number = 0 }) }
+    {
+        Reply {
+            bus,
+            cell,
+            next: 0,
+            count: words_after_status(cell),
+        }
+    }
+
+    /// Tells whether the next word is the status of a reset.
+    #[inline(always)]
+    pub fn resets(&self) -> bool
+        ensures { result ≡ resets_next (shown_reply (Some self.now)) }
+    {
+        self.next == 0
+            && matches!(
+                self.cell,
+                Some(Cell::OwnMode(mode::RESET) | Cell::BroadMode(mode::RESET))
+            )
+    }
+}
+
+/// Takes the slot in which the next word of the reply in progress is sent: what is left is the rest of it, or nothing. Where
+/// words are left, their number alone is written: a slot of a long reply stays short.
+#[inline(always)]
+pub fn advance(reply: &mut Option<Reply>)
+    ensures { shown_reply reply.new ≡ sent_one (shown_reply reply.old) }
+{
+    if let Some(it) = reply {
+        if it.next < it.count {
+            it.next += 1;
+            return;
+        }
+    }
+    *reply = None;
+}
