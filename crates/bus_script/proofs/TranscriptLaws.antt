@@ -1,7 +1,4 @@
 -- Laws of the lines of a transcript: how long they are.
-use Rattle.std.specs.Str.{IsAscii}
-use Rattle.std.proofs.lemmas.Str.{IsAscii-append}
-use Rattle.bus_script.proofs.DigitLaws.{ascii_at, digits_ascii}
 use Rattle.std.proofs.Common.{ℕ, ◌≡◌, ◌≤◌, ◌+◌, ◌*◌, ◌∙◌, List, [], ◌∷◌, ◌++◌, length, length-append, refl, arith, flat_map, Bool, true, false}
 use Rattle.hex.specs.Hex.{encode_with}
 use Rattle.bus_word.specs.declared.word.Bus.{Bus}
@@ -33,20 +30,6 @@ sent_length s = on_bus s.bus s.kind
     on_bus A Dat = refl
     on_bus B Com = refl
     on_bus B Dat = refl
-
-letter_ascii : (bus : Bus) → IsAscii (bus_letter bus)
-letter_ascii A = ascii_at (bus_letter A) refl
-letter_ascii B = ascii_at (bus_letter B) refl
-
-kind_ascii : (kind : Kind) → IsAscii (sent_kind kind)
-kind_ascii Com = ascii_at (sent_kind Com) refl
-kind_ascii Dat = ascii_at (sent_kind Dat) refl
-
-pub sent_ascii : (s : Sending) → IsAscii (sent_text s)
-sent_ascii s =
-    IsAscii-append (bus_letter s.bus) (sent_kind s.kind ++ (digits_of s.bits ++ 10 ∷ [])) (letter_ascii s.bus)
-    (IsAscii-append (sent_kind s.kind) (digits_of s.bits ++ 10 ∷ []) (kind_ascii s.kind)
-    (IsAscii-append (digits_of s.bits) (10 ∷ []) (digits_ascii s.bits) (ascii_at (10 ∷ []) refl)))
 
 pub received_length : (broadcast : Bool) (subaddress : ℕ) (words : List ℕ) → length (received_text broadcast subaddress words) ≡ length (received_by broadcast) + (3 + 5 * length words)
 received_length true subaddress words = omega (arith, length-append (flat_map word_field words) (10 ∷ []), fields_length words)

@@ -3,7 +3,7 @@ ghost use Rattle.std.specs.Prelude.{◌≡◌, ◌<◌, ◌+◌, ◌++◌, ◌�
 ghost use Rattle.arrayvec.specs.ArrayString.{array_string_len};
 ghost use Rattle.hex.specs.Hex.{hex_digit_value};
 ghost use Rattle.bus_script.specs.Digits.{word_of, digits_of, number_of, decimal_digits};
-ghost use Rattle.bus_script.specs.inner.Digits.{byte_of, digit_in, AreOfHex};
+ghost use Rattle.bus_script.specs.inner.Digits.{byte_of, digit_in, pair_of, AreRead, AreWritten};
 
 use arrayvec::ArrayString;
 
@@ -45,23 +45,56 @@ fn value_of(byte: u8) -> u8
     }
 }
 
-/// What `hex` says of each byte, asked once. A call of `hex` branches by what kind of digit a byte is, and nobody can
-/// foresee that of data: where a script has many lines, it is cheaper to keep the answers.
-#[derive(Drop)]
-pub struct DigitValues {
-    /// The value of each byte as a hexadecimal digit; `NO_DIGIT` where it is none.
-    values: [u8; 256],
-    ghost of_hex: { AreOfHex values },
+/// What `hex` reads in each byte as a digit.
+fn values_read() -> [u8; 256]
+    ensures { AreRead result }
+{
+    let mut values = [NO_DIGIT; 256];
+    'bytes: for byte in 0..256 {
+        values[byte] = value_of(byte as u8);
+    }
+    values
 }
 
-impl DigitValues {
-    /// Asks `hex` for the value of each byte.
-    pub fn asked() -> DigitValues {
-        let mut values = [NO_DIGIT; 256];
-        'bytes: for byte in 0..256 {
-            values[byte] = value_of(byte as u8);
+/// The two digits that `hex` writes for a byte.
+fn pair_of(byte: u8) -> [u8; 2]
+    ensures { result ≡ pair_of byte }
+{
+    let mut pair = [0; 2];
+    let _ = hex::encode_to_slice([byte], &mut pair);
+    pair
+}
+
+/// What `hex` writes for each byte: its two digits as one number, which is read and written as one.
+fn pairs_written() -> [u16; 256]
+    ensures { AreWritten result }
+{
+    let mut pairs = [0; 256];
+    'bytes: for byte in 0..256 {
+        pairs[byte] = u16::from_le_bytes(pair_of(byte as u8));
+    }
+    pairs
+}
+
+/// What `hex` reads in each byte and writes for each, asked once. A call of `hex` branches by what kind of digit a byte
+/// is, and nobody can foresee that of data: where a script has many lines, it is cheaper to keep the answers.
+#[derive(Drop)]
+pub struct HexDigits {
+    /// The value of each byte as a hexadecimal digit; `NO_DIGIT` where it is none.
+    values: [u8; 256],
+    /// The two digits of each byte, the first in the low half.
+    pairs: [u16; 256],
+    ghost read: { AreRead values },
+    ghost written: { AreWritten pairs },
+}
+
+impl HexDigits {
+    /// Asks `hex` what each byte is.
+    pub fn asked() -> HexDigits {
+        HexDigits {
+            values: values_read(),
+            pairs: pairs_written(),
         }
-        DigitValues { values }
     }
 
     /// The value of a byte as a hexadecimal digit.
@@ -83,6 +116,26 @@ impl DigitValues {
         } else {
             None
         }
+    }
+
+    /// The two hexadecimal digits of a byte, small.
+    #[inline(always)]
+    fn pair(&self, byte: u8) -> [u8; 2]
+        ensures { result ≡ pair_of byte }
+    {
+        self.pairs[byte as usize].to_le_bytes()
+    }
+
+    /// The four hexadecimal digits of a word, small, the highest first.
+    #[inline(always)]
+    #[tactic(auto, using(crate::proofs::DigitLaws::word_by_parts))]
+    pub fn written(&self, word: u16) -> [u8; 4]
+        ensures { result ≡ digits_of word }
+    {
+        let [high, low] = word.to_be_bytes();
+        let [a, b] = self.pair(high);
+        let [c, d] = self.pair(low);
+        [a, b, c, d]
     }
 }
 

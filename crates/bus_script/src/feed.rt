@@ -10,9 +10,9 @@ ghost use Rattle.bus_script.specs.inner.Feeding.{Feeds};
 ghost use Rattle.bus_script.specs.Played.{Played, PlayedPart};
 
 use crate::chunk::{MAX_LINES, next_line};
-use crate::digits::DigitValues;
+use crate::digits::HexDigits;
 use crate::front::{WORD_LINE, usual_answered, usual_word};
-use crate::play::{play_event, play_line};
+use crate::play::{play_answered, play_line};
 use crate::{RunFault, Sink};
 use bus_legal::Legality;
 use bus_terminal::Terminal;
@@ -24,12 +24,38 @@ pub struct Counts {
     pub events: u64,
 }
 
-/// Plays the whole lines of a chunk, and gives the number of their bytes.
+/// Plays the whole lines of a chunk, and gives the number of their bytes. The counts have a place of their own meanwhile,
+/// which a compiler can keep in registers.
 pub fn feed_lines<L: Legality, W: Sink>(
     terminal: &mut Terminal<L>,
     writer: &mut W,
     counts: &mut Counts,
-    values: &DigitValues,
+    digits: &HexDigits,
+    chunk: &[u8],
+) -> Result<usize, RunFault>
+    requires most { counts.old.lines ≤ 1048576 }
+    requires few { counts.old.events ≤ counts.old.lines }
+    ensures ok { IfOk result (λ done. (es : List Event) × Feeds meaning (StandsAt L.is_legal) text_at W.written terminal.old terminal.new writer.old writer.new
+        counts.old.lines counts.old.events counts.new.lines counts.new.events chunk.now done es) }
+    ensures fault { IfErr result (λ f. ByFault f
+        ((es : List Event) × (counts.new.events ≡ counts.old.events + length es) × Faults meaning counts.old.lines chunk.now es f × Played L.is_legal W.written terminal.old terminal.new writer.old writer.new es)
+        ⊥
+        ((es : List Event) × (e : Event) × (whole : List ℕ) × (rest : List ℕ) × (m : ℕ) × (chunk.now ≡ whole ++ rest)
+        × Reads meaning counts.old.lines whole (es ++ e ∷ []) m × (W.has_failed writer.new ≡ true)
+        × PlayedPart L.is_legal W.written terminal.old terminal.new writer.old writer.new es e)) }
+{
+    let mut now = *counts;
+    let result = feed_counting(terminal, writer, &mut now, digits, chunk);
+    *counts = now;
+    result
+}
+
+/// Plays the whole lines of a chunk, and gives the number of their bytes.
+fn feed_counting<L: Legality, W: Sink>(
+    terminal: &mut Terminal<L>,
+    writer: &mut W,
+    counts: &mut Counts,
+    digits: &HexDigits,
     chunk: &[u8],
 ) -> Result<usize, RunFault>
     requires most { counts.old.lines ≤ 1048576 }
@@ -47,7 +73,7 @@ pub fn feed_lines<L: Legality, W: Sink>(
     'lines: loop {
         let rest = &chunk[at..];
         if counts.lines < MAX_LINES {
-            if let Some(word) = usual_word(values, rest) {
+            if let Some(word) = usual_word(digits, rest) {
                 // a word is never answered
                 terminal.take_valid(word.bus, word.kind, word.bits);
                 counts.events += 1;
@@ -56,7 +82,7 @@ pub fn feed_lines<L: Legality, W: Sink>(
                 continue 'lines;
             }
             if let Some((event, len)) = usual_answered(rest) {
-                match play_event(terminal, writer, event) {
+                match play_answered(terminal, writer, digits, event) {
                     Ok(()) => counts.events += 1,
                     Err(_) => return Err(RunFault::Write),
                 }
@@ -70,7 +96,7 @@ pub fn feed_lines<L: Legality, W: Sink>(
             Ok(None) => return Ok(at),
             Err(fault) => return Err(fault),
         };
-        match play_line(terminal, writer, counts.lines, &rest[..len]) {
+        match play_line(terminal, writer, digits, counts.lines, &rest[..len]) {
             Ok(events) => counts.events += events,
             Err(fault) => return Err(fault),
         }

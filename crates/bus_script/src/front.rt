@@ -1,12 +1,12 @@
 //! The lines of which most scripts are made, told at fixed places: where a line feed stands there, it needs no search.
-ghost use Rattle.std.specs.Prelude.{◌≡◌, Ok, Some, IfSome};
+ghost use Rattle.std.specs.Prelude.{◌≡◌, true, Ok, Some, IfSome};
 ghost use Rattle.terminal_rules.specs.declared.event.Event.TheVariants.{Word as WordEvent};
 ghost use Rattle.bus_word.specs.Word.{valid_word};
 ghost use Rattle.bus_script.specs.Line.{bus_of, meaning};
 ghost use Rattle.bus_script.specs.Text.{NoLineFeed};
 ghost use Rattle.bus_script.specs.inner.Lines.{StandsFirst};
 
-use crate::digits::DigitValues;
+use crate::digits::HexDigits;
 use crate::line::read_kind;
 use bus_terminal::Event;
 use bus_word::{Bus, Kind};
@@ -33,7 +33,7 @@ fn read_bus(byte: u8) -> Option<Bus>
 /// The word of a line `B K XXXX`, whose parity is right; None for every other line.
 #[inline(always)]
 #[tactic(auto, using(crate::proofs::LineLaws::no_feed_in_word), unfolding(crate::specs::Line::meaning))]
-fn read_usual_word(values: &DigitValues, line: &[u8]) -> Option<ValidWord>
+fn read_usual_word(digits: &HexDigits, line: &[u8]) -> Option<ValidWord>
     ensures says { IfSome result (λ word. meaning line.now ≡ Ok (Some (WordEvent word.bus (valid_word word.kind word.bits)))) }
     ensures none { IfSome result (λ found. NoLineFeed line.now) }
 {
@@ -41,11 +41,19 @@ fn read_usual_word(values: &DigitValues, line: &[u8]) -> Option<ValidWord>
         [bus, b' ', kind, b' ', a, b, c, d] => {
             let bus = read_bus(*bus)?;
             let kind = read_kind(*kind)?;
-            let bits = values.word(*a, *b, *c, *d)?;
+            let bits = digits.word(*a, *b, *c, *d)?;
             Some(ValidWord { bus, kind, bits })
         }
         _ => None,
     }
+}
+
+/// Whether four bytes are those of this text, told by one comparison.
+#[inline(always)]
+fn are(bytes: [u8; 4], text: [u8; 4]) -> bool
+    ensures { result ≡ true → bytes ≡ text }
+{
+    u32::from_le_bytes(bytes) == u32::from_le_bytes(text)
 }
 
 /// The event of a line that is a gap; None for every other line.
@@ -55,8 +63,7 @@ fn read_gap(line: &[u8]) -> Option<Event>
     ensures { IfSome result (λ event. (meaning line.now ≡ Ok (Some event)) × NoLineFeed line.now) }
 {
     match line {
-        b"A gap" => Some(Event::Gap(Bus::A)),
-        b"B gap" => Some(Event::Gap(Bus::B)),
+        [bus, a, b, c, d] if are([*a, *b, *c, *d], *b" gap") => Some(Event::Gap(read_bus(*bus)?)),
         _ => None,
     }
 }
@@ -68,7 +75,7 @@ fn read_slot(line: &[u8]) -> Option<Event>
     ensures { IfSome result (λ event. (meaning line.now ≡ Ok (Some event)) × NoLineFeed line.now) }
 {
     match line {
-        b"slot" => Some(Event::Slot),
+        [a, b, c, d] if are([*a, *b, *c, *d], *b"slot") => Some(Event::Slot),
         _ => None,
     }
 }
@@ -80,11 +87,11 @@ pub const WORD_LINE: usize = 8;
 /// another line stands first, or its line feed isn't there yet.
 #[inline(always)]
 #[tactic(auto, using(crate::proofs::LineLaws::stands_first))]
-pub fn usual_word(values: &DigitValues, bytes: &[u8]) -> Option<ValidWord>
+pub fn usual_word(digits: &HexDigits, bytes: &[u8]) -> Option<ValidWord>
     ensures { IfSome result (λ word. StandsFirst meaning bytes.now 8 (WordEvent word.bus (valid_word word.kind word.bits))) }
 {
     if bytes.len() > WORD_LINE && bytes[WORD_LINE] == b'\n' {
-        return read_usual_word(values, &bytes[..WORD_LINE]);
+        return read_usual_word(digits, &bytes[..WORD_LINE]);
     }
     None
 }
@@ -96,14 +103,14 @@ pub fn usual_word(values: &DigitValues, bytes: &[u8]) -> Option<ValidWord>
 pub fn usual_answered(bytes: &[u8]) -> Option<(Event, usize)>
     ensures { IfSome result (λ found. StandsFirst meaning bytes.now found.1 found.0) }
 {
-    if bytes.len() > 5 && bytes[5] == b'\n' {
-        if let Some(event) = read_gap(&bytes[..5]) {
-            return Some((event, 5));
-        }
-    }
     if bytes.len() > 4 && bytes[4] == b'\n' {
         if let Some(event) = read_slot(&bytes[..4]) {
             return Some((event, 4));
+        }
+    }
+    if bytes.len() > 5 && bytes[5] == b'\n' {
+        if let Some(event) = read_gap(&bytes[..5]) {
+            return Some((event, 5));
         }
     }
     None

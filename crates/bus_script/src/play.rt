@@ -8,6 +8,7 @@ ghost use Rattle.bus_script.specs.Transcript.{answer_text, may_be_answered};
 ghost use Rattle.bus_script.specs.inner.Lines.{Means, IsRefused};
 ghost use Rattle.bus_script.specs.Played.{Played, PlayedPart};
 
+use crate::digits::HexDigits;
 use crate::line::read_event;
 use crate::sending::send;
 use crate::{IoFailed, RunFault, Sink};
@@ -30,11 +31,31 @@ fn may_be_answered(event: &Event) -> bool
     matches!(event, Event::Gap(_) | Event::Slot)
 }
 
-/// Plays an event.
+/// Plays an event and writes its answer. Most scripts are made of gaps and slots beside words: this is inlined where they are
+/// read.
 #[inline(always)]
-pub fn play_event<L: Legality, W: Sink>(
+pub fn play_answered<L: Legality, W: Sink>(
     terminal: &mut Terminal<L>,
     writer: &mut W,
+    digits: &HexDigits,
+    event: Event,
+) -> Result<(), IoFailed>
+    ensures ok { OnOk result (Played L.is_legal W.written terminal.old terminal.new writer.old writer.new (event ∷ [])) }
+    ensures err { OnErr result (PlayedPart L.is_legal W.written terminal.old terminal.new writer.old writer.new [] event) }
+    ensures failed { OnErr result (W.has_failed writer.new ≡ true) }
+{
+    let answer = terminal.step(event);
+    if is_silent(&answer) {
+        return Ok(());
+    }
+    send(writer, digits, &answer)
+}
+
+/// Plays an event.
+fn play_event<L: Legality, W: Sink>(
+    terminal: &mut Terminal<L>,
+    writer: &mut W,
+    digits: &HexDigits,
     event: Event,
 ) -> Result<(), IoFailed>
     ensures ok { OnOk result (Played L.is_legal W.written terminal.old terminal.new writer.old writer.new (event ∷ [])) }
@@ -45,11 +66,7 @@ pub fn play_event<L: Legality, W: Sink>(
         terminal.take(event);
         return Ok(());
     }
-    let answer = terminal.step(event);
-    if is_silent(&answer) {
-        return Ok(());
-    }
-    send(writer, &answer)
+    play_answered(terminal, writer, digits, event)
 }
 
 /// Plays a line that follows `lines` lines, and gives the number of its events: none or one.
@@ -57,6 +74,7 @@ pub fn play_event<L: Legality, W: Sink>(
 pub fn play_line<L: Legality, W: Sink>(
     terminal: &mut Terminal<L>,
     writer: &mut W,
+    digits: &HexDigits,
     lines: u64,
     line: &[u8],
 ) -> Result<u64, RunFault>
@@ -72,7 +90,7 @@ pub fn play_line<L: Legality, W: Sink>(
 {
     match read_event(line) {
         Ok(None) => Ok(0),
-        Ok(Some(event)) => match play_event(terminal, writer, event) {
+        Ok(Some(event)) => match play_event(terminal, writer, digits, event) {
             Ok(()) => Ok(1),
             Err(_) => Err(RunFault::Write),
         },

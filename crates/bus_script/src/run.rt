@@ -10,7 +10,7 @@ ghost use Rattle.bus_script.specs.Fault.{is_of_script};
 ghost use Rattle.bus_script.specs.inner.Counted.{StoppedAfter};
 ghost use Rattle.bus_script.specs.Played.{Played, PlayedPart, Completed, Stopped};
 
-use crate::digits::DigitValues;
+use crate::digits::HexDigits;
 use crate::feed::{Counts, feed_lines};
 use crate::play::play_line;
 use crate::{IoFailed, RunFault, Sink, Source};
@@ -61,6 +61,7 @@ fn finish<L: Legality, W: Sink>(
     terminal: &mut Terminal<L>,
     writer: &mut W,
     counts: &mut Counts,
+    digits: &HexDigits,
     rest: &[u8],
 ) -> Result<(), RunFault>
     requires rest { IsRest counts.old.lines rest.now }
@@ -76,7 +77,7 @@ fn finish<L: Legality, W: Sink>(
     if rest.is_empty() {
         return Ok(());
     }
-    match play_line(terminal, writer, counts.lines, rest) {
+    match play_line(terminal, writer, digits, counts.lines, rest) {
         Ok(events) => {
             counts.events += events;
             Ok(())
@@ -102,7 +103,7 @@ fn run_lines<L: Legality, R: Source, W: Sink>(
     ensures ok { OnOk result (Completed L.is_legal W.written terminal.old terminal.new writer.old writer.new (R.left reader.old) counts.new.events) }
     ensures fault { IfErr result (StoppedAfter L.is_legal W.written terminal.old terminal.new writer.old writer.new (R.left reader.old) (R.left reader.new) counts.new.events) }
 {
-    let values = DigitValues::asked();
+    let digits = HexDigits::asked();
     let mut buffer = [0u8; BLOCK];
     let mut held = 0;
     'reads: loop {
@@ -118,14 +119,14 @@ fn run_lines<L: Legality, R: Source, W: Sink>(
             break 'reads;
         }
         let total = held + count;
-        let done = match feed_lines(terminal, writer, counts, &values, &buffer[..total]) {
+        let done = match feed_lines(terminal, writer, counts, &digits, &buffer[..total]) {
             Ok(done) => done,
             Err(fault) => return Err(fault),
         };
         keep(&mut buffer, done, total);
         held = total - done;
     }
-    finish(terminal, writer, counts, &buffer[..held])
+    finish(terminal, writer, counts, &digits, &buffer[..held])
 }
 
 /// Says whether the script has the fault, and no device.

@@ -2,35 +2,46 @@
 ghost use Rattle.std.specs.Prelude.{◌≡◌, true, OnOk, OnErr};
 ghost use Rattle.std.specs.List.{flat_map};
 ghost use Rattle.std.specs.Io.KnownBytes.{Appends};
-ghost use Rattle.bus_terminal.specs.Answer.{shown_answer, IsSmall};
+ghost use Rattle.bus_terminal.specs.Answer.{shown_answer, shown_word, IsSmall};
 ghost use Rattle.bus_script.specs.Device.{IsPartWritten};
-ghost use Rattle.bus_script.specs.Transcript.{word_field, received_by, received_text, answer_text};
+ghost use Rattle.bus_script.specs.Transcript.{sent_text, word_field, received_by, received_text, answer_text};
 
-use crate::digits::{decimal_digits, digits_of};
-use crate::transcript::{push_answer, sent_line};
+use crate::digits::{HexDigits, decimal_digits};
+use crate::transcript::{push_answer, sent_lead};
 use crate::writing::write_all;
 use crate::{IoFailed, Sink};
 use arrayvec::ArrayString;
-use bus_terminal::{Answer, Hand};
+use bus_terminal::{Answer, Hand, Sent};
+
+/// The line of a word that was sent, in one piece.
+#[inline(always)]
+fn sent_line(digits: &HexDigits, sent: &Sent) -> [u8; 9]
+    ensures { result ≡ sent_text (shown_word sent.now) }
+{
+    let [a, b, c, d] = digits.written(sent.bits);
+    let mut line = [0, 0, 0, 0, a, b, c, d, b'\n'];
+    line[..4].copy_from_slice(sent_lead(sent.bus, sent.kind).as_bytes());
+    line
+}
 
 /// A word as a field of a line.
 #[inline(always)]
-fn word_field(word: u16) -> [u8; 5]
+fn word_field(digits: &HexDigits, word: u16) -> [u8; 5]
     ensures { result ≡ word_field word }
 {
-    let [a, b, c, d] = digits_of(word);
+    let [a, b, c, d] = digits.written(word);
     [b' ', a, b, c, d]
 }
 
 /// Writes words as fields of a line.
 #[inline(always)]
-fn send_fields<W: Sink>(writer: &mut W, words: &[u16]) -> Result<(), IoFailed>
+fn send_fields<W: Sink>(writer: &mut W, digits: &HexDigits, words: &[u16]) -> Result<(), IoFailed>
     ensures ok { OnOk result (Appends (W.written writer.old) (W.written writer.new) (flat_map word_field words.now)) }
     ensures err { OnErr result (IsPartWritten (W.written writer.old) (W.written writer.new) (flat_map word_field words.now)) }
     ensures failed { OnErr result (W.has_failed writer.new ≡ true) }
 {
     for word in words {
-        write_all(writer, &word_field(*word))?;
+        write_all(writer, &word_field(digits, *word))?;
     }
     Ok(())
 }
@@ -54,6 +65,7 @@ fn send_received_by<W: Sink>(writer: &mut W, broadcast: bool) -> Result<(), IoFa
 #[inline(never)]
 fn send_received<W: Sink>(
     writer: &mut W,
+    digits: &HexDigits,
     broadcast: bool,
     subaddress: u8,
     words: &[u16],
@@ -64,7 +76,7 @@ fn send_received<W: Sink>(
 {
     send_received_by(writer, broadcast)?;
     write_all(writer, &decimal_digits(subaddress))?;
-    send_fields(writer, words)?;
+    send_fields(writer, digits, words)?;
     write_all(writer, b"\n")
 }
 
@@ -83,21 +95,21 @@ fn send_text<W: Sink>(writer: &mut W, answer: &Answer) -> Result<(), IoFailed>
 
 /// Writes the line of an answer: what most answers are, words that are sent or that were received, without a text in between.
 #[inline(always)]
-pub fn send<W: Sink>(writer: &mut W, answer: &Answer) -> Result<(), IoFailed>
+pub fn send<W: Sink>(writer: &mut W, digits: &HexDigits, answer: &Answer) -> Result<(), IoFailed>
     requires { IsSmall (shown_answer answer.now) }
     ensures ok { OnOk result (Appends (W.written writer.old) (W.written writer.new) (answer_text (shown_answer answer.now))) }
     ensures err { OnErr result (IsPartWritten (W.written writer.old) (W.written writer.new) (answer_text (shown_answer answer.now))) }
     ensures failed { OnErr result (W.has_failed writer.new ≡ true) }
 {
     match answer {
-        Answer::Sends(sent) => write_all(writer, &sent_line(sent)),
+        Answer::Sends(sent) => write_all(writer, &sent_line(digits, sent)),
         Answer::Hands(
             Hand::Received {
                 broadcast,
                 subaddress,
                 words,
             },
-        ) => send_received(writer, *broadcast, *subaddress, words),
+        ) => send_received(writer, digits, *broadcast, *subaddress, words),
         _ => {
             // a copy, so that the others need not stand in memory
             let rare = *answer;

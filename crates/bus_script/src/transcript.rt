@@ -1,54 +1,28 @@
 //! Answers as lines of a transcript.
-ghost use Rattle.std.specs.Prelude.{◌≡◌, ◌≤◌, ◌+◌, ◌*◌, ◌++◌, [], ◌∷◌, length, IsAscii};
+ghost use Rattle.std.specs.Prelude.{◌≡◌, ◌≤◌, ◌+◌, ◌*◌, ◌++◌, length};
 ghost use Rattle.std.specs.List.{flat_map};
 ghost use Rattle.arrayvec.specs.ArrayString.{array_string_len};
 ghost use Rattle.bus_terminal.specs.Answer.{shown_answer, shown_word, shown_handing};
 ghost use Rattle.bus_script.specs.Transcript.{bus_letter, sent_kind, sent_text, word_field, received_by, received_text, hand_text, answer_text};
 ghost use Rattle.terminal_rules.specs.Out.{HandsSynchronizeWith};
 
-use crate::digits::{ascii, digits_of, push_number, push_word};
+use crate::digits::{push_number, push_word};
 use arrayvec::ArrayString;
 use bus_terminal::{Answer, Hand, Sent};
 use bus_word::{Bus, Kind};
 
-/// The letter of a bus.
-fn letter(bus: Bus) -> u8
-    ensures { result ∷ [] ≡ bus_letter bus }
-{
-    match bus {
-        Bus::A => b'A',
-        Bus::B => b'B',
-    }
-}
-
-/// What tells a status word, which has command sync, from a data word.
-fn sent_letter(kind: Kind) -> u8
-    ensures { 32 ∷ result ∷ 32 ∷ [] ≡ sent_kind kind }
-{
-    match kind {
-        Kind::Com => b's',
-        Kind::Dat => b'd',
-    }
-}
-
-/// The line of a word that was sent, with its line feed.
+/// What the line of a word that was sent begins with: the bus, and what tells a status word, which has command sync, from
+/// a data word.
 #[inline(always)]
-pub fn sent_line(sent: &Sent) -> [u8; 9]
-    ensures line { result ≡ sent_text (shown_word sent.now) }
-    ensures ascii { IsAscii (sent_text (shown_word sent.now)) }
+pub fn sent_lead(bus: Bus, kind: Kind) -> &'static str
+    ensures { result.now ≡ bus_letter bus ++ sent_kind kind }
 {
-    let [a, b, c, d] = digits_of(sent.bits);
-    [
-        letter(sent.bus),
-        b' ',
-        sent_letter(sent.kind),
-        b' ',
-        a,
-        b,
-        c,
-        d,
-        b'\n',
-    ]
+    match (bus, kind) {
+        (Bus::A, Kind::Com) => "A s ",
+        (Bus::A, Kind::Dat) => "A d ",
+        (Bus::B, Kind::Com) => "B s ",
+        (Bus::B, Kind::Dat) => "B d ",
+    }
 }
 
 /// Writes words as fields of a line.
@@ -69,7 +43,9 @@ fn push_sent(text: &mut ArrayString<320>, sent: &Sent)
     ensures bytes { text.new.bytes ≡ text.old.bytes ++ sent_text (shown_word sent.now) }
     ensures len { array_string_len text.new ≡ array_string_len text.old + 9 }
 {
-    text.push_str(ascii(&sent_line(sent)));
+    text.push_str(sent_lead(sent.bus, sent.kind));
+    push_word(text, sent.bits);
+    text.push_str("\n");
 }
 
 fn received_by(broadcast: bool) -> &'static str

@@ -4,7 +4,7 @@ use Rattle.bus_terminal.specs.Stands.{StandsAt}
 use Rattle.bus_script.specs.Transcript.{text_at}
 use Rattle.bus_script.specs.Line.{meaning}
 use Rattle.bus_script.specs.inner.Feeding.{Feeding}
-use Rattle.bus_script.proofs.feed.feed_lines.Given as goal
+use Rattle.bus_script.proofs.feed.feed_counting.Given as goal
 
 abbrev pub invariant-lines : goal.invariant-lines
 invariant-lines g l = (es : List Event) × Feeding meaning (StandsAt g.L.Legality.is_legal) text_at g.W.Sink.written l.fn.terminal l.terminal l.fn.writer l.writer

@@ -11,7 +11,7 @@ use Rattle.bus_script.proofs.TranscriptLaws.{unanswered}
 use Rattle.bus_script.proofs.PlayLaws.{Plays-nil, Plays-one}
 use Rattle.bus_script.proofs.FeedLaws.{ByFault-weaker, Faults-first, Feeding-nil, Feeding-line, Feeding-fault, Feeding-part}
 use Rattle.bus_script.proofs.SinkLaws.{from_there}
-use Rattle.bus_script.proofs.feed.feed_lines.Goals as goal
+use Rattle.bus_script.proofs.feed.feed_counting.Goals as goal
 
 pub lines-init : goal.lines-init
 lines-init g c = ([], Feeding-nil meaning (StandsAt g.L.Legality.is_legal) text_at g.W.Sink.written _ _ _ _ _ c.requires.most c.requires.few)
@@ -56,7 +56,7 @@ lines-preserved g c = let i = c.lines.invariant in
 pub returns-in-Err-clause-fault : goal.returns-in-Err-clause-fault
 returns-in-Err-clause-fault g c = let i = c.lines.invariant in
     let first = subst (λ xs. StandsFirst meaning xs c.in-Some-usual_answered.len c.in-Some-usual_answered.event) (from_there c.lines.at c.args.chunk.now) c.in-Some-usual_answered.ensures in
-    Feeding-part c.in-Some-usual_answered.len c.in-Some-usual_answered.event (g.W.Sink.has_failed c.play_event.new.writer ≡ true) i.1 (first.starts c.lines.counts.lines c.if-counts-lt-MAX_LINES.true)
+    Feeding-part c.in-Some-usual_answered.len c.in-Some-usual_answered.event (g.W.Sink.has_failed c.play_answered.new.writer ≡ true) i.1 (first.starts c.lines.counts.lines c.if-counts-lt-MAX_LINES.true)
     (λ r. ap (λ x. then_reads x c.lines.counts.lines r) first.says) c.in-Err.ensures.failed c.in-Err.ensures.err
 
 pub lines-preserved-in-Some-usual_answered : goal.lines-preserved-in-Some-usual_answered

@@ -1,7 +1,7 @@
 use Rattle.std.proofs.Common.{◌∙◌, arith}
 use Rattle.std.proofs.lemmas.List.{length-set}
 use Rattle.bus_script.proofs.DigitLaws.{one_entry_more}
-use Rattle.bus_script.proofs.digits.DigitValues.asked.Goals as goal
+use Rattle.bus_script.proofs.digits.values_read.Goals as goal
 
 pub bytes-preserved : goal.bytes-preserved
 bytes-preserved c = let i = c.bytes.invariant in (

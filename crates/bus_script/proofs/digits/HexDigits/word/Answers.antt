@@ -2,8 +2,8 @@ use Rattle.std.proofs.Common.{◌≡◌, ◌∙◌, sym, [], ◌∷◌}
 use Rattle.bus_script.specs.Digits.{word_of}
 use Rattle.bus_script.specs.inner.Digits.{digit_in}
 use Rattle.bus_script.proofs.DigitLaws.{word_of_digits, word_by_entries, all_digits, first_is_none, second_is_none, third_is_none, last_is_none}
-use Rattle.bus_script.proofs.digits.DigitValues.word.Goals.{else-a-lt16-via-then-a-lt16+then-b-lt16+then-c-lt16+else-d-lt16, else-a-lt16-via-then-a-lt16+then-b-lt16+else-c-lt16, else-a-lt16-via-then-a-lt16+else-b-lt16, else-a-lt16-via-else-a-lt16}
-use Rattle.bus_script.proofs.digits.DigitValues.word.Goals as goal
+use Rattle.bus_script.proofs.digits.HexDigits.word.Goals.{else-a-lt16-via-then-a-lt16+then-b-lt16+then-c-lt16+else-d-lt16, else-a-lt16-via-then-a-lt16+then-b-lt16+else-c-lt16, else-a-lt16-via-then-a-lt16+else-b-lt16, else-a-lt16-via-else-a-lt16}
+use Rattle.bus_script.proofs.digits.HexDigits.word.Goals as goal
 
 pub returns-then-d-lt16 : goal.returns-then-d-lt16
 returns-then-d-lt16 c =
