@@ -1,11 +1,12 @@
 #!/usr/bin/env bash
-# The gate: every proof, test and program from nothing, then the must-fail edits, and beside them the built programs from
-# end to end, texts with known answers, the protocol tests, the library in C, C++, Python and Rust, the sessions of the
-# pages, and what is installed. The last line, 'N passed, M failed', adds the counts of the parts.
+# The gate: every proof, test and program from nothing, then the built programs from end to end, texts with known answers,
+# the protocol tests, the library in C, C++, Python and Rust, the sessions of the pages, and what is installed; and beside
+# all this the must-fail edits. The last line, 'N passed, M failed', adds the counts of the parts.
 set -uo pipefail
 cd "$(dirname "$0")/.." || exit 1
 work=$(mktemp -d) || exit 1
-trap 'rm -rf "$work"' EXIT
+edits=
+trap 'stop_edits; rm -rf "$work"' EXIT
 passed=0 failed=0
 
 # a copy of the crates without their must-fail edits, each of which `rt ci` would give a check of its own
@@ -14,7 +15,17 @@ mkdir "$built" || exit 1
 tar -c --exclude='crates/*/out' --exclude='crates/*/must-fail' HANDLES crates.txt crates | tar -x -C "$built" || exit 1
 
 # proves, tests and builds the copy
-proved() { (cd "$built" && rt ci); }
+proved() { (cd "$built" && rt ci) 2>&1 | tee "$work/proofs"; }
+
+# begins with the edits, in a group of processes of their own, which get what all else leaves of the processors
+start_edits() {
+    : >"$work/proofs"
+    TMPDIR=$work setsid nice -n 19 python3 scripts/must-fail.py --beside "$work/proofs" "$built" >"$work/edits" 2>&1 </dev/null &
+    edits=$!
+}
+
+# ends the edits, where they are still tried
+stop_edits() { [[ -z $edits ]] || kill -- "-$edits" 2>/dev/null; }
 
 # the builds of a program, that of LLVM and that of Rattle's own compiler: builds_of NAME
 builds_of() {
@@ -38,12 +49,10 @@ part() {
     fi
 }
 
+start_edits
 part proved
-# what was not proved is not edited, and not run
+# what was not proved is not run, and its edits tell nothing
 if [[ $failed -eq 0 ]]; then
-    # the edits take all processors for long; the programs, which mostly wait for one another, are played beside them
-    python3 scripts/must-fail.py "$built" >"$work/edits" 2>&1 </dev/null &
-    edits=$!
     part bash scripts/end-to-end.sh "$built"
     mapfile -t programs < <(builds_of rt1553_program)
     mapfile -t tools < <(builds_of rt1553_tool_program)
@@ -54,6 +63,7 @@ if [[ $failed -eq 0 ]]; then
     part python3 scripts/sessions.py "${programs[0]}" "${tools[0]}"
     part bash scripts/first-hour.sh "${programs[0]}" "${tools[0]}"
     wait "$edits"
+    edits=
     part cat "$work/edits"
 fi
 echo "$passed passed, $failed failed"

@@ -1,24 +1,24 @@
 #!/usr/bin/env python3
 """Tries the must-fail edits of the crates, many of them in one check.
 
-    scripts/must-fail.py BUILT [NAME..]
+    scripts/must-fail.py [--beside LOG] BUILT [NAME..]
 
 BUILT is a copy of this repository in which `rt ci` or `rt all check` has passed, or this one; the libraries
-are taken from there. With no NAME the edits of all crates are tried. The last line is 'N passed, M failed'.
+are taken from there. Or `rt ci` is still at work there, and LOG is the file of what it prints: then a crate's turn comes
+when what it stands on is proved. With no NAME the edits of all crates are tried. The last line is 'N passed, M failed'.
 
 `rt must-fail` checks the crate once for each edit, and most of that time goes into reading the libraries and
-proving the same functions again. Here one check has many wrong bodies, each in a function of its own. That
-says of each edit what a check with it alone would say: the proof of a function rests on its own body and on
-the contracts of what it calls, and no other body can be seen from it (but in a cycle of calls, of which there
-is none here), so a function that is refused on its own account is refused for the edit in it. One that is
-refused only since it calls such a function does not count. As a control, each function with no edit must be
-proved or refused for its calls alone.
+proving the same functions again. Here one check has all wrong bodies of a crate, each in a copy of its function:
+beside it, with the same contract and proof by hand, by a name of its own. That says of each edit what a check with
+it alone would say: the proof of a function rests on its own body and on the contracts of what it calls, and no other
+body can be seen from it (but in a cycle of calls, of which there is none here). Only the copies are checked, and what
+they call. As a control, what is called must be proved, and so must a copy with the right body of each function that
+has a proof by hand.
 
-Those that wait for a wrong body that they call are tried again together, without the bodies that were refused.
-
-An edit that changes more than one body, or a contract, a type or a constant, is tried with the other files as
-the last check of many left them: then a function with no wrong body must be refused. An edit that is not
-refused in one of these ways is tried on the crate as it is, and the prover must refuse the crate.
+A method of a trait can't be copied beside itself: one wrong body of each takes the right one's place, and a function
+that is refused only since it calls such a method does not count. Other edits are tried one by one, in their places: of
+more than one body, of a contract, a type or a constant. Then a function of the files that it changes must be refused
+on its own account. An edit that is not refused in these ways is tried on the whole crate, which the prover must refuse.
 
 It is a contract that must refuse an edit, and not a proof by hand that names what the edit took away. So a check
 in which answers by hand don't fit their goals is done again without these answers: `search` alone must then find
@@ -27,21 +27,25 @@ no proof.
 An edit of a crate's must-not-compile/ is one that the compiler must refuse before the prover is asked: it begins
 with a line `error: NAME`, and the check must tell one error, of that name.
 """
+import argparse
 import os
 import re
 import shutil
 import subprocess
 import sys
 import tempfile
+import threading
 import time
 from concurrent.futures import ThreadPoolExecutor
+from pathlib import Path
 from typing import NamedTuple, Optional
 
 TOP = os.path.dirname(os.path.dirname(os.path.realpath(__file__)))
 PARTS = ("src", "specs", "proofs")
-# the first line of a function, and of a block of methods with the type that it is for
-HEAD = re.compile(r"^( *)(?:pub(?:\(\w+\))? )?(?:const )?(?:unsafe )?(?:extern \"C\" )?fn (\w+)", re.M)
-OWNER = re.compile(r"^( *)(?:impl|trait)\b(?:[^\n{]*[ >])?(\w+)(?:<[^\n{]*>)? \{$", re.M)
+# the comment, the attributes and the first line of a function; and the first line of a block of methods: its trait, if it
+# has one, and its type
+HEAD = re.compile(r"^(?: *(?:///|#\[).*\n)*( *)(?:pub(?:\(\w+\))? )?(?:const )?(?:unsafe )?(?:extern \"C\" )?fn (\w+)", re.M)
+OWNER = re.compile(r"^( *)(?:impl(?:<.*?>)? (?:(.+) for )?|(?:pub )?trait )(\w+).* \{$", re.M)
 # an error in an answer by hand: the file, and the answer's name; and one for answers that name such an answer: their names
 UNFIT = re.compile(r"^(?:\./)?(proofs/\S+/Answers\.antt):\d+:\d+: error: `([^`]+)`: ")
 UNREAD = re.compile(r"^(?:\./)?(proofs/\S+/Answers\.antt):\d+:\d+: error: \d+ declarations? that depends? on .* not checked: (.+)$")
@@ -52,22 +56,40 @@ def read(path):
         return it.read()
 
 
+def module_of(file):
+    """The path below the crate of the module that a file of src/ is, '' for the root."""
+    path = file.removeprefix("src/").removesuffix(".rt").removesuffix("/mod").replace("/", "::")
+    return "" if path in ("lib", "main") else path
+
+
 class Function(NamedTuple):
-    """A function of a file and where its body stands there; `owner` is the type of its block of methods, or ''."""
+    """A function of a file, and where it begins there, where its name and its body stand, and where it ends. `owner` is how a
+    check names its block of methods, if it stands in one: by the type and the names of the trait, in one."""
 
     file: str
     owner: str
+    of_trait: bool
     name: str
+    begin: int
+    named: int
     start: int
     end: int
+    close: int
+
+    def copy(self, text, name, body):
+        """The function, which stands in this text, by another name and with another body."""
+        head = text[self.begin : self.named] + name + text[self.named + len(self.name) : self.start]
+        return head + body + text[self.end : self.close]
+
+    def path(self):
+        """How a check names it, from its block of methods on."""
+        return f"{self.owner}::{self.name}" if self.owner else self.name
 
     def is_told_by(self, told):
         """Whether `told`, such as `bus_word::word::Raw::of`, is how a check may name the function: a method by the
-        module of its type, which can stand in another file, and a method of a trait by both names in one."""
-        if self.owner:
-            return re.fullmatch(rf"(\w+::)+{self.owner}\w*::{self.name}", told)
-        module = self.file.removeprefix("src/").removesuffix(".rt").removesuffix("/mod").replace("/", "::")
-        return re.fullmatch(rf"\w+::{'' if module in ('lib', 'main') else f'{module}::'}{self.name}", told)
+        module of its type, which can stand in another file."""
+        module = r"(\w+::)*\w+" if self.owner else module_of(self.file)
+        return re.fullmatch(rf"\w+::{module and module + '::'}{self.path()}", told)
 
 
 class Edit(NamedTuple):
@@ -82,16 +104,26 @@ class Edit(NamedTuple):
     error: str
 
 
+def block_of(text, start, indent):
+    """How a check names the block of methods in which the function stands that starts here: by its type and the names of its
+    trait, in one, or '' in none; and whether it is a trait's."""
+    blocks = [it for it in OWNER.finditer(text, 0, start) if len(it[1]) < len(indent)]
+    if not blocks:
+        return "", False
+    trait = blocks[-1][2] or ""
+    return blocks[-1][3] + "".join(re.findall(r"\b[A-Z]\w+", trait)), bool(trait) or "trait " in blocks[-1][0]
+
+
 def functions_of(file, text):
-    """The functions of a file in the layout of `rt fmt`, each with the place of its body."""
+    """The functions of a file in the layout of `rt fmt`, each with its places there."""
     for head in HEAD.finditer(text):
         indent = head[1]
         opens = re.compile(rf"^{indent}\{{\n|^{indent}(?:pub|const|fn)\b.* \{{\n", re.M).search(text, head.start())
         closes = opens and re.compile(rf"^{indent}\}}$", re.M).search(text, opens.end() - 1)
         if closes:
-            owners = [it[2] for it in OWNER.finditer(text, 0, head.start()) if len(it[1]) < len(indent)]
             # the body begins behind the brace, on its line
-            yield Function(file, owners[-1] if owners else "", head[2], opens.end() - 1, closes.start())
+            places = head.start(), head.start(2), opens.end() - 1, closes.start(), closes.end()
+            yield Function(file, *block_of(text, head.start(), indent), head[2], *places)
 
 
 def applied(text, folder):
@@ -147,7 +179,7 @@ class Answer:
         self.is_proved = ran.returncode == 0
         # a clause or a definition that can't be read refuses the crate too, and says nothing of any contract
         self.unread = next((it for it in self.lines if re.match(r"(\./)?(src|specs)/\S+: error: ", it)), "")
-        self.is_refused = ran.returncode == 1 and self.lines[-1].startswith("logic=not-proved") and not self.unread
+        self.is_refused = ran.returncode == 1 and self.lines[-1].startswith(("logic=not-proved", "only=")) and not self.unread
 
     def own_refusal(self, name):
         """What was said of the function, where its own proof is refused, and not only what it calls; or ''."""
@@ -183,6 +215,10 @@ class Crate:
         folders = [f"{self.folder}/{it}" for it in ("must-fail", "must-not-compile")]
         paths = [f"{edits}/{it}" for edits in folders if os.path.isdir(edits) for it in sorted(os.listdir(edits))]
         self.edits = [self.edit(it) for it in paths]
+        # the folders of proofs by hand, by the function of each as a check names it
+        walked = ((at.removeprefix(f"{self.folder}/"), files) for at, _, files in os.walk(f"{self.folder}/proofs"))
+        proofs = [at for at, files in walked if {"Answers.antt", "Invariants.antt", "Proof.antt"} & set(files)]
+        self.proofs = {"::".join([name, *it.split("/")[1:]]): it for it in proofs}
 
     def edit(self, path):
         """The edit of a file."""
@@ -200,8 +236,9 @@ class Crate:
         """The folder in which a library stands built: one of this repository, or one of the toolchain's."""
         return f"{self.built}/crates/{name}/out/rlib" if name in self.deps else f"{self.kit}/rlibs"
 
-    def words(self):
-        """The words of a check, as `rt ci` gives them."""
+    def words(self, only):
+        """The words of a check, as `rt ci` gives them: of these functions and modules and what they call, or with none of
+        the whole crate."""
         root = "src/main.rt" if os.path.isfile(f"{self.folder}/src/main.rt") else "src/lib.rt"
         words = [f"{self.kit}/bin/rattle", "check", "--crate-name", self.name, root, "--links", f"{self.name}=", "--jobs", "1"]
         words += ["--antt-project", f"{self.kit}/rattle/logic/antt-project.json", "--logic-built", f"{self.kit}/logic_built"]
@@ -210,10 +247,12 @@ class Crate:
             words += ["-L", f"dependency={self.rlibs(name)}"]
         for name in ["std", *self.deps[self.name]]:
             words += ["--extern", f"{name}={self.rlibs(name)}/{name}.rlib"]
+        for name in only:
+            words += ["--only", name]
         return words
 
-    def checked(self, texts):
-        """What the prover says of the crate with these texts in place of its own."""
+    def checked(self, texts, only=()):
+        """What the prover says of the crate, or of some of it, with these texts in place of its own and beside them."""
         self.checks += 1
         place = f"{self.room}/crate"
         shutil.rmtree(place, ignore_errors=True)
@@ -222,72 +261,86 @@ class Crate:
                 shutil.copytree(f"{self.folder}/{part}", f"{place}/{part}")
         for file, text in texts.items():
             if text is None:
-                os.remove(f"{place}/{file}")
+                Path(f"{place}/{file}").unlink(missing_ok=True)
                 continue
+            os.makedirs(os.path.dirname(f"{place}/{file}"), exist_ok=True)
             with open(f"{place}/{file}", "w", encoding="utf-8") as it:
                 it.write(text)
         how = {"stdin": subprocess.DEVNULL, "stdout": subprocess.PIPE, "stderr": subprocess.STDOUT, "errors": "replace"}
-        return Answer(subprocess.run(self.words(), cwd=place, **how))
+        return Answer(subprocess.run(self.words(only), cwd=place, **how))
 
-    def refused_by_contracts(self, texts, answers=()):
-        """What the prover says of the crate with these texts, once the answers by hand that don't fit them are gone; and
-        the files of answers that had to change, with those of `answers`, which had to before."""
-        answers = dict(answers)
-        answer = self.checked({**texts, **answers})
-        while unfit := {it for it in answer.unfit_answers() if answers.get(it[0], "") is not None}:
-            before = dict(answers)
+    def refused_by_contracts(self, texts, only=()):
+        """What the prover says of the crate, or of some of it, with these texts, once the answers by hand that don't fit
+        them are gone."""
+        texts = dict(texts)
+        answer = self.checked(texts, only)
+        while unfit := {it for it in answer.unfit_answers() if texts.get(it[0], "") is not None}:
+            before = dict(texts)
             for file, name in unfit:
-                text = answers.get(file, "") or texts.get(file) or read(f"{self.folder}/{file}")
-                answers[file] = without_answer(text, name)
-            if answers == before:
+                texts[file] = without_answer(texts.get(file) or read(f"{self.folder}/{file}"), name)
+            if texts == before:
                 break
-            answer = self.checked({**texts, **answers})
-        return answer, answers
+            answer = self.checked(texts, only)
+        return answer
 
-    def is_proof_of(self, file, functions):
-        """Whether a file of answers is of one of these functions."""
-        told = "::".join([self.name, *file.split("/")[1:-1]])
-        return any(it.is_told_by(told) for it in functions)
-
-    def with_bodies(self, edits):
-        """The files with the bodies of these edits, no two of one function."""
+    def proof_of_copy(self, function, name):
+        """The files of the proof by hand, if there is one, of a copy of the function by this name."""
         texts = {}
-        for it in sorted(edits, key=lambda it: -it.function.start):
-            text = texts.get(it.function.file) or read(f"{self.folder}/{it.function.file}")
-            texts[it.function.file] = text[: it.function.start] + it.body + text[it.function.end :]
+        for told, folder in self.proofs.items():
+            if function.is_told_by(told):
+                # a proof cites its function's own modules, and one that is all by hand is named for its function
+                own, to = folder.split("/", 1)[1].replace("/", "."), f"{os.path.dirname(folder)}/{name}"
+                for file in os.listdir(f"{self.folder}/{folder}"):
+                    text = read(f"{self.folder}/{folder}/{file}")
+                    text = re.sub(rf"\b(proofs|contracts)\.{own}\b", lambda it: f"{it[1]}.{own}"[: -len(function.name)] + name, text)
+                    texts[f"{to}/{file}"] = re.sub(rf"\b{function.name}_spec\b", f"{name}_spec", text)
+        return texts
+
+    def with_bodies(self, copies, placed):
+        """The files with these copies behind their functions, and the copies' proofs by hand; by the name of each copy its
+        function and its body. Edits of `placed` have their body in place of that of its function."""
+        texts, changes = {}, []
+        for name, (function, body) in copies.items():
+            copy = function.copy(read(f"{self.folder}/{function.file}"), name, body)
+            changes.append((function.file, function.close, function.close, f"\n\n{copy}"))
+            texts.update(self.proof_of_copy(function, name))
+        changes += [(it.function.file, it.function.start, it.function.end, it.body) for it in placed]
+        # the last of a file first, so that the others stay where they are
+        for file, start, end, new in sorted(changes, reverse=True):
+            text = texts.get(file) or read(f"{self.folder}/{file}")
+            texts[file] = text[:start] + new + text[end:]
         return texts
 
     def tried_together(self, edits):
-        """Tries edits of bodies, in each check one of each function. Returns what was said of those that were refused, the
-        edits of the last check, and the files of answers that had to change for them: a body stays wrong until the next of
-        its function, since what was said of it is kept."""
-        refused, left, wrong, answers = {}, list(edits), {}, {}
-        while left:
-            now = {it.function: it for it in reversed(left)}
-            wrong.update(now)
-            # an answer that didn't fit the function's last body may fit this one
-            answers = {file: text for file, text in answers.items() if not self.is_proof_of(file, now)}
-            answer, answers = self.refused_by_contracts(self.with_bodies(wrong.values()), answers)
-            names = answer.names(wrong)
-            others = answer.refused_beside(names.values())
-            if others or not answer.is_refused:
-                print(f"note: {self.name}: a check of {len(wrong)} edits tells nothing: {[answer.lines[-1], *others][-1]}", flush=True)
-                return refused, {}, {}
-            refused.update({now[it].label: said for it in now if (said := answer.own_refusal(names.get(it, "")))})
-            left = [it for it in left if it not in now.values()]
-        return refused, wrong, answers
+        """Tries edits of bodies, each in a copy of its function, or one of each function that can't be copied in its place.
+        Returns what was said of those that were refused."""
+        placed = {it.function: it for it in reversed(edits) if it.function.of_trait}
+        copied = {it.function._replace(name=f"{it.function.name}_wrong_{n}"): it for n, it in enumerate(edits) if not it.function.of_trait}
+        copies = {it.name: (edit.function, edit.body) for it, edit in copied.items()}
+        for function in {it.function for it in copied.values() if self.proof_of_copy(it.function, "")}:
+            text = read(f"{self.folder}/{function.file}")
+            copies[f"{function.name}_right_{len(copies)}"] = (function, text[function.start : function.end])
+        answer = self.refused_by_contracts(self.with_bodies(copies, placed.values()), [*copies, *(it.path() for it in placed)])
+        wrong = {**copied, **placed}
+        names = answer.names(wrong)
+        others = answer.refused_beside(names.values())
+        if others or not answer.is_refused:
+            print(f"note: {self.name}: a check of {len(wrong)} edits tells nothing: {[answer.lines[-1], *others][-1]}", flush=True)
+            return {}
+        return {wrong[it].label: said for it, told in names.items() if (said := answer.own_refusal(told))}
 
-    def tried_in_its_files(self, edit, wrong, answers):
-        """What was said of a function that is refused for this edit, where the bodies of other files are wrong; or ''."""
-        others = {function: it for function, it in wrong.items() if function.file not in edit.texts}
-        answers = {file: text for file, text in answers.items() if self.is_proof_of(file, others)}
-        answer, _ = self.refused_by_contracts({**self.with_bodies(others.values()), **edit.texts}, answers)
-        refused = answer.refused_beside(answer.names(others).values())
+    def tried_in_place(self, edit):
+        """What was said of a function that is refused for this edit, in the functions or files that it changes; or ''."""
+        only = [edit.function.path()] if edit.function else [module_of(it) if it.startswith("src/") else "" for it in edit.texts]
+        if "" in only:
+            return ""
+        answer = self.refused_by_contracts(edit.texts, only)
+        refused = answer.refused_beside(())
         return refused[0] if refused and answer.is_refused else ""
 
     def tried_alone(self, edit):
         """Whether the prover refuses the crate with the edit alone, and what it said."""
-        answer, _ = self.refused_by_contracts(edit.texts)
+        answer = self.refused_by_contracts(edit.texts)
         said = next((it for it in answer.lines if re.match(r"(note: )?\S+:\d+:\d+:", it)), answer.lines[-1])
         if answer.is_proved:
             return False, "NOT REFUSED: the crate is proved with this edit"
@@ -304,23 +357,17 @@ class Crate:
 
     def tried(self):
         """Each edit's label, whether it is refused, and why."""
-        refused, wrong, answers, left = {}, {}, {}, [it for it in self.edits if it.function and not it.error]
-        # one that waits for another wrong body is tried again without those that are refused
-        while len(left) > 1:
-            now, wrong, answers = self.tried_together(left)
-            refused.update(now)
-            if not now:
-                break
-            left = [it for it in left if it.label not in refused]
+        bodies = [it for it in self.edits if it.function and not it.error]
+        refused = self.tried_together(bodies) if bodies else {}
         for it in self.edits:
             if it.fault:
                 yield it.label, False, f"BAD EDIT: {it.fault}"
-                continue
-            if it.error:
+            elif it.error:
                 yield it.label, *self.not_compiled(it)
-                continue
-            said = refused.get(it.label) or (not it.function and self.tried_in_its_files(it, wrong, answers))
-            yield it.label, *((True, said) if said else self.tried_alone(it))
+            elif said := refused.get(it.label) or self.tried_in_place(it):
+                yield it.label, True, said
+            else:
+                yield it.label, *self.tried_alone(it)
 
 
 def tried(crate):
@@ -341,20 +388,62 @@ def listed_crates():
     return {name.split()[0]: rest.split() for name, _, rest in lines}
 
 
-def main(built, *names):
+class Work:
+    """The crates whose edits are still to be tried, the longest first, and the file of what `rt ci` prints meanwhile, or ''."""
+
+    def __init__(self, crates, log):
+        self.left, self.log, self.lock = sorted(crates, key=Crate.size, reverse=True), log, threading.Lock()
+
+    def is_ready(self, crate):
+        """Whether the libraries that a crate stands on are there, or will never be."""
+        said = read(self.log) if self.log else ""
+        if not self.log or re.search(r"^\d+ passed, \d+ failed$", said, re.M):
+            return True
+        return all(f"\nrt: {it} proved\n" in said for it in crate.deps[crate.name] if it in crate.deps)
+
+    def taken(self):
+        """The longest of those that are ready, once there is one; or None, where no crate is left."""
+        while self.left:
+            with self.lock:
+                if crate := next((it for it in self.left if self.is_ready(it)), None):
+                    self.left.remove(crate)
+                    return crate
+            time.sleep(2)
+        return None
+
+    def done(self):
+        """Tries the edits of one crate after the other. Returns how many were refused, and how many were not."""
+        counts = [(0, 0)]
+        while crate := self.taken():
+            counts.append(tried(crate))
+        return [sum(it) for it in zip(*counts)]
+
+
+def lanes():
+    """How many checks run side by side: one a processor, where there are 6 GiB of memory for each. A check takes up to 3, and
+    `rt ci` may have as many beside."""
+    memory = os.sysconf("SC_PAGE_SIZE") * os.sysconf("SC_PHYS_PAGES")
+    return max(1, min(len(os.sched_getaffinity(0)), round(memory / (6 << 30))))
+
+
+def main():
+    words = argparse.ArgumentParser(description=__doc__.split("\n", maxsplit=1)[0])
+    words.add_argument("--beside", metavar="LOG", default="")
+    words.add_argument("built")
+    words.add_argument("names", nargs="*")
+    asked = words.parse_args()
     deps = listed_crates()
     # the toolchain's first page stands at its top
     kit = os.path.dirname(subprocess.check_output(["rt", "doc"], text=True).strip())
     with tempfile.TemporaryDirectory() as room:
-        crates = [Crate(it, deps, os.path.realpath(built), kit, f"{room}/{it}") for it in names or deps]
-        # the longest first, one a processor
-        work = sorted((it for it in crates if it.edits), key=Crate.size, reverse=True)
-        with ThreadPoolExecutor(len(os.sched_getaffinity(0))) as lanes:
-            counts = list(lanes.map(tried, work))
-    passed, failed = (sum(it) for it in zip((0, 0), *counts))
+        crates = [Crate(it, deps, os.path.realpath(asked.built), kit, f"{room}/{it}") for it in asked.names or deps]
+        work = Work([it for it in crates if it.edits], asked.beside)
+        with ThreadPoolExecutor(lanes()) as pool:
+            counts = [pool.submit(work.done) for _ in range(lanes())]
+        passed, failed = (sum(it) for it in zip(*(it.result() for it in counts)))
     print(f"{passed} passed, {failed} failed")
     return 1 if failed or not passed else 0
 
 
 if __name__ == "__main__":
-    sys.exit(main(*sys.argv[1:]) if len(sys.argv) > 1 else __doc__)
+    sys.exit(main())
