@@ -317,7 +317,7 @@ class Crate:
         placed = {it.function: it for it in reversed(edits) if it.function.of_trait}
         copied = {it.function._replace(name=f"{it.function.name}_wrong_{n}"): it for n, it in enumerate(edits) if not it.function.of_trait}
         copies = {it.name: (edit.function, edit.body) for it, edit in copied.items()}
-        for function in {it.function for it in copied.values() if self.proof_of_copy(it.function, "")}:
+        for function in dict.fromkeys(it.function for it in copied.values() if self.proof_of_copy(it.function, "")):
             text = read(f"{self.folder}/{function.file}")
             copies[f"{function.name}_right_{len(copies)}"] = (function, text[function.start : function.end])
         answer = self.refused_by_contracts(self.with_bodies(copies, placed.values()), [*copies, *(it.path() for it in placed)])
