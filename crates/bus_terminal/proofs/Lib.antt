@@ -1,3 +1,4 @@
 pub mod TakesLaw
 pub mod StandsLaw
 pub mod AnswerLaw
+pub mod SlotsLaw

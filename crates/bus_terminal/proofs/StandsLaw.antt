@@ -326,17 +326,17 @@ gap_stands is_legal P h b t u i s k =
     }
 
 -- a slot
-heard_slot : (P : Description) (h : List Noted) (r : Option Replying) → heard_on_buses P (noted_as Slot (turn_of_slot r) false Nothing ∷ h) ≡ heard_on_buses P h
+pub heard_slot : (P : Description) (h : List Noted) (r : Option Replying) → heard_on_buses P (noted_as Slot (turn_of_slot r) false Nothing ∷ h) ≡ heard_on_buses P h
 heard_slot P h None = refl
 heard_slot P h (Some r) = refl
 
-registers_slot : (P : Description) (h : List Noted) → registers_now P (note P h Slot ∷ h) ≡ reset_if (resets_next (reply_now h)) (registers_now P h)
+pub registers_slot : (P : Description) (h : List Noted) → registers_now P (note P h Slot ∷ h) ≡ reset_if (resets_next (reply_now h)) (registers_now P h)
 registers_slot P h =
     registers_law P (note P h Slot) h
     ∙ (registers_slot_law P (is_reset (note P h Slot)) (registers_now P h)
     ∙ ap (λ k. reset_if k (registers_now P h)) (slot_resets (reply_now h)))
 
-held_slot_law : (P : Description) (h : List Noted) (s i : ℕ) → held_now P (note P h Slot ∷ h) s i ≡ (if resets_next (reply_now h) then P.initial s i else held_now P h s i)
+pub held_slot_law : (P : Description) (h : List Noted) (s i : ℕ) → held_now P (note P h Slot ∷ h) s i ≡ (if resets_next (reply_now h) then P.initial s i else held_now P h s i)
 held_slot_law P h s i = held_step P s i (note P h Slot) h ∙ ap (λ k. if k then P.initial s i else held_now P h s i) (slot_resets (reply_now h))
 
 pub slot_stands : {L : Type 0} (is_legal : L → Cell → Bool) (P : Description) (h : List Event) (t u : Terminal L) → StandsAt is_legal P h t → TakesSlot is_legal t u → StandsAt is_legal P (Slot ∷ h) u

@@ -2,4 +2,5 @@ pub use Rattle.bus_legal.specs.Description
 pub use Rattle.terminal_rules.specs.Out
 pub mod Answer
 pub mod Stands
+pub mod Slots
 pub mod inner

@@ -12,6 +12,16 @@ pub struct Sent {
     pub bits: u16,
 }
 
+/// Data words that a terminal is to send on a bus, one in each of the slots to come. They are the terminal's own, as it
+/// holds them ready.
+#[derive(Clone, Copy, Debug, PartialEq, Eq)]
+pub struct WordsToSend<'a> {
+    /// The bus: that on which the command came.
+    pub bus: Bus,
+    /// The data words, in order.
+    pub words: &'a [u16],
+}
+
 /// What a terminal hands over to its subsystem.
 #[derive(Clone, Copy, Debug, PartialEq, Eq)]
 pub enum Hand<'a> {

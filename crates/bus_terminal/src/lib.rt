@@ -6,6 +6,6 @@ mod answer;
 mod settings;
 mod terminal;
 
-pub use answer::{Answer, Hand, Sent};
+pub use answer::{Answer, Hand, Sent, WordsToSend};
 pub use terminal::Terminal;
 pub use terminal_rules::{Event, Flag, WordPlace};

@@ -1,5 +1,5 @@
 //! The words held ready for the subaddresses.
-ghost use Rattle.std.specs.Prelude.{◌≡◌, ℕ, ◌<◌, ◌≤◌, ◌-◌, ◌&&◌, ◌==◌, true, false, if◌then◌else◌, length, nat_le, nat_lt, get_or, List, []};
+ghost use Rattle.std.specs.Prelude.{◌≡◌, ℕ, ◌<◌, ◌≤◌, ◌-◌, ◌&&◌, ◌==◌, true, false, if◌then◌else◌, length, nat_le, nat_lt, take, drop, get_or, List, []};
 ghost use Rattle.bus_word.specs.Cell.{is_data_place};
 ghost use Rattle.terminal_rules.specs.LookBack.{or_else};
 ghost use Rattle.terminal_rules.specs.SinceReset.{wrapped, wrapped_at};
@@ -49,6 +49,22 @@ impl HeldWords {
             &self.blocks[at]
         } else {
             &self.initial[at]
+        }
+    }
+
+    /// Lends the words `first` to `last`, 1 to 32, of a subaddress, 1 to 30. Where they are not there, none.
+    #[inline(always)]
+    pub fn words(&self, subaddress: u8, first: u8, last: u8) -> &[u16]
+        ensures words { is_data_place subaddress last ≡ true → 1 ≤ first → first ≤ last → result.now ≡ take (last - (first - 1)) (drop (first - 1) (block_in self.now subaddress)) }
+        ensures len { is_data_place subaddress last ≡ true → 1 ≤ first → first ≤ last → length result.now ≡ last - (first - 1) }
+        ensures none { last < first → result.now ≡ [] }
+    {
+        match WordPlace::of(subaddress, last) {
+            Some(place) if 1 <= first && first <= last => {
+                let words = self.block(place.subaddress());
+                &words[first as usize - 1..place.number() as usize]
+            }
+            _ => &[],
         }
     }
 

@@ -13,4 +13,4 @@ pub use ended::{Ended, code_in, reports_kept, verdict_of};
 pub use held::{Blocks, HeldWords};
 pub use message::{Followed, GapEnd, InProgress, Message, Phase};
 pub use registers::{Flags, Registers};
-pub use reply::{Reply, advance};
+pub use reply::{Reply, advance, advance_by};

@@ -1,10 +1,11 @@
 -- The reply in progress, as the terminal holds it.
-use Rattle.std.specs.Prelude.{ℕ, Bool, true, ◌||◌, ◌==◌, Option, Some, None}
+use Rattle.std.specs.Prelude.{ℕ, zero, suc, Bool, true, ◌||◌, ◌==◌, Option, Some, None}
 use Rattle.bus_word.specs.declared.cell.Cell.{Cell}
 use Rattle.bus_word.specs.declared.cell.Cell.TheVariants.{OwnTransmit}
 use Rattle.bus_word.specs.Cell.{is_data_place}
 use Rattle.terminal_state.specs.declared.reply.Reply.{Reply}
 use Rattle.terminal_rules.specs.History.{Replying}
+use Rattle.terminal_rules.specs.inner.Steps.{sent_one}
 
 abbrev pub shown_reply : Option Reply → Option Replying
 shown_reply None = None
@@ -18,3 +19,8 @@ has_place _ m = true
 abbrev pub can_send : Option Replying → Bool
 can_send None = true
 can_send (Some r) = (r.number == 0) || has_place r.cell r.number
+
+-- the reply in progress after so many of its words were sent, one after another
+abbrev pub sent_many : ℕ → Option Replying → Option Replying
+sent_many zero r = r
+sent_many (suc k) r = sent_many k (sent_one r)

@@ -1,6 +1,6 @@
 //! How a reply begins and goes on.
 ghost use Rattle.std.specs.Prelude.{◌≡◌, Some};
-ghost use Rattle.terminal_state.specs.inner.Replies.{shown_reply};
+ghost use Rattle.terminal_state.specs.inner.Replies.{shown_reply, sent_many};
 ghost use Rattle.terminal_rules.specs.inner.Steps.{sent_one, resets_next};
 
 use super::{Reply, words_after_status};
@@ -42,6 +42,21 @@ pub fn advance(reply: &mut Option<Reply>)
     if let Some(it) = reply {
         if it.next < it.count {
             it.next += 1;
+            return;
+        }
+    }
+    *reply = None;
+}
+
+/// Takes so many slots of the reply in progress at once.
+#[inline(always)]
+#[tactic(auto, using(crate::proofs::SentLaw::sent_none, crate::proofs::SentLaw::sent_law))]
+pub fn advance_by(reply: &mut Option<Reply>, slots: usize)
+    ensures { shown_reply reply.new ≡ sent_many slots (shown_reply reply.old) }
+{
+    if let Some(it) = reply {
+        if slots <= it.count.saturating_sub(it.next) as usize {
+            it.next += slots as u8;
             return;
         }
     }

@@ -1,0 +1,48 @@
+//! Many slots at once: what a reply sends in them is asked first, and then they are taken.
+use super::Terminal;
+use crate::answer::WordsToSend;
+use bus_legal::Legality;
+use bus_word::Cell;
+use terminal_rules::Event;
+use terminal_state::advance_by;
+
+impl<L: Legality> Terminal<L> {
+    ghost use Rattle.std.specs.Prelude.{◌≡◌, List, IfSome, IfNone, length};
+    ghost use Rattle.bus_legal.specs.Description.{Description};
+    ghost use Rattle.terminal_rules.specs.Past.{past, history_after};
+    ghost use Rattle.terminal_rules.specs.Reply.{reply_now};
+    ghost use Rattle.bus_terminal.specs.Stands.{StandsAt};
+    ghost use Rattle.bus_terminal.specs.Slots.{slots, words_left, AreSent};
+
+    /// Lends the words of a subaddress that the reply in progress is still to send, all of them. None where the next slot sends no such
+    /// word.
+    #[inline(always)]
+    pub fn words_to_send(&self) -> Option<WordsToSend<'_>>
+        ensures words { IfSome result (λ it. (P : Description) (h : List Event) → StandsAt L.is_legal P h self.now → AreSent P h it.bus it.words.now) }
+        ensures all { IfSome result (λ it. (P : Description) (h : List Event) → StandsAt L.is_legal P h self.now → length it.words.now ≡ words_left (reply_now (past P h))) }
+        ensures none { IfNone result ((P : Description) (h : List Event) → StandsAt L.is_legal P h self.now → words_left (reply_now (past P h)) ≡ 0) }
+    {
+        match &self.reply {
+            Some(reply) => match reply.cell {
+                Some(Cell::OwnTransmit(subaddress, _)) if reply.next > 0 => Some(WordsToSend {
+                    bus: reply.bus,
+                    words: self.held.words(subaddress, reply.next, reply.count),
+                }),
+                _ => None,
+            },
+            None => None,
+        }
+    }
+
+    /// Takes so many slots, and drops what they send.
+    #[inline(always)]
+    pub fn take_slots(&mut self, count: usize)
+        ensures { (P : Description) (h : List Event) → StandsAt L.is_legal P h self.old → StandsAt L.is_legal P (history_after (slots count) h) self.new }
+    {
+        if count > 0 {
+            // the first may be that of a status, which resets
+            self.take_slot();
+            advance_by(&mut self.reply, count - 1);
+        }
+    }
+}
