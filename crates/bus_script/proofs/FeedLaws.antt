@@ -1,12 +1,12 @@
 -- Laws of a chunk: its lines are played, one after another.
-use Rattle.std.proofs.Common.{ℕ, ◌≡◌, ◌≤◌, ◌+◌, List, [], ◌∷◌, ◌++◌, length, take, drop, length-append, sym, ap, ◌∙◌, arith, append-nil, take-append-drop, subst, Option}
+use Rattle.std.proofs.Common.{ℕ, ◌≡◌, ◌≤◌, ◌+◌, List, [], ◌∷◌, ◌++◌, length, take, drop, length-append, refl, sym, ap, ◌∙◌, arith, append-nil, take-append-drop, subst, Option}
 use Rattle.std.proofs.lemmas.Grind.{common_steps}
 use Rattle.std.proofs.Math.Seq.{take-add}
 use Rattle.terminal_rules.specs.declared.event.Event.{Event}
 use Rattle.bus_script.specs.declared.fault.RunFault.{RunFault}
 use Rattle.bus_script.specs.declared.fault.RunFault.TheVariants.{Line, LongLine, TooLong, Read, Write}
-use Rattle.bus_script.specs.Reading.{Meaning, ByFault}
-use Rattle.bus_script.specs.inner.Lines.{Reads, Faults, Means, IsRefused, StartsLine}
+use Rattle.bus_script.specs.Reading.{Meaning, ByFault, then_reads}
+use Rattle.bus_script.specs.inner.Lines.{Reads, Faults, Means, IsRefused, StartsLine, StandsFirst, LinesFirst}
 use Rattle.bus_script.specs.Playing.{Plays, PlaysPart}
 use Rattle.bus_script.specs.inner.Feeding.{Feeding}
 use Rattle.bus_script.proofs.ReadingLaws.{Reads-nil, Reads-trans, Reads-Faults, Reads-line, Faults-line}
@@ -30,6 +30,31 @@ pub Faults-first : (meaning : Meaning) (n : ℕ) (rest : List ℕ) (i : ℕ) (f 
 Faults-first meaning n rest i f s refused =
     let short : length (take i rest) ≤ 64 = grind (arith, common_steps, s.short) in
     subst (λ xs. Faults meaning n xs [] f) (sym s.splits) (Faults-line meaning n (take i rest) (drop (i + 1) rest) f s.room short s.none refused)
+
+-- ---- lines that stand first
+
+pub LinesFirst-nil : (meaning : Meaning) (bytes : List ℕ) → LinesFirst meaning bytes 0 0 []
+LinesFirst-nil meaning bytes = record {
+  within = omega arith;
+  short = omega arith;
+  count = refl;
+  reads = λ lines room. let same : lines ≡ lines + 0 = omega arith in subst (λ n. Reads meaning lines [] [] n) same (Reads-nil meaning lines);
+}
+
+-- one more line
+pub LinesFirst-more : {meaning : Meaning} {bytes : List ℕ} {i k : ℕ} {es : List Event} (j : ℕ) (e : Event)
+    → LinesFirst meaning bytes i k es → StandsFirst meaning (drop i bytes) j e → LinesFirst meaning bytes (i + (j + 1)) (k + 1) (es ++ e ∷ [])
+LinesFirst-more {meaning = meaning} {bytes = bytes} {i = i} {k = k} {es = es} j e p next = record {
+  within = let s = (next.starts 0 (omega arith)).within in let w = p.within in grind (arith, common_steps);
+  short = let s = (next.starts 0 (omega arith)).short in let w = p.short in omega arith;
+  count = let c = p.count in omega (arith, length-append es (e ∷ []));
+  reads = λ lines room.
+      let done : lines + k + 1 ≡ lines + (k + 1) = omega arith in
+      subst (λ n. Reads meaning lines (take (i + (j + 1)) bytes) (es ++ e ∷ []) n) done
+      (subst (λ xs. Reads meaning lines xs (es ++ e ∷ []) (lines + k + 1)) (sym (take-add i (j + 1) bytes))
+      (Reads-trans (p.reads lines (omega arith))
+      (Reads-first meaning (lines + k) (drop i bytes) j (e ∷ []) (next.starts (lines + k) (omega arith)) (λ r. ap (λ x. then_reads x (lines + k) r) next.says))));
+}
 
 pub Feeding-nil : {D M W : Type 0} (meaning : Meaning) (stands : D → List Event → M → Type 0) (out : D → List Event → Event → List ℕ)
     (written : W → Option (List ℕ)) (m : M) (w : W) (lines events : ℕ) (chunk : List ℕ) → lines ≤ 1048576 → events ≤ lines
@@ -59,6 +84,23 @@ Feeding-line {meaning = meaning} {lines = lines} {events = events} {lines' = lin
       count = omega (arith, length-append es fs);
       long = omega arith;
       most = omega arith;
+      few = omega arith;
+      plays = Plays-trans p.plays q;
+    }
+
+-- more lines, an event each
+pub Feeding-lines : {D M W : Type 0} {meaning : Meaning} {stands : D → List Event → M → Type 0} {out : D → List Event → Event → List ℕ}
+    {written : W → Option (List ℕ)} {m m' m'' : M} {w w' w'' : W} {lines events lines' events' : ℕ} {chunk : List ℕ} {at : ℕ} {es : List Event} (i n : ℕ) (fs : List Event)
+    → Feeding meaning stands out written m m' w w' lines events lines' events' chunk at es
+    → LinesFirst meaning (drop at chunk) i n fs → lines' + n ≤ 1048576 → Plays stands out written m' m'' w' w'' fs
+    → Feeding meaning stands out written m m'' w w'' lines events (lines' + n) (events' + n) chunk (at + i) (es ++ fs)
+Feeding-lines {meaning = meaning} {lines = lines} {events = events} {lines' = lines'} {events' = events'} {chunk = chunk} {at = at} {es = es} i n fs p s room q =
+    let count = p.count in let long = p.long in let few = p.few in let inside = p.within in let within = s.within in let short = s.short in let each = s.count in record {
+      within = grind (arith, common_steps);
+      reads = subst (λ xs. Reads meaning lines xs (es ++ fs) (lines' + n)) (sym (take-add at i chunk)) (Reads-trans p.reads (s.reads lines' room));
+      count = omega (arith, length-append es fs);
+      long = omega arith;
+      most = room;
       few = omega arith;
       plays = Plays-trans p.plays q;
     }

@@ -5,6 +5,7 @@ pub mod LineLaws
 pub mod ReadingLaws
 pub mod PlayLaws
 pub mod FeedLaws
+pub mod SlotsLaws
 pub mod RunLaws
 pub mod SinkLaws
 mod ChunkLaws

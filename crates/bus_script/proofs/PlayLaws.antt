@@ -5,7 +5,7 @@ use Rattle.std.proofs.KnownBytes.{Appends-nil, Appends-trans, Appends-kept}
 use Rattle.terminal_rules.specs.declared.event.Event.{Event}
 use Rattle.bus_script.specs.Transcript.{transcript}
 use Rattle.terminal_rules.specs.Past.{history_after}
-use Rattle.bus_script.specs.Playing.{Plays, PlaysPart}
+use Rattle.bus_script.specs.Playing.{Plays, Takes, PlaysPart}
 use Rattle.bus_script.specs.Device.{IsPartWritten}
 
 pub after_append : (h es fs : List Event) → history_after (es ++ fs) h ≡ history_after fs (history_after es h)
@@ -61,6 +61,27 @@ Plays-one stands out written m m' w w' e text step is wrote = record {
   at = step;
   text = λ P h s. subst (Appends (written w) (written w')) (is P h s ∙ sym (transcript-one (out P) h e)) wrote;
 }
+
+-- ---- events that are not answered
+
+pub Takes-nil : {D M : Type 0} (stands : D → List Event → M → Type 0) (out : D → List Event → Event → List ℕ) (m : M) → Takes stands out m m []
+unfolding transcript
+Takes-nil stands out m = record { at = λ P h s. s; silent = λ P h. refl }
+
+pub Takes-more : {D M : Type 0} {stands : D → List Event → M → Type 0} {out : D → List Event → Event → List ℕ} {m m' m'' : M} {es : List Event} (e : Event)
+    → Takes stands out m m' es → ((P : D) (h : List Event) → stands P h m' → stands P (e ∷ h) m'') → ((P : D) (h : List Event) → out P h e ≡ [])
+    → Takes stands out m m'' (es ++ e ∷ [])
+Takes-more {stands = stands} {out = out} {m'' = m''} {es = es} e p step silent = record {
+  at = λ P h s. subst (λ g. stands P g m'') (sym (after_append h es (e ∷ []))) (step P (history_after es h) (p.at P h s));
+  silent = λ P h.
+      transcript-append (out P) h es (e ∷ [])
+      ∙ (ap (λ x. x ++ transcript (out P) (history_after es h) (e ∷ [])) (p.silent P h)
+      ∙ (transcript-one (out P) (history_after es h) e ∙ silent P (history_after es h)));
+}
+
+pub Takes-plays : {D M W : Type 0} {stands : D → List Event → M → Type 0} {out : D → List Event → Event → List ℕ} {m m' : M} {es : List Event} (written : W → Option (List ℕ)) (w : W)
+    → Takes stands out m m' es → Plays stands out written m m' w w es
+Takes-plays written w p = record { at = p.at; text = λ P h s. subst (Appends (written w) (written w)) (sym (p.silent P h)) (Appends-nil (written w)) }
 
 pub PlaysPart-one : {D M W : Type 0} (stands : D → List Event → M → Type 0) (out : D → List Event → Event → List ℕ) (written : W → Option (List ℕ))
     (m m' : M) (w w' : W) (e : Event) (text : List ℕ)

@@ -1,5 +1,5 @@
 -- Laws of the lines of a transcript: how long they are.
-use Rattle.std.proofs.Common.{ℕ, ◌≡◌, ◌≤◌, ◌+◌, ◌*◌, ◌∙◌, List, [], ◌∷◌, ◌++◌, length, length-append, refl, arith, flat_map, Bool, true, false}
+use Rattle.std.proofs.Common.{ℕ, ◌≡◌, ◌≤◌, ◌+◌, ◌*◌, ◌∙◌, List, [], ◌∷◌, length, length-append, refl, arith, flat_map, Bool, true, false}
 use Rattle.hex.specs.Hex.{encode_with}
 use Rattle.bus_word.specs.declared.word.Bus.{Bus}
 use Rattle.bus_word.specs.declared.word.Bus.TheVariants.{A, B}
@@ -11,7 +11,7 @@ use Rattle.terminal_rules.specs.declared.event.Event.TheVariants as event
 use Rattle.terminal_rules.specs.Out.{Sending, Handing, HandsReceived, HandsSynchronize, HandsSynchronizeWith, HandsSelfTest, HandsBusControl, Out, Silence, SendsWord, HandsOver}
 use Rattle.bus_terminal.specs.Answer.{words_handed, IsSmall}
 use Rattle.bus_script.specs.Digits.{digits_of}
-use Rattle.bus_script.specs.Transcript.{bus_letter, sent_kind, sent_text, word_field, received_by, received_text, hand_text, answer_text, text_at, may_be_answered}
+use Rattle.bus_script.specs.Transcript.{sent_text, word_field, received_by, received_text, hand_text, answer_text, text_at, may_be_answered}
 
 pub four_digits : (word : ℕ) → length (digits_of word) ≡ 4
 unfolding encode_with

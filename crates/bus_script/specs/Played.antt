@@ -10,11 +10,15 @@ use Rattle.bus_script.specs.Reading.{Reading, stops, nothing, ByFault}
 use Rattle.bus_script.specs.Line.{meaning}
 use Rattle.bus_script.specs.Text.{NoLineFeed, EndsLine}
 use Rattle.bus_script.specs.Transcript.{text_at}
-use Rattle.bus_script.specs.Playing.{Plays, PlaysPart, RunsTo, BreaksAt}
+use Rattle.bus_script.specs.Playing.{Plays, Takes, PlaysPart, RunsTo, BreaksAt}
 
 -- the terminal took these events, and just their transcript was written
 abbrev pub Played : {L W : Type 0} → (L → Cell → Bool) → (W → Option (List ℕ)) → Terminal L → Terminal L → W → W → List Event → Type 0
 Played is_legal written t t' w w' es = Plays (StandsAt is_legal) text_at written t t' w w' es
+
+-- the terminal took these events, and none of them is answered
+abbrev pub Taken : {L : Type 0} → (L → Cell → Bool) → Terminal L → Terminal L → List Event → Type 0
+Taken is_legal t t' es = Takes (StandsAt is_legal) text_at t t' es
 
 -- the terminal took these events and one more, and of that one's text a part was written
 abbrev pub PlayedPart : {L W : Type 0} → (L → Cell → Bool) → (W → Option (List ℕ)) → Terminal L → Terminal L → W → W → List Event → Event → Type 0

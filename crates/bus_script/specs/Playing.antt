@@ -16,6 +16,11 @@ pub record Plays {D M W : Type 0} (stands : D → List Event → M → Type 0) (
   pub at : (P : D) (h : List Event) → stands P h m → stands P (history_after es h) m'
   pub text : (P : D) (h : List Event) → stands P h m → Appends (written w) (written w') (transcript (out P) h es)
 
+-- the terminal took these events, and none of them is answered
+pub record Takes {D M : Type 0} (stands : D → List Event → M → Type 0) (out : D → List Event → Event → List ℕ) (m m' : M) (es : List Event) : Type 0 where
+  pub at : (P : D) (h : List Event) → stands P h m → stands P (history_after es h) m'
+  pub silent : (P : D) (h : List Event) → transcript (out P) h es ≡ []
+
 -- the terminal took these events and one more, and of that one's text a part was written
 pub record PlaysPart {D M W : Type 0} (stands : D → List Event → M → Type 0) (out : D → List Event → Event → List ℕ) (written : W → Option (List ℕ))
     (m m' : M) (w w' : W) (es : List Event) (e : Event) : Type 0 where

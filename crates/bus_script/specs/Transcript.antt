@@ -8,7 +8,7 @@ use Rattle.bus_word.specs.declared.word.Kind.TheVariants.{Com, Dat}
 use Rattle.bus_legal.specs.Description.{Description}
 use Rattle.terminal_rules.specs.declared.event.Event.{Event}
 use Rattle.terminal_rules.specs.declared.event.Event.TheVariants.{Gap, Slot}
-use Rattle.terminal_rules.specs.Out.{Sending, Handing, HandsReceived, HandsSynchronize, HandsSynchronizeWith, HandsSelfTest, HandsBusControl, Out, Silence, SendsWord, HandsOver, out}
+use Rattle.terminal_rules.specs.Out.{Sending, sending, Handing, HandsReceived, HandsSynchronize, HandsSynchronizeWith, HandsSelfTest, HandsBusControl, Out, Silence, SendsWord, HandsOver, out}
 use Rattle.bus_script.specs.Digits.{digits_of, decimal_digits}
 
 abbrev pub bus_letter : Bus → List ℕ
@@ -23,6 +23,10 @@ sent_kind Dat = codes " d "
 -- the line of a word that was sent
 abbrev pub sent_text : Sending → List ℕ
 sent_text s = bus_letter s.bus ++ (sent_kind s.kind ++ (digits_of s.bits ++ codes "\n"))
+
+-- the line of a data word that was sent on this bus
+abbrev pub data_text : Bus → ℕ → List ℕ
+data_text b word = sent_text (sending b Dat word)
 
 -- a word as a field of a line
 abbrev pub word_field : ℕ → List ℕ

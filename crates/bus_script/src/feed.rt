@@ -11,16 +11,19 @@ ghost use Rattle.bus_script.specs.Played.{Played, PlayedPart};
 
 use crate::chunk::{MAX_LINES, next_line};
 use crate::digits::HexDigits;
-use crate::front::{WORD_LINE, usual_answered, usual_word};
+use crate::front::{GAP_LINE, SLOT_LINE, WORD_LINE, usual_gap, usual_slot, usual_word};
 use crate::play::{play_answered, play_line};
+use crate::slots::play_slots;
+use crate::words::take_words;
 use crate::{RunFault, Sink};
 use bus_legal::Legality;
 use bus_terminal::Terminal;
 
-/// How many lines and how many events were played.
+/// How many lines and how many events were played. Their types differ so that a compiler keeps each in a register of its
+/// own: two of a size it keeps together in a vector register, and adds to both in memory.
 #[derive(Clone, Copy)]
 pub struct Counts {
-    pub lines: u64,
+    pub lines: u32,
     pub events: u64,
 }
 
@@ -72,31 +75,57 @@ fn feed_counting<L: Legality, W: Sink>(
     let mut at = 0;
     'lines: loop {
         let rest = &chunk[at..];
-        if counts.lines < MAX_LINES {
+        if (counts.lines as u64) < MAX_LINES {
             if let Some(word) = usual_word(digits, rest) {
                 // a word is never answered
                 terminal.take_valid(word.bus, word.kind, word.bits);
                 counts.events += 1;
                 counts.lines += 1;
                 at += WORD_LINE + 1;
+                let more = take_words(
+                    terminal,
+                    digits,
+                    &chunk[at..],
+                    (MAX_LINES - counts.lines as u64) as usize,
+                );
+                counts.events += more as u64;
+                counts.lines += more as u32;
+                at += (WORD_LINE + 1) * more;
                 continue 'lines;
             }
-            if let Some((event, len)) = usual_answered(rest) {
+            if usual_slot(rest) {
+                match play_slots(
+                    terminal,
+                    writer,
+                    digits,
+                    rest,
+                    (MAX_LINES - counts.lines as u64) as usize,
+                ) {
+                    Ok(count) => {
+                        counts.events += count as u64;
+                        counts.lines += count as u32;
+                        at += (SLOT_LINE + 1) * count;
+                    }
+                    Err(_) => return Err(RunFault::Write),
+                }
+                continue 'lines;
+            }
+            if let Some(event) = usual_gap(rest) {
                 match play_answered(terminal, writer, digits, event) {
                     Ok(()) => counts.events += 1,
                     Err(_) => return Err(RunFault::Write),
                 }
                 counts.lines += 1;
-                at += len + 1;
+                at += GAP_LINE + 1;
                 continue 'lines;
             }
         }
-        let len = match next_line(counts.lines, rest) {
+        let len = match next_line(counts.lines as u64, rest) {
             Ok(Some(len)) => len,
             Ok(None) => return Ok(at),
             Err(fault) => return Err(fault),
         };
-        match play_line(terminal, writer, digits, counts.lines, &rest[..len]) {
+        match play_line(terminal, writer, digits, counts.lines as u64, &rest[..len]) {
             Ok(events) => counts.events += events,
             Err(fault) => return Err(fault),
         }

@@ -1,6 +1,6 @@
 //! The lines of which most scripts are made, told at fixed places: where a line feed stands there, it needs no search.
 ghost use Rattle.std.specs.Prelude.{◌≡◌, true, Ok, Some, IfSome};
-ghost use Rattle.terminal_rules.specs.declared.event.Event.TheVariants.{Word as WordEvent};
+ghost use Rattle.terminal_rules.specs.declared.event.Event.TheVariants.{Word as WordEvent, Slot};
 ghost use Rattle.bus_word.specs.Word.{valid_word};
 ghost use Rattle.bus_script.specs.Line.{bus_of, meaning};
 ghost use Rattle.bus_script.specs.Text.{NoLineFeed};
@@ -68,18 +68,6 @@ fn read_gap(line: &[u8]) -> Option<Event>
     }
 }
 
-/// The event of a line that is a slot; None for every other line.
-#[inline(always)]
-#[tactic(auto, unfolding(crate::specs::Line::meaning))]
-fn read_slot(line: &[u8]) -> Option<Event>
-    ensures { IfSome result (λ event. (meaning line.now ≡ Ok (Some event)) × NoLineFeed line.now) }
-{
-    match line {
-        [a, b, c, d] if are([*a, *b, *c, *d], *b"slot") => Some(Event::Slot),
-        _ => None,
-    }
-}
-
 /// How long the line of a word with the right parity is.
 pub const WORD_LINE: usize = 8;
 
@@ -96,22 +84,33 @@ pub fn usual_word(digits: &HexDigits, bytes: &[u8]) -> Option<ValidWord>
     None
 }
 
-/// The event of a line that stands first, and the line's length: of a gap or of a slot. None, where another line does,
-/// or its line feed isn't there yet.
+/// How long the line of a slot is.
+pub const SLOT_LINE: usize = 4;
+
+/// Whether the line of a slot stands first, with its line feed.
+#[inline(always)]
+#[tactic(auto, using(crate::proofs::LineLaws::stands_first), unfolding(crate::specs::Line::meaning))]
+pub fn usual_slot(bytes: &[u8]) -> bool
+    ensures { result ≡ true → StandsFirst meaning bytes.now 4 Slot }
+{
+    match bytes {
+        [a, b, c, d, b'\n', ..] => are([*a, *b, *c, *d], *b"slot"),
+        _ => false,
+    }
+}
+
+/// How long the line of a gap is.
+pub const GAP_LINE: usize = 5;
+
+/// The event of a gap whose line stands first, with its line feed. None, where another line does, or its line feed isn't
+/// there yet.
 #[inline(always)]
 #[tactic(auto, using(crate::proofs::LineLaws::stands_first))]
-pub fn usual_answered(bytes: &[u8]) -> Option<(Event, usize)>
-    ensures { IfSome result (λ found. StandsFirst meaning bytes.now found.1 found.0) }
+pub fn usual_gap(bytes: &[u8]) -> Option<Event>
+    ensures { IfSome result (λ event. StandsFirst meaning bytes.now 5 event) }
 {
-    if bytes.len() > 4 && bytes[4] == b'\n' {
-        if let Some(event) = read_slot(&bytes[..4]) {
-            return Some((event, 4));
-        }
-    }
-    if bytes.len() > 5 && bytes[5] == b'\n' {
-        if let Some(event) = read_gap(&bytes[..5]) {
-            return Some((event, 5));
-        }
+    if bytes.len() > GAP_LINE && bytes[GAP_LINE] == b'\n' {
+        return read_gap(&bytes[..GAP_LINE]);
     }
     None
 }

@@ -13,7 +13,9 @@ mod memory;
 mod play;
 mod run;
 mod sending;
+mod slots;
 mod transcript;
+mod words;
 mod wrapped;
 mod writing;
 

@@ -77,7 +77,7 @@ fn finish<L: Legality, W: Sink>(
     if rest.is_empty() {
         return Ok(());
     }
-    match play_line(terminal, writer, digits, counts.lines, rest) {
+    match play_line(terminal, writer, digits, counts.lines as u64, rest) {
         Ok(events) => {
             counts.events += events;
             Ok(())

@@ -1,10 +1,10 @@
 //! Answers are written as lines, piece by piece: each piece is of a length that the compiler knows.
-ghost use Rattle.std.specs.Prelude.{◌≡◌, true, OnOk, OnErr};
+ghost use Rattle.std.specs.Prelude.{◌≡◌, true, IfErr, OnOk, OnErr};
 ghost use Rattle.std.specs.List.{flat_map};
 ghost use Rattle.std.specs.Io.KnownBytes.{Appends};
 ghost use Rattle.bus_terminal.specs.Answer.{shown_answer, shown_word, IsSmall};
-ghost use Rattle.bus_script.specs.Device.{IsPartWritten};
-ghost use Rattle.bus_script.specs.Transcript.{sent_text, word_field, received_by, received_text, answer_text};
+ghost use Rattle.bus_script.specs.Device.{IsPartWritten, IsCutShort};
+ghost use Rattle.bus_script.specs.Transcript.{sent_text, data_text, word_field, received_by, received_text, answer_text};
 
 use crate::digits::{HexDigits, decimal_digits};
 use crate::transcript::{push_answer, sent_lead};
@@ -12,6 +12,7 @@ use crate::writing::write_all;
 use crate::{IoFailed, Sink};
 use arrayvec::ArrayString;
 use bus_terminal::{Answer, Hand, Sent};
+use bus_word::{Bus, Kind};
 
 /// The line of a word that was sent, in one piece.
 #[inline(always)]
@@ -22,6 +23,32 @@ fn sent_line(digits: &HexDigits, sent: &Sent) -> [u8; 9]
     let mut line = [0, 0, 0, 0, a, b, c, d, b'\n'];
     line[..4].copy_from_slice(sent_lead(sent.bus, sent.kind).as_bytes());
     line
+}
+
+/// Writes the lines of data words that are sent on a bus. Where a write fails, it tells how many of them were written whole.
+#[inline(always)]
+pub fn send_words<W: Sink>(
+    writer: &mut W,
+    digits: &HexDigits,
+    bus: Bus,
+    words: &[u16],
+) -> Result<(), usize>
+    ensures ok { OnOk result (Appends (W.written writer.old) (W.written writer.new) (flat_map (data_text bus) words.now)) }
+    ensures err { IfErr result (λ whole. IsCutShort (data_text bus) (W.written writer.old) (W.written writer.new) words.now whole) }
+    ensures failed { OnErr result (W.has_failed writer.new ≡ true) }
+{
+    for (whole, word) in words.iter().enumerate() {
+        let sent = Sent {
+            bus,
+            kind: Kind::Dat,
+            bits: *word,
+        };
+        match write_all(writer, &sent_line(digits, &sent)) {
+            Ok(()) => {}
+            Err(_) => return Err(whole),
+        }
+    }
+    Ok(())
 }
 
 /// A word as a field of a line.

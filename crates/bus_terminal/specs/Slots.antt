@@ -1,5 +1,5 @@
 -- Slots one after another, and the data words that are sent in them.
-use Rattle.std.specs.Prelude.{◌≡◌, ℕ, zero, suc, ◌<◌, ◌-◌, Option, Some, None, List, length, replicate, get_or}
+use Rattle.std.specs.Prelude.{◌≡◌, ℕ, suc, ◌<◌, ◌-◌, Option, Some, None, List, length, replicate, get_or}
 use Rattle.bus_word.specs.declared.word.Bus.{Bus}
 use Rattle.bus_word.specs.declared.word.Kind.TheVariants.{Dat}
 use Rattle.bus_word.specs.declared.cell.Cell.{Cell}

@@ -2,6 +2,7 @@
 
 mod devices;
 mod lines;
+mod slots;
 mod transcripts;
 
 ghost use Rattle.std.specs.Prelude.{◌≡◌, None, true, false};

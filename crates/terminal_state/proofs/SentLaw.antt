@@ -1,9 +1,8 @@
 -- The reply in progress after so many of its words were sent, by the number of the next one.
-use Rattle.std.proofs.Common.{◌≡◌, ℕ, zero, suc, ◌+◌, ◌-◌, Bool, true, false, nat_le, if◌then◌else◌, Option, Some, None, refl, ap, ◌∙◌, arith}
+use Rattle.std.proofs.Common.{◌≡◌, ℕ, zero, suc, ◌+◌, ◌-◌, Bool, true, false, nat_le, if◌then◌else◌, Option, Some, None, refl, ◌∙◌, arith}
 use Rattle.std.proofs.lemmas.Bool.Decides.{nat_tests}
 use Rattle.terminal_rules.specs.History.{Replying}
 use Rattle.terminal_rules.specs.Reply.{words_after_status}
-use Rattle.terminal_rules.specs.inner.Steps.{sent_one}
 use Rattle.terminal_state.specs.inner.Replies.{sent_many}
 
 pub sent_none : (k : ℕ) → (let none : Option Replying = None in sent_many k none ≡ none)

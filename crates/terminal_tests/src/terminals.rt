@@ -4,6 +4,7 @@ mod legality;
 mod random;
 mod replies;
 mod rows;
+mod slots;
 mod table;
 
 use bus_legal::{Legality, Setup};

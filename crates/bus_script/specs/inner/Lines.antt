@@ -1,8 +1,9 @@
 -- Pieces of a script: whole lines, a line that stands first, and what has no line feed yet.
-use Rattle.std.specs.Prelude.{ℕ, ◌+◌, ◌≡◌, ◌<◌, ◌≤◌, List, [], ◌∷◌, ◌++◌, length, take, drop, Some, Ok}
+use Rattle.std.specs.Prelude.{ℕ, ◌+◌, ◌*◌, ◌≡◌, ◌<◌, ◌≤◌, List, [], ◌∷◌, ◌++◌, length, take, drop, Some, Ok}
 use Rattle.terminal_rules.specs.declared.event.Event.{Event}
 use Rattle.bus_script.specs.declared.fault.RunFault.{RunFault}
 use Rattle.bus_script.specs.Text.{lines_of, NoLineFeed, EndsLine}
+use Rattle.bus_terminal.specs.Slots.{slots}
 use Rattle.bus_script.specs.Reading.{Meaning, Reading, adds, stops, then_reads, reading}
 
 -- these whole lines, which follow n lines, say these events; m lines are done after them
@@ -35,6 +36,17 @@ pub record StartsLine (lines : ℕ) (bytes : List ℕ) (i : ℕ) : Type 0 where
 pub record StandsFirst (meaning : Meaning) (bytes : List ℕ) (i : ℕ) (e : Event) : Type 0 where
   pub starts : (lines : ℕ) → lines < 1048576 → StartsLine lines bytes i
   pub says : meaning (take i bytes) ≡ Ok (Some e)
+
+-- k lines, i bytes in all, stand first, with their line feeds, and say these events, one each
+pub record LinesFirst (meaning : Meaning) (bytes : List ℕ) (i k : ℕ) (es : List Event) : Type 0 where
+  pub within : i ≤ length bytes
+  pub short : i ≤ 65 * k
+  pub count : length es ≡ k
+  pub reads : (lines : ℕ) → lines + k ≤ 1048576 → Reads meaning lines (take i bytes) es (lines + k)
+
+-- the lines of k slots stand first
+abbrev pub SlotsFirst : Meaning → List ℕ → ℕ → Type 0
+SlotsFirst meaning bytes k = LinesFirst meaning bytes (5 * k) k (slots k)
 
 -- nothing, or a line whose line feed is not there yet
 pub record IsRest (lines : ℕ) (bytes : List ℕ) : Type 0 where
