@@ -13,16 +13,17 @@ const FOUR_WORDS: &str = "write 04 01 1111\nwrite 04 02 2222\nwrite 04 03 3333\n
 const SENT: &str = "A s 2800\nA d 1111\nA d 2222\nA d 3333\nA d 4444\n";
 
 /// A reply of four words that goes on like this.
-fn reply(after: &str) -> ArrayString<256> {
+fn reply(rt: &impl Abort, after: &str) -> ArrayString<256> {
     let mut script = ArrayString::new();
-    script.push_str(FOUR_WORDS);
-    script.push_str(after);
+    for part in [FOUR_WORDS, after] {
+        assert!(rt; script.try_push_str(part).is_ok(), "no room for {part}");
+    }
     script
 }
 
 /// A reply of four words that goes on like this gives that, however many bytes are read at once.
 fn gives(rt: &impl Abort, after: &str, wanted: Result<u64, RunFault>, transcript: &str) {
-    let script = reply(after);
+    let script = reply(rt, after);
     for at_once in [1, 4, 5, 7, 64, 100, 1000] {
         let mut reader = MemorySource::new(script.as_str().as_bytes(), at_once, None);
         let mut writer: MemorySink<512> = MemorySink::new(512, None);
@@ -92,7 +93,7 @@ fn what_stands_between_slots(rt: HostRuntime) {
 
 #[test]
 fn writes_that_fail_between_slots(rt: HostRuntime) {
-    let script = reply("slot\nslot\nslot\nslot\nslot\nslot\n");
+    let script = reply(&rt, "slot\nslot\nslot\nslot\nslot\nslot\n");
     for at_once in [1, 5, 9, 100] {
         for call in 0..46u64 {
             let mut reader = MemorySource::new(script.as_str().as_bytes(), 1000, None);
@@ -119,7 +120,7 @@ fn writes_that_fail_between_slots(rt: HostRuntime) {
 fn the_last_line_there_may_be_is_a_slot(rt: HostRuntime) -> Result<(), AllocError> {
     // six lines of the reply, then so many empty ones that room is left for three slots
     let mut script = vec![in rt.alloc(); 10u8; 1_048_576 - 9]?;
-    script.extend_from_slice(reply("slot\nslot\nslot\n").as_str().as_bytes())?;
+    script.extend_from_slice(reply(&rt, "slot\nslot\nslot\n").as_str().as_bytes())?;
     let mut reader = MemorySource::new(script.as_slice(), 4096, None);
     let mut writer: MemorySink<512> = MemorySink::new(512, None);
     let fits = run_script(&mut terminal(), &mut reader, &mut writer);

@@ -105,7 +105,7 @@ fn slots_at_once_are_as_one_by_one(rt: HostRuntime) {
                 one_by_one.step(Event::Slot);
             }
             // what is left of the reply, and then the vector word, which a reset sets back
-            for event in [
+            for event in &[
                 Event::Slot,
                 Event::Slot,
                 Event::Slot,
@@ -114,11 +114,8 @@ fn slots_at_once_are_as_one_by_one(rt: HostRuntime) {
                 Event::Slot,
                 Event::Slot,
             ] {
-                assert_eq!(rt;
-                    at_once.step(event),
-                    one_by_one.step(event),
-                    "{count} slots, {bits:04x}"
-                );
+                let wanted = one_by_one.step(*event);
+                assert_eq!(rt; at_once.step(*event), wanted, "{count} slots, {bits:04x}");
             }
         }
     }
