@@ -20,8 +20,8 @@ that is refused only since it calls such a method does not count. Other edits ar
 more than one body, of a contract, a type or a constant. Then a function of the files that it changes must be refused
 on its own account. An edit that is not refused in these ways is tried on the whole crate, which the prover must refuse.
 
-It is a contract that must refuse an edit, and not a proof by hand that names what the edit took away. So a check
-in which answers by hand don't fit their goals is done again without these answers: `search` alone must then find
+It is a contract that must refuse an edit, and not a proof by hand that names what the edit took away. So functions
+whose answers by hand don't fit their goals are checked again without these answers: `search` alone must then find
 no proof.
 
 An edit of a crate's must-not-compile/ is one that the compiler must refuse before the prover is asked: it begins
@@ -181,6 +181,17 @@ class Answer:
         self.unread = next((it for it in self.lines if re.match(r"(\./)?(src|specs)/\S+: error: ", it)), "")
         self.is_refused = ran.returncode == 1 and self.lines[-1].startswith(("logic=not-proved", "only=")) and not self.unread
 
+    def after(self, earlier, folders):
+        """This answer with what an earlier one said of the functions that this check left out. The proofs in these folders are
+        others now."""
+        kept = {it: said for it, said in earlier.functions.items() if it not in self.functions}
+        stale = re.compile(rf"(\./)?({'|'.join(map(re.escape, sorted(folders)))})/[^/]*: ")
+        self.functions.update(kept)
+        self.lines = [it for it in earlier.lines if not stale.match(it)] + self.lines
+        if self.is_proved and not all(it.startswith("proved") for it in kept.values()):
+            self.is_proved, self.is_refused = False, earlier.is_refused
+        return self
+
     def own_refusal(self, name):
         """What was said of the function, where its own proof is refused, and not only what it calls; or ''."""
         said, place = self.functions.get(name, ""), "/".join(name.split("::")[1:])
@@ -280,7 +291,10 @@ class Crate:
                 texts[file] = without_answer(texts.get(file) or read(f"{self.folder}/{file}"), name)
             if texts == before:
                 break
-            answer = self.checked(texts, only)
+            folders = {os.path.dirname(file) for file, _ in unfit}
+            # where all answers of a function fit, another check would say the same of it
+            again = [it for it in only if any(f"::{it}::" in f"::{at.replace('/', '::')}::" for at in folders)] or only
+            answer = self.checked(texts, again).after(answer, folders)
         return answer
 
     def proof_of_copy(self, function, name):
