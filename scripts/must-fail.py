@@ -170,6 +170,13 @@ def without_answer(text, name):
     return "\n".join(kept) if any(it.startswith("pub ") for it in kept) else None
 
 
+def proved_in(folders, only):
+    """Those of these functions whose proofs stand in these folders: of the others another check would say the same. All of
+    them, where a folder has the proof of none of them."""
+    names = {at: [it for it in only if f"::{it}::" in f"::{at.replace('/', '::')}::"] for at in folders}
+    return [it for it in only if any(it in found for found in names.values())] if all(names.values()) else only
+
+
 class Answer:
     """What the prover said of a crate: all its lines, what it said of each function, and its verdict."""
 
@@ -182,12 +189,13 @@ class Answer:
         self.is_refused = ran.returncode == 1 and self.lines[-1].startswith(("logic=not-proved", "only=")) and not self.unread
 
     def after(self, earlier, folders):
-        """This answer with what an earlier one said of the functions that this check left out. The proofs in these folders are
-        others now."""
+        """This answer, and of the functions that its check left out what the earlier one says, which had other proofs in these
+        folders."""
         kept = {it: said for it, said in earlier.functions.items() if it not in self.functions}
         stale = re.compile(rf"(\./)?({'|'.join(map(re.escape, sorted(folders)))})/[^/]*: ")
         self.functions.update(kept)
         self.lines = [it for it in earlier.lines if not stale.match(it)] + self.lines
+        # what was checked again is proved now, and of what was left out something is refused
         if self.is_proved and not all(it.startswith("proved") for it in kept.values()):
             self.is_proved, self.is_refused = False, earlier.is_refused
         return self
@@ -292,9 +300,7 @@ class Crate:
             if texts == before:
                 break
             folders = {os.path.dirname(file) for file, _ in unfit}
-            # where all answers of a function fit, another check would say the same of it
-            again = [it for it in only if any(f"::{it}::" in f"::{at.replace('/', '::')}::" for at in folders)] or only
-            answer = self.checked(texts, again).after(answer, folders)
+            answer = self.checked(texts, proved_in(folders, only)).after(answer, folders)
         return answer
 
     def proof_of_copy(self, function, name):
