@@ -20,8 +20,8 @@ that is refused only since it calls such a method does not count. Other edits ar
 more than one body, of a contract, a type or a constant. Then a function of the files that it changes must be refused
 on its own account. An edit that is not refused in these ways is tried on the whole crate, which the prover must refuse.
 
-It is a contract that must refuse an edit, and not a proof by hand that names what the edit took away. So functions
-whose answers by hand don't fit their goals are checked again without these answers: `search` alone must then find
+It is a contract that must refuse an edit, and not a proof by hand that names what the edit took away. So a check
+in which answers by hand don't fit their goals is done again without these answers: `search` alone must then find
 no proof.
 
 An edit of a crate's must-not-compile/ is one that the compiler must refuse before the prover is asked: it begins
@@ -170,13 +170,6 @@ def without_answer(text, name):
     return "\n".join(kept) if any(it.startswith("pub ") for it in kept) else None
 
 
-def proved_in(folders, only):
-    """Those of these functions whose proofs stand in these folders: of the others another check would say the same. All of
-    them, where a folder has the proof of none of them."""
-    names = {at: [it for it in only if f"::{it}::" in f"::{at.replace('/', '::')}::"] for at in folders}
-    return [it for it in only if any(it in found for found in names.values())] if all(names.values()) else only
-
-
 class Answer:
     """What the prover said of a crate: all its lines, what it said of each function, and its verdict."""
 
@@ -187,18 +180,6 @@ class Answer:
         # a clause or a definition that can't be read refuses the crate too, and says nothing of any contract
         self.unread = next((it for it in self.lines if re.match(r"(\./)?(src|specs)/\S+: error: ", it)), "")
         self.is_refused = ran.returncode == 1 and self.lines[-1].startswith(("logic=not-proved", "only=")) and not self.unread
-
-    def after(self, earlier, folders):
-        """This answer, and of the functions that its check left out what the earlier one says, which had other proofs in these
-        folders."""
-        kept = {it: said for it, said in earlier.functions.items() if it not in self.functions}
-        stale = re.compile(rf"(\./)?({'|'.join(map(re.escape, sorted(folders)))})/[^/]*: ")
-        self.functions.update(kept)
-        self.lines = [it for it in earlier.lines if not stale.match(it)] + self.lines
-        # what was checked again is proved now, and of what was left out something is refused
-        if self.is_proved and not all(it.startswith("proved") for it in kept.values()):
-            self.is_proved, self.is_refused = False, earlier.is_refused
-        return self
 
     def own_refusal(self, name):
         """What was said of the function, where its own proof is refused, and not only what it calls; or ''."""
@@ -299,8 +280,7 @@ class Crate:
                 texts[file] = without_answer(texts.get(file) or read(f"{self.folder}/{file}"), name)
             if texts == before:
                 break
-            folders = {os.path.dirname(file) for file, _ in unfit}
-            answer = self.checked(texts, proved_in(folders, only)).after(answer, folders)
+            answer = self.checked(texts, only)
         return answer
 
     def proof_of_copy(self, function, name):
