@@ -14,8 +14,9 @@ built=$work/built
 mkdir "$built" || exit 1
 tar -c --exclude='crates/*/out' --exclude='crates/*/must-fail' HANDLES crates.txt crates | tar -x -C "$built" || exit 1
 
-# proves, tests and builds the copy
-proved() { (cd "$built" && rt ci) 2>&1 | tee "$work/proofs"; }
+# proves, tests and builds the copy: two checks side by side, each in one process. More processes for a check would read the
+# libraries again, and what is idle is the edits'
+proved() { (cd "$built" && RT_JOBS=2 rt ci) 2>&1 | tee "$work/proofs"; }
 
 # begins with the edits, in a group of processes of their own, which get what all else leaves of the processors
 start_edits() {

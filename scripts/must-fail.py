@@ -18,11 +18,12 @@ has a proof by hand.
 A method of a trait can't be copied beside itself: one wrong body of each takes the right one's place, and a function
 that is refused only since it calls such a method does not count. Other edits are tried one by one, in their places: of
 more than one body, of a contract, a type or a constant. Then a function of the files that it changes must be refused
-on its own account. An edit that is not refused in these ways is tried on the whole crate, which the prover must refuse.
+on its own account, or else one of the whole crate.
 
 It is a contract that must refuse an edit, and not a proof by hand that names what the edit took away. So a check
 in which answers by hand don't fit their goals is done again without these answers: `search` alone must then find
-no proof.
+no proof. Nor may it be the borrow checker, which doesn't cover all code that the language allows: an edit counts as
+refused only where goals of a function's proof are left open.
 
 An edit of a crate's must-not-compile/ is one that the compiler must refuse before the prover is asked: it begins
 with a line `error: NAME`, and the check must tell one error, of that name.
@@ -49,6 +50,9 @@ OWNER = re.compile(r"^( *)(?:impl(?:<.*?>)? (?:(.+) for )?|(?:pub )?trait )(\w+)
 # an error in an answer by hand: the file, and the answer's name; and one for answers that name such an answer: their names
 UNFIT = re.compile(r"^(?:\./)?(proofs/\S+/Answers\.antt):\d+:\d+: error: `([^`]+)`: ")
 UNREAD = re.compile(r"^(?:\./)?(proofs/\S+/Answers\.antt):\d+:\d+: error: \d+ declarations? that depends? on .* not checked: (.+)$")
+
+# what is said of a function where goals of its proof are open that `search` did not prove
+OPEN = re.compile(r"no proof: expected answers in \S+; `search` did not prove `")
 
 
 def read(path):
@@ -162,8 +166,8 @@ def without_answer(text, name):
     """A file of answers without the answer of this name; None where no answer is left."""
     kept, within = [], False
     for line in text.split("\n"):
-        # what closes a bracket belongs to the lines above
-        if line and not line[0].isspace() and line[0] not in ")]}":
+        # what closes a bracket belongs to the lines above, and so does what is unfolded under the first line
+        if line and not line[0].isspace() and not line.startswith((")", "]", "}", "unfolding ")):
             within = line.startswith((f"pub {name} :", f"{name} "))
         if not within:
             kept.append(line)
@@ -181,13 +185,18 @@ class Answer:
         self.unread = next((it for it in self.lines if re.match(r"(\./)?(src|specs)/\S+: error: ", it)), "")
         self.is_refused = ran.returncode == 1 and self.lines[-1].startswith(("logic=not-proved", "only=")) and not self.unread
 
+    def open_goals(self, name):
+        """What was said of the function, where `search` leaves goals of its proof open; or ''."""
+        said = self.functions.get(name, "")
+        return f"{name}: {said}" if OPEN.match(said) else ""
+
     def own_refusal(self, name):
-        """What was said of the function, where its own proof is refused, and not only what it calls; or ''."""
+        """What was said of the function, where its own proof is refused for any reason, and not only what it calls; or ''."""
         said, place = self.functions.get(name, ""), "/".join(name.split("::")[1:])
         # the errors in the files of its proof say more; where there is none, it can wait for what it calls
         error = next((it for it in self.lines if re.match(rf"(\./)?proofs/{place}/[^/]*: error: ", it)), "")
-        is_own = said.startswith("not proved") and (error or "; it calls " not in said)
-        return f"{name}: {error or said}" if is_own or said.startswith("no proof: expected answers") else ""
+        is_own = said.startswith(("not proved", "no proof: expected")) and (error or "; it calls " not in said)
+        return f"{name}: {error or said}" if is_own or OPEN.match(said) else ""
 
     def unfit_answers(self):
         """The answers by hand that don't fit their goals, and those that rest on them: the file and the name of each."""
@@ -202,6 +211,10 @@ class Answer:
     def refused_beside(self, names):
         """What was said of the functions that are refused on their own account and are none of these."""
         return [said for it in self.functions if it not in names and (said := self.own_refusal(it))]
+
+    def refused_by_goals(self):
+        """What was said of the functions of whose proofs `search` leaves goals open."""
+        return [said for it in self.functions if self.is_refused and (said := self.open_goals(it))]
 
 
 class Crate:
@@ -327,26 +340,24 @@ class Crate:
         if others or not answer.is_refused:
             print(f"note: {self.name}: a check of {len(wrong)} edits tells nothing: {[answer.lines[-1], *others][-1]}", flush=True)
             return {}
-        return {wrong[it].label: said for it, told in names.items() if (said := answer.own_refusal(told))}
+        return {wrong[it].label: said for it, told in names.items() if (said := answer.open_goals(told))}
 
     def tried_in_place(self, edit):
         """What was said of a function that is refused for this edit, in the functions or files that it changes; or ''."""
         only = [edit.function.path()] if edit.function else [module_of(it) if it.startswith("src/") else "" for it in edit.texts]
         if "" in only:
             return ""
-        answer = self.refused_by_contracts(edit.texts, only)
-        refused = answer.refused_beside(())
-        return refused[0] if refused and answer.is_refused else ""
+        refused = self.refused_by_contracts(edit.texts, only).refused_by_goals()
+        return refused[0] if refused else ""
 
     def tried_alone(self, edit):
-        """Whether the prover refuses the crate with the edit alone, and what it said."""
+        """Whether the prover refuses a function of the crate with the edit alone, and what it said."""
         answer = self.refused_by_contracts(edit.texts)
-        said = next((it for it in answer.lines if re.match(r"(note: )?\S+:\d+:\d+:", it)), answer.lines[-1])
         if answer.is_proved:
             return False, "NOT REFUSED: the crate is proved with this edit"
-        if not answer.is_refused:
-            return False, f"BAD EDIT: it came to no proof: {answer.unread or said}"
-        return True, said
+        if refused := answer.refused_by_goals():
+            return True, refused[0]
+        return False, f"BAD EDIT: no goal is left open: {[answer.unread or answer.lines[-1], *answer.refused_beside(())][-1]}"
 
     def not_compiled(self, edit):
         """Whether the compiler refuses the crate with the edit, by the error that the edit names and no other."""

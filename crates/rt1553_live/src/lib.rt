@@ -6,8 +6,6 @@ mod answer;
 mod event;
 mod fault;
 mod live;
-#[cfg(test)]
-mod tests;
 
 pub use answer::PlainAnswer;
 pub use event::{PlainEvent, event_of};

@@ -1,5 +1,5 @@
-//! A terminal is made and stepped, and a fault told.
-use crate::{PlainEvent, new_live, step_live};
+//! A terminal that is stepped by plain numbers is made and stepped, and a text is refused.
+use rt1553_live::{PlainEvent, new_live, step_live};
 
 /// A command word on bus A, transmit status word for address 5.
 const TRANSMIT_STATUS: PlainEvent = PlainEvent {
