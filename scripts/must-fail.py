@@ -23,7 +23,8 @@ on its own account, or else one of the whole crate.
 It is a contract that must refuse an edit, and not a proof by hand that names what the edit took away. So a check
 in which answers by hand don't fit their goals is done again without these answers: `search` alone must then find
 no proof. Nor may it be the borrow checker, which doesn't cover all code that the language allows: an edit counts as
-refused only where goals of a function's proof are left open.
+refused only where goals of a function's proof are left open. A function whose proof is all by hand has no such goals: that
+proof must be refused.
 
 An edit of a crate's must-not-compile/ is one that the compiler must refuse before the prover is asked: it begins
 with a line `error: NAME`, and the check must tell one error, of that name.
@@ -185,16 +186,21 @@ class Answer:
         self.unread = next((it for it in self.lines if re.match(r"(\./)?(src|specs)/\S+: error: ", it)), "")
         self.is_refused = ran.returncode == 1 and self.lines[-1].startswith(("logic=not-proved", "only=")) and not self.unread
 
-    def open_goals(self, name):
-        """What was said of the function, where `search` leaves goals of its proof open; or ''."""
-        said = self.functions.get(name, "")
-        return f"{name}: {said}" if OPEN.match(said) else ""
+    def error_in(self, name, files):
+        """The first error in these files of a function's proof by hand; or ''."""
+        place = "/".join(name.split("::")[1:])
+        return next((it for it in self.lines if re.match(rf"(\./)?proofs/{place}/{files}: error: ", it)), "")
+
+    def refusal(self, name):
+        """What was said of the function, where `search` leaves goals of its proof open, or its proof is all by hand and is
+        refused; or ''."""
+        said, error = self.functions.get(name, ""), self.error_in(name, r"Proof\.antt:\S+")
+        return f"{name}: {error or said}" if error or OPEN.match(said) else ""
 
     def own_refusal(self, name):
         """What was said of the function, where its own proof is refused for any reason, and not only what it calls; or ''."""
-        said, place = self.functions.get(name, ""), "/".join(name.split("::")[1:])
         # the errors in the files of its proof say more; where there is none, it can wait for what it calls
-        error = next((it for it in self.lines if re.match(rf"(\./)?proofs/{place}/[^/]*: error: ", it)), "")
+        said, error = self.functions.get(name, ""), self.error_in(name, "[^/]*")
         is_own = said.startswith(("not proved", "no proof: expected")) and (error or "; it calls " not in said)
         return f"{name}: {error or said}" if is_own or OPEN.match(said) else ""
 
@@ -212,9 +218,9 @@ class Answer:
         """What was said of the functions that are refused on their own account and are none of these."""
         return [said for it in self.functions if it not in names and (said := self.own_refusal(it))]
 
-    def refused_by_goals(self):
-        """What was said of the functions of whose proofs `search` leaves goals open."""
-        return [said for it in self.functions if self.is_refused and (said := self.open_goals(it))]
+    def refusals(self):
+        """What was said of the functions whose contracts refuse their bodies."""
+        return [said for it in self.functions if self.is_refused and (said := self.refusal(it))]
 
 
 class Crate:
@@ -340,14 +346,14 @@ class Crate:
         if others or not answer.is_refused:
             print(f"note: {self.name}: a check of {len(wrong)} edits tells nothing: {[answer.lines[-1], *others][-1]}", flush=True)
             return {}
-        return {wrong[it].label: said for it, told in names.items() if (said := answer.open_goals(told))}
+        return {wrong[it].label: said for it, told in names.items() if (said := answer.refusal(told))}
 
     def tried_in_place(self, edit):
         """What was said of a function that is refused for this edit, in the functions or files that it changes; or ''."""
         only = [edit.function.path()] if edit.function else [module_of(it) if it.startswith("src/") else "" for it in edit.texts]
         if "" in only:
             return ""
-        refused = self.refused_by_contracts(edit.texts, only).refused_by_goals()
+        refused = self.refused_by_contracts(edit.texts, only).refusals()
         return refused[0] if refused else ""
 
     def tried_alone(self, edit):
@@ -355,7 +361,7 @@ class Crate:
         answer = self.refused_by_contracts(edit.texts)
         if answer.is_proved:
             return False, "NOT REFUSED: the crate is proved with this edit"
-        if refused := answer.refused_by_goals():
+        if refused := answer.refusals():
             return True, refused[0]
         return False, f"BAD EDIT: no goal is left open: {[answer.unread or answer.lines[-1], *answer.refused_beside(())][-1]}"
 
