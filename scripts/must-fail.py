@@ -22,9 +22,10 @@ on its own account, or else one of the whole crate.
 
 It is a contract that must refuse an edit, and not a proof by hand that names what the edit took away. So a check
 in which answers by hand don't fit their goals is done again without these answers: `search` alone must then find
-no proof. Nor may it be the borrow checker, which doesn't cover all code that the language allows: an edit counts as
-refused only where goals of a function's proof are left open. A function whose proof is all by hand has no such goals: that
-proof must be refused.
+no proof. Where the wrong body lacks a goal that has such an answer, another that has one must be left open: a goal of the
+wrong body alone may be left open though it holds, for want of an answer by hand. Nor may it be the borrow checker, which
+doesn't cover all code that the language allows: an edit counts as refused only where goals are left open. A function whose
+proof is all by hand has none: that proof must be refused.
 
 An edit of a crate's must-not-compile/ is one that the compiler must refuse before the prover is asked: it begins
 with a line `error: NAME`, and the check must tell one error, of that name.
@@ -52,8 +53,10 @@ OWNER = re.compile(r"^( *)(?:impl(?:<.*?>)? (?:(.+) for )?|(?:pub )?trait )(\w+)
 UNFIT = re.compile(r"^(?:\./)?(proofs/\S+/Answers\.antt):\d+:\d+: error: `([^`]+)`: ")
 UNREAD = re.compile(r"^(?:\./)?(proofs/\S+/Answers\.antt):\d+:\d+: error: \d+ declarations? that depends? on .* not checked: (.+)$")
 
+# an error in an answer by hand to a goal that the body no longer has
+GONE = re.compile(r"^(?:\./)?(proofs/\S+/Answers\.antt):\d+:\d+: error: `([^`]+)`: `\w+\.\2`: module `\S+\.Goals`")
 # what is said of a function where goals of its proof are open that `search` did not prove
-OPEN = re.compile(r"no proof: expected answers in \S+; `search` did not prove `")
+OPEN = re.compile(r"no proof: expected answers in (?:\./)?(\S+); `search` did not prove ((?:`[^`]+`(?:, )?)+)")
 
 
 def read(path):
@@ -185,6 +188,8 @@ class Answer:
         # a clause or a definition that can't be read refuses the crate too, and says nothing of any contract
         self.unread = next((it for it in self.lines if re.match(r"(\./)?(src|specs)/\S+: error: ", it)), "")
         self.is_refused = ran.returncode == 1 and self.lines[-1].startswith(("logic=not-proved", "only=")) and not self.unread
+        # of each file of answers by hand to goals of which the body has some no longer: the names of all these goals
+        self.answered = {}
 
     def error_in(self, name, files):
         """The first error in these files of a function's proof by hand; or ''."""
@@ -192,10 +197,15 @@ class Answer:
         return next((it for it in self.lines if re.match(rf"(\./)?proofs/{place}/{files}: error: ", it)), "")
 
     def refusal(self, name):
-        """What was said of the function, where `search` leaves goals of its proof open, or its proof is all by hand and is
-        refused; or ''."""
-        said, error = self.functions.get(name, ""), self.error_in(name, r"Proof\.antt:\S+")
-        return f"{name}: {error or said}" if error or OPEN.match(said) else ""
+        """What was said of the function, where `search` leaves goals of its proof open that the right body has too, or its proof
+        is all by hand and is refused; or ''."""
+        if error := self.error_in(name, r"Proof\.antt:\S+"):
+            return f"{name}: {error}"
+        said = self.functions.get(name, "")
+        if not (it := OPEN.match(said)):
+            return ""
+        goals = set(re.findall("`([^`]+)`", it[2]))
+        return f"{name}: {said}" if goals & self.answered.get(it[1], goals) else ""
 
     def own_refusal(self, name):
         """What was said of the function, where its own proof is refused for any reason, and not only what it calls; or ''."""
@@ -291,15 +301,19 @@ class Crate:
     def refused_by_contracts(self, texts, only=()):
         """What the prover says of the crate, or of some of it, with these texts, once the answers by hand that don't fit
         them are gone."""
-        texts = dict(texts)
+        given, answered = texts, {}
+        texts = dict(given)
         answer = self.checked(texts, only)
         while unfit := {it for it in answer.unfit_answers() if texts.get(it[0], "") is not None}:
             before = dict(texts)
+            for file in {it[1] for it in map(GONE.match, answer.lines) if it}:
+                answered[file] = set(re.findall(r"^pub (\S+) :", given.get(file) or read(f"{self.folder}/{file}"), re.M))
             for file, name in unfit:
                 texts[file] = without_answer(texts.get(file) or read(f"{self.folder}/{file}"), name)
             if texts == before:
                 break
             answer = self.checked(texts, only)
+        answer.answered = answered
         return answer
 
     def proof_of_copy(self, function, name):
@@ -363,7 +377,7 @@ class Crate:
             return False, "NOT REFUSED: the crate is proved with this edit"
         if refused := answer.refusals():
             return True, refused[0]
-        return False, f"BAD EDIT: no goal is left open: {[answer.unread or answer.lines[-1], *answer.refused_beside(())][-1]}"
+        return False, f"BAD EDIT: no goal is left open that the right body has: {[answer.unread or answer.lines[-1], *answer.refused_beside(())][-1]}"
 
     def not_compiled(self, edit):
         """Whether the compiler refuses the crate with the edit, by the error that the edit names and no other."""
