@@ -298,11 +298,10 @@ class Crate:
         how = {"stdin": subprocess.DEVNULL, "stdout": subprocess.PIPE, "stderr": subprocess.STDOUT, "errors": "replace"}
         return Answer(subprocess.run(self.words(only), cwd=place, **how))
 
-    def refused_by_contracts(self, texts, only=()):
+    def refused_by_contracts(self, given, only=()):
         """What the prover says of the crate, or of some of it, with these texts, once the answers by hand that don't fit
         them are gone."""
-        given, answered = texts, {}
-        texts = dict(given)
+        texts, answered = dict(given), {}
         answer = self.checked(texts, only)
         while unfit := {it for it in answer.unfit_answers() if texts.get(it[0], "") is not None}:
             before = dict(texts)
