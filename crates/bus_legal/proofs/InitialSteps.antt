@@ -4,8 +4,8 @@ use Rattle.std.proofs.Common.{Some, refl, ap, subst, sym, ◌∙◌, get_or-set_
 use Rattle.std.proofs.lemmas.Bool.{eqb-true, eq-eqb}
 use Rattle.std.proofs.lemmas.List.{get_or-replicate}
 use Rattle.bus_word.specs.Cell.{is_data_place}
-use Rattle.bus_profile.specs.declared.entries.InitialWords.{InitialWords}
-use Rattle.bus_profile.specs.Last.{last_of}
+use Rattle.profile_types.specs.declared.entries.InitialWords.{InitialWords}
+use Rattle.profile_types.specs.Last.{last_of}
 use Rattle.bus_legal.specs.Description.{word_at}
 use Rattle.bus_legal.specs.Initial.{gives_number, gives, word_given, initial_word}
 use Rattle.bus_legal.proofs.Last.{last_of-take}

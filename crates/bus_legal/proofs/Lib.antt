@@ -17,4 +17,3 @@ pub mod SameNormals
 pub mod LegalLaws
 pub mod PlainLaws
 pub mod Made
-pub mod ProfileRanges

@@ -2,9 +2,9 @@
 use Rattle.std.proofs.Common.{◌≡◌, ℕ, ◌<◌, ◌==◌, Bool, true, false, ◌&&◌, ◌||◌, List, bit_and, refl, ap, sym, ◌∙◌, arith}
 use Rattle.std.proofs.lemmas.Bool.{eqb-true, eq-eqb}
 use Rattle.bus_word.specs.Mode.{is_required_code, transmit_status, shutdown, override_shutdown, reset}
-use Rattle.bus_profile.specs.declared.entries.ModeRule.{ModeRule}
+use Rattle.profile_types.specs.declared.entries.ModeRule.{ModeRule}
 use Rattle.bus_word.specs.Mask.{has_bit}
-use Rattle.bus_profile.specs.OwnCodes.{is_own_code_legal, has_required_codes}
+use Rattle.profile_types.specs.OwnCodes.{is_own_code_legal, has_required_codes}
 use Rattle.bus_legal.specs.Tables.{is_own_mask}
 use Rattle.bus_legal.proofs.Bits.{and-contained}
 use Rattle.bus_legal.proofs.Bools.{left_of, right_of}

@@ -3,8 +3,8 @@ use Rattle.std.specs.Prelude.{◌≡◌, ℕ, ◌-◌, ◌<◌, Bool, not, ◌&&
 use Rattle.bus_word.specs.declared.cell.Cell.{Cell}
 use Rattle.bus_word.specs.declared.cell.Cell.TheVariants.{OwnReceive, OwnTransmit, BroadReceive, OwnMode, BroadMode}
 use Rattle.bus_word.specs.Cell.{is_allowed}
-use Rattle.bus_profile.specs.declared.entries.Rule.{Rule}
-use Rattle.bus_profile.specs.Last.{last_of}
+use Rattle.profile_types.specs.declared.entries.Rule.{Rule}
+use Rattle.profile_types.specs.Last.{last_of}
 use Rattle.bus_word.specs.Mask.{has_bit}
 use Rattle.bus_legal.specs.declared.tables.Tables.{Tables}
 use Rattle.bus_legal.specs.declared.tables.TheConstants.{OWN_CODES, BROADCAST_CODES, REQUIRED_CODES}

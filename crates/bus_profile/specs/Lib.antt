@@ -9,9 +9,7 @@ pub mod Kinds
 pub mod Checks
 pub mod Faults
 pub mod FaultNames
-pub mod Plain
+pub mod Gives
 pub mod Read
-pub mod Last
-pub mod OwnCodes
 pub mod AllFaults
 pub mod inner

@@ -6,3 +6,4 @@ pub mod FirstWord
 pub mod RangeParts
 pub mod MissingCode
 pub mod AllFaults
+pub mod Settings

@@ -4,7 +4,7 @@ ghost use Rattle.bus_profile.specs.inner.Choice.{addressee_text, direction_text}
 ghost use Rattle.bus_profile.specs.inner.FirstFault.{ReadsAs};
 ghost use Rattle.bus_profile.specs.Keys.{to_row, direction_row};
 ghost use Rattle.bus_profile.specs.Kinds.{text};
-ghost use Rattle.bus_profile.specs.Plain.{says};
+ghost use Rattle.bus_profile.specs.Gives.{says};
 ghost use Rattle.bus_profile.specs.inner.Section.{value_at, fault_at};
 
 use crate::fault::{Key, ProfileFault};

@@ -6,11 +6,12 @@ ghost use Rattle.bus_profile.specs.inner.FirstFault.{first_fault, fault_of_parts
 ghost use Rattle.bus_profile.specs.Faults.{initial_checks, head_checks, goes_beyond, word_checks, each_item};
 ghost use Rattle.bus_profile.specs.Keys.{at_row, words_row};
 ghost use Rattle.bus_profile.specs.Kinds.{items};
-ghost use Rattle.bus_profile.specs.Plain.{plain_initial, initial_in, word_in, each_of};
+ghost use Rattle.profile_types.specs.Plain.{plain_initial};
+ghost use Rattle.bus_profile.specs.Gives.{initial_in, word_in, each_of};
 ghost use Rattle.bus_profile.specs.inner.Section.{tree_of, value_at};
 ghost use Rattle.bus_profile.specs.inner.FirstWord.{IsFirstWord};
 
-use crate::entries::{Entries, InitialWords};
+use profile_types::{Entries, InitialWords};
 use crate::fault::{Key, Part, ProfileFault};
 use crate::section::{Section, in_range, items_of};
 use std::alloc::Global;

@@ -3,22 +3,19 @@
 #![tactic(auto)]
 
 mod choice;
-mod entries;
 mod fault;
 mod initial;
 pub mod laws;
 mod mode;
 mod own_codes;
-mod profile;
 mod ranges;
 mod read;
 mod rule;
 mod section;
 mod told;
 
-pub use entries::{Entries, InitialWords, ModeRule, Rule};
 pub use fault::{Key, Part, ProfileFault};
-pub use profile::Profile;
+pub use profile_types::{Entries, InitialWords, ModeRule, Profile, Rule};
 pub use ranges::{RangeFault, parse_ranges};
 pub use read::read_profile;
 pub use told::{all_faults, known_keys, unknown_keys, word_fault};

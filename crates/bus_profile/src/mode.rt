@@ -4,9 +4,9 @@ ghost use Rattle.toml.specs.Data.{table as table_data};
 ghost use Rattle.toml.specs.View.{view, items_view, table_view};
 ghost use Rattle.bus_profile.specs.inner.FirstFault.{first_fault, fault_of_parts, Reads, ReadsInMemory};
 ghost use Rattle.bus_profile.specs.Faults.{mode_checks, each_item};
-ghost use Rattle.bus_profile.specs.Plain.{mode_in, each_of};
+ghost use Rattle.bus_profile.specs.Gives.{mode_in, each_of};
 
-use crate::entries::{Entries, ModeRule};
+use profile_types::{Entries, ModeRule};
 use crate::fault::{Key, Part, ProfileFault};
 use crate::section::Section;
 use std::alloc::Global;

@@ -1,9 +1,9 @@
 //! The own mode codes that every profile must leave legal.
 ghost use Rattle.std.specs.Prelude.{◌≡◌, ◌<◌};
-ghost use Rattle.bus_profile.specs.OwnCodes.{is_own_code_legal};
+ghost use Rattle.profile_types.specs.OwnCodes.{is_own_code_legal};
 ghost use Rattle.bus_profile.specs.inner.MissingCode.{missing_code};
 
-use crate::entries::ModeRule;
+use profile_types::ModeRule;
 use bus_word::mode::{OVERRIDE_SHUTDOWN, RESET, SHUTDOWN, TRANSMIT_STATUS};
 use bus_word::{has_bit, is_required_code, mode_row};
 

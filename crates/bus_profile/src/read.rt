@@ -1,16 +1,20 @@
 //! The reading of a profile text.
-ghost use Rattle.std.specs.Prelude.{IfOk, IfErr};
+ghost use Rattle.std.specs.Prelude.{◌≤◌, IfOk, IfErr, length, map};
 ghost use Rattle.toml.specs.View.{table_view};
-ghost use Rattle.bus_profile.specs.Faults.{faults};
-ghost use Rattle.bus_profile.specs.inner.FirstFault.{first_fault, ReadsInMemory};
-ghost use Rattle.bus_profile.specs.Plain.{plain, profile_of};
+ghost use Rattle.profile_types.specs.Plain.{plain, plain_rule, plain_initial};
+ghost use Rattle.bus_profile.specs.Faults.{faults, rule_checks, mode_checks, initial_checks};
+ghost use Rattle.bus_profile.specs.Gives.{profile_of, rules_of, modes_of, initials_of};
+ghost use Rattle.bus_profile.specs.Keys.{rule_row, mode_row, initial_row};
+ghost use Rattle.bus_profile.specs.inner.FirstFault.{first_fault, Reads, ReadsInMemory};
+ghost use Rattle.bus_profile.specs.inner.Settings.{settings_fault, settings_of, entries_fault};
+ghost use Rattle.bus_profile.specs.inner.Section.{tree_of};
 ghost use Rattle.bus_profile.specs.Read.{Accepts, Refuses};
 
 use crate::fault::{Key, Part, ProfileFault};
 use crate::initial::initials_of;
 use crate::mode::modes_of;
 use crate::own_codes::missing_code;
-use crate::profile::Profile;
+use profile_types::{Entries, InitialWords, ModeRule, Profile, Rule};
 use crate::rule::rules_of;
 use crate::section::Section;
 use std::alloc::Global;
@@ -44,6 +48,62 @@ pub fn read_profile(alloc: Global, text: &[u8]) -> Result<Profile, ProfileFault>
     }
 }
 
+/// What the keys of the root say that hold one value.
+#[derive(Clone, Copy)]
+struct Settings {
+    address: u16,
+    broadcast: bool,
+    wrap: u8,
+    accept: bool,
+    vector: u16,
+    bit: u16,
+}
+
+/// Reads the keys of the root that hold one value.
+fn settings_of(root: &Section<'_>) -> Result<Settings, ProfileFault>
+    ensures reads { Reads (settings_fault root.now) (settings_of root.now) result }
+    ensures own { IfOk result (λ s. (s.address ≤ 30) × (s.wrap ≤ 30)) }
+{
+    let address = root.required_whole(Key::Address, 0, 30)?;
+    let broadcast = root.optional_truth(Key::Broadcast, false)?;
+    let wrap = root.wraparound()?;
+    let accept = root.optional_truth(Key::AcceptBusControl, false)?;
+    let vector = root.optional_whole(Key::Vector, 0, 65535, 0)?;
+    let bit = root.optional_whole(Key::Bit, 0, 65535, 0)?;
+    Ok(Settings {
+        address,
+        broadcast,
+        wrap,
+        accept,
+        vector,
+        bit,
+    })
+}
+
+/// Reads the rules.
+fn rules_in(alloc: Global, root: &Section<'_>) -> Result<Entries<Rule>, ProfileFault>
+    ensures reads { ReadsInMemory (map plain_rule) (entries_fault rule_row rule_checks root.now) (rules_of (tree_of root.now)) result }
+    ensures few { IfOk result (λ rules. length rules ≤ 256) }
+{
+    rules_of(alloc, root.entries(Key::Rule)?)
+}
+
+/// Reads the mode entries.
+fn modes_in(alloc: Global, root: &Section<'_>) -> Result<Entries<ModeRule>, ProfileFault>
+    ensures reads { ReadsInMemory (λ modes. modes) (entries_fault mode_row mode_checks root.now) (modes_of (tree_of root.now)) result }
+    ensures few { IfOk result (λ modes. length modes ≤ 256) }
+{
+    modes_of(alloc, root.entries(Key::Mode)?)
+}
+
+/// Reads the initial entries.
+fn initials_in(alloc: Global, root: &Section<'_>) -> Result<Entries<InitialWords>, ProfileFault>
+    ensures reads { ReadsInMemory (map plain_initial) (entries_fault initial_row initial_checks root.now) (initials_of (tree_of root.now)) result }
+    ensures few { IfOk result (λ initials. length initials ≤ 256) }
+{
+    initials_of(alloc, root.entries(Key::Initial)?)
+}
+
 /// Reads the profile of a tree.
 #[tactic(auto, using(crate::proofs::Tree::tree_fault))]
 fn profile_of(alloc: Global, table: &Table) -> Result<Profile, ProfileFault>
@@ -56,25 +116,20 @@ fn profile_of(alloc: Global, table: &Table) -> Result<Profile, ProfileFault>
     if root.has_unknown_key(&KEYS) {
         return Err(ProfileFault::UnknownKey(root.part));
     }
-    let address = root.required_whole(Key::Address, 0, 30)?;
-    let broadcast = root.optional_truth(Key::Broadcast, false)?;
-    let wrap = root.wraparound()?;
-    let accept = root.optional_truth(Key::AcceptBusControl, false)?;
-    let vector = root.optional_whole(Key::Vector, 0, 65535, 0)?;
-    let bit = root.optional_whole(Key::Bit, 0, 65535, 0)?;
-    let rules = rules_of(alloc, root.entries(Key::Rule)?)?;
-    let modes = modes_of(alloc, root.entries(Key::Mode)?)?;
-    let initials = initials_of(alloc, root.entries(Key::Initial)?)?;
+    let settings = settings_of(&root)?;
+    let rules = rules_in(alloc, &root)?;
+    let modes = modes_in(alloc, &root)?;
+    let initials = initials_in(alloc, &root)?;
     if let Some(code) = missing_code(modes.as_slice()) {
         return Err(ProfileFault::RequiredCode(code));
     }
     Ok(Profile {
-        address: address as u8,
-        broadcast,
-        wrap,
-        accept,
-        vector,
-        bit,
+        address: settings.address as u8,
+        broadcast: settings.broadcast,
+        wrap: settings.wrap,
+        accept: settings.accept,
+        vector: settings.vector,
+        bit: settings.bit,
         rules,
         modes,
         initials,

@@ -4,9 +4,10 @@ ghost use Rattle.toml.specs.Data.{table as table_data};
 ghost use Rattle.toml.specs.View.{view, items_view, table_view};
 ghost use Rattle.bus_profile.specs.inner.FirstFault.{first_fault, fault_of_parts, ReadsAs, ReadsInMemory};
 ghost use Rattle.bus_profile.specs.Faults.{rule_checks, each_item};
-ghost use Rattle.bus_profile.specs.Plain.{plain_rule, rule_in, each_of};
+ghost use Rattle.profile_types.specs.Plain.{plain_rule};
+ghost use Rattle.bus_profile.specs.Gives.{rule_in, each_of};
 
-use crate::entries::{Entries, Rule};
+use profile_types::{Entries, Rule};
 use crate::fault::{Key, Part, ProfileFault};
 use crate::section::Section;
 use std::alloc::Global;

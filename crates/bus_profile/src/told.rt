@@ -12,7 +12,7 @@ ghost use Rattle.bus_profile.specs.inner.AllFaults.{failing_parts, present, row_
 ghost use Rattle.bus_profile.specs.inner.FirstFault.{first_fault};
 ghost use Rattle.bus_profile.specs.inner.Section.{tree_of, value_at};
 
-use crate::entries::ModeRule;
+use profile_types::ModeRule;
 use crate::fault::{Key, Part, ProfileFault};
 use crate::initial::{KEYS as INITIAL_KEYS, word_of};
 use crate::mode::{KEYS as MODE_KEYS, modes_of};

@@ -13,6 +13,6 @@ mod word;
 pub use cell::{Cell, cell_of};
 pub use command::{Command, WRAPAROUND_SUBADDRESS};
 pub use mask::has_bit;
-pub use mode::{ModeRow, is_required_code, mode_row};
+pub use mode::{ModeRow, is_required_code, mode_name, mode_row};
 pub use status::{StatusParts, status_of};
 pub use word::{Bus, Kind, Raw};

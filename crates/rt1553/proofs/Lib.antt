@@ -3,3 +3,4 @@ pub mod CompareLaws
 pub mod EngineLaws
 pub mod OneLineLaws
 pub mod RefusalLaws
+pub mod ProfileRanges

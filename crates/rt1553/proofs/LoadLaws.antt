@@ -5,9 +5,9 @@ use Rattle.std.proofs.lemmas.Bool.{eqb-true}
 use Rattle.line_format.specs.Shapes.{number_line}
 use Rattle.line_format.proofs.OneText.{parted, number_one, number_value, number_fits}
 use Rattle.line_format.proofs.Writes.{number_text, number_spelled}
-use Rattle.bus_profile.specs.declared.profile.Profile.{Profile}
+use Rattle.profile_types.specs.declared.profile.Profile.{Profile}
 use Rattle.bus_profile.specs.Read.{IsTree, Accepts}
-use Rattle.bus_profile.specs.Plain.{profile_of}
+use Rattle.bus_profile.specs.Gives.{profile_of}
 use Rattle.bus_profile.proofs.Faultless.{faultless_gives}
 use Rattle.bus_legal.specs.Description.{Description}
 use Rattle.bus_legal.specs.Meaning.{description_of}
@@ -21,7 +21,7 @@ use Rattle.bus_canon.specs.Canon.{version_field, is_read, canon, Text, AnyText}
 use Rattle.bus_canon.proofs.CanonLaws.{text_read, text_normal, normal_text, written_normal, value_one, text_one}
 use Rattle.rt1553.specs.Load.{is_canon_text, IsProfileText, OfBy, Reaches}
 use Rattle.rt1553.specs.Canon.{CanonIsItsOwn, OneCanon, OneDescription, HasCanon, AcceptedHaveCanon, CanonTextsHaveCanon, FaultlessHaveCanon}
-use Rattle.bus_legal.proofs.ProfileRanges.{accepted_in_range}
+use Rattle.rt1553.proofs.ProfileRanges.{accepted_in_range}
 
 -- ---- a canonical text begins as such
 

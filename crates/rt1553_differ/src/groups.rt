@@ -1,9 +1,8 @@
 //! Differences in groups, as people read them.
-use crate::names::mode_name;
-use crate::numbers::Numbers;
 use bus_canon::Difference;
 use bus_legal::{Legality, Normal};
-use bus_word::Cell;
+use bus_word::{Cell, mode_name};
+use profile_types::Numbers;
 use std::alloc::{AllocError, Global};
 use std::fmt;
 

@@ -4,8 +4,6 @@
 mod differing;
 mod explained;
 mod groups;
-mod names;
-mod numbers;
 mod scripts;
 mod table;
 mod told;
@@ -13,8 +11,6 @@ mod told;
 pub use differing::{DifferFault, differences};
 pub use explained::{Codes, Row, Settings, codes_of, row_of, settings_of};
 pub use groups::{Group, groups_of};
-pub use names::mode_name;
-pub use numbers::Numbers;
 pub use scripts::script_of;
 pub use table::{explain, explain_json};
 pub use told::{Pair, differ_json, differ_text};

@@ -2,10 +2,10 @@
 ghost use Rattle.std.specs.Prelude.{◌≤◌};
 
 use crate::explained::{Codes, Row, Settings, codes_of, row_of, settings_of};
-use crate::names::mode_name;
-use crate::numbers::Numbers;
 use bus_legal::Normal;
 use bus_word::mode::{BIT_WORD, DYNAMIC_BUS_CONTROL, VECTOR_WORD};
+use bus_word::mode_name;
+use profile_types::Numbers;
 use serde::Serialize;
 use std::alloc::{AllocError, Global};
 

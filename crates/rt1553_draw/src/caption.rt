@@ -1,7 +1,6 @@
 //! What the boxes of a drawing say, in three lines.
 use bus_terminal::Flag;
-use bus_word::Command;
-use rt1553_differ::mode_name;
+use bus_word::{Command, mode_name};
 use std::fmt;
 
 /// The bits of a status word that a terminal sets, with short names (MIL-STD-1553B, 4.3.3.5.3).

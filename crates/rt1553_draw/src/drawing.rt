@@ -7,7 +7,7 @@ use crate::shape::{
 use bus_legal::Normal;
 use bus_terminal::{Answer, Event, Hand, Sent, Terminal};
 use bus_word::{Bus, Kind, Raw};
-use rt1553_tool::{StatedFault, read_stated};
+use rt1553_verify::{StatedFault, read_stated};
 use std::alloc::{AllocError, Global};
 use thiserror::Error;
 

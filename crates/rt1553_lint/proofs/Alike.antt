@@ -1,7 +1,7 @@
 -- Profiles whose `Normal`s are equal have the same in reach.
 use Rattle.std.proofs.Common.{◌≡◌, ◌≤◌, ◌↔◌, ℕ, [], Bool, true, false, IsTrue, ap, ◌∙◌, sym}
-use Rattle.bus_profile.specs.declared.profile.Profile.{Profile}
-use Rattle.bus_profile.specs.OwnCodes.{has_required_codes}
+use Rattle.profile_types.specs.declared.profile.Profile.{Profile}
+use Rattle.profile_types.specs.OwnCodes.{has_required_codes}
 use Rattle.bus_legal.specs.Meaning.{description_of}
 use Rattle.bus_legal.specs.Reach.{reach}
 use Rattle.terminal_rules.specs.Out.{outs}

@@ -1,6 +1,6 @@
 //! Entries, keys and words of a profile that have no effect: without them the terminal answers alike for ever.
 ghost use Rattle.std.specs.Prelude.{◌≡◌, ◌<◌, ◌≤◌, ◌↔◌, ◌++◌, IsTrue, IfOk, length, take, drop, set, HoldsAt};
-ghost use Rattle.bus_profile.specs.OwnCodes.{has_required_codes, is_own_code_legal};
+ghost use Rattle.profile_types.specs.OwnCodes.{has_required_codes, is_own_code_legal};
 ghost use Rattle.bus_legal.specs.Meaning.{description_of};
 ghost use Rattle.terminal_rules.specs.Same.{Same};
 ghost use Rattle.rt1553_lint.specs.Without.{without, without_rule, without_mode, without_initial, without_setting, SparesWord, IsSpareMode, IsZeroed};

@@ -1,4 +1,2 @@
 pub mod Fields
-pub mod Heading
 pub mod Session
-pub mod Verify

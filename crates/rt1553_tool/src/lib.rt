@@ -1,13 +1,10 @@
-//! What people ask of a profile: whether a terminal answers as a script states, a profile in TOML that means the same
-//! terminal, a terminal that is played line by line, and words of a bus by their fields and by their digits.
+//! What people ask of a profile: a profile in TOML that means the same terminal, a terminal that is played line by line,
+//! and words of a bus by their fields and by their digits.
 #![tactic(auto)]
 
 mod fields;
-mod heading;
 mod profile_text;
 mod session;
-mod stated;
-mod verifying;
 mod word_lines;
 mod written;
 
@@ -15,9 +12,6 @@ pub use fields::{
     CommandFields, StatusFields, WordFields, command_bits, command_fields, status_bits,
     status_fields, word_with,
 };
-pub use heading::named;
 pub use profile_text::{TomlFault, toml_of};
 pub use session::{play, serve};
-pub use stated::{Stated, StatedFault, answers_in, read_stated};
-pub use verifying::{Difference, differences, verify};
 pub use word_lines::{WordFault, WordLine, answer_words, read_word_line};

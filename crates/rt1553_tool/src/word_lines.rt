@@ -6,8 +6,7 @@ ghost use Rattle.bus_word.specs.Word.{valid_word};
 use crate::fields::{
     CommandFields, StatusFields, WordFields, command_fields, status_fields, word_with,
 };
-use bus_word::{Kind, Raw, mode_row};
-use rt1553_differ::mode_name;
+use bus_word::{Kind, Raw, mode_name, mode_row};
 use std::alloc::Global;
 use std::fmt;
 use std::io::{self, BufRead, Write};

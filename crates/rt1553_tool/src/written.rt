@@ -1,6 +1,7 @@
 //! The text of a TOML profile.
 use bus_legal::{Normal, REQUIRED_CODES};
-use rt1553_differ::{Numbers, mode_name};
+use bus_word::mode_name;
+use profile_types::Numbers;
 use std::alloc::{AllocError, Global};
 use std::fmt;
 

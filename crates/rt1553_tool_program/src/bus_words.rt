@@ -3,7 +3,7 @@ use crate::fault::{DIFFERENT, Fault};
 use rt1553_tool::answer_words;
 use std::io::{BufReader, ErrorKind, Read, Write};
 
-/// Does what the word asks for, and gives the status to end with.
+/// Answers lines of words of the bus. The status tells whether all lines could be answered.
 pub fn bus_words<R: AllocGlobal, I: Read + Drop, W: Write>(
     rt: &R,
     input: I,

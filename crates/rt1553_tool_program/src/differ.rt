@@ -1,18 +1,20 @@
 //! The word `differ`: in what two profiles differ.
 use crate::fault::{DIFFERENT, Fault};
-use crate::files::{load_profile, put, word};
-use clap::ArgMatches;
+use crate::files::{load_profile, put};
 use rt1553_differ::{Pair, differ_json, differ_text, differences, groups_of};
 use std::io::Write;
 use std::rt::Files;
 
-/// Does what the word asks for, and gives the status to end with.
+/// Writes all in which the terminals of two profiles differ, with scripts that show it where they are asked for. The status
+/// tells whether they differ.
 pub fn differ<R: Files + AllocGlobal, W: Write>(
     rt: &R,
-    words: &ArgMatches<'_>,
+    first: &str,
+    second: &str,
+    scripts: bool,
+    as_json: bool,
     output: &mut W,
 ) -> Result<u8, Fault> {
-    let (first, second) = (word(words, "profile")?, word(words, "other")?);
     let p = load_profile(rt, first)?;
     let q = load_profile(rt, second)?;
     let found = differences(rt.alloc(), &p, &q)?;
@@ -23,8 +25,7 @@ pub fn differ<R: Files + AllocGlobal, W: Write>(
         first,
         second,
     };
-    let scripts = words.get_flag("scripts");
-    if words.get_str("format") == Some("json") {
+    if as_json {
         let Some(text) = differ_json(rt.alloc(), &pair, groups.as_slice(), scripts) else {
             return Err(Fault::Memory);
         };

@@ -1,8 +1,7 @@
 //! The word `draw`: a run as a drawing.
 use crate::fault::Fault;
-use crate::files::{load_profile, owned, put, read_script_file, word};
+use crate::files::{load_profile, owned, put, read_script_file};
 use bus_legal::Normal;
-use clap::ArgMatches;
 use rt1553_differ::explain;
 use rt1553_draw::{draw as drawing_of, page_of};
 use std::io::Write;
@@ -17,16 +16,17 @@ fn draw_file<R: Files + AllocGlobal>(rt: &R, normal: &Normal, name: &str) -> Res
     }
 }
 
-/// Does what the word asks for, and gives the status to end with.
+/// Writes the drawing of a run; as a page of its own where `html` asks for it. The status is 0.
 pub fn draw<R: Files + AllocGlobal, W: Write>(
     rt: &R,
-    words: &ArgMatches<'_>,
+    profile: &str,
+    script: &str,
+    html: bool,
     output: &mut W,
 ) -> Result<u8, Fault> {
-    let (profile, script) = (word(words, "profile")?, word(words, "script")?);
     let normal = load_profile(rt, profile)?;
     let drawing = draw_file(rt, &normal, script)?;
-    if words.get_flag("html") {
+    if html {
         let title = format!(in rt.alloc(); "{profile}: {script}")?;
         let table = explain(rt.alloc(), &normal)?;
         let page = page_of(rt.alloc(), title.as_str(), drawing.as_str(), table.as_str())?;

@@ -1,19 +1,19 @@
 //! The word `explain`: what a profile means, as a table.
 use crate::fault::Fault;
-use crate::files::{load_profile, put, word};
-use clap::ArgMatches;
+use crate::files::{load_profile, put};
 use rt1553_differ::{explain as text_of, explain_json};
 use std::io::Write;
 use std::rt::Files;
 
-/// Does what the word asks for, and gives the status to end with.
+/// Writes what the terminal of a profile does, as a table. The status is 0.
 pub fn explain<R: Files + AllocGlobal, W: Write>(
     rt: &R,
-    words: &ArgMatches<'_>,
+    profile: &str,
+    as_json: bool,
     output: &mut W,
 ) -> Result<u8, Fault> {
-    let normal = load_profile(rt, word(words, "profile")?)?;
-    if words.get_str("format") == Some("json") {
+    let normal = load_profile(rt, profile)?;
+    if as_json {
         let Some(text) = explain_json(rt.alloc(), &normal) else {
             return Err(Fault::Memory);
         };

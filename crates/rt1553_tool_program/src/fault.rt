@@ -2,7 +2,9 @@
 use rt1553::LoadFault;
 use rt1553_differ::DifferFault;
 use rt1553_draw::DrawFault;
-use rt1553_tool::{StatedFault, TomlFault};
+use rt1553_tool::TomlFault;
+use rt1553_tool_words::USAGE;
+use rt1553_verify::StatedFault;
 use std::alloc::{AllocError, AllocFailed};
 use std::fmt;
 
@@ -11,9 +13,6 @@ pub const DIFFERENT: u8 = 1;
 
 /// The status of a text that is refused.
 pub const REFUSED: u8 = 2;
-
-/// The status of words that the program doesn't take.
-pub const USAGE: u8 = 3;
 
 /// Why the program ends early. A text is the name of a file.
 #[derive(Debug, Drop)]

@@ -1,9 +1,8 @@
-//! Files that are read whole, and what the words of all modules need.
+//! Files that are read whole, and what all commands need.
 ghost use Rattle.std.specs.Prelude.{◌≤◌};
 
 use crate::fault::Fault;
 use bus_legal::Normal;
-use clap::ArgMatches;
 use rt1553::load;
 use std::fs;
 use std::io::{ErrorKind, Read, Write};
@@ -63,14 +62,6 @@ pub fn load_profile<R: Files + AllocGlobal>(rt: &R, name: &str) -> Result<Normal
     match load(rt.alloc(), bytes.as_slice()) {
         Ok(normal) => Ok(normal),
         Err(fault) => Err(Fault::Profile(owned(rt, name)?, fault)),
-    }
-}
-
-/// A word of the command line that has to be there.
-pub fn word<'a>(words: &ArgMatches<'a>, id: &str) -> Result<&'a str, Fault> {
-    match words.get_str(id) {
-        Some(word) => Ok(word),
-        None => Err(Fault::Usage),
     }
 }
 

@@ -1,7 +1,6 @@
 //! The word `lint`: all that is wrong with profiles, and what in them has no effect.
 use crate::fault::{DIFFERENT, Fault, REFUSED};
 use crate::files::{put, read_profile_file};
-use clap::ArgMatches;
 use rt1553_lint::{Finding, lint as findings_of};
 use std::io::Write;
 use std::rt::Files;
@@ -49,16 +48,13 @@ fn lint_file<R: Files + AllocGlobal, W: Write>(
     Ok(status)
 }
 
-/// Does what the word asks for, and gives the status to end with: the highest that a file asks for.
+/// Writes what is found in files. The status is the highest that a file asks for.
 pub fn lint<R: Files + AllocGlobal + Eprint, W: Write>(
     rt: &R,
-    words: &ArgMatches<'_>,
+    names: &[&str],
+    as_json: bool,
     output: &mut W,
 ) -> Result<u8, Fault> {
-    let Some(names) = words.get_strs("file") else {
-        return Err(Fault::Usage);
-    };
-    let as_json = words.get_str("format") == Some("json");
     let mut status = 0;
     for name in names {
         let of_file = match lint_file(rt, name, as_json, output) {

@@ -1,20 +1,19 @@
 //! The word `live`: lines are played as they come.
 use crate::fault::Fault;
-use crate::files::{load_profile, word};
+use crate::files::load_profile;
 use bus_terminal::Terminal;
-use clap::ArgMatches;
 use rt1553_tool::serve;
 use std::io::{BufReader, ErrorKind, Read, Write};
 use std::rt::Files;
 
-/// Does what the word asks for, and gives the status to end with.
+/// Plays lines to the terminal of a profile as they come. The status is 0.
 pub fn live<R: Files + AllocGlobal, I: Read + Drop, W: Write>(
     rt: &R,
-    words: &ArgMatches<'_>,
+    profile: &str,
     input: I,
     output: &mut W,
 ) -> Result<u8, Fault> {
-    let normal = load_profile(rt, word(words, "profile")?)?;
+    let normal = load_profile(rt, profile)?;
     let terminal = Terminal::power_up(normal.setup(), normal);
     let Ok(reader) = BufReader::new(rt.alloc(), input) else {
         return Err(Fault::Memory);

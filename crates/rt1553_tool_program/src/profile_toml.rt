@@ -1,18 +1,17 @@
 //! The word `toml`: a small profile that means the same terminal.
 use crate::fault::Fault;
-use crate::files::{load_profile, put, word};
-use clap::ArgMatches;
+use crate::files::{load_profile, put};
 use rt1553_tool::toml_of;
 use std::io::Write;
 use std::rt::Files;
 
-/// Does what the word asks for, and gives the status to end with.
+/// Writes a small profile that means the same terminal. The status is 0.
 pub fn toml<R: Files + AllocGlobal, W: Write>(
     rt: &R,
-    words: &ArgMatches<'_>,
+    profile: &str,
     output: &mut W,
 ) -> Result<u8, Fault> {
-    let normal = load_profile(rt, word(words, "profile")?)?;
+    let normal = load_profile(rt, profile)?;
     match toml_of(rt.alloc(), &normal) {
         Ok(text) => {
             put(output, text.as_str().as_bytes())?;

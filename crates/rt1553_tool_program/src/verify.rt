@@ -3,22 +3,22 @@ use crate::fault::{DIFFERENT, Fault};
 use crate::files::{load_profile, owned, put, read_script_file};
 use crate::summary::Summary;
 use bus_legal::Normal;
-use clap::ArgMatches;
-use rt1553_tool::{Difference, answers_in, differences, named, read_stated};
+use rt1553_tool_words::Profiles;
+use rt1553_verify::{Difference, answers_in, differences, named, read_stated};
 use std::io::Write;
 use std::rt::Files;
 use std::{fmt, format};
 
 /// Which terminal a script is played to.
 #[derive(Drop)]
-enum Profiles<'a> {
+enum Played<'a> {
     /// All scripts to one.
     One(Normal),
     /// Each to that of the file of this folder that its line `# Profile: ` names.
     Folder(&'a str),
 }
 
-impl Profiles<'_> {
+impl Played<'_> {
     /// Gives what can be reached of the terminal that a script is played to.
     fn of_script<R: Files + AllocGlobal>(
         &self,
@@ -27,8 +27,8 @@ impl Profiles<'_> {
         script: &[u8],
     ) -> Result<Normal, Fault> {
         let folder = match self {
-            Profiles::One(normal) => return Ok(*normal),
-            Profiles::Folder(folder) => folder,
+            Played::One(normal) => return Ok(*normal),
+            Played::Folder(folder) => folder,
         };
         let profile = match named(script, b"# Profile: ") {
             Some(profile) => str::from_utf8(profile),
@@ -72,13 +72,13 @@ fn put_difference<W: Write>(
 /// Plays a script, writes where it differs, or, where it is asked for, that it passes, and gives whether it does.
 fn play<R: Files + AllocGlobal, W: Write>(
     rt: &R,
-    profiles: &Profiles<'_>,
+    played: &Played<'_>,
     name: &str,
     script: &[u8],
     each: bool,
     output: &mut W,
 ) -> Result<bool, Fault> {
-    let normal = profiles.of_script(rt, name, script)?;
+    let normal = played.of_script(rt, name, script)?;
     let stated = match read_stated(rt.alloc(), script) {
         Ok(stated) => stated,
         Err(fault) => return Err(Fault::Script(owned(rt, name)?, fault)),
@@ -113,7 +113,7 @@ fn clauses_of(script: &[u8]) -> &[u8] {
 /// Plays a script of a file, keeps in the summary whether it passes, and gives that.
 fn play_file<R: Files + AllocGlobal, W: Write>(
     rt: &R,
-    profiles: &Profiles<'_>,
+    played: &Played<'_>,
     name: &str,
     each: bool,
     summary: &mut Summary,
@@ -126,7 +126,7 @@ fn play_file<R: Files + AllocGlobal, W: Write>(
             return Err(fault);
         }
     };
-    let outcome = play(rt, profiles, name, script.as_slice(), each, output);
+    let outcome = play(rt, played, name, script.as_slice(), each, output);
     let passes = match &outcome {
         Ok(passes) => *passes,
         Err(_) => false,
@@ -138,7 +138,7 @@ fn play_file<R: Files + AllocGlobal, W: Write>(
 /// Plays scripts of files, and gives the status to end with.
 fn play_files<R: Files + AllocGlobal + Eprint, W: Write>(
     rt: &R,
-    profiles: &Profiles<'_>,
+    played: &Played<'_>,
     names: &[&str],
     each: bool,
     output: &mut W,
@@ -146,7 +146,7 @@ fn play_files<R: Files + AllocGlobal + Eprint, W: Write>(
     let mut summary = Summary::new(rt.alloc());
     let mut status = 0;
     for name in names {
-        let of_script = match play_file(rt, profiles, name, each, &mut summary, output) {
+        let of_script = match play_file(rt, played, name, each, &mut summary, output) {
             Ok(true) => 0,
             Ok(false) => DIFFERENT,
             // the other scripts are played all the same
@@ -165,33 +165,18 @@ fn play_files<R: Files + AllocGlobal + Eprint, W: Write>(
     Ok(status)
 }
 
-/// Does what the word asks for, and gives the status to end with. With a folder of profiles no profile stands before the
-/// scripts.
+/// Plays scripts that state their answers and writes where they differ; with `summary` also what passes, clause by clause.
+/// The status is the highest that a script asks for.
 pub fn verify<R: Files + AllocGlobal + Eprint, W: Write>(
     rt: &R,
-    words: &ArgMatches<'_>,
+    profiles: Profiles<'_>,
+    scripts: &[&str],
+    summary: bool,
     output: &mut W,
 ) -> Result<u8, Fault> {
-    let each = words.get_flag("summary");
-    let mut names = Vec::new(rt.alloc());
-    let first = words.get_str("profile");
-    let profiles = match words.get_str("profiles") {
-        Some(folder) => {
-            if let Some(name) = first {
-                names.push(name)?;
-            }
-            Profiles::Folder(folder)
-        }
-        None => match first {
-            Some(name) => Profiles::One(load_profile(rt, name)?),
-            None => return Err(Fault::Usage),
-        },
+    let played = match profiles {
+        Profiles::One(name) => Played::One(load_profile(rt, name)?),
+        Profiles::Folder(folder) => Played::Folder(folder),
     };
-    if let Some(more) = words.get_strs("script") {
-        names.extend_from_slice(more)?;
-    }
-    if names.is_empty() {
-        return Err(Fault::Usage);
-    }
-    play_files(rt, &profiles, names.as_slice(), each, output)
+    play_files(rt, &played, scripts, summary, output)
 }

@@ -3,36 +3,45 @@ use crate::bus_words::bus_words;
 use crate::differ::differ;
 use crate::draw::draw;
 use crate::explain::explain;
-use crate::fault::{Fault, USAGE};
+use crate::fault::Fault;
 use crate::lint::lint;
 use crate::live::live;
 use crate::profile_toml::toml;
 use crate::verify::verify;
-use clap::ArgMatches;
-use rt1553_tool_words::command;
+use rt1553_tool_words::{Ended, Job, read_words};
 use std::env;
 use std::io::{ErrorKind, Read, Write};
 use std::rt::{Env, Files};
 
-/// Does what the words ask for, and gives the status to end with.
-fn do_words<R: Files + AllocGlobal + Eprint, I: Read + Drop, W: Write>(
+/// Does what is asked for, and gives the status to end with.
+fn do_job<R: Files + AllocGlobal + Eprint, I: Read + Drop, W: Write>(
     rt: &R,
-    matches: &ArgMatches<'_>,
+    job: &Job<'_>,
     input: I,
     output: &mut W,
 ) -> Result<u8, Fault> {
-    let Some((name, words)) = matches.subcommand() else {
-        return Err(Fault::Usage);
-    };
-    match name {
-        "lint" => lint(rt, words, output),
-        "verify" => verify(rt, words, output),
-        "toml" => toml(rt, words, output),
-        "explain" => explain(rt, words, output),
-        "differ" => differ(rt, words, output),
-        "draw" => draw(rt, words, output),
-        "words" => bus_words(rt, input, output),
-        _ => live(rt, words, input, output),
+    match job {
+        Job::Lint { files, as_json } => lint(rt, files.as_slice(), *as_json, output),
+        Job::Verify {
+            profiles,
+            scripts,
+            summary,
+        } => verify(rt, *profiles, scripts.as_slice(), *summary, output),
+        Job::Toml(profile) => toml(rt, profile, output),
+        Job::Explain { profile, as_json } => explain(rt, profile, *as_json, output),
+        Job::Differ {
+            profile,
+            other,
+            scripts,
+            as_json,
+        } => differ(rt, profile, other, *scripts, *as_json, output),
+        Job::Draw {
+            profile,
+            script,
+            html,
+        } => draw(rt, profile, script, *html, output),
+        Job::Words => bus_words(rt, input, output),
+        Job::Live(profile) => live(rt, profile, input, output),
     }
 }
 
@@ -50,13 +59,11 @@ pub fn work<R: Env + Files + AllocGlobal + Print + Eprint, I: Read + Drop, O: Wr
         },
     };
     let words: Vec<String> = words.collect(rt.alloc())?;
-    match command(rt.alloc())?.try_get_matches_from(words.as_slice()) {
-        Ok(matches) => do_words(rt, &matches, input, &mut output),
-        Err(error) => {
-            if error.print(rt).is_err() {
-                return Err(Fault::Output);
-            }
-            Ok(if error.use_stderr() { USAGE } else { 0 })
-        }
+    match read_words(rt, words.as_slice()) {
+        Ok(job) => do_job(rt, &job, input, &mut output),
+        Err(Ended::Said(status)) => Ok(status),
+        Err(Ended::Output) => Err(Fault::Output),
+        Err(Ended::Usage) => Err(Fault::Usage),
+        Err(Ended::Memory) => Err(Fault::Memory),
     }
 }

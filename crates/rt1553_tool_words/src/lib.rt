@@ -1,6 +1,9 @@
-//! The words of the command line of `rt1553-tool`, with their help, as clap takes them.
+//! The command line of `rt1553-tool`, read by clap into what it asks for.
 #![tactic(auto)]
 
+mod job;
+mod table;
 mod words;
 
-pub use words::command;
+pub use job::{Job, Profiles};
+pub use words::{Ended, USAGE, read_words};

@@ -14,7 +14,7 @@ use crate::initial::put_initial;
 use crate::masks::largest_count;
 use crate::setup::Setup;
 use crate::tables::Tables;
-use bus_profile::Profile;
+use profile_types::Profile;
 use bus_word::has_bit;
 use bus_word::mode::{BIT_WORD, DYNAMIC_BUS_CONTROL, VECTOR_WORD};
 

@@ -2,8 +2,8 @@
 use Rattle.std.specs.Prelude.{ℕ, not, List, [], ◌∷◌, Option}
 use Rattle.std.specs.List.{find}
 use Rattle.bus_word.specs.Mode.{transmit_status, shutdown, override_shutdown, reset}
-use Rattle.bus_profile.specs.declared.entries.ModeRule.{ModeRule}
-use Rattle.bus_profile.specs.OwnCodes.{is_own_code_legal}
+use Rattle.profile_types.specs.declared.entries.ModeRule.{ModeRule}
+use Rattle.profile_types.specs.OwnCodes.{is_own_code_legal}
 
 -- the own codes that must be legal
 abbrev pub required_codes : List ℕ

@@ -2,7 +2,8 @@ use Rattle.std.proofs.Common.{◌≡◌, ◌+◌, ◌++◌, length, drop, map}
 use Rattle.toml.specs.View.{items_view}
 use Rattle.bus_profile.specs.inner.FirstFault.{fault_of_parts}
 use Rattle.bus_profile.specs.Faults.{initial_checks, each_item}
-use Rattle.bus_profile.specs.Plain.{plain_initial, initial_in, each_of}
+use Rattle.profile_types.specs.Plain.{plain_initial}
+use Rattle.bus_profile.specs.Gives.{initial_in, each_of}
 use Rattle.bus_profile.proofs.initial.initials_of.Given as goal
 
 -- what is left gives the fault of all, and the rest of the entries

@@ -2,7 +2,7 @@ use Rattle.std.proofs.Common.{length, ◌≡◌, ◌+◌, ◌++◌, take, drop}
 use Rattle.toml.specs.View.{items_view}
 use Rattle.bus_profile.specs.inner.FirstFault.{fault_of_parts}
 use Rattle.bus_profile.specs.Faults.{word_checks, each_item}
-use Rattle.bus_profile.specs.Plain.{word_in, each_of}
+use Rattle.bus_profile.specs.Gives.{word_in, each_of}
 use Rattle.bus_profile.proofs.initial.words_of.Given as goal
 
 -- what is left gives the fault of all, and the rest of the words

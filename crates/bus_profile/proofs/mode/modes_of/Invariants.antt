@@ -2,7 +2,7 @@ use Rattle.std.proofs.Common.{◌≡◌, ◌+◌, ◌++◌, length, drop}
 use Rattle.toml.specs.View.{items_view}
 use Rattle.bus_profile.specs.inner.FirstFault.{fault_of_parts}
 use Rattle.bus_profile.specs.Faults.{mode_checks, each_item}
-use Rattle.bus_profile.specs.Plain.{mode_in, each_of}
+use Rattle.bus_profile.specs.Gives.{mode_in, each_of}
 use Rattle.bus_profile.proofs.mode.modes_of.Given as goal
 
 -- what is left gives the fault of all, and the rest of the entries

@@ -1,0 +1,82 @@
+-- What a tree without faults gives: a profile in plain values.
+use Rattle.std.specs.Prelude.{ℕ, Bool, ◌||◌, List, [], ◌∷◌, Some, codes}
+use Rattle.std.specs.Str.{bytes_eq}
+use Rattle.toml.specs.Data.{Data, table, Items, no_items, item, Members, no_members}
+use Rattle.profile_types.specs.declared.entries.ModeRule.{ModeRule}
+use Rattle.profile_types.specs.Plain.{PlainRule, PlainInitial, PlainProfile}
+use Rattle.bus_profile.specs.Keys.{address_row, broadcast_row, wraparound_row, accept_row, vector_row, bit_row, rule_row, mode_row, initial_row, to_row, direction_row, subaddresses_row, counts_row, legal_row, codes_row, subaddress_row, at_row, words_row}
+use Rattle.bus_profile.specs.Kinds.{value, number, truth_value, wrap_value, text, set_from, items}
+
+-- the text is this one, or "both"
+abbrev pub says : List ℕ → List ℕ → Bool
+says wanted s = bytes_eq s wanted || bytes_eq s (codes "both")
+
+-- what each item of an array gives
+abbrev pub each_of : {A : Type 0} → (Data → A) → Items → List A
+each_of f no_items = []
+each_of f (item d ds) = f d ∷ each_of f ds
+
+-- the keys of an entry
+abbrev pub members : Data → Members
+members (table ms) = ms
+members _ = no_members
+
+abbrev pub rule_from : Members → PlainRule
+rule_from ms = record {
+  own = says (codes "own") (text (value to_row ms));
+  broadcast = says (codes "broadcast") (text (value to_row ms));
+  receive = says (codes "receive") (text (value direction_row ms));
+  transmit = says (codes "transmit") (text (value direction_row ms));
+  subaddresses = set_from 1 30 (value subaddresses_row ms);
+  counts = set_from 1 32 (value counts_row ms);
+  legal = truth_value (value legal_row ms);
+}
+
+abbrev pub mode_from : Members → ModeRule
+mode_from ms = record {
+  own = says (codes "own") (text (value to_row ms));
+  broadcast = says (codes "broadcast") (text (value to_row ms));
+  codes = set_from 0 31 (value codes_row ms);
+  legal = truth_value (value legal_row ms);
+}
+
+abbrev pub word_in : Data → ℕ
+word_in d = number (Some d)
+
+abbrev pub initial_from : Members → PlainInitial
+initial_from ms = record {
+  subaddress = number (value subaddress_row ms);
+  first = number (value at_row ms);
+  words = each_of word_in (items (value words_row ms));
+}
+
+abbrev pub rule_in : Data → PlainRule
+rule_in d = rule_from (members d)
+
+abbrev pub rules_of : Members → List PlainRule
+rules_of ms = each_of rule_in (items (value rule_row ms))
+
+abbrev pub mode_in : Data → ModeRule
+mode_in d = mode_from (members d)
+
+abbrev pub modes_of : Members → List ModeRule
+modes_of ms = each_of mode_in (items (value mode_row ms))
+
+abbrev pub initial_in : Data → PlainInitial
+initial_in d = initial_from (members d)
+
+abbrev pub initials_of : Members → List PlainInitial
+initials_of ms = each_of initial_in (items (value initial_row ms))
+
+abbrev pub profile_of : Members → PlainProfile
+profile_of ms = record {
+  address = number (value address_row ms);
+  broadcast = truth_value (value broadcast_row ms);
+  wrap = wrap_value (value wraparound_row ms);
+  accept = truth_value (value accept_row ms);
+  vector = number (value vector_row ms);
+  bit = number (value bit_row ms);
+  rules = rules_of ms;
+  modes = modes_of ms;
+  initials = initials_of ms;
+}

@@ -1,0 +1,44 @@
+-- A profile in plain values, apart from how the code keeps it.
+use Rattle.std.specs.Prelude.{ℕ, Bool, List, map, take}
+use Rattle.profile_types.specs.declared.entries.Rule.{Rule}
+use Rattle.profile_types.specs.declared.entries.ModeRule.{ModeRule}
+use Rattle.profile_types.specs.declared.entries.InitialWords.{InitialWords}
+use Rattle.profile_types.specs.declared.profile.Profile.{Profile}
+
+pub record PlainRule : Type 0 where
+  pub own : Bool
+  pub broadcast : Bool
+  pub receive : Bool
+  pub transmit : Bool
+  pub subaddresses : ℕ
+  pub counts : ℕ
+  pub legal : Bool
+
+-- words that a subaddress holds from number `first` on
+pub record PlainInitial : Type 0 where
+  pub subaddress : ℕ
+  pub first : ℕ
+  pub words : List ℕ
+
+pub record PlainProfile : Type 0 where
+  pub address : ℕ
+  pub broadcast : Bool
+  pub wrap : ℕ
+  pub accept : Bool
+  pub vector : ℕ
+  pub bit : ℕ
+  pub rules : List PlainRule
+  pub modes : List ModeRule
+  pub initials : List PlainInitial
+
+-- ---- what the code keeps, as plain values
+
+abbrev pub plain_rule : Rule → PlainRule
+plain_rule r = record { own = r.own; broadcast = r.broadcast; receive = r.receive; transmit = r.transmit; subaddresses = r.subaddresses; counts = r.counts; legal = r.legal }
+
+-- of the words the first `len` count
+abbrev pub plain_initial : InitialWords → PlainInitial
+plain_initial i = record { subaddress = i.subaddress; first = i.first; words = take i.len i.words }
+
+abbrev pub plain : Profile → PlainProfile
+plain p = record { address = p.address; broadcast = p.broadcast; wrap = p.wrap; accept = p.accept; vector = p.vector; bit = p.bit; rules = map plain_rule p.rules; modes = p.modes; initials = map plain_initial p.initials }

@@ -1,3 +1,0 @@
-pub mod StatedLaws
-pub mod VerifyLaws
-pub mod HeadingLaws

@@ -1,0 +1,130 @@
+//! What the command line asks for.
+use crate::words::Ended;
+use clap::ArgMatches;
+use std::alloc::Global;
+
+/// Which terminal the scripts of `verify` are played to.
+#[derive(Clone, Copy, Debug, PartialEq, Eq)]
+pub enum Profiles<'a> {
+    /// All to that of this file.
+    One(&'a str),
+    /// Each to that of the file of this folder that its line `# Profile: ` names.
+    Folder(&'a str),
+}
+
+/// What the command line asks for. The texts are names of files.
+#[derive(Debug, Drop)]
+pub enum Job<'a> {
+    /// All that is wrong with profiles, and what in them has no effect.
+    Lint { files: Vec<&'a str>, as_json: bool },
+    /// Where terminals don't answer as scripts state.
+    Verify {
+        profiles: Profiles<'a>,
+        scripts: Vec<&'a str>,
+        summary: bool,
+    },
+    /// A small profile that means the same terminal.
+    Toml(&'a str),
+    /// What a terminal does, as a table.
+    Explain { profile: &'a str, as_json: bool },
+    /// All in which two terminals differ.
+    Differ {
+        profile: &'a str,
+        other: &'a str,
+        scripts: bool,
+        as_json: bool,
+    },
+    /// A run as a drawing.
+    Draw {
+        profile: &'a str,
+        script: &'a str,
+        html: bool,
+    },
+    /// Words of the bus by their fields, and fields by words.
+    Words,
+    /// Lines played as they come.
+    Live(&'a str),
+}
+
+/// The value of an argument that has to be there.
+fn text<'a>(given: &ArgMatches<'a>, id: &str) -> Result<&'a str, Ended> {
+    given.get_str(id).ok_or(Ended::Usage)
+}
+
+/// The values of an argument; none where it is left out.
+fn texts<'a>(alloc: Global, given: &ArgMatches<'a>, id: &str) -> Result<Vec<&'a str>, Ended> {
+    match given.get_strs(id) {
+        Some(values) => Ok(Vec::from_slice(alloc, values)?),
+        None => Ok(Vec::new(alloc)),
+    }
+}
+
+/// Whether JSON is asked for.
+fn as_json(given: &ArgMatches<'_>) -> bool {
+    given.get_str("format") == Some("json")
+}
+
+/// What `verify` is asked for. With a folder of profiles no profile stands before the scripts.
+fn verify<'a>(alloc: Global, given: &ArgMatches<'a>) -> Result<Job<'a>, Ended> {
+    let mut scripts = texts(alloc, given, "script")?;
+    let profiles = match given.get_str("profiles") {
+        Some(folder) => {
+            if let Some(first) = given.get_str("profile") {
+                scripts.insert(0, first)?;
+            }
+            Profiles::Folder(folder)
+        }
+        None => Profiles::One(text(given, "profile")?),
+    };
+    if scripts.is_empty() {
+        return Err(Ended::Usage);
+    }
+    Ok(Job::Verify {
+        profiles,
+        scripts,
+        summary: given.get_flag("summary"),
+    })
+}
+
+/// What `differ` is asked for.
+fn differ<'a>(given: &ArgMatches<'a>) -> Result<Job<'a>, Ended> {
+    Ok(Job::Differ {
+        profile: text(given, "profile")?,
+        other: text(given, "other")?,
+        scripts: given.get_flag("scripts"),
+        as_json: as_json(given),
+    })
+}
+
+/// What `draw` is asked for.
+fn draw<'a>(given: &ArgMatches<'a>) -> Result<Job<'a>, Ended> {
+    Ok(Job::Draw {
+        profile: text(given, "profile")?,
+        script: text(given, "script")?,
+        html: given.get_flag("html"),
+    })
+}
+
+/// What is asked for by arguments that clap found no fault with.
+pub fn job_of<'a>(alloc: Global, matches: &ArgMatches<'a>) -> Result<Job<'a>, Ended> {
+    let Some((name, given)) = matches.subcommand() else {
+        return Err(Ended::Usage);
+    };
+    match name {
+        "lint" => Ok(Job::Lint {
+            files: texts(alloc, given, "file")?,
+            as_json: as_json(given),
+        }),
+        "verify" => verify(alloc, given),
+        "toml" => Ok(Job::Toml(text(given, "profile")?)),
+        "explain" => Ok(Job::Explain {
+            profile: text(given, "profile")?,
+            as_json: as_json(given),
+        }),
+        "differ" => differ(given),
+        "draw" => draw(given),
+        "words" => Ok(Job::Words),
+        "live" => Ok(Job::Live(text(given, "profile")?)),
+        _ => Err(Ended::Usage),
+    }
+}

@@ -1,0 +1,3 @@
+pub mod HeadingLaws
+pub mod StatedLaws
+pub mod VerifyLaws

@@ -1,0 +1,10 @@
+//! Scripts that state their answers: read, played to a terminal, and what differs told.
+#![tactic(auto)]
+
+mod heading;
+mod stated;
+mod verifying;
+
+pub use heading::named;
+pub use stated::{Stated, StatedFault, answers_in, read_stated};
+pub use verifying::{Difference, differences, verify};
