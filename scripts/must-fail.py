@@ -1,11 +1,15 @@
 #!/usr/bin/env python3
 """Tries the must-fail edits of the crates, many of them in one check.
 
-    scripts/must-fail.py [--beside LOG] BUILT [NAME..]
+    scripts/must-fail.py [--anew] [--beside LOG] BUILT [NAME..]
 
 BUILT is a copy of this repository in which `rt ci` or `rt all check` has passed, or this one; the libraries
 are taken from there. Or `rt ci` is still at work there, and LOG is the file of what it prints: then a crate's turn comes
 when what it stands on is proved. With no NAME the edits of all crates are tried. The last line is 'N passed, M failed'.
+
+A refusal is kept outside the checkout, in ~/.cache/rt1553/refused, by a sum of all that it depends on: the edit, the
+crate and the crates below it with their lines of crates.txt, this script and the toolchain. An edit of which one is kept is not
+tried again; with --anew each edit is. Nothing else is kept: an edit that was not refused is tried each time.
 
 `rt must-fail` checks the crate once for each edit, and most of that time goes into reading the libraries and
 proving the same functions again. Here one check has all wrong bodies of a crate, each in a copy of its function:
@@ -31,6 +35,7 @@ An edit of a crate's must-not-compile/ is one that the compiler must refuse befo
 with a line `error: NAME`, and the check must tell one error, of that name.
 """
 import argparse
+import hashlib
 import os
 import re
 import shutil
@@ -101,10 +106,11 @@ class Function(NamedTuple):
 
 
 class Edit(NamedTuple):
-    """An edit: the files as it leaves them, or why it can't be applied. Where it changes one body: which, and to what.
-    Where the compiler must refuse it: the name of the error."""
+    """An edit: its own text, the files as it leaves them, or why it can't be applied. Where it changes one body: which, and
+    to what. Where the compiler must refuse it: the name of the error."""
 
     label: str
+    text: str
     texts: dict
     fault: str
     function: Optional[Function]
@@ -233,11 +239,51 @@ class Answer:
         return [said for it in self.functions if self.is_refused and (said := self.refusal(it))]
 
 
+def files_below(folder):
+    """The files below a folder, in order."""
+    return sorted(f"{at}/{it}" for at, _, files in os.walk(folder) for it in files)
+
+
+class Refused:
+    """The edits that were refused before, each as an empty file named by the sum of all that the refusal depends on."""
+
+    def __init__(self, deps, kit, anew):
+        self.deps, self.anew, self.sums = deps, anew, {}
+        self.folder = Path(os.environ.get("XDG_CACHE_HOME") or Path.home() / ".cache") / "rt1553" / "refused"
+        # of the toolchain its name, and the size and the time of each file that a check reads
+        files = [it for part in ("bin", "logic_built", "rlibs", "toolchain") for it in files_below(f"{kit}/{part}")]
+        stats = [(it, found.st_size, found.st_mtime_ns) for it in files for found in [os.stat(it)]]
+        self.base = (subprocess.check_output(["rt", "version"], text=True), stats, read(__file__))
+
+    def sum_of(self, name):
+        """The sum of a crate's text and of all that is below it."""
+        if name not in self.sums:
+            files = [it for part in PARTS for it in files_below(f"{TOP}/crates/{name}/{part}")]
+            own = [(os.path.relpath(it, TOP), read(it)) for it in files]
+            below = [self.sum_of(it) for it in self.deps[name] if it in self.deps]
+            whole = repr((self.base, name, self.deps[name], own, below))
+            self.sums[name] = hashlib.sha256(whole.encode()).hexdigest()
+        return self.sums[name]
+
+    def place(self, crate, edit):
+        """The file that stands where this edit of the crate was refused."""
+        return self.folder / hashlib.sha256(repr((self.sum_of(crate), edit.label, edit.text)).encode()).hexdigest()
+
+    def has(self, crate, edit):
+        """Whether the edit was refused before."""
+        return not self.anew and self.place(crate, edit).is_file()
+
+    def keep(self, crate, edit):
+        """Keeps that the edit was refused."""
+        self.folder.mkdir(parents=True, exist_ok=True)
+        self.place(crate, edit).touch()
+
+
 class Crate:
     """A crate, its edits, and a room in which the prover keeps what it checked from one check to the next."""
 
-    def __init__(self, name, deps, built, kit, room):
-        self.name, self.deps, self.built, self.kit, self.room = name, deps, built, kit, room
+    def __init__(self, name, deps, built, kit, room, refused):
+        self.name, self.deps, self.built, self.kit, self.room, self.refused = name, deps, built, kit, room, refused
         # how many checks there were so far
         self.checks = 0
         self.folder = f"{TOP}/crates/{name}"
@@ -254,7 +300,7 @@ class Crate:
         text = read(path)
         texts, fault = applied(text, self.folder)
         error = text.split("\n")[0].removeprefix("error: ") if "/must-not-compile/" in path else ""
-        return Edit(f"{self.name}/{os.path.basename(path)}", texts, fault, *changed_body(texts, self.folder), error)
+        return Edit(f"{self.name}/{os.path.basename(path)}", text, texts, fault, *changed_body(texts, self.folder), error)
 
     def size(self):
         """How many bytes the crate has: how long its checks take, roughly."""
@@ -387,10 +433,13 @@ class Crate:
 
     def tried(self):
         """Each edit's label, whether it is refused, and why."""
-        bodies = [it for it in self.edits if it.function and not it.error]
+        kept = {it.label for it in self.edits if self.refused.has(self.name, it)}
+        bodies = [it for it in self.edits if it.function and not it.error and it.label not in kept]
         refused = self.tried_together(bodies) if bodies else {}
         for it in self.edits:
-            if it.fault:
+            if it.label in kept:
+                yield it.label, True, "kept from an earlier run over the same files"
+            elif it.fault:
                 yield it.label, False, f"BAD EDIT: {it.fault}"
             elif it.error:
                 yield it.label, *self.not_compiled(it)
@@ -404,7 +453,9 @@ def tried(crate):
     """Tries the edits of a crate and prints a line for each. Returns how many were refused, and how many were not."""
     began = time.monotonic()
     lines = list(crate.tried())
-    for label, is_refused, why in lines:
+    for edit, (label, is_refused, why) in zip(crate.edits, lines):
+        if is_refused:
+            crate.refused.keep(crate.name, edit)
         print(f"must-fail {label}: {'refused: ' if is_refused else ''}{why[:240]}", flush=True)
     print(f"note: {crate.name}: {len(lines)} edits in {crate.checks} checks, {time.monotonic() - began:.0f} s", flush=True)
     passed = sum(is_refused for _, is_refused, _ in lines)
@@ -458,6 +509,7 @@ def lanes():
 
 def main():
     words = argparse.ArgumentParser(description=__doc__.split("\n", maxsplit=1)[0])
+    words.add_argument("--anew", action="store_true")
     words.add_argument("--beside", metavar="LOG", default="")
     words.add_argument("built")
     words.add_argument("names", nargs="*")
@@ -465,8 +517,9 @@ def main():
     deps = listed_crates()
     # the toolchain's first page stands at its top
     kit = os.path.dirname(subprocess.check_output(["rt", "doc"], text=True).strip())
+    refused = Refused(deps, kit, asked.anew)
     with tempfile.TemporaryDirectory() as room:
-        crates = [Crate(it, deps, os.path.realpath(asked.built), kit, f"{room}/{it}") for it in asked.names or deps]
+        crates = [Crate(it, deps, os.path.realpath(asked.built), kit, f"{room}/{it}", refused) for it in asked.names or deps]
         work = Work([it for it in crates if it.edits], asked.beside)
         with ThreadPoolExecutor(lanes()) as pool:
             counts = [pool.submit(work.done) for _ in range(lanes())]
