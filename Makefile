@@ -2,11 +2,11 @@
 PREFIX ?= /usr/local
 export PREFIX DESTDIR
 # the toolchain with which this release was proved: what `rt version` prints
-export KIT = rattle-kit-13b logic dac8208d650f15bf
+export KIT = rattle-kit-13f logic dac8208d650f15bf
 
 build: ## proves and builds the two programs, a line a crate: bin/rt1553, bin/rt1553-tool
-	@bash scripts/need.sh rt
-	@bash scripts/build.sh
+	@bash scripts/need.sh rt python3
+	@python3 scripts/build.py
 
 help: ## tells these words
 	@awk -F ':.*## ' '/^[a-z]+:.*## / { printf "make %-12s %s\n", $$1, $$2 }' Makefile
@@ -18,7 +18,7 @@ check: ## proves one crate, and what it stands on: make check CRATE=bus_word
 
 library: ## proves and builds the library for C, C++, Python and Rust: bin/library
 	@bash scripts/need.sh rt cc ar ld objcopy objdump python3
-	@bash scripts/library.sh build
+	@python3 scripts/build.py library
 
 test: ## the gate: proves and tests everything from nothing; the last line is 'N passed, M failed'
 	@bash scripts/need.sh rt python3 cc c++ cargo groff vim dpkg-deb git

@@ -43,29 +43,32 @@ build_rows() {
     mkdir -p "$work/fake" "$work/building"
     cat >"$work/fake/rt" <<END
 #!/usr/bin/env bash
-name=\${PWD##*/}
-case \$1 in
-version) echo "\$LINE" ;;
-lib) if [[ \$name == "\$BROKEN" ]]; then echo "fn \$name::broken: refused"; exit 1; fi ;;
-run) mkdir -p out && cp "$work/fake/\$name" out/ ;;
-esac
+if [[ \$1 == version ]]; then echo "\$LINE"; exit; fi
+for name in \$(sed 's/[ :].*//' crates.txt); do
+    mkdir "crates/\$name/out"
+    if [[ \$name == "\$BROKEN" ]]; then printf 'fn %s::broken: refused\nrt: %s NOT PROVED\n' "\$name" "\$name"; exit 1; fi
+    if [[ -e "$work/fake/\$name" ]]; then cp "$work/fake/\$name" "crates/\$name/out"; fi
+    echo "rt: \$name proved"
+done
 END
     chmod +x "$work/fake/rt"
     cp "$rt1553" "$work/fake/rt1553_program" && cp "$tool" "$work/fake/rt1553_tool_program"
-    tar -c Makefile scripts crates.txt crates/*/src crates/*/args | tar -x -C "$work/building"
+    tar -c Makefile HANDLES scripts crates.txt crates/*/src | tar -x -C "$work/building"
     kit=$(sed -n 's/^export KIT = //p' Makefile)
     (cd "$work/building" && LINE=$kit BROKEN='' PATH=$work/fake:$PATH make --silent build) >"$work/told" 2>&1
     count 'make build' $?
     count_of=$(sed -n 's|^\[ 1/\([0-9]*\)\] bus_word .*|\1|p' "$work/told")
-    [[ $count_of -gt 10 && $(grep -c "^\[ *[0-9]*/$count_of\] [a-z0-9_]*  *0 min 0[0-9] s$" "$work/told") -eq $count_of && $(wc -l <"$work/told") -eq $((count_of + 2)) ]]
+    [[ $count_of -gt 10 && $(grep -c "^\[ *[0-9]*/$count_of\] [a-z0-9_]*  *proved in 0 min 0[0-9] s$" "$work/told") -eq $count_of && $(wc -l <"$work/told") -eq $((count_of + 3)) ]]
     count 'make build tells each crate in a line' $?
     [[ $(cd "$work/building" && bash -c "$(tail -n 1 "$work/told")") == 'A s 2800' ]]
     count 'make build tells what to run next' $?
+    grep -q "^bin/rt1553 and bin/rt1553-tool: $count_of crates, proved by $kit, in 0 min 0[0-9] s\.$" "$work/told"
+    count 'make build tells what was proved, and by which toolchain' $?
     (cd "$work/building" && LINE=$kit BROKEN=bus_legal PATH=$work/fake:$PATH make --silent build) >"$work/told" 2>&1
-    [[ $? -ne 0 ]] && grep -q '^\[ *[0-9]*/[0-9]*\] bus_legal  *failed after ' "$work/told" && grep -q '^fn bus_legal::broken: refused$' "$work/told" && grep -q 'out/build.log' "$work/told"
+    [[ $? -ne 0 ]] && grep -q '^\[ *[0-9]*/[0-9]*\] bus_legal  *not proved, after ' "$work/told" && grep -q '^fn bus_legal::broken: refused$' "$work/told" && grep -q 'out/build.log' "$work/told"
     count 'make build tells which crate failed, and where its log is' $?
     (cd "$work/building" && LINE='another kit' BROKEN='' PATH=$work/fake:$PATH make --silent build) >"$work/told" 2>&1
-    grep -q "^This release was proved with '$kit', and this is 'another kit'" "$work/told"
+    grep -qxF "This release was proved with $kit; this is another kit: every crate is proved again by it." "$work/told"
     count 'make build tells of another toolchain' $?
 }
 
