@@ -11,8 +11,8 @@ ghost use Rattle.bus_legal.specs.inner.Masks.{MasksSay, has_both_bits, bit_said}
 
 use crate::legality::{Legality, is_allowed};
 use crate::masks::with_bits;
-use profile_types::{ModeRule, Profile, Rule};
 use bus_word::{Cell, has_bit};
+use profile_types::{ModeRule, Profile, Rule};
 
 /// The mode codes that may be legal to the own address, bit `c` for code `c`.
 pub const OWN_CODES: u32 = 0x000f_01ff;

@@ -11,9 +11,9 @@ ghost use Rattle.bus_profile.specs.Gives.{initial_in, word_in, each_of};
 ghost use Rattle.bus_profile.specs.inner.Section.{tree_of, value_at};
 ghost use Rattle.bus_profile.specs.inner.FirstWord.{IsFirstWord};
 
-use profile_types::{Entries, InitialWords};
 use crate::fault::{Key, Part, ProfileFault};
 use crate::section::{Section, in_range, items_of};
+use profile_types::{Entries, InitialWords};
 use std::alloc::Global;
 use toml::{Table, Value};
 

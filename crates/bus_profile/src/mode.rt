@@ -6,9 +6,9 @@ ghost use Rattle.bus_profile.specs.inner.FirstFault.{first_fault, fault_of_parts
 ghost use Rattle.bus_profile.specs.Faults.{mode_checks, each_item};
 ghost use Rattle.bus_profile.specs.Gives.{mode_in, each_of};
 
-use profile_types::{Entries, ModeRule};
 use crate::fault::{Key, Part, ProfileFault};
 use crate::section::Section;
+use profile_types::{Entries, ModeRule};
 use std::alloc::Global;
 use toml::{Table, Value};
 

@@ -3,9 +3,9 @@ ghost use Rattle.std.specs.Prelude.{◌≡◌, ◌<◌};
 ghost use Rattle.profile_types.specs.OwnCodes.{is_own_code_legal};
 ghost use Rattle.bus_profile.specs.inner.MissingCode.{missing_code};
 
-use profile_types::ModeRule;
 use bus_word::mode::{OVERRIDE_SHUTDOWN, RESET, SHUTDOWN, TRANSMIT_STATUS};
 use bus_word::{has_bit, is_required_code, mode_row};
+use profile_types::ModeRule;
 
 /// The own mode codes that must be legal, in the order in which they are asked for.
 const REQUIRED_CODES: [u8; 4] = [TRANSMIT_STATUS, SHUTDOWN, OVERRIDE_SHUTDOWN, RESET];

@@ -14,9 +14,9 @@ use crate::fault::{Key, Part, ProfileFault};
 use crate::initial::initials_of;
 use crate::mode::modes_of;
 use crate::own_codes::missing_code;
-use profile_types::{Entries, InitialWords, ModeRule, Profile, Rule};
 use crate::rule::rules_of;
 use crate::section::Section;
+use profile_types::{Entries, InitialWords, ModeRule, Profile, Rule};
 use std::alloc::Global;
 use toml::Table;
 

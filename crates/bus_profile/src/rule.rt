@@ -7,9 +7,9 @@ ghost use Rattle.bus_profile.specs.Faults.{rule_checks, each_item};
 ghost use Rattle.profile_types.specs.Plain.{plain_rule};
 ghost use Rattle.bus_profile.specs.Gives.{rule_in, each_of};
 
-use profile_types::{Entries, Rule};
 use crate::fault::{Key, Part, ProfileFault};
 use crate::section::Section;
+use profile_types::{Entries, Rule};
 use std::alloc::Global;
 use toml::{Table, Value};
 

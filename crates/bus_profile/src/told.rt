@@ -12,7 +12,6 @@ ghost use Rattle.bus_profile.specs.inner.AllFaults.{failing_parts, present, row_
 ghost use Rattle.bus_profile.specs.inner.FirstFault.{first_fault};
 ghost use Rattle.bus_profile.specs.inner.Section.{tree_of, value_at};
 
-use profile_types::ModeRule;
 use crate::fault::{Key, Part, ProfileFault};
 use crate::initial::{KEYS as INITIAL_KEYS, word_of};
 use crate::mode::{KEYS as MODE_KEYS, modes_of};
@@ -21,6 +20,7 @@ use crate::read::KEYS as ROOT_KEYS;
 use crate::rule::KEYS as RULE_KEYS;
 use crate::section::{Section, is_known, items_of};
 use bus_word::mode::{OVERRIDE_SHUTDOWN, RESET, SHUTDOWN, TRANSMIT_STATUS};
+use profile_types::ModeRule;
 use std::alloc::{AllocError, Global};
 use toml::{Table, Value};
 

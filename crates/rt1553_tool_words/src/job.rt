@@ -16,7 +16,10 @@ pub enum Profiles<'a> {
 #[derive(Debug, Drop)]
 pub enum Job<'a> {
     /// All that is wrong with profiles, and what in them has no effect.
-    Lint { files: Vec<&'a str>, as_json: bool },
+    Lint {
+        files: Vec<&'a str>,
+        as_json: bool,
+    },
     /// Where terminals don't answer as scripts state.
     Verify {
         profiles: Profiles<'a>,
@@ -26,7 +29,10 @@ pub enum Job<'a> {
     /// A small profile that means the same terminal.
     Toml(&'a str),
     /// What a terminal does, as a table.
-    Explain { profile: &'a str, as_json: bool },
+    Explain {
+        profile: &'a str,
+        as_json: bool,
+    },
     /// All in which two terminals differ.
     Differ {
         profile: &'a str,

@@ -35,19 +35,46 @@ impl From<AllocError> for Ended {
 fn argument<'a>(alloc: Global, row: &Argument) -> Result<Arg<'a>, AllocError> {
     let arg = Arg::new(alloc, row.id).help(row.help);
     match row.given {
-        Given::Once => Ok(arg.required(true).action(ArgAction::Set).value_name(row.value)),
-        Given::Often => Ok(arg.required(true).action(ArgAction::Append).num_args(1..).value_name(row.value)),
-        Given::OnceOr(other) => arg.action(ArgAction::Set).value_name(row.value).required_unless_present(other),
-        Given::OftenOr(other) => arg.action(ArgAction::Append).num_args(1..).value_name(row.value).required_unless_present(other),
-        Given::Value => Ok(arg.long(row.id).action(ArgAction::Set).value_name(row.value)),
+        Given::Once => Ok(
+            arg.required(true)
+                .action(ArgAction::Set)
+                .value_name(row.value),
+        ),
+        Given::Often => Ok(
+            arg.required(true)
+                .action(ArgAction::Append)
+                .num_args(1..)
+                .value_name(row.value),
+        ),
+        Given::OnceOr(other) => arg
+            .action(ArgAction::Set)
+            .value_name(row.value)
+            .required_unless_present(other),
+        Given::OftenOr(other) => arg
+            .action(ArgAction::Append)
+            .num_args(1..)
+            .value_name(row.value)
+            .required_unless_present(other),
+        Given::Value => Ok(
+            arg.long(row.id)
+                .action(ArgAction::Set)
+                .value_name(row.value),
+        ),
         Given::Flag => Ok(arg.long(row.id).action(ArgAction::SetTrue)),
-        Given::Format => Ok(arg.long(row.id).action(ArgAction::Set).value_parser(["text", "json"].as_slice()).default_value("text")),
+        Given::Format => Ok(
+            arg.long(row.id)
+                .action(ArgAction::Set)
+                .value_parser(["text", "json"].as_slice())
+                .default_value("text"),
+        ),
     }
 }
 
 /// A command, as clap takes it.
 fn subcommand<'a>(alloc: Global, row: &Row) -> Result<Command<'a>, AllocError> {
-    let mut command = Command::new(alloc, row.name).about(row.about).after_help(row.example);
+    let mut command = Command::new(alloc, row.name)
+        .about(row.about)
+        .after_help(row.example);
     for argument_row in row.arguments {
         command = command.arg(argument(alloc, argument_row)?)?;
     }
@@ -68,7 +95,10 @@ fn program<'a>(alloc: Global) -> Result<Command<'a>, AllocError> {
 
 /// Reads the words of the command line, of which the first is the program's own name. Where they ask for help or for the
 /// version, or clap finds a fault with them, prints what clap says.
-pub fn read_words<'a, R: AllocGlobal + Print + Eprint>(rt: &R, words: &'a [String]) -> Result<Job<'a>, Ended> {
+pub fn read_words<'a, R: AllocGlobal + Print + Eprint>(
+    rt: &R,
+    words: &'a [String],
+) -> Result<Job<'a>, Ended> {
     match program(rt.alloc())?.try_get_matches_from(words) {
         Ok(matches) => job_of(rt.alloc(), &matches),
         Err(error) => {

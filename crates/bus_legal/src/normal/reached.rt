@@ -14,9 +14,9 @@ use crate::initial::put_initial;
 use crate::masks::largest_count;
 use crate::setup::Setup;
 use crate::tables::Tables;
-use profile_types::Profile;
 use bus_word::has_bit;
 use bus_word::mode::{BIT_WORD, DYNAMIC_BUS_CONTROL, VECTOR_WORD};
+use profile_types::Profile;
 
 /// Gives the masks of what a profile makes legal, without broadcast cells where its terminal hears none.
 fn heard_tables(profile: &Profile) -> Tables

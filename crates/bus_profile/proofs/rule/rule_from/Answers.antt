@@ -36,4 +36,4 @@ returns c =
     let direction = c.in_ok-direction.ensures in
     let counts = c.in_ok-counts.ensures in
     let legal = c.in_ok-legal.ensures in
-    (rule_fault c.args.number _ ∙ rw (← c.if-has_unknown_key.ensures, to.0, direction.0, ranges.0, counts.0, legal.0) , rw (c.is_own.ensures, c.is_broadcast.ensures, c.is_receive.ensures, c.is_transmit.ensures, to.1, direction.1, ranges.1, counts.1, legal.1))
+    (rule_fault c.args.number _ ∙ rw (← c.if-has_unknown_key.ensures, to.0, direction.0, ranges.0, counts.0, legal.0), rw (c.is_own.ensures, c.is_broadcast.ensures, c.is_receive.ensures, c.is_transmit.ensures, to.1, direction.1, ranges.1, counts.1, legal.1))
