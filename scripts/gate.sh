@@ -1,7 +1,9 @@
 #!/usr/bin/env bash
-# The gate: every proof, test and program from nothing, then the built programs from end to end, texts with known answers,
-# the protocol tests, the library in C, C++, Python and Rust, the sessions of the pages, and what is installed; and beside
-# all this the must-fail edits. The last line, 'N passed, M failed', adds the counts of the parts.
+# The gate: every proof and test, then the built programs from end to end, texts with known answers, the protocol tests, the
+# library in C, C++, Python and Rust, the sessions of the pages, and what is installed; and beside all this the must-fail
+# edits. What an earlier run on this machine proved of the same files, and the edits that it refused, are taken from there;
+# tests and programs run each time. With ANEW=1 all is proved and tried. The line before the last tells how long it took.
+# The last line, 'N passed, M failed', adds the counts of the parts.
 set -uo pipefail
 cd "$(dirname "$0")/.." || exit 1
 work=$(mktemp -d) || exit 1
@@ -16,12 +18,12 @@ tar -c --exclude='crates/*/out' --exclude='crates/*/must-fail' HANDLES crates.tx
 
 # proves, tests and builds the copy: two checks side by side, each in one process. More processes for a check would read the
 # libraries again, and what is idle is the edits'
-proved() { (cd "$built" && RT_JOBS=2 rt ci) 2>&1 | tee "$work/proofs"; }
+proved() { (cd "$built" && RT_JOBS=2 rt ci ${ANEW:+--anew}) 2>&1 | tee "$work/proofs"; }
 
 # begins with the edits, in a group of processes of their own, which get what all else leaves of the processors
 start_edits() {
     : >"$work/proofs"
-    TMPDIR=$work setsid nice -n 19 python3 scripts/must-fail.py --beside "$work/proofs" "$built" >"$work/edits" 2>&1 </dev/null &
+    TMPDIR=$work setsid nice -n 19 python3 scripts/must-fail.py ${ANEW:+--anew} --beside "$work/proofs" "$built" >"$work/edits" 2>&1 </dev/null &
     edits=$!
 }
 
@@ -34,6 +36,13 @@ builds_of() {
     for program in "$built/crates/$1/out/$1"{,.by-rattle}; do
         if [[ -x $program ]]; then echo "$program"; fi
     done
+}
+
+# tells how long all of this took, by the clock and of all processors
+took() {
+    times >"$work/times"
+    sed -E '1d; s/m|s/ /g' "$work/times" |
+        awk -v clock="$SECONDS" '{ printf "took %.1f minutes, %.1f of processor time\n", clock / 60, $1 + $2 / 60 + $3 + $4 / 60 }'
 }
 
 # runs a part, whose last line is to be a count, and adds it; a part with another last line has failed
@@ -67,5 +76,6 @@ if [[ $failed -eq 0 ]]; then
     edits=
     part cat "$work/edits"
 fi
+took
 echo "$passed passed, $failed failed"
 [[ $failed -eq 0 && $passed -gt 0 ]]
