@@ -20,11 +20,14 @@ tar -c --exclude='crates/*/out' --exclude='crates/*/must-fail' HANDLES crates.tx
 # libraries again, and what is idle is the edits'
 proved() { (cd "$built" && RT_JOBS=2 rt ci ${ANEW:+--anew}) 2>&1 | tee "$work/proofs"; }
 
-# begins with the edits, in a group of processes of their own, which get what all else leaves of the processors
+# begins with the edits, in a group of processes of their own, which get what all else leaves of the processors: in one session
+# with the rest, since between sessions Linux shares the processors alike, however nice they are
 start_edits() {
     : >"$work/proofs"
-    TMPDIR=$work setsid nice -n 19 python3 scripts/must-fail.py ${ANEW:+--anew} --beside "$work/proofs" "$built" >"$work/edits" 2>&1 </dev/null &
+    set -m
+    TMPDIR=$work nice -n 19 python3 scripts/must-fail.py ${ANEW:+--anew} --beside "$work/proofs" "$built" >"$work/edits" 2>&1 </dev/null &
     edits=$!
+    set +m
 }
 
 # ends the edits, where they are still tried
