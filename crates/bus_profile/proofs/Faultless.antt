@@ -32,7 +32,7 @@ use Rattle.bus_profile.proofs.Arrays.{range_of, place_of}
 use Rattle.bus_profile.proofs.Least.{first_fault-in_order}
 use Rattle.bus_profile.proofs.RangesMeaning.{reading}
 use Rattle.bus_profile.proofs.Sections.{unknown_fault, rule_fault, initial_fault, row_fault}
-use Rattle.bus_profile.proofs.Tree.{entries_fault, key_fault, code_fault, tree_fault}
+use Rattle.bus_profile.proofs.Tree.{entries_fault, settings_fault, key_fault, code_fault, tree_fault}
 
 -- ---- no fault among several
 
@@ -237,9 +237,10 @@ profile_given ms none =
     let faultless = sym (tree_fault ms) ∙ first_fault-none (faults ms) none in
     let legal : ℕ → Bool = λ code. is_own_code_legal (modes_of ms) code in
     let fault : Row → Option ProfileFault = λ r. row_fault part.Root ms r in
-    let root = each_none (unknown_fault part.Root root_rows ms ∷ fault address_row ∷ fault broadcast_row ∷ fault wraparound_row ∷ fault accept_row ∷ fault vector_row ∷ fault bit_row
-    ∷ entries_fault rule_row rule_checks ms ∷ entries_fault mode_row mode_checks ms ∷ entries_fault initial_row initial_checks ms ∷ []) (no_first (key_fault ms) (code_fault ms) faultless) in
-    let arrays = root.1.1.1.1.1.1.1 in
+    let root = each_none (unknown_fault part.Root root_rows ms ∷ settings_fault ms ∷ entries_fault rule_row rule_checks ms ∷ entries_fault mode_row mode_checks ms
+    ∷ entries_fault initial_row initial_checks ms ∷ []) (no_first (key_fault ms) (code_fault ms) faultless) in
+    let settings = each_none (fault address_row ∷ fault broadcast_row ∷ fault wraparound_row ∷ fault accept_row ∷ fault vector_row ∷ fault bit_row ∷ []) root.1.0 in
+    let arrays = root.1.1 in
     let rules = rules_given 1 (items (value rule_row ms)) (no_items_fault rule_row rule_checks ms arrays.0) in
     let initials = initials_given 1 (items (value initial_row ms)) (no_items_fault initial_row initial_checks ms arrays.1.1.0) in
     let few_rules = few_items rule_row.key rule_row.presence rule_checks ms arrays.0 in
@@ -256,8 +257,8 @@ profile_given ms none =
         rules = rules.0;
         modes = modes_of ms;
         initials = initials.0;
-        own_address = (in_whole part.Root address_row.key 0 30 (found address_row.key ms) root.1.0).1;
-        own_wrap = wrap_small part.Root (found wraparound_row.key ms) root.1.1.1.0;
+        own_address = (in_whole part.Root address_row.key 0 30 (found address_row.key ms) settings.0).1;
+        own_wrap = wrap_small part.Root (found wraparound_row.key ms) settings.1.1.0;
         few_rules = omega (arith, few_rules, rules.2);
         few_modes = omega (arith, few_modes, length-each_of mode_in (items (value mode_row ms)));
         few_initials = omega (arith, few_initials, initials.2);

@@ -20,7 +20,7 @@ use Rattle.bus_profile.specs.Read.{Accepts}
 use Rattle.bus_profile.specs.inner.FirstFault.{first_fault, fault_of_parts}
 use Rattle.bus_profile.proofs.Arrays.{range_of}
 use Rattle.bus_profile.proofs.Sections.{unknown_fault, row_fault, initial_fault}
-use Rattle.bus_profile.proofs.Tree.{entries_fault, key_fault, code_fault, tree_fault}
+use Rattle.bus_profile.proofs.Tree.{entries_fault, settings_fault, key_fault, code_fault, tree_fault}
 use Rattle.bus_legal.specs.Initial.{gives_number, gives, word_given, initial_word}
 use Rattle.bus_legal.specs.Meaning.{description_of}
 use Rattle.bus_legal.proofs.Bools.{right_of}
@@ -143,16 +143,17 @@ accepted_in_range text p accepts =
     let ms = accepts.tree in
     let faultless = sym (tree_fault ms) ∙ none_first (faults ms) accepts.faultless in
     let fault : (r : Row) → Option ProfileFault = λ r. row_fault part.Root ms r in
-    let root = each_none (unknown_fault part.Root root_rows ms ∷ fault address_row ∷ fault broadcast_row ∷ fault wraparound_row ∷ fault accept_row ∷ fault vector_row ∷ fault bit_row
-    ∷ entries_fault rule_row rule_checks ms ∷ entries_fault mode_row mode_checks ms ∷ entries_fault initial_row initial_checks ms ∷ []) (no_first (key_fault ms) (code_fault ms) faultless) in
+    let root = each_none (unknown_fault part.Root root_rows ms ∷ settings_fault ms ∷ entries_fault rule_row rule_checks ms ∷ entries_fault mode_row mode_checks ms
+    ∷ entries_fault initial_row initial_checks ms ∷ []) (no_first (key_fault ms) (code_fault ms) faultless) in
+    let settings = each_none (fault address_row ∷ fault broadcast_row ∷ fault wraparound_row ∷ fault accept_row ∷ fault vector_row ∷ fault bit_row ∷ []) root.1.0 in
     let head_fault : Option ProfileFault = first_fault (head_checks part.Root initial_row (is_too_long initial_row.kind) ms) in
     let items_fault : Option ProfileFault = fault_of_parts (each_item initial_checks 1 (items (value initial_row ms))) in
-    let hold : HoldWords (each_of initial_in (items (value initial_row ms))) = entries_words 1 (items (value initial_row ms)) (no_second head_fault items_fault root.1.1.1.1.1.1.1.1.1.0) in
+    let hold : HoldWords (each_of initial_in (items (value initial_row ms))) = entries_words 1 (items (value initial_row ms)) (no_second head_fault items_fault root.1.1.1.1.0) in
     record {
       address = p.own_address;
       wrap = p.own_wrap;
-      vector = subst (λ w. w < 2 ^ 16) (sym (ap (λ q. q.vector) accepts.gives)) (key_word part.Root vector_row.key (found vector_row.key ms) root.1.1.1.1.1.0);
-      bit = subst (λ w. w < 2 ^ 16) (sym (ap (λ q. q.bit) accepts.gives)) (key_word part.Root bit_row.key (found bit_row.key ms) root.1.1.1.1.1.1.0);
+      vector = subst (λ w. w < 2 ^ 16) (sym (ap (λ q. q.vector) accepts.gives)) (key_word part.Root vector_row.key (found vector_row.key ms) settings.1.1.1.1.0);
+      bit = subst (λ w. w < 2 ^ 16) (sym (ap (λ q. q.bit) accepts.gives)) (key_word part.Root bit_row.key (found bit_row.key ms) settings.1.1.1.1.1.0);
       words = λ s i. given_word p.initials s i (subst HoldWords (sym (ap (λ q. q.initials) accepts.gives)) hold);
       allowed = legal_allowed p.rules p.modes;
       required = required_codes p;
