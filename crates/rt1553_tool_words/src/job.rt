@@ -4,7 +4,7 @@ use clap::ArgMatches;
 use std::alloc::Global;
 
 /// Which terminal the scripts of `verify` are played to.
-#[derive(Clone, Copy, Debug, PartialEq, Eq)]
+#[derive(Clone, Copy)]
 pub enum Profiles<'a> {
     /// All to that of this file.
     One(&'a str),
@@ -13,7 +13,7 @@ pub enum Profiles<'a> {
 }
 
 /// What the command line asks for. The texts are names of files.
-#[derive(Debug, Drop)]
+#[derive(Drop)]
 pub enum Job<'a> {
     /// All that is wrong with profiles, and what in them has no effect.
     Lint {

@@ -1,7 +1,7 @@
 //! The commands of `rt1553-tool` with their arguments, as `--help` shows them.
 
 /// How an argument is given.
-#[derive(Clone, Copy, PartialEq, Eq, Debug)]
+#[derive(Clone, Copy)]
 pub enum Given {
     /// Once.
     Once,
@@ -20,7 +20,7 @@ pub enum Given {
 }
 
 /// An argument of a command.
-#[derive(Clone, Copy, Debug)]
+#[derive(Clone, Copy)]
 pub struct Argument {
     /// Its name; that of an option stands behind two hyphens.
     pub id: &'static str,
@@ -31,7 +31,7 @@ pub struct Argument {
 }
 
 /// A command.
-#[derive(Clone, Copy, Debug)]
+#[derive(Clone, Copy)]
 pub struct Row {
     pub name: &'static str,
     pub about: &'static str,

@@ -3,8 +3,7 @@ use crate::job::{Job, job_of};
 use crate::table::{Argument, COMMANDS, Given, Row};
 use clap::error::ErrorKind;
 use clap::{Arg, ArgAction, Command};
-use std::alloc::{AllocError, Global};
-use std::rt::{Eprint, Print};
+use std::alloc::{AllocError, AllocFailed, Global};
 
 /// What `--version` tells: the program's version, and that of the canonical text that it reads and writes.
 const VERSION: &str = "0.1 (canonical text 2)";
@@ -13,7 +12,7 @@ const VERSION: &str = "0.1 (canonical text 2)";
 pub const USAGE: u8 = 3;
 
 /// Why no job is given.
-#[derive(Clone, Copy, Debug, PartialEq, Eq)]
+#[derive(Clone, Copy)]
 pub enum Ended {
     /// What clap says of the words has been printed: help, the version, or what is wrong. The program ends with this status.
     Said(u8),
@@ -27,6 +26,12 @@ pub enum Ended {
 
 impl From<AllocError> for Ended {
     fn from(_error: AllocError) -> Ended {
+        Ended::Memory
+    }
+}
+
+impl<T: Drop> From<AllocFailed<T>> for Ended {
+    fn from(_failed: AllocFailed<T>) -> Ended {
         Ended::Memory
     }
 }
@@ -81,12 +86,17 @@ fn subcommand<'a>(alloc: Global, row: &Row) -> Result<Command<'a>, AllocError> {
     Ok(command)
 }
 
-/// The program with its commands, as clap takes them.
-fn program<'a>(alloc: Global) -> Result<Command<'a>, AllocError> {
-    let mut program = Command::new(alloc, "rt1553-tool")
+/// The program without its commands, as clap takes it.
+fn bare_program<'a>(alloc: Global) -> Command<'a> {
+    Command::new(alloc, "rt1553-tool")
         .version(VERSION)
         .about("What people ask of a profile of a remote terminal")
-        .subcommand_required(true);
+        .subcommand_required(true)
+}
+
+/// The program with its commands, as clap takes them.
+fn program<'a>(alloc: Global) -> Result<Command<'a>, AllocError> {
+    let mut program = bare_program(alloc);
     for row in &COMMANDS {
         program = program.subcommand(subcommand(alloc, row)?)?;
     }
