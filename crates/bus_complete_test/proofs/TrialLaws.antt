@@ -1,11 +1,11 @@
 -- The exchanges of a trial, before those of the later ones.
-use Rattle.std.proofs.Common.{◌≡◌, ℕ, suc, ◌+◌, ◌-◌, ◌<◌, ◌≤◌, true, List, [], ◌++◌, refl, ap, sym, ◌∙◌, append_assoc, append-nil, arith}
+use Rattle.std.proofs.Common.{◌≡◌, ℕ, suc, ◌+◌, ◌-◌, ◌<◌, ◌≤◌, true, if◌then◌else◌, List, [], ◌++◌, refl, ap, sym, ◌∙◌, append_assoc, append-nil, arith}
 use Rattle.std.proofs.lemmas.Bool.Decides.{nat_tests}
 use Rattle.bus_word.specs.Cell.{is_data_place}
 use Rattle.bus_legal.specs.Description.{Description}
 use Rattle.terminal_rules.proofs.PlaceLaw.{place_count}
 use Rattle.terminal_exchanges.specs.Exchanges.{Exchange}
-use Rattle.terminal_complete_test.specs.CompleteTest.{each_in, each_place}
+use Rattle.terminal_complete_test.specs.CompleteTest.{each_in, each_place, each_code, each_subaddress, receive_tried, own_code_tried, broadcast_receive_tried, broadcast_code_tried, broadcasts_tried, wraparound_tried}
 use Rattle.bus_complete_test.specs.declared.trial.Trial.{Trial}
 use Rattle.bus_complete_test.specs.Trials.{tried_at, tried_from}
 use Rattle.bus_complete_test.specs.inner.Steps.{from_place, from_code}
@@ -65,3 +65,32 @@ pub place_last : (f : ℕ → ℕ → List Exchange) (s n : ℕ) → is_data_pla
 place_last f s n place last end =
     let high : n ≤ 32 = place_count s n place in
     (λ j. each_last n (33 - n) (f s) (omega arith) j ++ each_over (suc s) (30 - s) (λ t. each_in 1 32 (f t)) (omega arith) j)
+
+-- the last of its kind, with what comes after all of its kind
+pub place_end : (f : ℕ → ℕ → List Exchange) (s n : ℕ) (rest : List Exchange) → from_place f s n ≡ f s n ++ [] → from_place f s n ++ rest ≡ f s n ++ rest
+place_end f s n rest e = ap (λ xs. xs ++ rest) (e ∙ append-nil (f s n))
+
+pub code_end : (f : ℕ → List Exchange) (code : ℕ) (rest : List Exchange) → from_code f code ≡ f code ++ [] → from_code f code ++ rest ≡ f code ++ rest
+code_end f code rest e = ap (λ xs. xs ++ rest) (e ∙ append-nil (f code))
+
+-- what is tried after all transmit commands, receive commands, own mode codes, and broadcast receive commands
+abbrev pub after_transmits : Description → List Exchange
+after_transmits P = each_place (receive_tried P) ++ (each_code (own_code_tried P) ++ (broadcasts_tried P ++ each_subaddress (wraparound_tried P)))
+
+abbrev pub after_receives : Description → List Exchange
+after_receives P = each_code (own_code_tried P) ++ (broadcasts_tried P ++ each_subaddress (wraparound_tried P))
+
+abbrev pub after_codes : Description → List Exchange
+after_codes P = broadcasts_tried P ++ each_subaddress (wraparound_tried P)
+
+abbrev pub after_broadcast_receives : Description → List Exchange
+after_broadcast_receives P = each_code (broadcast_code_tried P) ++ each_subaddress (wraparound_tried P)
+
+pub receives_first : (P : Description) → after_transmits P ≡ from_place (receive_tried P) 1 1 ++ after_receives P
+receives_first P = ap (λ xs. xs ++ after_receives P) (place_first (receive_tried P))
+
+pub heard_first : (P : Description) → P.broadcast ≡ true → after_codes P ≡ from_place (broadcast_receive_tried P) 1 1 ++ after_broadcast_receives P
+heard_first P hears =
+    ap (λ b. (if b then each_place (broadcast_receive_tried P) ++ each_code (broadcast_code_tried P) else []) ++ each_subaddress (wraparound_tried P)) hears
+    ∙ (append_assoc (each_place (broadcast_receive_tried P)) (each_code (broadcast_code_tried P)) (each_subaddress (wraparound_tried P))
+    ∙ ap (λ xs. xs ++ after_broadcast_receives P) (place_first (broadcast_receive_tried P)))
