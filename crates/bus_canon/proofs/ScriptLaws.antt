@@ -9,7 +9,7 @@ use Rattle.bus_legal.proofs.TablesReach.{largest_count-said}
 use Rattle.terminal_rules.specs.declared.event.Event.{Event}
 use Rattle.terminal_rules.specs.declared.event.Event.TheVariants.{Gap, Slot}
 use Rattle.terminal_exchanges.specs.Exchanges.{Exchange, command_event, data_event, words_then, slots_then, exchange_then, script_of}
-use Rattle.terminal_exchanges.specs.Distinguish.{all_terminals, receive, receive_zeros, transmit, ask, initial_script, own_receive_script, broadcast_receive_script}
+use Rattle.terminal_exchanges.specs.Distinguish.{receive, receive_zeros, transmit, initial_script}
 
 -- words before events
 pub words-append : (words : List ℕ) (xs es : List Event) → words_then words xs ++ es ≡ words_then words (xs ++ es)
