@@ -1,6 +1,5 @@
 -- Terminals that are the same have the same in reach: what differs is told apart by a script.
-use Rattle.std.proofs.Common.{◌≡◌, ◌≢◌, ℕ, ◌==◌, Bool, true, false, List, refl, sym, ◌∙◌, eq-eqb}
-use Rattle.std.proofs.lemmas.Bool.{eqb-true}
+use Rattle.std.proofs.Common.{◌≡◌, ◌≢◌, ℕ, Bool, true, false, List, refl}
 use Rattle.bus_word.specs.declared.cell.Cell.{Cell}
 use Rattle.bus_word.specs.declared.cell.Cell.TheVariants.{OwnReceive, OwnTransmit, BroadReceive, OwnMode, BroadMode}
 use Rattle.bus_legal.specs.Description.{Description}
@@ -11,16 +10,9 @@ use Rattle.terminal_rules.specs.declared.event.Event.{Event}
 use Rattle.terminal_rules.specs.Same.{Same}
 use Rattle.terminal_exchanges.specs.Distinguish.{TellsApart, address_script, option_script, own_receive_script, own_transmit_script, broadcast_receive_script, own_code_script, broadcast_code_script, acceptance_script, vector_script, bit_script, initial_script, wraparound_script, shown_subaddress}
 use Rattle.terminal_exchanges.proofs.Distinguish.Apart.{apart_not_same}
-use Rattle.terminal_exchanges.proofs.Distinguish.Reached.{IsReached, normal-reached, apart_by_address, apart_by_option, apart_by_own_receive, apart_by_own_transmit, apart_by_broadcast_receive, apart_by_own_code, apart_by_broadcast_code, apart_by_acceptance, apart_by_vector, apart_by_bit, apart_by_initial, apart_by_wraparound}
+use Rattle.terminal_exchanges.proofs.Distinguish.Reached.{IsReached, normal-reached, same_number, apart_by_address, apart_by_option, apart_by_own_receive, apart_by_own_transmit, apart_by_broadcast_receive, apart_by_own_code, apart_by_broadcast_code, apart_by_acceptance, apart_by_vector, apart_by_bit, apart_by_initial, apart_by_wraparound}
 
--- numbers, and truth values, that can't differ are equal
-same_number : (a b : ℕ) → (a ≢ b → ⊥) → a ≡ b
-same_number a b h = by_test (a == b) refl
-  where
-    by_test : (t : Bool) → (a == b) ≡ t → a ≡ b
-    by_test true e = eqb-true a b e
-    by_test false e = absurd (h (λ same. let wrong : true ≡ false = sym (eq-eqb a b same) ∙ e in cc))
-
+-- truth values that can't differ are equal
 same_truth : (a b : Bool) → (a ≢ b → ⊥) → a ≡ b
 same_truth true true h = refl
 same_truth true false h = absurd (h (λ e. cc))

@@ -1,9 +1,9 @@
-//! Where masks and tables first differ, and the least word count of a mask.
-ghost use Rattle.std.specs.Prelude.{◌≡◌, ◌≤◌, ℕ, get_or};
+//! Where masks and tables first differ.
+ghost use Rattle.std.specs.Prelude.{get_or};
 ghost use Rattle.bus_legal.specs.Description.{word_at};
 ghost use Rattle.bus_legal.specs.Tables.{has_count};
 ghost use Rattle.bus_word.specs.Mask.{has_bit};
-ghost use Rattle.bus_canon.specs.inner.Search.{FindsNumber, FindsPlace, least_in};
+ghost use Rattle.bus_canon.specs.inner.Search.{FindsNumber, FindsPlace};
 
 /// The lowest bit in which two masks differ, 0 to 31.
 pub fn first_bit(ours: u32, theirs: u32) -> Option<u8>
@@ -53,17 +53,4 @@ pub fn first_word(ours: &[[u16; 32]; 30], theirs: &[[u16; 32]; 30]) -> Option<(u
         }
     }
     None
-}
-
-/// The least word count of a mask in which bit `n - 1` stands for a word count of `n`, or 0 where
-/// it has none.
-pub fn least_count(mask: u32) -> u8
-    ensures count { result ≡ least_in mask }
-    ensures room { result ≤ 32 }
-{
-    if mask == 0 {
-        0
-    } else {
-        mask.trailing_zeros() as u8 + 1
-    }
 }

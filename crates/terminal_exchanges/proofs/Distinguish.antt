@@ -1,6 +1,7 @@
 pub mod Commands
 pub mod Last
 pub mod Quiet
+pub mod Said
 pub mod Own
 pub mod Broadcast
 pub mod Address

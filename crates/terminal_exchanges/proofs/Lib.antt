@@ -1,2 +1,4 @@
 pub mod ExchangeLaw
 pub mod Distinguish
+pub mod CountLaws
+pub mod ShortestLaws

@@ -108,26 +108,36 @@ initial_script P s =
     let m : ℕ = largest_count (transmits_at P s) in
     script_of (transmit P.address s m (m + 1) ∷ [])
 
--- Wraparound at subaddress s is shown by n words received, by the own address or by broadcast, and m transmitted.
--- Of the words received the first is the complement of the one that is held at power-up.
-abbrev pub shown_wraparound : Description → ℕ → ℕ → ℕ → ℕ → List Event
-shown_wraparound P s to n m =
-    script_of (receive to s n ((65535 - P.initial s 1) ∷ replicate (n - 1) 0) ∷ transmit P.address s m (m + 1) ∷ [])
-
 abbrev pub receives_own : Description → ℕ → ℕ → Bool
 receives_own P s n = P.legal (OwnReceive s n)
 
 abbrev pub receives_broadcast : Description → ℕ → ℕ → Bool
 receives_broadcast P s n = P.legal (BroadReceive s n)
 
--- 12: wraparound at subaddress s, by the shortest legal receive command, by broadcast only where there is no other,
--- and the shortest legal transmit command
-abbrev pub wraparound_script : Description → ℕ → List Event
-wraparound_script P s =
-    let m : ℕ = least_count (transmits_at P s) in
+-- n words to subaddress s, of which the first is the complement of the one that is held there at power-up
+abbrev pub receive_complement : Description → ℕ → ℕ → ℕ → Exchange
+receive_complement P s to n = receive to s n ((65535 - P.initial s 1) ∷ replicate (n - 1) 0)
+
+-- those of the shortest legal receive command, by broadcast only where there is no other
+abbrev pub shortest_receive : Description → ℕ → Exchange
+shortest_receive P s =
     if any_count (receives_own P s)
-    then shown_wraparound P s P.address (least_count (receives_own P s)) m
-    else shown_wraparound P s all_terminals (least_count (receives_broadcast P s)) m
+    then receive_complement P s P.address (least_count (receives_own P s))
+    else receive_complement P s all_terminals (least_count (receives_broadcast P s))
+
+-- the shortest legal transmit command, with slots for all its words
+abbrev pub shortest_transmit : Description → ℕ → Exchange
+shortest_transmit P s =
+    let m : ℕ = least_count (transmits_at P s) in
+    transmit P.address s m (m + 1)
+
+-- Wraparound at subaddress s: what is received is transmitted.
+abbrev pub sent_back : Description → ℕ → List Exchange
+sent_back P s = shortest_receive P s ∷ shortest_transmit P s ∷ []
+
+-- 12: wraparound at subaddress s
+abbrev pub wraparound_script : Description → ℕ → List Event
+wraparound_script P s = script_of (sent_back P s)
 
 -- the wraparound subaddress of P, or of Q where P has none
 abbrev pub shown_subaddress : ℕ → ℕ → ℕ

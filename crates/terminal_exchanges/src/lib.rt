@@ -1,5 +1,10 @@
-//! Exchanges of a bus controller with a terminal, and the scripts of them that tell two terminals apart: definitions and
-//! laws.
+//! Exchanges of a bus controller with a terminal, as values, and the scripts of them that tell two terminals apart:
+//! definitions and laws.
 #![tactic(auto)]
 
+mod exchange;
 pub mod laws;
+mod shortest;
+
+pub use exchange::{ALL_TERMINALS, Exchange, ask, mode_code, receive, transmit};
+pub use shortest::{shortest_receive, shortest_transmit};

@@ -1,9 +1,7 @@
 -- What the search for the first difference finds: in two masks, in two tables, and of two terminals.
-use Rattle.std.specs.Prelude.{◌≡◌, ℕ, ◌-◌, ◌<◌, true, Option, Some, None}
-use Rattle.bus_word.specs.Mask.{has_bit}
+use Rattle.std.specs.Prelude.{◌≡◌, ℕ, ◌<◌, true, Option, Some, None}
 use Rattle.bus_word.specs.Cell.{is_data_place}
 use Rattle.bus_legal.specs.Description.{Description}
-use Rattle.terminal_exchanges.specs.Distinguish.{least_count}
 use Rattle.bus_canon.specs.declared.difference.Difference.{Difference}
 use Rattle.bus_canon.specs.Difference.{rank, IsLower, AreAlike, IsFirstDifference, IsInRange}
 
@@ -26,10 +24,6 @@ pub record IsFirstPlace {X : Type 0} (f g : ℕ → ℕ → X) (s n : ℕ) : Typ
 abbrev pub FindsPlace : {X : Type 0} → (ℕ → ℕ → X) → (ℕ → ℕ → X) → Option (ℕ × ℕ) → Type 0
 FindsPlace f g None = (s n : ℕ) → is_data_place s n ≡ true → f s n ≡ g s n
 FindsPlace f g (Some p) = IsFirstPlace f g p.0 p.1
-
--- the least word count in a mask, or 0 where there is none
-abbrev pub least_in : ℕ → ℕ
-least_in mask = least_count (λ count. has_bit mask (count - 1))
 
 -- the two are alike in all that is of a kind before this one
 abbrev pub AlikeBefore : ℕ → Description → Description → Type 0

@@ -13,10 +13,10 @@ use Rattle.terminal_exchanges.specs.Exchanges.{Exchange, script_of}
 use Rattle.terminal_exchanges.specs.Distinguish.{TellsApart, all_terminals, receive_zeros, transmit, mode_code, ask, own_receive_script, own_transmit_script, broadcast_receive_script, own_code_script, broadcast_code_script}
 use Rattle.terminal_exchanges.proofs.Distinguish.Commands.{IsTo, zeros_small, receive_to_own, receive_to_all, transmit_from_own, code_to_own, code_to_all, moved}
 use Rattle.terminal_exchanges.proofs.Distinguish.Last.{apart_by_one, bits_in}
-use Rattle.terminal_exchanges.proofs.Distinguish.Own.{parts_by, status_at_power_up}
+use Rattle.terminal_exchanges.proofs.Distinguish.Own.{parts_by, status_told}
 use Rattle.terminal_exchanges.proofs.Distinguish.Broadcast.{is_of_broadcast, parts_after, asked_apart}
 
-own_told : (a : ℕ) (l m x y : Bool) → status_word a (parts_by l x) ≡ status_word a (parts_by m y) → l ≡ m
+pub own_told : (a : ℕ) (l m x y : Bool) → status_word a (parts_by l x) ≡ status_word a (parts_by m y) → l ≡ m
 own_told a true true x y e = refl
 own_told a true false true y e = absurd (omega arith)
 own_told a true false false y e = absurd (omega arith)
@@ -32,8 +32,8 @@ own_cell_tells P Q x cell low same to other =
     (status_word P.address (parts_by (P.legal cell) (accepts P.accept cell)))
     (status_word P.address (parts_by (Q.legal cell) (accepts Q.accept cell)))
     to (to.some_slots low)
-    (status_at_power_up P x cell low to)
-    (status_at_power_up Q x cell low_q (moved P.address Q.address (Some cell) x same to)
+    (status_told P [] x cell low to (λ _. refl) tt)
+    (status_told Q [] x cell low_q (moved P.address Q.address (Some cell) x same to) (λ _. refl) tt
     ∙ ap (λ a. status_word a (parts_by (Q.legal cell) (accepts Q.accept cell))) (sym same))
     (λ e. other (own_told P.address (P.legal cell) (Q.legal cell) (accepts P.accept cell) (accepts Q.accept cell) e))
 
@@ -50,7 +50,7 @@ own_transmit_tells P Q s n low same place other =
     own_cell_tells P Q (transmit P.address s n 1) (OwnTransmit s n) low same (transmit_from_own P.address s n 1 low place (omega arith) (omega arith)) other
 
 -- a broadcast, whose cell is legal in the one and not in the other, where both hear it
-broadcast_told : (a : ℕ) (l m reset : Bool) → status_word a (parts_after true l reset) ≡ status_word a (parts_after true m reset) → l ≡ m
+pub broadcast_told : (a : ℕ) (l m reset : Bool) → status_word a (parts_after true l reset) ≡ status_word a (parts_after true m reset) → l ≡ m
 broadcast_told a true true reset e = refl
 broadcast_told a true false true e = absurd (omega arith)
 broadcast_told a true false false e = absurd (omega arith)

@@ -149,13 +149,13 @@ transmit_from_own address s n slots low place first last =
 abbrev is_as_scripted : ModeEntry → Bool
 is_as_scripted e = nat_le e.code 31 && same_bool (not (e.code == 17)) e.row.transmit
 
-scripted : (code : ℕ) (row : ModeRow) → mode_row code ≡ Some row → (nat_le code 31 ≡ true) × (same_bool (not (code == 17)) row.transmit ≡ true)
+pub scripted : (code : ℕ) (row : ModeRow) → mode_row code ≡ Some row → (nat_le code 31 ≡ true) × (same_bool (not (code == 17)) row.transmit ≡ true)
 scripted code row is = and_parts (nat_le code 31) (same_bool (not (code == 17)) row.transmit) (passes_in is_as_scripted mode_table code row refl is)
 
-small_code : (code : ℕ) → nat_le code 31 ≡ true → code ≤ 31
+pub small_code : (code : ℕ) → nat_le code 31 ≡ true → code ≤ 31
 small_code code e = grind (arith, nat_tests)
 
-row_of : (o : Option ModeRow) → is_some o ≡ true → (row : ModeRow) × (o ≡ Some row)
+pub row_of : (o : Option ModeRow) → is_some o ≡ true → (row : ModeRow) × (o ≡ Some row)
 row_of (Some row) h = (row, refl)
 row_of None h = absurd (cc)
 
@@ -198,7 +198,7 @@ code_to_own_with slots address code first last low known =
 pub code_to_own : (address code : ℕ) → address ≤ 30 → is_some (mode_row code) ≡ true → IsTo address (Some (OwnMode code)) (mode_code address code)
 code_to_own address code low known = code_to_own_with 1 address code (omega arith) (omega arith) low known
 
-known_code : (o : Option ModeRow) → allows_broadcast o ≡ true → is_some o ≡ true
+pub known_code : (o : Option ModeRow) → allows_broadcast o ≡ true → is_some o ≡ true
 known_code (Some row) e = refl
 known_code None e = absurd (cc)
 

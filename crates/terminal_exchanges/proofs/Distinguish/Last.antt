@@ -1,5 +1,5 @@
 -- The answer in a slot of the last exchange of a script of one or two.
-use Rattle.std.proofs.Common.{◌≡◌, ℕ, zero, suc, ◌+◌, ◌≤◌, ◌<◌, ◌≢◌, Option, Some, None, List, [], ◌∷◌, length, refl, ap, sym, ◌∙◌, arith}
+use Rattle.std.proofs.Common.{◌≡◌, ℕ, zero, suc, ◌+◌, ◌≤◌, ◌<◌, ◌≢◌, Bool, true, false, Option, Some, None, List, [], ◌∷◌, length, refl, ap, sym, ◌∙◌, arith}
 use Rattle.bus_word.specs.declared.word.Bus.TheVariants.{A}
 use Rattle.bus_word.specs.declared.cell.Cell.{Cell}
 use Rattle.bus_legal.specs.Description.{Description}
@@ -8,9 +8,10 @@ use Rattle.terminal_rules.specs.declared.event.Event.TheVariants.{Gap}
 use Rattle.terminal_rules.specs.History.{Noted}
 use Rattle.terminal_rules.specs.Reply.{reply_now}
 use Rattle.terminal_rules.specs.Same.{AreProper}
-use Rattle.terminal_rules.specs.Out.{Out, Sending, Silence, SendsWord, sends, sending_out, outs_from, outs}
+use Rattle.terminal_rules.specs.Out.{Out, Sending, Silence, sends, sending_out, outs_from, outs}
 use Rattle.terminal_exchanges.specs.Exchanges.{Exchange, words_then, slots_then, exchange_then, script_of}
 use Rattle.terminal_exchanges.specs.inner.ExchangeLaw.{IsWhole, history_of, slot_note, slot_notes, notes_at_gap, exchange_notes, AreAnswered, gap_answer, slot_answer, silent_then, slots_answered}
+use Rattle.terminal_exchanges.specs.Sent.{sent_in}
 use Rattle.terminal_exchanges.specs.Distinguish.{TellsApart}
 use Rattle.terminal_exchanges.proofs.ExchangeLaw.{exchange_law}
 use Rattle.terminal_exchanges.proofs.Distinguish.Commands.{AreSmall, IsTo}
@@ -56,12 +57,7 @@ sent_in_slot P h = sends P h (reply_now h)
 abbrev pub slot_at : ℕ → Description → List Exchange → Exchange → Option Sending
 slot_at j P xs x = sent_in_slot P (slot_notes j (notes_at_gap P x (exchange_notes P xs)))
 
--- the word that an answer sends
-abbrev sent_in : Out → Option Sending
-sent_in (SendsWord sending) = Some sending
-sent_in _ = None
-
-sent_again : (sent : Option Sending) → sent_in (sending_out sent) ≡ sent
+pub sent_again : (sent : Option Sending) → sent_in (sending_out sent) ≡ sent
 sent_again None = refl
 sent_again (Some sending) = refl
 
@@ -93,11 +89,11 @@ differ_by : {X : Type 0} (f : Option Sending → X) (g : List Out → Option Sen
     outs P script ≢ outs Q script
 differ_by f g P Q script a b p q apart e = apart (sym p ∙ (ap (λ os. f (g os)) e ∙ q))
 
-words_proper : (ds : List ℕ) (es : List Event) → AreSmall ds → AreProper es → AreProper (words_then ds es)
+pub words_proper : (ds : List ℕ) (es : List Event) → AreSmall ds → AreProper es → AreProper (words_then ds es)
 words_proper [] es fit proper = proper
 words_proper (d ∷ ds) es (small, fit) proper = (small, words_proper ds es fit proper)
 
-slots_proper : (n : ℕ) (es : List Event) → AreProper es → AreProper (slots_then n es)
+pub slots_proper : (n : ℕ) (es : List Event) → AreProper es → AreProper (slots_then n es)
 slots_proper zero es proper = proper
 slots_proper (suc n) es proper = (tt, slots_proper n es proper)
 
@@ -109,7 +105,7 @@ slots_length : (n : ℕ) (es : List Event) → length (slots_then n es) ≡ n + 
 slots_length zero es = omega arith
 slots_length (suc n) es = let rest : length (slots_then n es) ≡ n + length es = slots_length n es in omega arith
 
-exchange_length : (x : Exchange) (es : List Event) → length (exchange_then x es) ≡ length x.words + x.slots + length es + 2
+pub exchange_length : (x : Exchange) (es : List Event) → length (exchange_then x es) ≡ length x.words + x.slots + length es + 2
 exchange_length x es =
     let words : length (words_then x.words (Gap A ∷ slots_then x.slots es)) ≡ length x.words + suc (length (slots_then x.slots es)) = words_length x.words (Gap A ∷ slots_then x.slots es) in
     let slots : length (slots_then x.slots es) ≡ x.slots + length es = slots_length x.slots es in
@@ -151,3 +147,8 @@ apart_by_two f j P Q to then_to cell then_cell x y a b is then_is none one pa qa
 abbrev pub bits_in : Option Sending → ℕ
 bits_in None = 0
 bits_in (Some s) = s.bits
+
+-- something is sent
+abbrev pub is_sent : Option Sending → Bool
+is_sent None = false
+is_sent (Some s) = true

@@ -15,7 +15,7 @@ use Rattle.terminal_rules.specs.Reply.{words_after_status, reply_after, reply_no
 use Rattle.terminal_rules.specs.Ends.{verdict, well}
 use Rattle.terminal_rules.specs.SinceReset.{inhibited_now, since_reset, is_reset_cell, sends_reset}
 use Rattle.terminal_rules.specs.Turn.{is_answered, done_cell, turn_of_gap}
-use Rattle.terminal_rules.specs.Status.{accepts, inhibited_after, formed_error, formed_done, reports_kept, spares, spares_kept, kept_by_command, start_first, kept_now}
+use Rattle.terminal_rules.specs.Status.{no_parts, accepts, inhibited_after, formed_error, formed_done, reports_kept, spares, spares_kept, kept_by_command, start_first, kept_now}
 use Rattle.terminal_rules.specs.inner.Steps.{kept_after, sent_one, begun_if, resets_next}
 use Rattle.terminal_rules.specs.Out.{next_sent, sends}
 use Rattle.terminal_rules.specs.Starts.{is_meant}
@@ -26,7 +26,7 @@ use Rattle.terminal_rules.proofs.ReplyLaw.{no_words, reply_slot_law}
 use Rattle.terminal_rules.proofs.ResetLaw.{slot_resets}
 use Rattle.terminal_exchanges.proofs.ExchangeLaw.{sent_many, sent_after, slots_reply, at_gap_reply, idle_law}
 use Rattle.terminal_exchanges.proofs.Distinguish.Commands.{IsTo, own_no_broadcast}
-use Rattle.terminal_exchanges.proofs.Distinguish.Last.{slot_at, bits_in}
+use Rattle.terminal_exchanges.proofs.Distinguish.Last.{slot_at, bits_in, is_sent}
 use Rattle.terminal_exchanges.proofs.Distinguish.Quiet.{notes_at, plain, formed_plain, on_at, words_kept, exchange_back}
 
 -- an exchange that is for the terminal ends by the legality of its cell
@@ -114,7 +114,7 @@ kept_at P xs x cell to reports legal =
     words_kept P x.words (command_note P x.command ∷ exchange_notes P xs)
     ∙ spared P x.command (exchange_notes P xs) (ap (spares_kept P) to.cell ∙ (λ j. reports j && legal j))
 
--- The status at power-up says by its message error whether the cell is legal.
+-- The status says by its message error whether the cell is legal, where the kept status is not reported, or still that of power-up.
 abbrev pub parts_by : Bool → Bool → StatusParts
 parts_by legal accept = if legal then plain false false accept else plain true false false
 
@@ -125,36 +125,45 @@ no_acceptance code x e = by_first (code == 2) refl e
     by_first true f e = ap (λ k. (k == 0) && x) (eqb-true code 2 f)
     by_first false f e = ap (λ k. (k == 0) && x) (eqb-true code 18 e)
 
-formed_done_plain : (P : Description) (x : Exchange) (cell : Cell) → P.address ≤ 30 → IsTo P.address (Some cell) x → formed_done P (notes_at P [] x) x.command cell ≡ plain false false (accepts P.accept cell)
-formed_done_plain P x cell low to =
-    formed_plain P [] x x.command false (accepts P.accept cell) (inhibited_after (inhibited_now (notes_at P [] x)) cell)
-    ∙ ap (λ b. plain false b (accepts P.accept cell)) (own_no_broadcast P.address (Some cell) x low to)
+-- a code that reports the kept status is not one that is accepted
+not_accepted : (cell : Cell) (x : Bool) → reports_kept cell ≡ true → accepts x cell ≡ false
+not_accepted (OwnMode code) x reports = no_acceptance code x reports
+not_accepted (OwnReceive s n) x reports = refl
+not_accepted (OwnTransmit s n) x reports = refl
+not_accepted (BroadReceive s n) x reports = refl
+not_accepted (BroadMode code) x reports = refl
 
-done_status : (P : Description) (x : Exchange) (cell : Cell) → P.address ≤ 30 → IsTo P.address (Some cell) x → P.legal cell ≡ true →
-    status_word P.address (if reports_kept cell then kept_now P (notes_at P [] x) else formed_done P (notes_at P [] x) x.command cell) ≡ status_word P.address (plain false false (accepts P.accept cell))
-done_status P x (OwnReceive s n) low to legal = ap (status_word P.address) (formed_done_plain P x (OwnReceive s n) low to)
-done_status P x (OwnTransmit s n) low to legal = ap (status_word P.address) (formed_done_plain P x (OwnTransmit s n) low to)
-done_status P x (BroadReceive s n) low to legal = ap (status_word P.address) (formed_done_plain P x (BroadReceive s n) low to)
-done_status P x (BroadMode code) low to legal = ap (status_word P.address) (formed_done_plain P x (BroadMode code) low to)
-done_status P x (OwnMode code) low to legal = by_kept (reports_kept (OwnMode code)) refl
+done_parts : (P : Description) (xs : List Exchange) (x : Exchange) (cell : Cell) → P.address ≤ 30 → IsTo P.address (Some cell) x → P.legal cell ≡ true → (reports_kept cell ≡ true → kept_now P (exchange_notes P xs) ≡ no_parts) →
+    (if reports_kept cell then kept_now P (notes_at P xs x) else formed_done P (notes_at P xs x) x.command cell) ≡ plain false false (accepts P.accept cell)
+done_parts P xs x cell low to legal fresh = by_kept (reports_kept cell) refl
   where
-    by_kept : (t : Bool) → reports_kept (OwnMode code) ≡ t →
-        status_word P.address (if t then kept_now P (notes_at P [] x) else formed_done P (notes_at P [] x) x.command (OwnMode code))
-        ≡ status_word P.address (plain false false (accepts P.accept (OwnMode code)))
-    by_kept true e = ap (status_word P.address) (kept_at P [] x (OwnMode code) to e legal ∙ ap (plain false false) (sym (no_acceptance code P.accept e)))
-    by_kept false e = ap (status_word P.address) (formed_done_plain P x (OwnMode code) low to)
+    by_kept : (t : Bool) → reports_kept cell ≡ t → (if t then kept_now P (notes_at P xs x) else formed_done P (notes_at P xs x) x.command cell) ≡ plain false false (accepts P.accept cell)
+    by_kept true e = kept_at P xs x cell to e legal ∙ (fresh e ∙ ap (plain false false) (sym (not_accepted cell P.accept e)))
+    by_kept false e =
+        formed_plain P xs x x.command false (accepts P.accept cell) (inhibited_after (inhibited_now (notes_at P xs x)) cell)
+        ∙ ap (λ b. plain false b (accepts P.accept cell)) (own_no_broadcast P.address (Some cell) x low to)
 
-pub status_at_power_up : (P : Description) (x : Exchange) (cell : Cell) → P.address ≤ 30 → IsTo P.address (Some cell) x →
-    bits_in (slot_at 0 P [] x) ≡ status_word P.address (parts_by (P.legal cell) (accepts P.accept cell))
-status_at_power_up P x cell low to = by_legal (P.legal cell) refl
+pub status_told : (P : Description) (xs : List Exchange) (x : Exchange) (cell : Cell) → P.address ≤ 30 → IsTo P.address (Some cell) x → (reports_kept cell ≡ true → kept_now P (exchange_notes P xs) ≡ no_parts) → AreAnswered P xs →
+    bits_in (slot_at 0 P xs x) ≡ status_word P.address (parts_by (P.legal cell) (accepts P.accept cell))
+status_told P xs x cell low to fresh a = by_legal (P.legal cell) refl
   where
-    by_legal : (l : Bool) → P.legal cell ≡ l → bits_in (slot_at 0 P [] x) ≡ status_word P.address (parts_by l (accepts P.accept cell))
-    by_legal true e = own_status P [] x cell true low to e tt ∙ (ap (status_word P.address) (done_kept P (notes_at P [] x) x cell) ∙ done_status P x cell low to e)
+    by_legal : (l : Bool) → P.legal cell ≡ l → bits_in (slot_at 0 P xs x) ≡ status_word P.address (parts_by l (accepts P.accept cell))
+    by_legal true e = own_status P xs x cell true low to e a ∙ ap (status_word P.address) (done_kept P (notes_at P xs x) x cell ∙ done_parts P xs x cell low to e fresh)
     by_legal false e =
-        own_status P [] x cell false low to e tt
+        own_status P xs x cell false low to e a
         ∙ ap (status_word P.address)
-        (illegal_kept P (notes_at P [] x) x cell
-        ∙ (formed_plain P [] x x.command true false (inhibited_now (notes_at P [] x)) ∙ ap (λ b. plain true b false) (own_no_broadcast P.address (Some cell) x low to)))
+        (illegal_kept P (notes_at P xs x) x cell
+        ∙ (formed_plain P xs x x.command true false (inhibited_now (notes_at P xs x)) ∙ ap (λ b. plain true b false) (own_no_broadcast P.address (Some cell) x low to)))
+
+-- transmit last command: a second word is sent exactly if it is legal
+pub last_command_sent : (P : Description) (xs : List Exchange) (x : Exchange) → P.address ≤ 30 → IsTo P.address (Some (OwnMode 18)) x → AreAnswered P xs → is_sent (slot_at 1 P xs x) ≡ P.legal (OwnMode 18)
+last_command_sent P xs x low to a = by_legal (P.legal (OwnMode 18)) refl
+  where
+    by_legal : (l : Bool) → P.legal (OwnMode 18) ≡ l → is_sent (slot_at 1 P xs x) ≡ l
+    by_legal true e = ap is_sent (own_sent P xs x (OwnMode 18) true 1 low to e a refl)
+    by_legal false e =
+        let h : List Noted = notes_at_gap P x (exchange_notes P xs) in
+        ap (λ r. is_sent (sends P (slot_notes 1 h) r)) (slots_reply 1 h ∙ ap (sent_many 1) (own_reply P xs x (OwnMode 18) false low to e a))
 
 -- An ask is answered with the status that was kept before it.
 pub status_asked : (P : Description) (xs : List Exchange) (x : Exchange) → P.address ≤ 30 → IsTo P.address (Some (OwnMode 2)) x → P.legal (OwnMode 2) ≡ true → AreAnswered P xs →

@@ -1,6 +1,6 @@
 -- Two descriptions with nothing in them that can't be reached, alike in what comes before and different in one
 -- thing, are told apart by its script.
-use Rattle.std.proofs.Common.{◌≡◌, ℕ, zero, suc, ◌≤◌, ◌==◌, Bool, true, false, ◌≢◌, ◌&&◌, ◌||◌, cond, nat_le, if◌then◌else◌, ◌⊎◌, inl, inr, refl, ap, sym, ◌∙◌, arith}
+use Rattle.std.proofs.Common.{◌≡◌, ℕ, zero, suc, ◌≤◌, ◌==◌, Bool, true, false, ◌≢◌, ◌&&◌, ◌||◌, cond, nat_le, if◌then◌else◌, ◌⊎◌, inl, inr, [], ◌∷◌, refl, ap, sym, ◌∙◌, arith, eq-eqb}
 use Rattle.std.proofs.lemmas.Bool.{and_parts, eqb-true}
 use Rattle.std.proofs.lemmas.Bool.Decides.{nat_tests}
 use Rattle.bus_word.specs.declared.cell.Cell.{Cell}
@@ -12,7 +12,8 @@ use Rattle.bus_legal.specs.Parts.{Parts, description_in, IsNormal}
 use Rattle.bus_legal.proofs.Descriptions.{same_description}
 use Rattle.bus_legal.proofs.Counts.{sent_place, largest_to-passes, any_to-or, any_to-and}
 use Rattle.bus_legal.proofs.NormalLaws.{reach-normal, required-legal}
-use Rattle.terminal_exchanges.specs.Distinguish.{TellsApart, all_terminals, least_to, least_count, address_script, option_script, own_receive_script, own_transmit_script, broadcast_receive_script, own_code_script, broadcast_code_script, acceptance_script, vector_script, bit_script, initial_script, shown_wraparound, receives_own, receives_broadcast, wraparound_script, shown_subaddress}
+use Rattle.terminal_exchanges.specs.Exchanges.{script_of}
+use Rattle.terminal_exchanges.specs.Distinguish.{TellsApart, all_terminals, least_to, least_count, address_script, option_script, own_receive_script, own_transmit_script, broadcast_receive_script, own_code_script, broadcast_code_script, acceptance_script, vector_script, bit_script, initial_script, receives_own, receives_broadcast, receive_complement, shortest_transmit, wraparound_script, shown_subaddress}
 use Rattle.terminal_exchanges.proofs.Distinguish.Address.{address_tells}
 use Rattle.terminal_exchanges.proofs.Distinguish.Broadcast.{option_tells}
 use Rattle.terminal_exchanges.proofs.Distinguish.Cells.{own_receive_tells, own_transmit_tells, broadcast_receive_tells, own_code_tells, broadcast_code_tells}
@@ -36,6 +37,14 @@ normal-reached v n = record {
   allowed = λ cell legal. (and_parts (is_allowed cell) _ legal).0;
 }
 
+-- numbers that can't differ are equal
+pub same_number : (a b : ℕ) → (a ≢ b → ⊥) → a ≡ b
+same_number a b h = by_test (a == b) refl
+  where
+    by_test : (t : Bool) → (a == b) ≡ t → a ≡ b
+    by_test true e = eqb-true a b e
+    by_test false e = absurd (h (λ same. let wrong : true ≡ false = sym (eq-eqb a b same) ∙ e in cc))
+
 either_true : (a b : Bool) → a ≢ b → (a ≡ true) ⊎ (b ≡ true)
 either_true true b other = inl refl
 either_true false true other = inr refl
@@ -57,7 +66,7 @@ asked_for_word a b false other f g = absurd (other (f refl ∙ sym (g refl)))
 allowed_cell : (P Q : Description) (cell : Cell) → IsReached P → IsReached Q → P.legal cell ≢ Q.legal cell → is_allowed cell ≡ true
 allowed_cell P Q cell p q other = asked_for (P.legal cell) (Q.legal cell) (is_allowed cell) (is_allowed cell) other refl (p.allowed cell) (q.allowed cell)
 
-legal_heard : (P : Description) (cell : Cell) → IsReached P → P.legal cell ≡ true → is_heard P.broadcast cell ≡ true
+pub legal_heard : (P : Description) (cell : Cell) → IsReached P → P.legal cell ≡ true → is_heard P.broadcast cell ≡ true
 legal_heard P cell p legal = (and_parts (is_heard P.broadcast cell) (P.legal cell) (ap (λ (D : Description). D.legal cell) p.all ∙ legal)).0
 
 pub apart_by_address : (P Q : Description) → IsReached P → IsReached Q → P.address ≢ Q.address → TellsApart P Q (address_script P.address)
@@ -92,7 +101,7 @@ apart_by_broadcast_code P Q code p q same option other =
     let hears : P.broadcast ≡ true = asked_for (P.legal cell) (Q.legal cell) P.broadcast Q.broadcast other option (legal_heard P cell p) (legal_heard Q cell q) in
     broadcast_code_tells P Q code p.low same hears (sym option ∙ hears) p.asks q.asks (allowed_cell P Q cell p q other) other
 
-acceptance_asked : (P : Description) → IsReached P → P.accept ≡ true → P.legal (OwnMode 0) ≡ true
+pub acceptance_asked : (P : Description) → IsReached P → P.accept ≡ true → P.legal (OwnMode 0) ≡ true
 acceptance_asked P p e = (and_parts (P.legal (OwnMode 0)) P.accept (ap (λ (D : Description). D.accept) p.all ∙ e)).0
 
 pub apart_by_acceptance : (P Q : Description) → IsReached P → IsReached Q → P.address ≡ Q.address → P.legal (OwnMode 0) ≡ Q.legal (OwnMode 0) → P.accept ≢ Q.accept →
@@ -102,7 +111,7 @@ apart_by_acceptance P Q p q same alike other =
     asked_for P.accept Q.accept (P.legal (OwnMode 0)) (Q.legal (OwnMode 0)) other alike (acceptance_asked P p) (acceptance_asked Q q) in
     acceptance_tells P Q p.low same legal (sym alike ∙ legal) other
 
-vector_unasked : (P : Description) → IsReached P → P.legal (OwnMode 16) ≡ false → P.vector ≡ 0
+pub vector_unasked : (P : Description) → IsReached P → P.legal (OwnMode 16) ≡ false → P.vector ≡ 0
 vector_unasked P p e = sym (ap (λ (D : Description). D.vector) p.all) ∙ ap (λ b. cond b P.vector 0) e
 
 pub apart_by_vector : (P Q : Description) → IsReached P → IsReached Q → P.address ≡ Q.address → P.legal (OwnMode 16) ≡ Q.legal (OwnMode 16) → P.vector ≢ Q.vector →
@@ -112,7 +121,7 @@ apart_by_vector P Q p q same alike other =
     asked_for_word P.vector Q.vector (P.legal (OwnMode 16)) other (vector_unasked P p) (λ e. vector_unasked Q q (sym alike ∙ e)) in
     vector_tells P Q p.low same legal (sym alike ∙ legal) other
 
-bit_unasked : (P : Description) → IsReached P → P.legal (OwnMode 19) ≡ false → P.bit ≡ 0
+pub bit_unasked : (P : Description) → IsReached P → P.legal (OwnMode 19) ≡ false → P.bit ≡ 0
 bit_unasked P p e = sym (ap (λ (D : Description). D.bit) p.all) ∙ ap (λ b. cond b P.bit 0) e
 
 pub apart_by_bit : (P Q : Description) → IsReached P → IsReached Q → P.address ≡ Q.address → P.legal (OwnMode 19) ≡ Q.legal (OwnMode 19) → P.bit ≢ Q.bit →
@@ -122,30 +131,42 @@ apart_by_bit P Q p q same alike other =
     asked_for_word P.bit Q.bit (P.legal (OwnMode 19)) other (bit_unasked P p) (λ e. bit_unasked Q q (sym alike ∙ e)) in
     bit_tells P Q p.low same legal (sym alike ∙ legal) other
 
-initial_unsent : (P : Description) (s i : ℕ) → IsReached P → can_transmit P s i ≡ false → P.initial s i ≡ 0
+pub initial_unsent : (P : Description) (s i : ℕ) → IsReached P → can_transmit P s i ≡ false → P.initial s i ≡ 0
 initial_unsent P s i p e = sym (ap (λ (D : Description). D.initial s i) p.all) ∙ ap (λ b. cond b (P.initial s i) 0) e
 
 largest_passes : (p : ℕ → Bool) → 1 ≤ largest_count p → p (largest_count p) ≡ true
 unfolding largest_count
 largest_passes p some = largest_to-passes 32 p some
 
-pub apart_by_initial : (P Q : Description) (s i : ℕ) → IsReached P → IsReached Q → P.address ≡ Q.address → ((n : ℕ) → P.legal (OwnTransmit s n) ≡ Q.legal (OwnTransmit s n)) →
-    P.initial s i ≢ Q.initial s i → TellsApart P Q (initial_script P s)
-apart_by_initial P Q s i p q same alike other =
-    let can_alike : can_transmit P s i ≡ can_transmit Q s i = (λ j. nat_le 1 i && nat_le i (largest_count (λ n. alike n j))) in
-    let can : can_transmit P s i ≡ true =
-    asked_for_word (P.initial s i) (Q.initial s i) (can_transmit P s i) other (initial_unsent P s i p) (λ e. initial_unsent Q s i q (sym can_alike ∙ e)) in
-    let m : ℕ = largest_count (transmits_at P s) in
-    let from : 1 ≤ i = at_least i m can in
-    let upto : i ≤ m = at_most i m can in
-    let legal : P.legal (OwnTransmit s m) ≡ true = largest_passes (transmits_at P s) (omega arith) in
-    initial_tells P Q s m i p.low same (p.allowed (OwnTransmit s m) legal) legal (sym (alike m) ∙ legal) from upto other
+-- the longest legal transmit command of a subaddress sends each word that can be sent from it
+pub record Longest (P : Description) (s i : ℕ) : Type 0 where
+  pub from : 1 ≤ i
+  pub upto : i ≤ largest_count (transmits_at P s)
+  pub legal : P.legal (OwnTransmit s (largest_count (transmits_at P s))) ≡ true
+
+pub longest : (P : Description) (s i : ℕ) → can_transmit P s i ≡ true → Longest P s i
+longest P s i can =
+    let from : 1 ≤ i = at_least i (largest_count (transmits_at P s)) can in
+    let upto : i ≤ largest_count (transmits_at P s) = at_most i (largest_count (transmits_at P s)) can in
+    record { from = from; upto = upto; legal = largest_passes (transmits_at P s) (omega arith) }
   where
     at_least : (i m : ℕ) → nat_le 1 i && nat_le i m ≡ true → 1 ≤ i
     at_least i m e = grind (arith, nat_tests)
 
     at_most : (i m : ℕ) → nat_le 1 i && nat_le i m ≡ true → i ≤ m
     at_most i m e = grind (arith, nat_tests)
+
+pub can_alike : (P Q : Description) (s i : ℕ) → ((n : ℕ) → P.legal (OwnTransmit s n) ≡ Q.legal (OwnTransmit s n)) → can_transmit P s i ≡ can_transmit Q s i
+can_alike P Q s i alike = λ j. nat_le 1 i && nat_le i (largest_count (λ n. alike n j))
+
+pub apart_by_initial : (P Q : Description) (s i : ℕ) → IsReached P → IsReached Q → P.address ≡ Q.address → ((n : ℕ) → P.legal (OwnTransmit s n) ≡ Q.legal (OwnTransmit s n)) →
+    P.initial s i ≢ Q.initial s i → TellsApart P Q (initial_script P s)
+apart_by_initial P Q s i p q same alike other =
+    let can : can_transmit P s i ≡ true =
+    asked_for_word (P.initial s i) (Q.initial s i) (can_transmit P s i) other (initial_unsent P s i p) (λ e. initial_unsent Q s i q (sym (can_alike P Q s i alike) ∙ e)) in
+    let m : ℕ = largest_count (transmits_at P s) in
+    let sends : Longest P s i = longest P s i can in
+    initial_tells P Q s m i p.low same (p.allowed (OwnTransmit s m) sends.legal) sends.legal (sym (alike m) ∙ sends.legal) sends.from sends.upto other
 
 -- the least number that passes, passes
 least_to-passes : (n : ℕ) (p : ℕ → Bool) → any_to n p ≡ true → p (least_to n p) ≡ true
@@ -168,6 +189,24 @@ unfolding any_count
 any_received P s =
     any_to-or 32 (receives_own P s) (λ n. P.broadcast && receives_broadcast P s n)
     ∙ ap (λ b. any_to 32 (receives_own P s) || b) (any_to-and 32 P.broadcast (receives_broadcast P s))
+
+-- what can be received and transmitted at a subaddress at which words can come back
+pub record ComeBack (P : Description) (s : ℕ) : Type 0 where
+  pub sends : P.legal (OwnTransmit s (least_count (transmits_at P s))) ≡ true
+  pub own : any_count (receives_own P s) ≡ true → P.legal (OwnReceive s (least_count (receives_own P s))) ≡ true
+  pub heard : any_count (receives_own P s) ≡ false → (P.broadcast ≡ true) × (P.legal (BroadReceive s (least_count (receives_broadcast P s))) ≡ true)
+
+pub come_back : (P : Description) (s : ℕ) → can_wrap P s ≡ true → ComeBack P s
+come_back P s wraps =
+    let both : (any_count (receives_at P s) ≡ true) × (any_count (transmits_at P s) ≡ true) = and_parts (any_count (receives_at P s)) (any_count (transmits_at P s)) wraps in
+    record {
+      sends = least_passes (transmits_at P s) both.1;
+      own = λ e. least_passes (receives_own P s) e;
+      heard = λ e.
+          (let parts : (P.broadcast ≡ true) × (any_count (receives_broadcast P s) ≡ true) =
+          and_parts P.broadcast (any_count (receives_broadcast P s)) (ap (λ b. b || (P.broadcast && any_count (receives_broadcast P s))) (sym e) ∙ (sym (any_received P s) ∙ both.0)) in
+          (parts.0, least_passes (receives_broadcast P s) parts.1));
+    }
 
 wrap_asked : (P : Description) → IsReached P → P.wrap ≢ 0 → can_wrap P P.wrap ≡ true
 wrap_asked P p some = by_test (can_wrap P P.wrap) refl
@@ -192,7 +231,7 @@ pub record Shows (P Q : Description) (s : ℕ) : Type 0 where
   pub wraps : can_wrap P s ≡ true
   pub differ : (s == P.wrap) ≢ (s == Q.wrap)
 
-shows : (P Q : Description) → IsReached P → IsReached Q → P.wrap ≢ Q.wrap → WrapAlike (shown_subaddress P.wrap Q.wrap) P Q → Shows P Q (shown_subaddress P.wrap Q.wrap)
+pub shows : (P Q : Description) → IsReached P → IsReached Q → P.wrap ≢ Q.wrap → WrapAlike (shown_subaddress P.wrap Q.wrap) P Q → Shows P Q (shown_subaddress P.wrap Q.wrap)
 shows P Q p q other alike = by_none (P.wrap == 0) refl alike
   where
     one_alone : (a b s : ℕ) → a ≢ b → (s ≡ a) ⊎ ((a ≡ 0) × (s ≡ b)) → (s == a) ≢ (s == b)
@@ -217,33 +256,29 @@ apart_by_wraparound P Q p q same alike other = apart_at (shown_subaddress P.wrap
     apart_at : (s : ℕ) → WrapAlike s P Q → Shows P Q s → TellsApart P Q (wraparound_script P s)
     apart_at s alike shown = by_own (any_count (receives_own P s)) refl
       where
-        both : (any_count (receives_at P s) ≡ true) × (any_count (transmits_at P s) ≡ true)
-        both = and_parts (any_count (receives_at P s)) (any_count (transmits_at P s)) shown.wraps
-
-        sends : P.legal (OwnTransmit s (least_count (transmits_at P s))) ≡ true
-        sends = least_passes (transmits_at P s) both.1
+        back : ComeBack P s
+        back = come_back P s shown.wraps
 
         by_own : (b : Bool) → any_count (receives_own P s) ≡ b →
-            TellsApart P Q (if b then shown_wraparound P s P.address (least_count (receives_own P s)) (least_count (transmits_at P s)) else shown_wraparound P s all_terminals (least_count (receives_broadcast P s)) (least_count (transmits_at P s)))
+            TellsApart P Q (script_of ((if b then receive_complement P s P.address (least_count (receives_own P s)) else receive_complement P s all_terminals (least_count (receives_broadcast P s))) ∷ shortest_transmit P s ∷ []))
         by_own true e =
             let n : ℕ = least_count (receives_own P s) in
             let m : ℕ = least_count (transmits_at P s) in
-            let legal : P.legal (OwnReceive s n) ≡ true = least_passes (receives_own P s) e in
+            let legal : P.legal (OwnReceive s n) ≡ true = back.own e in
             own_wraparound_tells P Q s n m p.low same
             (p.allowed (OwnReceive s n) legal) legal (sym (alike.own_receive n) ∙ legal)
-            (p.allowed (OwnTransmit s m) sends) sends (sym (alike.own_transmit m) ∙ sends) alike.initial shown.differ
+            (p.allowed (OwnTransmit s m) back.sends) back.sends (sym (alike.own_transmit m) ∙ back.sends) alike.initial shown.differ
         by_own false e =
             let n : ℕ = least_count (receives_broadcast P s) in
             let m : ℕ = least_count (transmits_at P s) in
-            let parts : (P.broadcast ≡ true) × (any_count (receives_broadcast P s) ≡ true) =
-            and_parts P.broadcast (any_count (receives_broadcast P s)) (ap (λ b. b || (P.broadcast && any_count (receives_broadcast P s))) (sym e) ∙ (sym (any_received P s) ∙ both.0)) in
-            let legal : P.legal (BroadReceive s n) ≡ true = least_passes (receives_broadcast P s) parts.1 in
-            broadcast_wraparound_tells P Q s n m p.low same parts.0 (sym alike.broadcast ∙ parts.0)
+            let hears : P.broadcast ≡ true = (back.heard e).0 in
+            let legal : P.legal (BroadReceive s n) ≡ true = (back.heard e).1 in
+            broadcast_wraparound_tells P Q s n m p.low same hears (sym alike.broadcast ∙ hears)
             (p.allowed (BroadReceive s n) legal) legal (sym (alike.broadcast_receive n) ∙ legal)
-            (p.allowed (OwnTransmit s m) sends) sends (sym (alike.own_transmit m) ∙ sends) alike.initial shown.differ
+            (p.allowed (OwnTransmit s m) back.sends) back.sends (sym (alike.own_transmit m) ∙ back.sends) alike.initial shown.differ
 
 -- where nothing differs that a script tells, the descriptions are equal
-unallowed : (P : Description) (cell : Cell) → IsReached P → is_allowed cell ≡ false → P.legal cell ≡ false
+pub unallowed : (P : Description) (cell : Cell) → IsReached P → is_allowed cell ≡ false → P.legal cell ≡ false
 unallowed P cell p e = by_legal (P.legal cell) refl
   where
     by_legal : (l : Bool) → P.legal cell ≡ l → l ≡ false

@@ -1,4 +1,4 @@
-use Rattle.std.proofs.Common.{◌≡◌, refl, rules}
+use Rattle.std.proofs.Common.{refl, rules}
 use Rattle.bus_canon.proofs.ApartLaws.{alike_at}
 use Rattle.bus_canon.proofs.apart.is_wraparound_shown.Goals as goal
 

@@ -1,14 +1,13 @@
-use Rattle.std.proofs.Common.{◌++◌, [], ◌∷◌, ◌-◌, ◌+◌, ap, ◌∙◌, arith}
+use Rattle.std.proofs.Common.{◌++◌, [], ◌∷◌, ◌+◌, ap, refl, ◌∙◌, arith}
 use Rattle.terminal_exchanges.specs.Exchanges.{data_event}
 use Rattle.bus_canon.proofs.ScriptLaws.{words-more}
 use Rattle.bus_canon.proofs.script.push_data.Goals as goal
 
-pub loop-other-preserved : goal.loop-other-preserved
-loop-other-preserved c = record {
+pub loop-zero-preserved : goal.loop-zero-preserved
+loop-zero-preserved c = record {
   items =
-      c.push_word-in-loop-other.ensures.items
-      ∙ (ap (λ events. events ++ data_event 0 ∷ []) c.loop-other.invariant.items
-      ∙ words-more c.args.script.now.items c.args.first (c.loop-other._other - 1) (c.loop-other._other + 1 - 1) (omega arith));
+      c.push_word-in-loop-zero.ensures.items
+      ∙ (ap (λ events. events ++ data_event 0 ∷ []) c.loop-zero.invariant.items
+      ∙ words-more c.args.script.now.items c.in-Some.word c.loop-zero._zero (c.loop-zero._zero + 1) refl);
   long = omega arith;
-  few = omega arith;
 }

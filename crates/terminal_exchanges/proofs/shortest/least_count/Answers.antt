@@ -1,6 +1,6 @@
 use Rattle.std.proofs.Common.{arith}
-use Rattle.bus_canon.proofs.PlaceLaws.{least_of_none, least_of_some}
-use Rattle.bus_canon.proofs.places.least_count.Goals as goal
+use Rattle.terminal_exchanges.proofs.CountLaws.{least_of_none, least_of_some}
+use Rattle.terminal_exchanges.proofs.shortest.least_count.Goals as goal
 
 pub returns-then-mask-eq0-clause-count : goal.returns-then-mask-eq0-clause-count
 returns-then-mask-eq0-clause-count c = least_of_none c.args.mask c.if-mask-eq0.true

@@ -1,0 +1,3 @@
+pub use Rattle.bus_legal.specs.Parts
+pub mod Trials
+pub mod inner

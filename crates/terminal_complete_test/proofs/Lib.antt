@@ -1,0 +1,6 @@
+pub mod Walk
+pub mod Played
+pub mod Sound
+pub mod Length
+pub mod Complete
+pub mod Examples

@@ -1,0 +1,11 @@
+-- Exchanges as values of the code, which keep of their data words the first and how many words of 0 come after it.
+use Rattle.std.specs.Prelude.{ℕ, Option, Some, None, List, [], ◌∷◌, replicate}
+use Rattle.terminal_exchanges.specs.Exchanges.{Exchange}
+use Rattle.terminal_exchanges.specs.declared.exchange.Exchange.{Exchange as Value}
+
+abbrev pub words_in : Option ℕ → ℕ → List ℕ
+words_in None n = []
+words_in (Some first) n = first ∷ replicate n 0
+
+abbrev pub exchange_in : Value → Exchange
+exchange_in x = record { command = x.command; words = words_in x.first x.zeros; slots = x.slots }
