@@ -2,10 +2,10 @@
 """Gives texts to the program: texts.py PROGRAM..
 
 PROGRAM is the built program rt1553. Each text is a profile, a canonical text or a script whose answer is known: it is
-refused by its first fault (tests/texts/refused.txt, ranges.txt, refused_lines.txt), it is accepted (accepted.txt), it has
-these canonical lines (canonical.txt), another text means the same terminal or another one, which a script worked out by
-hand shows (differing.txt), or a script has this transcript (tests/rows, and the model of the rules in tests/model). The last
-line is 'N passed, M failed': rows, over all programs.
+refused by its first fault (tests/texts/refused.txt, ranges.txt, refused_lines.txt), it is accepted (accepted.txt), it
+has these canonical lines (canonical.txt), another text means the same terminal or another one, which a script worked
+out by hand shows (differing.txt), or a script has this transcript (tests/rows, and the model of the rules in
+tests/model). The last line is 'N passed, M failed': rows, over all programs.
 """
 
 import pathlib
@@ -33,8 +33,8 @@ USAGE = "usage: rt1553 [check P, canon P, run P SCRIPT, compare P Q]"
 
 
 class Row(NamedTuple):
-    """What `PROGRAM WORDS` must answer in a folder with these files, by their names: the status, the output, and the line of
-    the fault. Where `zeros` is False, lines of masks without a bit are left out of the output."""
+    """What `PROGRAM WORDS` must answer in a folder with these files, by their names: the status, the output, and the
+    line of the fault. Where `zeros` is False, lines of masks without a bit are left out of the output."""
 
     name: str
     words: str
@@ -311,7 +311,8 @@ def canonical_texts():
 def texts_of_profiles():
     """Profiles with their whole canonical texts, which have these lengths, and their texts of version 1."""
     for address in range(31):
-        yield written(f"the least of address {address}", f"address = {address}", of_length(canonical(address=address), 1520))
+        least = of_length(canonical(address=address), 1520)
+        yield written(f"the least of address {address}", f"address = {address}", least)
     everything = 'to = "both"\ndirection = "both"\nsubaddresses = "1-30"\n[[mode]]\nto = "both"\ncodes = "0-31"\n'
     largest = f"address = 5\nbroadcast = true\n[[rule]]\n{everything}"
     heard = 'to = "broadcast"\ndirection = "receive"\nsubaddresses = 30\ncounts = 1\n'
@@ -327,7 +328,8 @@ def texts_of_profiles():
         yield written(f"of version 1: {name}", first, text)
     yield refused("no version 3", "rt1553 3\n", NOT_TOML)
     at_seven = 'address = 5\nwraparound = 7\n[[rule]]\ndirection = "both"\nsubaddresses = 7\ncounts = 1\n'
-    yield written("a chosen wraparound subaddress", at_seven, of_length(wrapping(2, [7], "wraparound 07\ninitial 07 0000\n"), 1550))
+    text = of_length(wrapping(2, [7], "wraparound 07\ninitial 07 0000\n"), 1550)
+    yield written("a chosen wraparound subaddress", at_seven, text)
 
 
 def one_line_wrong():
@@ -489,7 +491,8 @@ def shown_by_wraparound():
 def transcript(profile, script):
     """The transcript of a script by the model of the rules."""
     terminal = rules.Terminal(play.setup_of(tomllib.loads(profile)))
-    return "".join(line + "\n" for line in play.transcript(terminal, (event for _, event in play.events_of(script.encode()))))
+    events = (event for _, event in play.events_of(script.encode()))
+    return "".join(line + "\n" for line in play.transcript(terminal, events))
 
 
 def shown_by_transcripts():
@@ -511,7 +514,8 @@ def shown_by_transcripts():
 
 def refused_pair():
     """The first of two texts that are refused."""
-    yield Row("two texts that are refused", "compare p q", {"p": "address", "q": "address = 31"}, 2, "", NOT_TOML + "\n")
+    texts = {"p": "address", "q": "address = 31"}
+    yield Row("two texts that are refused", "compare p q", texts, 2, "", NOT_TOML + "\n")
 
 
 # Scripts
@@ -640,8 +644,8 @@ JOBS = (
     ("run p q", {"p": "address = 6", "q": "A c 3402\nA gap\nslot\n"}, b"", "A s 3000\n"),
 )
 WRONG_WORDS = (
-    "check", "canon", "run", "run p", "compare p", "check p q", "canon p q", "run p q r", "compare p q r", "--help", "-h",
-    "help", "help check", "run --help", "--version", "-V", "che p", "CHECK p", "-- check p", "check -x",
+    "check", "canon", "run", "run p", "compare p", "check p q", "canon p q", "run p q r", "compare p q r", "--help",
+    "-h", "help", "help check", "run --help", "--version", "-V", "che p", "CHECK p", "-- check p", "check -x",
 )  # fmt: skip
 
 
@@ -657,9 +661,10 @@ def command_lines():
 
 ROWS = (
     refused_profiles, arrays, ranges, accepted_profiles, worked_profiles, many_rules, spellings, parts_that_count,
-    canonical_texts, texts_of_profiles, one_line_wrong, after_the_end, damaged_everywhere, wraparound_lines, first_version,
-    shown_by_scripts, shown_by_words, shown_by_wraparound, shown_by_transcripts, refused_pair,
-    worked_rows, whole_scripts, refused_scripts, refused_lines, limits, refused_before_a_run, random_messages, command_lines,
+    canonical_texts, texts_of_profiles, one_line_wrong, after_the_end, damaged_everywhere, wraparound_lines,
+    first_version, shown_by_scripts, shown_by_words, shown_by_wraparound, shown_by_transcripts, refused_pair,
+    worked_rows, whole_scripts, refused_scripts, refused_lines, limits, refused_before_a_run, random_messages,
+    command_lines,
 )  # fmt: skip
 
 
@@ -668,7 +673,8 @@ def fault_of(program, row, room):
     with tempfile.TemporaryDirectory(dir=room) as folder:
         for name, text in row.files.items():
             pathlib.Path(folder, name).write_bytes(text if isinstance(text, bytes) else text.encode("ascii"))
-        ran = subprocess.run([program, *row.words.split()], input=row.stdin, capture_output=True, timeout=60, cwd=folder)
+        words = [program, *row.words.split()]
+        ran = subprocess.run(words, input=row.stdin, capture_output=True, timeout=60, cwd=folder)
     output = ran.stdout.decode("ascii", "replace")
     if not row.zeros:
         output = "".join(it for it in output.splitlines(True) if not it.endswith(" 00000000\n"))

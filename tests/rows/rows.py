@@ -3,9 +3,9 @@
 
     rows.py FOLDER    writes each row as FOLDER/NAME.script, and its profile in FOLDER/profiles
 
-In the files *.txt beside this one a row begins with a line `== NAME`. Its profile follows, a line `--`, and then its script,
-which states its answers (docs/script.md): an event behind which nothing is stated is answered by nothing. The rows that are
-the same for each mode code, each phase of a message or each word are made here, from what the standard says of each.
+In the files *.txt beside this one a row begins with a line `== NAME`. Its profile follows, a line `--`, and then its
+script, which states its answers (docs/script.md): an event behind which nothing is stated is answered by nothing. The
+rows that are alike for each mode code or each phase of a message are made here, from what the standard says of each.
 """
 
 import pathlib
@@ -46,7 +46,9 @@ def rows_of(file):
 
 EQUIPMENT = "address = 5\nbroadcast = true\naccept_bus_control = true\nvector = 0x00aa\nbit = 0x00bb\n"
 # all that can be legal, and nothing but the mode codes 2, 4, 5 and 8 to the own address
-EVERYTHING = EQUIPMENT + 'rule = [{to = "both", direction = "both", subaddresses = "1-30"}]\nmode = [{to = "both", codes = "0-31"}]\n'
+EVERYTHING = f"""{EQUIPMENT}rule = [{{to = "both", direction = "both", subaddresses = "1-30"}}]
+mode = [{{to = "both", codes = "0-31"}}]
+"""
 NOTHING = EQUIPMENT
 REQUIRED = (2, 4, 5, 8)
 BUSES = (("A", "B"), ("B", "A"))
@@ -54,7 +56,7 @@ BUSES = (("A", "B"), ("B", "A"))
 
 class Code(NamedTuple):
     """What a mode code does where it is legal: its T/R, the data word that comes with it, whether it may be legal by
-    broadcast, the status and the words of its reply while the terminal is not busy and while it is, and what it hands over."""
+    broadcast, the status and the words of its reply, those while the terminal is busy, and what it hands over."""
 
     code: int
     transmit: bool = True
@@ -114,8 +116,8 @@ def row(name, profile, *lines):
 
 
 def own_codes():
-    """Each mode code to the own address, legal and illegal, while the terminal is busy and while it is not. No profile makes
-    codes 2, 4, 5 and 8 illegal."""
+    """Each mode code to the own address, legal and illegal, while the terminal is busy and while it is not. No profile
+    makes codes 2, 4, 5 and 8 illegal."""
     for code in CODES:
         for busy, when in ((False, ""), (True, " while busy")):
             status, words = (code.busy_status, code.busy_words) if busy else (code.status, code.words)
@@ -127,8 +129,8 @@ def own_codes():
 
 
 def kept_after(code, busy):
-    """The status that is kept after a code by broadcast. Where the code can't be legal so, it has message error; after a reset
-    it is that of power-up."""
+    """The status that is kept after a code by broadcast. Where the code can't be legal so, it has message error; after
+    a reset it is that of power-up."""
     if code.broadcast and code.code == 8:
         return 0x2800
     return (0x2810 if code.broadcast else 0x2C10) + 8 * busy
@@ -171,9 +173,10 @@ def superseding_commands():
 
 def words_after_a_command():
     """32 words after a command for 32 are handed over, 33 are a message in error."""
-    for count, hand, status in ((32, "hand receive own 03" + "".join(f" {k:04x}" for k in range(32)), 0x2800), (33, "", None)):
+    handed = "hand receive own 03" + "".join(f" {k:04x}" for k in range(32))
+    for count, status, hand, kept in ((32, 0x2800, handed, 0x2800), (33, None, "", 0x2C00)):
         words = [f"A d {k:04x}" for k in range(count)]
-        yield row(f"{count} words", EVERYTHING, "A c 2860", *words, *gap("A", status, hand=hand), *asked(status or 0x2C00))
+        yield row(f"{count} words", EVERYTHING, "A c 2860", *words, *gap("A", status, hand=hand), *asked(kept))
 
 
 def rows():
