@@ -1,61 +1,79 @@
 #!/usr/bin/env python3
 """Gives texts to the program: texts.py PROGRAM..
 
-PROGRAM is the built program rt1553. Each text is a profile or a canonical text whose answer is known: it is refused by
-its first fault (tests/texts/refused.txt), it is accepted (accepted.txt), it has these canonical lines (canonical.txt), or
-another text means the same terminal or another one, which a script worked out by hand shows. The last line is
-'N passed, M failed': rows, over all programs.
+PROGRAM is the built program rt1553. Each text is a profile, a canonical text or a script whose answer is known: it is
+refused by its first fault (tests/texts/refused.txt, ranges.txt, refused_lines.txt), it is accepted (accepted.txt), it
+has these canonical lines (canonical.txt), another text means the same terminal or another one, which a script worked
+out by hand shows (differing.txt), or a script has this transcript (tests/rows, and the model of the rules in
+tests/model). The last line is 'N passed, M failed': rows, over all programs.
 """
 
 import pathlib
 import subprocess
 import sys
 import tempfile
+import tomllib
 from concurrent.futures import ThreadPoolExecutor
 from typing import NamedTuple
 
-TEXTS = pathlib.Path(__file__).resolve().parent.parent / "tests/texts"
+TESTS = pathlib.Path(__file__).resolve().parent.parent / "tests"
+TEXTS = TESTS / "texts"
+sys.path[:0] = [str(TESTS / "model"), str(TESTS / "rows")]
+
+import canonical as canonical_model  # noqa: E402
+import play  # noqa: E402
+import random_scripts  # noqa: E402
+import rows as worked  # noqa: E402
+import rules  # noqa: E402
+
 SUBADDRESSES = range(1, 31)
 FULL = 0xFFFFFFFF
 NOT_TOML = "profile: not TOML"
+USAGE = "usage: rt1553 [check P, canon P, run P SCRIPT, compare P Q]"
 
 
 class Row(NamedTuple):
-    """What `PROGRAM WORD FILE..` must answer for files of these texts: the status, the output, and the line of the fault.
-    Where `zeros` is False, lines of masks without a bit are left out of the output."""
+    """What `PROGRAM WORDS` must answer in a folder with these files, by their names: the status, the output, and the
+    line of the fault. Where `zeros` is False, lines of masks without a bit are left out of the output."""
 
     name: str
-    word: str
-    texts: tuple
+    words: str
+    files: dict
     status: int = 0
     output: str = ""
     fault: str = ""
     zeros: bool = True
+    stdin: bytes = b""
 
 
 def refused(name, text, fault):
     """A text that is refused."""
-    return Row(name, "check", (text,), 2, "", fault + "\n")
+    return Row(name, "check p", {"p": text}, 2, "", fault + "\n")
 
 
 def accepted(name, text):
     """A text that is accepted."""
-    return Row(name, "check", (text,), 0, "ok\n")
+    return Row(name, "check p", {"p": text}, 0, "ok\n")
 
 
 def written(name, text, canonical):
     """A text and its canonical text."""
-    return Row(name, "canon", (text,), 0, canonical)
+    return Row(name, "canon p", {"p": text}, 0, canonical)
 
 
 def same(name, one, other):
     """Two texts that mean the same terminal."""
-    return Row(name, "compare", (one, other), 0, "same\n")
+    return Row(name, "compare p q", {"p": one, "q": other}, 0, "same\n")
 
 
 def differ(name, one, other, script):
     """Two texts that mean different terminals, and the script that shows it, `; ` between its lines."""
-    return Row(name, "compare", (one, other), 1, script.replace("; ", "\n") + "\n")
+    return Row(name, "compare p q", {"p": one, "q": other}, 1, script.replace("; ", "\n") + "\n")
+
+
+def played(name, profile, script, transcript, fault=""):
+    """A script with its transcript, and the fault that ends it, if one does."""
+    return Row(name, "run p q", {"p": profile, "q": script}, 2 if fault else 0, transcript, fault and fault + "\n")
 
 
 def blocks(file):
@@ -86,6 +104,25 @@ def arrays():
         yield refused(f"256 of {key} that are none", text.format(key, "0," * 256), f"profile: {key} 1: {key} has the wrong kind")
 
 
+def ranges():
+    """Texts of ranges, with the set that they name, the least number first, or with the fault."""
+    for line in (TEXTS / "ranges.txt").read_text(encoding="ascii").splitlines():
+        key, text, answer = line.split("|")
+        name, receive = f"ranges of {key}: {text}", 'address = 5\nrule = [{{direction = "receive", {}}}]'
+        if key == "codes":
+            profile = f'address = 5\nmode = [{{codes = "{text}"}}]'
+        elif key == "counts":
+            profile = receive.format(f'subaddresses = 1, counts = "{text}"')
+        else:
+            profile = receive.format(f'subaddresses = "{text}", counts = 1')
+        if not answer.isalnum():
+            yield refused(name, profile, f"profile: {'mode' if key == 'codes' else 'rule'} 1: {key} is {answer}")
+            continue
+        mask = int(answer, 16)
+        masks = {1: mask} if key == "counts" else {s: mask >> (s - 1) & 1 for s in SUBADDRESSES}
+        yield written(name, profile, canonical(own_receive=masks))
+
+
 def accepted_profiles():
     """Each key at the ends of its range, and each form that TOML gives a value."""
     for text in blocks("accepted.txt"):
@@ -100,7 +137,7 @@ def worked_profiles():
         lines = block.split("\n")
         text = "\n".join(it for it in lines if not it.startswith("> "))
         output = "".join(it[2:] + "\n" for it in lines if it.startswith("> "))
-        yield Row(f"worked: {lines[0]}", "canon", (text,), 0, output, zeros=False)
+        yield Row(f"worked: {lines[0]}", "canon p", {"p": text}, 0, output, zeros=False)
 
 
 def many_rules():
@@ -132,6 +169,33 @@ counts = 2
 subaddress = 7
 words = [1, 2]"""
     yield same("two spellings", short, long)
+    another = """address = 0x05
+[[rule]]
+direction = "receive"
+subaddresses = 1
+counts = "1-32"
+[[rule]]
+direction = "receive"
+subaddresses = 1
+counts = "1, 3-32"
+legal = false
+[[rule]]
+direction = "receive"
+subaddresses = " 2 , 3"
+counts = "02"
+[[initial]]
+subaddress = 7
+words = [1, 2]
+"""
+    for name, text in (("the one spelling", SPELT), ("the other spelling", another)):
+        yield written(name, text, SPELT_TEXT)
+    for one, other in (
+        ("address = 5", "address = 0x05 # five"),
+        # nothing of 30 is legal, so that wraparound can't be reached
+        ("address = 5", "address = 5\nwraparound = false"),
+        ("address = 5\nvector = 7", "address = 5\nbit = 8\naccept_bus_control = true"),
+    ):
+        yield same(f"the same: {other}", one, other)
 
 
 def profile_at_30(legal, codes=(), **keys):
@@ -208,6 +272,19 @@ def changed(number, line, after=""):
     return "\n".join(lines) + after
 
 
+def of_length(text, length):
+    """A canonical text, which has this length."""
+    assert len(text) == length
+    return text
+
+
+SPELT = 'address = 5\n[[rule]]\ndirection = "receive"\nsubaddresses = "1-3"\ncounts = 2\n'
+SPELT_TEXT = of_length(canonical(own_receive={1: 2, 2: 2, 3: 2}), 1520)
+BY_BROADCAST = canonical(own_transmit={30: 1}, heard={30: 1}, end="wraparound 30\ninitial 30 0000\n")
+LARGEST = canonical(own_receive=FULL, own_transmit=FULL, heard=FULL, own_mode=0x000F01FF, heard_mode=0x000201FA, end="")
+LARGEST += "accept 0\nvector 0000\nbit 0000\n" + zero_words(FULL)
+
+
 def fixed(name, text):
     """A text that is its own canonical text."""
     return written(name, text, text)
@@ -223,15 +300,36 @@ def canonical_texts():
     for address in range(31):
         yield fixed(f"address {address}", canonical(address=address))
     yield fixed("every kind of line", EVERY_LINE)
-    largest = canonical(own_receive=FULL, own_transmit=FULL, heard=FULL, own_mode=0x000F01FF, heard_mode=0x000201FA, end="")
-    largest += "accept 0\nvector 0000\nbit 0000\n" + zero_words(FULL)
-    assert (largest.count("\n"), len(largest)) == (129, 7618) and (PLAIN.count("\n"), len(PLAIN)) == (64, 1520)
-    yield fixed("the largest", largest)
+    assert (LARGEST.count("\n"), len(LARGEST)) == (129, 7618) and (PLAIN.count("\n"), len(PLAIN)) == (64, 1520)
+    yield fixed("the largest", LARGEST)
     yield fixed("every count to the own address alone", canonical(own_receive=FULL, own_transmit=FULL))
-    by_broadcast = canonical(own_transmit={30: 1}, heard={30: 1}, end="wraparound 30\ninitial 30 0000\n")
-    yield fixed("wraparound that only broadcasts reach", by_broadcast)
+    yield fixed("wraparound that only broadcasts reach", BY_BROADCAST)
     yield fixed("words of mode codes", changed(64, "own-mode 00090135", "accept 1\nvector beef\nbit 0a01\n"))
     yield fixed("initial words", changed(40, "own-transmit 07 00000012", "initial 07 0001 0002 0003 0004 0005\n"))
+
+
+def texts_of_profiles():
+    """Profiles with their whole canonical texts, which have these lengths, and their texts of version 1."""
+    for address in range(31):
+        least = of_length(canonical(address=address), 1520)
+        yield written(f"the least of address {address}", f"address = {address}", least)
+    everything = 'to = "both"\ndirection = "both"\nsubaddresses = "1-30"\n[[mode]]\nto = "both"\ncodes = "0-31"\n'
+    largest = f"address = 5\nbroadcast = true\n[[rule]]\n{everything}"
+    heard = 'to = "broadcast"\ndirection = "receive"\nsubaddresses = 30\ncounts = 1\n'
+    sent = 'direction = "transmit"\nsubaddresses = 30\ncounts = 1\n'
+    by_broadcast = f"address = 5\nbroadcast = true\n[[rule]]\n{heard}[[rule]]\n{sent}"
+    for name, profile, text in (
+        ("the largest", largest, of_length(LARGEST, 7618)),
+        ("words of 30 by broadcast alone", by_broadcast, of_length(BY_BROADCAST, 2474)),
+        ("subaddresses 1 to 3", SPELT, SPELT_TEXT),
+    ):
+        first = text.replace("rt1553 2\n", "rt1553 1\n").replace("\nwraparound 30\n", "\nwraparound 1\n")
+        yield written(f"of its profile: {name}", profile, text)
+        yield written(f"of version 1: {name}", first, text)
+    yield refused("no version 3", "rt1553 3\n", NOT_TOML)
+    at_seven = 'address = 5\nwraparound = 7\n[[rule]]\ndirection = "both"\nsubaddresses = 7\ncounts = 1\n'
+    text = of_length(wrapping(2, [7], "wraparound 07\ninitial 07 0000\n"), 1550)
+    yield written("a chosen wraparound subaddress", at_seven, text)
 
 
 def one_line_wrong():
@@ -390,22 +488,193 @@ def shown_by_wraparound():
     yield differ("the longest script", one, other, longest)
 
 
+def transcript(profile, script):
+    """The transcript of a script by the model of the rules."""
+    terminal = rules.Terminal(play.setup_of(tomllib.loads(profile)))
+    events = (event for _, event in play.events_of(script.encode()))
+    return "".join(line + "\n" for line in play.transcript(terminal, events))
+
+
+def shown_by_transcripts():
+    """Pairs of profiles that differ in one thing, the script that shows it, of their canonical texts too, and its two
+    transcripts."""
+    for block in ("\n" + (TEXTS / "differing.txt").read_text(encoding="ascii")).split("\n== ")[1:]:
+        head, other, script = block.split("\n--\n")
+        name, one = head.split("\n", 1)
+        script = script.rstrip("\n")
+        texts = [canonical_model.text_of(canonical_model.reached_of(tomllib.loads(it))) for it in (one, other)]
+        transcripts = [transcript(it, script) for it in (one, other)]
+        assert transcripts[0] != transcripts[1], name
+        yield differ(f"{name}: profiles", one, other, script)
+        yield differ(f"{name}: canonical texts", *texts, script)
+        for place, profile, text, answers in zip(("first", "second"), (one, other), texts, transcripts):
+            yield written(f"{name}: canonical text of the {place}", profile, text)
+            yield played(f"{name}: transcript of the {place}", profile, script, answers)
+
+
+def refused_pair():
+    """The first of two texts that are refused."""
+    texts = {"p": "address", "q": "address = 31"}
+    yield Row("two texts that are refused", "compare p q", texts, 2, "", NOT_TOML + "\n")
+
+
+# Scripts
+
+ASK = "A c 2c02\nA gap\nslot\n"
+EQUIPPED = worked.EVERYTHING.replace("0x00aa", "0x1234").replace("0x00bb", "0xabcd") + "wraparound = false\n"
+
+
+def worked_rows():
+    """Scripts that state their answers."""
+    for row in worked.rows():
+        yield played(row.name, row.profile, row.script, row.transcript())
+
+
+def whole_scripts():
+    """Scripts with comments, empty lines, capital digits, wrong parity and no last line feed."""
+    busy = "flag busy 1\nB c 2c61\nB gap\nslot\nvector 0f0f\nflag busy 0\nB c 2c10\nB gap\nslot\nslot\n"
+    for script, answers in (
+        ("", ""),
+        ("\n# a comment\n\n", ""),
+        ("A c 2c02\nA gap\n", ""),
+        (ASK, "A s 2800\n"),
+        ("A c 2C02\nA gap\nslot", "A s 2800\n"),
+        ("A c 2c02 0\nA gap\nslot\n", ""),
+        (busy, "B s 2808\nB s 2800\nB d 0f0f\n"),
+        ("A c 2c81\nA gap\nslot\nwrite 04 01 beef\n\nA gap\nslot\nslot\n", "A s 2800\nA d beef\n"),
+    ):
+        yield played(f"whole: {script!r}", EQUIPPED, script, answers)
+
+
+def refused_scripts():
+    """Scripts with a line that is refused: the answers to the lines before it are written."""
+    long = "#" + "2345678901" * 6 + "23456\n"
+    for script, fault, answers in (
+        (ASK + "A x\n", "line 4", "A s 2800\n"),
+        (ASK + "A x", "line 4", "A s 2800\n"),
+        ("A gap\r\n", "line 1", ""),
+        ("\n\nslot \n", "line 3", ""),
+        (long, "line 1 is too long", ""),
+        (ASK + "A gap \n\n\n", "line 4", "A s 2800\n"),
+        ("\n" * 2 + "A x\n", "line 3", ""),
+        ("\n" * 6 + long, "line 7 is too long", ""),
+    ):
+        yield played(f"refused: {script!r}", EQUIPPED, script, answers, f"script: {fault}")
+    yield played("refused, of the least profile", "address = 5", ASK + "A x\n", "A s 2800\n", "script: line 4")
+    yield Row("a script that can't be read", "run p .", {"p": "address = 5"}, 4, "", "input: read failed\n")
+
+
+def refused_lines():
+    """Lines that mean nothing: in refused_lines.txt between two bars."""
+    for line in (TEXTS / "refused_lines.txt").read_text(encoding="ascii").splitlines():
+        text = line[1:-1].encode().decode("unicode_escape").encode("latin-1")
+        yield played(f"refused line: {line}", "address = 5", text + b"\n", "", "script: line 1")
+
+
+def limits():
+    """As many lines as there may be, as long a line, and one more."""
+    most = "\n" * 1_048_576
+    for name, script, fault in (
+        ("1,048,576 lines", most, ""),
+        ("1,048,577 lines", most + "\n", "script: too many lines"),
+        ("a line of 64 bytes", "#" * 64, ""),
+        ("a line of 65 bytes", "#" * 65, "script: line 1 is too long"),
+    ):
+        yield played(name, EQUIPPED, script, "", fault)
+
+
+def refused_before_a_run():
+    """Profiles that are refused, each by its first fault, before anything of the script is played."""
+    root = "profile: root: {}"
+    for profile, fault in (
+        ("", root.format("address is missing")),
+        ("address = 31", root.format("address is out of range")),
+        ("address = -1", root.format("address is out of range")),
+        ('address = "5"', root.format("address has the wrong kind")),
+        ("address = 5.0", root.format("address has the wrong kind")),
+        ("address = 31\nspeed = 1", root.format("unknown key")),
+        ("Address = 5", root.format("unknown key")),
+        ("address = 5\naddress = 6", NOT_TOML),
+        ("address 5", NOT_TOML),
+        ("rt1553 3\n", NOT_TOML),
+        (changed(64, "own-mode 00000034"), "canonical text: line 64"),
+        (PLAIN + "\n", "canonical text: bytes after the end"),
+    ):
+        yield played(f"no run: {profile}", profile, ASK, "", fault)
+
+
+def random_messages():
+    """10,000 messages that look random. The transcripts are those of the model of the rules, and have these digests."""
+    one = worked.EVERYTHING
+    some = worked.NOTHING + "mode = [{codes = 6}, {codes = 18}]\n"
+    plain = one.replace("broadcast = true\naccept_bus_control = true\n", "")
+    for name, profile, wanted in (
+        ("wraparound at 30", one, 0x56801995),
+        ("wraparound at 29", "wraparound = 29\n" + one, 0x6BD2E161),
+        ("no wraparound", "wraparound = false\n" + one, 0x7714D067),
+        ("no options", plain, 0x2477F168),
+        ("some cells legal", some, 0xEA384A15),
+    ):
+        digest, lines, answers = random_scripts.Digest(), [], []
+
+        def note(event, answer):
+            digest.note(event, answer)
+            lines.append(random_scripts.line_of(event))
+            if answer:
+                answers.append(play.answer_line(answer))
+
+        messages = random_scripts.Messages(play.setup_of(tomllib.loads(profile)), (29, 30), 1553, note)
+        for _ in range(10_000):
+            messages.message()
+        assert digest.value == wanted, f"{name}: 0x{digest.value:08x}"
+        yield played(f"10,000 messages, {name}", profile, "\n".join([*lines, ""]), "\n".join([*answers, ""]))
+
+
+# Command lines
+
+JOBS = (
+    ("", {}, ASK.encode(), "A s 2800\n"),
+    ("--", {}, ASK.encode(), "A s 2800\n"),
+    ("check p", {"p": "address = 5"}, b"", "ok\n"),
+    ("check -- p", {"p": "address = 5"}, b"", "ok\n"),
+    ("check p --", {"p": "address = 5"}, b"", "ok\n"),
+    ("check -- -x", {"-x": "address = 5"}, b"", "ok\n"),
+    ("check help", {"help": "address = 5"}, b"", "ok\n"),
+    ("canon p", {"p": "address = 6"}, b"", canonical(address=6)),
+    ("run p q", {"p": "address = 6", "q": "A c 3402\nA gap\nslot\n"}, b"", "A s 3000\n"),
+)
+WRONG_WORDS = (
+    "check", "canon", "run", "run p", "compare p", "check p q", "canon p q", "run p q r", "compare p q r", "--help",
+    "-h", "help", "help check", "run --help", "--version", "-V", "che p", "CHECK p", "-- check p", "check -x",
+)  # fmt: skip
+
+
+def command_lines():
+    """Words, and the job that they name: it is done with just these files there."""
+    for words, files, stdin, output in JOBS:
+        yield Row(f"words: {words}", words, files, 0, output, "", True, stdin)
+    yield differ("words: compare p q", "address = 5", "address = 6", "A c 2c02; A gap; slot")
+    there = dict.fromkeys(("p", "q", "r", "-x", "help", "check"), "address = 5")
+    for words in WRONG_WORDS:
+        yield Row(f"words: {words}", words, there, 3, "", USAGE + "\n")
+
+
 ROWS = (
-    refused_profiles, arrays, accepted_profiles, worked_profiles, many_rules, spellings, parts_that_count,
-    canonical_texts, one_line_wrong, after_the_end, damaged_everywhere, wraparound_lines, first_version,
-    shown_by_scripts, shown_by_words, shown_by_wraparound,
+    refused_profiles, arrays, ranges, accepted_profiles, worked_profiles, many_rules, spellings, parts_that_count,
+    canonical_texts, texts_of_profiles, one_line_wrong, after_the_end, damaged_everywhere, wraparound_lines,
+    first_version, shown_by_scripts, shown_by_words, shown_by_wraparound, shown_by_transcripts, refused_pair,
+    worked_rows, whole_scripts, refused_scripts, refused_lines, limits, refused_before_a_run, random_messages,
+    command_lines,
 )  # fmt: skip
 
 
 def fault_of(program, row, room):
     """What is wrong with the program's answer to a row, or ''."""
     with tempfile.TemporaryDirectory(dir=room) as folder:
-        names = []
-        for number, text in enumerate(row.texts):
-            path = pathlib.Path(folder, str(number))
-            path.write_bytes(text if isinstance(text, bytes) else text.encode("ascii"))
-            names.append(str(path))
-        ran = subprocess.run([program, row.word, *names], stdin=subprocess.DEVNULL, capture_output=True, timeout=60)
+        for name, text in row.files.items():
+            pathlib.Path(folder, name).write_bytes(text if isinstance(text, bytes) else text.encode("ascii"))
+        words = [program, *row.words.split()]
+        ran = subprocess.run(words, input=row.stdin, capture_output=True, timeout=60, cwd=folder)
     output = ran.stdout.decode("ascii", "replace")
     if not row.zeros:
         output = "".join(it for it in output.splitlines(True) if not it.endswith(" 00000000\n"))
@@ -413,7 +682,8 @@ def fault_of(program, row, room):
     return "" if answer == (row.status, row.output, row.fault) else f"{answer}, and not {(row.status, row.output, row.fault)}"
 
 
-def main(*programs):
+def main(*names):
+    programs = [pathlib.Path(it).resolve() for it in names]
     rows = [row for part in ROWS for row in part()]
     failed = 0
     with tempfile.TemporaryDirectory() as room, ThreadPoolExecutor(2) as lanes:
@@ -421,7 +691,7 @@ def main(*programs):
             for row, fault in zip(rows, lanes.map(lambda it: fault_of(program, it, room), rows)):
                 if fault:
                     failed += 1
-                    print(f"FAILED {program}: {row.name[:200]}: {fault}")
+                    print(f"FAILED {program}: {row.name[:200]}: {fault[:2000]}")
     print(f"{len(rows) * len(programs) - failed} passed, {failed} failed")
     return 1 if failed or not programs else 0
 

@@ -61,7 +61,8 @@ differs() {
     count "$1: ${2##*/}" $?
 }
 
-# every protocol test passes; one in which an answer was changed, or of which one was dropped, differs at its event
+# every protocol test and every row of tests/rows passes; a protocol test in which an answer was changed, or of which one was
+# dropped, differs at its event
 validation() {
     local path profile number line event
     rm -rf "$work/families"
@@ -71,8 +72,11 @@ sys.path.insert(0, 'tests/validation')
 import generate
 generate.write(pathlib.Path('$work/families'))"
     count 'the families are written' $?
-    for path in examples/validation/{scripts,choices}/*.script "$work"/families/*.script; do
-        passes "$work/families" "$path"
+    rm -rf "$work/rows"
+    python3 tests/rows/rows.py "$work/rows"
+    count 'the rows with worked answers are written' $?
+    for path in examples/validation/{scripts,choices}/*.script "$work"/{families,rows}/*.script; do
+        passes "$(dirname "$path")" "$path"
         count "verify ${path##*/}" $?
     done
     for path in examples/validation/scripts/*.script; do

@@ -1,6 +1,6 @@
 """Messages that look random, played to the model of the rules in `rules.py`.
 
-    random_scripts.py digests           what the test `random_messages` of crates/terminal_tests compares
+    random_scripts.py digests           what scripts/texts.py compares, and a test of crates/rt1553_tests
     random_scripts.py rows FIRST LAST   rows of terminal_rules, each with its proof: the files of proofs/RandomRows
     random_scripts.py vectors FOLDER    scripts with their transcripts: the cases slots-NNNN of tests/vectors/scripts
 

@@ -1,8 +1,7 @@
-//! A terminal of a text, stepped by hand, and the numbers and names of faults.
-use rt1553::{
-    Answer, Bus, CanonFault, EngineFault, Event, Kind, LoadFault, ProfileFault, Raw, RunFault,
-    Terminal, load,
-};
+//! A terminal of a text, stepped by hand; addresses of canonical texts; the sets that texts of mode codes name.
+use bus_profile::parse_ranges;
+use rt1553::{Answer, Bus, Event, Kind, Raw, Terminal, canonical, load};
+use std::test::Fail;
 
 #[test]
 fn terminal_of_a_text(rt: HostRuntime) {
@@ -25,19 +24,23 @@ fn terminal_of_a_text(rt: HostRuntime) {
 }
 
 #[test]
-fn numbers_and_names_of_faults(rt: HostRuntime) {
-    let loading = [
-        (LoadFault::Profile(ProfileFault::NotToml), 1u8, "Profile"),
-        (LoadFault::Canon(CanonFault::Trailing), 2, "Canon"),
-        (LoadFault::Memory, 3, "Memory"),
-    ];
-    for (fault, number, name) in loading {
-        assert_eq!(rt; fault.number(), number);
-        assert_eq!(rt; fault.name(), name);
-        assert_eq!(rt; EngineFault::Load(fault).number(), 1);
-        assert_eq!(rt; EngineFault::Load(fault).name(), "Load");
+fn addresses_of_canonical_texts(rt: HostRuntime) -> Result<(), Fail> {
+    for address in 0..31u8 {
+        let profile = format!(in rt.alloc(); "address = {address}")?;
+        let text = canonical(rt.alloc(), profile.as_str().as_bytes())?;
+        assert_eq!(rt; load(rt.alloc(), text.as_slice())?.address(), address);
     }
-    let script = EngineFault::Script(RunFault::TooLong);
-    assert_eq!(rt; script.number(), 2);
-    assert_eq!(rt; script.name(), "Script");
+    Ok(())
+}
+
+/// No text shows which numbers that are no mode codes are in the set.
+#[test]
+fn sets_of_mode_codes(rt: HostRuntime) {
+    for (text, set) in [
+        ("0-31", 0xffff_ffffu32),
+        ("000", 0x0000_0001),
+        ("31", 0x8000_0000),
+    ] {
+        assert_eq!(rt; parse_ranges(text, 0, 31).ok(), Some(set), "{text}");
+    }
 }

@@ -1,12 +1,19 @@
-//! The tests of whole runs, of command lines and of a terminal that is stepped by plain numbers. They stand in a crate of
-//! their own, since a crate with tests is proved twice.
+//! What only calls show: values that have no text, devices that fail, the numbers and names of faults, a terminal that
+//! no profile describes. What the programs answer to texts is tested by `scripts/texts.py` and `scripts/tool.sh`. It is
+//! one crate, so that the libraries are read once, and one of its own, since a crate with tests is proved twice.
 #![tactic(auto)]
 
 #[cfg(test)]
+mod bus_words;
+#[cfg(test)]
 mod by_hand;
+#[cfg(test)]
+mod faults;
+#[cfg(test)]
+mod formats;
+#[cfg(test)]
+mod scripts;
 #[cfg(test)]
 mod stepped;
 #[cfg(test)]
-mod whole;
-#[cfg(test)]
-mod words;
+mod terminals;

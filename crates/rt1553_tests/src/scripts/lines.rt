@@ -1,5 +1,5 @@
 //! Events and the lines that mean them.
-use bus_script::{LineFault, read_event, write_event};
+use bus_script::{read_event, write_event};
 use bus_terminal::{Event, Flag, WordPlace};
 use bus_word::{Bus, Kind, Raw};
 use std::process::Abort;
@@ -71,64 +71,4 @@ fn lines_without_an_event(rt: HostRuntime) {
     for line in [b"".as_slice(), b"#", b"# A gap", b"#\0\r\xff"] {
         assert_eq!(rt; read_event(line), Ok(None));
     }
-}
-
-/// Lines that mean nothing.
-const REFUSED: [&str; 47] = [
-    " ",
-    "A",
-    "A ",
-    "A x",
-    "C gap",
-    "a gap",
-    "A  gap",
-    "A gap ",
-    " A gap",
-    "A gap\r",
-    "A gap 1",
-    "A\tgap",
-    "A c 2c0",
-    "A c 2c021",
-    "A c 2c0g",
-    "A e 2c02",
-    "A c2c02",
-    "A c 2c02 2",
-    "A c 2c02 01",
-    "A c 2c02  1",
-    "A noises",
-    "write 1 01 0000",
-    "write 00 01 0000",
-    "write 31 01 0000",
-    "write 01 00 0000",
-    "write 01 33 0000",
-    "write 01 01 000",
-    "write 01 01 00000",
-    "write 0a 01 0000",
-    "write 01  1 0000",
-    "vector",
-    "vector 123",
-    "vector 12345",
-    "bit 12345",
-    "bit",
-    "flag busy 2",
-    "flag busy",
-    "flag busy 1 ",
-    "flag bus 1",
-    "flag Busy 1",
-    "flag  busy 1",
-    "slot 1",
-    "slot ",
-    "A slot",
-    "Slot",
-    "noise",
-    "gap",
-];
-
-#[test]
-fn refused_lines(rt: HostRuntime) {
-    for line in REFUSED {
-        assert_eq!(rt; read_event(line.as_bytes()), Err(LineFault), "{line}");
-    }
-    assert_eq!(rt; read_event(b"A gap\0"), Err(LineFault));
-    assert_eq!(rt; read_event(b"\xffA gap"), Err(LineFault));
 }

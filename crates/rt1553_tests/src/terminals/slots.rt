@@ -1,7 +1,5 @@
 //! Slots at once: the words that they send are lent first, and taken at once they are as one by one.
-use super::command;
-use super::legality::Every;
-use bus_legal::Setup;
+use super::{Every, command, equipped};
 use bus_terminal::{Answer, Event, Sent, Terminal};
 use bus_word::{Bus, Kind};
 
@@ -16,17 +14,9 @@ fn held() -> [u16; 32] {
 
 /// A terminal of address 5 that has heard this command on bus B, and the gap behind it.
 fn after(bits: u16) -> Terminal<Every> {
-    let mut initial = [[0; 32]; 30];
-    initial[2] = held();
-    let setup = Setup {
-        address: 5,
-        broadcast: true,
-        wrap: 0,
-        accept: true,
-        vector: 0x00aa,
-        bit: 0x00bb,
-        initial,
-    };
+    let mut setup = equipped();
+    setup.wrap = 0;
+    setup.initial[2] = held();
     let mut terminal = Terminal::power_up(setup, Every(true));
     terminal.step(Event::Vector(0x1234));
     terminal.step(command(Bus::B, bits));

@@ -1,129 +1,27 @@
-//! Tests of lines, transcripts, limits, and devices that fail.
+//! Lines as events, how many events a script has, and devices: that give and take few bytes, that hold back, that fail.
 
+mod counted;
 mod devices;
 mod lines;
 mod slots;
-mod transcripts;
 
-ghost use Rattle.std.specs.Prelude.{◌≡◌, None, true, false};
+ghost use Rattle.std.specs.Prelude.{None, true, false};
 
+use super::terminals::{Every, equipped};
 use arrayvec::ArrayVec;
-use bus_legal::{Legality, Setup};
 use bus_script::{IoFailed, MemorySink, MemorySource, RunFault, Sink, run_script};
 use bus_terminal::Terminal;
-use bus_word::Cell;
-use std::alloc::AllocError;
 
 /// A script of six events with two answers.
 const ANSWERED: &[u8] = b"A c 2c02\nA gap\nslot\nA c 2c02\nA gap\nslot\n";
 
-/// Every cell is legal.
-#[derive(Drop)]
-struct Every;
-
-impl Legality for Every {
-    ghost is_legal = { λ _ _. true };
-
-    fn legal(&self, _cell: Cell) -> bool {
-        true
-    }
-}
-
-/// The terminal of address 5, which hears broadcasts and accepts bus control.
+/// All is legal; address 5, both options, no wraparound.
 fn terminal() -> Terminal<Every> {
-    let setup = Setup {
-        address: 5,
-        broadcast: true,
-        wrap: 0,
-        accept: true,
-        vector: 0x1234,
-        bit: 0xabcd,
-        initial: [[0; 32]; 30],
-    };
-    Terminal::power_up(setup, Every)
-}
-
-/// What a run gives, and what it writes into a sink of 512 bytes.
-fn play(script: &[u8]) -> (Result<u64, RunFault>, MemorySink<512>) {
-    let mut terminal = terminal();
-    let mut reader = MemorySource::new(script, 7, None);
-    let mut writer = MemorySink::new(5, None);
-    let result = run_script(&mut terminal, &mut reader, &mut writer);
-    (result, writer)
-}
-
-#[test]
-fn whole_scripts(rt: HostRuntime) {
-    let rows: [(&str, u64, &str); 8] = [
-        ("", 0, ""),
-        ("\n# a comment\n\n", 0, ""),
-        ("A c 2c02\nA gap\n", 2, ""),
-        ("A c 2c02\nA gap\nslot\n", 3, "A s 2800\n"),
-        ("A c 2C02\nA gap\nslot", 3, "A s 2800\n"),
-        ("A c 2c02 0\nA gap\nslot\n", 3, ""),
-        (
-            "flag busy 1\nB c 2c61\nB gap\nslot\nvector 0f0f\nflag busy 0\nB c 2c10\nB gap\nslot\nslot\n",
-            10,
-            "B s 2808\nB s 2800\nB d 0f0f\n",
-        ),
-        (
-            "A c 2c81\nA gap\nslot\nwrite 04 01 beef\n\nA gap\nslot\nslot\n",
-            7,
-            "A s 2800\nA d beef\n",
-        ),
-    ];
-    for (script, events, transcript) in rows {
-        let (result, writer) = play(script.as_bytes());
-        assert_eq!(rt; result, Ok(events), "{script}");
-        assert_eq!(rt; writer.as_slice(), transcript.as_bytes(), "{script}");
-    }
-}
-
-#[test]
-fn refused_scripts(rt: HostRuntime) {
-    let long = "#23456789012345678901234567890123456789012345678901234567890123456\n";
-    let rows: [(&str, RunFault, &str); 6] = [
-        (
-            "A c 2c02\nA gap\nslot\nA x\n",
-            RunFault::Line(4),
-            "A s 2800\n",
-        ),
-        (
-            "A c 2c02\nA gap\nslot\nA x",
-            RunFault::Line(4),
-            "A s 2800\n",
-        ),
-        ("A gap\r\n", RunFault::Line(1), ""),
-        ("\n\nslot \n", RunFault::Line(3), ""),
-        (long, RunFault::LongLine(1), ""),
-        (
-            "A c 2c02\nA gap\nslot\nA gap \n\n\n",
-            RunFault::Line(4),
-            "A s 2800\n",
-        ),
-    ];
-    for (script, fault, transcript) in rows {
-        let (result, writer) = play(script.as_bytes());
-        assert_eq!(rt; result, Err(fault), "{script}");
-        assert_eq!(rt; writer.as_slice(), transcript.as_bytes(), "{script}");
-    }
-}
-
-#[test]
-fn limits(rt: HostRuntime) -> Result<(), AllocError> {
-    let mut feeds = vec![in rt.alloc(); 10u8; 1_048_576]?;
-    let (most, _) = play(feeds.as_slice());
-    assert_eq!(rt; most, Ok(0));
-    feeds.push(10)?;
-    let (more, _) = play(feeds.as_slice());
-    assert_eq!(rt; more, Err(RunFault::TooLong));
-
-    let comment = [b'#'; 65];
-    let (fits, _) = play(&comment[..64]);
-    assert_eq!(rt; fits, Ok(0));
-    let (long, _) = play(&comment);
-    assert_eq!(rt; long, Err(RunFault::LongLine(1)));
-    Ok(())
+    let mut setup = equipped();
+    setup.wrap = 0;
+    setup.vector = 0x1234;
+    setup.bit = 0xabcd;
+    Terminal::power_up(setup, Every(true))
 }
 
 #[test]
@@ -267,20 +165,5 @@ fn what_is_held_back_and_can_not_be_handed_on(rt: HostRuntime) {
         let mut writer = Stuck { failed: false };
         let result = run_script(&mut terminal(), &mut reader, &mut writer);
         assert_eq!(rt; result, wanted);
-    }
-}
-
-#[test]
-fn faults_have_numbers_and_names(rt: HostRuntime) {
-    let rows = [
-        (RunFault::Line(7), 1u8, "Line"),
-        (RunFault::LongLine(7), 2, "LongLine"),
-        (RunFault::TooLong, 3, "TooLong"),
-        (RunFault::Read, 4, "Read"),
-        (RunFault::Write, 5, "Write"),
-    ];
-    for (fault, number, name) in rows {
-        assert_eq!(rt; fault.number(), number);
-        assert_eq!(rt; fault.name(), name);
     }
 }

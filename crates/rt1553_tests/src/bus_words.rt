@@ -1,4 +1,4 @@
-//! Tests against values from outside the code: sums, counts and the standard's own table.
+//! Words of the bus against values from outside the code: sums, counts and the standard's own table.
 
 use bus_word::{
     Cell, Command, Kind, ModeRow, Raw, StatusParts, cell_of, has_bit, is_required_code, mode_row,

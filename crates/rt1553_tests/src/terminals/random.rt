@@ -2,13 +2,13 @@
 //! noise or of wrong parity, with more slots or fewer than they need, and a digest of what is answered to them.
 ghost use Rattle.std.specs.Prelude.{◌<◌};
 
-use bus_legal::Legality;
+use super::Every;
 use bus_terminal::{Answer, Event, Flag, Hand, Sent, Terminal, WordPlace};
 use bus_word::{Bus, Kind, Raw};
 
 #[derive(Drop)]
-struct Run<L> {
-    terminal: Terminal<L>,
+struct Run {
+    terminal: Terminal<Every>,
     seed: u32,
     digest: Digest,
 }
@@ -20,7 +20,7 @@ struct Digest {
 }
 
 /// The digest after 10,000 messages.
-pub fn digest_of<L: Legality + Drop>(terminal: Terminal<L>) -> u32 {
+pub fn digest_of(terminal: Terminal<Every>) -> u32 {
     let mut run = Run {
         terminal,
         seed: 1553,
@@ -81,7 +81,7 @@ impl Digest {
     }
 }
 
-impl<L: Legality> Run<L> {
+impl Run {
     /// A number below this one.
     fn draw(&mut self, below: u16) -> u16
         requires { 0 < below }

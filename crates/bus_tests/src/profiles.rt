@@ -1,3 +1,0 @@
-//! Ranges, and faults of profiles.
-mod faults;
-mod ranges;
