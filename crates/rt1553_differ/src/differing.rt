@@ -36,7 +36,7 @@ impl<T: Drop> From<AllocFailed<T>> for DifferFault {
 }
 
 /// The kinds of difference that there are at each subaddress and count.
-#[derive(Clone, Copy, PartialEq, Eq, Debug)]
+#[derive(Clone, Copy, PartialEq, Eq)]
 pub enum PlaceKind {
     /// What the own address may receive.
     Receiving,

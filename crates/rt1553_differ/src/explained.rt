@@ -8,7 +8,7 @@ ghost use Rattle.bus_legal.specs.Parts.{description_in};
 use bus_legal::Normal;
 
 /// What is so at one subaddress. In a mask bit `n - 1` stands for a word count of `n`.
-#[derive(Clone, Copy, PartialEq, Eq, Debug)]
+#[derive(Clone, Copy, PartialEq, Eq)]
 pub struct Row {
     pub subaddress: u8,
     /// The word counts that the own address may receive.
@@ -22,14 +22,14 @@ pub struct Row {
 }
 
 /// The mode codes that are legal, bit `c` for code `c`.
-#[derive(Clone, Copy, PartialEq, Eq, Debug)]
+#[derive(Clone, Copy, PartialEq, Eq)]
 pub struct Codes {
     pub own: u32,
     pub broadcast: u32,
 }
 
 /// What is so of a terminal beside its legal cells and the words that it holds.
-#[derive(Clone, Copy, PartialEq, Eq, Debug)]
+#[derive(Clone, Copy, PartialEq, Eq)]
 pub struct Settings {
     pub address: u8,
     pub broadcast: bool,

@@ -8,7 +8,7 @@ use std::fmt;
 
 /// Differences that are told in one line: in what may be received or transmitted all subaddresses that have the same, and
 /// else one.
-#[derive(Clone, Copy, PartialEq, Eq, Debug)]
+#[derive(Clone, Copy, PartialEq, Eq)]
 pub struct Group {
     /// The first of them.
     pub difference: Difference,
@@ -208,18 +208,46 @@ impl GroupLine<'_> {
         write!(f, "{so} in {name} alone")
     }
 
+    /// Writes the addresses of both.
+    fn put_addresses<W: fmt::Write>(&self, f: &mut fmt::Formatter<W>) -> fmt::Result {
+        let (ours, theirs) = (self.p.address(), self.q.address());
+        write!(
+            f,
+            "address: {ours} in {}, {theirs} in {}",
+            self.first, self.second
+        )
+    }
+
+    /// Writes in which of the two a mode code is legal.
+    fn put_code<W: fmt::Write>(
+        &self,
+        f: &mut fmt::Formatter<W>,
+        what: &str,
+        code: u8,
+    ) -> fmt::Result {
+        write!(f, "{what} {code} ({}): ", mode_name(code))?;
+        self.put_alone(f, "legal")
+    }
+
     /// Writes the words of both.
     fn put_words<W: fmt::Write>(
         &self,
         f: &mut fmt::Formatter<W>,
+        what: &str,
         ours: u16,
         theirs: u16,
     ) -> fmt::Result {
         write!(
             f,
-            "{ours:04x} in {}, {theirs:04x} in {}",
+            "{what}: {ours:04x} in {}, {theirs:04x} in {}",
             self.first, self.second
         )
+    }
+
+    /// Writes the words that both hold at a place.
+    fn put_initial<W: fmt::Write>(&self, f: &mut fmt::Formatter<W>, s: u8, i: u8) -> fmt::Result {
+        write!(f, "word {i} of subaddress {s}")?;
+        self.put_words(f, "", word_at(self.p, s, i), word_at(self.q, s, i))
     }
 
     /// Writes where words come back in one.
@@ -235,57 +263,32 @@ impl GroupLine<'_> {
             write!(f, "at {wrap} in {name}")
         }
     }
+
+    /// Writes where words come back in both.
+    fn put_wraps<W: fmt::Write>(&self, f: &mut fmt::Formatter<W>) -> fmt::Result {
+        f.write_str("wraparound: ")?;
+        self.put_wrap(f, self.p.wrap(), self.first)?;
+        f.write_str(", ")?;
+        self.put_wrap(f, self.q.wrap(), self.second)
+    }
 }
 
 impl fmt::Display for GroupLine<'_> {
     fn fmt<W: fmt::Write>(&self, f: &mut fmt::Formatter<W>) -> fmt::Result {
         let (p, q) = (self.p, self.q);
         match self.group.difference {
-            Difference::Address => {
-                let (ours, theirs) = (p.address(), q.address());
-                write!(
-                    f,
-                    "address: {ours} in {}, {theirs} in {}",
-                    self.first, self.second
-                )
-            }
-            Difference::BroadcastOption => {
-                f.write_str("broadcast: ")?;
-                self.put_alone(f, "heard")
-            }
+            Difference::Address => self.put_addresses(f),
+            Difference::BroadcastOption => self.put_alone(f, "broadcast: heard"),
             Difference::ReceiveCell(_, _) => self.put_counts(f, "receive"),
             Difference::TransmitCell(_, _) => self.put_counts(f, "transmit"),
             Difference::BroadcastReceiveCell(_, _) => self.put_counts(f, "broadcast receive"),
-            Difference::OwnCode(code) => {
-                write!(f, "mode code {code} ({}): ", mode_name(code))?;
-                self.put_alone(f, "legal")
-            }
-            Difference::BroadcastCode(code) => {
-                write!(f, "broadcast mode code {code} ({}): ", mode_name(code))?;
-                self.put_alone(f, "legal")
-            }
-            Difference::Acceptance => {
-                f.write_str("bus control: ")?;
-                self.put_alone(f, "accepted")
-            }
-            Difference::VectorWord => {
-                f.write_str("vector word: ")?;
-                self.put_words(f, p.vector(), q.vector())
-            }
-            Difference::BitWord => {
-                f.write_str("BIT word: ")?;
-                self.put_words(f, p.bit(), q.bit())
-            }
-            Difference::InitialWord(s, i) => {
-                write!(f, "word {i} of subaddress {s}: ")?;
-                self.put_words(f, word_at(p, s, i), word_at(q, s, i))
-            }
-            Difference::Wraparound => {
-                f.write_str("wraparound: ")?;
-                self.put_wrap(f, p.wrap(), self.first)?;
-                f.write_str(", ")?;
-                self.put_wrap(f, q.wrap(), self.second)
-            }
+            Difference::OwnCode(code) => self.put_code(f, "mode code", code),
+            Difference::BroadcastCode(code) => self.put_code(f, "broadcast mode code", code),
+            Difference::Acceptance => self.put_alone(f, "bus control: accepted"),
+            Difference::VectorWord => self.put_words(f, "vector word", p.vector(), q.vector()),
+            Difference::BitWord => self.put_words(f, "BIT word", p.bit(), q.bit()),
+            Difference::InitialWord(s, i) => self.put_initial(f, s, i),
+            Difference::Wraparound => self.put_wraps(f),
         }
     }
 }

@@ -186,14 +186,14 @@ pub fn explain(alloc: Global, normal: &Normal) -> Result<String, AllocError> {
 }
 
 /// A mode code as JSON.
-#[derive(Debug, Drop, Serialize)]
+#[derive(Drop, Serialize)]
 struct Code {
     code: u8,
     name: &'static str,
 }
 
 /// A subaddress as JSON: the word counts that are legal, and the words that are held.
-#[derive(Debug, Drop, Serialize)]
+#[derive(Drop, Serialize)]
 struct Subaddress {
     subaddress: u8,
     receive: Vec<u8>,
@@ -203,7 +203,7 @@ struct Subaddress {
 }
 
 /// A terminal as JSON: null where no mode code asks for it, and where words come back nowhere.
-#[derive(Debug, Drop, Serialize)]
+#[derive(Drop, Serialize)]
 struct Explanation {
     address: u8,
     broadcast: bool,

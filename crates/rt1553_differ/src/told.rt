@@ -60,7 +60,7 @@ pub fn differ_text(
 }
 
 /// A group as JSON.
-#[derive(Debug, Drop, Serialize)]
+#[derive(Drop, Serialize)]
 struct Entry {
     /// In what the two differ.
     what: &'static str,

@@ -9,14 +9,14 @@ use std::alloc::{AllocError, Global};
 use std::fmt;
 
 /// A place in a text. Both are counted from 1, columns in characters.
-#[derive(Clone, Copy, Debug, PartialEq, Eq)]
+#[derive(Clone, Copy, PartialEq, Eq)]
 pub struct Position {
     pub line: usize,
     pub column: usize,
 }
 
 /// Why a text is refused.
-#[derive(Clone, Copy, Debug, PartialEq, Eq)]
+#[derive(Clone, Copy, PartialEq, Eq)]
 pub enum Fault {
     Profile(ProfileFault),
     Canon(CanonFault),
@@ -45,7 +45,7 @@ impl Fault {
 }
 
 /// An error, or a warning.
-#[derive(Debug, Drop)]
+#[derive(Drop)]
 pub struct Finding {
     /// Where it stands; None where that was too much to look for.
     pub position: Option<Position>,

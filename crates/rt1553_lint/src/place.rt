@@ -7,14 +7,14 @@ use crate::spot::Spot;
 use std::alloc::{AllocError, Global};
 
 /// Lines of a text: those after its first `start` bytes, up to its first `end`.
-#[derive(Clone, Copy, Debug, PartialEq, Eq)]
+#[derive(Clone, Copy, PartialEq, Eq)]
 pub struct Place {
     pub start: usize,
     pub end: usize,
 }
 
 /// What a text is to one who looks for something.
-#[derive(Clone, Copy, Debug, PartialEq, Eq)]
+#[derive(Clone, Copy, PartialEq, Eq)]
 enum Look {
     NoDocument,
     Without,

@@ -12,7 +12,7 @@ use bus_word::{Cell, WRAPAROUND_SUBADDRESS};
 use std::alloc::{AllocError, Global};
 
 /// A key of the root that has a default, and holds one value.
-#[derive(Clone, Copy, Debug, PartialEq, Eq)]
+#[derive(Clone, Copy, PartialEq, Eq)]
 pub enum Setting {
     Broadcast,
     Wraparound,

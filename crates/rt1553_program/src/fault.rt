@@ -5,7 +5,7 @@ use std::alloc::AllocError;
 use std::fmt;
 
 /// Why the program ends early.
-#[derive(Debug, Drop)]
+#[derive(Drop)]
 pub enum Fault {
     /// The words on the command line are none that the program takes.
     Usage,

@@ -7,7 +7,7 @@ ghost use Rattle.rt1553_tool.specs.Fields.{in_word, HasStatusFields, AreOfWidth,
 use bus_word::{Command, Kind, Raw};
 
 /// The fields of a command word (4.3.3.5.1).
-#[derive(Clone, Copy, PartialEq, Eq, Debug)]
+#[derive(Clone, Copy, PartialEq, Eq)]
 pub struct CommandFields {
     /// The address, 0 to 31: the terminal that is meant, or 31 for all.
     pub address: u8,
@@ -20,7 +20,7 @@ pub struct CommandFields {
 }
 
 /// The fields of a status word (4.3.3.5.3).
-#[derive(Clone, Copy, PartialEq, Eq, Debug)]
+#[derive(Clone, Copy, PartialEq, Eq)]
 pub struct StatusFields {
     /// The address, 0 to 31.
     pub address: u8,
@@ -45,7 +45,7 @@ pub struct StatusFields {
 }
 
 /// The fields of a word.
-#[derive(Clone, Copy, PartialEq, Eq, Debug)]
+#[derive(Clone, Copy, PartialEq, Eq)]
 pub enum WordFields {
     /// A command word.
     Command(CommandFields),

@@ -55,7 +55,7 @@ pub enum WordFault {
 }
 
 /// What a line says of a word.
-#[derive(Clone, Copy, PartialEq, Eq, Debug)]
+#[derive(Clone, Copy, PartialEq, Eq)]
 pub struct WordLine {
     /// The fields of the word.
     pub fields: WordFields,

@@ -1,5 +1,5 @@
 //! The text of a TOML profile.
-use bus_legal::{Normal, REQUIRED_CODES};
+use bus_legal::{Normal, REQUIRED_CODES, Tables};
 use bus_word::mode_name;
 use profile_types::Numbers;
 use std::alloc::{AllocError, Global};
@@ -139,26 +139,32 @@ fn push_wrap(text: &mut String, normal: &Normal) -> Result<(), AllocError> {
     }
 }
 
-/// Writes the text. That it means just this terminal isn't said here.
-pub fn write_profile(alloc: Global, normal: &Normal) -> Result<String, AllocError> {
-    let mut text = String::new(alloc);
-    let tables = normal.tables();
+/// Writes a word under a key, where it isn't 0.
+fn push_word(text: &mut String, key: &'static str, word: u16) -> Result<(), AllocError> {
+    if word == 0 {
+        return Ok(());
+    }
+    writeln!(text, "{key} = 0x{word:04x}")
+}
+
+/// Writes the keys with one value, each where its value isn't the one of a profile that leaves it out.
+fn push_settings(text: &mut String, normal: &Normal) -> Result<(), AllocError> {
     writeln!(text, "address = {}", normal.address())?;
     if normal.broadcast() {
         writeln!(text, "broadcast = true")?;
     }
-    push_wrap(&mut text, normal)?;
+    push_wrap(text, normal)?;
     if normal.accept() {
         writeln!(text, "accept_bus_control = true")?;
     }
-    if normal.vector() != 0 {
-        writeln!(text, "vector = 0x{:04x}", normal.vector())?;
-    }
-    if normal.bit() != 0 {
-        writeln!(text, "bit = 0x{:04x}", normal.bit())?;
-    }
+    push_word(text, "vector", normal.vector())?;
+    push_word(text, "bit", normal.bit())
+}
+
+/// Writes the rules of all three kinds.
+fn push_all_rules(text: &mut String, tables: &Tables) -> Result<(), AllocError> {
     push_rules(
-        &mut text,
+        text,
         "own",
         "receive",
         &tables.own_receive,
@@ -166,7 +172,7 @@ pub fn write_profile(alloc: Global, normal: &Normal) -> Result<String, AllocErro
         false,
     )?;
     push_rules(
-        &mut text,
+        text,
         "own",
         "transmit",
         &tables.own_transmit,
@@ -174,13 +180,21 @@ pub fn write_profile(alloc: Global, normal: &Normal) -> Result<String, AllocErro
         true,
     )?;
     push_rules(
-        &mut text,
+        text,
         "broadcast",
         "receive",
         &tables.broadcast_receive,
         None,
         false,
-    )?;
+    )
+}
+
+/// Writes the text. That it means just this terminal isn't said here.
+pub fn write_profile(alloc: Global, normal: &Normal) -> Result<String, AllocError> {
+    let mut text = String::new(alloc);
+    let tables = normal.tables();
+    push_settings(&mut text, normal)?;
+    push_all_rules(&mut text, tables)?;
     // what is legal in each profile needs no entry
     push_codes(&mut text, "own", tables.own_mode & !REQUIRED_CODES)?;
     push_codes(&mut text, "broadcast", tables.broadcast_mode)?;

@@ -1,9 +1,39 @@
 //! The word `differ`: in what two profiles differ.
 use crate::fault::{DIFFERENT, Fault};
-use crate::files::{load_profile, put};
-use rt1553_differ::{Pair, differ_json, differ_text, differences, groups_of};
+use crate::files::{json_line, load_profile, put};
+use rt1553_differ::{Group, Pair, differ_json, differ_text, differences, groups_of};
+use std::alloc::Global;
 use std::io::Write;
 use std::rt::Files;
+
+/// What is written of the groups of differences of two profiles.
+fn text_of(
+    alloc: Global,
+    pair: &Pair<'_>,
+    groups: &[Group],
+    scripts: bool,
+    as_json: bool,
+) -> Result<String, Fault> {
+    if as_json {
+        return json_line(differ_json(alloc, pair, groups, scripts));
+    }
+    Ok(differ_text(alloc, pair, groups, scripts)?)
+}
+
+/// Writes in what two profiles differ. The status tells whether they do.
+fn put_pair<R: AllocGlobal, W: Write>(
+    rt: &R,
+    pair: &Pair<'_>,
+    scripts: bool,
+    as_json: bool,
+    output: &mut W,
+) -> Result<u8, Fault> {
+    let found = differences(rt.alloc(), pair.p, pair.q)?;
+    let groups = groups_of(rt.alloc(), found.as_slice(), pair.p)?;
+    let text = text_of(rt.alloc(), pair, groups.as_slice(), scripts, as_json)?;
+    put(output, text.as_str().as_bytes())?;
+    Ok(if found.is_empty() { 0 } else { DIFFERENT })
+}
 
 /// Writes all in which the terminals of two profiles differ, with scripts that show it where they are asked for. The status
 /// tells whether they differ.
@@ -17,23 +47,11 @@ pub fn differ<R: Files + AllocGlobal, W: Write>(
 ) -> Result<u8, Fault> {
     let p = load_profile(rt, first)?;
     let q = load_profile(rt, second)?;
-    let found = differences(rt.alloc(), &p, &q)?;
-    let groups = groups_of(rt.alloc(), found.as_slice(), &p)?;
     let pair = Pair {
         p: &p,
         q: &q,
         first,
         second,
     };
-    if as_json {
-        let Some(text) = differ_json(rt.alloc(), &pair, groups.as_slice(), scripts) else {
-            return Err(Fault::Memory);
-        };
-        put(output, text.as_str().as_bytes())?;
-        put(output, b"\n")?;
-    } else {
-        let text = differ_text(rt.alloc(), &pair, groups.as_slice(), scripts)?;
-        put(output, text.as_str().as_bytes())?;
-    }
-    Ok(if found.is_empty() { 0 } else { DIFFERENT })
+    put_pair(rt, &pair, scripts, as_json, output)
 }

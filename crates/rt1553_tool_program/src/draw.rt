@@ -16,6 +16,17 @@ fn draw_file<R: Files + AllocGlobal>(rt: &R, normal: &Normal, name: &str) -> Res
     }
 }
 
+/// The drawing as a page of its own, with the table of what its terminal does.
+fn page<R: AllocGlobal>(
+    rt: &R,
+    normal: &Normal,
+    title: &str,
+    drawing: &str,
+) -> Result<String, Fault> {
+    let table = explain(rt.alloc(), normal)?;
+    Ok(page_of(rt.alloc(), title, drawing, table.as_str())?)
+}
+
 /// Writes the drawing of a run; as a page of its own where `html` asks for it. The status is 0.
 pub fn draw<R: Files + AllocGlobal, W: Write>(
     rt: &R,
@@ -28,8 +39,7 @@ pub fn draw<R: Files + AllocGlobal, W: Write>(
     let drawing = draw_file(rt, &normal, script)?;
     if html {
         let title = format!(in rt.alloc(); "{profile}: {script}")?;
-        let table = explain(rt.alloc(), &normal)?;
-        let page = page_of(rt.alloc(), title.as_str(), drawing.as_str(), table.as_str())?;
+        let page = page(rt, &normal, title.as_str(), drawing.as_str())?;
         put(output, page.as_str().as_bytes())?;
     } else {
         put(output, drawing.as_str().as_bytes())?;

@@ -15,7 +15,7 @@ pub const DIFFERENT: u8 = 1;
 pub const REFUSED: u8 = 2;
 
 /// Why the program ends early. A text is the name of a file.
-#[derive(Debug, Drop)]
+#[derive(Drop)]
 pub enum Fault {
     /// Memory was wanting.
     Memory,

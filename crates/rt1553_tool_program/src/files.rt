@@ -70,6 +70,15 @@ pub fn read_script_file<R: Files + AllocGlobal>(rt: &R, name: &str) -> Result<Ve
     read_file(rt, name, MOST_OF_SCRIPT)
 }
 
+/// A text that is written as a line of JSON; None is want of memory.
+pub fn json_line(text: Option<String>) -> Result<String, Fault> {
+    let Some(mut line) = text else {
+        return Err(Fault::Memory);
+    };
+    line.push('\n')?;
+    Ok(line)
+}
+
 /// Writes all the bytes.
 pub fn put<W: Write>(output: &mut W, bytes: &[u8]) -> Result<(), Fault> {
     output.write_all(bytes).map_err(|_| Fault::Output)

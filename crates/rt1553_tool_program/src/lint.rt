@@ -1,6 +1,6 @@
 //! The word `lint`: all that is wrong with profiles, and what in them has no effect.
 use crate::fault::{DIFFERENT, Fault, REFUSED};
-use crate::files::{put, read_profile_file};
+use crate::files::{json_line, put, read_profile_file};
 use rt1553_lint::{Finding, lint as findings_of};
 use std::io::Write;
 use std::rt::Files;
@@ -14,11 +14,8 @@ fn put_finding<R: AllocGlobal, W: Write>(
     output: &mut W,
 ) -> Result<(), Fault> {
     if as_json {
-        let Some(line) = finding.to_json(rt.alloc(), name) else {
-            return Err(Fault::Memory);
-        };
-        put(output, line.as_str().as_bytes())?;
-        return put(output, b"\n");
+        let line = json_line(finding.to_json(rt.alloc(), name))?;
+        return put(output, line.as_str().as_bytes());
     }
     match writeln!(output, "{name}:{finding}") {
         Ok(()) => Ok(()),

@@ -69,6 +69,24 @@ fn put_difference<W: Write>(
     put(output, b"\n")
 }
 
+/// Writes how many answers of a file differ, or, where it is asked for, that it passes with so many.
+fn put_count<W: Write>(
+    output: &mut W,
+    name: &str,
+    count: usize,
+    answers: usize,
+    each: bool,
+) -> Result<(), Fault> {
+    let written = if count > 0 {
+        writeln!(output, "{name}: {count} differ")
+    } else if each {
+        writeln!(output, "{name}: passed ({answers} answers)")
+    } else {
+        Ok(())
+    };
+    written.map_err(|_| Fault::Output)
+}
+
 /// Plays a script, writes where it differs, or, where it is asked for, that it passes, and gives whether it does.
 fn play<R: Files + AllocGlobal, W: Write>(
     rt: &R,
@@ -87,19 +105,9 @@ fn play<R: Files + AllocGlobal, W: Write>(
     for difference in found.as_slice() {
         put_difference(output, name, difference)?;
     }
-    let count = found.len();
-    let written = if count > 0 {
-        writeln!(output, "{name}: {count} differ")
-    } else if each {
-        let answers = answers_in(stated.as_slice());
-        writeln!(output, "{name}: passed ({answers} answers)")
-    } else {
-        Ok(())
-    };
-    match written {
-        Ok(()) => Ok(count == 0),
-        Err(_) => Err(Fault::Output),
-    }
+    let answers = answers_in(stated.as_slice());
+    put_count(output, name, found.len(), answers, each)?;
+    Ok(found.is_empty())
 }
 
 /// Gives the clauses that a script names, of the test plan or of the standard; none where it names none.

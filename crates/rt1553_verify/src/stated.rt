@@ -20,7 +20,7 @@ const MAX_LINES: u64 = 1_048_576;
 const MAX_LINE: usize = 64;
 
 /// An event of a script, and what the script states of its answer.
-#[derive(Debug, Drop)]
+#[derive(Drop)]
 pub struct Stated {
     /// The number of the event's line, from 1.
     pub line: u64,

@@ -14,7 +14,7 @@ use bus_terminal::Terminal;
 use std::alloc::{AllocError, Global};
 
 /// An event that is not answered as a script states.
-#[derive(Debug, Drop)]
+#[derive(Drop)]
 pub struct Difference {
     /// The number of the event's line, from 1.
     pub line: u64,

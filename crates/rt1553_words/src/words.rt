@@ -11,7 +11,7 @@ use std::alloc::{AllocError, Global};
 use std::convert::AsStr;
 
 /// What the command line asks for. The texts are names of files.
-#[derive(Clone, Copy, Debug, PartialEq, Eq)]
+#[derive(Clone, Copy)]
 pub enum Job<'a> {
     /// No words: run the standard profile over the standard input.
     Standard,
@@ -26,7 +26,7 @@ pub enum Job<'a> {
 }
 
 /// Why the words are refused.
-#[derive(Clone, Copy, Debug, PartialEq, Eq)]
+#[derive(Clone, Copy)]
 pub enum WordFault {
     /// They are none that the program takes. Requests for help are such words too.
     Usage,
