@@ -8,6 +8,7 @@ script, which states its answers (docs/script.md): an event behind which nothing
 rows that are alike for each mode code or each phase of a message are made here, from what the standard says of each.
 """
 
+import itertools
 import pathlib
 import sys
 from typing import NamedTuple, Optional
@@ -144,7 +145,23 @@ def broadcast_codes():
             hand = code.handed(busy) if code.broadcast else ""
             heard = [*gap("A", hand=hand), *asked(kept_after(code, busy))]
             yield row(f"code {code.code} by broadcast{when}, and its status", EVERYTHING, *message, *heard)
-            yield row(f"illegal code {code.code} by broadcast{when}", NOTHING, *message, *gap("A"))
+            illegal = [*gap("A"), *asked(0x2C18 if busy else 0x2C10)]
+            yield row(f"illegal code {code.code} by broadcast{when}", NOTHING, *message, *illegal)
+
+
+def codes_without_a_cell():
+    """Each code with the T/R, bit 10, that the table doesn't give, to the own address and by broadcast. A data word
+    follows codes of 16 or more that receive."""
+    listed = {(it.code, it.transmit) for it in CODES}
+    for code, transmit in itertools.product(range(32), (True, False)):
+        if (code, transmit) in listed:
+            continue
+        name = f"code {code} with bit 10 {'set' if transmit else 'clear'}"
+        words = [] if transmit or code < 16 else ["A d 1234"]
+        low = 0x400 * transmit + code
+        yield row(name, EVERYTHING, f"A c {0x2800 + low:04x}", *words, *gap("A", 0x2C00))
+        heard = [f"A c {0xF800 + low:04x}", *words, *gap("A"), *asked(0x2C10)]
+        yield row(f"{name} by broadcast, and its status", EVERYTHING, *heard)
 
 
 # what comes on a bus, and the phase of a message or of a reply that it leads to
@@ -183,7 +200,7 @@ def rows():
     """All rows."""
     for file in sorted(ROWS.glob("*.txt")):
         yield from rows_of(file)
-    for family in (own_codes, broadcast_codes, superseding_commands, words_after_a_command):
+    for family in (own_codes, broadcast_codes, codes_without_a_cell, superseding_commands, words_after_a_command):
         yield from family()
 
 
