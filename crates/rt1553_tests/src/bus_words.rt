@@ -66,30 +66,38 @@ fn wanted_expected(transmit: bool, subaddress: u8, low: u8) -> u8 {
     }
 }
 
+/// Whether a command has these fields, and their cell.
+fn is_command_of(bits: u16, address: u8, transmit: bool, subaddress: u8, low: u8) -> bool {
+    let command = Command::of(bits);
+    command.bits() == bits
+        && command.address() == address
+        && command.transmit() == transmit
+        && command.subaddress() == subaddress
+        && command.code() == low
+        && command.is_broadcast() == (address == 31)
+        && cell_of(command) == wanted_cell(address, transmit, subaddress, low)
+        && command.expected() == wanted_expected(transmit, subaddress, low)
+}
+
+/// The first command of this address and this T/R that is otherwise.
+fn first_wrong_command(address: u8, transmit: bool) -> Option<u16> {
+    for subaddress in 0..32u8 {
+        for low in 0..32u8 {
+            let place = u16::from(subaddress) * 32 + u16::from(low);
+            let bits = u16::from(address) % 32 * 2048 + u16::from(transmit) * 1024 + place;
+            if !is_command_of(bits, address, transmit, subaddress, low) {
+                return Some(bits);
+            }
+        }
+    }
+    None
+}
+
 #[test]
 fn every_command_has_its_fields_and_its_cell(rt: HostRuntime) {
     for address in 0..32u8 {
-        for transmit in [false, true] {
-            for subaddress in 0..32u8 {
-                for low in 0..32u8 {
-                    let bits = u16::from(address) * 2048
-                        + u16::from(transmit) * 1024
-                        + u16::from(subaddress) * 32
-                        + u16::from(low);
-                    let command = Command::of(bits);
-                    assert_eq!(rt; command.bits(), bits);
-                    assert_eq!(rt; command.address(), address, "of {bits}");
-                    assert_eq!(rt; command.transmit(), transmit, "of {bits}");
-                    assert_eq!(rt; command.subaddress(), subaddress, "of {bits}");
-                    assert_eq!(rt; command.code(), low, "of {bits}");
-                    assert_eq!(rt; command.is_broadcast(), address == 31, "of {bits}");
-                    let wanted = wanted_cell(address, transmit, subaddress, low);
-                    assert_eq!(rt; cell_of(command), wanted, "of {bits}");
-                    let expected = wanted_expected(transmit, subaddress, low);
-                    assert_eq!(rt; command.expected(), expected, "of {bits}");
-                }
-            }
-        }
+        assert_eq!(rt; first_wrong_command(address, false), None);
+        assert_eq!(rt; first_wrong_command(address, true), None);
     }
 }
 
@@ -115,9 +123,8 @@ fn four_codes_are_required(rt: HostRuntime) {
 #[test]
 fn bits_of_a_mask(rt: HostRuntime) {
     for bit in 0..32u8 {
-        assert_eq!(rt;
-            has_bit(0x8000_0005, bit),
-            [0, 2, 31].contains(&bit),
+        assert!(rt;
+            has_bit(0x8000_0005, bit) == [0, 2, 31].contains(&bit),
             "of {bit}"
         );
     }
@@ -181,28 +188,41 @@ fn every_status_word_has_its_bits(rt: HostRuntime) {
     }
 }
 
-#[test]
-fn words_are_for_the_terminal_by_its_address_or_by_broadcast(rt: HostRuntime) {
+/// Whether the words for a terminal of address 5 are those with its address, and where broadcasts are heard those to all.
+fn are_for_it() -> bool {
     let own = Raw::of(Kind::Com, 0x2c02);
     let all = Raw::of(Kind::Com, 0xfc02);
-    assert!(rt; own.is_for(5, false));
-    assert!(rt; own.is_for(5, true));
-    assert!(rt; !own.is_for(6, true));
-    assert!(rt; all.is_for(5, true));
-    assert!(rt; !all.is_for(5, false));
-    assert!(rt;
-        !Raw {
-            parity: false,
-            ..own
-        }
-        .is_for(5, true)
-    );
-    assert!(rt; !Raw::of(Kind::Dat, 0x2c02).is_for(5, true));
-    assert!(rt; own.is_command() && !own.is_data());
-    assert!(rt; Raw::of(Kind::Dat, 0x2c02).is_data());
-    assert!(rt; Command::of(0x2862).is_receive());
-    assert!(rt; !Command::of(0x2c62).is_receive() && !Command::of(0x2811).is_receive());
-    assert!(rt; Command::of(0x2811).is_mode() && Command::of(0x2bf1).is_mode());
-    assert!(rt; Command::of(0x2860).count() == 32 && Command::of(0x2862).count() == 2);
-    assert!(rt; Command::of(0xf862).is_addressed_to(5, true));
+    let wrong = Raw {
+        parity: false,
+        ..own
+    };
+    own.is_for(5, false)
+        && own.is_for(5, true)
+        && !own.is_for(6, true)
+        && all.is_for(5, true)
+        && !all.is_for(5, false)
+        && !wrong.is_for(5, true)
+        && !Raw::of(Kind::Dat, 0x2c02).is_for(5, true)
+        && Command::of(0xf862).is_addressed_to(5, true)
+}
+
+/// Whether words and commands are of their kinds.
+fn are_of_their_kinds() -> bool {
+    let own = Raw::of(Kind::Com, 0x2c02);
+    own.is_command()
+        && !own.is_data()
+        && Raw::of(Kind::Dat, 0x2c02).is_data()
+        && Command::of(0x2862).is_receive()
+        && !Command::of(0x2c62).is_receive()
+        && !Command::of(0x2811).is_receive()
+        && Command::of(0x2811).is_mode()
+        && Command::of(0x2bf1).is_mode()
+        && Command::of(0x2860).count() == 32
+        && Command::of(0x2862).count() == 2
+}
+
+#[test]
+fn words_are_for_the_terminal_by_its_address_or_by_broadcast(rt: HostRuntime) {
+    assert!(rt; are_for_it());
+    assert!(rt; are_of_their_kinds());
 }

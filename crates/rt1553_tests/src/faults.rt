@@ -17,8 +17,7 @@ fn faults_of_profiles(rt: HostRuntime) -> Result<(), Fail> {
         (ProfileFault::RequiredCode(2), 8, "RequiredCode"),
         (ProfileFault::Memory, 9, "Memory"),
     ] {
-        assert_eq!(rt; fault.number(), number, "{name}");
-        assert_eq!(rt; fault.name(), name);
+        assert!(rt; fault.number() == number && fault.name() == name, "{name}");
     }
     let memory = format!(in rt.alloc(); "{}", ProfileFault::Memory)?;
     assert_eq!(rt; memory.as_str(), "out of memory");
@@ -31,8 +30,7 @@ fn faults_of_canonical_texts(rt: HostRuntime) {
         (CanonFault::Line(65), 1u8, "Line"),
         (CanonFault::Trailing, 2, "Trailing"),
     ] {
-        assert_eq!(rt; fault.number(), number);
-        assert_eq!(rt; fault.name(), name);
+        assert!(rt; fault.number() == number && fault.name() == name, "{name}");
     }
 }
 
@@ -45,8 +43,7 @@ fn faults_of_runs(rt: HostRuntime) {
         (RunFault::Read, 4, "Read"),
         (RunFault::Write, 5, "Write"),
     ] {
-        assert_eq!(rt; fault.number(), number);
-        assert_eq!(rt; fault.name(), name);
+        assert!(rt; fault.number() == number && fault.name() == name, "{name}");
     }
 }
 
@@ -57,12 +54,10 @@ fn faults_of_the_engine(rt: HostRuntime) {
         (LoadFault::Canon(CanonFault::Trailing), 2, "Canon"),
         (LoadFault::Memory, 3, "Memory"),
     ] {
-        assert_eq!(rt; fault.number(), number);
-        assert_eq!(rt; fault.name(), name);
-        assert_eq!(rt; EngineFault::Load(fault).number(), 1);
-        assert_eq!(rt; EngineFault::Load(fault).name(), "Load");
+        assert!(rt; fault.number() == number && fault.name() == name, "{name}");
+        let engine = EngineFault::Load(fault);
+        assert!(rt; engine.number() == 1 && engine.name() == "Load", "{name}");
     }
     let script = EngineFault::Script(RunFault::TooLong);
-    assert_eq!(rt; script.number(), 2);
-    assert_eq!(rt; script.name(), "Script");
+    assert!(rt; script.number() == 2 && script.name() == "Script");
 }

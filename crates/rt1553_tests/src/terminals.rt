@@ -2,8 +2,10 @@
 mod random;
 mod slots;
 
+ghost use Rattle.std.specs.Prelude.{◌<◌};
+
 use bus_legal::{Legality, Setup};
-use bus_terminal::{Answer, Event, Flag, Sent, Terminal};
+use bus_terminal::{Answer, Event, Flag, Terminal};
 use bus_word::{Bus, Cell, Kind, Raw};
 
 /// Every cell is legal, or none, not even the mode codes that are legal by each profile.
@@ -35,26 +37,30 @@ fn command(bus: Bus, bits: u16) -> Event {
     Event::Word(bus, Raw::of(Kind::Com, bits))
 }
 
+/// Whether a mode code where nothing is legal is answered by this status alone.
+fn is_answered_by(code: u16, busy: bool, bits: u16) -> bool
+    requires { code < 32 }
+{
+    let mut terminal = Terminal::power_up(equipped(), Every(false));
+    terminal.take(Event::Flag(Flag::Busy, busy));
+    terminal.take(command(Bus::A, 0x2c00 + code));
+    let at_gap = matches!(terminal.step(Event::Gap(Bus::A)), Answer::Silent);
+    let is_sent = match terminal.step(Event::Slot) {
+        Answer::Sends(sent) => sent.bus == Bus::A && sent.kind == Kind::Com && sent.bits == bits,
+        _ => false,
+    };
+    let after = matches!(terminal.step(Event::Slot), Answer::Silent);
+    at_gap && is_sent && after
+}
+
 #[test]
 fn required_mode_codes_where_they_are_illegal(rt: HostRuntime) {
     for code in [2u16, 4, 5, 8] {
-        for (busy, bits) in [(false, 0x2c00), (true, 0x2c08)] {
-            let mut terminal = Terminal::power_up(equipped(), Every(false));
-            terminal.step(Event::Flag(Flag::Busy, busy));
-            terminal.step(command(Bus::A, 0x2c00 + code));
-            assert_eq!(rt;
-                terminal.step(Event::Gap(Bus::A)),
-                Answer::Silent,
-                "code {code}"
-            );
-            let status = Answer::Sends(Sent {
-                bus: Bus::A,
-                kind: Kind::Com,
-                bits,
-            });
-            assert_eq!(rt; terminal.step(Event::Slot), status, "code {code}");
-            assert_eq!(rt; terminal.step(Event::Slot), Answer::Silent, "code {code}");
-        }
+        assert!(rt; is_answered_by(code, false, 0x2c00), "code {code}");
+        assert!(rt;
+            is_answered_by(code, true, 0x2c08),
+            "code {code} while busy"
+        );
     }
 }
 
