@@ -1,16 +1,16 @@
 """The acceptance test of a terminal, by the model: one script that tells it from every other terminal.
 
-    complete_test.py check [SEED [ROUNDS]]   plays the test of random terminals to each of them and to others, which differ
-                                             in one thing, in a few, or in all; the test must tell every one of them apart
+    complete_test.py check [SEED [ROUNDS]]   plays the test of random terminals to each of them and to others, which
+                                             differ in one thing, in a few, or in all; it must tell all of them apart
     complete_test.py sizes                   the number of events for some terminals
     complete_test.py script FILE             the test of a profile without faults, or of a canonical text, line by line
 
-What is checked: each of the others answers otherwise than the terminal itself at some event of the test, the terminal itself
-nowhere, and no message and no reply is left over at the end. That is asked of the rules in rules.py, which were written apart
-from the definitions.
+What is checked: each of the others answers otherwise than the terminal itself at some event of the test, the terminal
+itself nowhere, and no message and no reply is left over at the end. That is asked of the rules in rules.py, which were
+written apart from the definitions.
 
-The exchanges are those of the definitions of the crate terminal_complete_test, written anew. An exchange is a command, its data
-words and the number of slots after its gap, all on bus A.
+The exchanges are those of the definitions of the crate terminal_complete_test, written anew. An exchange is a command,
+its data words and the number of slots after its gap, all on bus A.
 """
 
 import dataclasses
@@ -168,7 +168,8 @@ def other_number(draw, low, high, but):
     return draw.choice([k for k in range(low, high + 1) if k != but])
 
 
-KINDS = ["address", "option", "receive", "transmit", "heard", "own code", "heard code", "accept", "vector", "bit", "word", "wrap"]
+KINDS = ["address", "option", "receive", "transmit", "heard", "own code", "heard code"]
+KINDS += ["accept", "vector", "bit", "word", "wrap"]
 
 
 def changed(draw, p, kind):
@@ -241,7 +242,8 @@ def check(seed, rounds):
             else:
                 at[kind] = max(at.get(kind, 0), where)
     print("tried:", ", ".join(f"{kind} {n}" for kind, n in tried.items()))
-    print("of", sum(tried.values()), "others", sum(tried.values()) - failed, "are told apart;", alike, "changes were none")
+    others = sum(tried.values())
+    print("of", others, "others", others - failed, "are told apart;", alike, "changes were none")
     print("latest event that told:", ", ".join(f"{kind} {n}" for kind, n in at.items()))
     return 1 if failed else 0
 
@@ -249,12 +251,14 @@ def check(seed, rounds):
 def sizes():
     full = 2**32 - 1
     none = canonical.Reached(5, False, (0,) * 30, (0,) * 30, (0,) * 30, 0, 0, False, 0, 0, 0, ((0,) * 32,) * 30)
-    largest = dataclasses.replace(none, broadcast=True, receive=(1 << 31,) * 30, transmit=(1 << 31,) * 30, heard=(full,) * 30, own_codes=full, heard_codes=full)
+    last = (1 << 31,) * 30
+    heard = {"broadcast": True, "heard": (full,) * 30, "heard_codes": full}
+    largest = dataclasses.replace(none, receive=last, transmit=last, own_codes=full, **heard)
     plain = dataclasses.replace(none, receive=(full,) * 30, transmit=(full,) * 30, own_codes=full)
     named = {
         "address = 5 and nothing else": none,
         "all legal, without the broadcast option": plain,
-        "all legal, with it": dataclasses.replace(plain, broadcast=True, heard=(full,) * 30, heard_codes=full),
+        "all legal, with it": dataclasses.replace(plain, **heard),
         "the most events: wraparound by 32 words each way": largest,
     }
     for name, p in named.items():
