@@ -20,7 +20,7 @@ library: ## proves and builds the library for C, C++, Python and Rust: bin/libra
 	@bash scripts/need.sh rt cc ar ld objcopy objdump python3
 	@python3 scripts/build.py library
 
-test: ## the gate: proves and tests everything from nothing; the last line is 'N passed, M failed'
+test: ## the gate: proves and tests everything; the last line is 'N passed, M failed'
 	@bash scripts/need.sh rt python3 cc c++ cargo groff vim dpkg-deb git
 	bash scripts/gate.sh
 
