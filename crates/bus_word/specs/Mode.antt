@@ -1,5 +1,5 @@
 -- Mode codes (MIL-STD-1553B, 4.3.3.5.1.7).
-use Rattle.std.specs.Prelude.{ℕ, Bool, true, false, ◌||◌, ◌==◌, if◌then◌else◌, Option, Some, None, List, [], ◌∷◌}
+use Rattle.std.specs.Prelude.{ℕ, Bool, true, false, ◌||◌, ◌==◌, if◌then◌else◌, Option, Some, None, List, [], ◌∷◌, codes}
 use Rattle.bus_word.specs.declared.mode.ModeRow.{ModeRow}
 
 -- The mode codes by their names.
@@ -83,3 +83,23 @@ mode_row code = row_in mode_table code
 -- transmit status word, transmitter shutdown and its override, and reset remote terminal.
 abbrev pub is_required_code : ℕ → Bool
 is_required_code code = (code == transmit_status) || ((code == shutdown) || ((code == override_shutdown) || (code == reset)))
+
+-- What a mode code is called. Those of selected transmitter shutdown, 20 and 21, are called so without the word transmitter.
+abbrev pub mode_name : ℕ → List ℕ
+mode_name code =
+    if code == 0 then codes "dynamic bus control"
+    else if code == 1 then codes "synchronize"
+    else if code == 2 then codes "transmit status word"
+    else if code == 3 then codes "initiate self test"
+    else if code == 4 then codes "transmitter shutdown"
+    else if code == 5 then codes "override transmitter shutdown"
+    else if code == 6 then codes "inhibit terminal flag bit"
+    else if code == 7 then codes "override inhibit terminal flag bit"
+    else if code == 8 then codes "reset remote terminal"
+    else if code == 16 then codes "transmit vector word"
+    else if code == 17 then codes "synchronize with data word"
+    else if code == 18 then codes "transmit last command"
+    else if code == 19 then codes "transmit BIT word"
+    else if code == 20 then codes "selected shutdown"
+    else if code == 21 then codes "override selected shutdown"
+    else codes "reserved"

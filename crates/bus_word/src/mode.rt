@@ -54,7 +54,7 @@ impl ModeRow {
     }
 }
 
-ghost use Rattle.bus_word.specs.Mode.{mode_row, is_required_code};
+ghost use Rattle.bus_word.specs.Mode.{mode_row, is_required_code, mode_name};
 
 /// The row of a mode code, or None for a code that is always illegal: the reserved ones, and
 /// selected transmitter shutdown and its override (20 and 21), which serve more than two buses.
@@ -81,7 +81,9 @@ pub fn is_required_code(code: u8) -> bool
 
 /// What a mode code, 0 to 31, is called (MIL-STD-1553B, 4.3.3.5.1.7); those of selected transmitter shutdown, 20 and 21,
 /// without the word transmitter.
-pub fn mode_name(code: u8) -> &'static str {
+pub fn mode_name(code: u8) -> &'static str
+    ensures { result.now ≡ mode_name code }
+{
     match code {
         0 => "dynamic bus control",
         1 => "synchronize",
