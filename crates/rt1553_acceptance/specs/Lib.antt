@@ -1,0 +1,2 @@
+pub use Rattle.bus_legal.specs.Parts
+pub mod Label
