@@ -2,3 +2,4 @@ pub mod ExchangeLaw
 pub mod Distinguish
 pub mod CountLaws
 pub mod ShortestLaws
+pub mod EventLaws
