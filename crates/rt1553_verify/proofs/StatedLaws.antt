@@ -50,7 +50,7 @@ stated-means c line rest is = ap meaning (after-is (35 ∷ c ∷ 32 ∷ []) line
 abbrev Said : Type 0
 Said = Result (List StatedEvent) StatedFault
 
-then-twice : (es fs : List StatedEvent) (later : Said) → then_events es (then_events fs later) ≡ then_events (es ++ fs) later
+pub then-twice : (es fs : List StatedEvent) (later : Said) → then_events es (then_events fs later) ≡ then_events (es ++ fs) later
 then-twice es fs (Ok later) = ap Ok (sym (append_assoc es fs later))
 then-twice es fs (Err fault) = refl
 
@@ -102,7 +102,7 @@ pub stated_long : (n : ℕ) (rest line more : List ℕ) (latest : Latest) (old :
 stated_long n rest line more latest old all few long first before =
     before ∙ ap (λ ls. then_events old (stated_by n latest ls)) first ∙ ap (then_events old) (stated-long_line n latest line (lines_of more) few long)
 
-stated-none : (n : ℕ) (latest : Latest) → stated_by n latest (lines_of []) ≡ Ok (ended latest)
+pub stated-none : (n : ℕ) (latest : Latest) → stated_by n latest (lines_of []) ≡ Ok (ended latest)
 unfolding stated_by lines_of
 stated-none n latest = refl
 
