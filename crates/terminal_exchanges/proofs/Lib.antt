@@ -1,4 +1,6 @@
+pub mod Notes
 pub mod ExchangeLaw
 pub mod Distinguish
+pub mod ExchangeAnswers
 pub mod CountLaws
 pub mod ShortestLaws
