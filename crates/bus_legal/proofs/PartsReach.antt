@@ -13,7 +13,7 @@ use Rattle.bus_legal.specs.Parts.{Parts, description_in, AreMasks}
 use Rattle.bus_legal.proofs.Bools.{left_of}
 use Rattle.bus_legal.proofs.Counts.{sent_place}
 use Rattle.bus_legal.proofs.Descriptions.{same_description, cond-none}
-use Rattle.bus_legal.proofs.Places.{place_above, place_from, mask_from}
+use Rattle.bus_legal.proofs.Places.{place_from}
 use Rattle.bus_legal.proofs.TablesReach.{is_subaddress, masks_wrap-said, largest_count-said}
 
 -- how the parts were made of a description
@@ -50,7 +50,7 @@ sent : (P : Description) (v : Parts) → AreMadeOf P v → (s i : ℕ) → is_da
     nat_lt (i - 1) (largest_in (get_or v.tables.own_transmit (s - 1) 0)) ≡ can_transmit P s i
 sent P v made s i place =
     let most : largest_count (transmits_at P s) ≡ largest_in (get_or v.tables.own_transmit (s - 1) 0) =
-    (λ j. largest_count (λ n. sym (made.legal (OwnTransmit s n)) j)) ∙ (largest_count-said v.tables.own_transmit s (left_of _ _ place) ∙ ap largest_in (sym (mask_from v.tables.own_transmit s (place_above s i place)))) in
+    (λ j. largest_count (λ n. sym (made.legal (OwnTransmit s n)) j)) ∙ largest_count-said v.tables.own_transmit s (left_of _ _ place) in
     by_number (largest_in (get_or v.tables.own_transmit (s - 1) 0)) (place_from s i place) ∙ ap (λ n. nat_le 1 i && nat_le i n) (sym most)
   where
     by_number : (n : ℕ) → 1 ≤ i → nat_lt (i - 1) n ≡ (nat_le 1 i && nat_le i n)

@@ -7,7 +7,6 @@ use Rattle.bus_legal.specs.declared.tables.Tables.{Tables}
 use Rattle.bus_legal.specs.Description.{Description, word_at}
 use Rattle.bus_legal.specs.Reach.{any_count, transmits_at}
 use Rattle.bus_legal.specs.Tables.{has_any}
-use Rattle.bus_legal.proofs.Places.{mask_from}
 use Rattle.bus_legal.specs.Parts.{Parts, description_in, IsNormal}
 use Rattle.bus_legal.proofs.TablesReach.{any_count-said}
 use Rattle.terminal_exchanges.specs.Exchanges.{Exchange}
@@ -37,7 +36,7 @@ module _ (v : Parts) (normal : IsNormal v) (t : Tables) (block own s : ℕ) (tab
   own_mask = λ j. get_or ((tables j).own_receive) (at j) 0
 
   any_own : any_count (receives_own P s) ≡ has_any (get_or v.tables.own_receive (s - 1) 0)
-  any_own = any_count-said v.tables.own_receive s (inside s low high) normal.own_receive ∙ ap has_any (sym (mask_from v.tables.own_receive s low))
+  any_own = any_count-said v.tables.own_receive s (inside s low high) normal.own_receive
 
   pub own_shortest : (words : List (List ℕ)) (n : ℕ) (x : Exchange) → words ≡ v.initial → get_or t.own_receive block 0 ≢ 0 → n ≡ least_in (get_or t.own_receive block 0) →
       x ≡ receive own s n ((65535 - get_or (get_or words block []) 0 0) ∷ replicate (n - 1) 0) → x ≡ shortest_receive P s
