@@ -2,7 +2,7 @@
 -- those of a model of docs/terminal.md in another language, and were written by it:
 --
 --     python3 tests/model/random_scripts.py rows 1 60 >crates/terminal_rules/proofs/RandomRows/From1.antt
-use Rattle.std.specs.Prelude.{refl, ℕ, ◌+◌, ◌*◌, Bool, true, false, List, [], ◌∷◌}
+use Rattle.std.specs.Prelude.{◌≡◌, refl, ℕ, ◌+◌, ◌*◌, Bool, true, false, List, [], ◌∷◌}
 use Rattle.bus_word.specs.declared.word.Bus.TheVariants.{A, B}
 use Rattle.bus_word.specs.declared.cell.Cell.{Cell}
 use Rattle.bus_word.specs.declared.cell.Cell.TheVariants.{OwnReceive, OwnTransmit, BroadReceive, OwnMode, BroadMode}

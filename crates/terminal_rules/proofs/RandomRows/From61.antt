@@ -2,14 +2,14 @@
 -- those of a model of docs/terminal.md in another language, and were written by it:
 --
 --     python3 tests/model/random_scripts.py rows 61 120 >crates/terminal_rules/proofs/RandomRows/From61.antt
-use Rattle.std.specs.Prelude.{refl, ℕ, ◌+◌, ◌*◌, Bool, true, false, List, [], ◌∷◌}
+use Rattle.std.specs.Prelude.{◌≡◌, refl, ℕ, ◌+◌, ◌*◌, Bool, true, false, List, [], ◌∷◌}
 use Rattle.bus_word.specs.declared.word.Bus.TheVariants.{A, B}
 use Rattle.bus_word.specs.declared.cell.Cell.{Cell}
 use Rattle.bus_word.specs.declared.cell.Cell.TheVariants.{OwnReceive, OwnTransmit, BroadReceive, OwnMode, BroadMode}
 use Rattle.bus_legal.specs.Description.{Description}
 use Rattle.terminal_rules.specs.declared.event.Event.TheVariants.{Noise, Vector, Bit, Flag as FlagIs}
 use Rattle.terminal_rules.specs.declared.event.Flag.TheVariants.{Service, Busy, Subsystem, Terminal}
-use Rattle.terminal_rules.specs.Out.{HandsReceived, HandsSynchronize, HandsSynchronizeWith, HandsSelfTest}
+use Rattle.terminal_rules.specs.Out.{HandsReceived, HandsSynchronize, HandsSynchronizeWith, HandsSelfTest, HandsBusControl}
 use Rattle.terminal_rules.specs.WorkedExamples.Words.{five, command, data_word, invalid, invalid_data, write, quiet, gap, gap_hands, idle_slot, slot_status, slot_word, Answers}
 
 -- Address 5: the broadcast option, the wraparound subaddress, acceptance of bus control, and legal cells. Word i of
