@@ -1,8 +1,8 @@
 //! The reader of canonical texts.
 ghost use Rattle.std.specs.Prelude.{◌≡◌, ◌≤◌, nat_le, codes, IfOk};
-ghost use Rattle.line_format.specs.inner.Reading.{read};
+ghost use Rattle.line_format.specs.Reading.{read};
 ghost use Rattle.line_format.specs.Shapes.{decimal, number_line};
-ghost use Rattle.line_format.specs.inner.Views.{Gives, spot};
+ghost use Rattle.line_format.specs.Views.{Gives, spot};
 ghost use Rattle.line_format.specs.Answers.{Answers};
 ghost use Rattle.bus_canon.specs.Canon.{version_field, is_read, canon};
 ghost use Rattle.bus_canon.specs.inner.CanonAnswer.{canon_answer};

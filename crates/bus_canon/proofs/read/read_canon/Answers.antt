@@ -1,8 +1,8 @@
 use Rattle.std.proofs.Common.{◌∙◌, ap, refl, sym, arith}
 use Rattle.std.proofs.lemmas.Bool.Decides.{nat_tests}
 use Rattle.std.proofs.lemmas.List.{nil_from_length}
-use Rattle.line_format.specs.inner.Reading.{read}
-use Rattle.line_format.specs.inner.Views.{spot}
+use Rattle.line_format.specs.Reading.{read}
+use Rattle.line_format.specs.Views.{spot}
 use Rattle.line_format.proofs.AnswerLaws.{read_whole, read_more, read_err}
 use Rattle.bus_canon.specs.Canon.{is_read, canon}
 use Rattle.bus_canon.proofs.CanonLaws.{canon_sound}
