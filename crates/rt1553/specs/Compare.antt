@@ -46,7 +46,12 @@ abbrev pub IsRight : List ℕ → List ℕ → Verdict → Type 0
 IsRight first second verdict.Same = AreSame first second
 IsRight first second (verdict.Differ script) = AreDifferent first second script.items
 
--- the first text that is not accepted is refused by this
+-- The verdict is `Same` exactly if the two texts mean the same terminal.
+abbrev pub IsExact : List ℕ → List ℕ → Verdict → Type 0
+IsExact first second v = (P Q : Description) → Of first P → Of second Q → (v ≡ verdict.Same) ↔ Same P Q
+
+-- The fault is that of the first text that is not accepted, or says that memory ran out. The second text is loaded only where
+-- the first was accepted.
 abbrev pub IsNotCompared : List ℕ → List ℕ → LoadFault → Type 0
 IsNotCompared first second fault = IsNotLoaded first fault ⊎ ((p : Description) × Of first p × IsNotLoaded second fault)
 

@@ -9,10 +9,8 @@ use Rattle.bus_legal.specs.Description.{Description}
 use Rattle.bus_legal.specs.Meaning.{description_of}
 use Rattle.bus_legal.specs.Parts.{Parts, description_in}
 use Rattle.bus_legal.specs.Reach.{reach}
-use Rattle.line_format.specs.Answers.{Trails, HasWrongLine}
-use Rattle.bus_canon.specs.Canon.{is_read, canon, AnyText}
-use Rattle.bus_canon.specs.declared.fault.CanonFault.{CanonFault}
-use Rattle.bus_canon.specs.declared.fault.CanonFault.TheVariants.{Line, Trailing}
+use Rattle.bus_canon.specs.Canon.{AnyText}
+use Rattle.bus_canon.specs.Read.{IsNoText}
 use Rattle.rt1553.specs.declared.fault.LoadFault.{LoadFault}
 use Rattle.rt1553.specs.declared.fault.LoadFault.TheVariants as load
 
@@ -52,17 +50,13 @@ pub record Reaches (text : List ℕ) (value : Parts) : Type 0 where
   pub of : Of text description
   pub reached : description_in value ≡ reach description
 
-abbrev pub IsNoCanon : List ℕ → CanonFault → Type 0
-IsNoCanon text (Line n) = HasWrongLine (canon is_read) text n
-IsNoCanon text Trailing = Trails (canon is_read) text
-
 -- want of memory is no fault of a profile text
 abbrev pub IsNoProfile : List ℕ → ProfileFault → Type 0
 IsNoProfile text profile.Memory = ⊥
 IsNoProfile text fault = Refuses text fault
 
 abbrev pub IsNotLoadedBy : Bool → List ℕ → LoadFault → Type 0
-IsNotLoadedBy true text (load.Canon fault) = IsNoCanon text fault
+IsNotLoadedBy true text (load.Canon fault) = IsNoText text fault
 IsNotLoadedBy true text (load.Profile fault) = ⊥
 IsNotLoadedBy true text load.Memory = ⊥
 IsNotLoadedBy false text (load.Profile fault) = IsNoProfile text fault
