@@ -2,8 +2,8 @@
 use Rattle.std.proofs.Common.{◌≡◌, ℕ, suc, ◌<◌, List, [], ◌∷◌, ◌++◌, length, Result, Ok, Err, refl, ap, sym, ◌∙◌, subst, arith, append-nil, ⊎_elim}
 use Rattle.std.proofs.lemmas.Bool.{cases_lt}
 use Rattle.line_format.specs.Format.{Format, Spells, IsSound}
-use Rattle.line_format.specs.Reading.{Spot, start, read}
-use Rattle.line_format.specs.Answers.{Trails, HasWrongLine, Answer, Whole, More, Wrong, Answers, whole_or_more, answer_found}
+use Rattle.line_format.specs.Reading.{Spot, start, read, whole_or_more, answer_found}
+use Rattle.line_format.specs.Answers.{Trails, HasWrongLine, Answer, Whole, More, Wrong, Answers}
 use Rattle.line_format.proofs.FormatLaws.{read-is, read-again, read-wrong, begins-fewer, Meets, WrongAt}
 
 -- a value was read, and nothing is left

@@ -1,8 +1,7 @@
 -- What stands at the front of some bytes: a whole text of a format, one with something after it, or a wrong
 -- line.
-use Rattle.std.specs.Prelude.{◌≡◌, ℕ, suc, ◌++◌, List, [], ◌∷◌, Result, Ok, Err}
+use Rattle.std.specs.Prelude.{◌≡◌, ℕ, suc, ◌++◌, List, ◌∷◌}
 use Rattle.line_format.specs.Format.{Format, Spells, Begins}
-use Rattle.line_format.specs.Reading.{Spot}
 
 -- a text of the format, and something after it
 pub record Trails {A : Type 0} (F : Format A) (bytes : List ℕ) : Type 0 where
@@ -32,13 +31,3 @@ abbrev pub Answers : {A : Type 0} → Format A → List ℕ → Answer A → Typ
 Answers F bytes (Whole v) = Spells F v bytes
 Answers F bytes More = Trails F bytes
 Answers F bytes (Wrong n) = HasWrongLine F bytes n
-
--- A value that was read with nothing left is that of a whole text.
-abbrev pub whole_or_more : {A : Type 0} → A → List ℕ → Answer A
-whole_or_more v [] = Whole v
-whole_or_more v (b ∷ bs) = More
-
--- what reading from the start finds, as an answer
-abbrev pub answer_found : {A : Type 0} → Result (A × Spot) ℕ → Answer A
-answer_found (Ok p) = whole_or_more p.0 p.1.rest
-answer_found (Err n) = Wrong n
