@@ -20,11 +20,12 @@ mod wrapped;
 mod writing;
 
 pub use device::{IoFailed, Sink, Source};
+pub use digits::{push_number, push_word};
 pub use event_line::write_event;
 pub use fault::RunFault;
 pub use line::{LineFault, read_event};
 pub use memory::{MemorySink, MemorySource};
 pub use run::run_script;
-pub use transcript::write_answer;
+pub use transcript::{received_by, write_answer};
 pub use wrapped::{FromRead, FromWrite};
 pub use writing::write_all;

@@ -48,7 +48,8 @@ fn push_sent(text: &mut ArrayString<320>, sent: &Sent)
     text.push_str("\n");
 }
 
-fn received_by(broadcast: bool) -> &'static str
+/// What the line of data words that were received begins with.
+pub fn received_by(broadcast: bool) -> &'static str
     ensures { result.now ≡ received_by broadcast }
 {
     if broadcast {

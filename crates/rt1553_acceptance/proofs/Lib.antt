@@ -2,5 +2,7 @@ pub mod Pieces
 pub mod Digits
 pub mod Fields
 pub mod Feeds
-pub mod Stating
+pub mod Chains
 pub mod Showing
+pub mod FieldSteps
+pub mod PutLaws

@@ -24,7 +24,7 @@ use Rattle.rt1553_acceptance.specs.Law.{AreAnswered, IsAcceptanceTest}
 use Rattle.rt1553_acceptance.specs.inner.Fits.{Fits, AllFit}
 use Rattle.rt1553_acceptance.proofs.Pieces.{Tells-all}
 use Rattle.rt1553_acceptance.proofs.Digits.{same_digits}
-use Rattle.rt1553_acceptance.proofs.Stating.{Chain, some_exchanges}
+use Rattle.rt1553_acceptance.proofs.Chains.{Chain, some_exchanges}
 
 -- ---- texts of answers tell the words that are sent
 

@@ -2,5 +2,8 @@
 #![tactic(auto)]
 
 mod label;
+mod stating;
+mod writing;
 
 pub use label::{Line, label_of};
+pub use writing::{Progress, write_acceptance};

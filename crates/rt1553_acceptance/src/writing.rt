@@ -1,0 +1,144 @@
+//! The acceptance test, written.
+ghost use Rattle.std.specs.Prelude.{◌≡◌, ◌||◌, ◌∷◌, [], List, map, not, is_ok, OnOk};
+ghost use Rattle.std.specs.Io.KnownBytes.{Appends};
+ghost use Rattle.bus_legal.specs.Description.{Description};
+ghost use Rattle.bus_legal.specs.Parts.{description_in};
+ghost use Rattle.terminal_rules.specs.declared.event.Event.{Event};
+ghost use Rattle.terminal_rules.specs.Out.{out};
+ghost use Rattle.terminal_exchanges.specs.Values.{exchange_in, IsShort, AreShort};
+ghost use Rattle.terminal_complete_test.specs.CompleteTest.{tried};
+ghost use Rattle.bus_terminal.specs.Stands.{StandsAt};
+ghost use Rattle.bus_script.specs.Playing.{Plays};
+ghost use Rattle.rt1553_acceptance.specs.Text.{event_stated, comment_of, acceptance_text};
+ghost use Rattle.rt1553_acceptance.specs.Law.{IsAcceptanceTest};
+ghost use Rattle.rt1553_acceptance.specs.inner.Fits.{Fits, AllFit};
+ghost use Rattle.rt1553_acceptance.specs.inner.Puts.{Puts};
+
+use crate::label::label_of;
+use crate::stating::{Lines, fits, lines_of};
+use bus_complete_test::{Exchange, exchanges_of, first_trial, next_trial};
+use bus_legal::{Legality, Normal};
+use bus_script::{IoFailed, Sink, write_all};
+use bus_terminal::{Event, Terminal};
+use terminal_exchanges::events_of;
+
+/// What is told while the test is written.
+pub trait Progress {
+    /// One exchange more was written.
+    fn exchange_written(&mut self);
+}
+
+/// Plays an event, and writes it with what is stated of its answer.
+fn put_event<L: Legality, W: Sink>(
+    sink: &mut W,
+    terminal: &mut Terminal<L>,
+    event: Event,
+) -> Result<(), IoFailed>
+    ensures wrote { OnOk result (Plays (StandsAt L.is_legal) event_stated W.written terminal.old terminal.new sink.old sink.new (event ∷ [])) }
+    ensures fits { (P : Description) (h : List Event) → StandsAt L.is_legal P h terminal.old → Fits (out P h event) }
+    ensures failed { W.has_failed sink.new ≡ (W.has_failed sink.old || not (is_ok result)) }
+{
+    let answer = terminal.step(event);
+    fits(&answer);
+    let lines = lines_of(&event, &answer);
+    write_all(sink, lines.as_str().as_bytes())
+}
+
+/// Plays events, and writes each with what is stated of its answer.
+fn put_events<L: Legality, W: Sink>(
+    sink: &mut W,
+    terminal: &mut Terminal<L>,
+    events: &[Event],
+) -> Result<(), IoFailed>
+    ensures wrote { OnOk result (Plays (StandsAt L.is_legal) event_stated W.written terminal.old terminal.new sink.old sink.new events.now) }
+    ensures fits { OnOk result ((P : Description) (h : List Event) → StandsAt L.is_legal P h terminal.old → AllFit P h events.now) }
+    ensures failed { W.has_failed sink.new ≡ (W.has_failed sink.old || not (is_ok result)) }
+{
+    for event in events {
+        put_event(sink, terminal, *event)?;
+    }
+    Ok(())
+}
+
+/// Writes the comment that says what an exchange tries.
+fn put_comment<W: Sink>(sink: &mut W, p: &Normal, exchange: Exchange) -> Result<(), IoFailed>
+    ensures wrote { OnOk result (Appends (W.written sink.old) (W.written sink.new) (comment_of (description_in p.now) (exchange_in exchange))) }
+    ensures failed { W.has_failed sink.new ≡ (W.has_failed sink.old || not (is_ok result)) }
+{
+    let mut line = Lines::new();
+    line.push_str("# ");
+    line.push_str(label_of(p, exchange.command).as_str());
+    line.push_str("\n");
+    write_all(sink, line.as_str().as_bytes())
+}
+
+/// Plays an exchange, and writes it behind its comment.
+fn put_exchange<L: Legality, W: Sink>(
+    sink: &mut W,
+    terminal: &mut Terminal<L>,
+    p: &Normal,
+    exchange: Exchange,
+) -> Result<(), IoFailed>
+    requires { IsShort exchange }
+    ensures wrote { OnOk result (Puts L.is_legal W.written (description_in p.now) terminal.old terminal.new sink.old sink.new (exchange_in exchange ∷ [])) }
+    ensures failed { W.has_failed sink.new ≡ (W.has_failed sink.old || not (is_ok result)) }
+{
+    put_comment(sink, p, exchange)?;
+    let events = events_of(exchange);
+    put_events(sink, terminal, events.as_slice())
+}
+
+/// Plays exchanges, and writes each behind its comment.
+fn put_exchanges<L: Legality, W: Sink, T: Progress>(
+    sink: &mut W,
+    terminal: &mut Terminal<L>,
+    p: &Normal,
+    exchanges: &[Exchange],
+    progress: &mut T,
+) -> Result<(), IoFailed>
+    requires { AreShort exchanges.now }
+    ensures wrote { OnOk result (Puts L.is_legal W.written (description_in p.now) terminal.old terminal.new sink.old sink.new (map exchange_in exchanges.now)) }
+    ensures failed { W.has_failed sink.new ≡ (W.has_failed sink.old || not (is_ok result)) }
+{
+    for exchange in exchanges {
+        put_exchange(sink, terminal, p, *exchange)?;
+        progress.exchange_written();
+    }
+    Ok(())
+}
+
+/// Plays all trials, and writes them.
+fn put_trials<L: Legality, W: Sink, T: Progress>(
+    sink: &mut W,
+    terminal: &mut Terminal<L>,
+    p: &Normal,
+    progress: &mut T,
+) -> Result<(), IoFailed>
+    ensures wrote { OnOk result (Puts L.is_legal W.written (description_in p.now) terminal.old terminal.new sink.old sink.new (tried (description_in p.now))) }
+    ensures failed { W.has_failed sink.new ≡ (W.has_failed sink.old || not (is_ok result)) }
+{
+    let mut next = Some(first_trial());
+    while let Some(trial) = next {
+        let exchanges = exchanges_of(p, trial);
+        put_exchanges(sink, terminal, p, exchanges.as_slice(), progress)?;
+        next = next_trial(p, trial);
+    }
+    Ok(())
+}
+
+/// Writes the acceptance test of a terminal: the script that tells it from every other terminal, each exchange behind a
+/// comment that says what it tries, each event with the answer that this terminal gives. A terminal that answers as it
+/// states, from power-up, is this one. The sink may hold bytes back: flush it.
+pub fn write_acceptance<W: Sink, T: Progress>(
+    normal: &Normal,
+    sink: &mut W,
+    progress: &mut T,
+) -> Result<(), IoFailed>
+    ensures text { OnOk result (Appends (W.written sink.old) (W.written sink.new) (acceptance_text (description_in normal.now))) }
+    ensures test { OnOk result (IsAcceptanceTest (description_in normal.now) (acceptance_text (description_in normal.now))) }
+    ensures failed { W.has_failed sink.new ≡ (W.has_failed sink.old || not (is_ok result)) }
+{
+    let setup = normal.setup();
+    let mut terminal = Terminal::power_up(setup, *normal);
+    put_trials(sink, &mut terminal, normal, progress)
+}
