@@ -1,5 +1,5 @@
 -- The script of the first difference tells apart, and `Normal`s that are alike are equal.
-use Rattle.std.proofs.Common.{◌≡◌, ℕ, ◌<◌, ◌&&◌, ◌∙◌, ap, sym, subst, inl, arith}
+use Rattle.std.proofs.Common.{◌≡◌, ◌≢◌, ℕ, ◌<◌, ◌&&◌, ◌∙◌, ap, sym, subst, inl, arith}
 use Rattle.bus_word.specs.Cell.{is_allowed}
 use Rattle.bus_word.specs.declared.cell.Cell.{Cell}
 use Rattle.bus_word.specs.declared.cell.Cell.TheVariants.{OwnReceive, OwnTransmit, BroadReceive, OwnMode, BroadMode}
@@ -9,6 +9,7 @@ use Rattle.bus_legal.specs.Parts.{Parts, description_in, IsNormal}
 use Rattle.bus_legal.specs.Tables.{has_count}
 use Rattle.bus_legal.proofs.Descriptions.{same_description}
 use Rattle.bus_legal.proofs.SameNormals.{same_normals}
+use Rattle.terminal_rules.specs.Out.{outs}
 use Rattle.terminal_exchanges.specs.Distinguish.{TellsApart, shown_subaddress}
 use Rattle.terminal_exchanges.proofs.Distinguish.Reached.{IsReached, normal-reached, apart_by_address, apart_by_option, apart_by_own_receive, apart_by_own_transmit, apart_by_broadcast_receive, apart_by_own_code, apart_by_broadcast_code, apart_by_acceptance, apart_by_vector, apart_by_bit, apart_by_initial, apart_by_wraparound}
 use Rattle.bus_canon.specs.declared.difference.Difference.{Difference}
@@ -55,6 +56,12 @@ apart_where_reached P Q Wraparound p q first =
 pub apart_by_first : (v w : Parts) (d : Difference) → IsNormal v → IsNormal w → IsFirstDifference (description_in v) (description_in w) d →
     TellsApart (description_in v) (description_in w) (script_for (description_in v) (description_in w) d)
 apart_by_first v w d p q first = apart_where_reached (description_in v) (description_in w) d (normal-reached v p) (normal-reached w q) first
+
+-- what has a first difference isn't equal
+pub apart_unequal : (v w : Parts) (d : Difference) → IsNormal v → IsNormal w → IsFirstDifference (description_in v) (description_in w) d → v ≢ w
+apart_unequal v w d p q first same =
+    let script = script_for (description_in v) (description_in w) d in
+    (apart_by_first v w d p q first).differ (ap (λ x. outs (description_in x) script) same)
 
 legal_alike : (P Q : Description) → AlikeBefore 13 P Q → (cell : Cell) → P.legal cell ≡ Q.legal cell
 legal_alike P Q alike (OwnReceive s n) = alike (ReceiveCell s n) (omega arith)

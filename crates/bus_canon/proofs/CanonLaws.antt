@@ -10,8 +10,8 @@ use Rattle.bus_legal.specs.Tables.{tables_say, masks_wrap, any_wraps, is_own_mas
 use Rattle.bus_legal.specs.Parts.{Parts, AreMasks, IsNormal}
 use Rattle.bus_legal.proofs.Counts.{any_to-true}
 use Rattle.line_format.specs.Format.{Format, done, Spells, IsSound}
-use Rattle.line_format.specs.inner.Reading.{Spot, read}
-use Rattle.line_format.specs.inner.Writing.{Adds}
+use Rattle.line_format.specs.Reading.{Spot, read}
+use Rattle.line_format.specs.Writing.{Adds}
 use Rattle.line_format.specs.Shapes.{decimal, word, mask, number_line, bit_line}
 use Rattle.line_format.proofs.SoundLaws.{sound_then, sound_after, sound_number, sound_bit}
 use Rattle.line_format.proofs.Writes.{spells-then, number_spelled, number_text, bit_spelled}

@@ -4,7 +4,7 @@ use Rattle.std.proofs.lemmas.Bool.Decides.{nat_tests}
 use Rattle.bus_legal.specs.Tables.{largest_in}
 use Rattle.line_format.specs.Format.{Format, done, and_then}
 use Rattle.line_format.specs.Shapes.{numbered_line, words_line}
-use Rattle.line_format.specs.inner.Reading.{Spot, read}
+use Rattle.line_format.specs.Reading.{Spot, read}
 use Rattle.line_format.proofs.Steps.{◌then◌, read-then, then_ok, then_err}
 use Rattle.bus_canon.specs.Canon.{masks, block, blocks, sent_words}
 use Rattle.bus_canon.proofs.Several.{one_and}

@@ -1,4 +1,5 @@
 pub mod Canon
+pub mod Read
 pub mod Difference
 pub mod Fault
 pub mod inner

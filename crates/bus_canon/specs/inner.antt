@@ -1,4 +1,3 @@
--- What the contracts of the reader and of the search for a difference speak of, and no definition of a text needs.
-pub mod CanonAnswer
+-- What the contracts of private functions speak of: the search for a difference, and which one shows by itself.
 pub mod Search
 pub mod Shows

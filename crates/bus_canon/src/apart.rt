@@ -1,5 +1,5 @@
 //! The scripts that tell two terminals apart.
-ghost use Rattle.std.specs.Prelude.{◌≡◌, ◌≢◌, ◌↔◌, ◌≤◌, ℕ, IfNone, IfSome, IsTrue, true};
+ghost use Rattle.std.specs.Prelude.{◌≡◌, ◌≢◌, ◌↔◌, ◌≤◌, ℕ, IsNone, IfSome, IsTrue, true};
 ghost use Rattle.bus_word.specs.Cell.{is_data_place};
 ghost use Rattle.bus_legal.specs.Parts.{description_in, IsNormal};
 ghost use Rattle.bus_legal.specs.Tables.{has_count};
@@ -10,16 +10,17 @@ ghost use Rattle.bus_canon.specs.Difference.{AreAlike, IsFirstDifference, IsInRa
 ghost use Rattle.bus_canon.specs.inner.Shows.{ShowsAlone};
 
 use crate::difference::{Difference, first_difference};
-use crate::script::{Script, script_for, shown_subaddress};
+use crate::script::{script_for, shown_subaddress};
 use bus_legal::{Legality, Normal};
 use bus_word::Cell;
 use bus_word::mode::{BIT_WORD, DYNAMIC_BUS_CONTROL, VECTOR_WORD};
+use terminal_exchanges::Script;
 
 /// The script that shows the first difference between two terminals, by what can be reached of them;
-/// None where there is none. From power-up the two answer the script otherwise: at most 70 events of
+/// None exactly where the two are equal. From power-up the two answer the script otherwise: at most 70 events of
 /// bus A, made for the address of the first.
 pub fn distinguish(p: &Normal, q: &Normal) -> Option<Script>
-    ensures same { IfNone result (p.now ≡ q.now) }
+    ensures same { IsNone result ↔ (p.now ≡ q.now) }
     ensures first { IfSome result (λ script. (d : Difference) × IsFirstDifference (description_in p.now) (description_in q.now) d × (script.items ≡ script_for (description_in p.now) (description_in q.now) d)) }
     ensures apart { IfSome result (λ script. TellsApart (description_in p.now) (description_in q.now) script.items) }
     ensures normal_first { IsNormal p.now }
@@ -136,11 +137,13 @@ fn is_shown(p: &Normal, q: &Normal, difference: Difference) -> bool
     }
 }
 
-/// The script that shows this difference, where the two differ in it and it shows whatever else differs. From power-up the
-/// two answer the script otherwise. None where they don't differ in it, or something else that differs is in its way.
+/// The script of this difference, given only where the two differ in it and the script shows it whatever else differs. From
+/// power-up the two answer it otherwise. None tells nothing: they may differ in this, with something else in its way.
 pub fn script_showing(p: &Normal, q: &Normal, difference: Difference) -> Option<Script>
     requires { IsInRange difference }
-    ensures { IfSome result (λ script. TellsApart (description_in p.now) (description_in q.now) script.items) }
+    ensures differ { IfSome result (λ _. AreAlike (description_in p.now) (description_in q.now) difference → ⊥) }
+    ensures script { IfSome result (λ script. script.items ≡ script_for (description_in p.now) (description_in q.now) difference) }
+    ensures apart { IfSome result (λ script. TellsApart (description_in p.now) (description_in q.now) script.items) }
 {
     // With a set-up comes the promise that nothing unreached is in the `Normal`.
     p.setup();

@@ -1,9 +1,9 @@
 //! The lines that a text has only where a controller can ask for what they tell.
 ghost use Rattle.std.specs.Prelude.{◌≡◌, ◌≤◌, true, false, codes, if◌then◌else◌, IfOk, OnOk};
-ghost use Rattle.line_format.specs.inner.Reading.{read};
+ghost use Rattle.line_format.specs.Reading.{read};
 ghost use Rattle.line_format.specs.Shapes.{decimal, word, number_line, bit_line};
-ghost use Rattle.line_format.specs.inner.Views.{Gives, spot};
-ghost use Rattle.line_format.specs.inner.Writing.{Adds};
+ghost use Rattle.line_format.specs.Views.{Gives, spot};
+ghost use Rattle.line_format.specs.Writing.{Adds};
 ghost use Rattle.bus_word.specs.Command.{wraparound_subaddress};
 ghost use Rattle.bus_word.specs.Mode.{dynamic_bus_control};
 ghost use Rattle.bus_word.specs.declared.cell.Cell.TheVariants.{OwnMode};

@@ -1,8 +1,8 @@
 //! The lines of the words held at power-up.
 ghost use Rattle.std.specs.Prelude.{◌≡◌, ◌<◌, ◌≤◌, ℕ, [], get_or, OnOk};
-ghost use Rattle.line_format.specs.inner.Reading.{read};
-ghost use Rattle.line_format.specs.inner.Views.{Gives, spot};
-ghost use Rattle.line_format.specs.inner.Writing.{Adds};
+ghost use Rattle.line_format.specs.Reading.{read};
+ghost use Rattle.line_format.specs.Views.{Gives, spot};
+ghost use Rattle.line_format.specs.Writing.{Adds};
 ghost use Rattle.bus_legal.specs.Tables.{largest_in};
 ghost use Rattle.bus_canon.specs.Canon.{block, blocks};
 

@@ -1,9 +1,9 @@
 //! The lines of the legal cells.
 ghost use Rattle.std.specs.Prelude.{◌≡◌, true, false, codes, replicate, OnOk};
-ghost use Rattle.line_format.specs.inner.Reading.{read};
+ghost use Rattle.line_format.specs.Reading.{read};
 ghost use Rattle.line_format.specs.Shapes.{mask, number_line};
-ghost use Rattle.line_format.specs.inner.Views.{Gives, spot};
-ghost use Rattle.line_format.specs.inner.Writing.{Adds};
+ghost use Rattle.line_format.specs.Views.{Gives, spot};
+ghost use Rattle.line_format.specs.Writing.{Adds};
 ghost use Rattle.bus_legal.specs.Tables.{is_own_mask, is_broadcast_mask};
 ghost use Rattle.bus_canon.specs.Canon.{when, masks, cells};
 

@@ -4,10 +4,10 @@ use thiserror::Error;
 /// Why a canonical text is refused. Lines are numbered from 1.
 #[derive(Clone, Copy, Debug, PartialEq, Eq, Error)]
 pub enum CanonFault {
-    /// The lines up to this one begin no canonical text, and those before it do.
+    /// The lines before this one begin a canonical text, and with it they begin none; no whole text stands at the front.
     #[error("canonical text: line {0}")]
     Line(usize),
-    /// A whole canonical text is followed by further bytes.
+    /// A whole canonical text stands at the front, and further bytes follow it.
     #[error("canonical text: bytes after the end")]
     Trailing,
 }

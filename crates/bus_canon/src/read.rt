@@ -1,11 +1,10 @@
 //! The reader of canonical texts.
-ghost use Rattle.std.specs.Prelude.{◌≡◌, ◌≤◌, nat_le, codes, IfOk};
-ghost use Rattle.line_format.specs.inner.Reading.{read};
+ghost use Rattle.std.specs.Prelude.{◌≡◌, ◌≤◌, nat_le, codes, IfOk, IfErr};
+ghost use Rattle.line_format.specs.Reading.{read};
 ghost use Rattle.line_format.specs.Shapes.{decimal, number_line};
-ghost use Rattle.line_format.specs.inner.Views.{Gives, spot};
-ghost use Rattle.line_format.specs.Answers.{Answers};
-ghost use Rattle.bus_canon.specs.Canon.{version_field, is_read, canon};
-ghost use Rattle.bus_canon.specs.inner.CanonAnswer.{canon_answer};
+ghost use Rattle.line_format.specs.Views.{Gives, spot};
+ghost use Rattle.bus_canon.specs.Canon.{version_field, is_read, canon, AnyText};
+ghost use Rattle.bus_canon.specs.Read.{IsNoText};
 
 use crate::asked::{acceptance, asked_word, wraparound};
 use crate::blocks::blocks;
@@ -64,10 +63,11 @@ fn text(lines: Lines<'_>) -> Result<(Normal, Lines<'_>), WrongLine>
     Ok((Normal::of(setup, tables), lines))
 }
 
-/// Reads a canonical text, of version 1 or 2. The first wrong line is told; one that lacks its line feed, or that isn't
-/// there, is wrong. Takes no memory.
+/// Reads a canonical text, of version 1 or 2. Where no whole text stands at the front, the first wrong line is told; one
+/// that lacks its line feed, or that isn't there, is wrong. Takes no memory.
 pub fn read_canon(bytes: &[u8]) -> Result<Normal, CanonFault>
-    ensures { Answers (canon is_read) bytes.now (canon_answer result) }
+    ensures text { IfOk result (λ normal. AnyText normal bytes.now) }
+    ensures refused { IfErr result (IsNoText bytes.now) }
 {
     let (normal, after) = match text(Lines::of(bytes)) {
         Ok(found) => found,

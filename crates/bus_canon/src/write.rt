@@ -1,6 +1,6 @@
 //! The writer of canonical texts.
 ghost use Rattle.std.specs.Prelude.{◌≤◌, length, IfOk, OnOk};
-ghost use Rattle.line_format.specs.inner.Writing.{Adds};
+ghost use Rattle.line_format.specs.Writing.{Adds};
 ghost use Rattle.bus_legal.specs.Parts.{parts_of, IsNormal};
 ghost use Rattle.bus_canon.specs.Canon.{is_written, canon, Text};
 

@@ -8,7 +8,7 @@ use Rattle.terminal_exchanges.specs.Exchanges.{Exchange}
 use Rattle.terminal_complete_test.specs.CompleteTest.{each_in, each_place, each_code, each_subaddress, receive_tried, own_code_tried, broadcast_receive_tried, broadcast_code_tried, broadcasts_tried, wraparound_tried}
 use Rattle.bus_complete_test.specs.declared.trial.Trial.{Trial}
 use Rattle.bus_complete_test.specs.Trials.{tried_at, tried_from}
-use Rattle.bus_complete_test.specs.Trials.{from_place, from_code}
+use Rattle.bus_complete_test.specs.Steps.{from_place, from_code}
 
 pub by_trial : (P : Description) (trial other : Trial) (rest : List Exchange) → trial ≡ other → tried_from P other ≡ tried_at P other ++ rest → tried_from P trial ≡ tried_at P trial ++ rest
 by_trial P trial other rest is e = ap (tried_from P) is ∙ (e ∙ ap (λ t. tried_at P t ++ rest) (sym is))

@@ -1,3 +1,3 @@
 pub use Rattle.bus_legal.specs.Parts
+pub mod Steps
 pub mod Trials
-pub mod inner

@@ -1,9 +1,10 @@
 -- What the complete test tries, in its order.
-use Rattle.std.specs.Prelude.{ℕ, suc, ◌+◌, ◌-◌, ◌*◌, ◌<◌, ◌≡◌, true, Option, Some, None, List, [], ◌++◌}
+use Rattle.std.specs.Prelude.{ℕ, ◌+◌, ◌-◌, ◌<◌, ◌≡◌, true, Option, Some, None, List, [], ◌++◌}
 use Rattle.bus_word.specs.Cell.{is_data_place}
 use Rattle.bus_legal.specs.Description.{Description}
 use Rattle.terminal_exchanges.specs.Exchanges.{Exchange}
 use Rattle.terminal_complete_test.specs.CompleteTest.{each_in, each_place, each_code, each_subaddress, option_tried, transmit_tried, receive_tried, own_code_tried, broadcast_receive_tried, broadcast_code_tried, broadcasts_tried, wraparound_tried, tried}
+use Rattle.bus_complete_test.specs.Steps.{from_place, places_left, from_code, codes_left}
 use Rattle.bus_complete_test.specs.declared.trial.Trial.{Trial}
 use Rattle.bus_complete_test.specs.declared.trial.Trial.TheVariants.{BroadcastOption, Transmit, Receive, OwnCode, BroadcastReceive, BroadcastCode, Wraparound}
 
@@ -27,14 +28,6 @@ tried_at P (BroadcastReceive s n) = broadcast_receive_tried P s n
 tried_at P (BroadcastCode code) = broadcast_code_tried P code
 tried_at P (Wraparound s) = wraparound_tried P s
 
--- the exchanges of a place of data, and of the later ones: the greater word counts there, and the later subaddresses
-abbrev pub from_place : (ℕ → ℕ → List Exchange) → ℕ → ℕ → List Exchange
-from_place f s n = each_in n (33 - n) (f s) ++ each_in (suc s) (30 - s) (λ t. each_in 1 32 (f t))
-
--- the exchanges of a mode code, and of the greater ones
-abbrev pub from_code : (ℕ → List Exchange) → ℕ → List Exchange
-from_code f code = each_in code (32 - code) f
-
 -- the exchanges of a trial and of all later ones
 abbrev pub tried_from : Description → Trial → List Exchange
 tried_from P BroadcastOption = tried P
@@ -49,15 +42,6 @@ tried_from P (Wraparound s) = each_in s (31 - s) (wraparound_tried P)
 abbrev pub tried_after : Description → Option Trial → List Exchange
 tried_after P None = []
 tried_after P (Some trial) = tried_from P trial
-
--- how many places of data, and mode codes, are left from this one on
-abbrev pub places_left : Option (ℕ × ℕ) → ℕ
-places_left None = 0
-places_left (Some p) = (30 - p.0) * 32 + (33 - p.1)
-
-abbrev pub codes_left : Option ℕ → ℕ
-codes_left None = 0
-codes_left (Some code) = 32 - code
 
 -- no fewer trials than are left, which become fewer with each
 abbrev pub trials_left : Option Trial → ℕ

@@ -5,8 +5,8 @@ ghost use Rattle.bus_legal.specs.Description.{Description};
 ghost use Rattle.bus_legal.specs.Parts.{description_in};
 ghost use Rattle.terminal_exchanges.specs.Exchanges.{Exchange};
 ghost use Rattle.terminal_complete_test.specs.CompleteTest.{tried};
-ghost use Rattle.bus_complete_test.specs.Trials.{IsInRange, tried_at, tried_from, tried_after, trials_left, from_place, places_left, from_code, codes_left};
-ghost use Rattle.bus_complete_test.specs.inner.Steps.{after_place, after_code};
+ghost use Rattle.bus_complete_test.specs.Trials.{IsInRange, tried_at, tried_from, tried_after, trials_left};
+ghost use Rattle.bus_complete_test.specs.Steps.{from_place, after_place, places_left, from_code, after_code, codes_left};
 
 use bus_legal::Normal;
 

@@ -20,14 +20,14 @@ use Rattle.bus_profile.specs.declared.fault.ProfileFault.TheVariants.{UnknownKey
 use Rattle.bus_profile.specs.declared.ranges.RangeFault.{RangeFault}
 use Rattle.bus_profile.specs.declared.ranges.RangeFault.TheVariants.{Syntax, Bounds}
 use Rattle.bus_profile.specs.AllFaults.{failing, is_long, HasShortArrays, told_array, told_keys, told, rows_at}
-use Rattle.bus_profile.specs.Checks.{Check, under, numbered, in_order}
+use Rattle.bus_profile.specs.Checks.{Check, under, numbered, in_order, first_fault}
 use Rattle.bus_profile.specs.Faults.{is_required, key_checks, row_checks, head_checks, array_checks, each_item, entry_checks, word_checks, words_checks, goes_beyond, entries_checks, rule_checks, mode_checks, initial_checks, key_faults, all_pass, code_faults, faults}
 use Rattle.bus_profile.specs.Keys.{Kind, truth, whole, truth_or_whole, choice, ranges, numbers, tables, required, optional, Row, row, keys_of, setting_rows, root_rows, rule_row, mode_row, initial_row, initial_rows, subaddress_row, at_row, words_row}
 use Rattle.bus_profile.specs.Kinds.{found, or_default, value, items, has_unknown, is_of_kind, is_bad_ranges, is_out_of_range, is_syntax, is_bounds, is_too_long, count_items}
 use Rattle.bus_profile.specs.Gives.{modes_of}
 use Rattle.bus_profile.specs.RangesOf.{ranges_of}
 use Rattle.bus_profile.specs.inner.AllFaults.{failing_parts, present, row_of, array_row, part_of, rows_of, keys_in, checks_of, unknown_told, array_told, key_told, keys_told, code_told, codes_told}
-use Rattle.bus_profile.specs.inner.FirstFault.{first_fault, Reads, ReadsAs}
+use Rattle.bus_profile.specs.inner.FirstFault.{Reads, ReadsAs}
 use Rattle.bus_profile.proofs.Arrays.{is_too_long-view}
 
 failing-append : (xs ys : List Check) → failing (xs ++ ys) ≡ failing xs ++ failing ys

@@ -10,11 +10,10 @@ use Rattle.bus_profile.specs.declared.fault.Key.TheVariants.{At, Words}
 use Rattle.bus_profile.specs.declared.fault.Part.{Part}
 use Rattle.bus_profile.specs.declared.fault.ProfileFault.{ProfileFault}
 use Rattle.bus_profile.specs.declared.fault.ProfileFault.TheVariants.{TooMany}
-use Rattle.bus_profile.specs.Checks.{check, in_order}
+use Rattle.bus_profile.specs.Checks.{check, in_order, first_fault}
 use Rattle.bus_profile.specs.Keys.{row, tables, optional, at_row, words_row}
 use Rattle.bus_profile.specs.Kinds.{found, or_default, value, number, count_items, is_too_long}
 use Rattle.bus_profile.specs.Faults.{key_checks, row_checks, goes_beyond}
-use Rattle.bus_profile.specs.inner.FirstFault.{first_fault}
 use Rattle.bus_profile.specs.inner.FirstWord.{IsFirstWord}
 
 pub count_items-view : (vs : List Value) → count_items (items_view vs) ≡ length vs

@@ -16,7 +16,7 @@ use Rattle.bus_profile.specs.declared.fault.ProfileFault.{ProfileFault}
 use Rattle.bus_profile.specs.declared.fault.ProfileFault.TheVariants.{RequiredCode}
 use Rattle.profile_types.specs.declared.profile.Profile.{Profile}
 use Rattle.bus_profile.specs.declared.ranges.RangeFault.{RangeFault}
-use Rattle.bus_profile.specs.Checks.{Check, HasNoFault, in_order}
+use Rattle.bus_profile.specs.Checks.{Check, HasNoFault, in_order, first_fault}
 use Rattle.bus_profile.specs.Faults.{key_checks, head_checks, each_item, entry_checks, rule_checks, mode_checks, initial_checks, word_checks, goes_beyond, faults}
 use Rattle.bus_profile.specs.Keys.{Presence, Row, row, whole, required, tables, root_rows, rule_rows, initial_rows, address_row, broadcast_row, wraparound_row, accept_row, vector_row, bit_row, to_row, direction_row, counts_row, legal_row, rule_row, mode_row, initial_row, subaddresses_row, subaddress_row, at_row, words_row}
 use Rattle.bus_profile.specs.Kinds.{found, value, number, wrap_value, or_default, set_from, items, count_items, is_too_long}
@@ -26,7 +26,7 @@ use Rattle.bus_profile.specs.Gives.{each_of, rule_in, mode_in, word_in, initial_
 use Rattle.bus_profile.specs.Ranges.{IsReading}
 use Rattle.bus_profile.specs.RangesOf.{ranges_of}
 use Rattle.bus_profile.specs.Read.{IsTree, Accepts}
-use Rattle.bus_profile.specs.inner.FirstFault.{first_fault, fault_of_parts}
+use Rattle.bus_profile.specs.inner.FirstFault.{fault_of_parts}
 use Rattle.bus_profile.specs.inner.FirstWord.{IsFirstWord}
 use Rattle.bus_profile.proofs.Arrays.{range_of, place_of}
 use Rattle.bus_profile.proofs.Least.{first_fault-in_order}

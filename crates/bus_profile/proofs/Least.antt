@@ -4,8 +4,8 @@ use Rattle.std.proofs.lemmas.Option.{same_Some}
 use Rattle.std.specs.Option.{option_or}
 use Rattle.bus_profile.specs.declared.fault.ProfileFault.{ProfileFault}
 use Rattle.bus_profile.specs.declared.fault.ProfileFault.TheVariants.{NotToml}
-use Rattle.bus_profile.specs.Checks.{Check, IsBefore, IsAmong, IsFirst, HasNoFault, under, numbered, in_order}
-use Rattle.bus_profile.specs.inner.FirstFault.{first_fault, fault_of_parts}
+use Rattle.bus_profile.specs.Checks.{Check, IsBefore, IsAmong, IsFirst, HasNoFault, under, numbered, in_order, first_fault}
+use Rattle.bus_profile.specs.inner.FirstFault.{fault_of_parts}
 
 -- ---- the first of a list of parts
 

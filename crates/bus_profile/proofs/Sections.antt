@@ -11,7 +11,8 @@ use Rattle.bus_profile.specs.declared.fault.ProfileFault.TheVariants.{UnknownKey
 use Rattle.bus_profile.specs.Keys.{Row, keys_of, rule_rows, mode_rows, initial_rows, to_row, direction_row, subaddresses_row, counts_row, legal_row, codes_row, subaddress_row, at_row, words_row}
 use Rattle.bus_profile.specs.Kinds.{has_unknown, value, items}
 use Rattle.bus_profile.specs.Faults.{row_checks, head_checks, array_checks, each_item, entry_checks, rule_checks, mode_checks, goes_beyond, word_checks, initial_checks}
-use Rattle.bus_profile.specs.inner.FirstFault.{first_fault, fault_of_parts}
+use Rattle.bus_profile.specs.Checks.{first_fault}
+use Rattle.bus_profile.specs.inner.FirstFault.{fault_of_parts}
 use Rattle.bus_profile.proofs.Least.{first_fault-in_order}
 
 -- the fault of a table with a key that it doesn't have

@@ -7,12 +7,12 @@ use Rattle.bus_profile.specs.declared.fault.ProfileFault.{ProfileFault}
 use Rattle.bus_profile.specs.declared.fault.ProfileFault.TheVariants.{RequiredCode}
 use Rattle.profile_types.specs.OwnCodes.{is_own_code_legal}
 use Rattle.bus_profile.specs.inner.MissingCode.{missing_code}
-use Rattle.bus_profile.specs.Checks.{Check, in_order}
+use Rattle.bus_profile.specs.Checks.{Check, in_order, first_fault}
 use Rattle.bus_profile.specs.Keys.{Row, address_row, broadcast_row, wraparound_row, accept_row, vector_row, bit_row, rule_row, mode_row, initial_row, root_rows}
 use Rattle.bus_profile.specs.Kinds.{value, items, is_too_long}
 use Rattle.bus_profile.specs.Faults.{head_checks, array_checks, each_item, entries_checks, rule_checks, mode_checks, initial_checks, key_faults, all_pass, code_faults, faults}
 use Rattle.bus_profile.specs.Gives.{modes_of}
-use Rattle.bus_profile.specs.inner.FirstFault.{first_fault, fault_of_parts}
+use Rattle.bus_profile.specs.inner.FirstFault.{fault_of_parts}
 use Rattle.bus_profile.proofs.Least.{first_fault-in_order}
 use Rattle.bus_profile.proofs.Sections.{unknown_fault, row_fault}
 

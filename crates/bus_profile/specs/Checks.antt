@@ -1,5 +1,5 @@
 -- The checks of a profile's tree, each at its place, and the fault that stands first.
-use Rattle.std.specs.Prelude.{◌≡◌, ℕ, suc, ◌<◌, Bool, true, false, List, [], ◌∷◌, ◌++◌, map, ◌⊎◌}
+use Rattle.std.specs.Prelude.{◌≡◌, ℕ, suc, ◌<◌, Bool, true, false, List, [], ◌∷◌, ◌++◌, map, ◌⊎◌, Option, Some, None, if◌then◌else◌}
 use Rattle.bus_profile.specs.declared.fault.ProfileFault.{ProfileFault}
 
 -- A fault, where in the tree it stands, and whether the tree has it.
@@ -30,6 +30,11 @@ pub record IsFirst (checks : List Check) (fault : ProfileFault) : Type 0 where
 -- no check fails
 abbrev pub HasNoFault : List Check → Type 0
 HasNoFault checks = (check : Check) → IsAmong checks check → check.fails ≡ false
+
+-- the fault of the first check of a list that fails, or none
+abbrev pub first_fault : List Check → Option ProfileFault
+first_fault [] = None
+first_fault (c ∷ cs) = if c.fails then Some c.fault else first_fault cs
 
 -- ---- how checks are put at their places
 

@@ -2,7 +2,8 @@
 ghost use Rattle.std.specs.Prelude.{◌≡◌, ◌+◌, ◌-◌, ◌≤◌, length, map, take, IfOk};
 ghost use Rattle.toml.specs.Data.{table as table_data};
 ghost use Rattle.toml.specs.View.{view, items_view, table_view};
-ghost use Rattle.bus_profile.specs.inner.FirstFault.{first_fault, fault_of_parts, Reads, ReadsAs, ReadsInMemory};
+ghost use Rattle.bus_profile.specs.Checks.{first_fault};
+ghost use Rattle.bus_profile.specs.inner.FirstFault.{fault_of_parts, Reads, ReadsAs, ReadsInMemory};
 ghost use Rattle.bus_profile.specs.Faults.{initial_checks, head_checks, goes_beyond, word_checks, each_item};
 ghost use Rattle.bus_profile.specs.Keys.{at_row, words_row};
 ghost use Rattle.bus_profile.specs.Kinds.{items};

@@ -2,7 +2,8 @@
 ghost use Rattle.std.specs.Prelude.{◌≡◌, ◌≤◌, ◌<◌, length, IfOk};
 ghost use Rattle.toml.specs.Data.{table as table_data};
 ghost use Rattle.toml.specs.View.{view, items_view, table_view};
-ghost use Rattle.bus_profile.specs.inner.FirstFault.{first_fault, fault_of_parts, Reads, ReadsInMemory};
+ghost use Rattle.bus_profile.specs.Checks.{first_fault};
+ghost use Rattle.bus_profile.specs.inner.FirstFault.{fault_of_parts, Reads, ReadsInMemory};
 ghost use Rattle.bus_profile.specs.Faults.{mode_checks, each_item};
 ghost use Rattle.bus_profile.specs.Gives.{mode_in, each_of};
 

@@ -2,7 +2,8 @@
 ghost use Rattle.std.specs.Prelude.{◌≤◌, length, IfOk, map};
 ghost use Rattle.toml.specs.Data.{table as table_data};
 ghost use Rattle.toml.specs.View.{view, items_view, table_view};
-ghost use Rattle.bus_profile.specs.inner.FirstFault.{first_fault, fault_of_parts, ReadsAs, ReadsInMemory};
+ghost use Rattle.bus_profile.specs.Checks.{first_fault};
+ghost use Rattle.bus_profile.specs.inner.FirstFault.{fault_of_parts, ReadsAs, ReadsInMemory};
 ghost use Rattle.bus_profile.specs.Faults.{rule_checks, each_item};
 ghost use Rattle.profile_types.specs.Plain.{plain_rule};
 ghost use Rattle.bus_profile.specs.Gives.{rule_in, each_of};

@@ -2,7 +2,8 @@
 ghost use Rattle.std.specs.Prelude.{◌≡◌, ◌+◌, ◌-◌, ◌^◌, ◌<◌, ◌≤◌, pos, length, option_map, Some, IfOk, IfSome};
 ghost use Rattle.toml.specs.Data.{as_array, integer, boolean, array, no_items};
 ghost use Rattle.toml.specs.View.{view, items_view};
-ghost use Rattle.bus_profile.specs.inner.FirstFault.{Reads, ReadsAs, first_fault};
+ghost use Rattle.bus_profile.specs.Checks.{first_fault};
+ghost use Rattle.bus_profile.specs.inner.FirstFault.{Reads, ReadsAs};
 ghost use Rattle.bus_profile.specs.Faults.{key_checks, head_checks};
 ghost use Rattle.bus_profile.specs.Keys.{row, whole, truth, ranges, tables, required, optional, counts_row, wraparound_row};
 ghost use Rattle.bus_profile.specs.Kinds.{found, number, truth_value, wrap_value, set_from, items, in_range, is_too_long, is_known, has_unknown};

@@ -3,13 +3,12 @@ ghost use Rattle.std.specs.Prelude.{◌≡◌, ◌≤◌, ◌++◌, ◌∷◌, [
 ghost use Rattle.toml.specs.Data.{table as table_data};
 ghost use Rattle.toml.specs.View.{view, items_view, table_view};
 ghost use Rattle.bus_profile.specs.declared.fault.Part.TheVariants as part;
-ghost use Rattle.bus_profile.specs.Checks.{check, in_order};
+ghost use Rattle.bus_profile.specs.Checks.{check, in_order, first_fault};
 ghost use Rattle.bus_profile.specs.Keys.{keys_of, at_row, root_rows};
 ghost use Rattle.bus_profile.specs.Kinds.{found, value, items, has_unknown};
 ghost use Rattle.bus_profile.specs.Faults.{faults, each_item, word_checks, words_checks, goes_beyond, code_faults};
 ghost use Rattle.bus_profile.specs.AllFaults.{failing, HasShortArrays, told_array, told_keys, told, rows_at, unknown_names};
 ghost use Rattle.bus_profile.specs.inner.AllFaults.{failing_parts, present, row_of, unknown_told, array_told, key_told, keys_told, array_row, part_of, rows_of, checks_of, code_told, codes_told};
-ghost use Rattle.bus_profile.specs.inner.FirstFault.{first_fault};
 ghost use Rattle.bus_profile.specs.inner.Section.{tree_of, value_at};
 
 use crate::fault::{Key, Part, ProfileFault};

@@ -2,8 +2,7 @@
 use Rattle.std.proofs.Common.{◌≡◌, ℕ, suc, ◌<◌, List, [], ◌∷◌, ◌++◌, length, Result, Ok, Err, refl, ap, sym, ◌∙◌, subst, arith, append-nil, ⊎_elim}
 use Rattle.std.proofs.lemmas.Bool.{cases_lt}
 use Rattle.line_format.specs.Format.{Format, Spells, IsSound}
-use Rattle.line_format.specs.inner.Reading.{Spot, read}
-use Rattle.line_format.specs.inner.Views.{start}
+use Rattle.line_format.specs.Reading.{Spot, start, read, whole_or_more, answer_found}
 use Rattle.line_format.specs.Answers.{Trails, HasWrongLine, Answer, Whole, More, Wrong, Answers}
 use Rattle.line_format.proofs.FormatLaws.{read-is, read-again, read-wrong, begins-fewer, Meets, WrongAt}
 
@@ -36,6 +35,18 @@ read_err F sound bytes n e =
           let here : read F (start bytes) ≡ Ok (v, record { number = m; rest = more }) = ap (λ b. read F (start b)) is ∙ again in
           cc (e, here);
     }
+
+-- what reading finds is an answer
+pub reading_answers : {A : Type 0} (F : Format A) (bytes : List ℕ) → IsSound F → Answers F bytes (answer_found (read F (start bytes)))
+reading_answers {A = A} F bytes sound = pick (read F (start bytes)) refl
+  where
+    of : (v : A) (p : Spot) (rest : List ℕ) → p.rest ≡ rest → read F (start bytes) ≡ Ok (v, p) → Answers F bytes (whole_or_more v rest)
+    of v p [] is e = read_whole F bytes v p e is
+    of v p (b ∷ bs) is e = read_more F bytes v p e (rw is (omega arith))
+
+    pick : (found : Result (A × Spot) ℕ) → read F (start bytes) ≡ found → Answers F bytes (answer_found found)
+    pick (Ok q) e = of q.0 q.1 q.1.rest refl e
+    pick (Err n) e = read_err F sound bytes n e
 
 abbrev place : {A : Type 0} → A → List ℕ → ℕ → A × Spot
 place v rest n = (v, record { number = n; rest = rest })

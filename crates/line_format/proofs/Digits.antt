@@ -6,7 +6,7 @@ use Rattle.std.proofs.lemmas.Nat.{div-mul-add, mod-mul-add, div-add-mod', div_be
 use Rattle.std.proofs.Math.Nat.{pow-suc, pow-zero, mod-lt, zero-mul, mul_assoc, add-mul}
 use Rattle.line_format.specs.Format.{digit, digits}
 use Rattle.line_format.specs.Front.{◌>>=◌, after}
-use Rattle.line_format.specs.inner.Reading.{below, digit_value, number_at}
+use Rattle.line_format.specs.Reading.{below, digit_value, number_at}
 
 pub bind_some : {A B : Type 0} (o : Option A) (f : A → Option B) (y : B) → (o >>= f) ≡ Some y → (x : A) × (o ≡ Some x) × (f x ≡ Some y)
 bind_some None f y e = cc

@@ -3,7 +3,7 @@ use Rattle.std.proofs.Common.{◌≡◌, ℕ, zero, suc, ◌+◌, ◌/◌, ◌%�
 use Rattle.std.proofs.lemmas.Bool.Decides.{nat_tests}
 use Rattle.std.specs.Option.{option_map}
 use Rattle.line_format.specs.Format.{Field, Shape, Format, done, line, digit, digits, spell_fields, Fit, Allows, spell, Spells, first_lines, Begins, is_plain, IsSound}
-use Rattle.line_format.specs.inner.Reading.{fields_at, content_at, only, line_at, Spot, read}
+use Rattle.line_format.specs.Reading.{fields_at, content_at, only, line_at, Spot, read}
 use Rattle.line_format.proofs.Digits.{bind_some, after-front, after-is, number_at-digits, number_at-is, Reads}
 
 -- ---- fields

@@ -13,7 +13,7 @@ use Rattle.hex.specs.declared.error.FromHexError.{FromHexError}
 use Rattle.hex.proofs.HexLemmas.{decode_of-encode_lower, decode_of-even, decode_sized-twice, length-encode_with}
 use Rattle.line_format.specs.Format.{digits}
 use Rattle.line_format.specs.Front.{◌>>=◌}
-use Rattle.line_format.specs.inner.Reading.{digit_value, number_at}
+use Rattle.line_format.specs.Reading.{digit_value, number_at}
 use Rattle.line_format.specs.inner.Fields.{number_from}
 use Rattle.line_format.proofs.Digits.{Reads, number_at-is}
 

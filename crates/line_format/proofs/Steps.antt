@@ -1,7 +1,7 @@
 -- Steps of the readers.
 use Rattle.std.proofs.Common.{◌≡◌, ◌≢◌, ℕ, zero, suc, ◌+◌, ◌-◌, ◌<◌, ◌==◌, List, [], ◌∷◌, ◌++◌, Bool, true, false, Result, Ok, Err, Option, Some, None, option_map, MatchOption, Bor, refl, ap, sym, ◌∙◌, arith, append_assoc, replicate}
 use Rattle.line_format.specs.Front.{◌>>=◌, after}
-use Rattle.line_format.specs.inner.Reading.{field_at, fields_at, content_at, line_at, Spot, read}
+use Rattle.line_format.specs.Reading.{field_at, fields_at, content_at, line_at, Spot, read}
 use Rattle.line_format.specs.Format.{Field, Shape, Format, done, line, and_then}
 use Rattle.line_format.specs.Shapes.{first, others, number_line, bit_line, numbered_line, words_line, number_field, decimal, word, mask}
 use Rattle.line_format.proofs.Digits.{after-front, after-is}

@@ -1,5 +1,9 @@
 pub mod Format
 pub mod Shapes
-pub mod Answers
+pub mod Kinds
 pub mod Front
+pub mod Reading
+pub mod Views
+pub mod Writing
+pub mod Answers
 pub mod inner

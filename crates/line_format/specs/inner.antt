@@ -1,5 +1,2 @@
--- What the contracts of readers and writers of lines speak of, and no definition of a text needs.
-pub mod Reading
-pub mod Views
-pub mod Writing
+-- What the contract of a private reader speaks of alone.
 pub mod Fields

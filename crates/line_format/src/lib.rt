@@ -3,6 +3,7 @@
 #![tactic(auto)]
 
 mod field_kind;
+pub mod laws;
 mod lines;
 mod numbers;
 mod read;

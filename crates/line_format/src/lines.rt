@@ -17,7 +17,8 @@ pub struct WrongLine {
 }
 
 impl<'a> Lines<'a> {
-    ghost use Rattle.line_format.specs.inner.Views.{spot, start};
+    ghost use Rattle.line_format.specs.Views.{spot};
+    ghost use Rattle.line_format.specs.Reading.{start};
 
     /// The lines of a text, from its first.
     pub fn of(text: &'a [u8]) -> Lines<'a>

@@ -3,8 +3,9 @@ ghost use Rattle.std.specs.Prelude.{◌≡◌, ◌+◌, ◌*◌, ◌/◌, ◌%�
 ghost use Rattle.std.specs.List.{list_any};
 ghost use Rattle.std.specs.Char.{is_ascii_uppercase};
 ghost use Rattle.line_format.specs.Format.{digit, digits};
-ghost use Rattle.line_format.specs.inner.Fields.{field_of, limit, number_from};
-ghost use Rattle.line_format.specs.inner.Reading.{digit_at, number_at};
+ghost use Rattle.line_format.specs.Kinds.{field_of, limit};
+ghost use Rattle.line_format.specs.inner.Fields.{number_from};
+ghost use Rattle.line_format.specs.Reading.{digit_at, number_at};
 
 use crate::field_kind::FieldKind;
 use std::alloc::AllocError;

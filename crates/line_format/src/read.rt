@@ -1,10 +1,10 @@
 //! Readers of what stands at the front of a text.
 ghost use Rattle.std.specs.Prelude.{ℕ, Bool, IfOk, ◌≡◌, ◌*◌, ◌+◌, ◌<◌, ◌≤◌, ◌^◌, length, IfSome, MatchOption, option_map, [], ◌∷◌, true, replicate};
 ghost use Rattle.line_format.specs.Front.{after};
-ghost use Rattle.line_format.specs.inner.Reading.{digit_at, digit_value, number_at, field_at, fields_at, content_at, read};
+ghost use Rattle.line_format.specs.Reading.{digit_at, digit_value, number_at, field_at, fields_at, content_at, read};
 ghost use Rattle.line_format.specs.Shapes.{number_line, bit_line, numbered_line, words_line, decimal, word, mask, number_field};
-ghost use Rattle.line_format.specs.inner.Fields.{field_of, limit};
-ghost use Rattle.line_format.specs.inner.Views.{Gives, IsTest, spot};
+ghost use Rattle.line_format.specs.Kinds.{field_of, limit};
+ghost use Rattle.line_format.specs.Views.{Gives, IsTest, spot};
 
 use crate::field_kind::FieldKind;
 use crate::lines::{Lines, WrongLine};
@@ -28,7 +28,7 @@ pub fn field(bytes: &[u8], kind: FieldKind) -> Option<(u32, &[u8])>
 }
 
 /// What comes after a line with this name and one number, which it gives.
-#[tactic(auto, unfolding(crate::specs::inner::Reading::content_at))]
+#[tactic(auto, unfolding(crate::specs::Reading::content_at))]
 pub fn number_line_of<'a>(bytes: &'a [u8], name: &[u8], kind: FieldKind) -> Option<(u32, &'a [u8])>
     ensures value { option_map (λ r. (r.0 ∷ [], r.1.now)) result ≡ content_at name.now (field_of kind ∷ []) bytes.now }
     ensures shorter { IfSome result (λ r. length r.1.now < length bytes.now) }
@@ -42,7 +42,7 @@ pub fn number_line_of<'a>(bytes: &'a [u8], name: &[u8], kind: FieldKind) -> Opti
 
 /// What comes after a line with this name, a number of two decimal digits and a mask of eight
 /// hexadecimal ones, which it gives.
-#[tactic(auto, unfolding(crate::specs::inner::Reading::content_at))]
+#[tactic(auto, unfolding(crate::specs::Reading::content_at))]
 pub fn numbered_line_of<'a>(bytes: &'a [u8], name: &[u8]) -> Option<(u32, u32, &'a [u8])>
     ensures value { option_map (λ r. (r.0 ∷ r.1 ∷ [], r.2.now)) result ≡ content_at name.now (decimal ∷ mask ∷ []) bytes.now }
     ensures shorter { IfSome result (λ r. length r.2.now < length bytes.now) }
@@ -130,7 +130,7 @@ fn words<'a>(bytes: &'a [u8], to: &mut [u16]) -> Option<&'a [u8]>
 
 /// What comes after a line with this name, a number of two decimal digits, which it gives, and as many
 /// words as there is room for.
-#[tactic(auto, unfolding(crate::specs::inner::Reading::content_at))]
+#[tactic(auto, unfolding(crate::specs::Reading::content_at))]
 fn words_line_of<'a>(bytes: &'a [u8], name: &[u8], to: &mut [u16]) -> Option<(u32, &'a [u8])>
     ensures value { MatchOption result (content_at name.now (decimal ∷ replicate (length to.old) word) bytes.entry.now ≡ None) (λ r. content_at name.now (decimal ∷ replicate (length to.old) word) bytes.entry.now ≡ Some (r.0 ∷ to.new, r.1.now)) }
     ensures shorter { IfSome result (λ r. length r.1.now < length bytes.entry.now) }

@@ -2,8 +2,8 @@
 ghost use Rattle.std.specs.Prelude.{◌≡◌, ◌+◌, ◌-◌, ◌*◌, ◌/◌, ◌%◌, ◌<◌, ◌≤◌, ◌^◌, ℕ, length, OnOk, [], ◌∷◌, ◌++◌, true, replicate, if◌then◌else◌};
 ghost use Rattle.line_format.specs.Format.{digit, digits, spell_fields};
 ghost use Rattle.line_format.specs.Shapes.{bit_line, words_line, decimal, word, mask, number_field};
-ghost use Rattle.line_format.specs.inner.Fields.{field_of, limit};
-ghost use Rattle.line_format.specs.inner.Writing.{Adds};
+ghost use Rattle.line_format.specs.Kinds.{field_of, limit};
+ghost use Rattle.line_format.specs.Writing.{Adds};
 
 use crate::field_kind::FieldKind;
 use crate::numbers::put_number;

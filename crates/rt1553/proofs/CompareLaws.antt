@@ -1,5 +1,5 @@
 -- Laws of two texts: equal canonical bytes, and terminals that are the same.
-use Rattle.std.proofs.Common.{◌≡◌, ◌≢◌, ◌≤◌, ℕ, List, [], ap, sym, ◌∙◌, subst}
+use Rattle.std.proofs.Common.{◌≡◌, ◌≢◌, ◌≤◌, ℕ, List, [], refl, ap, sym, ◌∙◌, subst}
 use Rattle.bus_legal.specs.Description.{Description}
 use Rattle.bus_legal.specs.Parts.{Parts, description_in, IsNormal}
 use Rattle.bus_legal.specs.Reach.{reach}
@@ -8,7 +8,7 @@ use Rattle.terminal_rules.specs.Out.{outs}
 use Rattle.terminal_rules.specs.Same.{Same}
 use Rattle.terminal_exchanges.specs.Distinguish.{TellsApart}
 use Rattle.terminal_rules.proofs.Reach.Same.{same_where_reached, outs_from-reach}
-use Rattle.terminal_exchanges.proofs.Distinguish.Apart.{apart-reach}
+use Rattle.terminal_exchanges.proofs.Distinguish.Apart.{apart-reach, apart_not_same}
 use Rattle.bus_canon.specs.Canon.{Text}
 use Rattle.bus_canon.specs.declared.difference.Difference.{Difference}
 use Rattle.bus_canon.specs.Difference.{IsFirstDifference, script_for}
@@ -16,7 +16,9 @@ use Rattle.bus_canon.proofs.CanonLaws.{normal_text, written_normal, written_valu
 use Rattle.bus_canon.proofs.SameLaws.{equal_where_same}
 use Rattle.rt1553.specs.Load.{Of, Reaches}
 use Rattle.rt1553.specs.Canon.{IsCanon}
-use Rattle.rt1553.specs.Compare.{AreSame, AreDifferent, Headline}
+use Rattle.rt1553.specs.declared.comparison.Verdict.{Verdict}
+use Rattle.rt1553.specs.declared.comparison.Verdict.TheVariants as verdict
+use Rattle.rt1553.specs.Compare.{AreSame, AreDifferent, IsRight, IsExact, Headline}
 use Rattle.rt1553.proofs.LoadLaws.{one_description}
 
 -- ---- an accepted text has canonical bytes: the text of what can be reached of it
@@ -77,6 +79,18 @@ are_different first second v w script normal normal' p q f t = record {
   apart = apart-reach p.description q.description script (own_address first v normal p) (own_address second w normal' q)
       (of_reached (λ A B. TellsApart A B script) v w p.description q.description p.reached q.reached t);
 }
+
+-- whatever descriptions the texts are of, a verdict that is right is exact
+pub right_is_exact : (first second : List ℕ) (v : Verdict) → IsRight first second v → IsExact first second v
+right_is_exact first second verdict.Same r P Q p q = (
+  λ _. subst (λ D. Same D Q) (one_description first r.p P r.of_first p) (subst (λ D. Same r.p D) (one_description second r.q Q r.of_second q) r.same),
+  λ _. refl,
+)
+right_is_exact first second (verdict.Differ script) r P Q p q = (
+  λ e. cc,
+  λ same. absurd (apart_not_same r.p r.q script.items r.apart
+      (subst (λ D. Same D r.q) (one_description first P r.p p r.of_first) (subst (λ D. Same P D) (one_description second Q r.q q r.of_second) same))),
+)
 
 -- ---- the headline
 

@@ -9,7 +9,7 @@ use Rattle.bus_profile.specs.declared.fault.Part.{Part}
 use Rattle.bus_profile.specs.declared.fault.Part.TheVariants as part
 use Rattle.bus_profile.specs.declared.fault.ProfileFault.{ProfileFault}
 use Rattle.profile_types.specs.declared.profile.Profile.{Profile}
-use Rattle.bus_profile.specs.Checks.{Check, HasNoFault, in_order}
+use Rattle.bus_profile.specs.Checks.{Check, HasNoFault, in_order, first_fault}
 use Rattle.bus_profile.specs.Faults.{key_checks, head_checks, each_item, entry_checks, rule_checks, mode_checks, initial_checks, word_checks, goes_beyond, faults}
 use Rattle.bus_profile.specs.Keys.{Row, row, whole, optional, address_row, broadcast_row, wraparound_row, accept_row, vector_row, bit_row, rule_row, mode_row, initial_row, root_rows, subaddress_row, at_row, words_row, initial_rows}
 use Rattle.bus_profile.specs.Kinds.{found, value, number, or_default, items, is_too_long}
@@ -17,7 +17,7 @@ use Rattle.profile_types.specs.Last.{or_last, last_of}
 use Rattle.profile_types.specs.Plain.{PlainInitial, plain_initial}
 use Rattle.bus_profile.specs.Gives.{each_of, word_in, initial_in}
 use Rattle.bus_profile.specs.Read.{Accepts}
-use Rattle.bus_profile.specs.inner.FirstFault.{first_fault, fault_of_parts}
+use Rattle.bus_profile.specs.inner.FirstFault.{fault_of_parts}
 use Rattle.bus_profile.proofs.Arrays.{range_of}
 use Rattle.bus_profile.proofs.Sections.{unknown_fault, row_fault, initial_fault}
 use Rattle.bus_profile.proofs.Tree.{entries_fault, settings_fault, key_fault, code_fault, tree_fault}

@@ -11,11 +11,12 @@ use Rattle.bus_profile.specs.Read.{Accepts, HasFirst}
 use Rattle.bus_legal.specs.Description.{Description}
 use Rattle.bus_legal.specs.Parts.{Parts}
 use Rattle.bus_canon.specs.Canon.{is_read, canon}
+use Rattle.bus_canon.specs.Read.{IsNoText}
 use Rattle.bus_canon.specs.declared.fault.CanonFault.{CanonFault}
 use Rattle.bus_canon.specs.declared.fault.CanonFault.TheVariants.{Line, Trailing}
 use Rattle.rt1553.specs.declared.fault.LoadFault.{LoadFault}
 use Rattle.rt1553.specs.declared.fault.LoadFault.TheVariants as load
-use Rattle.rt1553.specs.Load.{is_canon_text, OfBy, IsNoCanon, IsNoProfile, IsNotLoadedBy, OnlyMemoryRefuses}
+use Rattle.rt1553.specs.Load.{is_canon_text, OfBy, IsNoProfile, IsNotLoadedBy, OnlyMemoryRefuses}
 use Rattle.rt1553.proofs.LoadLaws.{one_tree}
 
 no_first : (text : List ℕ) (p : Profile) (fault : ProfileFault) → Accepts text p → HasFirst text fault → ⊥
@@ -35,7 +36,7 @@ no_profile text p (profile.BadRanges part key) accepts refused = no_first text p
 no_profile text p (profile.TooMany part key) accepts refused = no_first text p (profile.TooMany part key) accepts refused
 no_profile text p (profile.RequiredCode code) accepts refused = no_first text p (profile.RequiredCode code) accepts refused
 
-no_canon : (text : List ℕ) (v : Parts) (fault : CanonFault) → Answers (canon is_read) text (Whole v) → IsNoCanon text fault → ⊥
+no_canon : (text : List ℕ) (v : Parts) (fault : CanonFault) → Answers (canon is_read) text (Whole v) → IsNoText text fault → ⊥
 no_canon text v (Line n) whole refused = let wrong : Whole v ≡ Wrong n = one (canon is_read) text (Whole v) (Wrong n) whole refused in cc
 no_canon text v Trailing whole refused = let wrong : Whole v ≡ More = one (canon is_read) text (Whole v) More whole refused in cc
 

@@ -20,15 +20,15 @@ pub record IsCanon (text bytes : List ℕ) : Type 0 where
 abbrev pub CanonIsItsOwn : Type 0
 CanonIsItsOwn = (text bytes : List ℕ) → IsCanon text bytes → IsCanon bytes bytes
 
--- a text has one canonical text
+-- a text has no two canonical texts
 abbrev pub OneCanon : Type 0
 OneCanon = (text bytes others : List ℕ) → IsCanon text bytes → IsCanon text others → bytes ≡ others
 
--- a text is of one description
+-- a text is of no two descriptions
 abbrev pub OneDescription : Type 0
 OneDescription = (text : List ℕ) (P Q : Description) → Of text P → Of text Q → P ≡ Q
 
--- the text has canonical bytes
+-- there are canonical bytes of the text
 abbrev pub HasCanon : List ℕ → Type 0
 HasCanon text = (bytes : List ℕ) × IsCanon text bytes
 
@@ -40,6 +40,6 @@ AcceptedHaveCanon = (text : List ℕ) → ((P : Description) × Of text P) ↔ H
 abbrev pub CanonTextsHaveCanon : Type 0
 CanonTextsHaveCanon = (text : List ℕ) (value : Parts) → AnyText value text → HasCanon text
 
--- a profile text with this tree has canonical bytes exactly if the tree has no fault
+-- a TOML document that is no canonical text has canonical bytes exactly if its tree has no fault
 abbrev pub FaultlessHaveCanon : Type 0
 FaultlessHaveCanon = (text : List ℕ) (tree : Members) → is_canon_text text ≡ false → IsTree text tree → HasNoFault (faults tree) ↔ HasCanon text

@@ -41,16 +41,21 @@ pub record AreDifferent (first second : List ℕ) (script : List Event) : Type 0
   pub shows : script ≡ script_for (reach p) (reach q) difference
   pub apart : TellsApart p q script
 
--- the verdict is right
+-- what the verdict says is so
 abbrev pub IsRight : List ℕ → List ℕ → Verdict → Type 0
 IsRight first second verdict.Same = AreSame first second
 IsRight first second (verdict.Differ script) = AreDifferent first second script.items
 
--- the first text that is not accepted is refused by this
+-- The verdict is `Same` exactly if the two texts mean the same terminal, of whatever descriptions they are.
+abbrev pub IsExact : List ℕ → List ℕ → Verdict → Type 0
+IsExact first second v = (P Q : Description) → Of first P → Of second Q → (v ≡ verdict.Same) ↔ Same P Q
+
+-- The fault is that of the first text that is not accepted, or says that memory ran out. The second text is loaded only where
+-- the first was accepted.
 abbrev pub IsNotCompared : List ℕ → List ℕ → LoadFault → Type 0
 IsNotCompared first second fault = IsNotLoaded first fault ⊎ ((p : Description) × Of first p × IsNotLoaded second fault)
 
--- For any two accepted texts the canonical bytes are equal exactly if, from power-up, over every list of events, both
--- terminals send the same words and hand over the same things.
+-- For any two accepted texts the canonical bytes are equal exactly if, from power-up, over every list of events that can
+-- come, both terminals send the same words and hand over the same things, each at the same event.
 abbrev pub Headline : Type 0
 Headline = (first second a b : List ℕ) (P Q : Description) → Of first P → Of second Q → IsCanon first a → IsCanon second b → (a ≡ b) ↔ Same P Q

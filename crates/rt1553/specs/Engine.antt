@@ -39,7 +39,7 @@ pub record StopsReading (P : Description) (left left' old new : Option (List ℕ
   pub writes : Writes P whole nothing old new events
 
 -- The script says these events, one more and then others; the transcript of the events before that one was
--- written, and a part of its own text.
+-- written, and of its own text a part from its front, which may be none of it or all.
 pub record StopsWriting (P : Description) (script : List ℕ) (old new : Option (List ℕ)) : Type 0 where
   pub events : List Event
   pub event : Event

@@ -9,10 +9,8 @@ use Rattle.bus_legal.specs.Description.{Description}
 use Rattle.bus_legal.specs.Meaning.{description_of}
 use Rattle.bus_legal.specs.Parts.{Parts, description_in}
 use Rattle.bus_legal.specs.Reach.{reach}
-use Rattle.line_format.specs.Answers.{Trails, HasWrongLine}
-use Rattle.bus_canon.specs.Canon.{is_read, canon, AnyText}
-use Rattle.bus_canon.specs.declared.fault.CanonFault.{CanonFault}
-use Rattle.bus_canon.specs.declared.fault.CanonFault.TheVariants.{Line, Trailing}
+use Rattle.bus_canon.specs.Canon.{AnyText}
+use Rattle.bus_canon.specs.Read.{IsNoText}
 use Rattle.rt1553.specs.declared.fault.LoadFault.{LoadFault}
 use Rattle.rt1553.specs.declared.fault.LoadFault.TheVariants as load
 
@@ -31,13 +29,13 @@ pub record IsCanonText (text : List ℕ) (P : Description) : Type 0 where
   pub means : AnyText value text
   pub gives : P ≡ description_in value
 
--- The text is a profile text without fault, of this description: a cell is legal as the last entry that
--- contains it says.
+-- the text is a profile text without fault, and this is the description of its profile
 pub record IsProfileText (text : List ℕ) (P : Description) : Type 0 where
   pub profile : Profile
   pub accepts : Accepts text profile
   pub gives : P ≡ description_of profile
 
+-- the same of a text that is a canonical text, or else a profile text
 abbrev pub OfBy : Bool → List ℕ → Description → Type 0
 OfBy true text P = IsCanonText text P
 OfBy false text P = IsProfileText text P
@@ -52,28 +50,25 @@ pub record Reaches (text : List ℕ) (value : Parts) : Type 0 where
   pub of : Of text description
   pub reached : description_in value ≡ reach description
 
-abbrev pub IsNoCanon : List ℕ → CanonFault → Type 0
-IsNoCanon text (Line n) = HasWrongLine (canon is_read) text n
-IsNoCanon text Trailing = Trails (canon is_read) text
-
--- want of memory is no fault of a profile text
+-- a profile text is refused by this, its first fault; want of memory is none
 abbrev pub IsNoProfile : List ℕ → ProfileFault → Type 0
 IsNoProfile text profile.Memory = ⊥
 IsNoProfile text fault = Refuses text fault
 
+-- The same of a text that is a canonical text, or else a profile text: each has faults of its own kind, and memory runs out
+-- for a profile text alone.
 abbrev pub IsNotLoadedBy : Bool → List ℕ → LoadFault → Type 0
-IsNotLoadedBy true text (load.Canon fault) = IsNoCanon text fault
+IsNotLoadedBy true text (load.Canon fault) = IsNoText text fault
 IsNotLoadedBy true text (load.Profile fault) = ⊥
 IsNotLoadedBy true text load.Memory = ⊥
 IsNotLoadedBy false text (load.Profile fault) = IsNoProfile text fault
 IsNotLoadedBy false text (load.Canon fault) = ⊥
 IsNotLoadedBy false text load.Memory = Unit {0}
 
--- The text is refused by this, its first fault. Want of memory says nothing of a text, and loading a canonical
--- text never meets it.
+-- The text is refused by this, its first fault; or it is a profile text and memory ran out, which says nothing of the text.
 abbrev pub IsNotLoaded : List ℕ → LoadFault → Type 0
 IsNotLoaded text fault = IsNotLoadedBy (is_canon_text text) text fault
 
--- an accepted text isn't loaded for want of memory alone
+-- the only fault by which an accepted text isn't loaded is want of memory
 abbrev pub OnlyMemoryRefuses : Type 0
 OnlyMemoryRefuses = (text : List ℕ) (P : Description) (fault : LoadFault) → Of text P → IsNotLoaded text fault → fault ≡ load.Memory

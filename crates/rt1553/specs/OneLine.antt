@@ -9,5 +9,6 @@ pub record IsOneLine (bytes : List ℕ) : Type 0 where
   pub is : bytes ≡ text ++ 10 ∷ []
   pub none : NoLineFeed text
 
+-- a line feed is among the bytes
 abbrev pub has_line_feed : List ℕ → Bool
 has_line_feed bytes = list_any (λ b. b == 10) bytes

@@ -1,6 +1,6 @@
 //! Two texts are compared.
 ghost use Rattle.std.specs.Prelude.{IfOk, IfErr};
-ghost use Rattle.rt1553.specs.Compare.{IsRight, IsNotCompared};
+ghost use Rattle.rt1553.specs.Compare.{IsRight, IsExact, IsNotCompared};
 
 use crate::{LoadFault, load};
 use bus_canon::{Script, distinguish};
@@ -20,6 +20,7 @@ pub enum Verdict {
 /// first text is loaded first. Where both are canonical texts, no memory is taken.
 pub fn compare(alloc: Global, first: &[u8], second: &[u8]) -> Result<Verdict, LoadFault>
     ensures ok { IfOk result (IsRight first.now second.now) }
+    ensures exact { IfOk result (IsExact first.now second.now) }
     ensures refused { IfErr result (IsNotCompared first.now second.now) }
 {
     let p = load(alloc, first)?;

@@ -4,17 +4,17 @@ ghost use Rattle.rt1553.specs.OneLine.{IsOneLine};
 ghost use Rattle.rt1553.specs.Report.{exit_status_of};
 
 use crate::one_line::OneLine;
-use crate::{EngineFault, LoadFault, RunFault};
+use crate::{EngineFault, LoadFault, ProfileFault, RunFault};
 use arrayvec::ArrayString;
 use std::fmt::Write;
 
-/// The status that a program ends with: 2 for a profile or a script that is refused, 4 where a read or a
-/// write failed or memory was wanting.
+/// The status that a program ends with: 2 for a profile text, a canonical text or a script that is refused, 4 where a
+/// read or a write failed or memory ran out.
 fn exit_status_of(fault: &EngineFault) -> u8
     ensures { result ≡ exit_status_of fault.now }
 {
     match fault {
-        EngineFault::Load(LoadFault::Memory) => 4,
+        EngineFault::Load(LoadFault::Memory | LoadFault::Profile(ProfileFault::Memory)) => 4,
         EngineFault::Load(_) => 2,
         EngineFault::Script(RunFault::Read | RunFault::Write) => 4,
         EngineFault::Script(_) => 2,

@@ -4,3 +4,4 @@ pub mod Distinguish
 pub mod ExchangeAnswers
 pub mod CountLaws
 pub mod ShortestLaws
+pub mod EventLaws

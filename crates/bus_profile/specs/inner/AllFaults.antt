@@ -11,13 +11,12 @@ use Rattle.bus_profile.specs.declared.fault.Part.TheVariants as part
 use Rattle.bus_profile.specs.declared.fault.ProfileFault.{ProfileFault}
 use Rattle.bus_profile.specs.declared.fault.ProfileFault.TheVariants.{UnknownKey, Missing, WrongKind, RequiredCode}
 use Rattle.bus_word.specs.Mode.{transmit_status, shutdown, override_shutdown, reset}
-use Rattle.bus_profile.specs.Checks.{Check}
+use Rattle.bus_profile.specs.Checks.{Check, first_fault}
 use Rattle.bus_profile.specs.Keys.{Row, keys_of, address_row, broadcast_row, wraparound_row, accept_row, vector_row, bit_row, rule_row, mode_row, initial_row, to_row, direction_row, subaddresses_row, counts_row, legal_row, codes_row, subaddress_row, at_row, words_row, rule_rows, mode_rows, initial_rows}
 use Rattle.bus_profile.specs.Kinds.{has_unknown}
 use Rattle.bus_profile.specs.Faults.{row_checks, entry_checks, words_checks}
 use Rattle.profile_types.specs.OwnCodes.{is_own_code_legal}
 use Rattle.bus_profile.specs.AllFaults.{failing}
-use Rattle.bus_profile.specs.inner.FirstFault.{first_fault}
 
 -- the faults of several parts, one after the other
 abbrev pub failing_parts : List (List Check) → List ProfileFault

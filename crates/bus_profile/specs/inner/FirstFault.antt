@@ -1,14 +1,10 @@
 -- What a reader that checks in turn answers: the value, or the first check of a list that fails. That
 -- the place of this check is the least is shown of the whole tree.
-use Rattle.std.specs.Prelude.{◌≡◌, ◌≢◌, List, [], ◌∷◌, Option, Some, None, if◌then◌else◌, Result, Ok, Err}
+use Rattle.std.specs.Prelude.{◌≡◌, ◌≢◌, List, [], ◌∷◌, Option, Some, None, Result, Ok, Err}
 use Rattle.std.specs.Option.{option_or}
 use Rattle.bus_profile.specs.declared.fault.ProfileFault.{ProfileFault}
 use Rattle.bus_profile.specs.declared.fault.ProfileFault.TheVariants.{Memory}
-use Rattle.bus_profile.specs.Checks.{Check}
-
-abbrev pub first_fault : List Check → Option ProfileFault
-first_fault [] = None
-first_fault (c ∷ cs) = if c.fails then Some c.fault else first_fault cs
+use Rattle.bus_profile.specs.Checks.{Check, first_fault}
 
 -- the first fault of several parts
 abbrev pub fault_of_parts : List (List Check) → Option ProfileFault

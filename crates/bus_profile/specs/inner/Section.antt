@@ -7,7 +7,7 @@ use Rattle.bus_profile.specs.declared.fault.ProfileFault.{ProfileFault}
 use Rattle.bus_profile.specs.Keys.{Row}
 use Rattle.bus_profile.specs.Kinds.{value}
 use Rattle.bus_profile.specs.Faults.{row_checks}
-use Rattle.bus_profile.specs.inner.FirstFault.{first_fault}
+use Rattle.bus_profile.specs.Checks.{first_fault}
 
 -- the keys of the section, with their values
 abbrev pub tree_of : Section → Members

@@ -5,9 +5,9 @@ use Rattle.bus_profile.specs.declared.read.Settings.{Settings}
 use Rattle.bus_profile.specs.declared.section.Section.{Section}
 use Rattle.bus_profile.specs.declared.fault.ProfileFault.{ProfileFault}
 use Rattle.toml.specs.Data.{Data}
-use Rattle.bus_profile.specs.Checks.{Check}
+use Rattle.bus_profile.specs.Checks.{Check, first_fault}
 use Rattle.bus_profile.specs.Faults.{head_checks, each_item}
-use Rattle.bus_profile.specs.inner.FirstFault.{first_fault, fault_of_parts}
+use Rattle.bus_profile.specs.inner.FirstFault.{fault_of_parts}
 use Rattle.bus_profile.specs.Keys.{Row, address_row, broadcast_row, wraparound_row, accept_row, vector_row, bit_row}
 use Rattle.bus_profile.specs.Kinds.{items, is_too_long, number, truth_value, wrap_value}
 use Rattle.bus_profile.specs.inner.Section.{tree_of, fault_at, value_at}

@@ -1,6 +1,6 @@
 use Rattle.std.proofs.Common.{ℕ, ◌∙◌, ap, sym, Ok}
 use Rattle.std.proofs.lemmas.Result.{err_from_is_err_and}
-use Rattle.line_format.specs.inner.Views.{spot}
+use Rattle.line_format.specs.Views.{spot}
 use Rattle.line_format.proofs.Steps.{then_ok, then_err}
 use Rattle.bus_canon.proofs.asked.wrap_bit.Goals as goal
 

@@ -1,9 +1,9 @@
 use Rattle.std.proofs.Common.{◌≡◌, ◌-◌, ◌++◌, ◌∙◌, ap, sym, ℕ, List, take, length, length-take-le, replicate, Ok, codes}
 use Rattle.std.proofs.lemmas.List.{drop-replicate}
 use Rattle.bus_legal.specs.Tables.{largest_in}
-use Rattle.line_format.specs.inner.Reading.{read}
+use Rattle.line_format.specs.Reading.{read}
 use Rattle.line_format.specs.Shapes.{words_line}
-use Rattle.line_format.specs.inner.Views.{spot}
+use Rattle.line_format.specs.Views.{spot}
 use Rattle.bus_canon.proofs.Steps.{block_none, block_some, block_err}
 use Rattle.bus_canon.proofs.blocks.block.Goals as goal
 

@@ -1,7 +1,7 @@
 use Rattle.std.proofs.Common.{◌≡◌, ◌+◌, ◌∷◌, [], ◌∙◌, sym, arith, take, drop, get_or, refl, length-set}
 use Rattle.std.proofs.lemmas.List.{take_more_set, take_all, drop_more, drop_all}
-use Rattle.line_format.specs.inner.Reading.{read}
-use Rattle.line_format.specs.inner.Views.{spot}
+use Rattle.line_format.specs.Reading.{read}
+use Rattle.line_format.specs.Views.{spot}
 use Rattle.bus_canon.specs.Canon.{blocks}
 use Rattle.bus_canon.proofs.Steps.{with_none, blocks_more, blocks_err, blocks_end}
 use Rattle.bus_canon.proofs.blocks.blocks.Goals as goal

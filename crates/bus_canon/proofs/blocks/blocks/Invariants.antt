@@ -1,6 +1,6 @@
 use Rattle.std.proofs.Common.{◌≡◌, ◌+◌, length, take, drop}
-use Rattle.line_format.specs.inner.Reading.{read}
-use Rattle.line_format.specs.inner.Views.{spot}
+use Rattle.line_format.specs.Reading.{read}
+use Rattle.line_format.specs.Views.{spot}
 use Rattle.bus_canon.specs.Canon.{blocks}
 use Rattle.bus_canon.proofs.Steps.{with_front}
 use Rattle.bus_canon.proofs.blocks.blocks.Given as goal

@@ -1,6 +1,6 @@
 use Rattle.std.proofs.Common.{◌+◌, ◌++◌, List, ℕ, drop}
 use Rattle.line_format.specs.Format.{Spells}
-use Rattle.line_format.specs.inner.Writing.{Adds}
+use Rattle.line_format.specs.Writing.{Adds}
 use Rattle.bus_canon.specs.Canon.{blocks}
 use Rattle.bus_canon.proofs.blocks.put_blocks.Given as goal
 

@@ -1,6 +1,6 @@
 use Rattle.std.proofs.Common.{◌≡◌, ◌+◌, ◌-◌, ◌∙◌, sym, arith, take, length-set}
 use Rattle.std.proofs.lemmas.List.{take_more_set, take_all}
-use Rattle.line_format.specs.inner.Views.{spot}
+use Rattle.line_format.specs.Views.{spot}
 use Rattle.bus_canon.proofs.Steps.{masks_more, masks_err, masks_end}
 use Rattle.bus_canon.proofs.cell_lines.masks.Goals as goal
 

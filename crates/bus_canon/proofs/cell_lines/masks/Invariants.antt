@@ -1,6 +1,6 @@
 use Rattle.std.proofs.Common.{◌≡◌, ◌+◌, ◌-◌, length, take}
-use Rattle.line_format.specs.inner.Reading.{read}
-use Rattle.line_format.specs.inner.Views.{spot}
+use Rattle.line_format.specs.Reading.{read}
+use Rattle.line_format.specs.Views.{spot}
 use Rattle.bus_canon.specs.Canon.{masks}
 use Rattle.bus_canon.proofs.Steps.{with_front}
 use Rattle.bus_canon.proofs.cell_lines.masks.Given as goal

@@ -1,6 +1,6 @@
 use Rattle.std.proofs.Common.{◌+◌, ◌-◌, ◌++◌, List, ℕ, drop}
 use Rattle.line_format.specs.Format.{Spells}
-use Rattle.line_format.specs.inner.Writing.{Adds}
+use Rattle.line_format.specs.Writing.{Adds}
 use Rattle.bus_canon.specs.Canon.{masks}
 use Rattle.bus_canon.proofs.cell_lines.put_masks.Given as goal
 

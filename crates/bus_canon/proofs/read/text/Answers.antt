@@ -1,7 +1,7 @@
 use Rattle.std.proofs.Common.{◌∙◌, ap, sym, Ok}
 use Rattle.std.proofs.lemmas.Result.{err_from_is_err_and}
 use Rattle.line_format.proofs.Steps.{then_ok, then_err}
-use Rattle.line_format.specs.inner.Views.{spot}
+use Rattle.line_format.specs.Views.{spot}
 use Rattle.bus_legal.specs.Parts.{Parts}
 use Rattle.bus_canon.specs.Canon.{canon}
 use Rattle.bus_canon.proofs.CanonLaws.{read_normal}

@@ -1,5 +1,5 @@
 use Rattle.std.proofs.Common.{◌∙◌, ap, sym, Err}
-use Rattle.line_format.specs.inner.Views.{spot}
+use Rattle.line_format.specs.Views.{spot}
 use Rattle.line_format.proofs.Steps.{bit_here, bit_none}
 use Rattle.line_format.proofs.read.bit_line.Goals as goal
 

@@ -1,6 +1,6 @@
 use Rattle.std.proofs.Common.{◌∙◌, ap, sym, Err}
-use Rattle.line_format.specs.inner.Fields.{field_of}
-use Rattle.line_format.specs.inner.Views.{spot}
+use Rattle.line_format.specs.Kinds.{field_of}
+use Rattle.line_format.specs.Views.{spot}
 use Rattle.line_format.proofs.Steps.{number_here, number_none, number_not}
 use Rattle.line_format.proofs.read.number_line.Goals as goal
 

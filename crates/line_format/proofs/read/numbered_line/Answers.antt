@@ -1,5 +1,5 @@
 use Rattle.std.proofs.Common.{◌∙◌, ap, sym, Err}
-use Rattle.line_format.specs.inner.Views.{spot}
+use Rattle.line_format.specs.Views.{spot}
 use Rattle.line_format.proofs.Steps.{numbered_here, numbered_none, numbered_not}
 use Rattle.line_format.proofs.read.numbered_line.Goals as goal
 

@@ -1,6 +1,6 @@
 use Rattle.std.proofs.Common.{◌∙◌, ap, sym, Err, true, refl}
 use Rattle.line_format.specs.Shapes.{word}
-use Rattle.line_format.specs.inner.Views.{spot}
+use Rattle.line_format.specs.Views.{spot}
 use Rattle.line_format.proofs.Steps.{number_here, number_none}
 use Rattle.line_format.proofs.read.word_line.Goals as goal
 

@@ -1,5 +1,5 @@
 use Rattle.std.proofs.Common.{◌≡◌, ◌-◌, ◌≤◌, length, take, replicate}
-use Rattle.line_format.specs.inner.Reading.{fields_at}
+use Rattle.line_format.specs.Reading.{fields_at}
 use Rattle.line_format.specs.Shapes.{word}
 use Rattle.line_format.proofs.Steps.{fields_front}
 use Rattle.line_format.proofs.read.words.Given as goal

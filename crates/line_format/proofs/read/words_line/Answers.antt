@@ -1,5 +1,5 @@
 use Rattle.std.proofs.Common.{◌∙◌, ap, sym, Err, length}
-use Rattle.line_format.specs.inner.Views.{spot}
+use Rattle.line_format.specs.Views.{spot}
 use Rattle.line_format.proofs.Steps.{words_here, words_none, words_not}
 use Rattle.line_format.proofs.read.words_line.Goals as goal
 
