@@ -8,6 +8,7 @@ same_bus A A = true
 same_bus B B = true
 same_bus _ _ = false
 
+-- the other bus
 abbrev pub other : Bus → Bus
 other A = B
 other B = A

@@ -23,24 +23,25 @@ abbrev pub done_code : Ending → Option ℕ
 done_code (Done c cell ds) = code_in cell
 done_code _ = None
 
--- Reset remote terminal (MIL-STD-1553B, 4.3.3.5.1.7.9; Notice 2, 30.4.3) acts once its status was sent, and at its gap
--- where it has none. That makes three cases. The first: a reset by broadcast acts at its gap.
+-- Reset remote terminal (MIL-STD-1553B, 4.3.3.5.1.7.9; Notice 2, 30.4.3) acts after its status was sent; where none is
+-- sent, it acts at its gap. So there are three cases. First: a reset by broadcast acts at its gap, since no broadcast is
+-- answered.
 abbrev pub resets_by_broadcast : Ending → Bool
 resets_by_broadcast (Done c (BroadMode code) ds) = code == mode.reset
 resets_by_broadcast _ = false
 
--- a reset by the own address is done at its gap
+-- a reset by the own address is done
 abbrev pub does_own_reset : Ending → Bool
 does_own_reset (Done c (OwnMode code) ds) = code == mode.reset
 does_own_reset _ = false
 
--- a reply begins
+-- a reply begins with the event
 abbrev pub begins : Turn → Bool
 begins (Begins b cell) = true
 begins _ = false
 
--- The second: a reset by the own address acts at its gap where no reply begins, since the transmitter of its bus is shut
--- down.
+-- Second: a reset by the own address acts at its gap where no reply begins with it, since the transmitter of its bus is
+-- shut down.
 abbrev pub resets_in_silence : Turn → Ending → Bool
 resets_in_silence turn x = does_own_reset x && not (begins turn)
 
@@ -49,7 +50,7 @@ abbrev pub is_status_of_reset : ℕ → Option Cell → Bool
 is_status_of_reset number (Some (OwnMode code)) = (number == 0) && (code == mode.reset)
 is_status_of_reset number _ = false
 
--- The third: a reset by the own address that is answered acts in the slot that sends its status.
+-- Third: a reset by the own address that is answered acts in the slot that sends its status.
 abbrev pub resets_in_slot : Turn → Bool
 resets_in_slot (Sends r) = is_status_of_reset r.number r.cell
 resets_in_slot _ = false
@@ -143,6 +144,7 @@ abbrev pub recorded_by : Option ℕ → Option ℕ
 recorded_by None = None
 recorded_by (Some c) = if is_last_command_code (cell_of c) then None else Some c
 
--- The last command (4.3.3.5.1.7.13): the latest start that isn't transmit last command itself, illegal or not.
+-- The last command (4.3.3.5.1.7.13): that of the latest start whose cell is not own mode code 18, transmit last command.
+-- It may be illegal.
 abbrev pub last_now : List Noted → ℕ
 last_now h = or_else (latest (λ p. recorded_by (start_bits p)) (since_reset h)) 0

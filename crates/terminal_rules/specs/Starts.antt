@@ -39,14 +39,15 @@ abbrev pub is_fresh_broadcast : Open → Bool
 is_fresh_broadcast (First c []) = is_receive c && is_broadcast c
 is_fresh_broadcast _ = false
 
--- A word for the terminal starts a message where its run holds no earlier one and none is in progress; or
--- where it has this terminal transmit, by its own address, right after a broadcast receive command: then
--- this terminal is the transmitter of a broadcast transfer (4.3.3.6.7.2), and no receiver of it.
+-- A word for the terminal starts a message in two cases. Its run holds no earlier word for the terminal, and no
+-- message is in progress on its bus, or only one that waits. Or it has this terminal transmit, by its own address, right
+-- after a broadcast receive command: then this terminal is the transmitter of a broadcast transfer (4.3.3.6.7.2), and no
+-- receiver of it.
 abbrev pub starts_message : Description → Raw → Bool → Bool → Bool → Bool
 starts_message P w heard free fresh =
     is_for P w && ((not heard && free) || (fresh && (transmits w.bits && (address_of w.bits == P.address))))
 
--- only a word starts a message, and none that is ignored
+-- only a word starts a message, and what is ignored starts none
 abbrev pub starts_unless : Bool → Description → List Noted → Event → Bool
 starts_unless ignored P h (Word b w) =
     not ignored && starts_message P w (heard_now P h b) (is_free (open_now P h b)) (is_fresh_broadcast (open_now P h b))

@@ -96,7 +96,7 @@ kept_by_end P h resets (Illegal c) = Some (formed_error h c)
 kept_by_end P h resets (Blocked c cell) = Some (formed_blocked h c)
 kept_by_end P h resets (Done c cell ds) = kept_by_done P h resets c cell
 
--- the third case of a reset: once its status was sent, no bit is set
+-- The third case of a reset is the slot that sends its status: after it no bit is set.
 abbrev pub kept_by_slot : Turn → Option StatusParts
 kept_by_slot turn = if resets_in_slot turn then Some no_parts else None
 
@@ -108,13 +108,13 @@ abbrev pub kept_by_start : Description → Option ℕ → Option StatusParts
 kept_by_start P None = None
 kept_by_start P (Some c) = kept_by_command (spares P c) c
 
--- the later of two things that an event does says, and where it says nothing the other does
+-- what the later of two says, and where it says nothing, what the other says
 abbrev pub later_or : Option StatusParts → Option StatusParts → Option StatusParts
 later_or (Some s) e = Some s
 later_or None e = e
 
--- What an event sets it to: a slot, or the end of a message. Where one event both ends and starts a message, the start
--- comes later.
+-- What an event sets the kept status to: by a start, in a slot or by an end. Where one event both ends and starts a
+-- message, the start is the later.
 abbrev pub kept_set : Description → Noted → List Noted → Option StatusParts
 kept_set P p h =
     later_or (kept_by_start P (start_bits p))
@@ -125,7 +125,7 @@ abbrev pub adds_error : Description → Ending → Bool
 adds_error P (Badly c) = spares P c
 adds_error P _ = false
 
--- The kept status: what the latest start or end set, with message error where a command that spares it ended
+-- The kept status: what the latest start, end or reset set, with message error where a command that spares it ended
 -- in error after that.
 abbrev pub kept_now : Description → List Noted → StatusParts
 kept_now P h =

@@ -36,6 +36,7 @@ turn_heard h (Gap b) x = turn_of_gap b (is_answered (off_now h b) x) (done_cell 
 turn_heard h Slot x = turn_of_slot (reply_now h)
 turn_heard h _ x = NoTurn
 
+-- what is ignored has nothing else to do with replies
 abbrev pub unless_ignored_turn : Bool → Turn → Turn
 unless_ignored_turn ignored turn = if ignored then Ignored else turn
 

@@ -21,7 +21,8 @@ pub fn mode_replies()
     ensures { WordIsSent }
 {}
 
-/// Which events are resets: there are three cases, and no other.
+/// An event is a reset in three cases, and in no other: it is the gap of a reset by broadcast, or the gap of a reset by the
+/// own address on a bus whose transmitter is shut down, or the slot that sends the status of a reset.
 pub fn resets()
     ensures { ResetLaw }
 {}
