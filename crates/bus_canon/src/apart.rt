@@ -10,10 +10,11 @@ ghost use Rattle.bus_canon.specs.Difference.{AreAlike, IsFirstDifference, IsInRa
 ghost use Rattle.bus_canon.specs.inner.Shows.{ShowsAlone};
 
 use crate::difference::{Difference, first_difference};
-use crate::script::{Script, script_for, shown_subaddress};
+use crate::script::{script_for, shown_subaddress};
 use bus_legal::{Legality, Normal};
 use bus_word::Cell;
 use bus_word::mode::{BIT_WORD, DYNAMIC_BUS_CONTROL, VECTOR_WORD};
+use terminal_exchanges::Script;
 
 /// The script that shows the first difference between two terminals, by what can be reached of them;
 /// None exactly where the two are equal. From power-up the two answer the script otherwise: at most 70 events of

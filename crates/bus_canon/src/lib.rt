@@ -19,5 +19,5 @@ pub use apart::{distinguish, script_showing};
 pub use difference::Difference;
 pub use fault::CanonFault;
 pub use read::read_canon;
-pub use script::Script;
+pub use terminal_exchanges::Script;
 pub use write::write_canon;

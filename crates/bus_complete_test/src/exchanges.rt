@@ -2,7 +2,7 @@
 ghost use Rattle.std.specs.Prelude.{◌≡◌, ◌≤◌, ◌<◌, [], ◌∷◌, map};
 ghost use Rattle.bus_legal.specs.Parts.{description_in, IsNormal};
 ghost use Rattle.terminal_exchanges.specs.Distinguish.{ask};
-ghost use Rattle.terminal_exchanges.specs.Values.{exchange_in};
+ghost use Rattle.terminal_exchanges.specs.Values.{exchange_in, IsShort, AreShort};
 ghost use Rattle.terminal_complete_test.specs.CompleteTest.{own_code_tried, broadcast_code_tried, wraparound_tried};
 ghost use Rattle.bus_complete_test.specs.Trials.{IsInRange, tried_at};
 
@@ -17,7 +17,9 @@ use terminal_exchanges::{
 
 /// Gives one exchange.
 fn alone(exchange: Exchange) -> ArrayVec<Exchange, 2>
-    ensures { map exchange_in result.items ≡ exchange_in exchange ∷ [] }
+    requires { IsShort exchange }
+    ensures exchanges { map exchange_in result.items ≡ exchange_in exchange ∷ [] }
+    ensures short { AreShort result.items }
 {
     let mut exchanges = ArrayVec::new();
     exchanges.push(exchange);
@@ -26,8 +28,10 @@ fn alone(exchange: Exchange) -> ArrayVec<Exchange, 2>
 
 /// Gives an exchange, and then the question for the status that is kept.
 fn asked(exchange: Exchange, address: u8) -> ArrayVec<Exchange, 2>
-    requires { address < 32 }
-    ensures { map exchange_in result.items ≡ exchange_in exchange ∷ ask address ∷ [] }
+    requires short { IsShort exchange }
+    requires address { address < 32 }
+    ensures exchanges { map exchange_in result.items ≡ exchange_in exchange ∷ ask address ∷ [] }
+    ensures short { AreShort result.items }
 {
     let mut exchanges = ArrayVec::new();
     exchanges.push(exchange);
@@ -39,7 +43,8 @@ fn asked(exchange: Exchange, address: u8) -> ArrayVec<Exchange, 2>
 fn own_code(p: &Normal, code: u8) -> ArrayVec<Exchange, 2>
     requires normal { IsNormal p.now }
     requires code { code < 32 }
-    ensures { map exchange_in result.items ≡ own_code_tried (description_in p.now) code }
+    ensures exchanges { map exchange_in result.items ≡ own_code_tried (description_in p.now) code }
+    ensures short { AreShort result.items }
 {
     if mode_row(code).is_none() {
         return ArrayVec::new();
@@ -56,7 +61,8 @@ fn own_code(p: &Normal, code: u8) -> ArrayVec<Exchange, 2>
 fn broadcast_code(p: &Normal, code: u8) -> ArrayVec<Exchange, 2>
     requires normal { IsNormal p.now }
     requires code { code < 32 }
-    ensures { map exchange_in result.items ≡ broadcast_code_tried (description_in p.now) code }
+    ensures exchanges { map exchange_in result.items ≡ broadcast_code_tried (description_in p.now) code }
+    ensures short { AreShort result.items }
 {
     match mode_row(code) {
         Some(row) if row.broadcast => asked(mode_code(1, ALL_TERMINALS, code), p.address()),
@@ -69,7 +75,8 @@ fn wraparound(p: &Normal, subaddress: u8) -> ArrayVec<Exchange, 2>
     requires normal { IsNormal p.now }
     requires low { 1 ≤ subaddress }
     requires high { subaddress ≤ 30 }
-    ensures { map exchange_in result.items ≡ wraparound_tried (description_in p.now) subaddress }
+    ensures exchanges { map exchange_in result.items ≡ wraparound_tried (description_in p.now) subaddress }
+    ensures short { AreShort result.items }
 {
     let mut exchanges = ArrayVec::new();
     if p.tables().can_wrap(subaddress) {
@@ -79,10 +86,11 @@ fn wraparound(p: &Normal, subaddress: u8) -> ArrayVec<Exchange, 2>
     exchanges
 }
 
-/// The exchanges of a trial: at most two.
+/// The exchanges of a trial: at most two, each of at most 32 data words and 33 slots.
 pub fn exchanges_of(p: &Normal, trial: Trial) -> ArrayVec<Exchange, 2>
     requires { IsInRange trial }
-    ensures { map exchange_in result.items ≡ tried_at (description_in p.now) trial }
+    ensures exchanges { map exchange_in result.items ≡ tried_at (description_in p.now) trial }
+    ensures short { AreShort result.items }
 {
     // With a set-up comes the promise that nothing unreached is in the `Normal`.
     p.setup();

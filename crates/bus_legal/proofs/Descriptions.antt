@@ -4,11 +4,10 @@ use Rattle.std.proofs.lemmas.Bool.{eqb-true}
 use Rattle.std.proofs.lemmas.Bool.Decides.{nat_tests}
 use Rattle.bus_word.specs.Mode.{dynamic_bus_control, vector_word, bit_word}
 use Rattle.bus_word.specs.declared.cell.Cell.{Cell}
-use Rattle.bus_word.specs.declared.cell.Cell.TheVariants.{OwnReceive, OwnTransmit, BroadReceive, OwnMode}
-use Rattle.bus_word.specs.Cell.{is_data_place}
+use Rattle.bus_word.specs.declared.cell.Cell.TheVariants.{OwnReceive, BroadReceive, OwnMode}
 use Rattle.bus_legal.specs.Description.{Description}
 use Rattle.bus_legal.specs.Reach.{largest_to, any_to, largest_count, any_count, is_heard, transmits_at, receives_at, can_wrap, can_transmit, reach}
-use Rattle.bus_legal.proofs.Counts.{sent_place, largest_to-bounds, any_to-true}
+use Rattle.bus_legal.proofs.Counts.{largest_to-bounds, any_to-true}
 
 abbrev built : ℕ → Bool → ℕ → Bool → ℕ → ℕ → (ℕ → ℕ → ℕ) → (Cell → Bool) → Description
 built address broadcast wrap accept vector bit initial legal = record { address = address; broadcast = broadcast; wrap = wrap; accept = accept; vector = vector; bit = bit; initial = initial; legal = legal }
@@ -55,25 +54,6 @@ reach-reach P = same_description (reach (reach P)) (reach P) refl refl
     (cond-twice (P.legal (OwnMode bit_word)) P.bit)
     (λ s i. cond-twice (can_transmit P s i) (P.initial s i))
     (λ cell. and-twice (is_heard P.broadcast cell) (P.legal cell))
-
-abbrev with_initial : Description → (ℕ → ℕ → ℕ) → Description
-with_initial P initial = built P.address P.broadcast P.wrap P.accept P.vector P.bit initial P.legal
-
--- only the initial words at places of data count
-reach-with_initial : (P : Description) (initial : ℕ → ℕ → ℕ) → ((s n : ℕ) → P.legal (OwnTransmit s n) ≡ true → is_data_place s n ≡ true) →
-    ((s i : ℕ) → is_data_place s i ≡ true → P.initial s i ≡ initial s i) → reach P ≡ reach (with_initial P initial)
-reach-with_initial P initial places agree = same_description (reach P) (reach (with_initial P initial)) refl refl refl refl refl refl
-    (λ s i. cond-guarded (can_transmit P s i) (P.initial s i) (initial s i) (λ sent. agree s i (sent_place P places s i sent)))
-    (λ cell. refl)
-
--- The reached parts of two descriptions are equal if they agree in all but the initial words, and in
--- the initial words at places of data.
-pub same_reach : (P Q : Description) → P.address ≡ Q.address → P.broadcast ≡ Q.broadcast → P.wrap ≡ Q.wrap → P.accept ≡ Q.accept → P.vector ≡ Q.vector → P.bit ≡ Q.bit →
-    ((s i : ℕ) → is_data_place s i ≡ true → P.initial s i ≡ Q.initial s i) → ((cell : Cell) → P.legal cell ≡ Q.legal cell) →
-    ((s n : ℕ) → P.legal (OwnTransmit s n) ≡ true → is_data_place s n ≡ true) → reach P ≡ reach Q
-same_reach P Q address broadcast wrap accept vector bit initial legal places =
-    reach-with_initial P Q.initial places initial
-    ∙ ap reach (same_description (with_initial P Q.initial) Q address broadcast wrap accept vector bit (λ s i. refl) legal)
 
 -- the words that a legal command asks for are reached
 pub initial-reach : (P : Description) (s n i : ℕ) → transmits_at P s n ≡ true → n ≤ 32 → 1 ≤ i → i ≤ n → (reach P).initial s i ≡ P.initial s i

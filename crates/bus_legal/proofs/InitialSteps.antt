@@ -1,11 +1,12 @@
 -- A table of words that follows the initial entries one by one.
-use Rattle.std.proofs.Common.{◌≡◌, ℕ, ◌+◌, ◌-◌, ◌<◌, ◌≤◌, ◌≢◌, ◌==◌, Bool, true, false, ◌&&◌, cond, List, [], get_or, set, take, replicate, length, Option}
+use Rattle.std.proofs.Common.{◌≡◌, ℕ, ◌+◌, ◌-◌, ◌<◌, ◌≤◌, ◌≢◌, ◌==◌, Bool, true, false, ◌&&◌, cond, nat_le, nat_lt, List, [], ◌∷◌, get_or, set, take, replicate, length, Option, None}
 use Rattle.std.proofs.Common.{Some, refl, ap, subst, sym, ◌∙◌, get_or-set_same, get_or-set_other, arith}
 use Rattle.std.proofs.lemmas.Bool.{eqb-true, eq-eqb}
+use Rattle.std.proofs.lemmas.Bool.Decides.{nat_tests}
 use Rattle.std.proofs.lemmas.List.{get_or-replicate}
 use Rattle.bus_word.specs.Cell.{is_data_place}
 use Rattle.profile_types.specs.declared.entries.InitialWords.{InitialWords}
-use Rattle.profile_types.specs.Last.{last_of}
+use Rattle.profile_types.specs.Last.{or_last, last_of}
 use Rattle.bus_legal.specs.Description.{word_at}
 use Rattle.bus_legal.specs.Initial.{gives_number, gives, word_given, initial_word}
 use Rattle.bus_legal.proofs.Last.{last_of-take}
@@ -63,3 +64,17 @@ initial_word-table entries table put s i place =
     ∙ (ap (λ w. word_given w (i - 1 + 1) (last_of (gives (s - 1 + 1) (i - 1 + 1)) entries)) (zeros-word (s - 1) (i - 1) (place_low s i place) (place_high s i place))
     ∙ (ap (λ k. word_given 0 (i - 1 + 1) (last_of (gives k (i - 1 + 1)) entries)) row_at
     ∙ ap (λ k. word_given 0 k (last_of (gives s k) entries)) at))
+
+-- no entry gives a word outside the places of data
+never_gives : (s i : ℕ) (e : InitialWords) → is_data_place s i ≡ false → gives s i e ≡ false
+never_gives s i e outside = never e.subaddress e.first e.len e.subaddress_low e.subaddress_high e.first_low e.room
+  where
+    never : (at first len : ℕ) → 1 ≤ at → at ≤ 30 → 1 ≤ first → first + len ≤ 33 → ((s == at) && (nat_le first i && nat_lt i (first + len))) ≡ false
+    never at first len low high from room = grind (arith, nat_tests)
+
+none_gives : (entries : List InitialWords) (s i : ℕ) → is_data_place s i ≡ false → (let none : Option InitialWords = None in last_of (gives s i) entries ≡ none)
+none_gives [] s i outside = refl
+none_gives (e ∷ es) s i outside = λ j. or_last (none_gives es s i outside j) (cond (never_gives s i e outside j) (Some e) None)
+
+pub initial_word-outside : (entries : List InitialWords) (s i : ℕ) → is_data_place s i ≡ false → initial_word entries s i ≡ 0
+initial_word-outside entries s i outside = ap (word_given 0 i) (none_gives entries s i outside)

@@ -14,6 +14,7 @@ pub mod TablesReach
 pub mod PartsReach
 pub mod NormalLaws
 pub mod SameNormals
+pub mod ReachedNormals
 pub mod LegalLaws
 pub mod PlainLaws
 pub mod Made

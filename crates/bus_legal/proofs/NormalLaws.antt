@@ -10,16 +10,18 @@ use Rattle.profile_types.specs.declared.profile.Profile.{Profile}
 use Rattle.bus_word.specs.Mask.{has_bit}
 use Rattle.bus_legal.specs.declared.setup.Setup.{Setup}
 use Rattle.bus_legal.specs.declared.tables.Tables.{Tables}
-use Rattle.bus_legal.specs.Description.{word_at, described}
+use Rattle.bus_legal.specs.Description.{word_at, words_at_places, described}
+use Rattle.bus_legal.specs.Initial.{initial_word}
 use Rattle.bus_legal.specs.Legal.{is_legal, last_says}
 use Rattle.bus_legal.specs.Meaning.{description_of, SetsUp}
 use Rattle.bus_legal.specs.Reach.{is_heard, reach}
 use Rattle.bus_legal.specs.Tables.{has_cell, tables_say, largest_in, masks_wrap}
 use Rattle.bus_legal.specs.Parts.{Parts, parts_of, description_in, IsNormal}
 use Rattle.bus_legal.proofs.Bits.{has_bit-and}
-use Rattle.bus_legal.proofs.Bools.{left_of, right_of}
+use Rattle.bus_legal.proofs.Bools.{right_of}
 use Rattle.bus_legal.proofs.ModeMasks.{each_required}
-use Rattle.bus_legal.proofs.Descriptions.{same_reach, and-twice}
+use Rattle.bus_legal.proofs.Descriptions.{same_description, and-twice}
+use Rattle.bus_legal.proofs.InitialSteps.{initial_word-outside}
 use Rattle.bus_legal.proofs.PartsReach.{description_in-made}
 use Rattle.bus_legal.proofs.Places.{place_low, place_high}
 use Rattle.bus_legal.proofs.TablesReach.{unheard-says}
@@ -79,23 +81,28 @@ reach-normal v is = sym (description_in-made (description_in v) v (record {
     beyond : (i n : ℕ) → nat_lt i n ≡ false → n ≤ i
     beyond i n e = grind (arith, nat_tests)
 
--- A terminal that is set up by a profile, with any legality that is the profile's, has the reached
--- part of the profile.
-pub reach-set_up : (p : Profile) (setup : Setup) (means : Cell → Bool) → SetsUp p setup → ((cell : Cell) →
-    means cell ≡ is_legal p.rules p.modes cell) → reach (described setup means) ≡ reach (description_of p)
+-- A terminal that is set up by a profile, with any legality that is the profile's, has the profile's description.
+pub set_up_by : (p : Profile) (setup : Setup) (means : Cell → Bool) → SetsUp p setup → ((cell : Cell) →
+    means cell ≡ is_legal p.rules p.modes cell) → described setup means ≡ description_of p
 unfolding is_legal
-reach-set_up p setup means up legal = same_reach (described setup means) (description_of p) up.address up.broadcast up.wrap up.accept up.vector up.bit up.initial
+set_up_by p setup means up legal = same_description (described setup means) (description_of p) up.address up.broadcast up.wrap up.accept up.vector up.bit
+    (λ s i. words s i (is_data_place s i) refl)
     (λ cell. ap (λ b. is_allowed cell && b) (legal cell) ∙ and-twice (is_allowed cell) (last_says p.rules p.modes cell))
-    (λ s n e. left_of (is_data_place s n) (means (OwnTransmit s n)) e)
+  where
+    words : (s i : ℕ) (t : Bool) → is_data_place s i ≡ t → cond t (word_at setup.initial s i) 0 ≡ initial_word p.initials s i
+    words s i true place = up.initial s i place
+    words s i false outside = sym (initial_word-outside p.initials s i outside)
 
--- A terminal that is set up by a `Normal` has its description as reached part.
-pub reach-set_up_normal : (v : Parts) (setup : Setup) → IsNormal v → parts_of setup v.tables ≡ v → reach (described setup (tables_say v.tables)) ≡ description_in v
-reach-set_up_normal v setup is same = same_reach (described setup (tables_say v.tables)) (description_in v)
+-- A terminal that is set up by parts has their description.
+pub set_up_normal : (v : Parts) (setup : Setup) → parts_of setup v.tables ≡ v → described setup (tables_say v.tables) ≡ description_in v
+set_up_normal v setup same = same_description (described setup (tables_say v.tables)) (description_in v)
     (ap (λ w. w.address) same) (ap (λ w. w.broadcast) same) (ap (λ w. w.wrap) same) (ap (λ w. w.accept) same) (ap (λ w. w.vector) same) (ap (λ w. w.bit) same)
-    (λ s i place. ap (λ w. word_at w.initial s i) same ∙ sym (ap (λ b. cond b (word_at v.initial s i) 0) place))
+    (λ s i. ap (λ w. words_at_places w.initial s i) same)
     (λ cell. and-twice (is_allowed cell) (has_cell v.tables cell))
-    (λ s n e. left_of (is_data_place s n) (tables_say v.tables (OwnTransmit s n)) e)
-    ∙ reach-normal v is
+
+-- and that of a `Normal` is its own reached part
+pub reach-set_up_normal : (v : Parts) (setup : Setup) → IsNormal v → parts_of setup v.tables ≡ v → reach (described setup (tables_say v.tables)) ≡ description_in v
+reach-set_up_normal v setup is same = ap reach (set_up_normal v setup same) ∙ reach-normal v is
 
 -- own mode codes 2, 4, 5 and 8 are legal in a `Normal`
 pub required-legal : (v : Parts) → IsNormal v → (c : ℕ) → is_required_code c ≡ true → tables_say v.tables (OwnMode c) ≡ true

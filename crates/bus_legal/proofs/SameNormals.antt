@@ -1,4 +1,4 @@
--- `Normal`s with one description are equal.
+-- Parts within their ranges with one description are equal, and so are `Normal`s.
 use Rattle.std.proofs.Common.{◌≡◌, ℕ, ◌+◌, ◌-◌, ◌<◌, ◌≤◌, ◌^◌, Bool, true, ◌&&◌, cond, bit_and, is_some, List, [], get_or, length, ap, sym, ◌∙◌, arith}
 use Rattle.std.proofs.lemmas.Bool.{eqb-true}
 use Rattle.std.proofs.lemmas.Bool.Decides.{nat_tests}
@@ -12,7 +12,7 @@ use Rattle.bus_word.specs.Mask.{has_bit}
 use Rattle.bus_legal.specs.declared.tables.Tables.{Tables}
 use Rattle.bus_legal.specs.Description.{word_at}
 use Rattle.bus_legal.specs.Tables.{has_count, tables_say, is_own_mask, is_broadcast_mask}
-use Rattle.bus_legal.specs.Parts.{Parts, description_in, AreMasks, AreWords, IsNormal}
+use Rattle.bus_legal.specs.Parts.{Parts, description_in, AreMasks, AreWords, AreInRange, IsNormal}
 use Rattle.bus_legal.proofs.Bits.{same_mask, has_bit-and}
 use Rattle.bus_legal.proofs.Bools.{left_of}
 use Rattle.bus_legal.proofs.TableSteps.{own_codes-bits, broadcast_codes-bits}
@@ -76,16 +76,34 @@ own_only mask e = eqb-true (bit_and mask 0x000f01ff) mask (left_of _ _ e)
 broadcast_only : (mask : ℕ) → is_broadcast_mask mask ≡ true → bit_and mask 0x000201fa ≡ mask
 broadcast_only mask e = eqb-true (bit_and mask 0x000201fa) mask e
 
-pub same_normals : (v w : Parts) → IsNormal v → IsNormal w → description_in v ≡ description_in w → v ≡ w
-same_normals v w is also same =
+-- the ranges of a `Normal`
+pub normal_in_range : (v : Parts) → IsNormal v → AreInRange v
+normal_in_range v is = record {
+  address = is.address;
+  wrap = is.wrap;
+  vector = is.vector;
+  bit = is.bit;
+  words = is.words;
+  own_receive = is.own_receive;
+  own_transmit = is.own_transmit;
+  broadcast_receive = is.broadcast_receive;
+  own_mode = own_only v.tables.own_mode is.own_mode;
+  broadcast_mode = is.broadcast_mode;
+}
+
+pub same_in_range : (v w : Parts) → AreInRange v → AreInRange w → description_in v ≡ description_in w → v ≡ w
+same_in_range v w is also same =
     let legal : (cell : Cell) → tables_say v.tables cell ≡ tables_say w.tables cell = (λ cell. ap (λ P. P.legal cell) same) in
     let receive : v.tables.own_receive ≡ w.tables.own_receive = same_masks _ _ is.own_receive also.own_receive (λ s n. legal (OwnReceive s n)) in
     let transmit : v.tables.own_transmit ≡ w.tables.own_transmit = same_masks _ _ is.own_transmit also.own_transmit (λ s n. legal (OwnTransmit s n)) in
     let broadcast : v.tables.broadcast_receive ≡ w.tables.broadcast_receive = same_masks _ _ is.broadcast_receive also.broadcast_receive (λ s n. legal (BroadReceive s n)) in
     let own_mode : v.tables.own_mode ≡ w.tables.own_mode =
-    same_codes _ _ 0x000f01ff (λ c. is_some (mode_row c)) (omega arith) (own_only _ is.own_mode) (own_only _ also.own_mode) own_codes-bits (λ c. legal (OwnMode c)) in
+    same_codes _ _ 0x000f01ff (λ c. is_some (mode_row c)) (omega arith) is.own_mode also.own_mode own_codes-bits (λ c. legal (OwnMode c)) in
     let broadcast_mode : v.tables.broadcast_mode ≡ w.tables.broadcast_mode =
     same_codes _ _ 0x000201fa (λ c. allows_broadcast (mode_row c)) (omega arith) (broadcast_only _ is.broadcast_mode) (broadcast_only _ also.broadcast_mode) broadcast_codes-bits (λ c. legal (BroadMode c)) in
     let words : v.initial ≡ w.initial = same_words _ _ is.words also.words (λ s i. ap (λ P. P.initial s i) same) in
     λ j. built ((same j).address) ((same j).broadcast) ((same j).wrap) ((same j).accept) ((same j).vector) ((same j).bit) (words j)
     (record { own_receive = receive j; own_transmit = transmit j; broadcast_receive = broadcast j; own_mode = own_mode j; broadcast_mode = broadcast_mode j })
+
+pub same_normals : (v w : Parts) → IsNormal v → IsNormal w → description_in v ≡ description_in w → v ≡ w
+same_normals v w is also same = same_in_range v w (normal_in_range v is) (normal_in_range w also) same

@@ -1,7 +1,7 @@
 -- What a terminal is described by.
-use Rattle.std.specs.Prelude.{ℕ, ◌-◌, Bool, ◌&&◌, List, [], get_or}
+use Rattle.std.specs.Prelude.{ℕ, ◌-◌, Bool, ◌&&◌, if◌then◌else◌, List, [], get_or}
 use Rattle.bus_word.specs.declared.cell.Cell.{Cell}
-use Rattle.bus_word.specs.Cell.{is_allowed}
+use Rattle.bus_word.specs.Cell.{is_data_place, is_allowed}
 use Rattle.bus_legal.specs.declared.setup.Setup.{Setup}
 
 pub record Description : Type 0 where
@@ -23,6 +23,10 @@ pub record Description : Type 0 where
 abbrev pub word_at : List (List ℕ) → ℕ → ℕ → ℕ
 word_at words s i = get_or (get_or words (s - 1) []) (i - 1) 0
 
+-- the words of such a table, which has places of data alone: at any other place 0
+abbrev pub words_at_places : List (List ℕ) → ℕ → ℕ → ℕ
+words_at_places words s i = if is_data_place s i then word_at words s i else 0
+
 -- the description of a terminal that is set up so, with this legality: of the cells that no command
 -- has, none is legal
 abbrev pub described : Setup → (Cell → Bool) → Description
@@ -33,6 +37,6 @@ described setup is_legal = record {
   accept = setup.accept;
   vector = setup.vector;
   bit = setup.bit;
-  initial = word_at setup.initial;
+  initial = words_at_places setup.initial;
   legal = λ cell. is_allowed cell && is_legal cell;
 }

@@ -2,8 +2,8 @@
 use Rattle.std.specs.Prelude.{ℕ, ◌-◌, Bool, false, ◌&&◌, List, Option, Some, None}
 use Rattle.bus_word.specs.declared.cell.Cell.{Cell}
 use Rattle.bus_word.specs.declared.cell.Cell.TheVariants.{OwnReceive, OwnTransmit, BroadReceive, OwnMode, BroadMode}
-use Rattle.bus_word.specs.Cell.{is_allowed, allows_broadcast}
-use Rattle.bus_word.specs.Mode.{mode_row, is_required_code}
+use Rattle.bus_word.specs.Cell.{is_allowed}
+use Rattle.bus_word.specs.Mode.{is_required_code}
 use Rattle.profile_types.specs.declared.entries.Rule.{Rule}
 use Rattle.profile_types.specs.declared.entries.ModeRule.{ModeRule}
 use Rattle.profile_types.specs.Last.{last_of}

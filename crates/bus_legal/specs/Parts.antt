@@ -1,11 +1,13 @@
 -- What a `Normal` is seen as: a set-up and the masks of the legal cells, with nothing unreached in them.
-use Rattle.std.specs.Prelude.{◌≡◌, ℕ, ◌<◌, ◌≤◌, ◌^◌, Bool, true, false, List, [], length, get_or, replicate, if◌then◌else◌}
-use Rattle.bus_word.specs.Cell.{is_data_place}
+use Rattle.std.specs.Prelude.{◌≡◌, ℕ, ◌<◌, ◌≤◌, ◌^◌, Bool, true, false, List, [], length, get_or, replicate, bit_and}
+use Rattle.bus_word.specs.declared.cell.Cell.TheVariants.{OwnMode}
 use Rattle.bus_word.specs.Mask.{has_bit}
-use Rattle.bus_word.specs.Mode.{dynamic_bus_control, vector_word, bit_word}
+use Rattle.bus_word.specs.Mode.{is_required_code, dynamic_bus_control, vector_word, bit_word}
 use Rattle.bus_legal.specs.declared.setup.Setup.{Setup}
 use Rattle.bus_legal.specs.declared.tables.Tables.{Tables}
-use Rattle.bus_legal.specs.Description.{Description, word_at}
+use Rattle.bus_legal.specs.declared.tables.TheConstants.{OWN_CODES}
+use Rattle.bus_legal.specs.Description.{Description, words_at_places}
+use Rattle.bus_legal.specs.Reach.{reach}
 use Rattle.bus_legal.specs.Tables.{tables_say, largest_in, masks_wrap, is_own_mask, is_broadcast_mask}
 
 -- the fields of a set-up, and tables: bits and words by subaddress as in `Setup` and `Tables`
@@ -31,7 +33,7 @@ parts_of setup tables = record {
   tables = tables;
 }
 
--- The description that these parts make. It holds words at places of data alone.
+-- the description that these parts make
 abbrev pub description_in : Parts → Description
 description_in v = record {
   address = v.address;
@@ -40,7 +42,7 @@ description_in v = record {
   accept = v.accept;
   vector = v.vector;
   bit = v.bit;
-  initial = λ s i. if is_data_place s i then word_at v.initial s i else 0;
+  initial = words_at_places v.initial;
   legal = tables_say v.tables;
 }
 
@@ -59,7 +61,27 @@ pub record AreWords (words : List (List ℕ)) : Type 0 where
   pub thirty : length words ≡ 30
   pub blocks : (s : ℕ) → s < 30 → IsBlock (get_or words s [])
 
--- Parts of their ranges in which nothing is that can't be reached, and the required own mode codes are.
+-- Parts within their ranges: the address and the wraparound subaddress are at most 30, words have 16 bits, the tables have
+-- the size of theirs, and masks of mode codes have no code that can't be legal.
+pub record AreInRange (v : Parts) : Type 0 where
+  pub address : v.address ≤ 30
+  pub wrap : v.wrap ≤ 30
+  pub vector : v.vector < 2 ^ 16
+  pub bit : v.bit < 2 ^ 16
+  pub words : AreWords v.initial
+  pub own_receive : AreMasks v.tables.own_receive
+  pub own_transmit : AreMasks v.tables.own_transmit
+  pub broadcast_receive : AreMasks v.tables.broadcast_receive
+  pub own_mode : bit_and v.tables.own_mode OWN_CODES ≡ v.tables.own_mode
+  pub broadcast_mode : is_broadcast_mask v.tables.broadcast_mode ≡ true
+
+-- All that the parts describe can be reached, and the own mode codes that must be legal are.
+pub record AreReached (v : Parts) : Type 0 where
+  pub whole : reach (description_in v) ≡ description_in v
+  pub required : (code : ℕ) → is_required_code code ≡ true → tables_say v.tables (OwnMode code) ≡ true
+
+-- The same part by part, as code can test it: parts within their ranges in which nothing is that can't be reached, and the
+-- required own mode codes are.
 pub record IsNormal (v : Parts) : Type 0 where
   pub address : v.address ≤ 30
   pub wrap : v.wrap ≤ 30

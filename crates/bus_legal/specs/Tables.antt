@@ -1,14 +1,11 @@
 -- What masks of legal cells mean.
-use Rattle.std.specs.Prelude.{◌≡◌, ℕ, ◌-◌, ◌<◌, Bool, not, ◌&&◌, ◌||◌, ◌==◌, List, get_or, bit_and}
+use Rattle.std.specs.Prelude.{ℕ, zero, suc, ◌-◌, Bool, not, ◌&&◌, ◌||◌, ◌==◌, List, get_or, bit_and}
 use Rattle.bus_word.specs.declared.cell.Cell.{Cell}
 use Rattle.bus_word.specs.declared.cell.Cell.TheVariants.{OwnReceive, OwnTransmit, BroadReceive, OwnMode, BroadMode}
 use Rattle.bus_word.specs.Cell.{is_allowed}
-use Rattle.profile_types.specs.declared.entries.Rule.{Rule}
-use Rattle.profile_types.specs.Last.{last_of}
 use Rattle.bus_word.specs.Mask.{has_bit}
 use Rattle.bus_legal.specs.declared.tables.Tables.{Tables}
 use Rattle.bus_legal.specs.declared.tables.TheConstants.{OWN_CODES, BROADCAST_CODES, REQUIRED_CODES}
-use Rattle.bus_legal.specs.Legal.{rule_says}
 use Rattle.bus_legal.specs.Reach.{largest_count, any_to}
 
 -- the mask of a subaddress, from 1, has the bit of a word count, from 1
@@ -35,9 +32,10 @@ is_own_mask mask = (bit_and mask OWN_CODES == mask) && (bit_and mask REQUIRED_CO
 abbrev pub is_broadcast_mask : ℕ → Bool
 is_broadcast_mask mask = bit_and mask BROADCAST_CODES == mask
 
--- the mask of a subaddress, from 1
+-- the mask of a subaddress, from 1; at 0 there is none, and no word count is legal
 abbrev pub mask_at : List ℕ → ℕ → ℕ
-mask_at masks subaddress = get_or masks (subaddress - 1) 0
+mask_at masks zero = 0
+mask_at masks (suc s) = get_or masks s 0
 
 -- the largest word count in a mask, or 0 where there is none
 abbrev pub largest_in : ℕ → ℕ

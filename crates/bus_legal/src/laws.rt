@@ -1,5 +1,5 @@
 //! Laws over the definitions. Each is a function that does nothing, and whose contract is the law.
-ghost use Rattle.std.specs.Prelude.{◌≡◌, ◌≤◌, ◌==◌, ℕ, List, Bool, true};
+ghost use Rattle.std.specs.Prelude.{◌≡◌, ◌↔◌, ◌≤◌, ◌==◌, ℕ, List, Bool, true};
 ghost use Rattle.bus_word.specs.declared.cell.Cell.{Cell};
 ghost use Rattle.bus_word.specs.declared.cell.Cell.TheVariants.{OwnMode};
 ghost use Rattle.bus_word.specs.Cell.{is_allowed};
@@ -15,7 +15,7 @@ ghost use Rattle.bus_legal.specs.Legal.{is_legal};
 ghost use Rattle.bus_legal.specs.Meaning.{description_of, SetsUp};
 ghost use Rattle.bus_legal.specs.Reach.{is_heard, transmits_at, receives_at, reach};
 ghost use Rattle.bus_legal.specs.Tables.{tables_say};
-ghost use Rattle.bus_legal.specs.Parts.{Parts, parts_of, description_in, IsNormal};
+ghost use Rattle.bus_legal.specs.Parts.{Parts, parts_of, description_in, AreInRange, AreReached, IsNormal};
 
 /// Every legal cell is one that some command has.
 pub fn legal_cells_are_allowed()
@@ -59,12 +59,12 @@ pub fn reach_keeps_shown_wraparound()
         → transmits_at P s n ≡ true → 1 ≤ n → n ≤ 32 → (s == (reach P).wrap) ≡ (s == P.wrap) }
 {}
 
-/// A terminal that is set up by a profile, with a legality that is the profile's, has in reach what
-/// the profile's description has.
+/// A terminal that is set up by a profile, with a legality that is the profile's, is described as the
+/// profile is.
 pub fn set_up_by_profile()
     ensures { (p : Profile) (setup : Setup) (means : Cell → Bool) → SetsUp p setup
         → ((cell : Cell) → means cell ≡ is_legal p.rules p.modes cell)
-        → reach (described setup means) ≡ reach (description_of p) }
+        → described setup means ≡ description_of p }
 {}
 
 /// All of a `Normal` can be reached.
@@ -72,14 +72,21 @@ pub fn normal_is_reached()
     ensures { (v : Parts) → IsNormal v → reach (description_in v) ≡ description_in v }
 {}
 
+/// A `Normal` is what is its own reached part, with the own mode codes legal that must be, among the
+/// parts within their ranges.
+pub fn normals_are_reached()
+    ensures in_range { (v : Parts) → IsNormal v → AreInRange v }
+    ensures exactly { (v : Parts) → AreInRange v → IsNormal v ↔ AreReached v }
+{}
+
 /// In every `Normal` the own mode codes that must be legal are.
 pub fn normal_has_required_codes()
     ensures { (v : Parts) → IsNormal v → (code : ℕ) → is_required_code code ≡ true → tables_say v.tables (OwnMode code) ≡ true }
 {}
 
-/// A terminal that is set up by a `Normal`, with its legality, has just its description in reach.
+/// A terminal that is set up by a `Normal`, with its legality, is described as the `Normal` is.
 pub fn set_up_by_normal()
-    ensures { (v : Parts) (setup : Setup) → IsNormal v → parts_of setup v.tables ≡ v → reach (described setup (tables_say v.tables)) ≡ description_in v }
+    ensures { (v : Parts) (setup : Setup) → parts_of setup v.tables ≡ v → described setup (tables_say v.tables) ≡ description_in v }
 {}
 
 /// `Normal`s that describe the same are the same.

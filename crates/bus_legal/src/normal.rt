@@ -22,15 +22,15 @@ pub struct Normal {
 }
 
 impl Model for Normal {
-    ghost use Rattle.bus_legal.specs.Parts.{Parts};
+    ghost use Rattle.bus_legal.specs.Parts.{Parts, parts_of, IsNormal};
 
     ghost Value = { Parts };
 
-    ghost use Rattle.bus_legal.specs.inner.NormalView.{parts_inside, inside_of, IsNormalInside, inside_again};
+    ghost use Rattle.bus_legal.specs.inner.NormalView.{inside_of, inside_again};
 
-    ghost view = { parts_inside };
+    ghost view = { λ normal. parts_of normal.setup normal.tables };
 
-    ghost invariant = { IsNormalInside };
+    ghost invariant = { λ normal. IsNormal (parts_of normal.setup normal.tables) };
 
     ghost inverse = { inside_of };
 

@@ -5,7 +5,7 @@ use Rattle.std.proofs.lemmas.Bool.Decides.{nat_tests}
 use Rattle.bus_word.specs.declared.word.Bus.{Bus}
 use Rattle.bus_word.specs.declared.word.Kind.TheVariants.{Com, Dat}
 use Rattle.bus_word.specs.declared.cell.Cell.{Cell}
-use Rattle.bus_word.specs.declared.cell.Cell.TheVariants.{OwnTransmit}
+use Rattle.bus_word.specs.declared.cell.Cell.TheVariants.{OwnReceive, OwnTransmit, BroadReceive, OwnMode, BroadMode}
 use Rattle.bus_word.specs.Cell.{is_data_place}
 use Rattle.bus_word.specs.Status.{status_word}
 use Rattle.bus_legal.specs.Description.{Description}
@@ -14,7 +14,7 @@ use Rattle.terminal_rules.specs.declared.event.Event.TheVariants.{Slot}
 use Rattle.terminal_rules.specs.History.{Replying, Noted, Nothing}
 use Rattle.terminal_rules.specs.Open.{open_now}
 use Rattle.terminal_rules.specs.Reply.{words_after_status, reply_now}
-use Rattle.terminal_rules.specs.SinceReset.{sends_reset, is_reset_cell, held_now}
+use Rattle.terminal_rules.specs.SinceReset.{is_status_of_reset, held_now}
 use Rattle.terminal_rules.specs.Status.{kept_now}
 use Rattle.terminal_rules.specs.Past.{past, history_after}
 use Rattle.terminal_rules.specs.Out.{sending, sending_out, sends, SendsWord, out}
@@ -38,9 +38,13 @@ not_first : (m : ℕ) → (suc m == 0) ≡ false
 not_first m = grind (arith, nat_tests)
 
 -- behind a slot no status is sent, and so none of a reset
-no_status : (cell : Option Cell) (m : ℕ) → sends_reset (suc m) cell ≡ false
+no_status : (cell : Option Cell) (m : ℕ) → is_status_of_reset (suc m) cell ≡ false
 no_status None m = refl
-no_status (Some c) m = ap (λ t. t && is_reset_cell c) (not_first m)
+no_status (Some (OwnReceive s n)) m = refl
+no_status (Some (OwnTransmit s n)) m = refl
+no_status (Some (BroadReceive s n)) m = refl
+no_status (Some (OwnMode code)) m = ap (λ t. t && (code == 8)) (not_first m)
+no_status (Some (BroadMode code)) m = refl
 
 never_resets : (r : Option Replying) → resets_next (sent_one r) ≡ false
 never_resets None = refl

@@ -1,10 +1,12 @@
 -- A terminal that stands at a history stands, after an event, at the history followed by that event.
-use Rattle.std.proofs.Common.{◌≡◌, ℕ, Bool, true, false, not, ◌&&◌, ◌||◌, ◌==◌, if◌then◌else◌, Option, Some, None, List, [], ◌∷◌, refl, ap, sym, ◌∙◌}
+use Rattle.std.proofs.lemmas.Bool.Decides.{nat_tests}
+use Rattle.std.proofs.Common.{◌≡◌, ◌≤◌, arith, ℕ, Bool, true, false, not, ◌&&◌, ◌||◌, ◌==◌, if◌then◌else◌, Option, Some, None, List, [], ◌∷◌, refl, ap, sym, ◌∙◌}
 use Rattle.bus_word.specs.declared.word.Bus.{Bus}
 use Rattle.bus_word.specs.declared.word.Bus.TheVariants.{A, B}
 use Rattle.bus_word.specs.declared.word.Raw.{Raw}
 use Rattle.bus_word.specs.declared.cell.Cell.{Cell}
-use Rattle.bus_legal.specs.Description.{Description}
+use Rattle.bus_word.specs.Cell.{is_data_place}
+use Rattle.bus_legal.specs.Description.{Description, word_at, words_at_places}
 use Rattle.terminal_rules.specs.Place.{Place}
 use Rattle.terminal_rules.specs.declared.event.Flag.{Flag}
 use Rattle.terminal_rules.specs.declared.event.Event.{Event}
@@ -17,9 +19,9 @@ use Rattle.terminal_rules.specs.Buses.{same_bus}
 use Rattle.terminal_rules.specs.declared.event.Flag.TheVariants.{Busy}
 use Rattle.terminal_rules.specs.LookBack.{latest, or_else, since}
 use Rattle.terminal_rules.specs.History.{Replying, NoTurn, Ignored, Noted, noted_as, Ending, Nothing}
-use Rattle.terminal_rules.specs.Reply.{begun, begins_reply, reply_of, reply_now, replies_on, ignores}
+use Rattle.terminal_rules.specs.Reply.{begun, begins_reply, reply_of, reply_now, ignores}
 use Rattle.terminal_rules.specs.Flags.{flag_now}
-use Rattle.terminal_rules.specs.Turn.{is_answered, done_cell, turn_of_entry, turn_of_gap, turn_of_slot}
+use Rattle.terminal_rules.specs.Turn.{is_answered, done_cell, turn_of_gap, turn_of_slot, unless_ignored_turn}
 use Rattle.terminal_rules.specs.Open.{Open, Closed, First, open_now}
 use Rattle.terminal_rules.specs.Starts.{is_for, is_free, is_fresh_broadcast, starts_message, heard_now}
 use Rattle.terminal_rules.specs.Ends.{at_gap, at_entry, unless_ignored}
@@ -28,7 +30,7 @@ use Rattle.terminal_rules.specs.Status.{spares, adds_error}
 use Rattle.terminal_rules.specs.Past.{note, past}
 use Rattle.terminal_state.specs.inner.Standing.{Standing, Idle, Collects, Words, standing_of, word_leaves, entry_leaves, entry_fails, fails, gap_leaves, gap_ends, stands_free, starts_by}
 use Rattle.terminal_state.specs.inner.Registers.{registers_now, registers_after, flags_after, failed_by, started_if, settled, reset_if}
-use Rattle.terminal_rules.specs.inner.Steps.{unless_reset, resets_at_gap, sent_one, resets_next, begun_if, dropped_if}
+use Rattle.terminal_rules.specs.inner.Steps.{replies_on, unless_reset, resets_at_gap, sent_one, resets_next, begun_if, dropped_if}
 use Rattle.terminal_state.specs.inner.Replies.{shown_reply}
 use Rattle.terminal_state.specs.inner.Buses.{on_bus, with_bus}
 use Rattle.terminal_state.specs.inner.Message.{standing_on}
@@ -59,14 +61,14 @@ abbrev word_noted : Description → List Noted → Bus → Raw → Noted
 word_noted P h b w = noted_as (Word b w) NoTurn (word_starts P h b w) (at_entry (Some w) (open_now P h b))
 
 word_is : (P : Description) (h : List Noted) (b : Bus) (w : Raw) → replies_on h b ≡ false → note P h (Word b w) ≡ word_noted P h b w
-word_is P h b w e = ap (λ i. noted_as (Word b w) (turn_of_entry i) (not i && word_starts P h b w) (unless_ignored i (at_entry (Some w) (open_now P h b)))) e
+word_is P h b w e = ap (λ i. noted_as (Word b w) (unless_ignored_turn i NoTurn) (not i && word_starts P h b w) (unless_ignored i (at_entry (Some w) (open_now P h b)))) e
 
 -- noise that isn't ignored
 abbrev noise_noted : Description → List Noted → Bus → Noted
 noise_noted P h b = noted_as (Noise b) NoTurn false (at_entry None (open_now P h b))
 
 noise_is : (P : Description) (h : List Noted) (b : Bus) → replies_on h b ≡ false → note P h (Noise b) ≡ noise_noted P h b
-noise_is P h b e = ap (λ i. noted_as (Noise b) (turn_of_entry i) false (unless_ignored i (at_entry None (open_now P h b)))) e
+noise_is P h b e = ap (λ i. noted_as (Noise b) (unless_ignored_turn i NoTurn) false (unless_ignored i (at_entry None (open_now P h b)))) e
 
 off_law : (P : Description) (h : List Noted) (b : Bus) → off_now h b ≡ on_bus b (registers_now P h).off
 off_law P h A = refl
@@ -82,7 +84,7 @@ begins_by P h b = is_answered (on_bus b (registers_now P h).off) (gap_by P h b)
 gap_is : (P : Description) (h : List Noted) (b : Bus) → replies_on h b ≡ false → note P h (Gap b) ≡ gap_as b (begins_by P h b) (gap_by P h b)
 gap_is P h b e =
     let x : Ending = at_gap P (flag_now h Busy) (open_now P h b) in
-    ap (λ i. noted_as (Gap b) (turn_of_gap i b (is_answered (off_now h b) (unless_ignored i x)) (done_cell (unless_ignored i x))) false (unless_ignored i x)) e
+    ap (λ i. noted_as (Gap b) (unless_ignored_turn i (turn_of_gap b (is_answered (off_now h b) (unless_ignored i x)) (done_cell (unless_ignored i x)))) false (unless_ignored i x)) e
     ∙ (λ j. gap_as b (is_answered (off_law P h b j) (gap_ends_law P (flag_now h Busy) (open_now P h b) j)) (gap_ends_law P (flag_now h Busy) (open_now P h b) j))
 
 heard_word_by : (P : Description) (h : List Noted) (b : Bus) (w : Raw) → heard_on_buses P (word_noted P h b w ∷ h) ≡ heard_after_word P b w (heard_on_buses P h)
@@ -253,6 +255,13 @@ hears : {L : Type 0} (is_legal : L → Cell → Bool) (P : Description) (h : Lis
     ignores (shown_reply t.reply) e ≡ false → ignores (reply_now (past P h)) e ≡ false
 hears is_legal P h e t s i = ap (λ r. ignores r e) (sym s.reply) ∙ i
 
+-- the word at a place of data
+pub at_place : (words : List (List ℕ)) (s i : ℕ) → 1 ≤ s → s ≤ 30 → 1 ≤ i → i ≤ 32 → words_at_places words s i ≡ word_at words s i
+at_place words s i low high first last = ap (λ t. if t then word_at words s i else 0) (is_place s i low high first last)
+  where
+    is_place : (s i : ℕ) → 1 ≤ s → s ≤ 30 → 1 ≤ i → i ≤ 32 → is_data_place s i ≡ true
+    is_place s i low high first last = grind (arith, nat_tests)
+
 pub word_stands : {L : Type 0} (is_legal : L → Cell → Bool) (P : Description) (h : List Event) (b : Bus) (w : Raw) (t u : Terminal L) → ignores (shown_reply t.reply) (Word b w) ≡ false →
     StandsAt is_legal P h t → TakesWord is_legal b w t u → StandsAt is_legal P (Word b w ∷ h) u
 word_stands is_legal P h b w t u i s k =
@@ -321,7 +330,7 @@ gap_stands is_legal P h b t u i s k =
           ∙ sym (reply_gap P (past P h) b e));
       held = λ m i low high first last.
           k.held m i low high first last
-          ∙ ((λ j. held_by (s.description j) m i (Gap b) (resets_at_gap (begins j) (ends j)) (ends j) (s.held m i low high first last j))
+          ∙ ((λ j. unless_reset (resets_at_gap (begins j) (ends j)) ((sym (at_place t.held.initial m i low high first last) ∙ ap (λ D. D.initial m i) s.description) j) (wrapped (s.description j).wrap m i (ends j)) (s.held m i low high first last j))
           ∙ sym (held_gap_law P (past P h) b m i e));
     }
 
@@ -348,7 +357,7 @@ slot_stands is_legal P h t u s k = record {
   reply = k.reply ∙ (ap sent_one s.reply ∙ sym (reply_slot_law (past P h) (reply_now (past P h)) Nothing));
   held = λ m i low high first last.
       k.held m i low high first last
-      ∙ ((λ j. if resets_next (s.reply j) then (s.description j).initial m i else s.held m i low high first last j)
+      ∙ ((λ j. if resets_next (s.reply j) then (sym (at_place t.held.initial m i low high first last) ∙ ap (λ D. D.initial m i) s.description) j else s.held m i low high first last j)
       ∙ sym (held_slot_law P (past P h) m i));
 }
 
@@ -433,11 +442,11 @@ ignored_gap : (h : List Noted) (b : Bus) → reply_now (noted_as (Gap b) Ignored
 ignored_gap h b = elim (latest (λ p. begun p.turn) h) as (λ o. reply_of (noted_as (Gap b) Ignored false Nothing ∷ since begins_reply h) o ≡ reply_of (since begins_reply h) o) [ None ↦ refl | Some r ↦ refl ]
 
 ignored_is : (P : Description) (h : List Noted) (e : Event) → ignores (reply_now h) e ≡ true → note P h e ≡ noted_as e Ignored false Nothing
-ignored_is P h (Word b w) e = ap (λ i. noted_as (Word b w) (turn_of_entry i) (not i && word_starts P h b w) (unless_ignored i (at_entry (Some w) (open_now P h b)))) e
-ignored_is P h (Noise b) e = ap (λ i. noted_as (Noise b) (turn_of_entry i) false (unless_ignored i (at_entry None (open_now P h b)))) e
+ignored_is P h (Word b w) e = ap (λ i. noted_as (Word b w) (unless_ignored_turn i NoTurn) (not i && word_starts P h b w) (unless_ignored i (at_entry (Some w) (open_now P h b)))) e
+ignored_is P h (Noise b) e = ap (λ i. noted_as (Noise b) (unless_ignored_turn i NoTurn) false (unless_ignored i (at_entry None (open_now P h b)))) e
 ignored_is P h (Gap b) e =
     let x : Ending = at_gap P (flag_now h Busy) (open_now P h b) in
-    ap (λ i. noted_as (Gap b) (turn_of_gap i b (is_answered (off_now h b) (unless_ignored i x)) (done_cell (unless_ignored i x))) false (unless_ignored i x)) e
+    ap (λ i. noted_as (Gap b) (unless_ignored_turn i (turn_of_gap b (is_answered (off_now h b) (unless_ignored i x)) (done_cell (unless_ignored i x)))) false (unless_ignored i x)) e
 ignored_is P h (Write q v) e = cc
 ignored_is P h (Vector v) e = cc
 ignored_is P h (Bit v) e = cc

@@ -1,15 +1,20 @@
 -- Laws of what a script says that states its answers.
-use Rattle.std.proofs.Common.{ℕ, ◌≡◌, ◌≢◌, ◌∙◌, ◌+◌, ◌-◌, ◌<◌, ◌≤◌, List, [], ◌∷◌, ◌++◌, Some, None, Ok, length, get_or, take, drop, refl, sym, ap, arith}
-use Rattle.std.proofs.lemmas.List.{take_all, drop_all, length-drop}
+use Rattle.std.proofs.Common.{ℕ, ◌≡◌, ◌≢◌, ◌∙◌, ◌+◌, ◌-◌, ◌<◌, ◌≤◌, Bool, true, false, ◌&&◌, cond, nat_le, nat_lt, List, [], ◌∷◌, ◌++◌, Option, Some, None, Result, Ok, Err, length, map, get_or, take, drop, refl, sym, ap, arith, append_assoc, append-nil, codes, ⊎_elim}
+use Rattle.std.proofs.lemmas.Bool.{cases_lt}
+use Rattle.std.proofs.lemmas.Bool.Decides.{nat_tests}
+use Rattle.std.proofs.lemmas.List.{take_all, drop_all, length-drop, map-append}
 use Rattle.terminal_rules.specs.declared.event.Event.{Event}
 use Rattle.line_format.specs.Front.{after}
 use Rattle.line_format.proofs.Digits.{after-is}
+use Rattle.bus_script.specs.declared.line.LineFault.{LineFault}
 use Rattle.bus_script.specs.Line.{meaning}
 use Rattle.bus_script.specs.Text.{lines_of}
 use Rattle.bus_script.specs.Reading.{Reading, reading, adds, nothing, then_reads}
-use Rattle.bus_script.specs.inner.Lines.{Means}
 use Rattle.bus_script.proofs.LineLaws.{line_at, lines-line, lines-last, no_line_feed}
 use Rattle.bus_script.proofs.ReadingLaws.{reading-line, adds-adds}
+use Rattle.rt1553_verify.specs.declared.stated.StatedFault.{StatedFault}
+use Rattle.rt1553_verify.specs.declared.stated.StatedFault.TheVariants.{LongLine, TooLong}
+use Rattle.rt1553_verify.specs.Stated.{StatedEvent, Latest, After, event_of, is_empty, states_answer, can_answer, states, goes_on, with_line_feed, ended, stays, or_misplaced, plain, by_going_on, by_answer, line_says, then_events, then_lines, stated_by}
 
 -- the first line of a text with a line feed at i
 pub first-with_feed : (bytes : List ℕ) (i : ℕ) → i < length bytes → ((k : ℕ) → k < i → get_or bytes k 0 ≢ 10) → get_or bytes i 0 ≡ 10
@@ -37,28 +42,173 @@ comment-means : (line : List ℕ) → meaning (35 ∷ line) ≡ Ok None
 unfolding meaning
 comment-means line = refl
 
-pub stated-means : (c : ℕ) (line rest : List ℕ) (lines : ℕ) → after (35 ∷ c ∷ 32 ∷ []) line ≡ Some rest → Means meaning line lines []
-stated-means c line rest lines is r =
-    ap (λ xs. then_reads (meaning xs) lines r) (after-is (35 ∷ c ∷ 32 ∷ []) line rest is)
-    ∙ ap (λ m. then_reads m lines r) (comment-means (c ∷ 32 ∷ rest))
+pub stated-means : (c : ℕ) (line rest : List ℕ) → after (35 ∷ c ∷ 32 ∷ []) line ≡ Some rest → meaning line ≡ Ok None
+stated-means c line rest is = ap meaning (after-is (35 ∷ c ∷ 32 ∷ []) line rest is) ∙ comment-means (c ∷ 32 ∷ rest)
+
+-- ---- line by line
+
+abbrev Said : Type 0
+Said = Result (List StatedEvent) StatedFault
+
+pub then-twice : (es fs : List StatedEvent) (later : Said) → then_events es (then_events fs later) ≡ then_events (es ++ fs) later
+then-twice es fs (Ok later) = ap Ok (sym (append_assoc es fs later))
+then-twice es fs (Err fault) = refl
+
+-- a line in its place and of its length
+pub stated-line : (n : ℕ) (latest : Latest) (line : List ℕ) (lines : List (List ℕ)) → n < 1048576 → length line ≤ 64
+    → stated_by n latest (line ∷ lines) ≡ then_lines (line_says (n + 1) latest line) (λ l. stated_by (n + 1) l lines)
+unfolding stated_by
+stated-line n latest line lines few short = grind (arith, nat_tests)
+
+stated-too_long : (n : ℕ) (latest : Latest) (line : List ℕ) (lines : List (List ℕ)) → 1048576 ≤ n → stated_by n latest (line ∷ lines) ≡ Err TooLong
+unfolding stated_by
+stated-too_long n latest line lines many = grind (arith, nat_tests)
+
+stated-long_line : (n : ℕ) (latest : Latest) (line : List ℕ) (lines : List (List ℕ)) → n < 1048576 → 64 < length line
+    → stated_by n latest (line ∷ lines) ≡ Err (LongLine (n + 1))
+unfolding stated_by
+stated-long_line n latest line lines few long = grind (arith, nat_tests)
 
 -- one line more was read
-pub reads_on : (lines : ℕ) (rest line more : List ℕ) (old es new : List Event) (all : Reading)
-    → lines < 1048576 → length line ≤ 64 → lines_of rest ≡ line ∷ lines_of more → Means meaning line lines es → new ≡ old ++ es
-    → all ≡ adds old (reading meaning lines (lines_of rest)) → all ≡ adds new (reading meaning (lines + 1) (lines_of more))
-reads_on lines rest line more old es new all few short first means grown before =
-    let after = reading meaning (lines + 1) (lines_of more) in
+pub stated_on : (n : ℕ) (rest line more : List ℕ) (latest now : Latest) (old es new : List StatedEvent) (all : Said)
+    → n < 1048576 → length line ≤ 64 → lines_of rest ≡ line ∷ lines_of more
+    → line_says (n + 1) latest line ≡ Ok (record { events = es; latest = now }) → new ≡ old ++ es
+    → all ≡ then_events old (stated_by n latest (lines_of rest)) → all ≡ then_events new (stated_by (n + 1) now (lines_of more))
+stated_on n rest line more latest now old es new all few short first says grown before =
+    let later : Said = stated_by (n + 1) now (lines_of more) in
     before
-    ∙ ap (λ ls. adds old (reading meaning lines ls)) first
-    ∙ ap (adds old) (reading-line meaning lines line (lines_of more) few short ∙ means after)
-    ∙ adds-adds old es after
-    ∙ ap (λ xs. adds xs after) (sym grown)
+    ∙ ap (λ ls. then_events old (stated_by n latest ls)) first
+    ∙ ap (then_events old) (stated-line n latest line (lines_of more) few short ∙ ap (λ s. then_lines s (λ l. stated_by (n + 1) l (lines_of more))) says)
+    ∙ then-twice old es later
+    ∙ ap (λ xs. then_events xs later) (sym grown)
 
-nothing_more : (lines : ℕ) → reading meaning lines (lines_of []) ≡ nothing
-unfolding reading lines_of
-nothing_more lines = refl
+-- a line is refused
+pub stated_stops : (n : ℕ) (rest line more : List ℕ) (latest : Latest) (old : List StatedEvent) (all : Said) (fault : StatedFault)
+    → n < 1048576 → length line ≤ 64 → lines_of rest ≡ line ∷ lines_of more → line_says (n + 1) latest line ≡ Err fault
+    → all ≡ then_events old (stated_by n latest (lines_of rest)) → all ≡ Err fault
+stated_stops n rest line more latest old all fault few short first says before =
+    before
+    ∙ ap (λ ls. then_events old (stated_by n latest ls)) first
+    ∙ ap (then_events old) (stated-line n latest line (lines_of more) few short ∙ ap (λ s. then_lines s (λ l. stated_by (n + 1) l (lines_of more))) says)
 
-pub read_all : (lines : ℕ) (rest : List ℕ) (events : List Event) (all : Reading)
-    → length rest ≡ 0 → all ≡ adds events (reading meaning lines (lines_of rest)) → all ≡ adds events nothing
-read_all lines [] events all none before = before ∙ ap (adds events) (nothing_more lines)
-read_all lines (b ∷ rest) events all none before = absurd (omega (arith, none))
+pub stated_many : (n : ℕ) (rest line more : List ℕ) (latest : Latest) (old : List StatedEvent) (all : Said)
+    → 1048576 ≤ n → lines_of rest ≡ line ∷ lines_of more → all ≡ then_events old (stated_by n latest (lines_of rest)) → all ≡ Err TooLong
+stated_many n rest line more latest old all many first before =
+    before ∙ ap (λ ls. then_events old (stated_by n latest ls)) first ∙ ap (then_events old) (stated-too_long n latest line (lines_of more) many)
+
+pub stated_long : (n : ℕ) (rest line more : List ℕ) (latest : Latest) (old : List StatedEvent) (all : Said)
+    → n < 1048576 → 64 < length line → lines_of rest ≡ line ∷ lines_of more
+    → all ≡ then_events old (stated_by n latest (lines_of rest)) → all ≡ Err (LongLine (n + 1))
+stated_long n rest line more latest old all few long first before =
+    before ∙ ap (λ ls. then_events old (stated_by n latest ls)) first ∙ ap (then_events old) (stated-long_line n latest line (lines_of more) few long)
+
+pub stated-none : (n : ℕ) (latest : Latest) → stated_by n latest (lines_of []) ≡ Ok (ended latest)
+unfolding stated_by lines_of
+stated-none n latest = refl
+
+-- all lines were read
+pub stated_all : (n : ℕ) (rest : List ℕ) (latest : Latest) (old new : List StatedEvent) (all : Said)
+    → length rest ≡ 0 → new ≡ old ++ ended latest → all ≡ then_events old (stated_by n latest (lines_of rest)) → all ≡ Ok new
+stated_all n [] latest old new all none grown before = before ∙ ap (then_events old) (stated-none n latest) ∙ ap Ok (sym grown)
+stated_all n (b ∷ rest) latest old new all none grown before = absurd (omega (arith, none))
+
+-- ---- the events are those that a run reads
+
+-- the events of a line: those that a run reads there, behind the latest
+record Line (n : ℕ) (latest : Latest) (line : List ℕ) (after : After) : Type 0 where
+  events : List Event
+  means : (r : Reading) → then_reads (meaning line) n r ≡ adds events r
+  are : map event_of after.events ++ map event_of (ended after.latest) ≡ map event_of (ended latest) ++ events
+
+-- a line that states an answer says no event
+stays-line : (n m : ℕ) (latest : Latest) (o : Option StatedEvent) (line : List ℕ) (after : After) → meaning line ≡ Ok None
+    → ((s : StatedEvent) → o ≡ Some s → map event_of (ended (Some s)) ≡ map event_of (ended latest)) → or_misplaced m o ≡ Ok after → Line n latest line after
+stays-line n m latest None line after comment same e = absurd (cc)
+stays-line n m latest (Some s) line after comment same e = let is : after ≡ stays (Some s) = cc in record {
+  events = [];
+  means = λ r. ap (λ x. then_reads x n r) comment;
+  are = ap (λ a. map event_of a.events ++ map event_of (ended a.latest)) is ∙ same s refl ∙ sym (append-nil _);
+}
+
+states-event : (latest : Latest) (line : List ℕ) (s : StatedEvent) → states latest line ≡ Some s → map event_of (ended (Some s)) ≡ map event_of (ended latest)
+states-event None line s e = absurd (cc)
+states-event (Some l) line s e = pick (is_empty l.answer && can_answer l.event line) e
+  where
+    pick : (b : Bool) → cond b (Some (record l { answer = line })) None ≡ Some s → map event_of (ended (Some s)) ≡ map event_of (ended (Some l))
+    pick true e = let is : s ≡ record l { answer = line } = cc in ap (λ x. event_of x ∷ []) is
+    pick false e = absurd (cc)
+
+goes_on-event : (latest : Latest) (rest : List ℕ) (s : StatedEvent) → goes_on latest rest ≡ Some s → map event_of (ended (Some s)) ≡ map event_of (ended latest)
+goes_on-event None rest s e = absurd (cc)
+goes_on-event (Some l) rest s e = pick (states_answer l) e
+  where
+    pick : (b : Bool) → cond b (Some (record l { answer = l.answer ++ 32 ∷ rest })) None ≡ Some s → map event_of (ended (Some s)) ≡ map event_of (ended (Some l))
+    pick true e = let is : s ≡ record l { answer = l.answer ++ 32 ∷ rest } = cc in ap (λ x. event_of x ∷ []) is
+    pick false e = absurd (cc)
+
+plain-line : (n m : ℕ) (latest : Latest) (x : Result (Option Event) LineFault) (line : List ℕ) (after : After) → meaning line ≡ x → plain m latest x ≡ Ok after → Line n latest line after
+plain-line n m latest (Err fault) line after says e = absurd (cc)
+plain-line n m latest (Ok None) line after says e = let is : after ≡ stays latest = cc in record {
+  events = [];
+  means = λ r. ap (λ x. then_reads x n r) says;
+  are = ap (λ a. map event_of a.events ++ map event_of (ended a.latest)) is ∙ sym (append-nil _);
+}
+plain-line n m latest (Ok (Some event)) line after says e =
+    let is : after ≡ record { events = ended latest; latest = Some (record { line = m; event = event; answer = [] }) } = cc in record {
+      events = event ∷ [];
+      means = λ r. ap (λ x. then_reads x n r) says;
+      are = ap (λ a. map event_of a.events ++ map event_of (ended a.latest)) is;
+    }
+
+says-line : (n m : ℕ) (latest : Latest) (line : List ℕ) (result : After) → line_says m latest line ≡ Ok result → Line n latest line result
+says-line n m latest line result e = first (after (codes "#> ") line) refl e
+  where
+    second : (o : Option (List ℕ)) → after (codes "#+ ") line ≡ o → by_going_on m latest line o ≡ Ok result → Line n latest line result
+    second None is e = plain-line n m latest (meaning line) line result refl e
+    second (Some rest) is e = stays-line n m latest (goes_on latest rest) line result (stated-means 43 line rest is) (goes_on-event latest rest) e
+
+    first : (o : Option (List ℕ)) → after (codes "#> ") line ≡ o → by_answer m latest line o ≡ Ok result → Line n latest line result
+    first None is e = second (after (codes "#+ ") line) refl e
+    first (Some answer) is e = stays-line n m latest (states latest answer) line result (stated-means 62 line answer is) (states-event latest answer) e
+
+-- the events of lines, behind the latest, are those that a run reads
+abbrev AreRead : ℕ → Latest → List (List ℕ) → List StatedEvent → Type 0
+AreRead n latest lines ss = (events : List Event) × (map event_of ss ≡ map event_of (ended latest) ++ events) × (reading meaning n lines ≡ adds events nothing)
+
+are_read : (n : ℕ) (latest : Latest) (lines : List (List ℕ)) (ss : List StatedEvent) → stated_by n latest lines ≡ Ok ss → AreRead n latest lines ss
+unfolding stated_by reading
+are_read n latest [] ss e = let is : ss ≡ ended latest = cc in ([], ap (map event_of) is ∙ sym (append-nil _), refl)
+are_read n latest (line ∷ lines) ss e = ⊎_elim (few (λ latest ss is. are_read (n + 1) latest lines ss is)) many (cases_lt n 1048576)
+  where
+    Later : Type 0
+    Later = (latest : Latest) (ss : List StatedEvent) → stated_by (n + 1) latest lines ≡ Ok ss → AreRead (n + 1) latest lines ss
+
+    later : Later → (after : After) (said : Said) → stated_by (n + 1) after.latest lines ≡ said → then_events after.events said ≡ Ok ss
+        → n < 1048576 → length line ≤ 64 → Line n latest line after → AreRead n latest (line ∷ lines) ss
+    later read after (Err fault) is e few short l = absurd (cc)
+    later read after (Ok others) is e few short l =
+        let all : ss ≡ after.events ++ others = cc in
+        let p = read after.latest others is in (
+          l.events ++ p.0,
+          ap (map event_of) all ∙ map-append event_of after.events others ∙ ap (λ xs. map event_of after.events ++ xs) p.1
+              ∙ sym (append_assoc (map event_of after.events) (map event_of (ended after.latest)) p.0)
+              ∙ ap (λ xs. xs ++ p.0) l.are ∙ append_assoc (map event_of (ended latest)) l.events p.0,
+          reading-line meaning n line lines few short ∙ l.means (reading meaning (n + 1) lines) ∙ ap (adds l.events) p.2 ∙ adds-adds l.events p.0 nothing,
+        )
+
+    by_line : Later → (says : Result After StatedFault) → line_says (n + 1) latest line ≡ says → then_lines says (λ l. stated_by (n + 1) l lines) ≡ Ok ss
+        → n < 1048576 → length line ≤ 64 → AreRead n latest (line ∷ lines) ss
+    by_line read (Err fault) is e few short = absurd (cc)
+    by_line read (Ok after) is e few short = later read after (stated_by (n + 1) after.latest lines) refl e few short (says-line n (n + 1) latest line after is)
+
+    short : Later → n < 1048576 → length line ≤ 64 → AreRead n latest (line ∷ lines) ss
+    short read few low = by_line read (line_says (n + 1) latest line) refl (sym (stated-line n latest line lines few low) ∙ e) few low
+
+    few : Later → n < 1048576 → AreRead n latest (line ∷ lines) ss
+    few read low = ⊎_elim (λ s. short read low (omega (arith, s))) (λ long. let no = sym (stated-long_line n latest line lines low (omega (arith, long))) ∙ e in absurd (cc)) (cases_lt (length line) 65)
+
+    many : 1048576 ≤ n → AreRead n latest (line ∷ lines) ss
+    many high = let no = sym (stated-too_long n latest line lines high) ∙ e in absurd (cc)
+
+pub stated-read : (script : List ℕ) (ss : List StatedEvent) → stated_by 0 None (lines_of script) ≡ Ok ss → reading meaning 0 (lines_of script) ≡ adds (map event_of ss) nothing
+stated-read script ss e = let p = are_read 0 None (lines_of script) ss e in p.2 ∙ ap (λ es. adds es nothing) (sym p.1)

@@ -1,2 +1,4 @@
 pub mod Heading
+pub mod Stated
 pub mod Verify
+pub mod inner

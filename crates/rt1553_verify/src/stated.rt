@@ -1,11 +1,11 @@
 //! Scripts that state their answers.
-ghost use Rattle.std.specs.Prelude.{◌≡◌, ◌≢◌, ◌<◌, ◌∷◌, ◌++◌, ℕ, List, length, map, slice_index, filter, IfOk, IfSome, IfNone, OnOk};
-ghost use Rattle.terminal_rules.specs.declared.event.Event.{Event};
+ghost use Rattle.std.specs.Prelude.{◌≡◌, ◌≢◌, ◌<◌, ◌&&◌, ◌∷◌, ◌++◌, ℕ, length, map, option_map, slice_index, filter, Ok, Err, IfOk, IfErr, IfSome, IfNone, OnOk};
 ghost use Rattle.bus_script.specs.Line.{meaning};
 ghost use Rattle.bus_script.specs.Text.{lines_of};
 ghost use Rattle.bus_script.specs.Reading.{reading, adds, nothing};
-ghost use Rattle.bus_script.specs.inner.Lines.{Means};
-ghost use Rattle.rt1553_verify.specs.Verify.{event_of, states_answer};
+ghost use Rattle.rt1553_verify.specs.Stated.{shown, event_of, is_empty, states_answer, can_answer, states, goes_on, ended, stays, or_misplaced, plain, line_says, stated_in};
+ghost use Rattle.rt1553_verify.specs.declared.stated.StatedFault.TheVariants.{Memory};
+ghost use Rattle.rt1553_verify.specs.inner.Says.{Says};
 
 use bus_script::{LineFault, read_event};
 use bus_terminal::Event;
@@ -50,113 +50,129 @@ pub enum StatedFault {
 }
 
 impl From<AllocError> for StatedFault {
+    ghost from_gives = { λ _ fault. fault ≡ Memory };
+
     fn from(_error: AllocError) -> StatedFault {
         StatedFault::Memory
     }
 }
 
 impl<T: Drop> From<AllocFailed<T>> for StatedFault {
+    ghost from_gives = { λ _ fault. fault ≡ Memory };
+
     fn from(_failed: AllocFailed<T>) -> StatedFault {
         StatedFault::Memory
     }
 }
 
 /// Whether the event can be answered by this line: what is handed over answers a gap, and a word that is sent a slot.
-fn can_answer(event: Event, line: &[u8]) -> bool {
+fn can_answer(event: Event, line: &[u8]) -> bool
+    ensures { result ≡ can_answer event line.now }
+{
+    let hands = after(line, b"hand ").is_some();
     match event {
-        Event::Gap(_) => line.starts_with(b"hand "),
-        Event::Slot => !line.is_empty() && !line.starts_with(b"hand "),
+        Event::Gap(_) => hands,
+        Event::Slot => !line.is_empty() && !hands,
         _ => false,
     }
 }
 
-/// Whether the line can be stated as the answer to this event, to which none was stated yet.
-fn is_open_to(latest: &Stated, line: &[u8]) -> bool {
+/// Whether the line can be stated as the answer to this event, of which nothing was stated yet.
+fn is_open_to(latest: &Stated, line: &[u8]) -> bool
+    ensures { result ≡ (is_empty latest.now.answer.items && can_answer latest.now.event line.now) }
+{
     latest.answer.is_empty() && can_answer(latest.event, line)
 }
 
 /// Keeps what a line states of the answer to the latest event.
-fn state(
-    alloc: Global,
-    script: &mut Vec<Stated>,
-    number: u64,
-    line: &[u8],
-) -> Result<(), StatedFault>
-    ensures { OnOk result (map event_of script.new.items ≡ map event_of script.old.items) }
+fn state(latest: Option<Stated>, number: u64, line: &[u8]) -> Result<Option<Stated>, StatedFault>
+    ensures said { IfOk result (λ new. or_misplaced number (states (option_map shown latest) line.now) ≡ Ok (stays (option_map shown new))) }
+    ensures refused { IfErr result (λ fault. fault ≢ StatedFault.Memory → or_misplaced number (states (option_map shown latest) line.now) ≡ Err fault) }
 {
-    let Some(mut latest) = script.pop() else {
+    let Some(mut latest) = latest else {
         return Err(StatedFault::Misplaced(number));
     };
     if !is_open_to(&latest, line) {
         return Err(StatedFault::Misplaced(number));
     }
-    let mut answer = Vec::new(alloc);
-    answer.extend_from_slice(line)?;
-    answer.push(b'\n')?;
-    latest.answer = answer;
-    script.push(latest)?;
-    Ok(())
+    latest.answer.extend_from_slice(line)?;
+    Ok(Some(latest))
 }
 
 /// Keeps how the answer that was stated last goes on.
-fn go_on(script: &mut Vec<Stated>, number: u64, rest: &[u8]) -> Result<(), StatedFault>
-    ensures { OnOk result (map event_of script.new.items ≡ map event_of script.old.items) }
+fn go_on(latest: Option<Stated>, number: u64, rest: &[u8]) -> Result<Option<Stated>, StatedFault>
+    ensures said { IfOk result (λ new. or_misplaced number (goes_on (option_map shown latest) rest.now) ≡ Ok (stays (option_map shown new))) }
+    ensures refused { IfErr result (λ fault. fault ≢ StatedFault.Memory → or_misplaced number (goes_on (option_map shown latest) rest.now) ≡ Err fault) }
 {
-    let Some(mut latest) = script.pop() else {
+    let Some(mut latest) = latest else {
         return Err(StatedFault::Misplaced(number));
     };
-    // the line feed goes, which stands again behind what is added
-    if latest.answer.pop().is_none() {
+    if latest.answer.is_empty() {
         return Err(StatedFault::Misplaced(number));
     }
     latest.answer.push(b' ')?;
     latest.answer.extend_from_slice(rest)?;
-    latest.answer.push(b'\n')?;
-    script.push(latest)?;
+    Ok(Some(latest))
+}
+
+/// Adds the latest event, of which all was stated, to those that were read.
+fn end(read: &mut Vec<Stated>, latest: Option<Stated>) -> Result<(), StatedFault>
+    ensures added { OnOk result (map shown read.new.items ≡ map shown read.old.items ++ ended (option_map shown latest)) }
+    ensures memory { IfErr result (λ fault. fault ≡ StatedFault.Memory) }
+{
+    let Some(mut latest) = latest else {
+        return Ok(());
+    };
+    if !latest.answer.is_empty() {
+        latest.answer.push(b'\n')?;
+    }
+    read.push(latest)?;
     Ok(())
 }
 
-/// Reads a line of a script that states no answer.
+/// Reads a line that states no answer.
 fn read_plain(
     alloc: Global,
-    script: &mut Vec<Stated>,
-    lines: u64,
+    read: &mut Vec<Stated>,
+    latest: Option<Stated>,
+    number: u64,
     line: &[u8],
-) -> Result<(), StatedFault>
-    requires { lines < 1048576 }
-    ensures { OnOk result ((es : List Event) × Means meaning line.now lines es × (map event_of script.new.items ≡ map event_of script.old.items ++ es)) }
+) -> Result<Option<Stated>, StatedFault>
+    ensures said { IfOk result (λ new. Says (plain number (option_map shown latest) (meaning line.now)) read.old.items read.new.items new) }
+    ensures refused { IfErr result (λ fault. fault ≢ StatedFault.Memory → plain number (option_map shown latest) (meaning line.now) ≡ Err fault) }
 {
     match read_event(line) {
         Ok(Some(event)) => {
-            script.push(Stated {
-                line: lines + 1,
+            end(read, latest)?;
+            Ok(Some(Stated {
+                line: number,
                 event,
                 answer: Vec::new(alloc),
-            })?;
-            Ok(())
+            }))
         }
-        Ok(None) => Ok(()),
-        Err(LineFault) => Err(StatedFault::Line(lines + 1)),
+        Ok(None) => Ok(latest),
+        Err(LineFault) => Err(StatedFault::Line(number)),
     }
 }
 
-/// Reads a line of a script, which follows `lines` lines.
+/// Reads a line. Gives the event that is the latest after it.
 fn read_line(
     alloc: Global,
-    script: &mut Vec<Stated>,
-    lines: u64,
+    read: &mut Vec<Stated>,
+    latest: Option<Stated>,
+    number: u64,
     line: &[u8],
-) -> Result<(), StatedFault>
-    requires { lines < 1048576 }
-    ensures { OnOk result ((es : List Event) × Means meaning line.now lines es × (map event_of script.new.items ≡ map event_of script.old.items ++ es)) }
+) -> Result<Option<Stated>, StatedFault>
+    ensures said { IfOk result (λ new. Says (line_says number (option_map shown latest) line.now) read.old.items read.new.items new) }
+    ensures refused { IfErr result (λ fault. fault ≢ StatedFault.Memory → line_says number (option_map shown latest) line.now ≡ Err fault) }
 {
     if let Some(answer) = after(line, b"#> ") {
-        return state(alloc, script, lines + 1, answer);
+        return state(latest, number, answer);
     }
     if let Some(rest) = after(line, b"#+ ") {
-        return go_on(script, lines + 1, rest);
+        return go_on(latest, number, rest);
     }
-    read_plain(alloc, script, lines, line)
+    read_plain(alloc, read, latest, number, line)
 }
 
 /// Gives where the first line feed stands.
@@ -187,11 +203,15 @@ pub fn first_line(bytes: &[u8]) -> (&[u8], &[u8])
 }
 
 /// Reads a script with the answers that it states in comments: `#> LINE` behind the event that LINE answers, and
-/// `#+ REST` behind an answer that goes on with a space and REST. Other comments and empty lines may stand between.
+/// `#+ REST` behind an answer that goes on with a space and REST. Other comments and empty lines may stand between. A script
+/// is refused by its first fault.
 pub fn read_stated(alloc: Global, script: &[u8]) -> Result<Vec<Stated>, StatedFault>
-    ensures events { IfOk result (λ read. reading meaning 0 (lines_of script.now) ≡ adds (map event_of read.items) nothing) }
+    ensures accepted { IfOk result (λ read. stated_in script.now ≡ Ok (map shown read.items)) }
+    ensures refused { IfErr result (λ fault. fault ≢ StatedFault.Memory → stated_in script.now ≡ Err fault) }
+    ensures events { IfOk result (λ read. reading meaning 0 (lines_of script.now) ≡ adds (map event_of (map shown read.items)) nothing) }
 {
     let mut read = Vec::new(alloc);
+    let mut latest = None;
     let mut rest = script;
     let mut lines = 0;
     while !rest.is_empty() {
@@ -202,16 +222,17 @@ pub fn read_stated(alloc: Global, script: &[u8]) -> Result<Vec<Stated>, StatedFa
         if line.len() > MAX_LINE {
             return Err(StatedFault::LongLine(lines + 1));
         }
-        read_line(alloc, &mut read, lines, line)?;
+        latest = read_line(alloc, &mut read, latest, lines + 1, line)?;
         lines += 1;
         rest = more;
     }
+    end(&mut read, latest)?;
     Ok(read)
 }
 
 /// How many events of a script have an answer that is stated.
 pub fn answers_in(script: &[Stated]) -> usize
-    ensures { result ≡ length (filter states_answer script.now) }
+    ensures { result ≡ length (filter (λ stated. states_answer (shown stated)) script.now) }
 {
     script
         .iter()

@@ -1,11 +1,12 @@
 //! What a terminal answers is compared with what a script states.
-ghost use Rattle.std.specs.Prelude.{◌≡◌, ◌∷◌, ◌++◌, [], List, IfOk, OnOk, map};
+ghost use Rattle.std.specs.Prelude.{◌≡◌, ◌≢◌, ◌∷◌, ◌++◌, [], List, Ok, Err, IfOk, IfErr, OnOk, map};
 ghost use Rattle.bus_legal.specs.Description.{Description};
 ghost use Rattle.bus_legal.specs.Parts.{description_in};
 ghost use Rattle.bus_legal.specs.Reach.{reach};
 ghost use Rattle.terminal_rules.specs.declared.event.Event.{Event};
 ghost use Rattle.bus_terminal.specs.Stands.{StandsAt};
-ghost use Rattle.rt1553_verify.specs.Verify.{told, differing_at, differing, Verifies};
+ghost use Rattle.rt1553_verify.specs.Stated.{shown, stated_in};
+ghost use Rattle.rt1553_verify.specs.Verify.{told, differing_at, differing, verified};
 
 use crate::{Stated, StatedFault, read_stated};
 use bus_legal::{Legality, Normal};
@@ -32,7 +33,7 @@ fn compare<L: Legality>(
     found: &mut Vec<Difference>,
 ) -> Result<(), AllocError>
     ensures stands { (P : Description) (h : List Event) → StandsAt L.is_legal P h terminal.old → StandsAt L.is_legal P (stated.now.event ∷ h) terminal.new }
-    ensures told { (P : Description) (h : List Event) → StandsAt L.is_legal P h terminal.old → OnOk result (map told found.new.items ≡ map told found.old.items ++ differing_at P h stated.now) }
+    ensures told { (P : Description) (h : List Event) → StandsAt L.is_legal P h terminal.old → OnOk result (map told found.new.items ≡ map told found.old.items ++ differing_at P h (shown stated.now)) }
 {
     let answer = terminal.step(stated.event);
     let came = write_answer(&answer);
@@ -56,7 +57,7 @@ pub fn differences(
     normal: &Normal,
     script: &[Stated],
 ) -> Result<Vec<Difference>, AllocError>
-    ensures { (P : Description) → description_in normal.now ≡ reach P → IfOk result (λ found. map told found.items ≡ differing P [] script.now) }
+    ensures { (P : Description) → description_in normal.now ≡ reach P → IfOk result (λ found. map told found.items ≡ differing P [] (map shown script.now)) }
 {
     let setup = normal.setup();
     let mut terminal = Terminal::power_up(setup, *normal);
@@ -68,9 +69,10 @@ pub fn differences(
 }
 
 /// Plays a script that states its answers to a terminal from power-up, and tells each event that is not answered so, in
-/// their order. Nothing is told of a script that is refused.
+/// their order. A script is refused by its first fault.
 pub fn verify(alloc: Global, normal: &Normal, script: &[u8]) -> Result<Vec<Difference>, StatedFault>
-    ensures { (P : Description) → description_in normal.now ≡ reach P → IfOk result (λ found. Verifies P script.now (map told found.items)) }
+    ensures tells { (P : Description) → description_in normal.now ≡ reach P → IfOk result (λ found. verified P script.now ≡ Ok (map told found.items)) }
+    ensures refused { IfErr result (λ fault. fault ≢ StatedFault.Memory → stated_in script.now ≡ Err fault) }
 {
     let read = read_stated(alloc, script)?;
     Ok(differences(alloc, normal, read.as_slice())?)

@@ -13,17 +13,16 @@ use Rattle.bus_legal.specs.Parts.{Parts, IsNormal, description_in}
 use Rattle.bus_legal.proofs.SameNormals.{same_normals}
 use Rattle.terminal_rules.specs.History.{Done}
 use Rattle.terminal_rules.specs.Status.{accepts, reports_kept}
-use Rattle.terminal_rules.specs.SinceReset.{is_reset_cell}
 use Rattle.terminal_rules.specs.Same.{AreProper, Same}
 use Rattle.terminal_rules.specs.Out.{outs}
 use Rattle.terminal_rules.proofs.PlaceLaw.{place_some}
 use Rattle.terminal_exchanges.specs.Exchanges.{Exchange}
-use Rattle.terminal_exchanges.specs.inner.ExchangeLaw.{AreAnswered, ending_of_exchange}
+use Rattle.terminal_exchanges.specs.ExchangeLaws.{AreAnswered, ending_of_exchange}
 use Rattle.terminal_exchanges.specs.Sent.{sent_in, sent}
 use Rattle.terminal_exchanges.specs.Distinguish.{all_terminals, receive_zeros, transmit, mode_code, mode_code_with, ask, least_count, receives_own, receives_broadcast, receive_complement, shortest_transmit, sent_back, shown_subaddress}
 use Rattle.terminal_exchanges.proofs.Distinguish.Commands.{IsTo, code_to_all, ask_to_all, moved, known_code}
 use Rattle.terminal_exchanges.proofs.Distinguish.Last.{slot_at, bits_in, is_sent}
-use Rattle.terminal_exchanges.proofs.Distinguish.Own.{ended, own_ends, own_sent, parts_by, status_told, last_command_sent}
+use Rattle.terminal_exchanges.proofs.Distinguish.Own.{is_reset_cell, ended, own_ends, own_sent, parts_by, status_told, last_command_sent}
 use Rattle.terminal_exchanges.proofs.Distinguish.Address.{unmeant_silent, ask_unmeant}
 use Rattle.terminal_exchanges.proofs.Distinguish.Broadcast.{is_of_broadcast, parts_after, broadcast_ends, status_after, status_heard, option_told}
 use Rattle.terminal_exchanges.proofs.Distinguish.Cells.{own_told, broadcast_told}

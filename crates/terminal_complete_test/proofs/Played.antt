@@ -5,7 +5,7 @@ use Rattle.std.proofs.lemmas.Bool.{and_parts}
 use Rattle.bus_word.specs.Cell.{is_data_place}
 use Rattle.bus_legal.specs.Description.{Description}
 use Rattle.terminal_exchanges.specs.Exchanges.{Exchange}
-use Rattle.terminal_exchanges.specs.inner.ExchangeLaw.{AreAnswered}
+use Rattle.terminal_exchanges.specs.ExchangeLaws.{AreAnswered}
 use Rattle.terminal_exchanges.proofs.Distinguish.Said.{all_pass, any, all_any}
 use Rattle.terminal_complete_test.specs.CompleteTest.{each_in, each_place}
 use Rattle.terminal_complete_test.proofs.Walk.{AreSound, sound_join, answered_more, AlikeInEach}

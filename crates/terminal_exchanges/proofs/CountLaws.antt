@@ -1,5 +1,5 @@
 -- The least word count that passes, and that of a mask.
-use Rattle.std.proofs.Common.{◌≡◌, ◌≢◌, ℕ, zero, suc, ◌+◌, ◌-◌, ◌^◌, ◌<◌, ◌≤◌, ◌==◌, Bool, true, false, ◌&&◌, ◌||◌, cond, ◌⊎◌, inl, inr, List, refl, sym, ap, ◌∙◌, arith}
+use Rattle.std.proofs.Common.{◌≡◌, ◌≢◌, ℕ, zero, suc, ◌+◌, ◌-◌, ◌^◌, ◌<◌, ◌≤◌, ◌==◌, Bool, true, false, ◌&&◌, ◌||◌, cond, ◌⊎◌, inl, inr, List, refl, sym, ap, ◌∙◌, arith, get_or}
 use Rattle.std.specs.Int.{bit_at, trailing_zeros, w32}
 use Rattle.std.proofs.lemmas.Bool.{cases_lt}
 use Rattle.std.proofs.lemmas.Bool.Decides.{nat_tests}
@@ -7,7 +7,7 @@ use Rattle.std.proofs.lemmas.Nat.Bits.{bit_at-trailing_zeros, bit_at-zero}
 use Rattle.bus_word.specs.Mask.{has_bit}
 use Rattle.bus_word.specs.Cell.{is_data_place}
 use Rattle.bus_legal.specs.Reach.{any_to}
-use Rattle.bus_legal.specs.Tables.{has_count, mask_at}
+use Rattle.bus_legal.specs.Tables.{has_count}
 use Rattle.bus_legal.proofs.Counts.{any_to-true}
 use Rattle.terminal_exchanges.specs.Distinguish.{least_to, least_count}
 use Rattle.terminal_exchanges.specs.inner.Counts.{least_in}
@@ -68,6 +68,6 @@ place_of : (s n : ℕ) → 1 ≤ s → s ≤ 30 → 1 ≤ n → n ≤ 32 → is_
 place_of s n a b c d = grind (arith, nat_tests)
 
 -- the least legal word count is the least in the mask
-pub least_count-said : (masks : List ℕ) (s : ℕ) → 1 ≤ s → s ≤ 30 → least_count (λ n. is_data_place s n && has_count masks s n) ≡ least_in (mask_at masks s)
+pub least_count-said : (masks : List ℕ) (s : ℕ) → 1 ≤ s → s ≤ 30 → least_count (λ n. is_data_place s n && has_count masks s n) ≡ least_in (get_or masks (s - 1) 0)
 least_count-said masks s a b =
     least_count-alike (λ n. is_data_place s n && has_count masks s n) (λ n. has_count masks s n) (λ n c d. ap (λ t. t && has_count masks s n) (place_of s n a b c d))

@@ -20,17 +20,18 @@ use Rattle.terminal_rules.specs.declared.event.Flag.TheVariants.{Busy}
 use Rattle.terminal_rules.specs.LookBack.{latest, since}
 use Rattle.terminal_rules.specs.History.{Replying, NoTurn, Noted, noted_as, Entry, Ending, Nothing, Badly, Illegal, Blocked, Done}
 use Rattle.terminal_rules.specs.Open.{Open, Closed, First, Waiting, Second, is_on, transfer, open_now}
-use Rattle.terminal_rules.specs.Reply.{words_after_status, begun, begins_reply, reply_after, reply_of, reply_now, reply_bus, replies_on}
+use Rattle.terminal_rules.specs.Reply.{words_after_status, begun, begins_reply, reply_after, reply_of, reply_now, reply_bus}
 use Rattle.terminal_rules.specs.Starts.{heard_now, is_free, is_fresh_broadcast, starts_message, is_meant}
 use Rattle.terminal_rules.specs.Flags.{flag_now}
 use Rattle.terminal_rules.specs.Ends.{data_of, with_word, data_words, if_expected, complete, well, ends_with, at_gap, at_entry, unless_ignored, ends_now}
 use Rattle.terminal_rules.specs.SinceReset.{off_now}
-use Rattle.terminal_rules.specs.Turn.{is_answered, done_cell, turn_of_entry, turn_of_gap, turn_of_slot}
+use Rattle.terminal_rules.specs.Turn.{is_answered, done_cell, unless_ignored_turn, turn_of_gap, turn_of_slot}
 use Rattle.terminal_rules.specs.Past.{note, past}
 use Rattle.terminal_rules.specs.Out.{Out, Silence, hands, handing_over, sends, sending_out, out, outs_from}
 use Rattle.terminal_exchanges.specs.Exchanges.{Exchange, command_event, data_event, words_then, slots_then}
-use Rattle.terminal_exchanges.specs.inner.ExchangeLaw.{IsWhole, AreWhole, after_words, after_slots, before_its_gap, history_of, word_note, word_notes, command_note, gap_note, slot_note, slot_notes, notes_before_gap, notes_at_gap, ending_of_exchange, exchange_notes, slots_needed, AreAnswered, gap_answer, slot_answer, silent_then, slots_answered, silent_slots, ExchangeLaw, UnmeantExchangeLaw}
-use Rattle.terminal_rules.specs.inner.Steps.{sent_one, begun_if, dropped_if}
+use Rattle.terminal_exchanges.specs.ExchangeLaws.{IsWhole, AreWhole, after_words, after_slots, before_its_gap, history_of, ending_of_exchange, slots_needed, AreAnswered, silent_then, silent_slots}
+use Rattle.terminal_exchanges.proofs.Notes.{word_note, word_notes, command_note, gap_note, slot_note, slot_notes, notes_before_gap, notes_at_gap, exchange_notes, gap_answer, slot_answer, slots_answered, NotedExchangeLaw, NotedUnmeantLaw}
+use Rattle.terminal_rules.specs.inner.Steps.{replies_on, sent_one, begun_if, dropped_if}
 use Rattle.terminal_rules.proofs.OpenLaw.{word_law, gap_law, slot_law, after_word, after_gap, after_entry, waits, unheard}
 use Rattle.terminal_rules.proofs.ReplyLaw.{no_words, next_of, reply_word_law, reply_gap_law, reply_slot_law}
 
@@ -67,7 +68,7 @@ with_data (d ∷ ds) o = with_data ds (after_entry (data_entry d) o)
 
 -- a data word is no command, and starts nothing
 abbrev data_noted : Bool → ℕ → Ending → Noted
-data_noted i d x = noted_as (data_event d) (turn_of_entry i) (not i && false) (unless_ignored i x)
+data_noted i d x = noted_as (data_event d) (unless_ignored_turn i NoTurn) (not i && false) (unless_ignored i x)
 
 word_past : (P : Description) (d : ℕ) (h : List Event) → replies_on (past P h) A ≡ false → is_steady (open_now P (past P h) A) ≡ true → past P (data_event d ∷ h) ≡ word_note d ∷ past P h
 word_past P d h q s =
@@ -155,7 +156,7 @@ first_if m c = if m then First c [] else Closed
 
 command_is : (P : Description) (c : ℕ) (h : List Noted) → IsIdle P h → note P h (command_event c) ≡ command_note P c
 command_is P c h i =
-    ap (λ q. noted_as (command_event c) (turn_of_entry q) (not q && starts_message P (valid_word Com c) (heard_now P h A) (is_free (open_now P h A)) (is_fresh_broadcast (open_now P h A))) (unless_ignored q (at_entry (Some (valid_word Com c)) (open_now P h A)))) (quiet_on P h i)
+    ap (λ q. noted_as (command_event c) (unless_ignored_turn q NoTurn) (not q && starts_message P (valid_word Com c) (heard_now P h A) (is_free (open_now P h A)) (is_fresh_broadcast (open_now P h A))) (unless_ignored q (at_entry (Some (valid_word Com c)) (open_now P h A)))) (quiet_on P h i)
     ∙ (ap (λ o. noted_as (command_event c) NoTurn (starts_message P (valid_word Com c) (heard_now P h A) (is_free (open_now P h A)) (is_fresh_broadcast (open_now P h A))) (at_entry (Some (valid_word Com c)) o)) i.closed
     ∙ ap (λ s. noted_as (command_event c) NoTurn s Nothing) (starts_law P c h i.closed i.unused))
 
@@ -234,10 +235,10 @@ ends_law P x h i w =
 gap_is : (P : Description) (x : Exchange) (h : List Noted) → IsIdle P h → IsWhole x → note P (notes_before_gap P x h) (Gap A) ≡ gap_note (notes_before_gap P x h) (ending_of_exchange P x)
 gap_is P x h i w =
     let k : List Noted = notes_before_gap P x h in
-    ap (λ e. noted_as (Gap A) (turn_of_gap (replies_on k A) A (is_answered (off_now k A) e) (done_cell e)) false e) (ends_law P x h i w)
-    ∙ ap (λ r. noted_as (Gap A) (turn_of_gap (is_on A (reply_bus r)) A (is_answered (off_now k A) (ending_of_exchange P x)) (done_cell (ending_of_exchange P x))) false (ending_of_exchange P x)) (before_replies P x h i)
+    ap (λ e. noted_as (Gap A) (unless_ignored_turn (replies_on k A) (turn_of_gap A (is_answered (off_now k A) e) (done_cell e))) false e) (ends_law P x h i w)
+    ∙ ap (λ r. noted_as (Gap A) (unless_ignored_turn (is_on A (reply_bus r)) (turn_of_gap A (is_answered (off_now k A) (ending_of_exchange P x)) (done_cell (ending_of_exchange P x)))) false (ending_of_exchange P x)) (before_replies P x h i)
 
-gap_past : (P : Description) (x : Exchange) (h : List Event) → IsIdle P (past P h) → IsWhole x → past P (Gap A ∷ before_its_gap x h) ≡ notes_at_gap P x (past P h)
+pub gap_past : (P : Description) (x : Exchange) (h : List Event) → IsIdle P (past P h) → IsWhole x → past P (Gap A ∷ before_its_gap x h) ≡ notes_at_gap P x (past P h)
 gap_past P x h i w = ap (λ k. note P k (Gap A) ∷ k) (before_past P x h i) ∙ ap (λ n. n ∷ notes_before_gap P x (past P h)) (gap_is P x (past P h) i w)
 
 slots_past : (P : Description) (n : ℕ) (h : List Event) → past P (after_slots n h) ≡ slot_notes n (past P h)
@@ -300,7 +301,7 @@ at_gap_reply P x h i =
     reply_gap_law (notes_before_gap P x h) A (is_answered (off_now (notes_before_gap P x h) A) (ending_of_exchange P x)) (done_cell (ending_of_exchange P x)) (ending_of_exchange P x)
     ∙ ap (begun_if (is_answered (off_now (notes_before_gap P x h) A) (ending_of_exchange P x)) A (done_cell (ending_of_exchange P x))) (before_replies P x h i)
 
-gap_heard : (P : Description) (h : List Noted) (a : Bool) (x : Ending) → heard_now P (noted_as (Gap A) (turn_of_gap false A a (done_cell x)) false x ∷ h) A ≡ false
+gap_heard : (P : Description) (h : List Noted) (a : Bool) (x : Ending) → heard_now P (noted_as (Gap A) (turn_of_gap A a (done_cell x)) false x ∷ h) A ≡ false
 gap_heard P h true x = refl
 gap_heard P h false x = refl
 
@@ -363,7 +364,7 @@ notes_law P (x ∷ xs) (w, ws) (few, a) =
       ready = sym (ap (λ h. flag_now h Busy) e) ∙ i.ready;
     }
 
-idle_past : (P : Description) (xs : List Exchange) → AreWhole xs → AreAnswered P xs → IsIdle P (past P (history_of xs))
+pub idle_past : (P : Description) (xs : List Exchange) → AreWhole xs → AreAnswered P xs → IsIdle P (past P (history_of xs))
 idle_past P xs ws a =
     let e : past P (history_of xs) ≡ exchange_notes P xs = notes_law P xs ws a in
     let i : IsIdle P (exchange_notes P xs) = idle_law P xs a in
@@ -374,12 +375,12 @@ idle_past P xs ws a =
       ready = ap (λ h. flag_now h Busy) e ∙ i.ready;
     }
 
-answer_law : (P : Description) (xs : List Exchange) (x : Exchange) → AreWhole (x ∷ xs) → AreAnswered P xs → out P (before_its_gap x (history_of xs)) (Gap A) ≡ gap_answer P x
+pub answer_law : (P : Description) (xs : List Exchange) (x : Exchange) → AreWhole (x ∷ xs) → AreAnswered P xs → out P (before_its_gap x (history_of xs)) (Gap A) ≡ gap_answer P x
 answer_law P xs x (w, ws) a =
     ap (λ k. handing_over (hands P (ends_now P k (Gap A)))) (before_past P x (history_of xs) (idle_past P xs ws a))
     ∙ ap (λ e. handing_over (hands P e)) (ends_law P x (past P (history_of xs)) (idle_past P xs ws a) w)
 
-words_silent : (P : Description) (ds : List ℕ) (h es : List Event) → outs_from P h (words_then ds es) ≡ silent_then ds (outs_from P (after_words ds h) es)
+pub words_silent : (P : Description) (ds : List ℕ) (h es : List Event) → outs_from P h (words_then ds es) ≡ silent_then ds (outs_from P (after_words ds h) es)
 words_silent P [] h es = refl
 words_silent P (d ∷ ds) h es = ap (λ os. Silence ∷ os) (words_silent P ds (data_event d ∷ h) es)
 
@@ -387,7 +388,7 @@ slots_law : (P : Description) (n : ℕ) (h es : List Event) → outs_from P h (s
 slots_law P zero h es = refl
 slots_law P (suc n) h es = ap (λ os. slot_answer P (past P h) ∷ os) (slots_law P n (Slot ∷ h) es)
 
-pub exchange_law : ExchangeLaw
+pub exchange_law : NotedExchangeLaw
 exchange_law P xs x es (w, ws) a =
     let h : List Event = before_its_gap x (history_of xs) in
     let before : past P (history_of xs) ≡ exchange_notes P xs = notes_law P xs ws a in
@@ -408,7 +409,7 @@ quiet_slots P (suc n) h os e =
 pub unmeant_end : (P : Description) (x : Exchange) → is_meant P x.command ≡ false → ending_of_exchange P x ≡ Nothing
 unmeant_end P x e = ap (λ m. if m then well P false x.command x.words else Nothing) e
 
-pub unmeant_exchange_law : UnmeantExchangeLaw
+pub unmeant_exchange_law : NotedUnmeantLaw
 unmeant_exchange_law P xs x os a e =
     let h : List Noted = exchange_notes P xs in
     let k : List Noted = notes_before_gap P x h in (

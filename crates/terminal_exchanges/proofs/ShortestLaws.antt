@@ -6,7 +6,7 @@ use Rattle.bus_word.specs.Cell.{is_data_place}
 use Rattle.bus_legal.specs.declared.tables.Tables.{Tables}
 use Rattle.bus_legal.specs.Description.{Description, word_at}
 use Rattle.bus_legal.specs.Reach.{any_count, transmits_at}
-use Rattle.bus_legal.specs.Tables.{has_any, mask_at}
+use Rattle.bus_legal.specs.Tables.{has_any}
 use Rattle.bus_legal.specs.Parts.{Parts, description_in, IsNormal}
 use Rattle.bus_legal.proofs.TablesReach.{any_count-said}
 use Rattle.terminal_exchanges.specs.Exchanges.{Exchange}
@@ -32,17 +32,17 @@ module _ (v : Parts) (normal : IsNormal v) (t : Tables) (block own s : ℕ) (tab
       (λ j. 65535 - get_or (get_or (held j) (at j) []) 0 0)
       ∙ sym (ap (λ b. 65535 - cond b (word_at v.initial s 1) 0) (first_place s low high))
 
-  own_mask : get_or t.own_receive block 0 ≡ mask_at v.tables.own_receive s
+  own_mask : get_or t.own_receive block 0 ≡ get_or v.tables.own_receive (s - 1) 0
   own_mask = λ j. get_or ((tables j).own_receive) (at j) 0
 
-  any_own : any_count (receives_own P s) ≡ has_any (mask_at v.tables.own_receive s)
+  any_own : any_count (receives_own P s) ≡ has_any (get_or v.tables.own_receive (s - 1) 0)
   any_own = any_count-said v.tables.own_receive s (inside s low high) normal.own_receive
 
   pub own_shortest : (words : List (List ℕ)) (n : ℕ) (x : Exchange) → words ≡ v.initial → get_or t.own_receive block 0 ≢ 0 → n ≡ least_in (get_or t.own_receive block 0) →
       x ≡ receive own s n ((65535 - get_or (get_or words block []) 0 0) ∷ replicate (n - 1) 0) → x ≡ shortest_receive P s
   own_shortest words n x held some e f =
       let counted : n ≡ least_count (receives_own P s) = e ∙ (ap least_in own_mask ∙ sym (least_count-said v.tables.own_receive s low high)) in
-      let any : any_count (receives_own P s) ≡ true = any_own ∙ ap not (ne_eqb (mask_at v.tables.own_receive s) 0 (λ none. some (own_mask ∙ none))) in
+      let any : any_count (receives_own P s) ≡ true = any_own ∙ ap not (ne_eqb (get_or v.tables.own_receive (s - 1) 0) 0 (λ none. some (own_mask ∙ none))) in
       f ∙ ((λ j. receive (address j) s (counted j) (first words held j ∷ replicate (counted j - 1) 0)) ∙ ap receive_by (sym any))
 
   pub broadcast_shortest : (words : List (List ℕ)) (n : ℕ) (x : Exchange) → words ≡ v.initial → get_or t.own_receive block 0 ≡ 0 → n ≡ least_in (get_or t.broadcast_receive block 0) →

@@ -1,5 +1,6 @@
 pub use Rattle.bus_legal.specs.Description
 pub mod Exchanges
+pub mod ExchangeLaws
 pub mod Values
 pub mod Sent
 pub mod Distinguish

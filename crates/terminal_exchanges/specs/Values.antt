@@ -1,5 +1,5 @@
 -- Exchanges as values of the code, which keep of their data words the first and how many words of 0 come after it.
-use Rattle.std.specs.Prelude.{ℕ, Option, Some, None, List, [], ◌∷◌, replicate}
+use Rattle.std.specs.Prelude.{ℕ, ◌≤◌, Option, Some, None, List, [], ◌∷◌, replicate}
 use Rattle.terminal_exchanges.specs.Exchanges.{Exchange}
 use Rattle.terminal_exchanges.specs.declared.exchange.Exchange.{Exchange as Value}
 
@@ -9,3 +9,11 @@ words_in (Some first) n = first ∷ replicate n 0
 
 abbrev pub exchange_in : Value → Exchange
 exchange_in x = record { command = x.command; words = words_in x.first x.zeros; slots = x.slots }
+
+-- at most 32 data words and 33 slots: no exchange needs more
+abbrev pub IsShort : Value → Type 0
+IsShort x = (x.zeros ≤ 31) × (x.slots ≤ 33)
+
+abbrev pub AreShort : List Value → Type 0
+AreShort [] = Unit {0}
+AreShort (x ∷ xs) = IsShort x × AreShort xs

@@ -1,3 +1,2 @@
--- What the law of exchanges and the contracts of private functions speak of, and no script needs.
-pub mod ExchangeLaw
+-- What the contracts of private functions speak of, and no script needs.
 pub mod Counts

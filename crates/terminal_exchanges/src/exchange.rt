@@ -42,7 +42,8 @@ fn slots_for(address: u8, count: u8) -> u8
     if address == ALL_TERMINALS { 0 } else { count }
 }
 
-/// So many words to a subaddress: the first of them, and others of 0.
+/// So many words to a subaddress, 1 to 32: the first of them, and others of 0. With a count of 0 the command announces 32
+/// words, and only the first goes with it.
 pub fn receive(address: u8, subaddress: u8, count: u8, first: u16) -> Exchange
     requires address { address < 32 }
     requires subaddress { subaddress < 32 }
@@ -59,7 +60,8 @@ pub fn receive(address: u8, subaddress: u8, count: u8, first: u16) -> Exchange
     }
 }
 
-/// So many words from a subaddress, with so many slots.
+/// So many words from a subaddress, 1 to 32, with so many slots, to all terminals too. Of a greater count the command holds
+/// the rest by 32, and one of 0 asks for 32 words.
 pub fn transmit(address: u8, subaddress: u8, count: u8, slots: u8) -> Exchange
     requires address { address < 32 }
     requires subaddress { subaddress < 32 }

@@ -21,7 +21,7 @@ fn least_count(mask: u32) -> u8
 }
 
 /// The shortest legal receive command of a subaddress, 1 to 30, by broadcast only where there is no other, with the
-/// complement of the first word that is held there.
+/// complement of the first word that is held there. Where none is legal, it is the command by broadcast with a count of 0.
 pub fn shortest_receive(p: &Normal, subaddress: u8) -> Exchange
     requires normal { IsNormal p.now }
     requires low { 1 ≤ subaddress }
@@ -42,7 +42,8 @@ pub fn shortest_receive(p: &Normal, subaddress: u8) -> Exchange
     }
 }
 
-/// The shortest legal transmit command of a subaddress, 1 to 30, with slots for the status and all its words.
+/// The shortest legal transmit command of a subaddress, 1 to 30, with slots for the status and all its words. Where none is
+/// legal, it is the command with a count of 0, and one slot.
 pub fn shortest_transmit(p: &Normal, subaddress: u8) -> Exchange
     requires normal { IsNormal p.now }
     requires low { 1 ≤ subaddress }

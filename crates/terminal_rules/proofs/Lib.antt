@@ -5,6 +5,7 @@ pub mod ModeReplyLaw
 pub mod KeptLaw
 pub mod BackLaw
 pub mod ResetLaw
+pub mod ResetCases
 pub mod CellLaw
 pub mod LatestLaw
 pub mod Reach

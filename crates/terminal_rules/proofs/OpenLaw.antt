@@ -9,14 +9,15 @@ use Rattle.terminal_rules.specs.declared.event.Event.{Event}
 use Rattle.terminal_rules.specs.declared.event.Event.TheVariants.{Word, Noise, Gap, Write, Vector, Bit, Flag as FlagIs, Slot}
 use Rattle.terminal_rules.specs.Buses.{same_bus}
 use Rattle.terminal_rules.specs.LookBack.{latest, since, oldest}
-use Rattle.terminal_rules.specs.Reply.{reply_now, replies_on, ignores}
+use Rattle.terminal_rules.specs.Reply.{reply_now, ignores}
 use Rattle.terminal_rules.specs.Starts.{heard_now, is_free, is_fresh_broadcast, starts_message, starts_now}
 use Rattle.terminal_rules.specs.Ends.{ends_now}
 use Rattle.terminal_rules.specs.SinceReset.{off_now}
-use Rattle.terminal_rules.specs.Turn.{is_answered, done_cell, turn_of_entry, turn_of_gap, turn_of_slot}
+use Rattle.terminal_rules.specs.Turn.{is_answered, done_cell, turn_of_gap, turn_of_slot, unless_ignored_turn}
 use Rattle.terminal_rules.specs.Past.{note}
 use Rattle.terminal_rules.specs.History.{Replying, NoTurn, Noted, noted_as, Entry, Ending, Nothing, run}
 use Rattle.terminal_rules.specs.Open.{Open, Closed, First, Waiting, Second, transfer, is_status_of, first_of, awaited_of, open_of, open_now, waiting_or_second, started_by, is_latest, before_gap}
+use Rattle.terminal_rules.specs.inner.Steps.{replies_on}
 
 -- what a gap leaves of a message in progress
 abbrev pub waits : Option (ℕ × ℕ) → Open
@@ -101,7 +102,7 @@ noise_law P h B B x = entry_law None (is_latest h B) (run h B) (awaited_of P B (
 
 -- a gap that isn't ignored, whether a reply begins being told
 pub gap_law : (P : Description) (h : List Noted) (b c : Bus) (a : Bool) (cell : Option Cell) (x : Ending) →
-    open_now P (noted_as (Gap c) (turn_of_gap false c a cell) false x ∷ h) b ≡ (if same_bus b c then after_gap P (open_now P h b) else open_now P h b)
+    open_now P (noted_as (Gap c) (turn_of_gap c a cell) false x ∷ h) b ≡ (if same_bus b c then after_gap P (open_now P h b) else open_now P h b)
 gap_law P h A A true cell x = run_law P (is_latest h A) (run h A) (awaited_of P A (is_latest h A) (before_gap h A))
 gap_law P h A A false cell x = run_law P (is_latest h A) (run h A) (awaited_of P A (is_latest h A) (before_gap h A))
 gap_law P h A B true cell x = refl
@@ -113,17 +114,17 @@ gap_law P h B B false cell x = run_law P (is_latest h B) (run h B) (awaited_of P
 
 -- an event, whether it is ignored being told
 heard_word : (P : Description) (h : List Noted) (b c : Bus) (w : Raw) (i s : Bool) (x : Ending) →
-    open_now P (noted_as (Word c w) (turn_of_entry i) (not i && s) x ∷ h) b ≡ (if i then open_now P h b else after_word b c w (not i && s) (open_now P h b))
+    open_now P (noted_as (Word c w) (unless_ignored_turn i NoTurn) (not i && s) x ∷ h) b ≡ (if i then open_now P h b else after_word b c w (not i && s) (open_now P h b))
 heard_word P h b c w true s x = refl
 heard_word P h b c w false s x = word_law P h b c w s x
 
 heard_noise : (P : Description) (h : List Noted) (b c : Bus) (i : Bool) (x : Ending) →
-    open_now P (noted_as (Noise c) (turn_of_entry i) false x ∷ h) b ≡ (if i then open_now P h b else (if same_bus b c then after_entry (unheard None) (open_now P h b) else open_now P h b))
+    open_now P (noted_as (Noise c) (unless_ignored_turn i NoTurn) false x ∷ h) b ≡ (if i then open_now P h b else (if same_bus b c then after_entry (unheard None) (open_now P h b) else open_now P h b))
 heard_noise P h b c true x = refl
 heard_noise P h b c false x = noise_law P h b c x
 
 heard_gap : (P : Description) (h : List Noted) (b c : Bus) (i a : Bool) (cell : Option Cell) (x : Ending) →
-    open_now P (noted_as (Gap c) (turn_of_gap i c a cell) false x ∷ h) b ≡ (if i then open_now P h b else (if same_bus b c then after_gap P (open_now P h b) else open_now P h b))
+    open_now P (noted_as (Gap c) (unless_ignored_turn i (turn_of_gap c a cell)) false x ∷ h) b ≡ (if i then open_now P h b else (if same_bus b c then after_gap P (open_now P h b) else open_now P h b))
 heard_gap P h b c true a cell x = refl
 heard_gap P h b c false a cell x = gap_law P h b c a cell x
 

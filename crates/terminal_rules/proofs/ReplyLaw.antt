@@ -10,9 +10,9 @@ use Rattle.terminal_rules.specs.Buses.{same_bus}
 use Rattle.terminal_rules.specs.LookBack.{latest, since, some}
 use Rattle.terminal_rules.specs.History.{Noted, noted_as, Replying, Turn, NoTurn, Ending}
 use Rattle.terminal_rules.specs.Open.{is_on}
-use Rattle.terminal_rules.specs.Reply.{words_after_status, begun, begins_reply, reply_after, reply_of, reply_now, reply_bus, replies_on, supersedes, slots_in}
+use Rattle.terminal_rules.specs.Reply.{words_after_status, begun, begins_reply, reply_after, reply_of, reply_now, reply_bus, supersedes, slots_in}
 use Rattle.terminal_rules.specs.Turn.{turn_of_gap, turn_of_slot}
-use Rattle.terminal_rules.specs.inner.Steps.{sent_one, begun_if, dropped_if}
+use Rattle.terminal_rules.specs.inner.Steps.{replies_on, sent_one, begun_if, dropped_if}
 
 -- a start on the other bus drops it, and there is none on its own
 drops : (c b : Bus) (cell : Option Cell) (superseded : Bool) (m : ℕ) → is_on c (reply_bus (reply_after b cell superseded m)) ≡ false →
@@ -56,7 +56,7 @@ pub no_words : (n : ℕ) → nat_le 0 n ≡ true
 no_words n = grind (arith, nat_tests)
 
 -- a gap that isn't ignored, whether a reply begins
-pub reply_gap_law : (h : List Noted) (c : Bus) (a : Bool) (cell : Option Cell) (x : Ending) → reply_now (noted_as (Gap c) (turn_of_gap false c a cell) false x ∷ h) ≡ begun_if a c cell (reply_now h)
+pub reply_gap_law : (h : List Noted) (c : Bus) (a : Bool) (cell : Option Cell) (x : Ending) → reply_now (noted_as (Gap c) (turn_of_gap c a cell) false x ∷ h) ≡ begun_if a c cell (reply_now h)
 reply_gap_law h c true cell x = ap (λ t. if t then Some (record { bus = c; cell = cell; number = 0 }) else None) (no_words (words_after_status cell))
 reply_gap_law h c false cell x =
     elim (latest (λ p. begun p.turn) h) as (λ o. reply_of (noted_as (Gap c) NoTurn false x ∷ since begins_reply h) o ≡ reply_of (since begins_reply h) o) [ None ↦ refl | Some r ↦ refl ]

@@ -7,3 +7,7 @@ abbrev pub same_bus : Bus → Bus → Bool
 same_bus A A = true
 same_bus B B = true
 same_bus _ _ = false
+
+abbrev pub other : Bus → Bus
+other A = B
+other B = A

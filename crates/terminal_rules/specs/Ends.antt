@@ -14,7 +14,7 @@ use Rattle.terminal_rules.specs.declared.event.Flag.TheVariants.{Busy}
 use Rattle.terminal_rules.specs.History.{Noted, Entry, Ending, Nothing, Badly, Illegal, Blocked, Done}
 use Rattle.terminal_rules.specs.Open.{Open, Closed, First, Waiting, Second, open_now, transfer, status_at}
 use Rattle.terminal_rules.specs.Flags.{flag_now}
-use Rattle.terminal_rules.specs.Reply.{replies_on}
+use Rattle.terminal_rules.specs.Reply.{reply_now, ignores}
 
 -- the bits of a valid data word
 abbrev pub data_of : Option Raw → Option ℕ
@@ -76,13 +76,17 @@ abbrev pub at_entry : Option Raw → Open → Ending
 at_entry w (Waiting c a) = if status_at a w then Nothing else Badly c
 at_entry w _ = Nothing
 
+-- how an event that is heard ends the message in progress on its bus, after a noted history
+abbrev pub ends_heard : Description → List Noted → Event → Ending
+ends_heard P h (Gap b) = at_gap P (flag_now h Busy) (open_now P h b)
+ends_heard P h (Word b w) = at_entry (Some w) (open_now P h b)
+ends_heard P h (Noise b) = at_entry None (open_now P h b)
+ends_heard P h _ = Nothing
+
 -- what is ignored ends nothing
 abbrev pub unless_ignored : Bool → Ending → Ending
 unless_ignored ignored x = if ignored then Nothing else x
 
--- how an event ends the message in progress on its bus, after a noted history
+-- how an event ends the message in progress on its bus
 abbrev pub ends_now : Description → List Noted → Event → Ending
-ends_now P h (Gap b) = unless_ignored (replies_on h b) (at_gap P (flag_now h Busy) (open_now P h b))
-ends_now P h (Word b w) = unless_ignored (replies_on h b) (at_entry (Some w) (open_now P h b))
-ends_now P h (Noise b) = unless_ignored (replies_on h b) (at_entry None (open_now P h b))
-ends_now P h _ = Nothing
+ends_now P h e = unless_ignored (ignores (reply_now h) e) (ends_heard P h e)

@@ -17,5 +17,6 @@ pub mod Out
 pub mod Same
 pub mod OpenLaws
 pub mod ReplyLaws
+pub mod ResetLaws
 pub mod WorkedExamples
 pub mod inner

@@ -65,11 +65,8 @@ abbrev pub reply_bus : Option Replying → Option Bus
 reply_bus None = None
 reply_bus (Some r) = Some r.bus
 
--- The terminal replies on a bus. It doesn't hear what comes there in the meantime.
-abbrev pub replies_on : List Noted → Bus → Bool
-replies_on h b = is_on b (reply_bus (reply_now h))
-
--- an event on the bus of the reply in progress is ignored
+-- While a reply is in progress, the terminal doesn't hear what comes on its bus: words, noise and gaps there are ignored.
+-- They start nothing, end nothing and are in no run.
 abbrev pub ignores : Option Replying → Event → Bool
 ignores r (Word b w) = is_on b (reply_bus r)
 ignores r (Noise b) = is_on b (reply_bus r)

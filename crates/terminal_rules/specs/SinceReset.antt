@@ -1,5 +1,5 @@
 -- What a terminal remembers until it is reset.
-use Rattle.std.specs.Prelude.{ℕ, ◌-◌, Bool, true, false, ◌&&◌, ◌==◌, if◌then◌else◌, Option, Some, None, List, [], ◌∷◌}
+use Rattle.std.specs.Prelude.{ℕ, ◌-◌, Bool, true, false, not, ◌&&◌, ◌||◌, ◌==◌, if◌then◌else◌, Option, Some, None, List, [], ◌∷◌}
 use Rattle.bus_word.specs.declared.word.Bus.{Bus}
 use Rattle.bus_word.specs.declared.cell.Cell.{Cell}
 use Rattle.bus_word.specs.declared.cell.Cell.TheVariants.{OwnReceive, BroadReceive, OwnMode, BroadMode}
@@ -8,6 +8,7 @@ use Rattle.bus_word.specs.Mode as mode
 use Rattle.bus_legal.specs.Description.{Description}
 use Rattle.terminal_rules.specs.declared.event.Event.{Event}
 use Rattle.terminal_rules.specs.declared.event.Event.TheVariants.{Write, Vector, Bit}
+use Rattle.terminal_rules.specs.Buses.{other}
 use Rattle.terminal_rules.specs.LookBack.{latest, or_else, since}
 use Rattle.terminal_rules.specs.History.{Noted, Turn, Begins, Sends, Ending, Done, of_start, is_gap_on}
 
@@ -22,23 +23,40 @@ abbrev pub done_code : Ending → Option ℕ
 done_code (Done c cell ds) = code_in cell
 done_code _ = None
 
-abbrev pub is_code : ℕ → Option ℕ → Bool
-is_code n None = false
-is_code n (Some code) = code == n
+-- Reset remote terminal (MIL-STD-1553B, 4.3.3.5.1.7.9; Notice 2, 30.4.3) acts once its status was sent, and at its gap
+-- where it has none. That makes three cases. The first: a reset by broadcast acts at its gap.
+abbrev pub resets_by_broadcast : Ending → Bool
+resets_by_broadcast (Done c (BroadMode code) ds) = code == mode.reset
+resets_by_broadcast _ = false
 
--- Reset remote terminal (MIL-STD-1553B, 4.3.3.5.1.7.9; Notice 2, 30.4.3) acts after its status was sent: in the slot
--- that sends it, or at its gap where no reply begins.
-abbrev pub is_reset_cell : Cell → Bool
-is_reset_cell cell = is_code mode.reset (code_in cell)
+-- a reset by the own address is done at its gap
+abbrev pub does_own_reset : Ending → Bool
+does_own_reset (Done c (OwnMode code) ds) = code == mode.reset
+does_own_reset _ = false
 
-abbrev pub sends_reset : ℕ → Option Cell → Bool
-sends_reset number None = false
-sends_reset number (Some cell) = (number == 0) && is_reset_cell cell
+-- a reply begins
+abbrev pub begins : Turn → Bool
+begins (Begins b cell) = true
+begins _ = false
 
+-- The second: a reset by the own address acts at its gap where no reply begins, since the transmitter of its bus is shut
+-- down.
+abbrev pub resets_in_silence : Turn → Ending → Bool
+resets_in_silence turn x = does_own_reset x && not (begins turn)
+
+-- a word of a reply, by its number and the cell that is answered, is the status of a reset
+abbrev pub is_status_of_reset : ℕ → Option Cell → Bool
+is_status_of_reset number (Some (OwnMode code)) = (number == 0) && (code == mode.reset)
+is_status_of_reset number _ = false
+
+-- The third: a reset by the own address that is answered acts in the slot that sends its status.
+abbrev pub resets_in_slot : Turn → Bool
+resets_in_slot (Sends r) = is_status_of_reset r.number r.cell
+resets_in_slot _ = false
+
+-- an event is a reset in these three cases, and in no other
 abbrev pub resets : Turn → Ending → Bool
-resets (Begins b cell) x = false
-resets (Sends r) x = sends_reset r.number r.cell
-resets _ x = is_code mode.reset (done_code x)
+resets turn x = resets_by_broadcast x || (resets_in_silence turn x || resets_in_slot turn)
 
 abbrev pub is_reset : Noted → Bool
 is_reset p = resets p.turn p.ends
@@ -62,7 +80,7 @@ inhibited_now h = or_else (latest inhibits (since_reset h)) false
 -- The transmitter of a bus is shut down by mode code 4 on the other bus, and comes back by mode code 5 on
 -- the other bus (4.3.3.5.1.7.5, 4.3.3.5.1.7.6).
 abbrev pub shuts : Bus → Noted → Option Bool
-shuts b p = if is_gap_on b p.event then None else switched mode.shutdown mode.override_shutdown (done_code p.ends)
+shuts b p = if is_gap_on (other b) p.event then switched mode.shutdown mode.override_shutdown (done_code p.ends) else None
 
 abbrev pub off_now : List Noted → Bus → Bool
 off_now h b = or_else (latest (shuts b) (since_reset h)) false

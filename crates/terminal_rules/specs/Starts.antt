@@ -10,7 +10,7 @@ use Rattle.terminal_rules.specs.declared.event.Event.TheVariants.{Word}
 use Rattle.terminal_rules.specs.LookBack.{some}
 use Rattle.terminal_rules.specs.History.{Noted, run}
 use Rattle.terminal_rules.specs.Open.{Open, Closed, First, Waiting, open_now}
-use Rattle.terminal_rules.specs.Reply.{replies_on}
+use Rattle.terminal_rules.specs.Reply.{reply_now, ignores}
 
 -- a command for the terminal: to its own address, or to all where it has the broadcast option
 abbrev pub is_meant : Description → ℕ → Bool
@@ -46,8 +46,12 @@ abbrev pub starts_message : Description → Raw → Bool → Bool → Bool → B
 starts_message P w heard free fresh =
     is_for P w && ((not heard && free) || (fresh && (transmits w.bits && (address_of w.bits == P.address))))
 
--- an event that is a word, and isn't ignored, starts a message, after a noted history
+-- only a word starts a message, and none that is ignored
+abbrev pub starts_unless : Bool → Description → List Noted → Event → Bool
+starts_unless ignored P h (Word b w) =
+    not ignored && starts_message P w (heard_now P h b) (is_free (open_now P h b)) (is_fresh_broadcast (open_now P h b))
+starts_unless ignored P h _ = false
+
+-- an event starts a message, after a noted history
 abbrev pub starts_now : Description → List Noted → Event → Bool
-starts_now P h (Word b w) =
-    not (replies_on h b) && starts_message P w (heard_now P h b) (is_free (open_now P h b)) (is_fresh_broadcast (open_now P h b))
-starts_now P h _ = false
+starts_now P h e = starts_unless (ignores (reply_now h) e) P h e

@@ -9,9 +9,9 @@ use Rattle.bus_word.specs.Mode as mode
 use Rattle.bus_legal.specs.Description.{Description}
 use Rattle.terminal_rules.specs.declared.event.Flag.TheVariants.{Service, Busy, Subsystem, Terminal}
 use Rattle.terminal_rules.specs.LookBack.{or_else, some, latest_with, since_with}
-use Rattle.terminal_rules.specs.History.{Noted, Ending, Nothing, Badly, Illegal, Blocked, Done}
+use Rattle.terminal_rules.specs.History.{Noted, Turn, Ending, Nothing, Badly, Illegal, Blocked, Done}
 use Rattle.terminal_rules.specs.Flags.{flag_now}
-use Rattle.terminal_rules.specs.SinceReset.{switched, inhibited_now, start_bits, code_in, is_reset}
+use Rattle.terminal_rules.specs.SinceReset.{switched, inhibited_now, start_bits, code_in, resets_by_broadcast, resets_in_silence, resets_in_slot}
 
 -- a status word with no bit set but the address
 abbrev pub no_parts : StatusParts
@@ -76,18 +76,29 @@ spares_kept P (Some cell) = reports_kept cell && P.legal cell
 abbrev pub spares : Description → ℕ → Bool
 spares P c = spares_kept P (cell_of c)
 
--- an end sets the kept status, by what came before it
-abbrev pub kept_by_end : Description → List Noted → Ending → Option StatusParts
-kept_by_end P h Nothing = None
-kept_by_end P h (Badly c) = if spares P c then None else Some (formed_error h c)
-kept_by_end P h (Illegal c) = Some (formed_error h c)
-kept_by_end P h (Blocked c cell) = Some (formed_blocked h c)
-kept_by_end P h (Done c cell ds) =
-    if reports_kept cell then None else Some (formed_done P h c cell)
+-- Of the three cases of a reset two act with the end of its message: by broadcast, and in silence.
+abbrev pub resets_at_end : Turn → Ending → Bool
+resets_at_end turn x = resets_by_broadcast x || resets_in_silence turn x
 
--- a reset clears it, and so sets it too
-abbrev pub reset_first : Bool → Option StatusParts → Option StatusParts
-reset_first resets e = if resets then Some no_parts else e
+-- What a message that is done sets the kept status to. A reset that acts with this end leaves no bit set. One that acts
+-- later, in the slot of its status, sets the formed status here, as any other message does, and that is the one sent.
+abbrev pub kept_by_done : Description → List Noted → Bool → ℕ → Cell → Option StatusParts
+kept_by_done P h resets c cell =
+    if resets then Some no_parts
+    else if reports_kept cell then None
+    else Some (formed_done P h c cell)
+
+-- an end sets the kept status, by what came before it and whether a reset acts with it
+abbrev pub kept_by_end : Description → List Noted → Bool → Ending → Option StatusParts
+kept_by_end P h resets Nothing = None
+kept_by_end P h resets (Badly c) = if spares P c then None else Some (formed_error h c)
+kept_by_end P h resets (Illegal c) = Some (formed_error h c)
+kept_by_end P h resets (Blocked c cell) = Some (formed_blocked h c)
+kept_by_end P h resets (Done c cell ds) = kept_by_done P h resets c cell
+
+-- the third case of a reset: once its status was sent, no bit is set
+abbrev pub kept_by_slot : Turn → Option StatusParts
+kept_by_slot turn = if resets_in_slot turn then Some no_parts else None
 
 abbrev pub kept_by_command : Bool → ℕ → Option StatusParts
 kept_by_command spares c = if spares then None else Some (record no_parts { broadcast = is_broadcast c })
@@ -97,13 +108,17 @@ abbrev pub kept_by_start : Description → Option ℕ → Option StatusParts
 kept_by_start P None = None
 kept_by_start P (Some c) = kept_by_command (spares P c) c
 
-abbrev pub start_first : Option StatusParts → Option StatusParts → Option StatusParts
-start_first (Some s) e = Some s
-start_first None e = e
+-- the later of two things that an event does says, and where it says nothing the other does
+abbrev pub later_or : Option StatusParts → Option StatusParts → Option StatusParts
+later_or (Some s) e = Some s
+later_or None e = e
 
--- where one event both ends and starts a message, the start comes later
+-- What an event sets it to: a slot, or the end of a message. Where one event both ends and starts a message, the start
+-- comes later.
 abbrev pub kept_set : Description → Noted → List Noted → Option StatusParts
-kept_set P p h = start_first (kept_by_start P (start_bits p)) (reset_first (is_reset p) (kept_by_end P h p.ends))
+kept_set P p h =
+    later_or (kept_by_start P (start_bits p))
+    (later_or (kept_by_slot p.turn) (kept_by_end P h (resets_at_end p.turn p.ends) p.ends))
 
 -- a legal own code 2 or 18 that ends in error adds message error
 abbrev pub adds_error : Description → Ending → Bool

@@ -4,9 +4,9 @@ use Rattle.bus_word.specs.declared.word.Bus.{Bus}
 use Rattle.bus_word.specs.declared.cell.Cell.{Cell}
 use Rattle.bus_word.specs.Command.{is_broadcast}
 use Rattle.terminal_rules.specs.declared.event.Event.{Event}
-use Rattle.terminal_rules.specs.declared.event.Event.TheVariants.{Word, Noise, Gap, Slot}
+use Rattle.terminal_rules.specs.declared.event.Event.TheVariants.{Gap, Slot}
 use Rattle.terminal_rules.specs.History.{Noted, noted_as, Replying, Turn, NoTurn, Ignored, Begins, Sends, Ending, Illegal, Blocked, Done}
-use Rattle.terminal_rules.specs.Reply.{reply_now, replies_on}
+use Rattle.terminal_rules.specs.Reply.{reply_now, ignores}
 use Rattle.terminal_rules.specs.SinceReset.{off_now}
 
 -- a message that ended well is answered, unless it was a broadcast (MIL-STD-1553B, 4.3.3.6.7), or the transmitter of
@@ -22,23 +22,26 @@ abbrev pub done_cell : Ending → Option Cell
 done_cell (Done c cell ds) = Some cell
 done_cell _ = None
 
-abbrev pub turn_of_entry : Bool → Turn
-turn_of_entry ignored = if ignored then Ignored else NoTurn
-
-abbrev pub turn_of_gap : Bool → Bus → Bool → Option Cell → Turn
-turn_of_gap ignored b answered cell = if ignored then Ignored else (if answered then Begins b cell else NoTurn)
+-- with a gap a reply begins where the message that it ends is answered
+abbrev pub turn_of_gap : Bus → Bool → Option Cell → Turn
+turn_of_gap b answered cell = if answered then Begins b cell else NoTurn
 
 abbrev pub turn_of_slot : Option Replying → Turn
 turn_of_slot None = NoTurn
 turn_of_slot (Some r) = Sends r
 
--- by how the event ends a message, after a noted history
+-- what an event that is heard has to do with replies, by how it ends a message, after a noted history
+abbrev pub turn_heard : List Noted → Event → Ending → Turn
+turn_heard h (Gap b) x = turn_of_gap b (is_answered (off_now h b) x) (done_cell x)
+turn_heard h Slot x = turn_of_slot (reply_now h)
+turn_heard h _ x = NoTurn
+
+abbrev pub unless_ignored_turn : Bool → Turn → Turn
+unless_ignored_turn ignored turn = if ignored then Ignored else turn
+
+-- what an event has to do with replies
 abbrev pub turn_now : List Noted → Event → Ending → Turn
-turn_now h (Word b w) x = turn_of_entry (replies_on h b)
-turn_now h (Noise b) x = turn_of_entry (replies_on h b)
-turn_now h (Gap b) x = turn_of_gap (replies_on h b) b (is_answered (off_now h b) x) (done_cell x)
-turn_now h Slot x = turn_of_slot (reply_now h)
-turn_now h _ x = NoTurn
+turn_now h e x = unless_ignored_turn (ignores (reply_now h) e) (turn_heard h e x)
 
 -- an event after a noted history, by what it starts and ends
 abbrev pub noted : List Noted → Event → Bool → Ending → Noted

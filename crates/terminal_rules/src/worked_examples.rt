@@ -5,7 +5,7 @@ ghost use Rattle.terminal_rules.specs.WorkedExamples.Messages.{TransmitStatus, W
 ghost use Rattle.terminal_rules.specs.WorkedExamples.Transfers.{RtToRt, IllegalRtToRt, BroadcastRtToRt, RtToRtOnB, RtToRtTimeout, CommandEndsWaiting, NoiseEndsWaiting, InvalidStatus, NoiseAfterStatus, BroadcastTransmitter, BroadcastThenMode, BroadcastWordBetween, Superseded, NoiseOnOtherBus, EarlierWordInRun, GapOnOtherBus, StatusThenSuperseded, WordThenSuperseded, ShutdownOtherBus, OverrideOnOwnBus, ShutdownOnOwnBus, ReceivedInSilence, ResetInSilence};
 ghost use Rattle.terminal_rules.specs.WorkedExamples.Modes.{Wraparound, WraparoundAtSeven, LastCommand, LastCommandAfterReset, LastCommandAfterBroadcast, BusyReceive, BusyBitWord, BusyVectorWord, BusyBusControl, InhibitFlag, InhibitedUntilReset, SubsystemFlag, VectorAndReset, VectorGivenWhileBusy, SelfTest, BusControl, BroadcastSync, WrittenWord, SparedByLastCommand, ClearedByIllegalLastCommand};
 ghost use Rattle.terminal_rules.specs.WorkedExamples.Replies.{NoSlot, FormedAtTheGap, WrittenBetweenSlots, CommandDuringReply, ReplyDropped, ResetInItsSlot, ResetDropped, ResetInSilenceAtTheGap, DroppedResetKeepsStatus, DroppedResetKeepsLastCommand, WraparoundDuringReply};
-ghost use Rattle.terminal_rules.specs.WorkedExamples.Waiting.{TimeOutEndsWaiting, NoiseEndsWaitingForGood, NoiseInWaitingShowsFlags, OtherBusEndsWaiting, AwaitedStatusWithError, HighTransmitter, DataWordIsNoStatus, NoTransferFromItself, NoTransferFromAll, NoTransferByReceive, TransferOfModeData, InvalidSecondCommand, DataWordIsNoSecondCommand, NoTransferAfterData, WaitsOnce, ModeCodeNeverWaits};
+ghost use Rattle.terminal_rules.specs.WorkedExamples.Waiting.{TimeOutEndsWaiting, NoiseEndsWaitingForGood, NoiseInWaitingShowsFlags, OtherBusEndsWaiting, AwaitedStatusWithError, HighTransmitter, DataWordIsNoStatus, NoTransferFromItself, NoTransferFromAll, NoTransferByReceive, TransferOfModeData, InvalidSecondCommand, DataWordIsNoSecondCommand, NoTransferAfterData, WaitsOnce, ModeCodeNeverWaits, StartComesAfterEnd};
 ghost use Rattle.terminal_rules.specs.WorkedExamples.Runs.{InvalidData, OwnReceiveThenTransmit, BroadcastModeThenTransmit, BroadcastThenOwnReceive, BroadcastThenBroadcastCode, UnheardBroadcastThenOwn};
 ghost use Rattle.terminal_rules.specs.WorkedExamples.Effects.{SparedStatusKeepsItsBits, ErrorShowsFlags, ErrorHidesInhibitedFlag, StartClearsFlags, IllegalForgetsBroadcast, BusyLastCommand, BusySynchronizeWithData, BusyBroadcast, BusyWraparound, WraparoundInPart, WraparoundByBroadcast, WordOfAnotherSubaddress, WrittenWordAndReset, BroadcastShutdown, BroadcastInhibit, BroadcastReset, ResetClearsKeptStatus, BusControlRefused};
 
@@ -115,6 +115,7 @@ pub fn waiting()
     ensures no_transfer_after_data { NoTransferAfterData }
     ensures waits_once { WaitsOnce }
     ensures mode_code_never_waits { ModeCodeNeverWaits }
+    ensures start_comes_after_end { StartComesAfterEnd }
 {}
 
 /// What follows a command in its run.

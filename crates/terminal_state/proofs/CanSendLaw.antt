@@ -9,17 +9,18 @@ use Rattle.terminal_rules.specs.declared.event.Event.{Event}
 use Rattle.terminal_rules.specs.declared.event.Event.TheVariants.{Word, Noise, Gap, Write, Vector, Bit, Flag as FlagIs, Slot}
 use Rattle.terminal_rules.specs.declared.event.Flag.TheVariants.{Busy}
 use Rattle.terminal_rules.specs.LookBack.{latest, since, some}
-use Rattle.terminal_rules.specs.History.{Noted, Replying, Ending}
+use Rattle.terminal_rules.specs.History.{NoTurn, Noted, Replying, Ending}
 use Rattle.bus_legal.specs.Description.{Description}
 use Rattle.terminal_rules.specs.Open.{Open, Closed, First, Waiting, Second, open_now, transfer}
 use Rattle.terminal_rules.specs.Ends.{complete, ends_with, at_gap, unless_ignored, ends_now}
 use Rattle.terminal_rules.specs.Flags.{flag_now}
 use Rattle.terminal_rules.specs.SinceReset.{off_now}
 use Rattle.terminal_rules.specs.Past.{note, past}
-use Rattle.terminal_rules.specs.Reply.{words_after_status, begun, begins_reply, reply_after, reply_of, reply_now, replies_on, supersedes, slots_in}
-use Rattle.terminal_rules.specs.Turn.{is_answered, done_cell, turn_of_entry, turn_of_gap, turn_of_slot}
+use Rattle.terminal_rules.specs.Reply.{words_after_status, begun, begins_reply, reply_after, reply_of, reply_now, supersedes, slots_in}
+use Rattle.terminal_rules.specs.Turn.{is_answered, done_cell, turn_of_gap, turn_of_slot, unless_ignored_turn}
 use Rattle.terminal_state.specs.inner.Replies.{has_place, can_send}
 use Rattle.terminal_rules.proofs.CellLaw.{none_or_allowed, well_allowed}
+use Rattle.terminal_rules.specs.inner.Steps.{replies_on}
 
 -- the cell of a reply that begins is one that some command has
 abbrev cell_begun : Option (Bus × Option Cell) → Option Cell
@@ -38,12 +39,12 @@ at_gap_allowed P busy (Waiting c a) = refl
 at_gap_allowed P busy (Second c a after) = ends_with_allowed P busy c (complete c after) None
 
 gap_turn_allowed : (i a : Bool) (b : Bus) (x : Ending) → none_or_allowed (done_cell x) ≡ true →
-    none_or_allowed (cell_begun (begun (turn_of_gap i b a (done_cell (unless_ignored i x))))) ≡ true
+    none_or_allowed (cell_begun (begun (unless_ignored_turn i (turn_of_gap b a (done_cell (unless_ignored i x)))))) ≡ true
 gap_turn_allowed true a b x e = refl
 gap_turn_allowed false true b x e = e
 gap_turn_allowed false false b x e = refl
 
-entry_turn_allowed : (i : Bool) → none_or_allowed (cell_begun (begun (turn_of_entry i))) ≡ true
+entry_turn_allowed : (i : Bool) → none_or_allowed (cell_begun (begun (unless_ignored_turn i NoTurn))) ≡ true
 entry_turn_allowed true = refl
 entry_turn_allowed false = refl
 

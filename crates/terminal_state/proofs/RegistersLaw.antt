@@ -14,16 +14,16 @@ use Rattle.terminal_state.specs.declared.ended.Ended.TheVariants.{Nothing as End
 use Rattle.terminal_state.specs.declared.registers.Registers.{Registers}
 use Rattle.terminal_state.specs.inner.Ended.{ending_of}
 use Rattle.terminal_rules.specs.History.{NoTurn, Noted, Ending, Nothing, Badly, Illegal, Blocked, Done}
-use Rattle.terminal_rules.specs.Status.{spares, adds_error, reports_kept, no_parts, with_error_if, kept_by_start, kept_by_command, kept_by_end, start_first, reset_first}
+use Rattle.terminal_rules.specs.Status.{spares, adds_error, reports_kept, no_parts, with_error_if, kept_by_start, kept_by_command, kept_by_end, later_or}
 use Rattle.terminal_rules.specs.SinceReset.{start_bits, resets, is_reset, done_code}
 use Rattle.terminal_state.specs.inner.Standing.{fails}
 use Rattle.terminal_state.specs.inner.Registers.{registers_now, registers_after, kept_from, error_from, done_from, failed, failed_by, started, started_if, keeping, status_from, carried, settled, reset_if}
-use Rattle.terminal_rules.specs.inner.Steps.{kept_after, resets_at_gap}
+use Rattle.terminal_rules.specs.inner.Steps.{reset_first, kept_after, resets_at_gap}
 use Rattle.terminal_rules.proofs.KeptLaw.{kept_step}
 use Rattle.terminal_rules.proofs.BackLaw.{flag_step, inhibited_step, off_step, vector_step, bit_step, last_step}
 
 -- what an end sets the kept status to, from the registers
-kept_from_law : (P : Description) (h : List Noted) (x : Ending) → kept_by_end P h x ≡ kept_from P (registers_now P h) x
+kept_from_law : (P : Description) (h : List Noted) (x : Ending) → kept_by_end P h false x ≡ kept_from P (registers_now P h) x
 kept_from_law P h Nothing = refl
 kept_from_law P h (Badly c) = refl
 kept_from_law P h (Illegal c) = refl
@@ -33,7 +33,7 @@ kept_from_law P h (Done c cell ds) = refl
 -- all registers, one after the other
 pub registers_law : (P : Description) (p : Noted) (h : List Noted) → registers_now P (p ∷ h) ≡ registers_after P p.event (is_reset p) p.starts p.ends (registers_now P h)
 registers_law P p h =
-    let kept = kept_step P p h ∙ ap (λ k. kept_after (start_first (kept_by_start P (start_bits p)) (reset_first (is_reset p) k)) (adds_error P p.ends) (registers_now P h).kept) (kept_from_law P h p.ends) in
+    let kept = kept_step P p h ∙ ap (λ k. kept_after (later_or (kept_by_start P (start_bits p)) (reset_first (is_reset p) k)) (adds_error P p.ends) (registers_now P h).kept) (kept_from_law P h p.ends) in
     λ i. record {
       power_up = record { vector = P.vector; bit = P.bit };
       flags = record {
@@ -60,13 +60,13 @@ noise_law P (Some c) b r =
     ap (with_kept r) (elim (spares P c) as (λ s. kept_after (if s then None else Some (error_from r c)) s r.kept ≡ (if s then with_error_if true r.kept else error_from r c)) [ true ↦ refl | false ↦ refl ])
 
 started_kept : (k e : StatusParts) (c : ℕ) (a s : Bool) →
-    kept_after (start_first (kept_by_command a c) (if s then None else Some e)) s k ≡ (if a then (if s then with_error_if true k else e) else record no_parts { broadcast = is_broadcast c })
+    kept_after (later_or (kept_by_command a c) (if s then None else Some e)) s k ≡ (if a then (if s then with_error_if true k else e) else record no_parts { broadcast = is_broadcast c })
 started_kept k e c true true = refl
 started_kept k e c true false = refl
 started_kept k e c false s = refl
 
 free_kept : (k : StatusParts) (c : ℕ) (a : Bool) →
-    kept_after (start_first (kept_by_command a c) None) false k ≡ (if a then k else record no_parts { broadcast = is_broadcast c })
+    kept_after (later_or (kept_by_command a c) None) false k ≡ (if a then k else record no_parts { broadcast = is_broadcast c })
 free_kept k c true = refl
 free_kept k c false = refl
 

@@ -59,12 +59,17 @@ impl Ended {
         }
     }
 
-    /// Tells whether a reset acts at the gap, by whether a reply begins.
+    /// Tells whether a reset acts at the gap, by whether a reply begins: one by broadcast does, and one by the own address
+    /// where no reply begins.
     #[inline(always)]
     pub fn resets_at_gap(&self, begins: bool) -> bool
         ensures { (ds : List ℕ) → result ≡ resets_at_gap begins (ending_of self.now ds) }
     {
-        matches!(self.done_code(), Some(mode::RESET)) && !begins
+        match self {
+            Ended::Done(_, Cell::BroadMode(code)) => *code == mode::RESET,
+            Ended::Done(_, Cell::OwnMode(code)) => *code == mode::RESET && !begins,
+            _ => false,
+        }
     }
 }
 

@@ -1,13 +1,10 @@
--- How the fields of a `Normal` are its parts.
+-- That the parts of a `Normal` give its fields back.
 use Rattle.std.proofs.Common.{◌≡◌, ℕ, ◌≤◌, min, ap, subst, ◌∙◌, arith}
 use Rattle.std.proofs.Math.Bridge.{le_prop}
 use Rattle.bus_legal.specs.declared.setup.Setup.{Setup}
 use Rattle.bus_legal.specs.declared.tables.Tables.{Tables}
 use Rattle.bus_legal.specs.declared.normal.Normal.TheInside.{Inside}
 use Rattle.bus_legal.specs.Parts.{Parts, parts_of, IsNormal}
-
-abbrev pub parts_inside : Inside → Parts
-parts_inside n = parts_of n.setup n.tables
 
 -- The fields of these parts. An address or a wraparound subaddress that no set-up has becomes 30: no `Normal` has one.
 abbrev pub inside_of : Parts → Inside
@@ -25,9 +22,6 @@ inside_of v = record {
   };
   tables = v.tables;
 }
-
-abbrev pub IsNormalInside : Inside → Type 0
-IsNormalInside n = IsNormal (parts_inside n)
 
 -- ---- the fields come back
 
@@ -54,6 +48,6 @@ same_inside setup tables a b pa pb w x pw px e f =
     subst (λ n. (p : n ≤ 30) → inside_by setup a pa w pw tables ≡ inside_by setup n p w pw tables) e (λ p. ap (λ q. inside_by setup a q w pw tables) (le_prop pa p)) pb
     ∙ subst (λ n. (p : n ≤ 30) → inside_by setup b pb w pw tables ≡ inside_by setup b pb n p tables) f (λ p. ap (λ q. inside_by setup b pb w q tables) (le_prop pw p)) px
 
-pub inside_again : (n : Inside) → IsNormalInside n → inside_of (parts_inside n) ≡ n
+pub inside_again : (n : Inside) → IsNormal (parts_of n.setup n.tables) → inside_of (parts_of n.setup n.tables) ≡ n
 inside_again n is = same_inside n.setup n.tables (min n.setup.address 30) n.setup.address _ n.setup.own_address (min n.setup.wrap 30) n.setup.wrap _ n.setup.own_wrap
     (let small : n.setup.address ≤ 30 = is.address in omega arith) (let small : n.setup.wrap ≤ 30 = is.wrap in omega arith)

@@ -34,7 +34,7 @@ impl<L: Legality> Terminal<L> {
 
     /// Gives the next word of a reply.
     #[inline(always)]
-    pub fn next_sent(&self, reply: &Reply) -> Sent
+    pub(super) fn next_sent(&self, reply: &Reply) -> Sent
         ensures { can_send (shown_reply (Some reply.now)) ≡ true → shown_sent (Some result) ≡ sends_from self.now.settings.address self.now.registers (held_word self.now) (shown_reply (Some reply.now)) }
     {
         if reply.next == 0 {
@@ -54,7 +54,7 @@ impl<L: Legality> Terminal<L> {
 
     /// Gives what is handed over, where a gap ended a message so, as an answer.
     #[inline(always)]
-    pub fn handed(&self, ended: &Ended) -> Answer<'_>
+    pub(super) fn handed(&self, ended: &Ended) -> Answer<'_>
         ensures answer { shown_answer result ≡ handing_over (hands (own_description L.is_legal self.now) (ending_of ended.now self.now.in_progress.words.items)) }
         ensures small { IsSmall (shown_answer result) }
     {

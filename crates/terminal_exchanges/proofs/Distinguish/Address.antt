@@ -13,7 +13,8 @@ use Rattle.terminal_rules.specs.inner.Steps.{begun_if}
 use Rattle.terminal_rules.specs.Out.{sends}
 use Rattle.terminal_rules.specs.Starts.{is_meant}
 use Rattle.terminal_exchanges.specs.Exchanges.{Exchange}
-use Rattle.terminal_exchanges.specs.inner.ExchangeLaw.{notes_before_gap, notes_at_gap, exchange_notes, AreAnswered}
+use Rattle.terminal_exchanges.specs.ExchangeLaws.{AreAnswered}
+use Rattle.terminal_exchanges.proofs.Notes.{notes_before_gap, notes_at_gap, exchange_notes}
 use Rattle.terminal_exchanges.specs.Distinguish.{TellsApart, ask, address_script}
 use Rattle.terminal_exchanges.proofs.ExchangeLaw.{idle_law, at_gap_reply, unmeant_end}
 use Rattle.terminal_exchanges.proofs.Distinguish.Commands.{IsTo, code_to_own, own_no_broadcast}

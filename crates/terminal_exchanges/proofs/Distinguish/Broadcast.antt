@@ -13,19 +13,21 @@ use Rattle.terminal_rules.specs.declared.event.Event.TheVariants.{Gap}
 use Rattle.terminal_rules.specs.History.{NoTurn, Noted, noted_as, Ending, Nothing, Illegal, Done}
 use Rattle.terminal_rules.specs.Reply.{words_after_status}
 use Rattle.terminal_rules.specs.Ends.{verdict, well}
-use Rattle.terminal_rules.specs.SinceReset.{is_code, done_code, inhibited_now, off_now, is_reset_cell}
+use Rattle.terminal_rules.specs.SinceReset.{resets as resets_turn, inhibited_now, off_now}
 use Rattle.terminal_rules.specs.Turn.{is_answered, done_cell, turn_of_gap}
-use Rattle.terminal_rules.specs.Status.{no_parts, inhibited_after, formed_done, kept_by_end, reset_first, adds_error, kept_now}
-use Rattle.terminal_rules.specs.inner.Steps.{kept_after}
+use Rattle.terminal_rules.specs.Status.{no_parts, inhibited_after, formed_done, kept_by_end, adds_error, kept_now}
+use Rattle.terminal_rules.specs.inner.Steps.{reset_first, kept_after}
 use Rattle.terminal_rules.specs.Starts.{is_meant}
 use Rattle.terminal_exchanges.specs.Exchanges.{Exchange, script_of, command_event}
-use Rattle.terminal_exchanges.specs.inner.ExchangeLaw.{command_note, slot_notes, notes_at_gap, ending_of_exchange, exchange_notes, slots_needed, AreAnswered}
+use Rattle.terminal_exchanges.specs.ExchangeLaws.{ending_of_exchange, slots_needed, AreAnswered}
+use Rattle.terminal_exchanges.proofs.Notes.{command_note, slot_notes, notes_at_gap, exchange_notes}
 use Rattle.terminal_exchanges.specs.Distinguish.{TellsApart, all_terminals, mode_code, ask, option_script}
 use Rattle.terminal_rules.proofs.KeptLaw.{kept_step}
+use Rattle.terminal_rules.proofs.ResetLaw.{or-false}
 use Rattle.terminal_exchanges.proofs.Distinguish.Commands.{IsTo, code_to_own, ask_to_all, moved}
 use Rattle.terminal_exchanges.proofs.Distinguish.Last.{slot_at, apart_by_two, bits_in}
 use Rattle.terminal_exchanges.proofs.Distinguish.Quiet.{notes_at, plain, formed_plain, words_kept}
-use Rattle.terminal_exchanges.proofs.Distinguish.Own.{ended, status_asked}
+use Rattle.terminal_exchanges.proofs.Distinguish.Own.{is_reset_cell, ended, status_asked}
 
 -- the cell of a broadcast command, or none
 abbrev pub is_of_broadcast : Option Cell → Bool
@@ -90,10 +92,10 @@ silent_note e = noted_as (Gap A) NoTurn false e
 broadcast_notes : (P : Description) (xs : List Exchange) (x : Exchange) (o : Option Cell) → IsTo all_terminals o x → exchange_notes P (x ∷ xs) ≡ silent_note (ending_of_exchange P x) ∷ notes_at P xs x
 broadcast_notes P xs x o to =
     ap (λ n. slot_notes n (notes_at_gap P x (exchange_notes P xs))) (to.no_slots refl)
-    ∙ ap (λ a. noted_as (Gap A) (turn_of_gap false A a (done_cell (ending_of_exchange P x))) false (ending_of_exchange P x) ∷ notes_at P xs x) (silent_end P (off_now (notes_at P xs x) A) x (to_all x o to))
+    ∙ ap (λ a. noted_as (Gap A) (turn_of_gap A a (done_cell (ending_of_exchange P x))) false (ending_of_exchange P x) ∷ notes_at P xs x) (silent_end P (off_now (notes_at P xs x) A) x (to_all x o to))
 
 abbrev kept_by : Description → List Exchange → Exchange → Ending → StatusParts
-kept_by P xs x e = kept_after (reset_first (is_code 8 (done_code e)) (kept_by_end P (notes_at P xs x) e)) (adds_error P e) (kept_now P (notes_at P xs x))
+kept_by P xs x e = kept_after (reset_first (resets_turn NoTurn e) (kept_by_end P (notes_at P xs x) false e)) (adds_error P e) (kept_now P (notes_at P xs x))
 
 unheard_kept : (P : Description) (xs : List Exchange) (x : Exchange) → is_meant P x.command ≡ false → kept_by P xs x Nothing ≡ kept_now P (exchange_notes P xs)
 unheard_kept P xs x unmeant =
@@ -117,8 +119,9 @@ done_kept P xs x (OwnMode code) to by_broadcast = cc
 done_kept P xs x (BroadReceive s n) to by_broadcast =
     formed_plain P xs x x.command false false (inhibited_after (inhibited_now (notes_at P xs x)) (BroadReceive s n)) ∙ ap (λ a. plain false (a == 31) false) to.address
 done_kept P xs x (BroadMode code) to by_broadcast =
-    code_kept (code == 8) (formed_done P (notes_at P xs x) x.command (BroadMode code)) (plain false true false) (kept_now P (notes_at P xs x))
+    code_kept ((code == 8) || false) (formed_done P (notes_at P xs x) x.command (BroadMode code)) (plain false true false) (kept_now P (notes_at P xs x))
     (formed_plain P xs x x.command false false (inhibited_after (inhibited_now (notes_at P xs x)) (BroadMode code)) ∙ ap (λ a. plain false (a == 31) false) to.address)
+    ∙ ap (λ t. if t then no_parts else plain false true false) (or-false (code == 8))
 
 heard_kept : (P : Description) (xs : List Exchange) (x : Exchange) (o : Option Cell) → IsTo all_terminals o x → is_of_broadcast o ≡ true →
     kept_by P xs x (verdict P.legal false x.command x.words o) ≡ parts_after true (has_legal P o) (resets o)

@@ -7,13 +7,12 @@ use Rattle.bus_word.specs.Mode.{mode_row}
 use Rattle.bus_word.specs.Cell.{is_data_place, allows_broadcast}
 use Rattle.bus_word.specs.Status.{status_word}
 use Rattle.bus_legal.specs.Description.{Description}
-use Rattle.terminal_rules.specs.SinceReset.{is_reset_cell}
 use Rattle.terminal_rules.specs.Status.{accepts}
 use Rattle.terminal_exchanges.specs.Exchanges.{Exchange, script_of}
 use Rattle.terminal_exchanges.specs.Distinguish.{TellsApart, all_terminals, receive_zeros, transmit, mode_code, ask, own_receive_script, own_transmit_script, broadcast_receive_script, own_code_script, broadcast_code_script}
 use Rattle.terminal_exchanges.proofs.Distinguish.Commands.{IsTo, zeros_small, receive_to_own, receive_to_all, transmit_from_own, code_to_own, code_to_all, moved}
 use Rattle.terminal_exchanges.proofs.Distinguish.Last.{apart_by_one, bits_in}
-use Rattle.terminal_exchanges.proofs.Distinguish.Own.{parts_by, status_told}
+use Rattle.terminal_exchanges.proofs.Distinguish.Own.{is_reset_cell, parts_by, status_told}
 use Rattle.terminal_exchanges.proofs.Distinguish.Broadcast.{is_of_broadcast, parts_after, asked_apart}
 
 pub own_told : (a : ℕ) (l m x y : Bool) → status_word a (parts_by l x) ≡ status_word a (parts_by m y) → l ≡ m

@@ -19,7 +19,8 @@ use Rattle.terminal_rules.specs.Turn.{is_answered, done_cell}
 use Rattle.terminal_rules.specs.Status.{kept_now}
 use Rattle.terminal_rules.specs.Out.{sending}
 use Rattle.terminal_exchanges.specs.Exchanges.{Exchange, script_of}
-use Rattle.terminal_exchanges.specs.inner.ExchangeLaw.{gap_note, slot_notes, notes_at_gap, ending_of_exchange, exchange_notes, slots_needed, AreAnswered}
+use Rattle.terminal_exchanges.specs.ExchangeLaws.{ending_of_exchange, slots_needed, AreAnswered}
+use Rattle.terminal_exchanges.proofs.Notes.{gap_note, slot_notes, notes_at_gap, exchange_notes}
 use Rattle.terminal_exchanges.specs.Distinguish.{TellsApart, all_terminals, transmit, receive_complement}
 use Rattle.terminal_rules.specs.inner.Steps.{unless_reset, begun_if}
 use Rattle.terminal_rules.proofs.BackLaw.{held_step}

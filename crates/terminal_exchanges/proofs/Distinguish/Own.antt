@@ -5,7 +5,10 @@ use Rattle.bus_word.specs.declared.word.Bus.TheVariants.{A}
 use Rattle.bus_word.specs.declared.status.StatusParts.{StatusParts}
 use Rattle.bus_word.specs.declared.cell.Cell.{Cell}
 use Rattle.bus_word.specs.declared.cell.Cell.TheVariants.{OwnReceive, OwnTransmit, BroadReceive, OwnMode, BroadMode}
-use Rattle.bus_word.specs.Command.{address_of, is_broadcast}
+use Rattle.bus_word.specs.declared.mode.ModeRow.{ModeRow}
+use Rattle.bus_word.specs.Command.{address_of, transmits, subaddress_of, code_of, count_of, is_mode, is_broadcast}
+use Rattle.bus_word.specs.Mode.{mode_row}
+use Rattle.bus_word.specs.Cell.{data_cell, same_bool, mode_cell_by, cell_of}
 use Rattle.bus_word.specs.Status.{status_word}
 use Rattle.bus_legal.specs.Description.{Description}
 use Rattle.terminal_rules.specs.declared.event.Event.TheVariants.{Gap}
@@ -13,14 +16,15 @@ use Rattle.terminal_rules.specs.LookBack.{latest}
 use Rattle.terminal_rules.specs.History.{Replying, NoTurn, Begins, Noted, noted_as, Ending, Nothing, Illegal, Done}
 use Rattle.terminal_rules.specs.Reply.{words_after_status, reply_after, reply_now}
 use Rattle.terminal_rules.specs.Ends.{verdict, well}
-use Rattle.terminal_rules.specs.SinceReset.{inhibited_now, since_reset, is_reset_cell, sends_reset}
+use Rattle.terminal_rules.specs.SinceReset.{inhibited_now, since_reset, is_status_of_reset, resets_by_broadcast, does_own_reset, is_reset}
 use Rattle.terminal_rules.specs.Turn.{is_answered, done_cell, turn_of_gap}
-use Rattle.terminal_rules.specs.Status.{no_parts, accepts, inhibited_after, formed_error, formed_done, reports_kept, spares, spares_kept, kept_by_command, start_first, kept_now}
-use Rattle.terminal_rules.specs.inner.Steps.{kept_after, sent_one, begun_if, resets_next}
+use Rattle.terminal_rules.specs.Status.{no_parts, accepts, inhibited_after, formed_error, formed_done, reports_kept, spares, spares_kept, kept_by_command, later_or, kept_now}
+use Rattle.terminal_rules.specs.inner.Steps.{reset_first, kept_after, sent_one, begun_if, resets_next}
 use Rattle.terminal_rules.specs.Out.{next_sent, sends}
 use Rattle.terminal_rules.specs.Starts.{is_meant}
 use Rattle.terminal_exchanges.specs.Exchanges.{Exchange, command_event}
-use Rattle.terminal_exchanges.specs.inner.ExchangeLaw.{word_note, command_note, slot_note, slot_notes, notes_at_gap, ending_of_exchange, exchange_notes, AreAnswered}
+use Rattle.terminal_exchanges.specs.ExchangeLaws.{ending_of_exchange, AreAnswered}
+use Rattle.terminal_exchanges.proofs.Notes.{word_note, command_note, slot_note, slot_notes, notes_at_gap, exchange_notes}
 use Rattle.terminal_rules.proofs.KeptLaw.{kept_step}
 use Rattle.terminal_rules.proofs.ReplyLaw.{no_words, reply_slot_law}
 use Rattle.terminal_rules.proofs.ResetLaw.{slot_resets}
@@ -50,8 +54,8 @@ pub own_gap : (P : Description) (xs : List Exchange) (x : Exchange) (cell : Cell
     notes_at_gap P x (exchange_notes P xs) ≡ own_noted legal x cell ∷ notes_at P xs x
 own_gap P xs x cell legal low to is =
     let e : ending_of_exchange P x ≡ ended legal x cell = own_ends P x cell to ∙ ap (λ l. ended l x cell) is in
-    (λ j. noted_as (Gap A) (turn_of_gap false A (is_answered (on_at P xs x j) (e j)) (done_cell (e j))) false (e j) ∷ notes_at P xs x)
-    ∙ ap (λ a. noted_as (Gap A) (turn_of_gap false A a (done_cell (ended legal x cell))) false (ended legal x cell) ∷ notes_at P xs x) (is_answered-own legal x cell (own_no_broadcast P.address (Some cell) x low to))
+    (λ j. noted_as (Gap A) (turn_of_gap A (is_answered (on_at P xs x j) (e j)) (done_cell (e j))) false (e j) ∷ notes_at P xs x)
+    ∙ ap (λ a. noted_as (Gap A) (turn_of_gap A a (done_cell (ended legal x cell))) false (ended legal x cell) ∷ notes_at P xs x) (is_answered-own legal x cell (own_no_broadcast P.address (Some cell) x low to))
 
 -- the reply that begins there
 pub own_reply : (P : Description) (xs : List Exchange) (x : Exchange) (cell : Cell) (legal : Bool) → P.address ≤ 30 → IsTo P.address (Some cell) x → P.legal cell ≡ legal → AreAnswered P xs →
@@ -92,10 +96,55 @@ own_status P xs x cell legal low to is a =
 illegal_kept : (P : Description) (h : List Noted) (x : Exchange) (cell : Cell) → kept_now P (own_noted false x cell ∷ h) ≡ formed_error h x.command
 illegal_kept P h x cell = kept_step P (own_noted false x cell) h
 
-done_kept : (P : Description) (h : List Noted) (x : Exchange) (cell : Cell) →
+-- the gap of a command to the own address, which is answered, is no reset
+abbrev is_all_code : Option Cell → Bool
+is_all_code (Some (BroadMode code)) = true
+is_all_code _ = false
+
+mode_own : (code : ℕ) (t b r : Bool) → b ≡ false → is_all_code (if t then (if b then (if r then Some (BroadMode code) else None) else Some (OwnMode code)) else None) ≡ false
+mode_own code false b r e = refl
+mode_own code true false r e = refl
+mode_own code true true r e = cc
+
+row_own : (c : ℕ) (o : Option ModeRow) → is_broadcast c ≡ false → is_all_code (mode_cell_by c o) ≡ false
+row_own c None e = refl
+row_own c (Some row) e = mode_own (code_of c) (same_bool (transmits c) row.transmit) (is_broadcast c) row.broadcast e
+
+data_own : (s n : ℕ) (t b : Bool) → is_all_code (if t then (if b then None else Some (OwnTransmit s n)) else (if b then Some (BroadReceive s n) else Some (OwnReceive s n))) ≡ false
+data_own s n true true = refl
+data_own s n true false = refl
+data_own s n false true = refl
+data_own s n false false = refl
+
+own_code : (c : ℕ) → is_broadcast c ≡ false → is_all_code (cell_of c) ≡ false
+own_code c e = by_mode (is_mode c)
+  where
+    by_mode : (m : Bool) → is_all_code (if m then mode_cell_by c (mode_row (code_of c)) else data_cell c) ≡ false
+    by_mode true = row_own c (mode_row (code_of c)) e
+    by_mode false = data_own (subaddress_of c) (count_of c) (transmits c) (is_broadcast c)
+
+by_own_cell : (c : ℕ) (cell : Cell) (ds : List ℕ) → is_all_code (Some cell) ≡ false → resets_by_broadcast (Done c cell ds) ≡ false
+by_own_cell c (OwnReceive s n) ds e = refl
+by_own_cell c (OwnTransmit s n) ds e = refl
+by_own_cell c (BroadReceive s n) ds e = refl
+by_own_cell c (OwnMode code) ds e = refl
+by_own_cell c (BroadMode code) ds e = cc
+
+neither : (r d : Bool) → r ≡ false → r || ((d && false) || false) ≡ false
+neither true d e = e
+neither false true e = refl
+neither false false e = refl
+
+own_no_reset : (P : Description) (x : Exchange) (cell : Cell) → P.address ≤ 30 → IsTo P.address (Some cell) x → is_reset (own_noted true x cell) ≡ false
+own_no_reset P x cell low to =
+    neither (resets_by_broadcast (Done x.command cell x.words)) (does_own_reset (Done x.command cell x.words))
+    (by_own_cell x.command cell x.words (ap is_all_code (sym to.cell) ∙ own_code x.command (own_no_broadcast P.address (Some cell) x low to)))
+
+done_kept : (P : Description) (h : List Noted) (x : Exchange) (cell : Cell) → P.address ≤ 30 → IsTo P.address (Some cell) x →
     kept_now P (own_noted true x cell ∷ h) ≡ (if reports_kept cell then kept_now P h else formed_done P h x.command cell)
-done_kept P h x cell =
+done_kept P h x cell low to =
     kept_step P (own_noted true x cell) h
+    ∙ ap (λ r. kept_after (reset_first r (if reports_kept cell then None else Some (formed_done P h x.command cell))) false (kept_now P h)) (own_no_reset P x cell low to)
     ∙ elim (reports_kept cell) as (λ r. kept_after (if r then None else Some (formed_done P h x.command cell)) false (kept_now P h) ≡ (if r then kept_now P h else formed_done P h x.command cell)) [ true ↦ refl | false ↦ refl ]
 
 -- a command that spares the kept status leaves it as it is
@@ -105,7 +154,7 @@ spared P c h s = by_meant (is_meant P c)
     by_meant : (m : Bool) → kept_now P (noted_as (command_event c) NoTurn m Nothing ∷ h) ≡ kept_now P h
     by_meant true =
         kept_step P (noted_as (command_event c) NoTurn true Nothing) h
-        ∙ ap (λ b. kept_after (start_first (kept_by_command b c) None) false (kept_now P h)) s
+        ∙ ap (λ b. kept_after (later_or (kept_by_command b c) None) false (kept_now P h)) s
     by_meant false = kept_step P (noted_as (command_event c) NoTurn false Nothing) h
 
 pub kept_at : (P : Description) (xs : List Exchange) (x : Exchange) (cell : Cell) → IsTo P.address (Some cell) x → reports_kept cell ≡ true → P.legal cell ≡ true →
@@ -148,7 +197,7 @@ pub status_told : (P : Description) (xs : List Exchange) (x : Exchange) (cell : 
 status_told P xs x cell low to fresh a = by_legal (P.legal cell) refl
   where
     by_legal : (l : Bool) → P.legal cell ≡ l → bits_in (slot_at 0 P xs x) ≡ status_word P.address (parts_by l (accepts P.accept cell))
-    by_legal true e = own_status P xs x cell true low to e a ∙ ap (status_word P.address) (done_kept P (notes_at P xs x) x cell ∙ done_parts P xs x cell low to e fresh)
+    by_legal true e = own_status P xs x cell true low to e a ∙ ap (status_word P.address) (done_kept P (notes_at P xs x) x cell low to ∙ done_parts P xs x cell low to e fresh)
     by_legal false e =
         own_status P xs x cell false low to e a
         ∙ ap (status_word P.address)
@@ -170,7 +219,13 @@ pub status_asked : (P : Description) (xs : List Exchange) (x : Exchange) → P.a
     bits_in (slot_at 0 P xs x) ≡ status_word P.address (kept_now P (exchange_notes P xs))
 status_asked P xs x low to legal a =
     own_status P xs x (OwnMode 2) true low to legal a
-    ∙ ap (status_word P.address) (done_kept P (notes_at P xs x) x (OwnMode 2) ∙ kept_at P xs x (OwnMode 2) to refl legal)
+    ∙ ap (status_word P.address) (done_kept P (notes_at P xs x) x (OwnMode 2) low to ∙ kept_at P xs x (OwnMode 2) to refl legal)
+
+-- reset remote terminal, by the own address or by broadcast
+abbrev pub is_reset_cell : Cell → Bool
+is_reset_cell (OwnMode code) = code == 8
+is_reset_cell (BroadMode code) = code == 8
+is_reset_cell _ = false
 
 -- a reply that is none to a reset
 abbrev pub is_no_reset : Option Cell → Bool
@@ -198,9 +253,13 @@ never_next (Some r) e = by_cell r.number r.cell e
     by_test true false e = refl
     by_test false false e = refl
 
-    by_cell : (number : ℕ) (cell : Option Cell) → is_no_reset cell ≡ true → sends_reset number cell ≡ false
+    by_cell : (number : ℕ) (cell : Option Cell) → is_no_reset cell ≡ true → is_status_of_reset number cell ≡ false
     by_cell number None e = refl
-    by_cell number (Some cell) e = by_test (number == 0) (is_reset_cell cell) e
+    by_cell number (Some (OwnReceive s n)) e = refl
+    by_cell number (Some (OwnTransmit s n)) e = refl
+    by_cell number (Some (BroadReceive s n)) e = refl
+    by_cell number (Some (OwnMode code)) e = by_test (number == 0) (code == 8) e
+    by_cell number (Some (BroadMode code)) e = refl
 
 -- slots of such a reply change nothing that is looked up
 pub slots_back : {Y : Type 0} (f : Noted → Option Y) (n : ℕ) (h : List Noted) → ((k : List Noted) → f (slot_note k) ≡ None) → never_resets (reply_now h) ≡ true →
@@ -218,5 +277,6 @@ pub own_back : {Y : Type 0} (P : Description) (f : Noted → Option Y) (xs : Lis
 own_back {Y} P f xs x cell j low to legal a plain slots words command gap =
     slots_back f j (notes_at_gap P x (exchange_notes P xs)) slots (ap never_resets (own_reply P xs x cell true low to legal a) ∙ ap not plain)
     ∙ (ap (λ k. latest f (since_reset k)) (own_gap P xs x cell true low to legal)
+    ∙ (ap (λ r. latest f (if r then [] else own_noted true x cell ∷ since_reset (notes_at P xs x))) (own_no_reset P x cell low to)
     ∙ (ap (λ o. elim o as (λ o. Option Y) [ None ↦ latest f (since_reset (notes_at P xs x)) | Some y ↦ Some y ]) gap
-    ∙ exchange_back P f x (exchange_notes P xs) words command))
+    ∙ exchange_back P f x (exchange_notes P xs) words command)))

@@ -13,7 +13,8 @@ use Rattle.terminal_rules.specs.Flags.{flag_now}
 use Rattle.terminal_rules.specs.SinceReset.{is_reset, since_reset, shuts, off_now}
 use Rattle.terminal_rules.specs.Status.{no_parts, formed, kept_now}
 use Rattle.terminal_exchanges.specs.Exchanges.{Exchange}
-use Rattle.terminal_exchanges.specs.inner.ExchangeLaw.{word_note, word_notes, slot_note, slot_notes, command_note, gap_note, notes_before_gap, notes_at_gap, ending_of_exchange, exchange_notes}
+use Rattle.terminal_exchanges.specs.ExchangeLaws.{ending_of_exchange}
+use Rattle.terminal_exchanges.proofs.Notes.{word_note, word_notes, slot_note, slot_notes, command_note, gap_note, notes_before_gap, notes_at_gap, exchange_notes}
 use Rattle.terminal_exchanges.proofs.ExchangeLaw.{words_flag, slots_flag}
 use Rattle.terminal_rules.proofs.KeptLaw.{kept_step}
 

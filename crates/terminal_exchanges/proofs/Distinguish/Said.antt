@@ -6,7 +6,8 @@ use Rattle.terminal_rules.specs.LookBack.{latest, since}
 use Rattle.terminal_rules.specs.History.{Noted}
 use Rattle.terminal_rules.specs.SinceReset.{is_reset, since_reset}
 use Rattle.terminal_exchanges.specs.Exchanges.{Exchange}
-use Rattle.terminal_exchanges.specs.inner.ExchangeLaw.{word_note, command_note, gap_note, slot_note, slot_notes, notes_at_gap, ending_of_exchange, exchange_notes}
+use Rattle.terminal_exchanges.specs.ExchangeLaws.{ending_of_exchange}
+use Rattle.terminal_exchanges.proofs.Notes.{word_note, command_note, gap_note, slot_note, slot_notes, notes_at_gap, exchange_notes}
 use Rattle.terminal_exchanges.proofs.Distinguish.Quiet.{notes_at, exchange_back}
 
 -- each of some exchanges passes

@@ -6,7 +6,7 @@ use Rattle.bus_legal.specs.Description.{Description}
 use Rattle.terminal_rules.specs.LookBack.{or_else}
 use Rattle.terminal_rules.specs.SinceReset.{vector_word_set, bit_word_set}
 use Rattle.terminal_exchanges.specs.Exchanges.{Exchange}
-use Rattle.terminal_exchanges.specs.inner.ExchangeLaw.{AreAnswered}
+use Rattle.terminal_exchanges.specs.ExchangeLaws.{AreAnswered}
 use Rattle.terminal_exchanges.specs.Distinguish.{TellsApart, mode_code, mode_code_with, acceptance_script, vector_script, bit_script}
 use Rattle.terminal_exchanges.proofs.Distinguish.Commands.{IsTo, slots_for-own, code_to_own, code_to_own_with, moved}
 use Rattle.terminal_exchanges.proofs.Distinguish.Last.{slot_at, apart_by_one, bits_in}

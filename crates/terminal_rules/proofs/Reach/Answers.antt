@@ -12,14 +12,14 @@ use Rattle.terminal_rules.specs.declared.event.Event.{Event}
 use Rattle.terminal_rules.specs.declared.event.Event.TheVariants.{Word, Noise, Gap, Write, Vector, Bit, Flag as FlagIs, Slot}
 use Rattle.terminal_rules.specs.declared.event.Flag.TheVariants.{Busy}
 use Rattle.terminal_rules.specs.LookBack.{latest, or_else, since, some}
-use Rattle.terminal_rules.specs.History.{Noted, Replying, Ending, Nothing, Badly, Illegal, Blocked, Done}
+use Rattle.terminal_rules.specs.History.{Noted, NoTurn, Replying, Ending, Nothing, Badly, Illegal, Blocked, Done}
 use Rattle.terminal_rules.specs.Open.{open_now}
-use Rattle.terminal_rules.specs.Reply.{words_after_status, begun, begins_reply, supersedes, slots_in, reply_after, reply_of, reply_now, replies_on}
+use Rattle.terminal_rules.specs.Reply.{words_after_status, begun, begins_reply, supersedes, slots_in, reply_after, reply_of, reply_now}
 use Rattle.terminal_rules.specs.Flags.{flag_now}
 use Rattle.terminal_rules.specs.Ends.{unless_ignored, ends_now}
 use Rattle.terminal_rules.specs.SinceReset.{since_reset, vector_word_set, vector_now, bit_word_set, bit_now, last_now, off_now}
 use Rattle.terminal_rules.specs.Status.{kept_now}
-use Rattle.terminal_rules.specs.Turn.{is_answered, done_cell, turn_of_entry, turn_of_gap, turn_of_slot}
+use Rattle.terminal_rules.specs.Turn.{is_answered, done_cell, turn_of_gap, turn_of_slot, unless_ignored_turn}
 use Rattle.terminal_rules.specs.Past.{note, past}
 use Rattle.terminal_rules.specs.Out.{code_word, reply_word, sending, sends, Handing, HandsSynchronize, HandsSynchronizeWith, HandsSelfTest, HandsBusControl, first_word, code_hands, hands, handing_over, sending_out, out_now, out}
 use Rattle.terminal_rules.proofs.Reach.Heard.{CanBeDone, DoesWhatItCan, AllDoWhatTheyCan, IsMeant, open_meant, event_can, past_can}
@@ -27,6 +27,7 @@ use Rattle.terminal_rules.proofs.Reach.Agrees.{Agrees}
 use Rattle.terminal_rules.proofs.Reach.Past.{at_gap_alike, past_alike}
 use Rattle.terminal_rules.proofs.Reach.Kept.{legal_at, kept_alike}
 use Rattle.terminal_rules.proofs.Reach.Held.{held_alike}
+use Rattle.terminal_rules.specs.inner.Steps.{replies_on}
 
 -- the data word that goes with a mode code, by the code
 chosen_word : (is_16 is_18 is_19 : Bool) (v w last b d : ℕ) → (is_16 ≡ true → v ≡ w) → (is_19 ≡ true → b ≡ d) →
@@ -66,12 +67,12 @@ abbrev begun_cell : Option (Bus × Option Cell) → Option Cell
 begun_cell None = None
 begun_cell (Some r) = r.1
 
-gap_turn_can : (P : Description) (i a : Bool) (b : Bus) (x : Ending) → DoesWhatItCan P x → CellCan P (begun_cell (begun (turn_of_gap i b a (done_cell x))))
+gap_turn_can : (P : Description) (i a : Bool) (b : Bus) (x : Ending) → DoesWhatItCan P x → CellCan P (begun_cell (begun (unless_ignored_turn i (turn_of_gap b a (done_cell x)))))
 gap_turn_can P true a b x can = tt
 gap_turn_can P false true b x can = done_can P x can
 gap_turn_can P false false b x can = tt
 
-entry_turn_can : (P : Description) (i : Bool) → CellCan P (begun_cell (begun (turn_of_entry i)))
+entry_turn_can : (P : Description) (i : Bool) → CellCan P (begun_cell (begun (unless_ignored_turn i NoTurn)))
 entry_turn_can P true = tt
 entry_turn_can P false = tt
 

@@ -21,11 +21,11 @@ use Rattle.terminal_rules.specs.Open.{Open, Closed, First, Waiting, Second, open
 use Rattle.terminal_rules.specs.Starts.{is_for, heard_now, is_free, is_fresh_broadcast, starts_message, starts_now, is_meant}
 use Rattle.terminal_rules.specs.Flags.{flag_now}
 use Rattle.terminal_rules.specs.Ends.{verdict, complete, is_blocked_by_busy, ends_with, at_gap, at_entry, unless_ignored, ends_now}
-use Rattle.terminal_rules.specs.Reply.{replies_on}
 use Rattle.terminal_rules.specs.Past.{past}
 use Rattle.terminal_rules.specs.OpenLaws.{start_of, command_open}
 use Rattle.terminal_rules.proofs.CellLaw.{none_or_allowed, cell_of-allowed}
 use Rattle.terminal_rules.proofs.LatestLaw.{latest_start_law}
+use Rattle.terminal_rules.specs.inner.Steps.{replies_on}
 
 -- the cell, if there is one, is one of commands that are meant for the terminal
 abbrev IsHeard : Bool → Option Cell → Type 0

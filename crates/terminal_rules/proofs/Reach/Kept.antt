@@ -9,8 +9,8 @@ use Rattle.bus_legal.specs.Description.{Description}
 use Rattle.bus_legal.specs.Reach.{Rest, with_rest}
 use Rattle.terminal_rules.specs.History.{Noted, Ending, Nothing, Badly, Illegal, Blocked, Done}
 use Rattle.terminal_rules.specs.SinceReset.{inhibited_now, start_bits, is_reset}
-use Rattle.terminal_rules.specs.Status.{formed, formed_error, accepts, inhibited_after, formed_done, reports_kept, spares_kept, kept_by_end, kept_by_command, kept_by_start, start_first, reset_first, adds_error, kept_now}
-use Rattle.terminal_rules.specs.inner.Steps.{kept_after}
+use Rattle.terminal_rules.specs.Status.{formed, formed_error, accepts, inhibited_after, formed_done, reports_kept, spares_kept, kept_by_end, kept_by_command, kept_by_start, later_or, adds_error, kept_now}
+use Rattle.terminal_rules.specs.inner.Steps.{reset_first, kept_after}
 use Rattle.terminal_rules.proofs.KeptLaw.{kept_step}
 use Rattle.terminal_rules.proofs.Reach.Heard.{DoesWhatItCan, AllDoWhatTheyCan}
 use Rattle.terminal_rules.proofs.Reach.Agrees.{Agrees}
@@ -57,7 +57,7 @@ by_start_alike : (P : Description) (R : Rest) → Agrees P R → (o : Option ℕ
 by_start_alike P R a None = refl
 by_start_alike P R a (Some c) = ap (λ s. kept_by_command s c) (spares_alike P R a (cell_of c))
 
-by_end_alike : (P : Description) (R : Rest) → Agrees P R → (h : List Noted) (x : Ending) → DoesWhatItCan P x → kept_by_end (with_rest P R) h x ≡ kept_by_end P h x
+by_end_alike : (P : Description) (R : Rest) → Agrees P R → (h : List Noted) (x : Ending) → DoesWhatItCan P x → kept_by_end (with_rest P R) h false x ≡ kept_by_end P h false x
 by_end_alike P R a h Nothing can = refl
 by_end_alike P R a h (Badly c) can = ap (λ s. if s then None else Some (formed_error h c)) (spares_alike P R a (cell_of c))
 by_end_alike P R a h (Illegal c) can = refl
@@ -76,5 +76,5 @@ pub kept_alike : (P : Description) (R : Rest) → Agrees P R → (h : List Noted
 kept_alike P R a [] all = refl
 kept_alike P R a (p ∷ h) (can, all) =
     kept_step (with_rest P R) p h
-    ∙ ((λ j. kept_after (start_first (by_start_alike P R a (start_bits p) j) (reset_first (is_reset p) (by_end_alike P R a h p.ends can j))) (adds_alike P R a p.ends j) (kept_alike P R a h all j))
+    ∙ ((λ j. kept_after (later_or (by_start_alike P R a (start_bits p) j) (reset_first (is_reset p) (by_end_alike P R a h p.ends can j))) (adds_alike P R a p.ends j) (kept_alike P R a h all j))
     ∙ sym (kept_step P p h))

@@ -9,7 +9,6 @@ use Rattle.terminal_rules.specs.declared.event.Event.{Event}
 use Rattle.terminal_rules.specs.declared.event.Event.TheVariants.{Word, Noise, Gap, Write, Vector, Bit, Flag as FlagIs, Slot}
 use Rattle.terminal_rules.specs.declared.event.Flag.TheVariants.{Busy}
 use Rattle.terminal_rules.specs.History.{Noted, Illegal, Blocked, Done}
-use Rattle.terminal_rules.specs.Reply.{replies_on}
 use Rattle.terminal_rules.specs.Turn.{noted}
 use Rattle.terminal_rules.specs.Open.{Open, Closed, First, Waiting, Second, open_now, transfer}
 use Rattle.terminal_rules.specs.Flags.{flag_now}
@@ -18,6 +17,7 @@ use Rattle.terminal_rules.specs.Past.{note, past}
 use Rattle.terminal_rules.specs.Starts.{is_meant}
 use Rattle.terminal_rules.proofs.Reach.Heard.{CanBeAsked, meant_cell, IsMeant, open_meant}
 use Rattle.terminal_rules.proofs.Reach.Agrees.{Agrees}
+use Rattle.terminal_rules.specs.inner.Steps.{replies_on}
 
 verdict_alike : (P : Description) (R : Rest) → Agrees P R → (busy : Bool) (c : ℕ) (ds : List ℕ) (o : Option Cell) → CanBeAsked P o → verdict R.legal busy c ds o ≡ verdict P.legal busy c ds o
 verdict_alike P R a busy c ds None q = refl

@@ -103,3 +103,9 @@ abbrev pub ModeCodeNeverWaits : Type 0
 ModeCodeNeverWaits = Answers (five (OwnMode 17 ∷ []))
     (quiet (command A 0x2811) ∷ quiet (command A 0x3c81) ∷ gap A ∷ idle_slot ∷ quiet (command A 0x3800)
     ∷ quiet (data_word A 0x0009) ∷ gap A ∷ idle_slot ∷ quiet (command A 0x2c02) ∷ gap_sends A 0x2c00 [] ∷ [])
+
+-- Where the word that ends the waiting starts a message, the start comes later: the kept status has no message error.
+abbrev pub StartComesAfterEnd : Type 0
+StartComesAfterEnd = Answers (five [])
+    (quiet (command A 0x2861) ∷ quiet (command A 0x3c81) ∷ gap A ∷ idle_slot ∷ quiet (command A 0x2c05)
+    ∷ quiet (command B 0x2c02) ∷ gap_sends B 0x2800 [] ∷ [])

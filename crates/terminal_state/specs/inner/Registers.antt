@@ -11,13 +11,13 @@ use Rattle.terminal_rules.specs.declared.event.Flag.TheVariants.{Service, Busy, 
 use Rattle.terminal_rules.specs.declared.event.Event.{Event}
 use Rattle.terminal_state.specs.declared.registers.Flags.{Flags}
 use Rattle.terminal_state.specs.declared.registers.Registers.{Registers}
-use Rattle.terminal_rules.specs.Buses.{same_bus}
+use Rattle.terminal_rules.specs.Buses.{same_bus, other}
 use Rattle.terminal_rules.specs.LookBack.{or_else}
 use Rattle.terminal_rules.specs.History.{Noted, Ending, Nothing, Badly, Illegal, Blocked, Done, of_word, is_gap_on}
 use Rattle.terminal_rules.specs.Flags.{flag_set, flag_now}
 use Rattle.terminal_rules.specs.SinceReset.{switched, done_code, inhibited_now, off_now, vector_word_set, vector_now, bit_word_set, bit_now, recorded_by, last_now}
-use Rattle.terminal_rules.specs.Status.{no_parts, with_error_if, accepts, inhibited_after, reports_kept, spares, kept_by_start, start_first, reset_first, adds_error, kept_now}
-use Rattle.terminal_rules.specs.inner.Steps.{kept_after, unless_reset, resets_at_gap}
+use Rattle.terminal_rules.specs.Status.{no_parts, with_error_if, accepts, inhibited_after, reports_kept, spares, kept_by_start, later_or, adds_error, kept_now}
+use Rattle.terminal_rules.specs.inner.Steps.{reset_first, kept_after, unless_reset, resets_at_gap}
 
 -- what looking back over a noted history gives
 abbrev pub registers_now : Description → List Noted → Registers
@@ -96,7 +96,7 @@ flags_after e f = record {
 }
 
 abbrev pub shuts_by : Bus → Event → Ending → Option Bool
-shuts_by b e x = if is_gap_on b e then None else switched mode.shutdown mode.override_shutdown (done_code x)
+shuts_by b e x = if is_gap_on (other b) e then switched mode.shutdown mode.override_shutdown (done_code x) else None
 
 abbrev pub started_bits : Event → Bool → Option ℕ
 started_bits e starts = if starts then of_word (λ b w. w.bits) e else None
@@ -130,7 +130,7 @@ abbrev pub keeping : Option StatusParts → Registers → Registers
 keeping status r = record r { kept = or_else status r.kept }
 
 abbrev pub off_after : Bus → Bus → Option ℕ → Option Bool
-off_after b c code = if same_bus b c then None else switched mode.shutdown mode.override_shutdown code
+off_after b c code = if same_bus (other b) c then switched mode.shutdown mode.override_shutdown code else None
 
 -- after a mode code was carried out, on bus c, or none, with a reset or without
 abbrev pub carried : Bus → Bool → Option ℕ → Registers → Registers
@@ -172,5 +172,5 @@ registers_after P e reset starts ends r =
       vector = unless_reset reset r.power_up.vector (vector_word_set e) r.vector;
       bit = unless_reset reset r.power_up.bit (bit_word_set e) r.bit;
       last = unless_reset reset 0 (recorded_by (started_bits e starts)) r.last;
-      kept = kept_after (start_first (kept_by_start P (started_bits e starts)) (reset_first reset (kept_from P r ends))) (adds_error P ends) r.kept;
+      kept = kept_after (later_or (kept_by_start P (started_bits e starts)) (reset_first reset (kept_from P r ends))) (adds_error P ends) r.kept;
     }

@@ -25,11 +25,7 @@ impl Reply {
     pub fn resets(&self) -> bool
         ensures { result ≡ resets_next (shown_reply (Some self.now)) }
     {
-        self.next == 0
-            && matches!(
-                self.cell,
-                Some(Cell::OwnMode(mode::RESET) | Cell::BroadMode(mode::RESET))
-            )
+        self.next == 0 && matches!(self.cell, Some(Cell::OwnMode(mode::RESET)))
     }
 }
 

@@ -1,5 +1,5 @@
-use Rattle.bus_legal.proofs.NormalLaws.{reach-set_up_normal}
+use Rattle.bus_legal.proofs.NormalLaws.{set_up_normal}
 use Rattle.bus_legal.proofs.laws.set_up_by_normal.Goals as goal
 
 pub returns : goal.returns
-returns c = reach-set_up_normal
+returns c = set_up_normal

@@ -1,8 +1,9 @@
-use Rattle.std.proofs.Common.{◌∙◌, ◌+◌, [], ◌∷◌, drop, ap, rules, arith}
+use Rattle.std.proofs.Common.{◌∙◌, ◌+◌, [], ◌∷◌, drop, ap, map, rules, arith}
 use Rattle.std.proofs.lemmas.List.{drop_more, drop_all}
 use Rattle.bus_legal.specs.Tables.{tables_say}
 use Rattle.bus_legal.specs.Description.{described}
 use Rattle.rt1553.proofs.EngineLaws.{set_up_alike}
+use Rattle.rt1553_verify.specs.Stated.{shown}
 use Rattle.rt1553_verify.proofs.VerifyLaws.{one_more, all_told, differing-alike}
 use Rattle.rt1553_verify.proofs.verifying.differences.Goals as goal
 
@@ -21,4 +22,4 @@ returns c P reached =
     let Q = described setup (tables_say v.tables) in
     let alike = set_up_alike v setup P c.setup-setup.ensures.normal c.setup-setup.ensures.parts setup.own_address reached in
     let i = c.loop-stated.invariant Q c.power_up-terminal.ensures in
-    all_told Q i.0 c.args.script.now c.loop-stated.stated-index _ _ (drop_all c.loop-stated.stated-index c.args.script.now (omega (arith, c.loop-stated-test.false))) i.2 ∙ differing-alike Q P alike [] c.args.script.now
+    all_told Q i.0 c.args.script.now c.loop-stated.stated-index _ _ (drop_all c.loop-stated.stated-index c.args.script.now (omega (arith, c.loop-stated-test.false))) i.2 ∙ differing-alike Q P alike [] (map shown c.args.script.now)

@@ -1,6 +1,6 @@
 use Rattle.terminal_exchanges.specs.Values.{exchange_in}
-use Rattle.bus_canon.proofs.ScriptLaws.{exchange-parts}
-use Rattle.bus_canon.proofs.script.push_exchange.Goals as goal
+use Rattle.terminal_exchanges.proofs.EventLaws.{exchange-parts}
+use Rattle.terminal_exchanges.proofs.events.push_exchange.Goals as goal
 
 pub returns-clause-items : goal.returns-clause-items
 returns-clause-items c =

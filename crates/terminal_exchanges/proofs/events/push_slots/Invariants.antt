@@ -1,6 +1,6 @@
 use Rattle.std.proofs.Common.{◌≡◌, ◌+◌, ◌++◌, [], length}
 use Rattle.terminal_exchanges.specs.Exchanges.{slots_then}
-use Rattle.bus_canon.proofs.script.push_slots.Given as goal
+use Rattle.terminal_exchanges.proofs.events.push_slots.Given as goal
 
 -- as many slots are in the script as have been counted
 abbrev pub invariant-loop-slot : goal.invariant-loop-slot

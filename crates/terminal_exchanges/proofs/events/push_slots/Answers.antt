@@ -1,7 +1,7 @@
 use Rattle.std.proofs.Common.{◌+◌, ◌++◌, [], ◌∷◌, ap, refl, ◌∙◌, arith}
 use Rattle.terminal_rules.specs.declared.event.Event.TheVariants.{Slot}
-use Rattle.bus_canon.proofs.ScriptLaws.{slots-more}
-use Rattle.bus_canon.proofs.script.push_slots.Goals as goal
+use Rattle.terminal_exchanges.proofs.EventLaws.{slots-more}
+use Rattle.terminal_exchanges.proofs.events.push_slots.Goals as goal
 
 pub loop-slot-preserved : goal.loop-slot-preserved
 loop-slot-preserved c = record {

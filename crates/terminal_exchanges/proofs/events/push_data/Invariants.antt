@@ -1,6 +1,6 @@
 use Rattle.std.proofs.Common.{◌≡◌, ◌+◌, ◌++◌, [], ◌∷◌, replicate, length}
 use Rattle.terminal_exchanges.specs.Exchanges.{words_then}
-use Rattle.bus_canon.proofs.script.push_data.Given as goal
+use Rattle.terminal_exchanges.proofs.events.push_data.Given as goal
 
 -- as many words are in the script as have been counted, and the first
 abbrev pub invariant-loop-zero : goal.invariant-loop-zero

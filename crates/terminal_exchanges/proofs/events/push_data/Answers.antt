@@ -1,7 +1,7 @@
 use Rattle.std.proofs.Common.{◌++◌, [], ◌∷◌, ◌+◌, ap, refl, ◌∙◌, arith}
 use Rattle.terminal_exchanges.specs.Exchanges.{data_event}
-use Rattle.bus_canon.proofs.ScriptLaws.{words-more}
-use Rattle.bus_canon.proofs.script.push_data.Goals as goal
+use Rattle.terminal_exchanges.proofs.EventLaws.{words-more}
+use Rattle.terminal_exchanges.proofs.events.push_data.Goals as goal
 
 pub loop-zero-preserved : goal.loop-zero-preserved
 loop-zero-preserved c = record {

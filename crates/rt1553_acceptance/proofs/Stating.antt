@@ -1,0 +1,298 @@
+-- The text of events with what is stated of their answers, read: it says these events, and just these answers.
+use Rattle.std.proofs.Common.{ℕ, zero, suc, ◌≡◌, ◌≢◌, ◌∙◌, ◌+◌, ◌*◌, ◌-◌, ◌<◌, ◌≤◌, Bool, true, false, not, ◌&&◌, if◌then◌else◌, List, [], ◌∷◌, ◌++◌, Option, Some, None, is_some, Result, Ok, Err, length, map, flat_map, refl, sym, ap, subst, arith, append_assoc, append-nil, length-append, codes}
+use Rattle.std.proofs.lemmas.List.{map-append}
+use Rattle.bus_word.specs.declared.word.Bus.{Bus}
+use Rattle.bus_word.specs.declared.word.Bus.TheVariants.{A, B}
+use Rattle.bus_word.specs.declared.word.Kind.{Kind}
+use Rattle.bus_word.specs.declared.word.Kind.TheVariants.{Com, Dat}
+use Rattle.bus_legal.specs.Description.{Description}
+use Rattle.terminal_rules.specs.declared.event.Event.{Event}
+use Rattle.terminal_rules.specs.declared.event.Event.TheVariants as event
+use Rattle.terminal_rules.specs.History.{Replying}
+use Rattle.terminal_rules.specs.Reply.{reply_now}
+use Rattle.terminal_rules.specs.Ends.{ends_now}
+use Rattle.terminal_rules.specs.Past.{past, history_after}
+use Rattle.terminal_rules.specs.Same.{IsProper, AreProper}
+use Rattle.terminal_rules.specs.Out.{Sending, Handing, HandsReceived, HandsSynchronize, HandsSynchronizeWith, HandsSelfTest, HandsBusControl, Out, Silence, SendsWord, HandsOver, sends, hands, handing_over, sending_out, out}
+use Rattle.terminal_exchanges.specs.Exchanges.{Exchange, script_of}
+use Rattle.terminal_exchanges.proofs.EventLaws.{exchange-append}
+use Rattle.bus_script.specs.Digits.{digits_of, decimal_digits}
+use Rattle.bus_script.specs.Line.{meaning}
+use Rattle.bus_script.specs.Text.{NoLineFeed}
+use Rattle.bus_script.specs.EventLine.{event_text}
+use Rattle.bus_script.specs.Transcript.{bus_letter, sent_kind, sent_text, word_field, received_by, received_text, hand_text, answer_text, text_at, transcript}
+use Rattle.bus_script.proofs.RoundTrip.{event_read}
+use Rattle.line_format.specs.Front.{after}
+use Rattle.rt1553_verify.specs.declared.stated.StatedFault.{StatedFault}
+use Rattle.rt1553_verify.specs.Stated.{StatedEvent, Latest, After, event_of, can_answer, states, ended, stays, or_misplaced, plain, by_going_on, by_answer, with_line_feed, is_empty, line_says}
+use Rattle.rt1553_verify.proofs.StatedLaws.{stated-means}
+use Rattle.rt1553_acceptance.specs.Label.{label_of}
+use Rattle.rt1553_acceptance.specs.Text.{hand_stated, answer_stated, event_stated, comment_of, exchanges_stated, fields_stated}
+use Rattle.rt1553_acceptance.specs.Law.{AreAnswered}
+use Rattle.rt1553_acceptance.specs.inner.Fits.{Fits, AllFit}
+use Rattle.rt1553_acceptance.proofs.Pieces.{Tells, Tells-nil, Tells-line, Tells-trans, Tells-same, feeds-append}
+use Rattle.rt1553_acceptance.proofs.Digits.{feeds-digits, feeds-decimal}
+use Rattle.rt1553_acceptance.proofs.Feeds.{IsLine, literal, within, joined, digits-line, decimal_digits-line, letter-line, sent_kind-line, label-line, event-line}
+use Rattle.rt1553_acceptance.proofs.Fields.{answered, Adds, fields-added}
+
+-- ---- the line of an event
+
+-- a line that means an event says that event, whatever is the latest
+says-event : (n : ℕ) (latest : Latest) (line : List ℕ) (e : Event) → meaning line ≡ Ok (Some e)
+    → line_says n latest line ≡ Ok (record { events = ended latest; latest = Some (record { line = n; event = e; answer = [] }) })
+says-event n latest line e means = first (after (codes "#> ") line) refl
+  where
+    Said : Result After StatedFault → Type 0
+    Said said = said ≡ Ok (record { events = ended latest; latest = Some (record { line = n; event = e; answer = [] }) })
+
+    second : (o : Option (List ℕ)) → after (codes "#+ ") line ≡ o → Said (by_going_on n latest line o)
+    second None is = ap (plain n latest) means
+    second (Some rest) is = let no = sym (stated-means 43 line rest is) ∙ means in absurd (cc)
+
+    first : (o : Option (List ℕ)) → after (codes "#> ") line ≡ o → Said (by_answer n latest line o)
+    first None is = second (after (codes "#+ ") line) refl
+    first (Some rest) is = let no = sym (stated-means 62 line rest is) ∙ means in absurd (cc)
+
+-- ---- the lines of an answer
+
+-- the line of an answer, without its line feed
+abbrev answer_line : Out → List ℕ
+answer_line Silence = []
+answer_line (SendsWord s) = bus_letter s.bus ++ (sent_kind s.kind ++ digits_of s.bits)
+answer_line (HandsOver (HandsReceived broadcast subaddress words)) = (received_by broadcast ++ decimal_digits subaddress) ++ flat_map word_field words
+answer_line (HandsOver HandsSynchronize) = codes "hand sync"
+answer_line (HandsOver (HandsSynchronizeWith word)) = codes "hand sync " ++ digits_of word
+answer_line (HandsOver HandsSelfTest) = codes "hand self-test"
+answer_line (HandsOver HandsBusControl) = codes "hand bus-control"
+
+line-text : (o : Out) → with_line_feed (answer_line o) ≡ answer_text o
+line-text Silence = refl
+line-text (SendsWord s) = on_bus s.bus s.kind
+  where
+    on_bus : (bus : Bus) (kind : Kind) → with_line_feed (bus_letter bus ++ (sent_kind kind ++ digits_of s.bits)) ≡ sent_text (record s { bus = bus; kind = kind })
+    on_bus A Com = refl
+    on_bus A Dat = refl
+    on_bus B Com = refl
+    on_bus B Dat = refl
+line-text (HandsOver (HandsReceived true subaddress words)) = refl
+line-text (HandsOver (HandsReceived false subaddress words)) = refl
+line-text (HandsOver HandsSynchronize) = refl
+line-text (HandsOver (HandsSynchronizeWith word)) = refl
+line-text (HandsOver HandsSelfTest) = refl
+line-text (HandsOver HandsBusControl) = refl
+
+-- the answer is one that the event can have: a gap hands over, and a slot sends
+abbrev CanBe : Event → Out → Type 0
+CanBe e Silence = Unit {0}
+CanBe event.Slot (SendsWord s) = Unit {0}
+CanBe (event.Gap bus) (HandsOver h) = Unit {0}
+CanBe _ _ = ⊥
+
+can_be : (P : Description) (h : List Event) (e : Event) → CanBe e (out P h e)
+can_be P h (event.Word bus w) = tt
+can_be P h (event.Noise bus) = tt
+can_be P h (event.Gap bus) = by_hands (hands P (ends_now P (past P h) (event.Gap bus)))
+  where
+    by_hands : (o : Option Handing) → CanBe (event.Gap bus) (handing_over o)
+    by_hands None = tt
+    by_hands (Some handing) = tt
+can_be P h (event.Write place word) = tt
+can_be P h (event.Vector word) = tt
+can_be P h (event.Bit word) = tt
+can_be P h (event.Flag f value) = tt
+can_be P h event.Slot = by_reply (sends P (past P h) (reply_now (past P h)))
+  where
+    by_reply : (o : Option Sending) → CanBe event.Slot (sending_out o)
+    by_reply None = tt
+    by_reply (Some sending) = tt
+
+-- an event of which nothing was stated, on a line
+abbrev unanswered : ℕ → Event → StatedEvent
+unanswered n e = record { line = n; event = e; answer = [] }
+
+-- the lines of an answer are read, at most four
+abbrev IsTold : ℕ → StatedEvent → Out → Type 0
+IsTold n s o = (m : ℕ) × Tells n m (answer_stated o) (Some s) (Some (answered s (answer_line o))) [] × (m ≤ n + 4)
+
+-- a line that states an answer that the event can have
+states-line : (n k : ℕ) (e : Event) (line : List ℕ) → can_answer e line ≡ true
+    → line_says n (Some (unanswered k e)) (codes "#> " ++ line) ≡ Ok (stays (Some (answered (unanswered k e) line)))
+states-line n k e line can = ap (λ b. or_misplaced n (if b then Some (answered (unanswered k e) line) else None)) can
+
+-- an answer of one line
+one_line : (n k : ℕ) (e : Event) (line text : List ℕ) → n < 1048570 → IsLine 61 line → can_answer e line ≡ true → text ≡ codes "#> " ++ (line ++ 10 ∷ [])
+    → Tells n (n + 1) text (Some (unanswered k e)) (Some (answered (unanswered k e) line)) []
+one_line n k e line text few is can split =
+    let whole : IsLine 64 (codes "#> " ++ line) = joined (codes "#> ") line (literal _ refl) is in
+    Tells-same text (split ∙ sym (append_assoc (codes "#> ") line (10 ∷ [])))
+    (Tells-line n (codes "#> " ++ line) (Some (unanswered k e)) _ [] (omega (arith, few)) whole.short whole.feeds (states-line (n + 1) k e line can))
+
+told : (n k : ℕ) (e : Event) (o : Out) → n < 1048570 → CanBe e o → Fits o → IsTold n (unanswered k e) o
+told n k e Silence few can fits = (n, Tells-nil n (Some (unanswered k e)), omega arith)
+told n k event.Slot (SendsWord s) few can fits = (
+  n + 1,
+  one_line n k event.Slot _ _ few (within (omega arith) (joined (bus_letter s.bus) _ (letter-line s.bus) (joined (sent_kind s.kind) _ (sent_kind-line s.kind) (digits-line s.bits))))
+      (on_bus s.bus s.kind) (ap (λ text. codes "#> " ++ text) (sym (line-text (SendsWord s)) ∙ with_feed s.bus s.kind)),
+  omega arith,
+)
+  where
+    on_bus : (bus : Bus) (kind : Kind) → can_answer event.Slot (bus_letter bus ++ (sent_kind kind ++ digits_of s.bits)) ≡ true
+    on_bus A kind = refl
+    on_bus B kind = refl
+
+    with_feed : (bus : Bus) (kind : Kind) → with_line_feed (bus_letter bus ++ (sent_kind kind ++ digits_of s.bits)) ≡ (bus_letter bus ++ (sent_kind kind ++ digits_of s.bits)) ++ 10 ∷ []
+    with_feed A kind = refl
+    with_feed B kind = refl
+told n k (event.Gap bus) (HandsOver (HandsReceived broadcast subaddress words)) few can fits =
+    let front : List ℕ = codes "#> " ++ (received_by broadcast ++ decimal_digits subaddress) in
+    let is : IsLine 28 front = within (omega arith) (joined (codes "#> ") _ (literal _ refl) (joined (received_by broadcast) _ (by_line broadcast) (decimal_digits-line subaddress))) in
+    let p = fields-added n 7 words front (received_by broadcast ++ decimal_digits subaddress) (Some (unanswered k (event.Gap bus))) (unanswered k (event.Gap bus))
+    is.feeds (omega (arith, is.short)) (omega arith) (some broadcast) (omega (arith, few, fits))
+    (λ more. states-line (n + 1) k (event.Gap bus) ((received_by broadcast ++ decimal_digits subaddress) ++ more) (hands_line broadcast more)) in (
+      p.0,
+      Tells-same {m = p.0} _ (ap (λ text. codes "#> " ++ text) (sym (append_assoc (received_by broadcast) (decimal_digits subaddress) (fields_stated 7 words)))) p.1,
+      omega (arith, p.2, fits),
+    )
+  where
+    by_line : (broadcast : Bool) → IsLine 23 (received_by broadcast)
+    by_line true = literal _ refl
+    by_line false = within (omega arith) (literal _ refl)
+
+    some : (broadcast : Bool) → is_empty (received_by broadcast ++ decimal_digits subaddress) ≡ false
+    some true = refl
+    some false = refl
+
+    hands_line : (broadcast : Bool) (more : List ℕ) → can_answer (event.Gap bus) ((received_by broadcast ++ decimal_digits subaddress) ++ more) ≡ true
+    hands_line true more = refl
+    hands_line false more = refl
+told n k (event.Gap bus) (HandsOver HandsSynchronize) few can fits =
+    (n + 1, one_line n k (event.Gap bus) _ _ few (within (omega arith) (literal (codes "hand sync") refl)) refl refl, omega arith)
+told n k (event.Gap bus) (HandsOver (HandsSynchronizeWith word)) few can fits =
+    (n + 1, one_line n k (event.Gap bus) _ _ few (within (omega arith) (joined (codes "hand sync ") (digits_of word) (literal _ refl) (digits-line word))) refl refl, omega arith)
+told n k (event.Gap bus) (HandsOver HandsSelfTest) few can fits =
+    (n + 1, one_line n k (event.Gap bus) _ _ few (within (omega arith) (literal (codes "hand self-test") refl)) refl refl, omega arith)
+told n k (event.Gap bus) (HandsOver HandsBusControl) few can fits =
+    (n + 1, one_line n k (event.Gap bus) _ _ few (within (omega arith) (literal (codes "hand bus-control") refl)) refl refl, omega arith)
+told n k (event.Word bus w) (SendsWord s) few can fits = absurd can
+told n k (event.Word bus w) (HandsOver h) few can fits = absurd can
+told n k (event.Noise bus) (SendsWord s) few can fits = absurd can
+told n k (event.Noise bus) (HandsOver h) few can fits = absurd can
+told n k (event.Gap bus) (SendsWord s) few can fits = absurd can
+told n k (event.Write place word) (SendsWord s) few can fits = absurd can
+told n k (event.Write place word) (HandsOver h) few can fits = absurd can
+told n k (event.Vector word) (SendsWord s) few can fits = absurd can
+told n k (event.Vector word) (HandsOver h) few can fits = absurd can
+told n k (event.Bit word) (SendsWord s) few can fits = absurd can
+told n k (event.Bit word) (HandsOver h) few can fits = absurd can
+told n k (event.Flag f value) (SendsWord s) few can fits = absurd can
+told n k (event.Flag f value) (HandsOver h) few can fits = absurd can
+told n k event.Slot (HandsOver h) few can fits = absurd can
+
+-- ---- events, one after the other
+
+-- After n lines and this latest event, the text says these events of the history h, with just their answers, and then m lines
+-- are behind. The latest event of all is not yet ended.
+pub record Chain (P : Description) (n m : ℕ) (h : List Event) (text : List ℕ) (latest later : Latest) (es : List Event) : Type 0 where
+  pub said : List StatedEvent
+  pub stated : List StatedEvent
+  pub tells : Tells n m text latest later said
+  pub splits : said ++ ended later ≡ ended latest ++ stated
+  pub events : map event_of stated ≡ es
+  pub answers : AreAnswered P h stated
+
+abbrev Chained : Description → ℕ → List Event → List ℕ → Latest → List Event → ℕ → Type 0
+Chained P n h text latest es most = (m : ℕ) × (later : Latest) × Chain P n m h text latest later es × (m ≤ most)
+
+Chain-nil : (P : Description) (n : ℕ) (h : List Event) (latest : Latest) → Chain P n n h [] latest latest []
+Chain-nil P n h latest = record { said = []; stated = []; tells = Tells-nil n latest; splits = sym (append-nil (ended latest)); events = refl; answers = tt }
+
+answered-append : (P : Description) (h : List Event) (ss ts : List StatedEvent) → AreAnswered P h ss → AreAnswered P (history_after (map event_of ss) h) ts → AreAnswered P h (ss ++ ts)
+answered-append P h [] ts a b = b
+answered-append P h (s ∷ ss) ts a b = (a.0, answered-append P (s.event ∷ h) ss ts a.1 b)
+
+Chain-trans : {P : Description} {n m k : ℕ} {h : List Event} {text more : List ℕ} {a b c : Latest} {es fs : List Event}
+    → Chain P n m h text a b es → Chain P m k (history_after es h) more b c fs → Chain P n k h (text ++ more) a c (es ++ fs)
+Chain-trans {P = P} {h = h} {a = a} {b = b} {c = c} p q = record {
+  said = p.said ++ q.said;
+  stated = p.stated ++ q.stated;
+  tells = Tells-trans p.tells q.tells;
+  splits = append_assoc p.said q.said (ended c) ∙ ap (λ xs. p.said ++ xs) q.splits ∙ sym (append_assoc p.said (ended b) q.stated)
+      ∙ ap (λ xs. xs ++ q.stated) p.splits ∙ append_assoc (ended a) p.stated q.stated;
+  events = map-append event_of p.stated q.stated ∙ (λ j. p.events j ++ q.events j);
+  answers = answered-append P h p.stated q.stated p.answers (subst (λ xs. AreAnswered P (history_after xs h) q.stated) (sym p.events) q.answers);
+}
+
+-- an event, and what is stated of its answer
+one_event : (P : Description) (n : ℕ) (h : List Event) (e : Event) (latest : Latest) → n < 1048569 → IsProper e → Fits (out P h e)
+    → Chained P n h (event_stated P h e) latest (e ∷ []) (n + 5)
+one_event P n h e latest few proper fits =
+    let line = event-line e in
+    let event = Tells-line n (event_text e) latest (Some (unanswered (n + 1) e)) (ended latest) (omega (arith, few)) line.short line.feeds
+    (says-event (n + 1) latest (event_text e) e (event_read e proper)) in
+    let answer = told (n + 1) (n + 1) e (out P h e) (omega (arith, few)) (can_be P h e) fits in (
+      answer.0,
+      Some (answered (unanswered (n + 1) e) (answer_line (out P h e))),
+      record {
+        said = ended latest ++ [];
+        stated = ended (Some (answered (unanswered (n + 1) e) (answer_line (out P h e))));
+        tells = Tells-same {m = answer.0} _ (sym (append_assoc (event_text e) (10 ∷ []) (answer_stated (out P h e)))) (Tells-trans event answer.1);
+        splits = ap (λ xs. xs ++ ended (Some (answered (unanswered (n + 1) e) (answer_line (out P h e))))) (append-nil (ended latest));
+        events = refl;
+        answers = (line-text (out P h e), tt);
+      },
+      omega (arith, answer.2),
+    )
+
+some_events : (P : Description) (n : ℕ) (h es : List Event) (latest : Latest) → AreProper es → AllFit P h es → n + 5 * length es < 1048569
+    → Chained P n h (transcript (event_stated P) h es) latest es (n + 5 * length es)
+unfolding transcript
+some_events P n h [] latest proper fits few = (n, latest, Chain-nil P n h latest, omega arith)
+some_events P n h (e ∷ es) latest proper fits few =
+    let first = one_event P n h e latest (omega (arith, few)) proper.0 fits.0 in
+    let rest = some_events P first.0 (e ∷ h) es first.1 proper.1 fits.1 (omega (arith, few, first.3)) in
+    (rest.0, rest.1, Chain-trans {k = rest.0} {c = rest.1} first.2 rest.2, omega (arith, first.3, rest.3))
+
+-- ---- exchanges, each behind its comment
+
+comment_said : (P : Description) (n : ℕ) (h : List Event) (x : Exchange) (latest : Latest) → n < 1048576 → Chain P n (n + 1) h (comment_of P x) latest latest []
+unfolding meaning
+comment_said P n h x latest few =
+    let label = label-line P x.command in
+    let line : IsLine 64 (codes "# " ++ label_of P x.command) = within (omega arith) (joined (codes "# ") (label_of P x.command) (literal _ refl) label) in
+    record {
+      said = [];
+      stated = [];
+      tells = Tells-same (comment_of P x) (sym (append_assoc (codes "# ") (label_of P x.command) (10 ∷ [])))
+          (Tells-line n (codes "# " ++ label_of P x.command) latest latest [] few line.short line.feeds refl);
+      splits = sym (append-nil (ended latest));
+      events = refl;
+      answers = tt;
+    }
+
+proper-append : (es fs : List Event) → AreProper (es ++ fs) → AreProper es × AreProper fs
+proper-append [] fs p = (tt, p)
+proper-append (e ∷ es) fs p = let later = proper-append es fs p.1 in ((p.0, later.0), later.1)
+
+fit-append : (P : Description) (h es fs : List Event) → AllFit P h (es ++ fs) → AllFit P h es × AllFit P (history_after es h) fs
+fit-append P h [] fs p = (tt, p)
+fit-append P h (e ∷ es) fs p = let later = fit-append P (e ∷ h) es fs p.1 in ((p.0, later.0), later.1)
+
+pub some_exchanges : (P : Description) (n : ℕ) (h : List Event) (xs : List Exchange) (latest : Latest) → AreProper (script_of xs) → AllFit P h (script_of xs)
+    → n + 6 * length (script_of xs) < 1048569 → Chained P n h (exchanges_stated P h xs) latest (script_of xs) (n + 6 * length (script_of xs))
+unfolding exchanges_stated
+some_exchanges P n h [] latest proper fits few = (n, latest, Chain-nil P n h latest, omega arith)
+some_exchanges P n h (x ∷ xs) latest proper fits few =
+    let one : List Event = script_of (x ∷ []) in
+    let parts : one ++ script_of xs ≡ script_of (x ∷ xs) = exchange-append x (script_of xs) in
+    let long = ap length (sym parts) ∙ length-append one (script_of xs) in
+    let some : 1 ≤ length one = omega arith in
+    let propers = proper-append one (script_of xs) (subst AreProper (sym parts) proper) in
+    let fit = fit-append P h one (script_of xs) (subst (AllFit P h) (sym parts) fits) in
+    let comment = comment_said P n h x latest (omega (arith, few)) in
+    let events = some_events P (n + 1) h one latest propers.0 fit.0 (omega (arith, few, long, some)) in
+    let rest = some_exchanges P events.0 (history_after one h) xs events.1 propers.1 fit.1 (omega (arith, few, long, some, events.3)) in (
+      rest.0,
+      rest.1,
+      subst (Chain P n rest.0 h (exchanges_stated P h (x ∷ xs)) latest rest.1) parts (Chain-trans {k = rest.0} {c = rest.1} comment (Chain-trans {k = rest.0} {c = rest.1} events.2 rest.2)),
+      omega (arith, long, some, events.3, rest.3),
+    )

@@ -1,0 +1,26 @@
+-- What the acceptance test of a terminal shows.
+use Rattle.std.specs.Prelude.{ℕ, ◌≡◌, ◌↔◌, List, [], ◌∷◌, map, Ok}
+use Rattle.bus_legal.specs.Description.{Description}
+use Rattle.bus_legal.specs.Parts.{Parts, description_in, IsNormal}
+use Rattle.terminal_rules.specs.declared.event.Event.{Event}
+use Rattle.terminal_rules.specs.Same.{Same}
+use Rattle.terminal_complete_test.specs.CompleteTest.{complete_test}
+use Rattle.bus_script.specs.Transcript.{text_at}
+use Rattle.rt1553_verify.specs.Stated.{StatedEvent, event_of, stated_in}
+use Rattle.rt1553_verify.specs.Verify.{verified}
+
+-- of each event, after a history, just the answer of the terminal of P is stated
+abbrev pub AreAnswered : Description → List Event → List StatedEvent → Type 0
+AreAnswered P h [] = Unit {0}
+AreAnswered P h (s ∷ ss) = (s.answer ≡ text_at P h s.event) × AreAnswered P (s.event ∷ h) ss
+
+-- The text is a script that states its answers. Its events are those of the complete test of the terminal of P, and its
+-- answers are those of this terminal; so `verify` finds nothing for the terminal of P, and for the terminal of any other
+-- profile it finds nothing exactly if that is the same terminal.
+pub record IsAcceptanceTest (P : Description) (text : List ℕ) : Type 0 where
+  pub stated : List StatedEvent
+  pub reads : stated_in text ≡ Ok stated
+  pub events : map event_of stated ≡ complete_test P
+  pub answers : AreAnswered P [] stated
+  pub own : verified P text ≡ Ok []
+  pub others : (v : Parts) → IsNormal v → (verified (description_in v) text ≡ Ok []) ↔ Same (description_in v) P

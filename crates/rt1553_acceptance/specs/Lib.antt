@@ -1,0 +1,5 @@
+pub use Rattle.bus_legal.specs.Parts
+pub mod Label
+pub mod Text
+pub mod Law
+pub mod inner

@@ -1,0 +1,112 @@
+-- What a script says that states its answers: `#> LINE` behind the event that LINE of the transcript answers, and `#+ REST`
+-- behind an answer that goes on with a space and REST. All else is read as in any script.
+use Rattle.std.specs.Prelude.{ℕ, ◌+◌, ◌≢◌, Bool, true, false, not, ◌&&◌, nat_le, nat_lt, if◌then◌else◌, List, [], ◌∷◌, ◌++◌, Option, Some, None, is_some, length, Result, Ok, Err, codes}
+use Rattle.terminal_rules.specs.declared.event.Event.{Event}
+use Rattle.terminal_rules.specs.declared.event.Event.TheVariants.{Gap, Slot}
+use Rattle.line_format.specs.Front.{after}
+use Rattle.bus_script.specs.declared.line.LineFault.{LineFault}
+use Rattle.bus_script.specs.Line.{meaning}
+use Rattle.bus_script.specs.Text.{lines_of}
+use Rattle.rt1553_verify.specs.declared.stated.Stated.{Stated}
+use Rattle.rt1553_verify.specs.declared.stated.StatedFault.{StatedFault}
+use Rattle.rt1553_verify.specs.declared.stated.StatedFault.TheVariants.{Line, LongLine, TooLong, Misplaced}
+
+-- An event with the number of its line, from 1, and the line of the transcript that is to answer it, with its line feed;
+-- nothing where nothing is to answer it.
+pub record StatedEvent : Type 0 where
+  pub line : ℕ
+  pub event : Event
+  pub answer : List ℕ
+
+abbrev pub shown : Stated → StatedEvent
+shown s = record { line = s.line; event = s.event; answer = s.answer.items }
+
+abbrev pub event_of : StatedEvent → Event
+event_of s = s.event
+
+abbrev pub is_empty : List ℕ → Bool
+is_empty [] = true
+is_empty (b ∷ bytes) = false
+
+-- an answer is stated of the event
+abbrev pub states_answer : StatedEvent → Bool
+states_answer s = not (is_empty s.answer)
+
+-- what is handed over answers a gap, and a word that is sent answers a slot
+abbrev pub can_answer : Event → List ℕ → Bool
+can_answer (Gap bus) line = is_some (after (codes "hand ") line)
+can_answer Slot line = not (is_empty line) && not (is_some (after (codes "hand ") line))
+can_answer _ line = false
+
+-- While lines are read, the latest event is kept apart, with what was stated of it so far, without a line feed.
+abbrev pub Latest : Type 0
+Latest = Option StatedEvent
+
+-- the line is stated as the answer to the latest event, which it can answer and of which nothing was stated
+abbrev pub states : Latest → List ℕ → Option StatedEvent
+states None line = None
+states (Some s) line = if is_empty s.answer && can_answer s.event line then Some (record s { answer = line }) else None
+
+-- the answer that was stated last goes on
+abbrev pub goes_on : Latest → List ℕ → Option StatedEvent
+goes_on None rest = None
+goes_on (Some s) rest = if states_answer s then Some (record s { answer = s.answer ++ 32 ∷ rest }) else None
+
+abbrev pub with_line_feed : List ℕ → List ℕ
+with_line_feed bytes = if is_empty bytes then [] else bytes ++ 10 ∷ []
+
+-- the latest event, of which all was stated
+abbrev pub ended : Latest → List StatedEvent
+ended None = []
+ended (Some s) = record s { answer = with_line_feed s.answer } ∷ []
+
+-- what is known after a line: the events of which all was stated by then, and the latest one
+pub record After : Type 0 where
+  pub events : List StatedEvent
+  pub latest : Latest
+
+abbrev pub stays : Latest → After
+stays latest = record { events = []; latest = latest }
+
+abbrev pub or_misplaced : ℕ → Option StatedEvent → Result After StatedFault
+or_misplaced n None = Err (Misplaced n)
+or_misplaced n (Some s) = Ok (stays (Some s))
+
+-- a line that states no answer: an event, nothing, or none of a script
+abbrev pub plain : ℕ → Latest → Result (Option Event) LineFault → Result After StatedFault
+plain n latest (Err fault) = Err (Line n)
+plain n latest (Ok None) = Ok (stays latest)
+plain n latest (Ok (Some e)) = Ok (record { events = ended latest; latest = Some (record { line = n; event = e; answer = [] }) })
+
+abbrev pub by_going_on : ℕ → Latest → List ℕ → Option (List ℕ) → Result After StatedFault
+by_going_on n latest line (Some rest) = or_misplaced n (goes_on latest rest)
+by_going_on n latest line None = plain n latest (meaning line)
+
+abbrev pub by_answer : ℕ → Latest → List ℕ → Option (List ℕ) → Result After StatedFault
+by_answer n latest line (Some answer) = or_misplaced n (states latest answer)
+by_answer n latest line None = by_going_on n latest line (after (codes "#+ ") line)
+
+-- what line number n says
+abbrev pub line_says : ℕ → Latest → List ℕ → Result After StatedFault
+line_says n latest line = by_answer n latest line (after (codes "#> ") line)
+
+abbrev pub then_events : List StatedEvent → Result (List StatedEvent) StatedFault → Result (List StatedEvent) StatedFault
+then_events es (Ok later) = Ok (es ++ later)
+then_events es (Err fault) = Err fault
+
+abbrev pub then_lines : Result After StatedFault → (Latest → Result (List StatedEvent) StatedFault) → Result (List StatedEvent) StatedFault
+then_lines (Err fault) later = Err fault
+then_lines (Ok after) later = then_events after.events (later after.latest)
+
+-- What lines say that follow n lines: of line 1,048,577 that there are too many, of a line of over 64 bytes that it is too
+-- long, and of any other what it says by itself. The first fault is that of all.
+unfoldable pub stated_by : ℕ → Latest → List (List ℕ) → Result (List StatedEvent) StatedFault
+stated_by n latest [] = Ok (ended latest)
+stated_by n latest (line ∷ lines) =
+    if nat_le 1048576 n then Err TooLong
+    else if nat_lt 64 (length line) then Err (LongLine (n + 1))
+    else then_lines (line_says (n + 1) latest line) (λ latest. stated_by (n + 1) latest lines)
+
+-- what a script says: its events, each with what is stated of it, or its first fault
+abbrev pub stated_in : List ℕ → Result (List StatedEvent) StatedFault
+stated_in script = stated_by 0 None (lines_of script)
