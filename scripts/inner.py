@@ -14,6 +14,7 @@ import sys
 
 CRATES = ["bus_word", "bus_legal", "profile_types", "line_format", "bus_profile", "terminal_rules", "terminal_exchanges",
           "terminal_complete_test", "bus_terminal", "bus_canon", "bus_complete_test", "rt1553"]
+# `held_word` is a part of what `StandsAt` says
 EXCEPT = {("bus_terminal", "Stands.antt", "StandsAt"), ("bus_terminal", "Stands.antt", "held_word")}
 USE = re.compile(r"^ *(pub )?(?:ghost )?use (\w+(?:\.\w+)*\.specs\.inner(?:\.\w+)*)(?:\.\{([^}]*)\})?(?: as (\w+))?", re.M)
 DEFINITION = re.compile(r"^(?:(?:abbrev|unfoldable|pub|record|data|postulate) )+(\S+)", re.M)
@@ -105,11 +106,9 @@ def functions(text):
             yield bool(found[1]) or is_of_trait, name, found[2], *head_of(block, found.start()), alone + block
 
 
-def exported(text, module):
-    """What a module lets out: names, and modules of its own."""
-    names, modules = set(), set()
-    for name in re.findall(r"^pub mod (\w+);", text, re.M):
-        modules.add(name)
+def exported(text):
+    """What a crate's lib.rt lets out: names, and modules of its own."""
+    names, modules = set(), set(re.findall(r"^pub mod (\w+);", text, re.M))
     for path, listed in re.findall(r"^pub use ([\w:]+?)(?:::\{([^}]*)\})?;", text, re.M | re.S):
         listed = listed if listed else path.split("::")[-1]
         names |= {name.split(" as ")[0].strip() for name in listed.split(",")}
@@ -120,7 +119,7 @@ def reachable(crate):
     """The functions that callers of a crate can reach: those that are let out by name or stand in a module that is, and the methods
     of types that are let out or that such a function's head names."""
     files = {path: plain(path.read_text(), "//") for path in sorted((crate / "src").rglob("*.rt"))}
-    names, modules = exported(files[crate / "src/lib.rt"], "lib")
+    names, modules = exported(files[crate / "src/lib.rt"])
     inside = [(path, function) for path, text in files.items() for function in functions(text)]
     types, found = set(names), []
     while True:

@@ -15,9 +15,9 @@ pub enum Verdict {
     Differ(Script),
 }
 
-/// Says whether two texts mean the same terminal: one that answers alike for ever. Where they don't, gives a script
-/// of at most 70 events on which the two answer otherwise from power-up, made for the address of the first. The
-/// first text is loaded first. Where both are canonical texts, no memory is taken.
+/// Says whether two texts mean the same terminal: one that answers alike for ever. Where they don't, gives the script of
+/// their first difference: of at most 70 events, on which the two answer otherwise from power-up, and made for the
+/// address of the first. The first text is loaded first. Where both are canonical texts, no memory is taken.
 pub fn compare(alloc: Global, first: &[u8], second: &[u8]) -> Result<Verdict, LoadFault>
     ensures ok { IfOk result (IsRight first.now second.now) }
     ensures exact { IfOk result (IsExact first.now second.now) }
