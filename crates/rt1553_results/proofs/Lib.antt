@@ -1,0 +1,3 @@
+pub mod PlayLaws
+pub mod StepLaws
+pub mod RowLaws

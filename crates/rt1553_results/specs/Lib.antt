@@ -1,0 +1,5 @@
+pub use Rattle.bus_legal.specs.Parts
+pub mod Rows
+pub mod Handed
+pub mod Left
+pub mod inner

@@ -1,0 +1,10 @@
+//! The acceptance test of a terminal as a table, and the results of a unit compared with it.
+#![tactic(auto)]
+
+mod exchanges;
+mod playing;
+mod rows;
+
+pub use bus_complete_test::Exchange;
+pub use playing::{Handed, Row};
+pub use rows::Rows;
