@@ -1,3 +1,4 @@
 pub mod PlayLaws
 pub mod StepLaws
 pub mod RowLaws
+pub mod TextLaws

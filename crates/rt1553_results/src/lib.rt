@@ -4,7 +4,10 @@
 mod exchanges;
 mod playing;
 mod rows;
+mod table;
+mod texts;
 
 pub use bus_complete_test::Exchange;
 pub use playing::{Handed, Row};
 pub use rows::Rows;
+pub use table::{csv_header, csv_row};
