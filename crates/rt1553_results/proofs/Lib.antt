@@ -2,3 +2,5 @@ pub mod PlayLaws
 pub mod StepLaws
 pub mod RowLaws
 pub mod TextLaws
+pub mod FieldLaws
+pub mod ResultLaws

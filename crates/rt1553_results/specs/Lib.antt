@@ -3,4 +3,5 @@ pub mod Rows
 pub mod Handed
 pub mod Left
 pub mod Table
+pub mod Results
 pub mod inner
