@@ -4,3 +4,4 @@ pub mod RowLaws
 pub mod TextLaws
 pub mod FieldLaws
 pub mod ResultLaws
+pub mod CompareLaws

@@ -4,4 +4,5 @@ pub mod Handed
 pub mod Left
 pub mod Table
 pub mod Results
+pub mod Compare
 pub mod inner

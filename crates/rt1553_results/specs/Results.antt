@@ -74,6 +74,10 @@ AreRead columns _ _ = ⊥
 abbrev pub answer : Results → ℕ → Option (List ℕ)
 answer results n = option_map (λ given. given.reply.items) (tree.get nat_cmp results.given n)
 
+-- the line of the row that says it
+abbrev pub line_in : Results → ℕ → Option ℕ
+line_in results n = option_map (λ given. given.line) (tree.get nat_cmp results.given n)
+
 -- The records of the text are a header with the columns that are looked for, and rows, of which no two have the same
 -- number. The results have for each number the reply that the row of this number says, and none for any other.
 pub record SaysResults (text : List ℕ) (results : Results) : Type 0 where

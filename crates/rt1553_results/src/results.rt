@@ -1,9 +1,9 @@
 //! The results of a unit: a table in CSV, read.
-ghost use Rattle.std.specs.Prelude.{◌≡◌, ◌↔◌, ◌<◌, ◌≤◌, ℕ, List, [], length, map, option_map, cond, nat_eq, Some, None, IsTrue, IfOk, OnOk};
+ghost use Rattle.std.specs.Prelude.{◌≡◌, ◌↔◌, ◌<◌, ◌≤◌, ℕ, List, [], length, map, option_map, cond, nat_eq, Some, None, IsTrue, IfOk, IfSome, MatchOption, OnOk};
 ghost use Rattle.csv.specs.declared.parser.State.TheVariants.{StartRecord};
 ghost use Rattle.csv.specs.Reading.{AreRecords, default_config, strip_bom};
 ghost use Rattle.csv.specs.Records.{fields_of, field_at};
-ghost use Rattle.rt1553_results.specs.Results.{IsColumn, AreColumns, pair_in, IsRead, answer, SaysResults};
+ghost use Rattle.rt1553_results.specs.Results.{IsColumn, AreColumns, pair_in, IsRead, answer, line_in, SaysResults};
 
 use crate::fields::{read_number, read_reply};
 use arrayvec::ArrayVec;
@@ -203,6 +203,27 @@ fn read_row(columns: &Columns, row: &ByteRecord) -> Result<Entry, ResultsFault>
 }
 
 impl Results {
+    /// The reply to the exchange of this number, if there is a result.
+    pub fn reply(&self, number: u32) -> Option<&[u16]>
+        ensures reply { option_map (λ words. words.now) result ≡ answer self.now number }
+        ensures few { IfSome result (λ words. length words.now ≤ 33) }
+    {
+        match self.given.get(&number) {
+            Some(given) => Some(given.reply.as_slice()),
+            None => None,
+        }
+    }
+
+    /// The largest number, and the line of its row.
+    pub fn last(&self) -> Option<(u32, u64)>
+        ensures { MatchOption result ((n : ℕ) → answer self.now n ≡ None) (λ last. (line_in self.now last.0 ≡ Some last.1) × ((n : ℕ) → last.0 < n → answer self.now n ≡ None)) }
+    {
+        match self.given.last_key_value() {
+            Some((number, given)) => Some((*number, given.line)),
+            None => None,
+        }
+    }
+
     /// Keeps what a row says, if no other row had its number.
     fn keep(&mut self, columns: &Columns, entry: Entry) -> Result<(), ResultsFault>
         ensures new { OnOk result (answer self.old entry.number ≡ None) }
