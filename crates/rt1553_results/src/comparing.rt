@@ -1,0 +1,158 @@
+//! The results of a unit, compared with the acceptance test of a terminal.
+ghost use Rattle.std.specs.Prelude.{◌≡◌, ◌≤◌, ◌++◌, ◌∷◌, [], ◌<◌, ℕ, Some, None, length, map, IfOk, IfErr, IfSome, MatchOption, OnOk};
+ghost use Rattle.bus_legal.specs.Parts.{description_in};
+ghost use Rattle.rt1553_results.specs.Handed.{row_in};
+ghost use Rattle.rt1553_results.specs.Results.{answer, line_in};
+ghost use Rattle.rt1553_results.specs.Compare.{told, told_of, missing_at, counted, numbers_in, Tells, Compares, IsRefused};
+
+use crate::comparison::{Comparison, Difference, Numbers};
+use crate::playing::Row;
+use crate::results::Results;
+use crate::rows::Rows;
+use arrayvec::ArrayVec;
+use bus_legal::Normal;
+use rt1553_acceptance::label_of;
+use std::alloc::{AllocError, Global};
+use thiserror::Error;
+
+/// Why results are not compared.
+#[derive(Clone, Copy, Debug, PartialEq, Eq, Error)]
+pub enum CompareFault {
+    /// The row at this line has a number beyond that of the last exchange.
+    #[error("results: row {0}: no exchange has this number")]
+    Beyond(u64),
+    /// A growth of memory was refused.
+    #[error("out of memory")]
+    Memory,
+}
+
+/// Copies the words of a reply.
+fn copied(words: &[u16]) -> ArrayVec<u16, 33>
+    requires { length words.now ≤ 33 }
+    ensures { result.items ≡ words.now }
+{
+    let mut copy = ArrayVec::new();
+    let _ = copy.try_extend_from_slice(words);
+    copy
+}
+
+/// Numbers with one number more, if it is the next.
+fn with_next(numbers: Numbers, next: u32) -> Option<Numbers>
+    ensures { IfSome result (λ more. counted more.first more.count ≡ counted numbers.first numbers.count ++ next ∷ []) }
+{
+    if numbers.count < next && next - numbers.count == numbers.first {
+        Some(Numbers {
+            first: numbers.first,
+            count: numbers.count + 1,
+        })
+    } else {
+        None
+    }
+}
+
+/// Adds a number to those that are missing.
+fn miss(missing: &mut Vec<Numbers>, number: u32) -> Result<(), AllocError>
+    ensures { OnOk result (numbers_in missing.new.items ≡ numbers_in missing.old.items ++ number ∷ []) }
+{
+    let alone = Numbers {
+        first: number,
+        count: 1,
+    };
+    let Some(last) = missing.pop() else {
+        missing.push(alone)?;
+        return Ok(());
+    };
+    match with_next(last, number) {
+        Some(more) => missing.push(more)?,
+        None => {
+            missing.push(last)?;
+            missing.push(alone)?;
+        }
+    }
+    Ok(())
+}
+
+/// Keeps an exchange to which another reply came than that of the terminal.
+fn differ(
+    normal: &Normal,
+    row: Row,
+    came: &[u16],
+    differences: &mut Vec<Difference>,
+) -> Result<(), AllocError>
+    requires { length came.now ≤ 33 }
+    ensures { OnOk result (map told differences.new.items ≡ map told differences.old.items ++ told_of (description_in normal.now) row.number (row_in row) (Some came.now)) }
+{
+    if came == row.reply.as_slice() {
+        return Ok(());
+    }
+    differences.push(Difference {
+        number: row.number,
+        label: label_of(normal, row.exchange.command),
+        expected: row.reply,
+        came: copied(came),
+    })?;
+    Ok(())
+}
+
+/// Notes what is told of a row.
+fn note(
+    normal: &Normal,
+    results: &Results,
+    row: Row,
+    comparison: &mut Comparison,
+) -> Result<(), AllocError>
+    ensures differ { OnOk result (map told comparison.new.differences.items ≡ map told comparison.old.differences.items ++ told_of (description_in normal.now) row.number (row_in row) (answer results.now row.number)) }
+    ensures miss { OnOk result (numbers_in comparison.new.missing.items ≡ numbers_in comparison.old.missing.items ++ missing_at row.number (answer results.now row.number)) }
+    ensures total { OnOk result (comparison.new.total ≡ row.number) }
+{
+    comparison.total = row.number;
+    match results.reply(row.number) {
+        Some(came) => differ(normal, row, came, &mut comparison.differences),
+        None => miss(&mut comparison.missing, row.number),
+    }
+}
+
+/// Plays the acceptance test of a terminal, and tells to which exchanges another reply came, and which have no result.
+fn tell(alloc: Global, normal: &Normal, results: &Results) -> Result<Comparison, AllocError>
+    ensures { IfOk result (Tells (description_in normal.now) (answer results.now)) }
+{
+    let mut rows = Rows::new(normal);
+    let mut comparison = Comparison {
+        total: 0,
+        differences: Vec::new(alloc),
+        missing: Vec::new(alloc),
+    };
+    while let Some(row) = rows.next() {
+        note(normal, results, row, &mut comparison)?;
+    }
+    Ok(comparison)
+}
+
+/// The line of a row whose number is beyond the last, if there is one.
+fn beyond(results: &Results, total: u32) -> Option<u64>
+    ensures { MatchOption result ((n : ℕ) → total < n → answer results.now n ≡ None) (λ line. (n : ℕ) × (total < n) × (line_in results.now n ≡ Some line)) }
+{
+    match results.last() {
+        Some((number, line)) if number > total => Some(line),
+        _ => None,
+    }
+}
+
+/// Compares the results of a unit with the acceptance test of a terminal: to which exchanges another reply came, and which
+/// have no result.
+pub fn compare(
+    alloc: Global,
+    normal: &Normal,
+    results: &Results,
+) -> Result<Comparison, CompareFault>
+    ensures ok { IfOk result (Compares (description_in normal.now) (answer results.now)) }
+    ensures refused { IfErr result (IsRefused (description_in normal.now) results.now) }
+{
+    let Ok(comparison) = tell(alloc, normal, results) else {
+        return Err(CompareFault::Memory);
+    };
+    match beyond(results, comparison.total) {
+        Some(line) => Err(CompareFault::Beyond(line)),
+        None => Ok(comparison),
+    }
+}

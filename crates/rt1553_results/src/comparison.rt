@@ -1,0 +1,64 @@
+//! What a comparison of results tells.
+ghost use Rattle.std.specs.Prelude.{◌≡◌, ◌↔◌, ◌≤◌, [], map, IsTrue};
+
+use arrayvec::{ArrayString, ArrayVec};
+
+/// An exchange to which another reply came than that of the terminal.
+#[derive(Drop)]
+pub struct Difference {
+    /// The number of the exchange, from 1.
+    pub number: u32,
+    /// What it tries.
+    pub label: ArrayString<64>,
+    /// The words with which the terminal replies; empty for no reply.
+    pub expected: ArrayVec<u16, 33>,
+    /// The words that came.
+    pub came: ArrayVec<u16, 33>,
+}
+
+/// Numbers of exchanges, one after the other.
+#[derive(Clone, Copy)]
+pub struct Numbers {
+    pub first: u32,
+    /// How many they are: at least one.
+    pub count: u32,
+    ghost some: { 1 ≤ count },
+}
+
+/// What a comparison tells.
+#[derive(Drop)]
+pub struct Comparison {
+    /// How many exchanges the acceptance test has.
+    pub total: u32,
+    /// Those to which another reply came, in their order.
+    pub differences: Vec<Difference>,
+    /// Those without a result, in their order.
+    pub missing: Vec<Numbers>,
+}
+
+impl Numbers {
+    /// The last of them.
+    pub(crate) fn last(&self) -> u32 {
+        self.first.saturating_add(self.count - 1)
+    }
+}
+
+impl Comparison {
+    /// How many exchanges have no result.
+    pub(crate) fn missing_count(&self) -> u32 {
+        let mut count = 0u32;
+        for numbers in &self.missing {
+            count = count.saturating_add(numbers.count);
+        }
+        count
+    }
+
+    ghost use Rattle.rt1553_results.specs.Compare.{told, numbers_in};
+
+    /// Whether each exchange has a result, and that is the reply of the terminal.
+    pub fn passes(&self) -> bool
+        ensures { IsTrue result ↔ ((map told self.now.differences.items ≡ []) × (numbers_in self.now.missing.items ≡ [])) }
+    {
+        self.differences.is_empty() && self.missing.is_empty()
+    }
+}

@@ -1,0 +1,77 @@
+//! Rows of the acceptance test as JSON.
+use crate::playing::Row;
+use crate::texts::{data_words, digits, handed_text};
+use bus_legal::Normal;
+use rt1553_acceptance::label_of;
+use serde::Serialize;
+use std::alloc::{AllocError, Global};
+use std::str;
+
+/// A row as JSON.
+#[derive(Drop, Serialize)]
+struct Line {
+    number: u32,
+    tries: String,
+    command: String,
+    data: Vec<String>,
+    /// Null where there is no reply.
+    reply: Option<Vec<String>>,
+    /// Null where nothing is handed over.
+    handed: Option<String>,
+}
+
+/// The four hexadecimal digits of a word.
+fn word_string(alloc: Global, word: u16) -> Result<String, AllocError> {
+    let mut text = String::new(alloc);
+    write!(text, "{word:04x}")?;
+    Ok(text)
+}
+
+/// The digits of each word.
+fn word_strings(alloc: Global, words: &[u16]) -> Result<Vec<String>, AllocError> {
+    let mut list = Vec::new(alloc);
+    for word in words {
+        list.push(word_string(alloc, *word)?)?;
+    }
+    Ok(list)
+}
+
+/// The words of a reply, or None where there are none.
+fn reply_strings(alloc: Global, words: &[u16]) -> Result<Option<Vec<String>>, AllocError> {
+    if words.is_empty() {
+        Ok(None)
+    } else {
+        Ok(Some(word_strings(alloc, words)?))
+    }
+}
+
+/// What is handed over, or None for nothing.
+fn handed_string(alloc: Global, row: &Row) -> Result<Option<String>, AllocError> {
+    if row.handed.is_none() {
+        return Ok(None);
+    }
+    let bytes = handed_text(alloc, &row.handed)?;
+    match str::from_utf8(bytes.as_slice()) {
+        Ok(text) => Ok(Some(String::from_str(alloc, text)?)),
+        Err(_) => Ok(None),
+    }
+}
+
+/// The row as it is written.
+fn line_of(alloc: Global, normal: &Normal, row: &Row) -> Result<Line, AllocError> {
+    let label = label_of(normal, row.exchange.command);
+    Ok(Line {
+        number: row.number,
+        tries: String::from_str(alloc, label.as_str())?,
+        command: word_string(alloc, row.exchange.command)?,
+        data: word_strings(alloc, data_words(alloc, &row.exchange)?.as_slice())?,
+        reply: reply_strings(alloc, row.reply.as_slice())?,
+        handed: handed_string(alloc, row)?,
+    })
+}
+
+/// A row of the table of this terminal as one line of JSON, without a line feed; None where memory is wanting.
+pub fn json_row(alloc: Global, normal: &Normal, row: &Row) -> Option<String> {
+    let line = line_of(alloc, normal, row).ok()?;
+    serde_json::to_string(alloc, &line).ok()
+}

@@ -1,0 +1,265 @@
+//! The results of a unit: a table in CSV, read.
+ghost use Rattle.std.specs.Prelude.{◌≡◌, ◌↔◌, ◌<◌, ◌≤◌, ℕ, List, [], length, map, option_map, cond, nat_eq, Some, None, IsTrue, IfOk, IfSome, MatchOption, OnOk};
+ghost use Rattle.csv.specs.declared.parser.State.TheVariants.{StartRecord};
+ghost use Rattle.csv.specs.Reading.{AreRecords, default_config, strip_bom};
+ghost use Rattle.csv.specs.Records.{fields_of, field_at};
+ghost use Rattle.rt1553_results.specs.Results.{IsColumn, AreColumns, pair_in, IsRead, answer, line_in, SaysResults};
+
+use crate::fields::{read_number, read_reply};
+use arrayvec::ArrayVec;
+use csv::{ByteRecord, ErrorKind, ReaderBuilder};
+use std::alloc::{AllocError, AllocFailed, Global};
+use std::collections::BTreeMap;
+use std::fmt;
+use thiserror::Error;
+
+/// A place in a table: a line of its text and a field of it, each from 1.
+#[derive(Clone, Copy, Debug, PartialEq, Eq)]
+pub struct Place {
+    pub row: u64,
+    pub column: u64,
+}
+
+impl fmt::Display for Place {
+    fn fmt<W: fmt::Write>(&self, f: &mut fmt::Formatter<W>) -> fmt::Result {
+        write!(f, "row {}, column {}", self.row, self.column)
+    }
+}
+
+/// Why a table of results is refused.
+#[derive(Clone, Copy, Debug, PartialEq, Eq, Error)]
+pub enum ResultsFault {
+    /// There is no header.
+    #[error("results: {0}: no header")]
+    NoHeader(Place),
+    /// No column of the header has this name: the place is behind the last.
+    #[error("results: {0}: no column is named {1}")]
+    NoColumn(Place, &'static str),
+    /// A second column of the header has this name.
+    #[error("results: {0}: a second column is named {1}")]
+    TwoColumns(Place, &'static str),
+    /// A row has not as many fields as the header.
+    #[error("results: {0}: not as many fields as the header")]
+    Fields(Place),
+    /// The field is no number from 1 to 4,294,967,295 in decimal digits.
+    #[error("results: {0}: not the number of an exchange")]
+    Number(Place),
+    /// An earlier row has the same number.
+    #[error("results: {0}: the number of an earlier row")]
+    Twice(Place),
+    /// The field is no reply.
+    #[error("results: {0}: not `none`, or 1 to 33 words of four hexadecimal digits")]
+    Reply(Place),
+    /// The text can't be read as CSV.
+    #[error("results: not CSV")]
+    NotCsv,
+    /// A growth of memory was refused, which says nothing of the table.
+    #[error("out of memory")]
+    Memory,
+}
+
+impl From<AllocError> for ResultsFault {
+    fn from(_error: AllocError) -> ResultsFault {
+        ResultsFault::Memory
+    }
+}
+
+impl<T: Drop> From<AllocFailed<T>> for ResultsFault {
+    fn from(_failed: AllocFailed<T>) -> ResultsFault {
+        ResultsFault::Memory
+    }
+}
+
+impl From<csv::Error> for ResultsFault {
+    fn from(error: csv::Error) -> ResultsFault {
+        match error.kind() {
+            ErrorKind::OutOfMemory => ResultsFault::Memory,
+            _ => ResultsFault::NotCsv,
+        }
+    }
+}
+
+/// The reply to an exchange, and the line of the row that says it.
+#[derive(Drop)]
+pub struct Given {
+    pub line: u64,
+    pub reply: ArrayVec<u16, 33>,
+}
+
+/// What a unit replied, by the numbers of exchanges.
+#[derive(Drop)]
+pub struct Results {
+    given: BTreeMap<u32, Given>,
+}
+
+/// What a row says.
+#[derive(Drop)]
+struct Entry {
+    number: u32,
+    line: u64,
+    reply: ArrayVec<u16, 33>,
+}
+
+/// The number of fields of a header, and where it has the columns that are looked for.
+#[derive(Clone, Copy)]
+struct Columns {
+    width: usize,
+    number: usize,
+    reply: usize,
+}
+
+/// The records of a text.
+fn records(alloc: Global, text: &[u8]) -> Result<Vec<ByteRecord>, ResultsFault>
+    ensures { IfOk result (λ rows. AreRecords default_config StartRecord (strip_bom text.now) (map fields_of rows.items)) }
+{
+    let reader = ReaderBuilder::new()
+        .has_headers(false)
+        .flexible(true)
+        .from_reader(alloc, text);
+    let mut rows = Vec::new(alloc);
+    for row in reader.into_byte_records() {
+        rows.push(row?)?;
+    }
+    Ok(rows)
+}
+
+/// The line at which a record begins.
+fn line_of(row: &ByteRecord) -> u64 {
+    match row.position() {
+        Some(position) => position.line(),
+        None => 1,
+    }
+}
+
+/// A field of a record, by its place from 0.
+fn place_of(row: &ByteRecord, field: usize) -> Place {
+    Place {
+        row: line_of(row),
+        column: (field as u64).saturating_add(1),
+    }
+}
+
+/// Whether a record has these bytes at a place.
+fn is_field(row: &ByteRecord, place: usize, bytes: &[u8]) -> bool
+    ensures { IsTrue result ↔ (field_at (fields_of row.now) place ≡ Some bytes.now) }
+{
+    match row.get(place) {
+        Some(field) => field == bytes,
+        None => false,
+    }
+}
+
+/// The place of the column of this name.
+fn column_of(header: &ByteRecord, name: &'static str) -> Result<usize, ResultsFault>
+    ensures { IfOk result (IsColumn name.now (fields_of header.now)) }
+{
+    let mut found = None;
+    for place in 0..header.len() {
+        if is_field(header, place, name.as_bytes()) {
+            if found.is_some() {
+                return Err(ResultsFault::TwoColumns(place_of(header, place), name));
+            }
+            found = Some(place);
+        }
+    }
+    match found {
+        Some(place) => Ok(place),
+        None => Err(ResultsFault::NoColumn(place_of(header, header.len()), name)),
+    }
+}
+
+/// The columns of a header that are looked for.
+fn columns_of(header: &ByteRecord) -> Result<Columns, ResultsFault>
+    ensures { IfOk result (AreColumns (fields_of header.now)) }
+{
+    Ok(Columns {
+        width: header.len(),
+        number: column_of(header, "number")?,
+        reply: column_of(header, "reply")?,
+    })
+}
+
+/// What a row says.
+fn read_row(columns: &Columns, row: &ByteRecord) -> Result<Entry, ResultsFault>
+    ensures { IfOk result (λ entry. IsRead columns.now (fields_of row.now) (pair_in entry)) }
+{
+    if row.len() != columns.width {
+        return Err(ResultsFault::Fields(place_of(row, row.len().min(columns.width))));
+    }
+    let (Some(number), Some(reply)) = (row.get(columns.number), row.get(columns.reply)) else {
+        return Err(ResultsFault::Fields(place_of(row, row.len())));
+    };
+    let Some(number) = read_number(number) else {
+        return Err(ResultsFault::Number(place_of(row, columns.number)));
+    };
+    let Some(reply) = read_reply(reply) else {
+        return Err(ResultsFault::Reply(place_of(row, columns.reply)));
+    };
+    Ok(Entry {
+        number,
+        line: line_of(row),
+        reply,
+    })
+}
+
+impl Results {
+    /// The reply to the exchange of this number, if there is a result.
+    pub fn reply(&self, number: u32) -> Option<&[u16]>
+        ensures reply { option_map (λ words. words.now) result ≡ answer self.now number }
+        ensures few { IfSome result (λ words. length words.now ≤ 33) }
+    {
+        match self.given.get(&number) {
+            Some(given) => Some(given.reply.as_slice()),
+            None => None,
+        }
+    }
+
+    /// The largest number, and the line of its row.
+    pub fn last(&self) -> Option<(u32, u64)>
+        ensures { MatchOption result ((n : ℕ) → answer self.now n ≡ None) (λ last. (line_in self.now last.0 ≡ Some last.1) × ((n : ℕ) → last.0 < n → answer self.now n ≡ None)) }
+    {
+        match self.given.last_key_value() {
+            Some((number, given)) => Some((*number, given.line)),
+            None => None,
+        }
+    }
+
+    /// Keeps what a row says, if no other row had its number.
+    fn keep(&mut self, columns: &Columns, entry: Entry) -> Result<(), ResultsFault>
+        ensures new { OnOk result (answer self.old entry.number ≡ None) }
+        ensures kept { OnOk result ((n : ℕ) → answer self.new n ≡ cond (nat_eq entry.number n) (Some entry.reply.items) (answer self.old n)) }
+    {
+        let given = Given {
+            line: entry.line,
+            reply: entry.reply,
+        };
+        match self.given.insert(entry.number, given)? {
+            None => Ok(()),
+            Some(_) => Err(ResultsFault::Twice(Place {
+                row: entry.line,
+                column: (columns.number as u64).saturating_add(1),
+            })),
+        }
+    }
+}
+
+/// Reads the results of a unit: CSV with a header, in which the columns `number` and `reply` stand in any place. Other columns
+/// are ignored. Rows stand in any order.
+pub fn read_results(alloc: Global, text: &[u8]) -> Result<Results, ResultsFault>
+    ensures { IfOk result (SaysResults text.now) }
+{
+    let records = records(alloc, text)?;
+    let rows = records.as_slice();
+    if rows.is_empty() {
+        return Err(ResultsFault::NoHeader(Place { row: 1, column: 1 }));
+    }
+    let columns = columns_of(&rows[0])?;
+    let mut results = Results {
+        given: BTreeMap::new(alloc),
+    };
+    for row in &rows[1..] {
+        let entry = read_row(&columns, row)?;
+        results.keep(&columns, entry)?;
+    }
+    Ok(results)
+}

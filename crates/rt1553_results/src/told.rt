@@ -1,0 +1,70 @@
+//! What a comparison tells, in words.
+use crate::comparison::{Comparison, Difference, Numbers};
+use std::fmt;
+
+/// A reply as text: its words, or `none`.
+#[derive(Clone, Copy)]
+struct ReplyText<'a>(&'a [u16]);
+
+impl fmt::Display for ReplyText<'_> {
+    fn fmt<W: fmt::Write>(&self, f: &mut fmt::Formatter<W>) -> fmt::Result {
+        if self.0.is_empty() {
+            return f.write_str("none");
+        }
+        write!(f, "{:04x}", self.0[0])?;
+        for word in &self.0[1..] {
+            write!(f, " {word:04x}")?;
+        }
+        Ok(())
+    }
+}
+
+/// As `12: receive 3, 2 words: legal: expected 2800, came none`.
+impl fmt::Display for Difference {
+    fn fmt<W: fmt::Write>(&self, f: &mut fmt::Formatter<W>) -> fmt::Result {
+        write!(
+            f,
+            "{}: {}: expected {}, came {}",
+            self.number,
+            self.label.as_str(),
+            ReplyText(self.expected.as_slice()),
+            ReplyText(self.came.as_slice())
+        )
+    }
+}
+
+/// As `no result for 14 to 17`, or `no result for 14`.
+impl fmt::Display for Numbers {
+    fn fmt<W: fmt::Write>(&self, f: &mut fmt::Formatter<W>) -> fmt::Result {
+        write!(f, "no result for {}", self.first)?;
+        if self.count > 1 {
+            write!(f, " to {}", self.last())?;
+        }
+        Ok(())
+    }
+}
+
+/// The verdict, one line. Where some replies are others, they decide.
+impl fmt::Display for Comparison {
+    fn fmt<W: fmt::Write>(&self, f: &mut fmt::Formatter<W>) -> fmt::Result {
+        let total = self.total;
+        if !self.differences.is_empty() {
+            let others = self.differences.len();
+            write!(
+                f,
+                "{others} of {total} exchanges are answered otherwise: it is another terminal"
+            )
+        } else if !self.missing.is_empty() {
+            let missing = self.missing_count();
+            write!(
+                f,
+                "{missing} of {total} exchanges have no result: no verdict"
+            )
+        } else {
+            write!(
+                f,
+                "all {total} exchanges are answered as by this terminal: it is the same terminal"
+            )
+        }
+    }
+}
