@@ -2,6 +2,7 @@
 use rt1553::LoadFault;
 use rt1553_differ::DifferFault;
 use rt1553_draw::DrawFault;
+use rt1553_results::{CompareFault, ResultsFault};
 use rt1553_tool::TomlFault;
 use rt1553_tool_words::USAGE;
 use rt1553_verify::StatedFault;
@@ -35,6 +36,10 @@ pub enum Fault {
     NoProfile(String),
     /// There is no drawing of the script.
     Drawing(String, DrawFault),
+    /// The results of a unit are refused.
+    Results(String, ResultsFault),
+    /// The results of a unit can't be compared.
+    Comparison(String, CompareFault),
     /// A word is missing, or is no text.
     Usage,
     /// What differs was not found.
@@ -54,6 +59,8 @@ impl fmt::Display for Fault {
             Fault::Profile(name, fault) => write!(f, "{name}: {fault}"),
             Fault::Script(name, fault) => write!(f, "{name}: {fault}"),
             Fault::Drawing(name, fault) => write!(f, "{name}: {fault}"),
+            Fault::Results(name, fault) => write!(f, "{name}: {fault}"),
+            Fault::Comparison(name, fault) => write!(f, "{name}: {fault}"),
             Fault::NoProfile(name) => write!(
                 f,
                 "{name}: script: no line '# Profile: NAME' at its front"
@@ -71,10 +78,14 @@ impl Fault {
         match self {
             Fault::Profile(_, LoadFault::Memory)
             | Fault::Script(_, StatedFault::Memory)
-            | Fault::Drawing(_, DrawFault::Memory) => 4,
+            | Fault::Drawing(_, DrawFault::Memory)
+            | Fault::Results(_, ResultsFault::Memory)
+            | Fault::Comparison(_, CompareFault::Memory) => 4,
             Fault::Profile(_, _)
             | Fault::Script(_, _)
             | Fault::Drawing(_, _)
+            | Fault::Results(_, _)
+            | Fault::Comparison(_, _)
             | Fault::NoProfile(_) => REFUSED,
             Fault::Usage => USAGE,
             _ => 4,

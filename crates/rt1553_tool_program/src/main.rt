@@ -1,6 +1,7 @@
 //! The program `rt1553-tool`: what people ask of a profile, over files and the standard streams.
 #![tactic(auto)]
 
+mod acceptance;
 mod bus_words;
 mod differ;
 mod draw;
@@ -14,10 +15,12 @@ mod summary;
 mod verify;
 mod work;
 
+use std::io::IsTerminal;
 use std::process::ExitCode;
 
 fn main(rt: HostRuntime) -> ExitCode {
-    match work::work(&rt, rt.stdin(), rt.stdout()) {
+    let shows_progress = rt.stderr().is_terminal() && !rt.stdout().is_terminal();
+    match work::work(&rt, shows_progress, rt.stdin(), rt.stdout()) {
         Ok(status) => ExitCode::from(status),
         Err(fault) => {
             // there is nowhere to tell that this could not be written

@@ -1,4 +1,5 @@
 //! What the program does.
+use crate::acceptance::{acceptance, against};
 use crate::bus_words::bus_words;
 use crate::differ::differ;
 use crate::draw::draw;
@@ -17,6 +18,7 @@ use std::rt::{Env, Files};
 fn do_job<R: Files + AllocGlobal + Eprint, I: Read + Drop, W: Write>(
     rt: &R,
     job: &Job<'_>,
+    shows_progress: bool,
     input: I,
     output: &mut W,
 ) -> Result<u8, Fault> {
@@ -35,6 +37,10 @@ fn do_job<R: Files + AllocGlobal + Eprint, I: Read + Drop, W: Write>(
             scripts,
             as_json,
         } => differ(rt, profile, other, *scripts, *as_json, output),
+        Job::Acceptance { profile, format } => {
+            acceptance(rt, profile, *format, shows_progress, output)
+        }
+        Job::Against { profile, results } => against(rt, profile, results, output),
         Job::Draw {
             profile,
             script,
@@ -45,9 +51,11 @@ fn do_job<R: Files + AllocGlobal + Eprint, I: Read + Drop, W: Write>(
     }
 }
 
-/// Does what the command line asks for, and gives the status to end with.
+/// Does what the command line asks for, and gives the status to end with. Where somebody looks at the standard error and not at
+/// the output, it shows progress there.
 pub fn work<R: Env + Files + AllocGlobal + Print + Eprint, I: Read + Drop, O: Write + Drop>(
     rt: &R,
+    shows_progress: bool,
     input: I,
     mut output: O,
 ) -> Result<u8, Fault> {
@@ -60,7 +68,7 @@ pub fn work<R: Env + Files + AllocGlobal + Print + Eprint, I: Read + Drop, O: Wr
     };
     let words: Vec<String> = words.collect(rt.alloc())?;
     match read_words(rt, words.as_slice()) {
-        Ok(job) => do_job(rt, &job, input, &mut output),
+        Ok(job) => do_job(rt, &job, shows_progress, input, &mut output),
         Err(Ended::Said(status)) => Ok(status),
         Err(Ended::Output) => Err(Fault::Output),
         Err(Ended::Usage) => Err(Fault::Usage),

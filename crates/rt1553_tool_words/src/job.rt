@@ -12,6 +12,17 @@ pub enum Profiles<'a> {
     Folder(&'a str),
 }
 
+/// How the acceptance test is written.
+#[derive(Clone, Copy)]
+pub enum TestFormat {
+    /// As a script that states its answers.
+    Script,
+    /// As a table, in CSV.
+    Csv,
+    /// As a table, an object of JSON a line.
+    Json,
+}
+
 /// What the command line asks for. The texts are names of files.
 #[derive(Drop)]
 pub enum Job<'a> {
@@ -39,6 +50,16 @@ pub enum Job<'a> {
         other: &'a str,
         scripts: bool,
         as_json: bool,
+    },
+    /// The acceptance test of a terminal.
+    Acceptance {
+        profile: &'a str,
+        format: TestFormat,
+    },
+    /// The results of a unit compared with the acceptance test of a terminal.
+    Against {
+        profile: &'a str,
+        results: &'a str,
     },
     /// A run as a drawing.
     Draw {
@@ -102,6 +123,25 @@ fn differ<'a>(given: &ArgMatches<'a>) -> Result<Job<'a>, Ended> {
     })
 }
 
+/// How the acceptance test is to be written.
+fn test_format(given: &ArgMatches<'_>) -> TestFormat {
+    match given.get_str("format") {
+        Some("csv") => TestFormat::Csv,
+        Some("json") => TestFormat::Json,
+        _ => TestFormat::Script,
+    }
+}
+
+/// What `acceptance` is asked for. A comparison is told in words alone.
+fn acceptance<'a>(given: &ArgMatches<'a>) -> Result<Job<'a>, Ended> {
+    let profile = text(given, "profile")?;
+    match (given.get_str("against"), test_format(given)) {
+        (None, format) => Ok(Job::Acceptance { profile, format }),
+        (Some(results), TestFormat::Script) => Ok(Job::Against { profile, results }),
+        (Some(_), _) => Err(Ended::Usage),
+    }
+}
+
 /// What `draw` is asked for.
 fn draw<'a>(given: &ArgMatches<'a>) -> Result<Job<'a>, Ended> {
     Ok(Job::Draw {
@@ -128,6 +168,7 @@ pub fn job_of<'a>(alloc: Global, matches: &ArgMatches<'a>) -> Result<Job<'a>, En
             as_json: as_json(given),
         }),
         "differ" => differ(given),
+        "acceptance" => acceptance(given),
         "draw" => draw(given),
         "words" => Ok(Job::Words),
         "live" => Ok(Job::Live(text(given, "profile")?)),

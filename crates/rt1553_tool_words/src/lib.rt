@@ -5,5 +5,5 @@ mod job;
 mod table;
 mod words;
 
-pub use job::{Job, Profiles};
+pub use job::{Job, Profiles, TestFormat};
 pub use words::{Ended, USAGE, read_words};

@@ -15,8 +15,8 @@ pub enum Given {
     Value,
     /// As an option without a value.
     Flag,
-    /// As an option with the value `text` or `json`.
-    Format,
+    /// As an option with this value where it is left out, or one of these.
+    OneOf(&'static str, &'static [&'static str]),
 }
 
 /// An argument of a command.
@@ -46,9 +46,13 @@ const PROFILE: Argument = Argument {
     help: "a profile or a canonical text",
 };
 
+const TEXT_OR_JSON: [&str; 2] = ["text", "json"];
+
+const TEXT_OR_TABLE: [&str; 3] = ["text", "csv", "json"];
+
 const FORMAT: Argument = Argument {
     id: "format",
-    given: Given::Format,
+    given: Given::OneOf("text", &TEXT_OR_JSON),
     value: "FORMAT",
     help: "how it is written",
 };
@@ -125,10 +129,26 @@ const DRAW: [Argument; 3] = [
     },
 ];
 
+const ACCEPTANCE: [Argument; 3] = [
+    PROFILE,
+    Argument {
+        id: "against",
+        given: Given::Value,
+        value: "RESULTS",
+        help: "compares the replies of a unit, a table in CSV",
+    },
+    Argument {
+        id: "format",
+        given: Given::OneOf("text", &TEXT_OR_TABLE),
+        value: "FORMAT",
+        help: "how it is written",
+    },
+];
+
 const ONE_PROFILE: [Argument; 1] = [PROFILE];
 
 /// The commands, in the order of the help.
-pub const COMMANDS: [Row; 8] = [
+pub const COMMANDS: [Row; 9] = [
     Row {
         name: "lint",
         about: "Tells all that is wrong with profiles, and what has no effect",
@@ -158,6 +178,12 @@ pub const COMMANDS: [Row; 8] = [
         about: "Tells all in which two terminals differ",
         example: "Example: rt1553-tool differ --scripts old.toml new.toml",
         arguments: &DIFFER,
+    },
+    Row {
+        name: "acceptance",
+        about: "Writes the test that tells a terminal from every other",
+        example: "Example: rt1553-tool acceptance pump.toml > pump.script",
+        arguments: &ACCEPTANCE,
     },
     Row {
         name: "draw",

@@ -66,11 +66,11 @@ fn argument<'a>(alloc: Global, row: &Argument) -> Result<Arg<'a>, AllocError> {
                 .value_name(row.value),
         ),
         Given::Flag => Ok(arg.long(row.id).action(ArgAction::SetTrue)),
-        Given::Format => Ok(
+        Given::OneOf(default, values) => Ok(
             arg.long(row.id)
                 .action(ArgAction::Set)
-                .value_parser(["text", "json"].as_slice())
-                .default_value("text"),
+                .value_parser(values)
+                .default_value(default),
         ),
     }
 }

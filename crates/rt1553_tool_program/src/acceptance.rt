@@ -1,0 +1,153 @@
+//! The word `acceptance`: the test that tells a terminal from every other, and what a unit answered to it.
+use crate::fault::{DIFFERENT, Fault};
+use crate::files::{json_line, load_profile, owned, put, read_script_file};
+use bus_legal::Normal;
+use bus_script::{FromWrite, Sink};
+use rt1553_acceptance::{Progress, write_acceptance};
+use rt1553_results::{Comparison, Results, Rows, compare, csv_header, csv_row, json_row, read_results};
+use rt1553_tool_words::TestFormat;
+use std::alloc::Global;
+use std::io::Write;
+use std::rt::Files;
+
+/// After how many exchanges it is told again how many were written.
+const STEP: u32 = 64;
+
+/// Tells on the standard error how many exchanges were written.
+#[derive(Drop)]
+struct Counter<'a, R: Eprint> {
+    rt: &'a R,
+    /// Whether anybody looks at it.
+    is_shown: bool,
+    written: u32,
+}
+
+impl<R: Eprint> Progress for Counter<'_, R> {
+    fn exchange_written(&mut self) {
+        self.written = self.written.saturating_add(1);
+        if self.is_shown && self.written % STEP == 0 {
+            // where this can't be told, the test is written all the same
+            let _ = eprint!(self.rt; "\r{} exchanges", self.written);
+        }
+    }
+}
+
+impl<R: Eprint> Counter<'_, R> {
+    /// Takes back what was told.
+    fn end(&self) {
+        if self.is_shown {
+            let _ = eprint!(self.rt; "\r\x1b[K");
+        }
+    }
+}
+
+/// Writes the test as a script that states its answers.
+fn put_script<P: Progress, W: Write>(
+    normal: &Normal,
+    progress: &mut P,
+    output: &mut W,
+) -> Result<(), Fault> {
+    let mut sink = FromWrite::new(output);
+    if write_acceptance(normal, &mut sink, progress).is_err() || sink.flush().is_err() {
+        return Err(Fault::Output);
+    }
+    Ok(())
+}
+
+/// Writes the test as a table in CSV.
+fn put_csv<P: Progress, W: Write>(
+    alloc: Global,
+    normal: &Normal,
+    progress: &mut P,
+    output: &mut W,
+) -> Result<(), Fault> {
+    put(output, csv_header(alloc)?.as_slice())?;
+    let mut rows = Rows::new(normal);
+    while let Some(row) = rows.next() {
+        put(output, csv_row(alloc, normal, &row)?.as_slice())?;
+        progress.exchange_written();
+    }
+    Ok(())
+}
+
+/// Writes the test as a table, an object of JSON a line.
+fn put_json<P: Progress, W: Write>(
+    alloc: Global,
+    normal: &Normal,
+    progress: &mut P,
+    output: &mut W,
+) -> Result<(), Fault> {
+    let mut rows = Rows::new(normal);
+    while let Some(row) = rows.next() {
+        let line = json_line(json_row(alloc, normal, &row))?;
+        put(output, line.as_str().as_bytes())?;
+        progress.exchange_written();
+    }
+    Ok(())
+}
+
+/// Writes the acceptance test of the terminal of a profile. The status is 0.
+pub fn acceptance<R: Files + AllocGlobal + Eprint, W: Write>(
+    rt: &R,
+    profile: &str,
+    format: TestFormat,
+    shows_progress: bool,
+    output: &mut W,
+) -> Result<u8, Fault> {
+    let normal = load_profile(rt, profile)?;
+    let mut progress = Counter {
+        rt,
+        is_shown: shows_progress,
+        written: 0,
+    };
+    let outcome = match format {
+        TestFormat::Script => put_script(&normal, &mut progress, output),
+        TestFormat::Csv => put_csv(rt.alloc(), &normal, &mut progress, output),
+        TestFormat::Json => put_json(rt.alloc(), &normal, &mut progress, output),
+    };
+    progress.end();
+    outcome?;
+    Ok(0)
+}
+
+/// The results of a unit, of the file of this name.
+fn load_results<R: Files + AllocGlobal>(rt: &R, name: &str) -> Result<Results, Fault> {
+    let bytes = read_script_file(rt, name)?;
+    match read_results(rt.alloc(), bytes.as_slice()) {
+        Ok(results) => Ok(results),
+        Err(fault) => Err(Fault::Results(owned(rt, name)?, fault)),
+    }
+}
+
+/// Writes what a comparison tells, and the verdict.
+fn put_comparison<W: Write>(comparison: &Comparison, output: &mut W) -> Result<(), Fault> {
+    for difference in comparison.differences.as_slice() {
+        if writeln!(output, "{difference}").is_err() {
+            return Err(Fault::Output);
+        }
+    }
+    for numbers in comparison.missing.as_slice() {
+        if writeln!(output, "{numbers}").is_err() {
+            return Err(Fault::Output);
+        }
+    }
+    writeln!(output, "{comparison}").map_err(|_| Fault::Output)
+}
+
+/// Compares the results of a unit with the acceptance test of the terminal of a profile. The status tells whether the unit is
+/// this terminal.
+pub fn against<R: Files + AllocGlobal, W: Write>(
+    rt: &R,
+    profile: &str,
+    results: &str,
+    output: &mut W,
+) -> Result<u8, Fault> {
+    let normal = load_profile(rt, profile)?;
+    let given = load_results(rt, results)?;
+    let comparison = match compare(rt.alloc(), &normal, &given) {
+        Ok(comparison) => comparison,
+        Err(fault) => return Err(Fault::Comparison(owned(rt, results)?, fault)),
+    };
+    put_comparison(&comparison, output)?;
+    Ok(if comparison.passes() { 0 } else { DIFFERENT })
+}
