@@ -123,18 +123,39 @@ fn records(alloc: Global, text: &[u8]) -> Result<Vec<ByteRecord>, ResultsFault>
     Ok(rows)
 }
 
-/// The line at which a record begins.
-fn line_of(row: &ByteRecord) -> u64 {
+/// A place in a text: how many bytes come before it, and its line, from 1.
+#[derive(Clone, Copy)]
+struct Cursor {
+    at: usize,
+    line: u64,
+}
+
+/// Moves on to a byte, and over the line ends there: so far a reader of CSV skips empty lines before a record.
+fn moved(text: &[u8], from: Cursor, to: usize) -> Cursor {
+    let mut cursor = from;
+    while cursor.at < text.len()
+        && (cursor.at < to || text[cursor.at] == b'\n' || text[cursor.at] == b'\r')
+    {
+        if text[cursor.at] == b'\n' {
+            cursor.line = cursor.line.saturating_add(1);
+        }
+        cursor.at += 1;
+    }
+    cursor
+}
+
+/// Moves on to a record.
+fn at_record(text: &[u8], from: Cursor, row: &ByteRecord) -> Cursor {
     match row.position() {
-        Some(position) => position.line(),
-        None => 1,
+        Some(position) => moved(text, from, position.byte() as usize),
+        None => from,
     }
 }
 
-/// A field of a record, by its place from 0.
-fn place_of(row: &ByteRecord, field: usize) -> Place {
+/// A field of a row, by its place from 0.
+fn place_of(line: u64, field: usize) -> Place {
     Place {
-        row: line_of(row),
+        row: line,
         column: (field as u64).saturating_add(1),
     }
 }
@@ -150,54 +171,54 @@ fn is_field(row: &ByteRecord, place: usize, bytes: &[u8]) -> bool
 }
 
 /// The place of the column of this name.
-fn column_of(header: &ByteRecord, name: &'static str) -> Result<usize, ResultsFault>
+fn column_of(header: &ByteRecord, line: u64, name: &'static str) -> Result<usize, ResultsFault>
     ensures { IfOk result (IsColumn name.now (fields_of header.now)) }
 {
     let mut found = None;
     for place in 0..header.len() {
         if is_field(header, place, name.as_bytes()) {
             if found.is_some() {
-                return Err(ResultsFault::TwoColumns(place_of(header, place), name));
+                return Err(ResultsFault::TwoColumns(place_of(line, place), name));
             }
             found = Some(place);
         }
     }
     match found {
         Some(place) => Ok(place),
-        None => Err(ResultsFault::NoColumn(place_of(header, header.len()), name)),
+        None => Err(ResultsFault::NoColumn(place_of(line, header.len()), name)),
     }
 }
 
 /// The columns of a header that are looked for.
-fn columns_of(header: &ByteRecord) -> Result<Columns, ResultsFault>
+fn columns_of(header: &ByteRecord, line: u64) -> Result<Columns, ResultsFault>
     ensures { IfOk result (AreColumns (fields_of header.now)) }
 {
     Ok(Columns {
         width: header.len(),
-        number: column_of(header, "number")?,
-        reply: column_of(header, "reply")?,
+        number: column_of(header, line, "number")?,
+        reply: column_of(header, line, "reply")?,
     })
 }
 
 /// What a row says.
-fn read_row(columns: &Columns, row: &ByteRecord) -> Result<Entry, ResultsFault>
+fn read_row(columns: &Columns, row: &ByteRecord, line: u64) -> Result<Entry, ResultsFault>
     ensures { IfOk result (λ entry. IsRead columns.now (fields_of row.now) (pair_in entry)) }
 {
     if row.len() != columns.width {
-        return Err(ResultsFault::Fields(place_of(row, row.len().min(columns.width))));
+        return Err(ResultsFault::Fields(place_of(line, row.len().min(columns.width))));
     }
     let (Some(number), Some(reply)) = (row.get(columns.number), row.get(columns.reply)) else {
-        return Err(ResultsFault::Fields(place_of(row, row.len())));
+        return Err(ResultsFault::Fields(place_of(line, row.len())));
     };
     let Some(number) = read_number(number) else {
-        return Err(ResultsFault::Number(place_of(row, columns.number)));
+        return Err(ResultsFault::Number(place_of(line, columns.number)));
     };
     let Some(reply) = read_reply(reply) else {
-        return Err(ResultsFault::Reply(place_of(row, columns.reply)));
+        return Err(ResultsFault::Reply(place_of(line, columns.reply)));
     };
     Ok(Entry {
         number,
-        line: line_of(row),
+        line,
         reply,
     })
 }
@@ -235,10 +256,7 @@ impl Results {
         };
         match self.given.insert(entry.number, given)? {
             None => Ok(()),
-            Some(_) => Err(ResultsFault::Twice(Place {
-                row: entry.line,
-                column: (columns.number as u64).saturating_add(1),
-            })),
+            Some(_) => Err(ResultsFault::Twice(place_of(entry.line, columns.number))),
         }
     }
 }
@@ -253,12 +271,16 @@ pub fn read_results(alloc: Global, text: &[u8]) -> Result<Results, ResultsFault>
     if rows.is_empty() {
         return Err(ResultsFault::NoHeader(Place { row: 1, column: 1 }));
     }
-    let columns = columns_of(&rows[0])?;
+    let start = Cursor { at: 0, line: 1 };
+    let header = &rows[0];
+    let mut cursor = at_record(text, start, header);
+    let columns = columns_of(header, cursor.line)?;
     let mut results = Results {
         given: BTreeMap::new(alloc),
     };
     for row in &rows[1..] {
-        let entry = read_row(&columns, row)?;
+        cursor = at_record(text, cursor, row);
+        let entry = read_row(&columns, row, cursor.line)?;
         results.keep(&columns, entry)?;
     }
     Ok(results)

@@ -159,7 +159,19 @@ fn number_beyond_the_last(rt: HostRuntime) -> Result<(), Fail> {
 #[test]
 fn refused_tables(rt: HostRuntime) -> Result<(), Fail> {
     let alloc = rt.alloc();
-    let cases: [(&[u8], &str); 17] = [
+    let cases: [(&[u8], &str); 20] = [
+        (
+            b"\xef\xbb\xbfnumber,reply\r\n1,none\r\n0,none\r\n",
+            "results: row 3, column 1: not the number of an exchange",
+        ),
+        (
+            b"number,reply\r\n1,none\r\n0,none\r\n",
+            "results: row 3, column 1: not the number of an exchange",
+        ),
+        (
+            b"\nnote,number,reply\n\n\"a\nb\",1,none\n,0,none\n",
+            "results: row 6, column 2: not the number of an exchange",
+        ),
         (b"", "results: row 1, column 1: no header"),
         (
             b"number\n",

@@ -4,7 +4,9 @@ use crate::files::{json_line, load_profile, owned, put, read_script_file};
 use bus_legal::Normal;
 use bus_script::{FromWrite, Sink};
 use rt1553_acceptance::{Progress, write_acceptance};
-use rt1553_results::{Comparison, Results, Rows, compare, csv_header, csv_row, json_row, read_results};
+use rt1553_results::{
+    Comparison, Results, Rows, compare, csv_header, csv_row, json_row, read_results,
+};
 use rt1553_tool_words::TestFormat;
 use std::alloc::Global;
 use std::io::Write;
