@@ -153,9 +153,9 @@ sent_alike P Q xs (y ∷ ys) whole a b (s, ss) e =
     let here : (row_at Q (history_of xs) y).reply ≡ (row_at P (history_of xs) y).reply = cc in
     let tails : replies_of (rows_from Q (after_exchange y (history_of xs)) ys) ≡ replies_of (rows_from P (after_exchange y (history_of xs)) ys) = cc in
     let next : replies_of (rows_from Q (history_of (y ∷ xs)) ys) ≡ replies_of (rows_from P (history_of (y ∷ xs)) ys) =
-        ap (λ h. replies_of (rows_from Q h ys)) (sym (exchange_history y xs)) ∙ tails ∙ ap (λ h. replies_of (rows_from P h ys)) (exchange_history y xs) in
+    ap (λ h. replies_of (rows_from Q h ys)) (sym (exchange_history y xs)) ∙ tails ∙ ap (λ h. replies_of (rows_from P h ys)) (exchange_history y xs) in
     let slots : map sent_in q.slots ≡ map sent_in p.slots =
-        same_slots 0 q.slots p.slots (q.long ∙ sym p.long) q.goes p.goes (sym (reply_is Q xs y q) ∙ here ∙ reply_is P xs y p) in
+    same_slots 0 q.slots p.slots (q.long ∙ sym p.long) q.goes p.goes (sym (reply_is Q xs y q) ∙ here ∙ reply_is P xs y p) in
     let rest = sent_alike P Q (y ∷ xs) ys (s.whole, whole) (answered_more P xs y s a) (answered_more Q xs y s b) ss next in
     ap (map sent_in) (q.is (script_of ys))
     ∙ around_alike y q.gap p.gap q.slots p.slots _ _ q.unsent p.unsent slots rest
