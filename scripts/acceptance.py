@@ -54,7 +54,11 @@ direction = "receive"
 subaddresses = "1-30"
 """
 # the most answers
-ALL_LEGAL = LARGEST.replace("counts = 32\n", "")
+ALL_LEGAL = TOP / "examples" / "validation" / "profiles" / "full.toml"
+# the columns of the table of sizes in docs/acceptance.md, of which those from the fifth on may be left out, and its rows, of which
+# the last may be
+SIZES = ["exchanges", "events", "lines of the script", "words on the bus", "of them the terminal's", "time"]
+SIZED = ["`address = 5`", "the largest", "all that can be legal"]
 MODE_NAMES = {
     0: "dynamic bus control",
     1: "synchronize",
@@ -132,6 +136,7 @@ def answer_of(answer):
     return play.answer_line(answer) if answer else ""
 
 
+@functools.lru_cache(maxsize=8)
 def modelled(p):
     """The exchanges of the test of a terminal, as the model answers them."""
     unit = complete_test.terminal(p)
@@ -358,11 +363,12 @@ def results_in(exchanges):
     return [(number, it.reply(), number + 1) for number, it in enumerate(exchanges, 1)]
 
 
-def told_by(exchanges, other, name):
-    """What `verify` has to tell of the script of these exchanges, by the model of another terminal; and the results of that one."""
+def told_by(exchanges, events, other, name):
+    """What `verify` has to tell of the script of these exchanges, whose events these are by their lines, by the model of another
+    terminal; and the results of that one."""
     unit = complete_test.terminal(other)
     lines, results = [], []
-    events = iter(numbered(exchanges)[1])
+    events = iter(events)
 
     def take(event):
         line, wanted = next(events)
@@ -500,9 +506,19 @@ class Profile:
         it.count.row(f"table of {name}", rows_fault(self.rows, self.exchanges))
 
     @functools.cached_property
-    def answers(self):
-        """What is stated of each event of the script, by its line."""
-        return dict(numbered(self.exchanges)[1])
+    def lines(self):
+        return self.script.read_text().split("\n")
+
+    def stated(self, number):
+        """What is stated of the event in this line, or None where there is no event."""
+        if not 0 < number < len(self.lines) or self.lines[number - 1].startswith("#"):
+            return None
+        if not self.lines[number].startswith("#> "):
+            return "nothing"
+        end = number + 1
+        while self.lines[end].startswith("#+ "):
+            end += 1
+        return " ".join(line[3:] for line in self.lines[number:end])
 
 
 def one_pair(it, one, other, name):
@@ -534,7 +550,7 @@ def verify_fault(given, one, same):
     for line in lines[:-1]:
         found = re.fullmatch(r"(.*):(\d+): expected (.+), came (.+)", line)
         number = int(found[2]) if found else 0
-        if not found or found[1] != str(one.script) or number <= last or (one.answers.get(number) or "nothing") != found[3] or found[3] == found[4]:
+        if not found or found[1] != str(one.script) or number <= last or one.stated(number) != found[3] or found[3] == found[4]:
             return f"it tells {line}"
         last = number
     return None if lines[-1:] in ([], [f"{one.script}: {len(lines) - 1} differ"]) else f"it ends by {lines[-1]}"
@@ -602,6 +618,7 @@ def pairs(it, draw):
         p = drawn(draw, is_rich)
         one = Profile(it, draw, p, f"p{star}", star % 2 == 0)
         it.count.row(f"script of p{star}", script_fault(one.script.read_text(), modelled(p)))
+        events = numbered(one.exchanges)[1]
         for kind in [*complete_test.KINDS, "few", "other", "same"]:
             q = p if kind == "same" else other_terminal(draw, p, kind)
             other = Profile(it, draw, q, f"q{star}", kind == "same" and star % 2 or draw.random() < 0.5)
@@ -611,7 +628,7 @@ def pairs(it, draw):
             if kind == "vector":
                 planted_verdicts(it, one, other)
             if star == 0:
-                wanted, results = told_by(one.exchanges, q, one.script)
+                wanted, results = told_by(one.exchanges, events, q, one.script)
                 it.count.equal(f"verify, {kind}", it.verify(other.path, one.script), wanted)
                 path = it.file("unit.csv", results_text(results))
                 wanted = compared(one.exchanges, results, path)
@@ -748,16 +765,30 @@ def times(it, profile, name):
     it.count.row(f"time of {name}", None if best < SECONDS else f"{best:.2f} seconds of processor time, of {SECONDS}")
 
 
-def sizes(count, named):
-    """The numbers of exchanges, events, lines and words on the bus of these tests, as docs/acceptance.md tells them."""
+def sizes_of(text):
+    """The sizes of a test, as docs/acceptance.md tells them. The time is that of words of 20 us, of response times of 12 us and of
+    gaps of 100 us."""
+    exchanges = read_script(text)
+    words = sum(1 + len(it.data) for it in exchanges)
+    sent = sum(len(it.reply()) for it in exchanges)
+    replies = sum(1 for it in exchanges if it.reply())
+    seconds = ((words + sent) * 20 + replies * 12 + len(exchanges) * 100) / 1_000_000
+    numbers = [len(exchanges), sum(it.events() for it in exchanges), text.count("\n"), words + sent, sent]
+    return [*(f"{number:,}" for number in numbers), f"{seconds:.1f} s"]
+
+
+def sizes(count, texts):
+    """Compares the sizes of these tests with the table in docs/acceptance.md."""
     page = TOP / "docs" / "acceptance.md"
     lines = page.read_text().splitlines() if page.exists() else []
-    for name, text in named.items():
-        exchanges = read_script(text)
-        found = [len(exchanges), sum(it.events() for it in exchanges), text.count("\n"), sum(1 + len(it.data) + len(it.reply()) for it in exchanges)]
-        wanted = [f"{number:,}" for number in found]
-        rows = [[cell.strip() for cell in line.strip("| ").split("|")[1:]] for line in lines if line.startswith(f"| {name}")]
-        count.equal(f"sizes in docs/acceptance.md: {name}", [row[:4] for row in rows], [wanted])
+    rows = [[cell.strip() for cell in line.strip("| ").split("|")] for line in lines if line.startswith("| ")]
+    header = next((row for row in rows if SIZES[0] in row and SIZES[1] in row), [])
+    count.row("sizes in docs/acceptance.md: columns", None if set(SIZES[:4]) <= set(header) else short(header))
+    for name, text in texts.items():
+        found = [dict(zip(header, row)) for row in rows if row[0].startswith(name) and len(row) == len(header)]
+        wanted = {column: size for column, size in zip(SIZES, sizes_of(text)) if column in header}
+        if found or name != SIZED[-1]:
+            count.equal(f"sizes in docs/acceptance.md: {name}", [{column: row[column] for column in wanted} for row in found], [wanted])
 
 
 # ---- changes that have to be found
@@ -829,21 +860,21 @@ def main(rt1553, *tools):
         count.row("profiles of examples", None if len(profiles) >= 17 else f"{len(profiles)} profiles")
         for profile in profiles:
             one_profile(first, profile, modelled(canonical.load(profile)))
-        named = {"`address = 5`": SMALLEST, "the largest": LARGEST, "all that is legal": ALL_LEGAL}
+        named = dict(zip(SIZED, [first.file("smallest", SMALLEST), first.file("largest", LARGEST), ALL_LEGAL]))
         texts = {}
-        for name, text in named.items():
-            profile = first.file(name.strip("`"), text)
-            one_profile(first, profile, modelled(canonical.load(profile)))
+        for name, profile in named.items():
+            if profile not in profiles:
+                one_profile(first, profile, modelled(canonical.load(profile)))
             texts[name] = run(first.tool, "acceptance", profile).output
             count.row(f"schema of the JSON of {name}", schema_fault(run(first.tool, "acceptance", "--format", "json", profile).output))
             times(first, profile, name)
-        sizes(count, {name: texts[name] for name in ("`address = 5`", "the largest")})
+        sizes(count, texts)
         pairs(first, random.Random(SEED))
-        for name in ("`address = 5`", "the largest"):
-            profile = first.room / name.strip("`")
+        for name in SIZED[:2]:
+            profile = named[name]
             exchanges = modelled(canonical.load(profile))
             table, lines = (run(first.tool, "acceptance", profile, "--format", it).output for it in ("csv", "json"))
-            if name == "the largest":
+            if name == SIZED[1]:
                 faults_of_tables(first, profile, exchanges)
                 tables_that_are_compared(first, profile, exchanges, table)
                 files_that_fail(first, profile, first.file("own.csv", table))
