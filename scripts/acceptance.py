@@ -471,7 +471,8 @@ def toml_of(draw, p):
     root = [f"{key} = {value}\n" for key, value in settings.items() if value]
     draw.shuffle(root)
     heard = p.heard if p.broadcast else tuple(draw.getrandbits(32) for _ in range(30))
-    tables = [*rules_text(draw, "own", "receive", p.receive), *rules_text(draw, "own", "transmit", p.transmit), *rules_text(draw, "broadcast", "receive", heard)]
+    ways = (("own", "receive", p.receive), ("own", "transmit", p.transmit), ("broadcast", "receive", heard))
+    tables = [table for way in ways for table in rules_text(draw, *way)]
     # codes that can't be legal change nothing
     own = bits_of(p.own_codes | draw.getrandbits(32) & ~canonical.OWN_CODES, 0)
     codes = p.heard_codes if p.broadcast else draw.getrandbits(32)
@@ -821,7 +822,9 @@ def planted(it, profile, exchanges, text, table, lines):
         "a data word changed": text.replace("A d 0000\n", "A d 0001\n", 1),
     }.items():
         it.count.row(f"planted: {name}", None if changed != text and script_fault(changed, exchanges) else "not found")
-        it.count.row(f"planted, by the table: {name}", None if table_fault(table, read_script(changed)) or name in ("a slot less", "a slot more") else "not found")
+        # the table doesn't tell how many slots there are
+        if "slot" not in name:
+            it.count.row(f"planted, by the table: {name}", None if table_fault(table, read_script(changed)) else "not found")
     # a row of the table, and of the lines of JSON
     rows = table.split("\r\n")
     for name, changed in {
