@@ -3,7 +3,7 @@ _rt1553_tool() {
     local now=${COMP_WORDS[COMP_CWORD]} before=${COMP_WORDS[COMP_CWORD - 1]} flags='' kinds=() many='' count=0 index kind
     COMPREPLY=()
     if ((COMP_CWORD == 1)); then
-        mapfile -t COMPREPLY < <(compgen -W 'lint verify toml explain differ draw words live --help --version' -- "$now")
+        mapfile -t COMPREPLY < <(compgen -W 'lint verify toml explain differ acceptance draw words live --help --version' -- "$now")
         return
     fi
     case ${COMP_WORDS[1]}:$before in
@@ -11,6 +11,8 @@ _rt1553_tool() {
         verify:--profiles) mapfile -t COMPREPLY < <(compgen -d -- "$now"); return ;;
         explain:--format) mapfile -t COMPREPLY < <(compgen -W 'text json' -- "$now"); return ;;
         differ:--format) mapfile -t COMPREPLY < <(compgen -W 'text json' -- "$now"); return ;;
+        acceptance:--against) mapfile -t COMPREPLY < <(compgen -f -X '!*.csv' -- "$now"; compgen -d -- "$now"); return ;;
+        acceptance:--format) mapfile -t COMPREPLY < <(compgen -W 'text csv json' -- "$now"); return ;;
     esac
     case ${COMP_WORDS[1]} in
         lint) flags='--format --help' kinds=(profile) many='profile' ;;
@@ -18,6 +20,7 @@ _rt1553_tool() {
         toml) flags='--help' kinds=(profile) many='' ;;
         explain) flags='--format --help' kinds=(profile) many='' ;;
         differ) flags='--scripts --format --help' kinds=(profile profile) many='' ;;
+        acceptance) flags='--against --format --help' kinds=(profile) many='' ;;
         draw) flags='--html --help' kinds=(profile script) many='' ;;
         words) flags='--help' kinds=() many='' ;;
         live) flags='--help' kinds=(profile) many='' ;;
@@ -29,6 +32,8 @@ _rt1553_tool() {
             verify:--profiles) kinds=("${kinds[@]:1}") index=$((index + 1)) ;;
             explain:--format) index=$((index + 1)) ;;
             differ:--format) index=$((index + 1)) ;;
+            acceptance:--against) index=$((index + 1)) ;;
+            acceptance:--format) index=$((index + 1)) ;;
             *:-*) ;;
             *) count=$((count + 1)) ;;
         esac

@@ -18,6 +18,10 @@ complete -c rt1553-tool -n __fish_use_subcommand -a differ -d 'Tells all in whic
 complete -c rt1553-tool -n '__fish_seen_subcommand_from differ' -l scripts -d 'gives the script that shows it, where there is one'
 complete -c rt1553-tool -n '__fish_seen_subcommand_from differ' -l format -x -a 'text json' -d 'how it is written'
 complete -c rt1553-tool -n '__fish_seen_subcommand_from differ' -F
+complete -c rt1553-tool -n __fish_use_subcommand -a acceptance -d 'Writes the test that tells a terminal from every other'
+complete -c rt1553-tool -n '__fish_seen_subcommand_from acceptance' -l against -r -F -d 'compares the replies of a unit, a table in CSV'
+complete -c rt1553-tool -n '__fish_seen_subcommand_from acceptance' -l format -x -a 'text csv json' -d 'how it is written'
+complete -c rt1553-tool -n '__fish_seen_subcommand_from acceptance' -F
 complete -c rt1553-tool -n __fish_use_subcommand -a draw -d 'Draws a run: the words on the buses, and what is handed over'
 complete -c rt1553-tool -n '__fish_seen_subcommand_from draw' -l html -d 'a page of its own, with what is legal'
 complete -c rt1553-tool -n '__fish_seen_subcommand_from draw' -F

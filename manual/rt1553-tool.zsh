@@ -8,6 +8,7 @@ _rt1553_tool() {
         'toml:Writes a small profile that means the same terminal'
         'explain:Tells what a terminal does, as a table'
         'differ:Tells all in which two terminals differ'
+        'acceptance:Writes the test that tells a terminal from every other'
         'draw:Draws a run\: the words on the buses, and what is handed over'
         'words:Tells words of the bus by their fields, and fields by words'
         'live:Plays lines as they come, and ends each answer by a dot'
@@ -26,6 +27,7 @@ _rt1553_tool() {
         toml) _arguments '--help[tells what the word takes]' '1:P:_files -g "*.(toml|rt1553)(-.)"' ;;
         explain) _arguments '--help[tells what the word takes]' '--format[how it is written]:format:(text json)' '1:P:_files -g "*.(toml|rt1553)(-.)"' ;;
         differ) _arguments '--help[tells what the word takes]' '--scripts[gives the script that shows it, where there is one]' '--format[how it is written]:format:(text json)' '1:P:_files -g "*.(toml|rt1553)(-.)"' '2:Q:_files -g "*.(toml|rt1553)(-.)"' ;;
+        acceptance) _arguments '--help[tells what the word takes]' '--against[compares the replies of a unit, a table in CSV]:RESULTS:_files -g "*.(csv)(-.)"' '--format[how it is written]:format:(text csv json)' '1:P:_files -g "*.(toml|rt1553)(-.)"' ;;
         draw) _arguments '--help[tells what the word takes]' '--html[a page of its own, with what is legal]' '1:P:_files -g "*.(toml|rt1553)(-.)"' '2:SCRIPT:_files -g "*.(script)(-.)"' ;;
         words) _arguments '--help[tells what the word takes]' ;;
         live) _arguments '--help[tells what the word takes]' '1:P:_files -g "*.(toml|rt1553)(-.)"' ;;

@@ -119,7 +119,7 @@ offered() {
 completion_rows() {
     local words wanted top=$PWD
     mkdir -p "$work/folder/sub"
-    touch "$work/folder/"{a.toml,b.rt1553,c.script,d.txt}
+    touch "$work/folder/"{a.toml,b.rt1553,c.script,d.txt,e.csv}
     # the words of a line, and what is offered
     while IFS='|' read -r words wanted; do
         # a word that ends in a dot is empty
@@ -135,7 +135,7 @@ rt1553 check .|a.toml b.rt1553 sub
 rt1553 run a.toml .|c.script sub
 rt1553 run a.toml c.script .|
 rt1553 compare a.toml .|a.toml b.rt1553 sub
-rt1553-tool .|--help --version differ draw explain lint live toml verify words
+rt1553-tool .|--help --version acceptance differ draw explain lint live toml verify words
 rt1553-tool l|lint live
 rt1553-tool lint a.toml .|a.toml b.rt1553 sub
 rt1553-tool lint --|--format --help
@@ -147,6 +147,11 @@ rt1553-tool verify a.toml c.script .|c.script sub
 rt1553-tool verify --summary a.toml .|c.script sub
 rt1553-tool verify --profiles .|sub
 rt1553-tool verify --profiles sub .|c.script sub
+rt1553-tool acceptance .|a.toml b.rt1553 sub
+rt1553-tool acceptance --|--against --format --help
+rt1553-tool acceptance --format .|csv json text
+rt1553-tool acceptance --against .|e.csv sub
+rt1553-tool acceptance --against e.csv .|a.toml b.rt1553 sub
 rt1553-tool draw --html a.toml .|c.script sub
 rt1553-tool words .|
 END
@@ -210,7 +215,7 @@ install_rows() {
     answers_below "$to"
     count 'the installed programs answer' $?
     for file in share/man/man1/rt1553.1 share/man/man1/rt1553-tool.1 share/bash-completion/completions/rt1553-tool share/zsh/site-functions/_rt1553 \
-        share/fish/vendor_completions.d/rt1553.fish share/rt1553/profile.schema.json share/rt1553/editors/vim/syntax/rt1553script.vim; do
+        share/fish/vendor_completions.d/rt1553.fish share/rt1553/profile.schema.json share/rt1553/acceptance.schema.json share/rt1553/editors/vim/syntax/rt1553script.vim; do
         [[ -s $to/$file ]]
         count "make install leaves $file" $?
     done

@@ -18,7 +18,7 @@ files() {
         echo "manual/$name.fish 644 share/fish/vendor_completions.d/$name.fish"
     done
     echo "editors/profile.schema.json 644 share/rt1553/profile.schema.json"
-    for name in lint explain differ; do
+    for name in lint explain differ acceptance; do
         echo "docs/$name.schema.json 644 share/rt1553/$name.schema.json"
     done
     find editors/vim editors/vscode -type f -printf '%p 644 share/rt1553/%p\n' | sort

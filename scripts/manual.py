@@ -22,7 +22,7 @@ WORDS = TOP / "manual/words.toml"
 VERSION = TOP / "crates/rt1553_tool_words/src/words.rt"
 MADE = "made by scripts/manual.py of manual/words.toml"
 # the endings by which files are completed
-ENDINGS = {"profile": ["toml", "rt1553"], "script": ["script"], "folder": []}
+ENDINGS = {"profile": ["toml", "rt1553"], "script": ["script"], "results": ["csv"], "folder": []}
 
 
 def version():
@@ -289,7 +289,7 @@ def fish_of(program):
             if "values" in option:
                 value = f" -x -a '{' '.join(option['values'])}'"
             elif "value" in option:
-                value = " -x -a '(__fish_complete_directories)'"
+                value = " -r -F" if ENDINGS[option["kind"]] else " -x -a '(__fish_complete_directories)'"
             yield f"complete -c {name} {seen} -l {option['name'][2:]}{value} -d {fish_text(option['help'])}"
         if word["takes"]:
             yield f"complete -c {name} {seen} -F"

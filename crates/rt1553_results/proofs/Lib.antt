@@ -5,3 +5,5 @@ pub mod TextLaws
 pub mod FieldLaws
 pub mod ResultLaws
 pub mod CompareLaws
+pub mod SlotLaws
+pub mod UnitLaws

@@ -9,7 +9,7 @@ use Rattle.terminal_rules.specs.Reply.{reply_now}
 use Rattle.terminal_rules.specs.Ends.{ends_now}
 use Rattle.terminal_rules.specs.Out.{Handing, Sending, hands, handing_over, sends, sending_out, out, outs_from}
 use Rattle.terminal_exchanges.specs.Exchanges.{Exchange, command_event, data_event, words_then, slots_then, script_of}
-use Rattle.terminal_exchanges.specs.inner.ExchangeLaw.{after_words, before_its_gap, after_slots}
+use Rattle.terminal_exchanges.specs.ExchangeLaws.{after_words, before_its_gap, after_slots}
 use Rattle.rt1553_results.specs.Rows.{Answered, word_of, words_sent, handing_of, first_of, handed_over, row_at, after_exchange}
 
 -- a gap sends no word, and a slot hands nothing over

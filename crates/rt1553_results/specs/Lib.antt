@@ -5,4 +5,5 @@ pub mod Left
 pub mod Table
 pub mod Results
 pub mod Compare
+pub mod Unit
 pub mod inner

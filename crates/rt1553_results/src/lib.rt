@@ -6,6 +6,7 @@ mod comparison;
 mod exchanges;
 mod fields;
 mod json;
+pub mod laws;
 mod playing;
 mod results;
 mod rows;

@@ -8,7 +8,7 @@ ghost use Rattle.terminal_rules.specs.declared.event.Event.TheVariants.{Gap as G
 ghost use Rattle.terminal_rules.specs.Out.{out, outs_from};
 ghost use Rattle.terminal_exchanges.specs.Exchanges.{slots_then};
 ghost use Rattle.terminal_exchanges.specs.Values.{exchange_in};
-ghost use Rattle.terminal_exchanges.specs.inner.ExchangeLaw.{after_words, before_its_gap, after_slots};
+ghost use Rattle.terminal_exchanges.specs.ExchangeLaws.{after_words, before_its_gap, after_slots};
 ghost use Rattle.bus_terminal.specs.Answer.{shown_handing, words_handed};
 ghost use Rattle.bus_terminal.specs.Stands.{StandsAt};
 ghost use Rattle.rt1553_results.specs.Rows.{word_of, words_sent, handing_of, row_at, after_exchange};

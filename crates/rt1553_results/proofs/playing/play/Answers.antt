@@ -2,7 +2,7 @@ use Rattle.std.proofs.Common.{◌∷◌, subst, sym, option_map}
 use Rattle.bus_word.specs.declared.word.Bus.TheVariants.{A}
 use Rattle.terminal_rules.specs.declared.event.Event.TheVariants.{Gap}
 use Rattle.terminal_exchanges.specs.Values.{exchange_in}
-use Rattle.terminal_exchanges.specs.inner.ExchangeLaw.{before_its_gap}
+use Rattle.terminal_exchanges.specs.ExchangeLaws.{before_its_gap}
 use Rattle.bus_terminal.specs.Stands.{StandsAt}
 use Rattle.rt1553_results.specs.Handed.{handing_in}
 use Rattle.rt1553_results.proofs.PlayLaws.{exchange_passes, row_kept}

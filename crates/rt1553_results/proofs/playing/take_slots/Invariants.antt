@@ -4,7 +4,7 @@ use Rattle.bus_legal.specs.Description.{Description}
 use Rattle.terminal_rules.specs.declared.event.Event.{Event}
 use Rattle.terminal_rules.specs.Out.{outs_from}
 use Rattle.terminal_exchanges.specs.Exchanges.{slots_then}
-use Rattle.terminal_exchanges.specs.inner.ExchangeLaw.{after_slots}
+use Rattle.terminal_exchanges.specs.ExchangeLaws.{after_slots}
 use Rattle.bus_terminal.specs.Stands.{StandsAt}
 use Rattle.rt1553_results.specs.Rows.{words_sent}
 use Rattle.rt1553_results.proofs.playing.take_slots.Given as goal

@@ -1,7 +1,7 @@
 use Rattle.std.proofs.Common.{◌∷◌, subst, sym}
 use Rattle.terminal_exchanges.specs.Exchanges.{command_event, data_event}
 use Rattle.terminal_exchanges.specs.Values.{words_in}
-use Rattle.terminal_exchanges.specs.inner.ExchangeLaw.{after_words}
+use Rattle.terminal_exchanges.specs.ExchangeLaws.{after_words}
 use Rattle.bus_terminal.specs.Stands.{StandsAt}
 use Rattle.rt1553_results.proofs.playing.take_words.Goals as goal
 

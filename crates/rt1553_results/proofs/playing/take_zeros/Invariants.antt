@@ -1,7 +1,7 @@
 use Rattle.std.proofs.Common.{◌≡◌, ◌-◌, List, replicate}
 use Rattle.bus_legal.specs.Description.{Description}
 use Rattle.terminal_rules.specs.declared.event.Event.{Event}
-use Rattle.terminal_exchanges.specs.inner.ExchangeLaw.{after_words}
+use Rattle.terminal_exchanges.specs.ExchangeLaws.{after_words}
 use Rattle.bus_terminal.specs.Stands.{StandsAt}
 use Rattle.rt1553_results.proofs.playing.take_zeros.Given as goal
 
