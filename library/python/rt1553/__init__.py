@@ -524,10 +524,10 @@ def packed(event: Event) -> bytes:
     try:
         data = event._packed()
     except struct.error:
-        event._check()
-    else:
-        if data[:8] in _FRONTS and len(data) == _EVENT.size:
-            return data
+        data = b""
+    if data[:8] in _FRONTS and len(data) == _EVENT.size:
+        return data
+    event._check()
     raise ValueError(f"no event: {event!r}")
 
 
