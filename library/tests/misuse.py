@@ -5,6 +5,7 @@ failed'."""
 
 import copy
 import dataclasses
+import faulthandler
 import gc
 import multiprocessing
 import pickle
@@ -407,8 +408,8 @@ def raises_in_worker(what):
 
 
 def from_worker(pool, what):
-    """What comes of a worker within a minute."""
-    return pool.apply_async(raises_in_worker, (what,)).get(timeout=60)
+    """What comes of a worker in time."""
+    return pool.apply_async(raises_in_worker, (what,)).get(timeout=20)
 
 
 def workers():
@@ -608,6 +609,10 @@ def threads():
     terminal.flag(FlagName.BUSY, False)
     yield "one terminal, many events", [wanted] * 8, on_threads, 8, lambda: terminal.play(ASK * 500)
     yield "one terminal, many answers", [20_000] * 4, on_threads, 4, lambda: len(terminal.play(ASK * 20_000))
+    # a call of this takes long in the library, where threads run side by side
+    seldom = b"".join(packed(Vector(1)) * 9_999 + packed(event) for event in ASK) * 10
+    wanted = [[(30_000 * turn + 29_999, STATUS) for turn in range(10)]] * 5
+    yield "one terminal, few answers", [wanted] * 8, on_threads, 8, lambda: [terminal.play(seldom) for _ in range(5)]
     yield "deleted in use", True, deleted_in_use
     yield "in a handler", True, in_a_handler
     yield "and still answers", True, asked, terminal
@@ -615,6 +620,9 @@ def threads():
 
 def main():
     passed = failed = 0
+    # a crash tells where it was, and so does a call that doesn't end
+    faulthandler.enable()
+    faulthandler.dump_traceback_later(900, exit=True)
     for part in (workers, texts, rooms, lives, events, read, values, called, pickles, rows, scripts, threads, leaks):
         for name, wanted, call, *arguments in part():
             found = ended(call, arguments)
