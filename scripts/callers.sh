@@ -137,6 +137,8 @@ in_python() {
     export PYTHONPATH=$package
     done_by 'the docstrings of the package' python3 -c 'import doctest, rt1553, sys; sys.exit(doctest.testmod(rt1553).failed)'
     part 'the package' python3 "$tests/package.py"
+    # bytes around each block of memory are looked at when it is freed, and what is freed is overwritten
+    part 'the package, misused' env PYTHONMALLOC=debug MALLOC_PERTURB_=85 python3 "$tests/misuse.py"
     [[ $(python3 -c 'import rt1553; print("{}.{}".format(*rt1553.version()))') == "$(python3 "$top/scripts/manual.py" version)" ]]
     count 'the library has the version of the programs' $?
     mkdir "$work/cases"

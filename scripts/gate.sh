@@ -1,9 +1,10 @@
 #!/usr/bin/env bash
 # The gate: every proof and test, and that public contracts cite nothing of specs/inner; then the built programs from end to
-# end, texts with known answers, the protocol tests, the library in C, C++, Python and Rust, the sessions of the pages, and
-# what is installed; and beside all this the must-fail edits. What an earlier run on this machine proved of the same files,
-# and the edits that it refused, are taken from there; tests and programs run each time. With ANEW=1 all is proved and tried.
-# The line before the last tells how long it took. The last line, 'N passed, M failed', adds the counts of the parts.
+# end, texts with known answers, the protocol tests, the acceptance tests, the library in C, C++, Python and Rust, the
+# sessions of the pages, and what is installed; and beside all this the must-fail edits. What an earlier run on this machine
+# proved of the same files, and the edits that it refused, are taken from there; tests and programs run each time. With
+# ANEW=1 all is proved and tried. The line before the last tells how long it took. The last line, 'N passed, M failed', adds
+# the counts of the parts.
 set -uo pipefail
 cd "$(dirname "$0")/.." || exit 1
 work=$(mktemp -d) || exit 1
@@ -73,6 +74,7 @@ if [[ $failed -eq 0 ]]; then
     part python3 scripts/texts.py "${programs[@]}"
     part python3 scripts/validation.py "${programs[@]}"
     part bash scripts/tool.sh "${tools[@]}"
+    part python3 scripts/acceptance.py "${programs[0]}" "${tools[@]}"
     part bash scripts/callers.sh "$built"
     part python3 scripts/sessions.py "${programs[0]}" "${tools[0]}"
     part bash scripts/first-hour.sh "${programs[0]}" "${tools[0]}"

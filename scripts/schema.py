@@ -11,8 +11,8 @@ import re
 import sys
 
 TYPES = {"object": dict, "array": list, "string": str, "integer": int, "boolean": bool, "null": type(None)}
-KNOWN = {"$schema", "$id", "$ref", "definitions", "title", "description", "default", "type", "properties", "required", "additionalProperties", "items",
-         "maxItems", "enum", "minimum", "maximum", "pattern"}
+KNOWN = {"$schema", "$id", "$ref", "$defs", "definitions", "title", "description", "default", "type", "properties", "required", "additionalProperties", "items",
+         "minItems", "maxItems", "enum", "minimum", "maximum", "pattern"}
 
 
 def is_of(value, name):
@@ -57,8 +57,8 @@ def misfits(value, schema, place, root=None):
             elif schema.get("additionalProperties", True) is False:
                 yield f"{place}: {name} is unknown"
     if isinstance(value, list):
-        if len(value) > schema.get("maxItems", len(value)):
-            yield f"{place}: {len(value)} items are too many"
+        if not schema.get("minItems", 0) <= len(value) <= schema.get("maxItems", len(value)):
+            yield f"{place}: {len(value)} items are too few or too many"
         for index, part in enumerate(value):
             yield from misfits(part, schema.get("items", {}), f"{place}[{index}]", root)
 

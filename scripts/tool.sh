@@ -390,7 +390,7 @@ word_rows() {
     input ''
     (cd "$work" && "$program" --version >stdout 2>stderr) && [[ $(cat "$work/stdout") == 'rt1553-tool 0.1 (canonical text 2)' && ! -s $work/stderr ]]
     count '--version' $?
-    for word in lint verify toml explain differ draw words live; do
+    for word in lint verify toml explain differ acceptance draw words live; do
         "$program" "$word" --help >"$work/stdout" 2>"$work/stderr" </dev/null && grep -q '^Example: ' "$work/stdout" && [[ ! -s $work/stderr ]]
         count "$word --help" $?
         [[ $word == words ]] && continue

@@ -90,7 +90,7 @@ def many():
     terminal.play(ASK[:1])
     yield "one that is none", refusal(ValueError, terminal.play, ["A gap", "A gup", "slot"])
     yield "is not passed over", terminal.slot() == STATUS
-    for last in ("A gup", Word(2, 0, 0), 3, None):
+    for last in ("A gup", Word(2, 0, 0), b"\xff" * 10, b"\0"):
         fault = refusal(rt1553.NoEvent, terminal.play, [*ASK, last])
         yield f"answers before {last}", fault and fault.answers == wanted[:1]
 

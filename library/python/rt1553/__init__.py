@@ -41,11 +41,13 @@ from __future__ import annotations
 
 import ctypes
 import enum
+import operator
 import pathlib
 import struct
+import threading
 from collections.abc import Iterable
 from dataclasses import dataclass
-from typing import Callable, Optional, Union
+from typing import Any, Callable, NoReturn, Optional, Union
 
 __all__ = [
     "Answer", "Bit", "Bus", "BusControl", "Event", "Fault", "FaultKind", "Flag", "FlagName", "Gap", "NoEvent", "NoMemory", "NoRoom",
@@ -54,7 +56,8 @@ __all__ = [
     "canonical", "check", "compare", "packed", "read_event", "run", "version",
 ]  # fmt: skip
 
-Text = Union[str, bytes]
+Text = Union[str, bytes, bytearray, memoryview]
+_BYTES = (bytes, bytearray, memoryview)
 
 
 class Bus(enum.IntEnum):
@@ -105,9 +108,10 @@ class Fault(Exception):
 class NoEvent(ValueError):
     """What `Terminal.play` was given means no event. `answers` are those to the events before it, which are played."""
 
-    def __init__(self, text: str, answers: "list[tuple[int, Answer]]") -> None:
+    # an exception is pickled as its text and its attributes, so the text alone has to be enough for it
+    def __init__(self, text: str, answers: "Iterable[tuple[int, Answer]]" = ()) -> None:
         super().__init__(text)
-        self.answers = answers
+        self.answers = list(answers)
 
 
 class Refused(Fault):
@@ -126,11 +130,71 @@ class NoRoom(Fault):
 
 # an event as rt1553.h lays it out: what, bus, sync, parity, subaddress, number, flag, value, bits
 _EVENT = struct.Struct("=BBBBBBBBH")
-_PARITIES = {None: 2, 0: 0, 1: 1}
+
+# the numbers that the fields of events and answers have
+_RANGES = {
+    "bus": (0, 1), "sync": (0, 1), "parity": (0, 1), "bits": (0, 0xFFFF), "word": (0, 0xFFFF), "subaddress": (1, 30), "number": (1, 32),
+    "flag": (0, 3), "value": (0, 1),
+}  # fmt: skip
+
+# what stands in front of the bits of an event, for each that there is
+_FRONTS = frozenset(
+    _EVENT.pack(*numbers, 0)[:8]
+    for numbers in [
+        *((0, bus, sync, parity, 0, 0, 0, 0) for bus in (0, 1) for sync in (0, 1) for parity in (0, 1, 2)),
+        *((what, bus, 0, 0, 0, 0, 0, 0) for what in (1, 2) for bus in (0, 1)),
+        *((3, 0, 0, 0, subaddress, number, 0, 0) for subaddress in range(1, 31) for number in range(1, 33)),
+        *((what, 0, 0, 0, 0, 0, 0, 0) for what in (4, 5, 7)),
+        *((6, 0, 0, 0, 0, 0, flag, value) for flag in range(4) for value in (0, 1)),
+    ]
+)
+
+
+def _kind(value: object) -> str:
+    """What a value is, for a TypeError."""
+    return type(value).__name__
+
+
+def _index(name: str, value: Any) -> int:
+    """A field as a number, of any size. TypeError where it is none."""
+    if hasattr(type(value), "__index__"):
+        return int(operator.index(value))
+    wanted = "{}a number from {} to {}".format("None or " if name == "parity" else "", *_RANGES[name])
+    raise TypeError(f"{name}: {wanted} is wanted, not {_kind(value)}")
+
+
+def _number(name: str, value: object) -> int:
+    """A field as a number. TypeError where it is none, ValueError where it is out of range."""
+    number, (least, most) = _index(name, value), _RANGES[name]
+    if not least <= number <= most:
+        raise ValueError(f"{name} is not from {least} to {most}")
+    return number
+
+
+def _bus(value: object) -> str:
+    return "AB"[_number("bus", value)]
+
+
+def _hex(value: object, name: str = "bits") -> str:
+    return f"{_number(name, value):04x}"
+
+
+class _Event:
+    """What all events have."""
+
+    def _packed(self) -> bytes:
+        raise NotImplementedError
+
+    def _check(self) -> None:
+        """TypeError where a field is no number. Their ranges are not looked at."""
+        for name in _RANGES:
+            value = getattr(self, name, 0)
+            if not (name == "parity" and value is None):
+                _index(name, value)
 
 
 @dataclass(frozen=True)
-class Word:
+class Word(_Event):
     """A word on a bus, with this parity bit, or with the right one.
 
     >>> Word(Bus.A, Sync.COMMAND, 0x2c02).line()
@@ -146,43 +210,45 @@ class Word:
 
     def line(self) -> str:
         """The event as a line of a script."""
-        parity = "" if self.parity is None else f" {self.parity}"
-        return f"{Bus(self.bus).name} {'cd'[self.sync]} {self.bits:04x}{parity}"
+        parity = "" if self.parity is None else f" {_number('parity', self.parity)}"
+        return f"{_bus(self.bus)} {'cd'[_number('sync', self.sync)]} {_hex(self.bits)}{parity}"
 
     def _packed(self) -> bytes:
-        return _EVENT.pack(0, self.bus, self.sync, _PARITIES[self.parity], 0, 0, 0, 0, self.bits)
+        # 2 is the right one in the library, and no parity bit here
+        parity = 2 if self.parity is None else 3 if self.parity == 2 else self.parity
+        return _EVENT.pack(0, self.bus, self.sync, parity, 0, 0, 0, 0, self.bits)
 
 
 @dataclass(frozen=True)
-class Noise:
+class Noise(_Event):
     """What is on a bus and is no word."""
 
     bus: Bus
 
     def line(self) -> str:
         """The event as a line of a script."""
-        return f"{Bus(self.bus).name} noise"
+        return f"{_bus(self.bus)} noise"
 
     def _packed(self) -> bytes:
         return _EVENT.pack(1, self.bus, 0, 0, 0, 0, 0, 0, 0)
 
 
 @dataclass(frozen=True)
-class Gap:
+class Gap(_Event):
     """A gap on a bus, which ends a message."""
 
     bus: Bus
 
     def line(self) -> str:
         """The event as a line of a script."""
-        return f"{Bus(self.bus).name} gap"
+        return f"{_bus(self.bus)} gap"
 
     def _packed(self) -> bytes:
         return _EVENT.pack(2, self.bus, 0, 0, 0, 0, 0, 0, 0)
 
 
 @dataclass(frozen=True)
-class Write:
+class Write(_Event):
     """The subsystem writes word `number`, 1 to 32, of `subaddress`, 1 to 30."""
 
     subaddress: int
@@ -191,42 +257,43 @@ class Write:
 
     def line(self) -> str:
         """The event as a line of a script."""
-        return f"write {self.subaddress:02d} {self.number:02d} {self.bits:04x}"
+        subaddress, number = _number("subaddress", self.subaddress), _number("number", self.number)
+        return f"write {subaddress:02d} {number:02d} {_hex(self.bits)}"
 
     def _packed(self) -> bytes:
         return _EVENT.pack(3, 0, 0, 0, self.subaddress, self.number, 0, 0, self.bits)
 
 
 @dataclass(frozen=True)
-class Vector:
+class Vector(_Event):
     """The subsystem gives a new vector word."""
 
     bits: int
 
     def line(self) -> str:
         """The event as a line of a script."""
-        return f"vector {self.bits:04x}"
+        return f"vector {_hex(self.bits)}"
 
     def _packed(self) -> bytes:
         return _EVENT.pack(4, 0, 0, 0, 0, 0, 0, 0, self.bits)
 
 
 @dataclass(frozen=True)
-class Bit:
+class Bit(_Event):
     """The subsystem gives a new BIT word."""
 
     bits: int
 
     def line(self) -> str:
         """The event as a line of a script."""
-        return f"bit {self.bits:04x}"
+        return f"bit {_hex(self.bits)}"
 
     def _packed(self) -> bytes:
         return _EVENT.pack(5, 0, 0, 0, 0, 0, 0, 0, self.bits)
 
 
 @dataclass(frozen=True)
-class Flag:
+class Flag(_Event):
     """The subsystem sets a flag or takes it back."""
 
     flag: FlagName
@@ -234,14 +301,14 @@ class Flag:
 
     def line(self) -> str:
         """The event as a line of a script."""
-        return f"flag {FlagName(self.flag).name.lower()} {int(self.value)}"
+        return f"flag {FlagName(_number('flag', self.flag)).name.lower()} {_number('value', self.value)}"
 
     def _packed(self) -> bytes:
         return _EVENT.pack(6, 0, 0, 0, 0, 0, self.flag, self.value, 0)
 
 
 @dataclass(frozen=True)
-class Slot:
+class Slot(_Event):
     """The time of one word of a reply: the next one is sent."""
 
     def line(self) -> str:
@@ -269,7 +336,7 @@ class Sent:
 
     def line(self) -> str:
         """The answer as a line of a transcript."""
-        return f"{self.bus.name} {'sd'[self.sync]} {self.bits:04x}"
+        return f"{_bus(self.bus)} {'sd'[_number('sync', self.sync)]} {_hex(self.bits)}"
 
     def heard(self) -> Word:
         """The word as the others on the bus hear it."""
@@ -286,8 +353,8 @@ class Received:
 
     def line(self) -> str:
         """The answer as a line of a transcript."""
-        words = "".join(f" {word:04x}" for word in self.words)
-        return f"hand receive {'broadcast' if self.broadcast else 'own'} {self.subaddress:02d}{words}"
+        words = "".join(f" {_hex(word, 'word')}" for word in self.words)
+        return f"hand receive {'broadcast' if self.broadcast else 'own'} {_number('subaddress', self.subaddress):02d}{words}"
 
 
 @dataclass(frozen=True)
@@ -298,7 +365,7 @@ class Synchronize:
 
     def line(self) -> str:
         """The answer as a line of a transcript."""
-        return "hand sync" if self.word is None else f"hand sync {self.word:04x}"
+        return "hand sync" if self.word is None else f"hand sync {_hex(self.word, 'word')}"
 
 
 @dataclass(frozen=True)
@@ -324,12 +391,14 @@ Answer = Union[Sent, Received, Synchronize, SelfTest, BusControl]
 # --- what else crosses to the library, as rt1553.h lays it out
 
 _ANSWER = struct.Struct("=BBH?BBx32H")  # what, bus, bits, broadcast, subaddress, count, words
-_FRONT = _EVENT.size + _ANSWER.size
+_PLACE = struct.Struct("=Q")
 _FAULT = struct.Struct("=BBB5xQ136s")  # kind, number, length, line, text
 _VERSION = struct.Struct("=HHH")  # major, minor, canonical text
 
 _DONE, _DIFFER, _REFUSED, _NO_MEMORY, _NO_ROOM = 0, 1, 2, 4, 5
 _CANONICAL_ROOM, _SCRIPT_ROOM = 7680, 4608
+# of scripts: the bytes of a line, the lines, and the bytes that answer a line
+_LONGEST_LINE, _MOST_LINES, _LONGEST_ANSWER = 64, 1048576, 186
 
 _library = ctypes.CDLL(str(pathlib.Path(__file__).with_name("librt1553.so")))
 _size, _bytes, _at = ctypes.c_size_t, ctypes.c_char_p, ctypes.c_void_p
@@ -349,14 +418,18 @@ _canonical = _call("canonical", ctypes.c_uint8, _bytes, _size, _at, _size, _size
 _compare = _call("compare", ctypes.c_uint8, _bytes, _size, _bytes, _size, _at, _size, _sized, _at)
 _run = _call("run", ctypes.c_uint8, _bytes, _size, _bytes, _size, _at, _size, _sized, _at)
 _new = _call("terminal_new", ctypes.c_uint8, _bytes, _size, ctypes.POINTER(_at), _at)
-_step = _call("terminal_step", ctypes.c_uint8, _at)
-_play = _call("terminal_play", _size, _at, _at, _size, _at, _at, _size, _sized)
+_play = _call("terminal_play", _size, _at, _at, _size, _at, _at, _size, _at)
 _free = ctypes.CDLL(None).free
 _free.argtypes, _free.restype = [_at], None
 
 
 def _of(text: Text) -> bytes:
-    return text.encode() if isinstance(text, str) else bytes(text)
+    """The bytes of a text, just as many as they say that they are."""
+    if isinstance(text, str):
+        return str.encode(text)
+    if isinstance(text, _BYTES):
+        return memoryview(text).tobytes()
+    raise TypeError(f"a text is wanted, as str or bytes, not {_kind(text)}")
 
 
 def _told(status: int, fault: ctypes.Array[ctypes.c_char]) -> Fault:
@@ -410,19 +483,30 @@ def compare(first: Text, second: Text) -> Optional[str]:
     raise _told(status, fault)
 
 
+def _room(room: object) -> int:
+    """A room as a number of bytes."""
+    if not isinstance(room, int):
+        raise TypeError(f"room: a number of bytes is wanted, not {_kind(room)}")
+    if room < 0:
+        raise ValueError("room: a number of bytes isn't negative")
+    return int(room)
+
+
 def run(text: Text, script: Text, room: Optional[int] = None) -> str:
     """The transcript of a script, played to the terminal of a text from power-up. `room` is how many bytes it may have; as
-    many as any transcript of this script where it isn't given. A fault has in `transcript` what was answered before it.
+    many as any transcript of this script where it isn't given. ValueError where it is negative. A fault has in `transcript` what
+    was answered before it.
 
     >>> run("address = 5", "A c 2c02\\nA gap\\nslot\\n")
     'A s 2800\\n'
     """
     text, script, fault = _of(text), _of(script), ctypes.create_string_buffer(_FAULT.size)
-    # the longest line of a transcript has 186 bytes, and no line of a script is answered by more than one
-    room = 186 * (script.count(b"\n") + 1) if room is None else room
+    # no line of a script is answered by more than one of a transcript, so a room that is larger is never filled
+    enough = _LONGEST_ANSWER * min(script.count(b"\n") + 1, _MOST_LINES)
+    room = enough if room is None else min(_room(room), enough)
     to, length = ctypes.create_string_buffer(max(room, 1)), _size()
     status = _run(text, len(text), script, len(script), to, room, ctypes.byref(length), fault)
-    transcript = to.raw[: length.value].decode()
+    transcript = ctypes.string_at(to, length.value).decode()
     if status:
         why = _told(status, fault)
         why.transcript = transcript
@@ -435,10 +519,16 @@ def run(text: Text, script: Text, room: Optional[int] = None) -> str:
 
 def packed(event: Event) -> bytes:
     """An event as the library takes it. ValueError where it is none: a number is out of range."""
+    if not isinstance(event, _Event):
+        raise TypeError(f"an event is wanted, not {_kind(event)}")
     try:
-        return event._packed()
-    except (struct.error, KeyError, AttributeError):
-        raise ValueError(f"no event: {event!r}") from None
+        data = event._packed()
+    except struct.error:
+        data = b""
+    if data[:8] in _FRONTS and len(data) == _EVENT.size:
+        return data
+    event._check()
+    raise ValueError(f"no event: {event!r}")
 
 
 _FLAGS = {name.name.lower(): name for name in FlagName}
@@ -457,14 +547,8 @@ def _number_of(digits: str) -> int:
     return int(digits)
 
 
-def read_event(line: str) -> Event:
-    """The event of a line of a script, without its line feed. ValueError where it is none.
-
-    >>> read_event("A c 2c02")
-    Word(bus=<Bus.A: 0>, sync=<Sync.COMMAND: 0>, bits=11266, parity=None)
-    >>> read_event("write 03 02 00bb")
-    Write(subaddress=3, number=2, bits=187)
-    """
+def _read(line: str) -> Optional[Event]:
+    """The event of a line of a script, whose numbers may be out of range; None where it has the form of none."""
     fields = line.split(" ")
     try:
         if fields == ["slot"]:
@@ -489,7 +573,83 @@ def read_event(line: str) -> Event:
             return Flag(_FLAGS[flag], {"0": False, "1": True}[value])
     except (KeyError, IndexError, ValueError):
         pass
-    raise ValueError(f"no line of a script: {line!r}")
+    return None
+
+
+def read_event(line: str) -> Event:
+    """The event of a line of a script, without its line feed. ValueError where it is none.
+
+    >>> read_event("A c 2c02")
+    Word(bus=<Bus.A: 0>, sync=<Sync.COMMAND: 0>, bits=11266, parity=None)
+    >>> read_event("write 03 02 00bb")
+    Write(subaddress=3, number=2, bits=187)
+    """
+    if not isinstance(line, str):
+        raise TypeError(f"a line of a script is wanted, as str, not {_kind(line)}")
+    event = _read(line)
+    if event is None or event._packed()[:8] not in _FRONTS:
+        raise ValueError(f"no line of a script: {line!r}")
+    return event
+
+
+def _packed_line(line: bytes) -> bytes:
+    """The event of a line of a script as the library takes it, and nothing where it is empty or a comment."""
+    if not line or line[:1] == b"#":
+        return b""
+    return read_event(line.decode("ascii"))._packed()
+
+
+def _packed_row(number_and_line: tuple[int, bytes]) -> bytes:
+    """The same of a line of a whole script. It is refused by what `run` says of it."""
+    number, line = number_and_line
+    if number > _MOST_LINES:
+        raise ValueError("script: too many lines")
+    if len(line) > _LONGEST_LINE:
+        raise ValueError(f"script: line {number} is too long")
+    try:
+        return _packed_line(line)
+    except ValueError:
+        raise ValueError(f"script: line {number}") from None
+
+
+def _packed_piece(piece: Union[Event, Text]) -> bytes:
+    """The events of a piece of a row."""
+    if isinstance(piece, str):
+        line = _of(piece).removesuffix(b"\n")
+        if len(line) > _LONGEST_LINE or b"\n" in line:
+            raise ValueError(f"no line of a script: {piece!r}")
+        return _packed_line(line)
+    if isinstance(piece, _BYTES):
+        events = _of(piece)
+        if len(events) % _EVENT.size:
+            raise ValueError("bytes that `packed` has not made")
+        return events
+    if isinstance(piece, _Event):
+        return packed(piece)
+    raise TypeError(f"an event, a line or bytes of `packed` is wanted, not {_kind(piece)}")
+
+
+def _gathered(packed_of: Callable[[Any], bytes], row: Iterable[Any]) -> tuple[bytes, Optional[str]]:
+    """The events of a row, up to the first that is none, and why it is none. What the row itself raises passes through."""
+    gathered: list[bytes] = []
+    for piece in row:
+        try:
+            gathered.append(packed_of(piece))
+        except ValueError as fault:
+            return b"".join(gathered), str(fault)
+    return b"".join(gathered), None
+
+
+def _events_of(script: object) -> tuple[bytes, Optional[str]]:
+    """The events of what `Terminal.play` is given, as `_gathered`."""
+    if isinstance(script, str):
+        lines = _of(script).split(b"\n")
+        return _gathered(_packed_row, enumerate(lines if lines[-1] else lines[:-1], 1))
+    if isinstance(script, _BYTES):
+        return _gathered(_packed_piece, [script])
+    if hasattr(type(script), "__iter__") or hasattr(type(script), "__getitem__"):
+        return _gathered(_packed_piece, script)  # type: ignore[arg-type]
+    raise TypeError(f"a script, as str, or a row of events, lines and bytes is wanted, not {_kind(script)}")
 
 
 _BUSES, _SYNCS = tuple(Bus), tuple(Sync)
@@ -510,8 +670,28 @@ def _answer_at(front: ctypes.Array[ctypes.c_char], at: int) -> Optional[Answer]:
     return SelfTest() if what == 6 else BusControl()
 
 
+class _Memory:
+    """The memory of a terminal. It goes back when nothing refers to it any more, so not while a call on it is in progress."""
+
+    at: Any = None
+
+    def __init__(self, text: bytes) -> None:
+        # calls of several threads come one after the other; a call in a signal's handler comes between two others
+        self.lock = threading.RLock()
+        self.at, fault = _at(), ctypes.create_string_buffer(_FAULT.size)
+        if status := _new(text, len(text), ctypes.byref(self.at), fault):
+            raise _told(status, fault)
+
+    def __del__(self, free: Callable[[Any], object] = _free) -> None:
+        free(self.at)
+
+
+# where a step writes to: an answer, its place, and how many answers there are
+_Stepped = ctypes.c_char * (_ANSWER.size + 2 * _PLACE.size)
+
+
 class Terminal:
-    """A remote terminal, from power-up. One thread at a time may use it; different terminals may be used at once.
+    """A remote terminal, from power-up. Where several threads use it, their calls come one after the other.
 
     >>> terminal = Terminal('''
     ... address = 5
@@ -527,25 +707,30 @@ class Terminal:
     'A s 2800'
     """
 
+    __memory: Optional[_Memory] = None
+
     def __init__(self, text: Text) -> None:
-        text, fault, self._terminal = _of(text), ctypes.create_string_buffer(_FAULT.size), _at()
-        if status := _new(text, len(text), ctypes.byref(self._terminal), fault):
-            raise _told(status, fault)
-        self._front = (ctypes.c_char * _FRONT).from_address(self._terminal.value)
+        # once more, it is made anew; where the text is refused, it stays as it was
+        self.__memory = _Memory(_of(text))
 
     def __del__(self) -> None:
-        terminal, self._terminal = getattr(self, "_terminal", None), None
-        if terminal:
-            _free(terminal)
+        self.__memory = None
 
-    def __copy__(self) -> Terminal:
+    def __copy__(self) -> NoReturn:
         raise TypeError("a terminal can't be copied")
 
-    def __deepcopy__(self, memo: object) -> Terminal:
-        return self.__copy__()
+    def __deepcopy__(self, memo: object) -> NoReturn:
+        raise TypeError("a terminal can't be copied")
 
-    def __reduce__(self) -> str:
+    def __reduce__(self) -> NoReturn:
         raise TypeError("a terminal can't be pickled")
+
+    def __made(self) -> _Memory:
+        """Its memory. RuntimeError where it has none."""
+        memory = self.__memory
+        if memory is None:
+            raise RuntimeError("this terminal was not made by `Terminal.__init__`, or it was deleted")
+        return memory
 
     def step(self, event: Event) -> Optional[Answer]:
         """Plays an event, and gives its answer, if there is one. ValueError where the event is none: then nothing changes.
@@ -555,10 +740,14 @@ class Terminal:
           ...
         ValueError: no event: Write(subaddress=31, number=1, bits=0)
         """
-        self._front[: _EVENT.size] = packed(event)
-        if _step(self._terminal):
+        memory, data, to = self.__made(), packed(event), _Stepped()
+        at = ctypes.addressof(to)
+        place = at + _ANSWER.size
+        with memory.lock:
+            done = _play(memory.at, data, 1, at, place, 1, place + _PLACE.size)
+        if not done:
             raise ValueError(f"no event: {event!r}")
-        return _answer_at(self._front, _EVENT.size)
+        return _answer_at(to, 0)
 
     def word(self, bus: Bus, sync: Sync, bits: int, parity: Optional[int] = None) -> None:
         """A word on a bus, with the right parity bit or with this one."""
@@ -592,47 +781,34 @@ class Terminal:
         """The subsystem sets a flag or takes it back."""
         self.step(Flag(flag, value))
 
-    def play(self, script: Union[str, bytes, Iterable[Union[Event, str, bytes]]]) -> list[tuple[int, Answer]]:
+    def play(self, script: Union[Text, Iterable[Union[Event, Text]]]) -> list[tuple[int, Answer]]:
         """Plays many events at once: a whole script as one text, or a row of events, of lines of a script, with their line feeds or
         without, and of bytes that `packed` has made, one event or more in a piece. The row is read to its end before anything
         is played. Gives the answers, each with the number of its event, from 0. Empty lines and lines that begin with `#`
-        count as no event. `NoEvent`, a ValueError, where one is none: those before it are played, and it has their answers.
+        count as no event. `NoEvent`, a ValueError, where one is none, or where `run` refuses a line of the script: those before
+        it are played, and it has their answers. TypeError where something else stands in a row: then nothing is played.
 
         >>> Terminal("address = 5").play(["# ask", Word(Bus.A, Sync.COMMAND, 0x2c02), "A gap", packed(Slot()) * 33])
         [(2, Sent(bus=<Bus.A: 0>, sync=<Sync.COMMAND: 0>, bits=10240))]
         """
-        if isinstance(script, str):
-            script = script.splitlines()
-        elif isinstance(script, bytes):
-            script = [script]
-        pieces, fault = [], None
-        try:
-            for piece in script:
-                if isinstance(piece, str):
-                    piece = piece.removesuffix("\n")
-                    if not piece or piece.startswith("#"):
-                        continue
-                    piece = read_event(piece)
-                pieces.append(piece if isinstance(piece, bytes) else packed(piece))
-        except ValueError as error:
-            fault = error
-        answers = self._play_packed(b"".join(pieces))
-        if fault:
-            raise NoEvent(str(fault), answers) from None
+        events, fault = _events_of(script)
+        answers = self.__played(events)
+        if fault is not None:
+            raise NoEvent(fault, answers)
         return answers
 
-    def _play_packed(self, events: bytes) -> list[tuple[int, Answer]]:
-        count, rest = divmod(len(events), _EVENT.size)
-        if rest:
-            raise NoEvent("bytes that `packed` has not made", [])
-        room = min(count, 4096)
-        to, places, filled = ctypes.create_string_buffer(max(room, 1) * _ANSWER.size), (_size * max(room, 1))(), _size()
+    def __played(self, events: bytes) -> list[tuple[int, Answer]]:
+        """Plays events that are packed. `NoEvent` at the first whose numbers mean none."""
+        memory, count = self.__made(), len(events) // _EVENT.size
+        room = max(min(count, 4096), 1)
+        to, places, filled = ctypes.create_string_buffer(room * _ANSWER.size), (_size * room)(), _size()
         front, played, answers = ctypes.cast(events, _at).value or 0, 0, []
-        while played < count:
-            done = _play(self._terminal, front + played * _EVENT.size, count - played, to, places, room, ctypes.byref(filled))
-            for k in range(filled.value):
-                answers.append((played + places[k], _answer_at(to, k * _ANSWER.size)))
-            played += done
-            if played < count and filled.value < room:
-                raise NoEvent(f"no event: number {played}", answers)
+        with memory.lock:
+            while played < count:
+                done = _play(memory.at, front + played * _EVENT.size, count - played, to, places, room, ctypes.addressof(filled))
+                for k in range(filled.value):
+                    answers.append((played + places[k], _answer_at(to, k * _ANSWER.size)))
+                played += done
+                if played < count and filled.value < room:
+                    raise NoEvent(f"no event: number {played}", answers)
         return answers

@@ -12,6 +12,7 @@
 //! ```
 
 use rt1553_sys as sys;
+use std::alloc::{alloc_zeroed, Layout};
 use std::error::Error;
 use std::fmt;
 use std::mem::MaybeUninit;
@@ -67,9 +68,20 @@ fn told(status: u8, fault: &MaybeUninit<sys::rt1553_fault>) -> Fault {
     }
 }
 
+/// So many zero bytes; None where they can't be had.
+fn zeros(room: usize) -> Option<Vec<u8>> {
+    let layout = Layout::array::<u8>(room).ok()?;
+    if room == 0 {
+        return Some(Vec::new());
+    }
+    // the layout is not empty, and a Vec has just this one
+    unsafe { NonNull::new(alloc_zeroed(layout)).map(|at| Vec::from_raw_parts(at.as_ptr(), room, room)) }
+}
+
 /// Makes a call that writes into a room of this many bytes: its status, and what it wrote.
 fn written(room: usize, call: impl FnOnce(*mut u8, usize, *mut usize, *mut sys::rt1553_fault) -> u8) -> (u8, Vec<u8>, Option<Fault>) {
-    let (mut to, mut length, mut fault) = (vec![0; room], 0, MaybeUninit::uninit());
+    let Some(mut to) = zeros(room) else { return (sys::RT1553_NO_MEMORY, Vec::new(), Some(Fault::NoMemory)) };
+    let (mut length, mut fault) = (0, MaybeUninit::uninit());
     let status = call(to.as_mut_ptr(), to.len(), &mut length, fault.as_mut_ptr());
     let is_done = matches!(status, sys::RT1553_DONE | sys::RT1553_DIFFER);
     to.truncate(length);
@@ -111,7 +123,7 @@ pub fn compare(first: impl AsRef<[u8]>, second: impl AsRef<[u8]>) -> Result<Opti
 }
 
 /// Plays a script to the terminal of a text, from power-up: the transcript, of at most `room` bytes, and the fault that stopped
-/// it, if one did.
+/// it, if one did. `NoMemory` where so large a room can't be had: then nothing is played.
 pub fn run(text: impl AsRef<[u8]>, script: impl AsRef<[u8]>, room: usize) -> (Vec<u8>, Option<Fault>) {
     let (text, script) = (text.as_ref(), script.as_ref());
     let (_, transcript, fault) = written(room, |to, room, length, fault| unsafe {
@@ -322,6 +334,48 @@ mod tests {
         assert_eq!(transcript, b"A s 2800\n");
         assert!(matches!(fault, Some(Fault::Refused { kind: 4, number: 1, line: 4, .. })));
         assert_eq!(run("address = 5", "A c 2c02\nA gap\nslot\n", 8).1, Some(Fault::NoRoom));
+    }
+
+    #[test]
+    fn a_room_that_cannot_be_had_is_an_error() {
+        let script = "A c 2c02\nA gap\nslot\n";
+        let (done, no_memory) = ((b"A s 2800\n".to_vec(), None), (vec![], Some(Fault::NoMemory)));
+        for room in [usize::MAX, usize::MAX - 1, isize::MAX as usize + 1, isize::MAX as usize, 1 << 62] {
+            assert_eq!(run("address = 5", script, room), no_memory);
+            assert_eq!(run("adress = 5", "", room), no_memory);
+        }
+        // a system that promises more memory than there is gives this one
+        let found = run("address = 5", script, 1 << 46);
+        assert!(found == no_memory || found == done);
+        assert_eq!(run("address = 5", script, 9), done);
+        assert_eq!(run("address = 5", script, 1 << 28), done);
+        assert_eq!(run("address = 5", script, 0), (vec![], Some(Fault::NoRoom)));
+        assert_eq!(run("address = 5", "", 0), (vec![], None));
+    }
+
+    #[test]
+    fn numbers_that_mean_no_event_change_nothing() {
+        let mut terminal = Terminal::new(PROFILE).unwrap();
+        terminal.step(Event::word(Bus::A, Sync::Command, 0x2c02)).unwrap();
+        terminal.step(Event::Gap(Bus::A)).unwrap();
+        for (subaddress, number) in [(0, 1), (31, 1), (32, 1), (255, 1), (1, 0), (1, 33), (1, 255), (0, 0), (255, 255)] {
+            assert_eq!(terminal.step(Event::Write { subaddress, number, bits: 0 }), Err(Fault::NoEvent));
+        }
+        assert_eq!(terminal.step(Event::Slot), Ok(Answer::Sends { bus: Bus::A, sync: Sync::Command, bits: 0x2800 }));
+    }
+
+    #[test]
+    fn any_bytes_are_a_text_or_are_refused() {
+        for text in [&b""[..], b"\0", b"\xff\xfe", &[b'x'; 2_000_000], &[0; 4096]] {
+            assert!(matches!(check(text), Err(Fault::Refused { .. })));
+            assert!(matches!(Terminal::new(text).err(), Some(Fault::Refused { .. })));
+            assert!(matches!(canonical(text), Err(Fault::Refused { .. })));
+            assert!(matches!(compare("address = 5", text), Err(Fault::Refused { .. })));
+            assert!(matches!(run(text, "", 9).1, Some(Fault::Refused { .. })));
+        }
+        for (script, number) in [(&b"\xff"[..], 1), (b"\0", 1), (b"A gap\r\n", 1), (&[b'#'; 65], 2), (&[b'\n'; 1_048_577], 3)] {
+            assert!(matches!(run("address = 5", script, 9).1, Some(Fault::Refused { kind: 4, number: found, .. }) if found == number));
+        }
     }
 
     #[test]
