@@ -12,6 +12,7 @@ in what was written, and each has to be found. The last line is 'N passed, M fai
 import csv
 import dataclasses
 import functools
+import gc
 import io
 import json
 import os
@@ -855,6 +856,8 @@ def planted(it, profile, exchanges, text, table, lines):
 
 
 def main(rt1553, *tools):
+    # the collector would look through millions of words, again and again, and nothing here refers to itself
+    gc.disable()
     count = Count()
     rt1553 = os.path.realpath(rt1553)
     with tempfile.TemporaryDirectory() as room:
