@@ -38,7 +38,7 @@ deb: ## a Debian package of what is built, the library too where it is: bin/rt15
 	@bash scripts/need.sh python3 dpkg-deb dpkg-shlibdeps
 	@bash scripts/deb.sh
 
-pages: ## writes man pages and completions anew from manual/words.toml
+pages: ## writes man pages and completions anew from manual/arguments.toml
 	@bash scripts/need.sh python3
 	@python3 scripts/manual.py write
 

@@ -1,4 +1,4 @@
-# completion of rt1553-tool in bash, made by scripts/manual.py of manual/words.toml
+# completion of rt1553-tool in bash, made by scripts/manual.py of manual/arguments.toml
 _rt1553_tool() {
     local now=${COMP_WORDS[COMP_CWORD]} before=${COMP_WORDS[COMP_CWORD - 1]} flags='' kinds=() many='' count=0 index kind
     COMPREPLY=()

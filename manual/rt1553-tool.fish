@@ -1,4 +1,4 @@
-# completion of rt1553-tool in fish, made by scripts/manual.py of manual/words.toml
+# completion of rt1553-tool in fish, made by scripts/manual.py of manual/arguments.toml
 complete -c rt1553-tool -f
 complete -c rt1553-tool -n __fish_use_subcommand -l help -d 'tells the words'
 complete -c rt1553-tool -n __fish_use_subcommand -l version -d 'tells the versions'

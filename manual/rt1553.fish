@@ -1,4 +1,4 @@
-# completion of rt1553 in fish, made by scripts/manual.py of manual/words.toml
+# completion of rt1553 in fish, made by scripts/manual.py of manual/arguments.toml
 complete -c rt1553 -f
 complete -c rt1553 -n __fish_use_subcommand -a check -d 'Prints ok, or tells the first fault of the profile'
 complete -c rt1553 -n '__fish_seen_subcommand_from check' -F

@@ -1,5 +1,5 @@
 #compdef rt1553
-# completion of rt1553 in zsh, made by scripts/manual.py of manual/words.toml
+# completion of rt1553 in zsh, made by scripts/manual.py of manual/arguments.toml
 _rt1553() {
     local -a commands
     commands=(
@@ -9,13 +9,13 @@ _rt1553() {
         'compare:Prints same, or a script on which the two terminals answer otherwise'
     )
     if ((CURRENT == 2)); then
-        _describe -t commands word commands
+        _describe -t commands command commands
         return
     fi
-    local word=$words[2]
+    local command=$words[2]
     shift words
     ((CURRENT--))
-    case $word in
+    case $command in
         check) _arguments '1:P:_files -g "*.(toml|rt1553)(-.)"' ;;
         canon) _arguments '1:P:_files -g "*.(toml|rt1553)(-.)"' ;;
         run) _arguments '1:P:_files -g "*.(toml|rt1553)(-.)"' '2:SCRIPT:_files -g "*.(script)(-.)"' ;;

@@ -719,7 +719,7 @@ def tables_that_are_compared(it, profile, exchanges, table):
 
 def files_that_fail(it, profile, results):
     """Files that can't be read or written, and words that are refused."""
-    usage = Given(3, "", "words: see --help\n")
+    usage = Given(3, "", "arguments: see --help\n")
     it.count.equal("--against with --format csv", run(it.tool, "acceptance", profile, "--against", results, "--format", "csv"), usage)
     it.count.equal("--against with --format json", run(it.tool, "acceptance", "--format", "json", profile, "--against", results), usage)
     none, folder = it.room / "none", it.room

@@ -318,7 +318,7 @@ WORDS
 standard_input_rows() {
     input "$exchange"
     row transmit-status 0 $'A s 2800\n' ''
-    row 'no words but --' 0 $'A s 2800\n' '' --
+    row 'no arguments but --' 0 $'A s 2800\n' '' --
     input ''
     row empty-script 0 '' ''
     input "${exchange}A x\n"
@@ -1004,7 +1004,7 @@ run_rows() {
 
 fault_rows() {
     input "$exchange"
-    growths 'no words'
+    growths 'no arguments'
     growths 'check' check five
     growths 'canon' canon five
     growths 'compare' compare five six

@@ -192,7 +192,7 @@ drawing_rows() {
 # a copy of what `make install` and `make deb` need, with these programs in bin/, so that the clone stays as it is
 copied() {
     mkdir -p "$work/clone/bin"
-    tar -c --exclude=crates/'*'/out --exclude=./bin --exclude=./try CHANGELOG.md Makefile README.md docs editors examples manual scripts crates/rt1553_tool_words/src | tar -x -C "$work/clone"
+    tar -c --exclude=crates/'*'/out --exclude=./bin --exclude=./try CHANGELOG.md Makefile README.md docs editors examples manual scripts crates/rt1553_tool_args/src | tar -x -C "$work/clone"
     install -m 755 "$rt1553" "$work/clone/bin/rt1553" && install -m 755 "$tool" "$work/clone/bin/rt1553-tool"
 }
 

@@ -1,5 +1,5 @@
 #!/usr/bin/env python3
-"""The man pages and the completions of the two programs, made of manual/words.toml.
+"""The man pages and the completions of the two programs, made of manual/arguments.toml.
 
     scripts/manual.py write                writes them
     scripts/manual.py version              tells the version of the programs, as it stands in the program's source
@@ -18,9 +18,9 @@ import textwrap
 import tomllib
 
 TOP = pathlib.Path(__file__).resolve().parent.parent
-WORDS = TOP / "manual/words.toml"
-VERSION = TOP / "crates/rt1553_tool_words/src/words.rt"
-MADE = "made by scripts/manual.py of manual/words.toml"
+WORDS = TOP / "manual/arguments.toml"
+VERSION = TOP / "crates/rt1553_tool_args/src/args.rt"
+MADE = "made by scripts/manual.py of manual/arguments.toml"
 # the endings by which files are completed
 ENDINGS = {"profile": ["toml", "rt1553"], "script": ["script"], "results": ["csv"], "folder": []}
 
@@ -68,17 +68,17 @@ def paragraphs(text):
             yield from lines_of(sentence)
 
 
-def synopsis_of(word):
+def synopsis_of(command):
     """The words of a synopsis behind the program's name."""
-    yield f".Cm {word['name']}"
+    yield f".Cm {command['name']}"
     instead = False
-    for option in word.get("options", []):
+    for option in command.get("options", []):
         value = f" Ar {option['value']}" if "value" in option else ""
         if option.get("instead"):
             instead = f"Fl Fl {option['name'][2:]}{value}"
         else:
             yield f".Op Fl Fl {option['name'][2:]}{value}"
-    for number, takes in enumerate(word["takes"]):
+    for number, takes in enumerate(command["takes"]):
         many = " ..." if takes.get("many") else ""
         if instead and not number:
             yield f".Brq Ar {takes['name']} | {instead}"
@@ -97,19 +97,19 @@ def page_of(program, others):
     yield from [".Sh NAME", f".Nm {name}", f".Nd {program['about']}", ".Sh SYNOPSIS"]
     if program["alone"]:
         yield ".Nm"
-    for word in program["word"]:
+    for command in program["command"]:
         yield ".Nm"
-        yield from synopsis_of(word)
+        yield from synopsis_of(command)
     if not program["alone"]:
         yield from [".Nm", ".Fl Fl help", ".Nm", ".Fl Fl version"]
     yield ".Sh DESCRIPTION"
     yield from paragraphs(program["text"])
-    width = max((word["name"] for word in program["word"]), key=len)
+    width = max((command["name"] for command in program["command"]), key=len)
     yield f".Bl -tag -width {width}"
-    for word in program["word"]:
-        yield f".It Cm {word['name']}"
-        yield from paragraphs(word["text"])
-        for option in word.get("options", []):
+    for command in program["command"]:
+        yield f".It Cm {command['name']}"
+        yield from paragraphs(command["text"])
+        for option in command.get("options", []):
             value = f" Ar {option['value']}" if "value" in option else ""
             yield ".Pp"
             yield f".Fl Fl {option['name'][2:]}{value} :"
@@ -140,14 +140,14 @@ def page_of(program, others):
 # --- completions ---
 
 
-def flags_of(word):
-    """The options of a word."""
-    return [option["name"] for option in word.get("options", [])]
+def flags_of(command):
+    """The options of a command."""
+    return [option["name"] for option in command.get("options", [])]
 
 
-def about_of(word):
-    """What a word does, in a few words: those of the program's own help, else the first sentence of its text."""
-    return word.get("about", re.sub("[`.]", "", word["text"].split(". ")[0]))
+def about_of(command):
+    """What a command does, in a few words: those of the program's own help, else the first sentence of its text."""
+    return command.get("about", re.sub("[`.]", "", command["text"].split(". ")[0]))
 
 
 def bash_files(kind):
@@ -159,7 +159,7 @@ def bash_of(program):
     """The completion of bash."""
     name = program["name"]
     function = f"_{name.replace('-', '_')}"
-    first = [word["name"] for word in program["word"]] + ([] if program["alone"] else ["--help", "--version"])
+    first = [command["name"] for command in program["command"]] + ([] if program["alone"] else ["--help", "--version"])
     yield f"# completion of {name} in bash, {MADE}"
     yield f"{function}() {{"
     yield "    local now=${COMP_WORDS[COMP_CWORD]} before=${COMP_WORDS[COMP_CWORD - 1]} flags='' kinds=() many='' count=0 index kind"
@@ -169,29 +169,29 @@ def bash_of(program):
     yield "        return"
     yield "    fi"
     yield "    case ${COMP_WORDS[1]}:$before in"
-    for word in program["word"]:
-        for option in word.get("options", []):
+    for command in program["command"]:
+        for option in command.get("options", []):
             if "values" in option:
-                yield f"        {word['name']}:{option['name']}) mapfile -t COMPREPLY < <(compgen -W '{' '.join(option['values'])}' -- \"$now\"); return ;;"
+                yield f"        {command['name']}:{option['name']}) mapfile -t COMPREPLY < <(compgen -W '{' '.join(option['values'])}' -- \"$now\"); return ;;"
             elif "value" in option:
-                yield f"        {word['name']}:{option['name']}) mapfile -t COMPREPLY < <({bash_files(option['kind'])}); return ;;"
+                yield f"        {command['name']}:{option['name']}) mapfile -t COMPREPLY < <({bash_files(option['kind'])}); return ;;"
     yield "    esac"
     yield "    case ${COMP_WORDS[1]} in"
-    for word in program["word"]:
-        kinds = " ".join(takes["kind"] for takes in word["takes"])
-        many = next((takes["kind"] for takes in word["takes"] if takes.get("many")), "")
-        flags = " ".join(flags_of(word) + ([] if program["alone"] else ["--help"]))
-        yield f"        {word['name']}) flags='{flags}' kinds=({kinds}) many='{many}' ;;"
+    for command in program["command"]:
+        kinds = " ".join(takes["kind"] for takes in command["takes"])
+        many = next((takes["kind"] for takes in command["takes"] if takes.get("many")), "")
+        flags = " ".join(flags_of(command) + ([] if program["alone"] else ["--help"]))
+        yield f"        {command['name']}) flags='{flags}' kinds=({kinds}) many='{many}' ;;"
     yield "    esac"
     yield "    # how many files stand before this one"
     yield "    for ((index = 2; index < COMP_CWORD; index++)); do"
     yield "        case ${COMP_WORDS[1]}:${COMP_WORDS[index]} in"
-    for word in program["word"]:
-        for option in word.get("options", []):
+    for command in program["command"]:
+        for option in command.get("options", []):
             if option.get("instead"):
-                yield f"            {word['name']}:{option['name']}) kinds=(\"${{kinds[@]:1}}\") index=$((index + 1)) ;;"
+                yield f"            {command['name']}:{option['name']}) kinds=(\"${{kinds[@]:1}}\") index=$((index + 1)) ;;"
             elif "value" in option:
-                yield f"            {word['name']}:{option['name']}) index=$((index + 1)) ;;"
+                yield f"            {command['name']}:{option['name']}) index=$((index + 1)) ;;"
     yield "            *:-*) ;;"
     yield "            *) count=$((count + 1)) ;;"
     yield "        esac"
@@ -221,10 +221,10 @@ def zsh_text(text):
     return re.sub(r"([\[\]:\\])", r"\\\1", text).replace("'", "'\\''")
 
 
-def zsh_specs(word):
-    """What zsh's `_arguments` is told of a word."""
-    instead = next((option["name"] for option in word.get("options", []) if option.get("instead")), None)
-    for option in word.get("options", []):
+def zsh_specs(command):
+    """What zsh's `_arguments` is told of a command."""
+    instead = next((option["name"] for option in command.get("options", []) if option.get("instead")), None)
+    for option in command.get("options", []):
         value = ""
         if "values" in option:
             value = f":{option['value']}:({' '.join(option['values'])})"
@@ -232,7 +232,7 @@ def zsh_specs(word):
             value = f":{option['value']}:{zsh_files(option['kind'])}"
         but = "(1)" if option.get("instead") else ""
         yield f"'{but}{option['name']}[{zsh_text(option['help'])}]{value}'"
-    for number, takes in enumerate(word["takes"], 1):
+    for number, takes in enumerate(command["takes"], 1):
         but = f"({instead})" if instead and number == 1 else ""
         place = "*" if takes.get("many") else f"{but}{number}"
         yield f"'{place}:{takes['name']}:{zsh_files(takes['kind'])}'"
@@ -247,22 +247,22 @@ def zsh_of(program):
     yield f"{function}() {{"
     yield "    local -a commands"
     yield "    commands=("
-    for word in program["word"]:
-        yield f"        '{word['name']}:{zsh_text(about_of(word))}'"
+    for command in program["command"]:
+        yield f"        '{command['name']}:{zsh_text(about_of(command))}'"
     yield "    )"
     yield "    if ((CURRENT == 2)); then"
     if not program["alone"]:
         yield "        if [[ $words[2] == -* ]]; then _arguments '--help[tells the words]' '--version[tells the versions]'; return; fi"
-    yield "        _describe -t commands word commands"
+    yield "        _describe -t commands command commands"
     yield "        return"
     yield "    fi"
-    yield "    local word=$words[2]"
+    yield "    local command=$words[2]"
     yield "    shift words"
     yield "    ((CURRENT--))"
-    yield "    case $word in"
-    for word in program["word"]:
-        specs = [] if program["alone"] else ["'--help[tells what the word takes]'"]
-        yield f"        {word['name']}) _arguments {' '.join([*specs, *zsh_specs(word)])} ;;"
+    yield "    case $command in"
+    for command in program["command"]:
+        specs = [] if program["alone"] else ["'--help[tells what the command takes]'"]
+        yield f"        {command['name']}) _arguments {' '.join([*specs, *zsh_specs(command)])} ;;"
     yield "    esac"
     yield "}"
     yield f"{function} \"$@\""
@@ -281,17 +281,17 @@ def fish_of(program):
     if not program["alone"]:
         yield f"complete -c {name} -n __fish_use_subcommand -l help -d 'tells the words'"
         yield f"complete -c {name} -n __fish_use_subcommand -l version -d 'tells the versions'"
-    for word in program["word"]:
-        yield f"complete -c {name} -n __fish_use_subcommand -a {word['name']} -d {fish_text(about_of(word))}"
-        seen = f"-n '__fish_seen_subcommand_from {word['name']}'"
-        for option in word.get("options", []):
+    for command in program["command"]:
+        yield f"complete -c {name} -n __fish_use_subcommand -a {command['name']} -d {fish_text(about_of(command))}"
+        seen = f"-n '__fish_seen_subcommand_from {command['name']}'"
+        for option in command.get("options", []):
             value = ""
             if "values" in option:
                 value = f" -x -a '{' '.join(option['values'])}'"
             elif "value" in option:
                 value = " -r -F" if ENDINGS[option["kind"]] else " -x -a '(__fish_complete_directories)'"
             yield f"complete -c {name} {seen} -l {option['name'][2:]}{value} -d {fish_text(option['help'])}"
-        if word["takes"]:
+        if command["takes"]:
             yield f"complete -c {name} {seen} -F"
 
 
@@ -318,12 +318,12 @@ def run(*words):
 
 def usage_of(program):
     """The usage line of `rt1553`, which tells its words."""
-    words = (" ".join([word["name"], *(takes["name"] for takes in word["takes"])]) for word in program["word"])
+    words = (" ".join([command["name"], *(takes["name"] for takes in command["takes"])]) for command in program["command"])
     return f"usage: {program['name']} [{', '.join(words)}]\n", 3
 
 
 def rows_of(text, title):
-    """The rows of a part of clap's help: the first word of each with what stands behind it."""
+    """The rows of a part of clap's help: the first command of each with what stands behind it."""
     part = re.search(rf"^{title}:\n((?:  .*\n?)*)", text, re.MULTILINE)
     return [re.split(r"\s{2,}", line.strip(), maxsplit=1) for line in part[1].splitlines()] if part else []
 
@@ -339,13 +339,13 @@ def told(tool, program):
     """Rows: a name, what is described, and what `rt1553-tool` tells."""
     text, _ = run(tool, "--help")
     found = [row for row in rows_of(text, "Commands") if row[0] != "help"]
-    yield "the words of rt1553-tool", [[word["name"], word["about"]] for word in program["word"]], found
-    for word in program["word"]:
-        text, _ = run(tool, word["name"], "--help")
+    yield "the words of rt1553-tool", [[command["name"], command["about"]] for command in program["command"]], found
+    for command in program["command"]:
+        text, _ = run(tool, command["name"], "--help")
         found = [[re.sub(r"[^A-Z]", "", name), help] for name, help in rows_of(text, "Arguments")]
-        yield f"what {word['name']} takes", [[takes["name"], takes["help"]] for takes in word["takes"]], found
+        yield f"what {command['name']} takes", [[takes["name"], takes["help"]] for takes in command["takes"]], found
         found = [row for row in rows_of(text, "Options") if "--help" not in row[0]]
-        yield f"the options of {word['name']}", [option_row(option) for option in word.get("options", [])], found
+        yield f"the options of {command['name']}", [option_row(option) for option in command.get("options", [])], found
     number, canonical = version()
     yield "the version", (f"rt1553-tool {number} (canonical text {canonical})\n", 0), run(tool, "--version")
 

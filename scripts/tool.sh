@@ -121,7 +121,7 @@ summary_rows() {
     row 'a summary of scripts that are refused' 4 \
         'no clause: 0 of 1 scripts pass\n5.2.3: 0 of 1 scripts pass\nall: 0 of 2 scripts pass\n' \
         'broken: script: line 3\nfile: cannot read none\n' verify --summary --profiles folder broken none
-    row 'no script is named' 3 '' 'words: see --help\n' verify --profiles folder
+    row 'no script is named' 3 '' 'arguments: see --help\n' verify --profiles folder
     # the protocol tests, by the command that their page tells
     (cd "$top" && "$program" verify --summary --profiles examples/validation/profiles examples/validation/{scripts,choices}/*.script) \
         >"$work/stdout" 2>"$work/stderr" </dev/null && [[ ! -s $work/stderr ]] &&
@@ -402,7 +402,7 @@ word_rows() {
         # no word at all where it is empty
         "$program" ${word:+"$word"} >"$work/stdout" 2>"$work/stderr" </dev/null
         [[ $? -eq 3 && ! -s $work/stdout && -s $work/stderr ]]
-        count "words that it doesn't take: '$word'" $?
+        count "arguments that it doesn't accept: '$word'" $?
     done
     "$program" --help >"$work/stdout" 2>"$work/stderr" </dev/null && [[ ! -s $work/stderr ]]
     count '--help' $?

@@ -38,7 +38,7 @@ enum {
     RT1553_DONE = 0,      /* done; of rt1553_compare: the same terminal */
     RT1553_DIFFER = 1,    /* of rt1553_compare: not the same terminal */
     RT1553_REFUSED = 2,   /* a text is refused, or an event's numbers mean none */
-    RT1553_NO_MEMORY = 4, /* memory was wanting, which says nothing of the texts */
+    RT1553_NO_MEMORY = 4, /* out of memory, which says nothing of the texts */
     RT1553_NO_ROOM = 5    /* what is to be written is longer than the room for it */
 };
 
@@ -60,7 +60,7 @@ void rt1553_version(rt1553_versions *version);
 enum {
     RT1553_OF_PROFILE = 1,        /* a profile text */
     RT1553_OF_CANONICAL_TEXT = 2, /* a canonical text */
-    RT1553_OF_MEMORY = 3,         /* memory was wanting */
+    RT1553_OF_MEMORY = 3,         /* out of memory */
     RT1553_OF_SCRIPT = 4          /* a script, or writing its transcript */
 };
 

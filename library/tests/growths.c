@@ -90,7 +90,7 @@ static int is_same(const answer *one, const answer *other) {
     return one->status == other->status && one->length == other->length && memcmp(one->bytes, other->bytes, one->length) == 0;
 }
 
-/* want of memory is told, by a beginning of a transcript at most */
+/* out of memory is told, by a beginning of a transcript at most */
 static int is_want(const answer *it, const answer *ample, int is_run) {
     return it->status == RT1553_NO_MEMORY && (it->fault.kind == RT1553_OF_MEMORY || (is_run && it->fault.kind == RT1553_OF_SCRIPT))
            && it->length <= ample->length && memcmp(it->bytes, ample->bytes, it->length) == 0;

@@ -28,7 +28,7 @@ pub record HasFirst (text : List ℕ) (fault : ProfileFault) : Type 0 where
   pub is : IsTree text tree
   pub first : IsFirst (faults tree) fault
 
--- Why the text is refused: it is no TOML document, or its tree has the fault first. Want of memory
+-- Why the text is refused: it is no TOML document, or its tree has the fault first. Out of memory
 -- says nothing of the text.
 abbrev pub Refuses : List ℕ → ProfileFault → Type 0
 Refuses text NotToml = (tree : Members) → IsTree text tree → ⊥

@@ -377,7 +377,7 @@ fn push_required(
 
 /// Gives all the faults of the tree of a profile text, in their order: that which `read_profile` tells is the first.
 ///
-/// Of an array of more than 256 entries that alone is told, and nothing of its entries. The error is that memory was wanting.
+/// Of an array of more than 256 entries that alone is told, and nothing of its entries. The only error is out of memory.
 pub fn all_faults(alloc: Global, table: &Table) -> Result<Vec<ProfileFault>, AllocError>
     ensures told { IfOk result (λ fs. fs.items ≡ told (table_view table.now)) }
     ensures all { IfOk result (λ fs. HasShortArrays (table_view table.now) → fs.items ≡ failing (faults (table_view table.now))) }
@@ -388,7 +388,7 @@ pub fn all_faults(alloc: Global, table: &Table) -> Result<Vec<ProfileFault>, All
     Ok(faults)
 }
 
-/// Gives the keys of a table that it may not have, as they are written. The error is that memory was wanting.
+/// Gives the keys of a table that it may not have, as they are written. The only error is out of memory.
 pub fn unknown_keys<'a>(
     alloc: Global,
     table: &'a Table,

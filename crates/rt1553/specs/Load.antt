@@ -14,7 +14,7 @@ use Rattle.bus_canon.specs.Read.{IsNoText}
 use Rattle.rt1553.specs.declared.fault.LoadFault.{LoadFault}
 use Rattle.rt1553.specs.declared.fault.LoadFault.TheVariants as load
 
--- want of memory is one fault, whoever meets it
+-- out of memory is one fault, whoever meets it
 abbrev pub load_fault : ProfileFault → LoadFault
 load_fault profile.Memory = load.Memory
 load_fault fault = load.Profile fault
@@ -50,7 +50,7 @@ pub record Reaches (text : List ℕ) (value : Parts) : Type 0 where
   pub of : Of text description
   pub reached : description_in value ≡ reach description
 
--- a profile text is refused by this, its first fault; want of memory is none
+-- a profile text is refused by this, its first fault; out of memory is none
 abbrev pub IsNoProfile : List ℕ → ProfileFault → Type 0
 IsNoProfile text profile.Memory = ⊥
 IsNoProfile text fault = Refuses text fault
@@ -69,6 +69,6 @@ IsNotLoadedBy false text load.Memory = Unit {0}
 abbrev pub IsNotLoaded : List ℕ → LoadFault → Type 0
 IsNotLoaded text fault = IsNotLoadedBy (is_canon_text text) text fault
 
--- the only fault by which an accepted text isn't loaded is want of memory
+-- the only fault by which an accepted text isn't loaded means out of memory
 abbrev pub OnlyMemoryRefuses : Type 0
 OnlyMemoryRefuses = (text : List ℕ) (P : Description) (fault : LoadFault) → Of text P → IsNotLoaded text fault → fault ≡ load.Memory

@@ -7,7 +7,7 @@ use thiserror::Error;
 /// Why a profile, or a canonical text, is not loaded.
 #[derive(Clone, Copy, Debug, PartialEq, Eq, Error)]
 pub enum LoadFault {
-    /// The profile text is refused for this, its first fault. Want of memory is `Memory`.
+    /// The profile text is refused for this, its first fault. Out of memory is `Memory`.
     #[error(transparent)]
     Profile(ProfileFault),
     /// The canonical text is refused.

@@ -17,7 +17,7 @@ pub fn accepted_texts_have_canonical_bytes()
     ensures profile { FaultlessHaveCanon }
 {}
 
-/// An accepted text is refused for want of memory alone.
+/// An accepted text is refused only when memory runs out.
 pub fn only_memory_refuses_accepted_texts()
     ensures { OnlyMemoryRefuses }
 {}

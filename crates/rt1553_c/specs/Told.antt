@@ -15,14 +15,14 @@ use Rattle.rt1553_live.specs.PlainFault.{Tells}
 use Rattle.rt1553_live.specs.declared.fault.PlainFault.{PlainFault}
 
 -- A fault for which this holds is told by its numbers and its line, with the status of the program `rt1553` for it: 2
--- where a text is refused, 4 where memory was wanting.
+-- where a text is refused, 4 where memory runs out.
 pub record IsTold (Why : LoadFault → Type 0) (to : PlainFault) (status : ℕ) : Type 0 where
   pub fault : LoadFault
   pub why : Why fault
   pub tells : Tells to (Load fault)
   pub answers : status ≡ exit_status_of (Load fault)
 
--- the text is refused by this fault, its first, or memory was wanting
+-- the text is refused by this fault, its first, or out of memory
 abbrev pub IsNotWritten : List ℕ → LoadFault → Type 0
 IsNotWritten text fault = (fault ≡ load.Memory) ⊎ IsNotLoaded text fault
 
@@ -41,7 +41,7 @@ Differ first second = (script : List Event) × AreDifferent first second script
 abbrev pub RunsThrough : List ℕ → List ℕ → List ℕ → Type 0
 RunsThrough profile script transcript = (P : Description) × Of profile P × (n : ℕ) × Completes P script (Some []) (Some transcript) n
 
--- Where a run was stopped: by the profile, of which this is the first fault; or by the script, or want of memory, behind
+-- Where a run was stopped: by the profile, of which this is the first fault; or by the script, or out of memory, behind
 -- the events whose transcript this is.
 pub record IsStopped (profile script transcript : List ℕ) (to : PlainFault) (status : ℕ) : Type 0 where
   pub fault : EngineFault

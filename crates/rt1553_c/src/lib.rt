@@ -1,5 +1,5 @@
 //! The calls of `rt1553.h`, for programs in C and in languages that call C. A status is as that of the program `rt1553`: 0
-//! done, or the same; 1 the two differ; 2 refused; 4 memory was wanting; and 5 where the room that the caller gives was too
+//! done, or the same; 1 the two differ; 2 refused; 4 out of memory; and 5 where the room that the caller gives was too
 //! small. With 2 and 4 the fault is told; with the others it stays as it was.
 #![tactic(auto)]
 

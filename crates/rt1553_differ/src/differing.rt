@@ -15,7 +15,7 @@ use thiserror::Error;
 /// Why two terminals are not told apart.
 #[derive(Clone, Copy, Debug, PartialEq, Eq, Error)]
 pub enum DifferFault {
-    /// Memory was wanting.
+    /// Out of memory.
     #[error("out of memory")]
     Memory,
     /// Nothing was found, and yet they are not the same. Tests show that this doesn't come.

@@ -260,7 +260,7 @@ where
     }
 }
 
-/// What a terminal does, as JSON; None where memory is wanting.
+/// What a terminal does, as JSON; None where memory runs out.
 pub fn explain_json(alloc: Global, normal: &Normal) -> Option<String> {
     let codes = codes_of(normal);
     let settings = settings_of(normal);

@@ -181,7 +181,7 @@ fn entry_of(
     })
 }
 
-/// What differs as JSON: an array of the groups. None where memory is wanting.
+/// What differs as JSON: an array of the groups. None where memory runs out.
 pub fn differ_json(
     alloc: Global,
     pair: &Pair<'_>,

@@ -66,7 +66,7 @@ impl Finding {
         }
     }
 
-    /// The finding as a line of JSON, without a line feed, with the name of the text's file. None for want of memory.
+    /// The finding as a line of JSON, without a line feed, with the name of the text's file. None when memory runs out.
     pub fn to_json<'x>(&'x self, alloc: Global, file: &'x str) -> Option<String> {
         let line = JsonLine {
             file,

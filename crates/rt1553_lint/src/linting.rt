@@ -72,7 +72,7 @@ fn lint_other(alloc: Global, text: &[u8], error: &Error) -> Result<Vec<Finding>,
 }
 
 /// Gives all that is wrong with a profile text or a canonical text, in the order of the faults; where nothing is wrong, each
-/// entry, key and word of a profile that has no effect, in the order of the keys. The error is that memory was wanting.
+/// entry, key and word of a profile that has no effect, in the order of the keys. The only error is out of memory.
 ///
 /// Of a text that is no TOML, or no canonical text, the first fault alone is found.
 pub fn lint(alloc: Global, text: &[u8]) -> Result<Vec<Finding>, AllocError>

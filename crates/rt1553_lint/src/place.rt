@@ -143,7 +143,7 @@ fn look_back(
 /// that doesn't, and up to no end of a line between them it is a document.
 ///
 /// `left` is how many bytes may still be read, of all beginnings of the text that are; where there are too few, no place is given.
-/// The error is that memory was wanting.
+/// The only error is out of memory.
 pub fn place_of(
     alloc: Global,
     text: &[u8],

@@ -95,7 +95,7 @@ fn are_same(p: &Profile, q: &Profile) -> bool
     ours.is_same(&theirs)
 }
 
-/// Tells whether the rule of this index has no effect: without it the terminal is the same. The error is that memory was wanting.
+/// Tells whether the rule of this index has no effect: without it the terminal is the same. The only error is out of memory.
 pub fn is_spare_rule(alloc: Global, profile: &Profile, index: usize) -> Result<bool, AllocError>
     requires { index < length profile.now.rules }
     ensures { IfOk result (λ spare. IsTrue spare ↔ Same (description_of profile.now) (without_rule profile.now index)) }
@@ -126,7 +126,7 @@ fn has_required(modes: &[ModeRule]) -> bool
 }
 
 /// Tells whether the mode entry of this index has no effect: without it the profile is accepted, and the terminal is the
-/// same. The error is that memory was wanting.
+/// same. The only error is out of memory.
 pub fn is_spare_mode(alloc: Global, profile: &Profile, index: usize) -> Result<bool, AllocError>
     requires { index < length profile.now.modes }
     ensures { IfOk result (λ spare. IsTrue spare ↔ IsSpareMode profile.now index) }
@@ -141,7 +141,7 @@ pub fn is_spare_mode(alloc: Global, profile: &Profile, index: usize) -> Result<b
 }
 
 /// Tells whether the initial entry of this index has no effect: without it the terminal is the same. The error is that
-/// memory was wanting.
+/// out of memory.
 pub fn is_spare_initial(alloc: Global, profile: &Profile, index: usize) -> Result<bool, AllocError>
     requires { index < length profile.now.initials }
     ensures { IfOk result (λ spare. IsTrue spare ↔ Same (description_of profile.now) (without_initial profile.now index)) }
@@ -152,7 +152,7 @@ pub fn is_spare_initial(alloc: Global, profile: &Profile, index: usize) -> Resul
 }
 
 /// Tells whether the word of this index of this initial entry has no effect: with 0 in its place the terminal is the same.
-/// The error is that memory was wanting.
+/// The only error is out of memory.
 pub fn is_spare_word(
     alloc: Global,
     profile: &Profile,

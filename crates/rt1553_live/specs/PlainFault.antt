@@ -18,7 +18,7 @@ kind_of (Load (Canon fault)) = 2
 kind_of (Load Memory) = 3
 kind_of (Script fault) = 4
 
--- its number among the faults of its kind; want of memory has none
+-- its number among the faults of its kind; out of memory has none
 abbrev pub number_of : EngineFault → ℕ
 number_of (Load (Profile fault)) = profile.fault_number fault
 number_of (Load (Canon fault)) = canon.fault_number fault

@@ -13,7 +13,7 @@ use rt1553::{EngineFault, LoadFault, describe};
 pub struct PlainFault {
     /// What the fault is of: 0 none, 1 a profile text, 2 a canonical text, 3 memory, 4 a script or a transcript.
     pub kind: u8,
-    /// The number of the fault among those of its kind; 0 where memory was wanting.
+    /// The number of the fault among those of its kind; 0 where memory runs out.
     pub number: u8,
     /// How many bytes of `text` tell it.
     pub length: u8,

@@ -3,25 +3,25 @@ use Rattle.std.specs.Prelude.{◌≡◌, ◌⊎◌, Option, Some, None, Result, 
 use Rattle.rt1553.specs.declared.fault.LoadFault.{LoadFault}
 use Rattle.rt1553.specs.declared.fault.EngineFault.{EngineFault}
 use Rattle.rt1553.specs.declared.fault.EngineFault.TheVariants as engine
-use Rattle.rt1553_words.specs.declared.words.WordFault.{WordFault}
-use Rattle.rt1553_words.specs.declared.words.WordFault.TheVariants as word
+use Rattle.rt1553_args.specs.declared.args.ArgFault.{ArgFault}
+use Rattle.rt1553_args.specs.declared.args.ArgFault.TheVariants as args
 use Rattle.rt1553_program.specs.declared.fault.Fault.{Fault}
 use Rattle.rt1553_program.specs.declared.fault.Fault.TheVariants.{Usage, Memory, CannotRead, TooLarge, Output, Engine}
 
 -- ---- the command line
 
--- why words aren't a job
-abbrev pub fault_of_words : WordFault → Fault
-fault_of_words word.Usage = Usage
-fault_of_words word.Memory = Memory
+-- why arguments name no job
+abbrev pub fault_of_args : ArgFault → Fault
+fault_of_args args.Usage = Usage
+fault_of_args args.Memory = Memory
 
--- why there are no words: memory was wanting, where that holds, or else a word is no text
+-- why there are no arguments: out of memory, where that holds, or else one is not text
 abbrev pub IsWithoutWords : Type 0 → Fault → Type 0
 IsWithoutWords WantsMemory fault = (WantsMemory → fault ≡ Memory) × ((WantsMemory → ⊥) → fault ≡ Usage)
 
 -- ---- files
 
--- a file can't be opened or read, or memory was wanting, for its name too
+-- a file can't be opened or read, or out of memory, for its name too
 abbrev pub IsUnread : Fault → Type 0
 IsUnread Memory = Unit {0}
 IsUnread (CannotRead name) = Unit {0}
@@ -30,7 +30,7 @@ IsUnread Usage = ⊥
 IsUnread Output = ⊥
 IsUnread (Engine fault) = ⊥
 
--- the fault of a file after an error of the system: memory was wanting, where that holds, or else the file can't be read
+-- the fault of a file after an error of the system: out of memory, where that holds, or else the file can't be read
 abbrev pub ComesOf : Type 0 → Fault → Type 0
 ComesOf WantsMemory fault = (WantsMemory → fault ≡ Memory) × ((WantsMemory → ⊥) → IsUnread fault)
 
@@ -39,13 +39,13 @@ abbrev pub IsTooLarge : Fault → Type 0
 IsTooLarge (TooLarge name) = Unit {0}
 IsTooLarge fault = ⊥
 
--- the fault of a file of which this was read: too many bytes, None, or an error, of which some are want of memory
+-- the fault of a file of which this was read: too many bytes, None, or an error, of which some are out of memory
 abbrev pub IsRefusal : {A E : Type 0} → (E → Type 0) → Result (Option A) E → Fault → Type 0
 IsRefusal WantsMemory (Ok (Some bytes)) fault = ⊥
 IsRefusal WantsMemory (Ok None) fault = IsTooLarge fault ⊎ (fault ≡ Memory)
 IsRefusal WantsMemory (Err error) fault = ComesOf (WantsMemory error) fault
 
--- a fault of a file: it can't be read, is too large, or memory was wanting
+-- a fault of a file: it can't be read, is too large, or out of memory
 abbrev pub IsOfFile : Fault → Type 0
 IsOfFile fault = IsUnread fault ⊎ IsTooLarge fault
 
@@ -65,7 +65,7 @@ abbrev pub IsOfRun : (EngineFault → Type 0) → Fault → Type 0
 IsOfRun P (Engine fault) = P fault
 IsOfRun P fault = ⊥
 
--- a fault of a job: any but that of words that the program doesn't take
+-- a fault of a job: any but that of arguments that the program does not accept
 abbrev pub IsOfJob : Fault → Type 0
 IsOfJob Usage = ⊥
 IsOfJob fault = Unit {0}

@@ -1,4 +1,4 @@
--- What the program's words do over texts.
+-- What the program's arguments ask for, over texts.
 use Rattle.std.specs.Prelude.{ℕ, ◌≡◌, ◌⊎◌, List, [], ◌∷◌, ◌++◌, Option, codes}
 use Rattle.std.specs.List.{flat_map}
 use Rattle.std.specs.Io.KnownBytes.{Appends}
@@ -8,8 +8,8 @@ use Rattle.bus_script.specs.EventLine.{event_text}
 use Rattle.rt1553.specs.Load.{Of}
 use Rattle.rt1553.specs.Canon.{IsCanon}
 use Rattle.rt1553.specs.Compare.{AreSame, AreDifferent}
-use Rattle.rt1553_words.specs.declared.words.Job.{Job}
-use Rattle.rt1553_words.specs.declared.words.Job.TheVariants as job
+use Rattle.rt1553_args.specs.declared.args.Job.{Job}
+use Rattle.rt1553_args.specs.declared.args.Job.TheVariants as job
 
 abbrev pub event_line : Event → List ℕ
 event_line e = event_text e ++ 10 ∷ []

@@ -1,15 +1,15 @@
 //! Why the program ends early, the line that it prints then, and the status that it ends with.
 use rt1553::{EngineFault, LoadFault, describe};
-use rt1553_words::WordFault;
+use rt1553_args::ArgFault;
 use std::alloc::AllocError;
 use std::fmt;
 
 /// Why the program ends early.
 #[derive(Drop)]
 pub enum Fault {
-    /// The words on the command line are none that the program takes.
+    /// The arguments are none that the program accepts.
     Usage,
-    /// Memory was wanting.
+    /// Out of memory.
     Memory,
     /// The file of this name, which is escaped, can't be opened or read.
     CannotRead(String),
@@ -76,16 +76,16 @@ impl From<LoadFault> for Fault {
     }
 }
 
-impl From<WordFault> for Fault {
+impl From<ArgFault> for Fault {
     ghost use Rattle.std.specs.Prelude.{◌≡◌};
-    ghost use Rattle.rt1553_program.specs.Causes.{fault_of_words};
+    ghost use Rattle.rt1553_program.specs.Causes.{fault_of_args};
 
-    ghost from_gives = { λ words fault. fault ≡ fault_of_words words };
+    ghost from_gives = { λ args fault. fault ≡ fault_of_args args };
 
-    fn from(fault: WordFault) -> Fault {
+    fn from(fault: ArgFault) -> Fault {
         match fault {
-            WordFault::Usage => Fault::Usage,
-            WordFault::Memory => Fault::Memory,
+            ArgFault::Usage => Fault::Usage,
+            ArgFault::Memory => Fault::Memory,
         }
     }
 }

@@ -1,4 +1,4 @@
-//! The program `rt1553`: what the words of its command line ask for, over files and the standard streams.
+//! The program `rt1553`: what its arguments ask for, over files and the standard streams.
 #![tactic(auto)]
 
 mod fault;

@@ -16,13 +16,13 @@ use rt1553::{
     Event, FromRead, FromWrite, LoadFault, Script, Sink, Verdict, canonical, compare, load, run,
     write_all, write_event,
 };
-use rt1553_words::{Job, read_words};
+use rt1553_args::{Job, read_args};
 use std::alloc::Global;
 use std::env;
 use std::io::{self, ErrorKind, Read, Write};
 use std::rt::{Env, Files};
 
-/// The profile that the program without words runs.
+/// The profile that the program without arguments runs.
 const STANDARD_PROFILE: &[u8] = b"address = 5";
 
 /// The status where all was done, and a comparison finds no difference.
@@ -199,13 +199,13 @@ fn do_job<R: Files + AllocGlobal, I: Read + Drop, W: Sink>(
     Ok(SAME)
 }
 
-/// Gives the words of the command line as they were found. Words that are no text are none that the program takes.
+/// Gives the arguments as they were found. Arguments that are not text are none that the program accepts.
 fn given<T: Drop>(found: io::Result<T>) -> Result<T, Fault>
-    ensures ok { IfOk result (λ words. found ≡ Ok words) }
+    ensures ok { IfOk result (λ args. found ≡ Ok args) }
     ensures refused { IfErr result (λ fault. IsErrAnd found (λ error. IsWithoutWords (error_kind error ≡ ErrorKind.OutOfMemory) fault)) }
 {
     match found {
-        Ok(words) => Ok(words),
+        Ok(args) => Ok(args),
         Err(error) => match error.kind() {
             ErrorKind::OutOfMemory => Err(Fault::Memory),
             _ => Err(Fault::Usage),
@@ -221,9 +221,9 @@ pub fn work<R: Env + Files + AllocGlobal, I: Read + Drop, O: Write + Drop>(
 ) -> Result<u8, Fault>
     ensures { IfOk result (λ status. status ≤ 1) }
 {
-    let words = given(env::args(rt))?;
-    let words: Vec<String> = words.collect(rt.alloc())?;
+    let args = given(env::args(rt))?;
+    let args: Vec<String> = args.collect(rt.alloc())?;
     let mut writer = FromWrite::new(output);
-    let job = read_words(rt.alloc(), words.as_slice())?;
+    let job = read_args(rt.alloc(), args.as_slice())?;
     do_job(rt, job, input, &mut writer)
 }

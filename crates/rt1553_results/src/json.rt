@@ -70,7 +70,7 @@ fn line_of(alloc: Global, normal: &Normal, row: &Row) -> Result<Line, AllocError
     })
 }
 
-/// A row of the table of this terminal as one line of JSON, without a line feed; None where memory is wanting.
+/// A row of the table of this terminal as one line of JSON, without a line feed; None where memory runs out.
 pub fn json_row(alloc: Global, normal: &Normal, row: &Row) -> Option<String> {
     let line = line_of(alloc, normal, row).ok()?;
     serde_json::to_string(alloc, &line).ok()

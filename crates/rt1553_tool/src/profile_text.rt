@@ -13,7 +13,7 @@ use thiserror::Error;
 /// Why there is no text.
 #[derive(Clone, Copy, Debug, PartialEq, Eq, Error)]
 pub enum TomlFault {
-    /// Memory was wanting.
+    /// Out of memory.
     #[error("out of memory")]
     Memory,
     /// The text that was made is not accepted, or means another terminal. Tests show that this doesn't come.

@@ -7,7 +7,7 @@ use rt1553_acceptance::{Progress, write_acceptance};
 use rt1553_results::{
     Comparison, Results, Rows, compare, csv_header, csv_row, json_row, read_results,
 };
-use rt1553_tool_words::TestFormat;
+use rt1553_tool_args::TestFormat;
 use std::alloc::Global;
 use std::io::Write;
 use std::rt::Files;

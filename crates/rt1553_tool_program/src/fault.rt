@@ -4,7 +4,7 @@ use rt1553_differ::DifferFault;
 use rt1553_draw::DrawFault;
 use rt1553_results::{CompareFault, ResultsFault};
 use rt1553_tool::TomlFault;
-use rt1553_tool_words::USAGE;
+use rt1553_tool_args::USAGE;
 use rt1553_verify::StatedFault;
 use std::alloc::{AllocError, AllocFailed};
 use std::fmt;
@@ -18,7 +18,7 @@ pub const REFUSED: u8 = 2;
 /// Why the program ends early. A text is the name of a file.
 #[derive(Drop)]
 pub enum Fault {
-    /// Memory was wanting.
+    /// Out of memory.
     Memory,
     /// The file can't be opened or read.
     CannotRead(String),
@@ -65,7 +65,7 @@ impl fmt::Display for Fault {
                 f,
                 "{name}: script: no line '# Profile: NAME' at its front"
             ),
-            Fault::Usage => f.write_str("words: see --help"),
+            Fault::Usage => f.write_str("arguments: see --help"),
             Fault::Differ(fault) => write!(f, "{fault}"),
             Fault::Toml(fault) => write!(f, "{fault}"),
         }

@@ -70,7 +70,7 @@ pub fn read_script_file<R: Files + AllocGlobal>(rt: &R, name: &str) -> Result<Ve
     read_file(rt, name, MOST_OF_SCRIPT)
 }
 
-/// A text that is written as a line of JSON; None is want of memory.
+/// A text that is written as a line of JSON; None means out of memory.
 pub fn json_line(text: Option<String>) -> Result<String, Fault> {
     let Some(mut line) = text else {
         return Err(Fault::Memory);

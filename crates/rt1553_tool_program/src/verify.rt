@@ -3,7 +3,7 @@ use crate::fault::{DIFFERENT, Fault};
 use crate::files::{load_profile, owned, put, read_script_file};
 use crate::summary::Summary;
 use bus_legal::Normal;
-use rt1553_tool_words::Profiles;
+use rt1553_tool_args::Profiles;
 use rt1553_verify::{Difference, answers_in, differences, named, read_stated};
 use std::io::Write;
 use std::rt::Files;

@@ -119,7 +119,7 @@ class Refused(Fault):
 
 
 class NoMemory(Fault):
-    """Memory was wanting, which says nothing of the texts."""
+    """Out of memory, which says nothing of the texts."""
 
 
 class NoRoom(Fault):

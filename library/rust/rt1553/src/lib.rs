@@ -32,7 +32,7 @@ pub enum Fault {
         /// The line that the program `rt1553` prints, without its line feed.
         text: String,
     },
-    /// Memory was wanting, which says nothing of the texts.
+    /// Out of memory, which says nothing of the texts.
     NoMemory,
     /// There was no room for what was to be written.
     NoRoom,

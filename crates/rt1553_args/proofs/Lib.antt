@@ -1,0 +1,3 @@
+mod NoFault
+mod OfArgs
+mod Values

@@ -1,0 +1,10 @@
+use Rattle.std.proofs.Common.{ap₂, ◌||◌, ◌∙◌}
+use Rattle.std.proofs.lemmas.Result.{IfOk-weaker}
+use Rattle.clap.specs.Words.{with_rule}
+use Rattle.rt1553_args.proofs.args.two_files.Goals as goal
+
+pub returns-clause-app : goal.returns-clause-app
+returns-clause-app c = IfOk-weaker c.arg.result _ _ (λ r h. h.shape c.file_arg.ensures.local ∙ ap₂ with_rule c.in_ok-one_file.ensures.app c.file_arg.ensures.rule) c.arg.ensures
+
+pub returns-clause-local : goal.returns-clause-local
+returns-clause-local c = IfOk-weaker c.arg.result _ _ (λ r h. h.globals ∙ ap₂ (λ a b. a || b) c.in_ok-one_file.ensures.local c.file_arg.ensures.local) c.arg.ensures

@@ -1,0 +1,124 @@
+//! The command line: the commands as clap takes them, and what is asked for, by type.
+use crate::command::{ToolCommand, tool_command_of};
+use crate::table::{Argument, COMMANDS, CommandRow, Occurrence};
+use clap::error::ErrorKind;
+use clap::{Arg, ArgAction, Command};
+use std::alloc::{AllocError, AllocFailed, Global};
+
+/// What `--version` tells: the program's version, and that of the canonical text that it reads and writes.
+const VERSION: &str = "0.1 (canonical text 2)";
+
+/// The status of arguments that the program does not accept.
+pub const USAGE: u8 = 3;
+
+/// Why no job is given.
+#[derive(Clone, Copy)]
+pub enum NoCommand {
+    /// What clap says of the arguments has been printed: help, the version, or what is wrong. The program ends with this status.
+    Said(u8),
+    /// What clap says of the arguments can't be printed.
+    Output,
+    /// The arguments name no job.
+    Usage,
+    /// Out of memory.
+    Memory,
+}
+
+impl From<AllocError> for NoCommand {
+    fn from(_error: AllocError) -> NoCommand {
+        NoCommand::Memory
+    }
+}
+
+impl<T: Drop> From<AllocFailed<T>> for NoCommand {
+    fn from(_failed: AllocFailed<T>) -> NoCommand {
+        NoCommand::Memory
+    }
+}
+
+/// An argument, as clap takes it.
+fn argument<'a>(alloc: Global, row: &Argument) -> Result<Arg<'a>, AllocError> {
+    let arg = Arg::new(alloc, row.id).help(row.help);
+    match row.given {
+        Occurrence::Once => Ok(
+            arg.required(true)
+                .action(ArgAction::Set)
+                .value_name(row.value),
+        ),
+        Occurrence::Often => Ok(
+            arg.required(true)
+                .action(ArgAction::Append)
+                .num_args(1..)
+                .value_name(row.value),
+        ),
+        Occurrence::OnceOr(other) => arg
+            .action(ArgAction::Set)
+            .value_name(row.value)
+            .required_unless_present(other),
+        Occurrence::OftenOr(other) => arg
+            .action(ArgAction::Append)
+            .num_args(1..)
+            .value_name(row.value)
+            .required_unless_present(other),
+        Occurrence::Value => Ok(
+            arg.long(row.id)
+                .action(ArgAction::Set)
+                .value_name(row.value),
+        ),
+        Occurrence::Flag => Ok(arg.long(row.id).action(ArgAction::SetTrue)),
+        Occurrence::OneOf(default, values) => Ok(
+            arg.long(row.id)
+                .action(ArgAction::Set)
+                .value_parser(values)
+                .default_value(default),
+        ),
+    }
+}
+
+/// A command, as clap takes it.
+fn subcommand<'a>(alloc: Global, row: &CommandRow) -> Result<Command<'a>, AllocError> {
+    let mut command = Command::new(alloc, row.name)
+        .about(row.about)
+        .after_help(row.example);
+    for argument_row in row.arguments {
+        command = command.arg(argument(alloc, argument_row)?)?;
+    }
+    Ok(command)
+}
+
+/// The program without its commands, as clap takes it.
+fn bare_program<'a>(alloc: Global) -> Command<'a> {
+    Command::new(alloc, "rt1553-tool")
+        .version(VERSION)
+        .about("What people ask of a profile of a remote terminal")
+        .subcommand_required(true)
+}
+
+/// The program with its commands, as clap takes them.
+fn program<'a>(alloc: Global) -> Result<Command<'a>, AllocError> {
+    let mut program = bare_program(alloc);
+    for row in &COMMANDS {
+        program = program.subcommand(subcommand(alloc, row)?)?;
+    }
+    Ok(program)
+}
+
+/// Reads the arguments of the command line, of which the first is the program's own name. Where they ask for help or for the
+/// version, or clap finds a fault with them, prints what clap says.
+pub fn read_tool_args<'a, R: AllocGlobal + Print + Eprint>(
+    rt: &R,
+    args: &'a [String],
+) -> Result<ToolCommand<'a>, NoCommand> {
+    match program(rt.alloc())?.try_get_matches_from(args) {
+        Ok(matches) => tool_command_of(rt.alloc(), &matches),
+        Err(error) => {
+            if error.kind() == ErrorKind::OutOfMemory {
+                return Err(NoCommand::Memory);
+            }
+            if error.print(rt).is_err() {
+                return Err(NoCommand::Output);
+            }
+            Err(NoCommand::Said(if error.use_stderr() { USAGE } else { 0 }))
+        }
+    }
+}

@@ -1,0 +1,180 @@
+//! What the command line asks for.
+use crate::args::NoCommand;
+use clap::ArgMatches;
+use std::alloc::Global;
+
+/// Which terminal the scripts of `verify` are played to.
+#[derive(Clone, Copy)]
+pub enum Profiles<'a> {
+    /// All to that of this file.
+    One(&'a str),
+    /// Each to that of the file of this folder that its line `# Profile: ` names.
+    Folder(&'a str),
+}
+
+/// How the acceptance test is written.
+#[derive(Clone, Copy)]
+pub enum TestFormat {
+    /// As a script that states its answers.
+    Script,
+    /// As a table, in CSV.
+    Csv,
+    /// As a table, an object of JSON a line.
+    Json,
+}
+
+/// What the command line asks for. The texts are names of files.
+#[derive(Drop)]
+pub enum ToolCommand<'a> {
+    /// All that is wrong with profiles, and what in them has no effect.
+    Lint {
+        files: Vec<&'a str>,
+        as_json: bool,
+    },
+    /// Where terminals don't answer as scripts state.
+    Verify {
+        profiles: Profiles<'a>,
+        scripts: Vec<&'a str>,
+        summary: bool,
+    },
+    /// A small profile that means the same terminal.
+    Toml(&'a str),
+    /// What a terminal does, as a table.
+    Explain {
+        profile: &'a str,
+        as_json: bool,
+    },
+    /// All in which two terminals differ.
+    Differ {
+        profile: &'a str,
+        other: &'a str,
+        scripts: bool,
+        as_json: bool,
+    },
+    /// The acceptance test of a terminal.
+    Acceptance {
+        profile: &'a str,
+        format: TestFormat,
+    },
+    /// The results of a unit compared with the acceptance test of a terminal.
+    Against {
+        profile: &'a str,
+        results: &'a str,
+    },
+    /// A run as a drawing.
+    Draw {
+        profile: &'a str,
+        script: &'a str,
+        html: bool,
+    },
+    /// Words of the bus by their fields, and fields by arguments.
+    Words,
+    /// Lines played as they come.
+    Live(&'a str),
+}
+
+/// The value of an argument that has to be there.
+fn text<'a>(given: &ArgMatches<'a>, id: &str) -> Result<&'a str, NoCommand> {
+    given.get_str(id).ok_or(NoCommand::Usage)
+}
+
+/// The values of an argument; none where it is left out.
+fn texts<'a>(alloc: Global, given: &ArgMatches<'a>, id: &str) -> Result<Vec<&'a str>, NoCommand> {
+    match given.get_strs(id) {
+        Some(values) => Ok(Vec::from_slice(alloc, values)?),
+        None => Ok(Vec::new(alloc)),
+    }
+}
+
+/// Whether JSON is asked for.
+fn as_json(given: &ArgMatches<'_>) -> bool {
+    given.get_str("format") == Some("json")
+}
+
+/// What `verify` is asked for. With a folder of profiles no profile stands before the scripts.
+fn verify<'a>(alloc: Global, given: &ArgMatches<'a>) -> Result<ToolCommand<'a>, NoCommand> {
+    let mut scripts = texts(alloc, given, "script")?;
+    let profiles = match given.get_str("profiles") {
+        Some(folder) => {
+            if let Some(first) = given.get_str("profile") {
+                scripts.insert(0, first)?;
+            }
+            Profiles::Folder(folder)
+        }
+        None => Profiles::One(text(given, "profile")?),
+    };
+    if scripts.is_empty() {
+        return Err(NoCommand::Usage);
+    }
+    Ok(ToolCommand::Verify {
+        profiles,
+        scripts,
+        summary: given.get_flag("summary"),
+    })
+}
+
+/// What `differ` is asked for.
+fn differ<'a>(given: &ArgMatches<'a>) -> Result<ToolCommand<'a>, NoCommand> {
+    Ok(ToolCommand::Differ {
+        profile: text(given, "profile")?,
+        other: text(given, "other")?,
+        scripts: given.get_flag("scripts"),
+        as_json: as_json(given),
+    })
+}
+
+/// How the acceptance test is to be written.
+fn test_format(given: &ArgMatches<'_>) -> TestFormat {
+    match given.get_str("format") {
+        Some("csv") => TestFormat::Csv,
+        Some("json") => TestFormat::Json,
+        _ => TestFormat::Script,
+    }
+}
+
+/// What `acceptance` is asked for. A comparison is told in arguments alone.
+fn acceptance<'a>(given: &ArgMatches<'a>) -> Result<ToolCommand<'a>, NoCommand> {
+    let profile = text(given, "profile")?;
+    match (given.get_str("against"), test_format(given)) {
+        (None, format) => Ok(ToolCommand::Acceptance { profile, format }),
+        (Some(results), TestFormat::Script) => Ok(ToolCommand::Against { profile, results }),
+        (Some(_), _) => Err(NoCommand::Usage),
+    }
+}
+
+/// What `draw` is asked for.
+fn draw<'a>(given: &ArgMatches<'a>) -> Result<ToolCommand<'a>, NoCommand> {
+    Ok(ToolCommand::Draw {
+        profile: text(given, "profile")?,
+        script: text(given, "script")?,
+        html: given.get_flag("html"),
+    })
+}
+
+/// What is asked for by arguments that clap found no fault with.
+pub fn tool_command_of<'a>(
+    alloc: Global,
+    matches: &ArgMatches<'a>,
+) -> Result<ToolCommand<'a>, NoCommand> {
+    let Some((name, given)) = matches.subcommand() else {
+        return Err(NoCommand::Usage);
+    };
+    match name {
+        "lint" => Ok(ToolCommand::Lint {
+            files: texts(alloc, given, "file")?,
+            as_json: as_json(given),
+        }),
+        "verify" => verify(alloc, given),
+        "toml" => Ok(ToolCommand::Toml(text(given, "profile")?)),
+        "explain" => Ok(ToolCommand::Explain {
+            profile: text(given, "profile")?,
+            as_json: as_json(given),
+        }),
+        "differ" => differ(given),
+        "acceptance" => acceptance(given),
+        "draw" => draw(given),
+        "args" => Ok(ToolCommand::Words),
+        "live" => Ok(ToolCommand::Live(text(given, "profile")?)),
+        _ => Err(NoCommand::Usage),
+    }
+}

@@ -1,0 +1,9 @@
+//! The command line of `rt1553-tool`, read by clap into what it asks for.
+#![tactic(auto)]
+
+mod args;
+mod command;
+mod table;
+
+pub use args::{NoCommand, USAGE, read_tool_args};
+pub use command::{Profiles, TestFormat, ToolCommand};

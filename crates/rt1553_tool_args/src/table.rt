@@ -1,0 +1,206 @@
+//! The commands of `rt1553-tool` with their arguments, as `--help` shows them.
+
+/// How an argument is given.
+#[derive(Clone, Copy)]
+pub enum Occurrence {
+    /// Once.
+    Once,
+    /// Once or more often.
+    Often,
+    /// Once, or left out beside the option of this name.
+    OnceOr(&'static str),
+    /// Once or more often, or left out beside the option of this name.
+    OftenOr(&'static str),
+    /// As an option with a value, which may be left out.
+    Value,
+    /// As an option without a value.
+    Flag,
+    /// As an option with this value where it is left out, or one of these.
+    OneOf(&'static str, &'static [&'static str]),
+}
+
+/// An argument of a command.
+#[derive(Clone, Copy)]
+pub struct Argument {
+    /// Its name; that of an option stands behind two hyphens.
+    pub id: &'static str,
+    pub given: Occurrence,
+    /// What stands for its value in the help.
+    pub value: &'static str,
+    pub help: &'static str,
+}
+
+/// A command.
+#[derive(Clone, Copy)]
+pub struct CommandRow {
+    pub name: &'static str,
+    pub about: &'static str,
+    pub example: &'static str,
+    pub arguments: &'static [Argument],
+}
+
+const PROFILE: Argument = Argument {
+    id: "profile",
+    given: Occurrence::Once,
+    value: "P",
+    help: "a profile or a canonical text",
+};
+
+const TEXT_OR_JSON: [&str; 2] = ["text", "json"];
+
+const TEXT_OR_TABLE: [&str; 3] = ["text", "csv", "json"];
+
+const FORMAT: Argument = Argument {
+    id: "format",
+    given: Occurrence::OneOf("text", &TEXT_OR_JSON),
+    value: "FORMAT",
+    help: "how it is written",
+};
+
+const LINT: [Argument; 2] = [
+    Argument {
+        id: "file",
+        given: Occurrence::Often,
+        value: "P",
+        help: "profiles or canonical texts",
+    },
+    FORMAT,
+];
+
+const VERIFY: [Argument; 4] = [
+    Argument {
+        id: "profile",
+        given: Occurrence::OnceOr("profiles"),
+        value: "P",
+        help: "a profile or a canonical text",
+    },
+    Argument {
+        id: "script",
+        given: Occurrence::OftenOr("profiles"),
+        value: "SCRIPT",
+        help: "scripts that state their answers",
+    },
+    Argument {
+        id: "summary",
+        given: Occurrence::Flag,
+        value: "",
+        help: "tells what passes too, clause by clause",
+    },
+    Argument {
+        id: "profiles",
+        given: Occurrence::Value,
+        value: "FOLDER",
+        help: "no P: each script names its profile of FOLDER",
+    },
+];
+
+const EXPLAIN: [Argument; 2] = [PROFILE, FORMAT];
+
+const DIFFER: [Argument; 4] = [
+    PROFILE,
+    Argument {
+        id: "other",
+        given: Occurrence::Once,
+        value: "Q",
+        help: "another",
+    },
+    Argument {
+        id: "scripts",
+        given: Occurrence::Flag,
+        value: "",
+        help: "gives the script that shows it, where there is one",
+    },
+    FORMAT,
+];
+
+const DRAW: [Argument; 3] = [
+    PROFILE,
+    Argument {
+        id: "script",
+        given: Occurrence::Once,
+        value: "SCRIPT",
+        help: "a script",
+    },
+    Argument {
+        id: "html",
+        given: Occurrence::Flag,
+        value: "",
+        help: "a page of its own, with what is legal",
+    },
+];
+
+const ACCEPTANCE: [Argument; 3] = [
+    PROFILE,
+    Argument {
+        id: "against",
+        given: Occurrence::Value,
+        value: "RESULTS",
+        help: "compares the replies of a unit, a table in CSV",
+    },
+    Argument {
+        id: "format",
+        given: Occurrence::OneOf("text", &TEXT_OR_TABLE),
+        value: "FORMAT",
+        help: "how it is written",
+    },
+];
+
+const ONE_PROFILE: [Argument; 1] = [PROFILE];
+
+/// The commands, in the order of the help.
+pub const COMMANDS: [CommandRow; 9] = [
+    CommandRow {
+        name: "lint",
+        about: "Tells all that is wrong with profiles, and what has no effect",
+        example: "Example: rt1553-tool lint pump.toml",
+        arguments: &LINT,
+    },
+    CommandRow {
+        name: "verify",
+        about: "Tells where a terminal doesn't answer as scripts state",
+        example: "Example: rt1553-tool verify pump.toml pump.script",
+        arguments: &VERIFY,
+    },
+    CommandRow {
+        name: "toml",
+        about: "Writes a small profile that means the same terminal",
+        example: "Example: rt1553-tool toml pump.canon > pump.toml",
+        arguments: &ONE_PROFILE,
+    },
+    CommandRow {
+        name: "explain",
+        about: "Tells what a terminal does, as a table",
+        example: "Example: rt1553-tool explain pump.toml",
+        arguments: &EXPLAIN,
+    },
+    CommandRow {
+        name: "differ",
+        about: "Tells all in which two terminals differ",
+        example: "Example: rt1553-tool differ --scripts old.toml new.toml",
+        arguments: &DIFFER,
+    },
+    CommandRow {
+        name: "acceptance",
+        about: "Writes the test that tells a terminal from every other",
+        example: "Example: rt1553-tool acceptance pump.toml > pump.script",
+        arguments: &ACCEPTANCE,
+    },
+    CommandRow {
+        name: "draw",
+        about: "Draws a run: the args on the buses, and what is handed over",
+        example: "Example: rt1553-tool draw pump.toml pump.script > pump.svg",
+        arguments: &DRAW,
+    },
+    CommandRow {
+        name: "args",
+        about: "Tells args of the bus by their fields, and fields by args",
+        example: "Example: printf 'rx 5 3 2\\nc 2862\\n' | rt1553-tool args",
+        arguments: &[],
+    },
+    CommandRow {
+        name: "live",
+        about: "Plays lines as they come, and ends each answer by a dot",
+        example: "Example: printf 'A c 2c02\\nA gap\\nslot\\n' | rt1553-tool live pump.toml",
+        arguments: &ONE_PROFILE,
+    },
+];
