@@ -36,7 +36,7 @@ impl<L: Legality> Terminal<L> {
     ghost use Rattle.terminal_rules.specs.declared.event.Event.TheVariants.{Word as WordEvent};
     ghost use Rattle.bus_word.specs.Word.{valid_word};
     ghost use Rattle.bus_word.specs.declared.word.Kind.TheVariants.{Com, Dat};
-    ghost use Rattle.terminal_rules.specs.Starts.{is_for};
+    ghost use Rattle.terminal_rules.specs.Starts.{is_for_terminal};
     ghost use Rattle.terminal_rules.specs.Ends.{well};
     ghost use Rattle.terminal_rules.specs.Status.{spares, adds_error};
     ghost use Rattle.terminal_rules.specs.Reply.{reply_bus};
@@ -211,16 +211,16 @@ impl<L: Legality> Terminal<L> {
         ensures { ending_of result self.now.in_progress.words.items ≡ gap_ends (own_description L.is_legal self.now) self.now.registers.flags.busy (standing_on bus self.now.in_progress) }
     {
         match self.in_progress.end_at_gap(bus) {
-            GapEnd::Whole(command) => self.verdict(command),
-            GapEnd::Error(command) => Ended::Badly(command),
-            GapEnd::Nothing => Ended::Nothing,
+            GapEnd::Complete(command) => self.verdict(command),
+            GapEnd::InError(command) => Ended::Badly(command),
+            GapEnd::NoEnd => Ended::Nothing,
         }
     }
 
     /// Tells whether a word for the terminal starts a message.
     #[inline(always)]
     fn starts(&self, bus: Bus, word: Raw, ours: bool) -> bool
-        requires { ours ≡ is_for (own_description L.is_legal self.now) word }
+        requires { ours ≡ is_for_terminal (own_description L.is_legal self.now) word }
         ensures { result ≡ starts_by (own_description L.is_legal self.now) word (on_bus bus self.now.heard) (standing_on bus self.now.in_progress) }
     {
         let command = Command::of(word.bits);
@@ -322,7 +322,7 @@ impl<L: Legality> Terminal<L> {
     /// Takes a word on this bus, which has no reply in progress. `ours` says whether it is for the terminal.
     #[inline(always)]
     fn take_word(&mut self, bus: Bus, word: Raw, ours: bool)
-        requires { ours ≡ is_for (own_description L.is_legal self.old) word }
+        requires { ours ≡ is_for_terminal (own_description L.is_legal self.old) word }
         ensures { TakesWord L.is_legal bus word self.old self.new }
     {
         let starts = self.starts(bus, word, ours);
