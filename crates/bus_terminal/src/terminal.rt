@@ -51,7 +51,7 @@ impl<L: Legality> Terminal<L> {
     ghost use Rattle.terminal_state.specs.inner.Buses.{on_bus, with_bus};
     ghost use Rattle.bus_terminal.specs.Answer.{shown_answer, IsSmall};
     ghost use Rattle.bus_terminal.specs.inner.Answer.{shown_sent};
-    ghost use Rattle.bus_terminal.specs.Stands.{StandsAt, own_description, held_word};
+    ghost use Rattle.bus_terminal.specs.Stands.{StandsAt, TakesEvent, AnswersEvent, own_description, held_word};
     ghost use Rattle.bus_terminal.specs.contracts.terminal.Terminal.{the_row};
     ghost use Rattle.bus_terminal.specs.inner.Terminal.{sends_from, ends_at_gap, begins_at_gap, TakesStart, TakesWord, TakesNoise, TakesGap, TakesSlot, TakesWrite};
 
@@ -79,8 +79,8 @@ impl<L: Legality> Terminal<L> {
     /// slot the next word of the reply in progress is sent. All else is not answered.
     #[inline(always)]
     pub fn step(&mut self, event: Event) -> Answer<'_>
-        ensures answer { (P : Description) (h : List Event) → StandsAt L.is_legal P h self.old → shown_answer result ≡ out P h event }
-        ensures* stands { sem 𝓛 (Rests (the_row L.row) self.entry (λ new. (P : Description) (h : List Event) → StandsAt L.is_legal P h self.old → StandsAt L.is_legal P (event ∷ h) new)) }
+        ensures answer { AnswersEvent L.is_legal event self.old (shown_answer result) }
+        ensures* stands { sem 𝓛 (Rests (the_row L.row) self.entry (λ new. TakesEvent L.is_legal event self.old new)) }
         ensures small { IsSmall (shown_answer result) }
     {
         match event {
@@ -105,7 +105,7 @@ impl<L: Legality> Terminal<L> {
     /// most scripts are made, are taken where this is called.
     #[inline(always)]
     pub fn take(&mut self, event: Event)
-        ensures { (P : Description) (h : List Event) → StandsAt L.is_legal P h self.old → StandsAt L.is_legal P (event ∷ h) self.new }
+        ensures { TakesEvent L.is_legal event self.old self.new }
     {
         match event {
             Event::Word(bus, word) => self.hear(bus, word),
@@ -116,7 +116,7 @@ impl<L: Legality> Terminal<L> {
     /// Takes the word of this sync and these bits with the right parity, as nearly all words have it.
     #[inline(always)]
     pub fn take_valid(&mut self, bus: Bus, kind: Kind, bits: u16)
-        ensures { (P : Description) (h : List Event) → StandsAt L.is_legal P h self.old → StandsAt L.is_legal P (WordEvent bus (valid_word kind bits) ∷ h) self.new }
+        ensures { TakesEvent L.is_legal (WordEvent bus (valid_word kind bits)) self.old self.new }
     {
         if self.replies_on(bus) {
             return;
@@ -130,7 +130,7 @@ impl<L: Legality> Terminal<L> {
     /// Takes a word on this bus, if no reply is in progress there.
     #[inline(always)]
     fn hear(&mut self, bus: Bus, word: Raw)
-        ensures { (P : Description) (h : List Event) → StandsAt L.is_legal P h self.old → StandsAt L.is_legal P (WordEvent bus word ∷ h) self.new }
+        ensures { TakesEvent L.is_legal (WordEvent bus word) self.old self.new }
     {
         if !self.replies_on(bus) {
             let ours = word.is_for(self.settings.address, self.settings.broadcast);
@@ -141,7 +141,7 @@ impl<L: Legality> Terminal<L> {
     /// Takes one event of any kind and drops its answer.
     #[inline(never)]
     fn take_any(&mut self, event: Event)
-        ensures { (P : Description) (h : List Event) → StandsAt L.is_legal P h self.old → StandsAt L.is_legal P (event ∷ h) self.new }
+        ensures { TakesEvent L.is_legal event self.old self.new }
     {
         match event {
             Event::Word(bus, word) => self.hear(bus, word),

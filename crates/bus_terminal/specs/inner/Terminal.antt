@@ -14,6 +14,7 @@ use Rattle.terminal_state.specs.declared.registers.Registers.{Registers}
 use Rattle.bus_terminal.specs.declared.terminal.Terminal.{Terminal}
 use Rattle.terminal_rules.specs.History.{Replying, Ending}
 use Rattle.terminal_rules.specs.Buses.{same_bus}
+use Rattle.terminal_rules.specs.Open.{Idle, Collects}
 use Rattle.terminal_rules.specs.Starts.{is_for_terminal}
 use Rattle.terminal_rules.specs.Status.{spares, adds_error}
 use Rattle.terminal_rules.specs.Turn.{is_answered, done_cell}
