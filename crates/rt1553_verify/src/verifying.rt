@@ -1,14 +1,14 @@
 //! What a terminal answers is compared with what a script states.
-ghost use Rattle.std.specs.Prelude.{◌≡◌, ◌≢◌, ◌∷◌, ◌++◌, [], List, Ok, Err, IfOk, IfErr, OnOk, map};
+ghost use Rattle.std.specs.Prelude.{◌≡◌, ◌∷◌, ◌++◌, [], List, IfOk, OnOk, map};
 ghost use Rattle.bus_legal.specs.Description.{Description};
 ghost use Rattle.bus_legal.specs.Parts.{description_in};
 ghost use Rattle.bus_legal.specs.Reach.{reach};
 ghost use Rattle.terminal_rules.specs.declared.event.Event.{Event};
 ghost use Rattle.bus_terminal.specs.Stands.{StandsAt};
-ghost use Rattle.rt1553_verify.specs.Stated.{shown, stated_in};
-ghost use Rattle.rt1553_verify.specs.Verify.{told, differing_at, differing, verified};
+ghost use Rattle.rt1553_verify.specs.Stated.{shown};
+ghost use Rattle.rt1553_verify.specs.Verify.{told, differing_at, differing};
 
-use crate::{Stated, StatedFault, read_stated};
+use crate::Stated;
 use bus_legal::{Legality, Normal};
 use bus_script::write_answer;
 use bus_terminal::Terminal;
@@ -66,14 +66,4 @@ pub fn differences(
         compare(alloc, &mut terminal, stated, &mut found)?;
     }
     Ok(found)
-}
-
-/// Plays a script that states its answers to a terminal from power-up, and tells each event that is not answered so, in
-/// their order. A script is refused by its first fault.
-pub fn verify(alloc: Global, normal: &Normal, script: &[u8]) -> Result<Vec<Difference>, StatedFault>
-    ensures tells { (P : Description) → description_in normal.now ≡ reach P → IfOk result (λ found. verified P script.now ≡ Ok (map told found.items)) }
-    ensures refused { IfErr result (λ fault. fault ≢ StatedFault.Memory → stated_in script.now ≡ Err fault) }
-{
-    let read = read_stated(alloc, script)?;
-    Ok(differences(alloc, normal, read.as_slice())?)
 }
