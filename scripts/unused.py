@@ -91,12 +91,12 @@ def definitions(text):
             yield one[1] or one[2], text[: one.start()] + text[end:]
 
 
-def is_imported(file, stem, name):
-    """Whether a file refers to this definition of a module: by an import, or by the name behind that of the module."""
+def is_imported(file, crate, stem, name):
+    """Whether a file refers to this definition of a module of a crate: by an import, or by the name behind that of the module."""
     for place, names, _ in file.uses:
-        if name in place[1:] and place[place.index(name) - 1] == stem:
+        if crate in place and name in place[1:] and place[place.index(name) - 1] == stem:
             return True
-        if place[-1:] == [stem] and name in names and stands(names[name], file.text):
+        if crate in place and place[-1] == stem and name in names and stands(names[name], file.text):
             return True
         if stem in names and stands(f"{names[stem]}.{name}", file.text):
             return True
@@ -172,8 +172,8 @@ def main():
     for file in files:
         if file.path.suffix == ".antt" and file.path.name not in SOUGHT_BY_NAME:
             for name, others in definitions(file.text):
-                stem = file.path.stem
-                tell(file, name, stands(name, others) or any(is_imported(other, stem, name) for other in files if other is not file))
+                at = (file.crate, file.path.stem, name)
+                tell(file, name, stands(name, others) or any(is_imported(other, *at) for other in files if other is not file))
     code = [file._replace(text=without_clauses(file.text)) for file in files if file.path.suffix == ".rt"]
     callers = [File(path, path.name, path.read_text(errors="replace"), []) for folder in ("library", "bench", "examples")
                for path in sorted((root / folder).rglob("*")) if path.suffix in (".rs", ".rt")]
