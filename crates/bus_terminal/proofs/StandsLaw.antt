@@ -22,13 +22,13 @@ use Rattle.terminal_rules.specs.History.{Replying, NoTurn, Ignored, Noted, noted
 use Rattle.terminal_rules.specs.Reply.{begun, begins_reply, reply_of, reply_now, ignores}
 use Rattle.terminal_rules.specs.Flags.{flag_now}
 use Rattle.terminal_rules.specs.Turn.{is_answered, done_cell, turn_of_gap, turn_of_slot, unless_ignored_turn}
-use Rattle.terminal_rules.specs.Open.{Open, Closed, First, open_now}
-use Rattle.terminal_rules.specs.Starts.{is_for, is_free, is_fresh_broadcast, starts_message, heard_now}
+use Rattle.terminal_rules.specs.Open.{Open, Idle, Collects, open_now}
+use Rattle.terminal_rules.specs.Starts.{is_for_terminal, is_free, is_fresh_broadcast, starts_message, heard_now}
 use Rattle.terminal_rules.specs.Ends.{at_gap, at_entry, unless_ignored}
 use Rattle.terminal_rules.specs.SinceReset.{resets, is_reset, off_now, wrapped, written, either_word, held_now}
 use Rattle.terminal_rules.specs.Status.{spares, adds_error}
 use Rattle.terminal_rules.specs.Past.{note, past}
-use Rattle.terminal_state.specs.inner.Standing.{Standing, Idle, Collects, Words, standing_of, word_leaves, entry_leaves, entry_fails, fails, gap_leaves, gap_ends, stands_free, starts_by}
+use Rattle.terminal_state.specs.inner.Standing.{Standing, Words, standing_of, word_leaves, entry_leaves, entry_fails, fails, gap_leaves, gap_ends, starts_by}
 use Rattle.terminal_state.specs.inner.Registers.{registers_now, registers_after, flags_after, failed_by, started_if, settled, reset_if}
 use Rattle.terminal_rules.specs.inner.Steps.{replies_on, unless_reset, resets_at_gap, sent_one, resets_next, begun_if, dropped_if}
 use Rattle.terminal_state.specs.inner.Replies.{shown_reply}
@@ -88,8 +88,8 @@ gap_is P h b e =
     ∙ (λ j. gap_as b (is_answered (off_law P h b j) (gap_ends_law P (flag_now h Busy) (open_now P h b) j)) (gap_ends_law P (flag_now h Busy) (open_now P h b) j))
 
 heard_word_by : (P : Description) (h : List Noted) (b : Bus) (w : Raw) → heard_on_buses P (word_noted P h b w ∷ h) ≡ heard_after_word P b w (heard_on_buses P h)
-heard_word_by P h A w = heard_choice (is_for P w) (heard_now P h A) (heard_now P h B)
-heard_word_by P h B w = heard_choice_b (is_for P w) (heard_now P h A) (heard_now P h B)
+heard_word_by P h A w = heard_choice (is_for_terminal P w) (heard_now P h A) (heard_now P h B)
+heard_word_by P h B w = heard_choice_b (is_for_terminal P w) (heard_now P h A) (heard_now P h B)
 
 heard_word_law : (P : Description) (h : List Noted) (b : Bus) (w : Raw) → replies_on h b ≡ false → heard_on_buses P (note P h (Word b w) ∷ h) ≡ heard_after_word P b w (heard_on_buses P h)
 heard_word_law P h b w e = ap (λ n. heard_on_buses P (n ∷ h)) (word_is P h b w e) ∙ heard_word_by P h b w
@@ -119,14 +119,14 @@ starts_law : (P : Description) (h : List Noted) (b : Bus) (w : Raw) → word_sta
 starts_law P h b w =
     ap (λ k. starts_message P w k (is_free (open_now P h b)) (is_fresh_broadcast (open_now P h b))) (sym (on_heard P h b))
     ∙ (ap (λ f. starts_message P w (on_bus b (heard_on_buses P h)) f (is_fresh_broadcast (open_now P h b))) (free_law P (open_now P h b))
-    ∙ ap (starts_message P w (on_bus b (heard_on_buses P h)) (stands_free (standing_of P (open_now P h b)))) (fresh_law P (open_now P h b)))
+    ∙ ap (starts_message P w (on_bus b (heard_on_buses P h)) (is_free (standing_of P (open_now P h b)))) (fresh_law P (open_now P h b)))
 
 -- how the message in progress stands after a word, after noise and after a gap
 choice_standing : (P : Description) (x : Bool) (o o' : Open) (s : Standing) → standing_of P o ≡ s → standing_of P (if x then o else o') ≡ (if x then s else standing_of P o')
 choice_standing P true o o' s e = e
 choice_standing P false o o' s e = refl
 
-started_standing : (P : Description) (x : Bool) (c : ℕ) → standing_of P (if x then First c [] else Closed) ≡ (if x then Collects c (Words []) else Idle)
+started_standing : (P : Description) (x : Bool) (c : ℕ) → standing_of P (if x then Collects c [] else Idle) ≡ (if x then Collects c (Words []) else Idle)
 started_standing P true c = refl
 started_standing P false c = refl
 

@@ -19,7 +19,7 @@ use Rattle.terminal_rules.specs.declared.event.Flag.{Flag}
 use Rattle.terminal_rules.specs.declared.event.Flag.TheVariants.{Busy}
 use Rattle.terminal_rules.specs.LookBack.{latest, since}
 use Rattle.terminal_rules.specs.History.{Replying, NoTurn, Noted, noted_as, Entry, Ending, Nothing, Badly, Illegal, Blocked, Done}
-use Rattle.terminal_rules.specs.Open.{Open, Closed, First, Waiting, Second, is_on, transfer, open_now}
+use Rattle.terminal_rules.specs.Open.{Open, Idle, Collects, Waits, Resumes, is_on, transfer, open_now}
 use Rattle.terminal_rules.specs.Reply.{words_after_status, begun, begins_reply, reply_after, reply_of, reply_now, reply_bus}
 use Rattle.terminal_rules.specs.Starts.{heard_now, is_free, is_fresh_broadcast, starts_message, is_meant}
 use Rattle.terminal_rules.specs.Flags.{flag_now}
@@ -41,7 +41,7 @@ is_valid-valid_word k bits = odd_with_parity (ones (low_bits 16 bits))
 
 -- a message that doesn't wait takes data words quietly
 abbrev is_steady : Open → Bool
-is_steady (Waiting c a) = false
+is_steady (Waits c a) = false
 is_steady _ = true
 
 abbrev data_raw : ℕ → Option Raw
@@ -51,16 +51,16 @@ abbrev data_entry : ℕ → Entry
 data_entry d = unheard (data_raw d)
 
 steady_ends : (w : Option Raw) (o : Open) → is_steady o ≡ true → at_entry w o ≡ Nothing
-steady_ends w Closed s = refl
-steady_ends w (First c xs) s = refl
-steady_ends w (Waiting c a) s = cc
-steady_ends w (Second c a xs) s = refl
+steady_ends w Idle s = refl
+steady_ends w (Collects c xs) s = refl
+steady_ends w (Waits c a) s = cc
+steady_ends w (Resumes c xs) s = refl
 
 steady_stays : (x : Entry) (o : Open) → is_steady o ≡ true → is_steady (after_entry x o) ≡ true
-steady_stays x Closed s = refl
-steady_stays x (First c xs) s = refl
-steady_stays x (Waiting c a) s = cc
-steady_stays x (Second c a xs) s = refl
+steady_stays x Idle s = refl
+steady_stays x (Collects c xs) s = refl
+steady_stays x (Waits c a) s = cc
+steady_stays x (Resumes c xs) s = refl
 
 abbrev with_data : List ℕ → Open → Open
 with_data [] o = o
@@ -107,11 +107,11 @@ abbrev data_entries : List ℕ → List Entry → List Entry
 data_entries [] xs = xs
 data_entries (d ∷ ds) xs = data_entries ds (data_entry d ∷ xs)
 
-with_data-first : (ds : List ℕ) (c : ℕ) (xs : List Entry) → with_data ds (First c xs) ≡ First c (data_entries ds xs)
+with_data-first : (ds : List ℕ) (c : ℕ) (xs : List Entry) → with_data ds (Collects c xs) ≡ Collects c (data_entries ds xs)
 with_data-first [] c xs = refl
 with_data-first (d ∷ ds) c xs = with_data-first ds c (data_entry d ∷ xs)
 
-with_data-closed : (ds : List ℕ) → with_data ds Closed ≡ Closed
+with_data-closed : (ds : List ℕ) → with_data ds Idle ≡ Idle
 with_data-closed [] = refl
 with_data-closed (d ∷ ds) = with_data-closed ds
 
@@ -139,12 +139,12 @@ transfer-data P c (d ∷ e ∷ ds) = transfer-longer P c ds (data_entry e) (data
 
 -- nothing is in progress on bus A, its run is empty, no reply is in progress, and the terminal isn't busy
 pub record IsIdle (P : Description) (h : List Noted) : Type 0 where
-  pub closed : open_now P h A ≡ Closed
+  pub closed : open_now P h A ≡ Idle
   pub unused : heard_now P h A ≡ false
   pub silent : (let none : Option Replying = None in reply_now h ≡ none)
   pub ready : flag_now h Busy ≡ false
 
-starts_law : (P : Description) (c : ℕ) (h : List Noted) → open_now P h A ≡ Closed → heard_now P h A ≡ false →
+starts_law : (P : Description) (c : ℕ) (h : List Noted) → open_now P h A ≡ Idle → heard_now P h A ≡ false →
     starts_message P (valid_word Com c) (heard_now P h A) (is_free (open_now P h A)) (is_fresh_broadcast (open_now P h A)) ≡ is_meant P c
 starts_law P c h o n = rw (n, o, is_valid-valid_word Com c) (and-true (is_meant P c))
 
@@ -152,7 +152,7 @@ quiet_on : (P : Description) (h : List Noted) → IsIdle P h → replies_on h A 
 quiet_on P h i = ap (λ r. is_on A (reply_bus r)) i.silent
 
 abbrev first_if : Bool → ℕ → Open
-first_if m c = if m then First c [] else Closed
+first_if m c = if m then Collects c [] else Idle
 
 command_is : (P : Description) (c : ℕ) (h : List Noted) → IsIdle P h → note P h (command_event c) ≡ command_note P c
 command_is P c h i =
@@ -167,7 +167,7 @@ command_open : (P : Description) (c : ℕ) (h : List Noted) → IsIdle P h → o
 command_open P c h i =
     word_law P h A A (valid_word Com c) (is_meant P c) Nothing
     ∙ (ap (after_word A A (valid_word Com c) (is_meant P c)) i.closed
-    ∙ elim (is_meant P c) as (λ m. after_word A A (valid_word Com c) m Closed ≡ first_if m c) [ true ↦ refl | false ↦ refl ])
+    ∙ elim (is_meant P c) as (λ m. after_word A A (valid_word Com c) m Idle ≡ first_if m c) [ true ↦ refl | false ↦ refl ])
 
 dropped_none : (s : Bool) → (let none : Option Replying = None in dropped_if s none ≡ none)
 dropped_none true = refl
@@ -181,7 +181,7 @@ steady_first true c = refl
 steady_first false c = refl
 
 abbrev collected : Bool → Exchange → Open
-collected m x = if m then First x.command (data_entries x.words []) else Closed
+collected m x = if m then Collects x.command (data_entries x.words []) else Idle
 
 collected-if : (m : Bool) (x : Exchange) → with_data x.words (first_if m x.command) ≡ collected m x
 collected-if true x = with_data-first x.words x.command []
@@ -245,7 +245,7 @@ slots_past : (P : Description) (n : ℕ) (h : List Event) → past P (after_slot
 slots_past P zero h = refl
 slots_past P (suc n) h = slots_past P n (Slot ∷ h)
 
-after_gap-collected : (P : Description) (x : Exchange) (m : Bool) → after_gap P (collected m x) ≡ Closed
+after_gap-collected : (P : Description) (x : Exchange) (m : Bool) → after_gap P (collected m x) ≡ Idle
 after_gap-collected P x true = ap waits (transfer-data P x.command x.words)
 after_gap-collected P x false = refl
 

@@ -4,7 +4,7 @@ use Rattle.bus_word.specs.declared.word.Bus.TheVariants.{A}
 use Rattle.bus_word.specs.declared.cell.Cell.TheVariants.{OwnReceive, OwnTransmit}
 use Rattle.terminal_rules.specs.declared.event.Event.TheVariants.{Noise}
 use Rattle.terminal_rules.specs.Out.{HandsReceived}
-use Rattle.terminal_rules.specs.WorkedExamples.Words.{five, five_hearing_all, command, data_word, data_words, invalid, quiet, gap, idle_slot, gap_sends, gap_sends_and_hands, Answers}
+use Rattle.terminal_rules.specs.WorkedExamples.Words.{five, five_hearing_all, command, data_word, data_run, invalid, quiet, gap, idle_slot, gap_sends, gap_sends_and_hands, Answers}
 
 -- transmit status word is answered by the status
 abbrev pub TransmitStatus : Type 0
@@ -45,7 +45,7 @@ one_to_32 = 1 ∷ 2 ∷ 3 ∷ 4 ∷ 5 ∷ 6 ∷ 7 ∷ 8 ∷ 9 ∷ 10 ∷ 11 ∷ 
 -- of a receive command too
 abbrev pub Receive32 : Type 0
 Receive32 = Answers (five (OwnReceive 3 32 ∷ []))
-    (quiet (command A 0x2860) ∷ data_words A one_to_32 ∷ gap_sends_and_hands A 0x2800 (HandsReceived false 3 one_to_32) ∷ [])
+    (quiet (command A 0x2860) ∷ data_run A one_to_32 ∷ gap_sends_and_hands A 0x2800 (HandsReceived false 3 one_to_32) ∷ [])
 
 -- a broadcast is not answered, and the next status tells of it
 abbrev pub BroadcastStatus : Type 0
