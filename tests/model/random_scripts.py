@@ -1,7 +1,7 @@
 """Messages that look random, played to the model of the rules in `rules.py`.
 
     random_scripts.py digests           what scripts/texts.py compares, and a test of crates/rt1553_tests
-    random_scripts.py vectors FOLDER    scripts with their transcripts: the cases slots-NNNN and random-NNN of tests/vectors/scripts
+    random_scripts.py vectors FOLDER    scripts with their transcripts: the cases slots-NNNN of tests/vectors/scripts
 
 The same words give the same numbers, so that both can be made anew and compared.
 """
@@ -193,7 +193,6 @@ def digests():
 # vectors
 
 VECTORS = 16
-CASES = 120
 PROFILE = """\
 address = {address}
 broadcast = {broadcast}
@@ -265,56 +264,6 @@ def write_slots(folder, number):
     write_case(folder, f"slots-{number:04}", text, lines, transcript)
 
 
-# who a cell's commands are to, and which way their data goes
-WAYS = {"own receive": ("own", "receive"), "own transmit": ("own", "transmit"), "broadcast receive": ("broadcast", "receive")}
-
-
-def profile_of(setup, cells):
-    """A profile of address 5 with these legal cells, and with word i of subaddress s, 256 * s + i, where it is transmitted."""
-    rules_of, modes, sent = [], [], {}
-    for kind, *rest in cells:
-        if kind in WAYS:
-            to, direction = WAYS[kind]
-            rules_of.append(f'{{to = "{to}", direction = "{direction}", subaddresses = {rest[0]}, counts = {rest[1]}}}')
-        else:
-            modes.append(f'{{to = "{kind.split()[0]}", codes = {rest[0]}}}')
-        if kind == "own transmit":
-            sent[rest[0]] = max(sent.get(rest[0], 0), rest[1])
-    held = [", ".join(f"0x{256 * s + i:04x}" for i in range(1, count + 1)) for s, count in sent.items()]
-    initial = [f"{{subaddress = {s}, words = [{words}]}}" for s, words in zip(sent, held)]
-    lines = ["address = 5", f"broadcast = {truth(setup.broadcast)}", f"wraparound = {setup.wraparound or 'false'}",
-             f"accept_bus_control = {truth(setup.accept)}", "vector = 0x00aa", "bit = 0x00bb"]
-    for key, entries in (("rule", rules_of), ("mode", modes), ("initial", initial)):
-        if entries:
-            lines.append(f"{key} = [{', '.join(entries)}]")
-    return "\n".join([*lines, ""])
-
-
-def write_random(folder, number):
-    """A case: its profile has just those legal cells that its events ask for."""
-    asked, events, answers = {}, [], []
-
-    def legal(cell):
-        if cell not in asked:
-            asked[cell] = cell in REQUIRED or messages.draw(8) > 0
-        return asked[cell]
-
-    def note(event, answer):
-        events.append(event)
-        answers.append(answer)
-
-    setup = rules.Setup(address=5, legal=legal, broadcast=number % 4 > 0, wraparound=(30, 7, 0, 30, 7)[number % 5],
-                        accept=number % 3 > 0, vector=0x00AA, bit=0x00BB,
-                        initial={(s, i): 256 * s + i for s in range(1, 31) for i in range(1, 33)})
-    messages = Messages(setup, (7, 30), number, note)
-    while len(events) < 30:
-        messages.message()
-    text = profile_of(setup, [cell for cell in asked if asked[cell] and cell not in REQUIRED])
-    terminal = rules.Terminal(play.setup_of(tomllib.loads(text)))
-    assert [terminal.step(event) for event in events] == answers, number
-    write_case(folder, f"random-{number:03}", text, map(line_of, events), map(play.answer_line, filter(None, answers)))
-
-
 def main():
     job, *rest = sys.argv[1:]
     if job == "digests":
@@ -322,8 +271,6 @@ def main():
         return
     for number in range(VECTORS):
         write_slots(pathlib.Path(*rest), number)
-    for number in range(1, CASES + 1):
-        write_random(pathlib.Path(*rest), number)
 
 
 if __name__ == "__main__":
