@@ -7,7 +7,7 @@ use Rattle.terminal_exchanges.specs.declared.exchange.Exchange.{Exchange}
 use Rattle.terminal_exchanges.specs.Values.{exchange_in, IsShort, AreShort}
 use Rattle.bus_complete_test.specs.declared.trial.Trial.{Trial}
 use Rattle.bus_complete_test.specs.declared.trial.Trial.TheVariants.{BroadcastOption, Transmit, Receive, OwnCode, BroadcastReceive, BroadcastCode, Wraparound}
-use Rattle.bus_complete_test.specs.Trials.{IsInRange, trials_left}
+use Rattle.bus_complete_test.specs.Trials.{IsTrialInRange, trials_left}
 use Rattle.rt1553_results.specs.inner.Steps.{is_trial, are_few}
 
 code_below : (code : ℕ) → nat_lt code 32 ≡ true → code < 32
@@ -16,7 +16,7 @@ code_below code e = grind (arith, nat_tests)
 below_code : (code : ℕ) → code < 32 → nat_lt code 32 ≡ true
 below_code code e = grind (arith, nat_tests)
 
-pub in_range : (trial : Trial) → is_trial (Some trial) ≡ true → IsInRange trial
+pub in_range : (trial : Trial) → is_trial (Some trial) ≡ true → IsTrialInRange trial
 in_range BroadcastOption e = tt
 in_range (Transmit s n) e = e
 in_range (Receive s n) e = e
@@ -25,7 +25,7 @@ in_range (BroadcastReceive s n) e = e
 in_range (BroadcastCode code) e = code_below code e
 in_range (Wraparound s) e = e
 
-pub is_trial-in_range : (o : Option Trial) → IfSome o IsInRange → is_trial o ≡ true
+pub is_trial-in_range : (o : Option Trial) → IfSome o IsTrialInRange → is_trial o ≡ true
 is_trial-in_range None e = refl
 is_trial-in_range (Some BroadcastOption) e = refl
 is_trial-in_range (Some (Transmit s n)) e = e
