@@ -66,6 +66,6 @@ pub record Compares (P : Description) (came : ℕ → Option (List ℕ)) (c : Co
   pub within : (n : ℕ) → length (rows_of P) < n → came n ≡ None
 
 -- Why results are not compared with the terminal of P: the row at this line has a number that no exchange has; or memory.
-abbrev pub IsNotCompared : Description → Results → CompareFault → Type 0
-IsNotCompared P results (Beyond line) = (n : ℕ) × (length (rows_of P) < n) × (line_in results n ≡ Some line)
-IsNotCompared P results Memory = Unit {0}
+abbrev pub AreNotCompared : Description → Results → CompareFault → Type 0
+AreNotCompared P results (Beyond line) = (n : ℕ) × (length (rows_of P) < n) × (line_in results n ≡ Some line)
+AreNotCompared P results Memory = Unit {0}

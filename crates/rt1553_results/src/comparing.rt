@@ -3,7 +3,7 @@ ghost use Rattle.std.specs.Prelude.{◌≡◌, ◌≤◌, ◌++◌, ◌∷◌, [
 ghost use Rattle.bus_legal.specs.Parts.{description_in};
 ghost use Rattle.rt1553_results.specs.Handed.{answered_in};
 ghost use Rattle.rt1553_results.specs.Results.{answer, line_in};
-ghost use Rattle.rt1553_results.specs.Compare.{told_reply, replies_told, missing_at, counted, numbers_in, TellsResults, Compares, IsNotCompared};
+ghost use Rattle.rt1553_results.specs.Compare.{told_reply, replies_told, missing_at, counted, numbers_in, TellsResults, Compares, AreNotCompared};
 
 use crate::comparison::{Comparison, NumberRange, WrongReply};
 use crate::playing::TestRow;
@@ -146,7 +146,7 @@ pub fn compare_results(
     results: &Results,
 ) -> Result<Comparison, CompareFault>
     ensures ok { IfOk result (Compares (description_in normal.now) (answer results.now)) }
-    ensures refused { IfErr result (IsNotCompared (description_in normal.now) results.now) }
+    ensures refused { IfErr result (AreNotCompared (description_in normal.now) results.now) }
 {
     let Ok(comparison) = tell(alloc, normal, results) else {
         return Err(CompareFault::Memory);
