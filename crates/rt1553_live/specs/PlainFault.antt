@@ -1,6 +1,6 @@
 -- Faults as plain numbers.
 use Rattle.std.specs.Prelude.{◌≡◌, ℕ, take}
-use Rattle.bus_profile.specs.FaultNames as profile
+use Rattle.bus_profile.specs.FaultNames.{profile_fault_number}
 use Rattle.bus_canon.specs.Fault as canon
 use Rattle.bus_canon.specs.declared.fault.CanonFault.TheVariants as canon_fault
 use Rattle.bus_script.specs.Fault as script
@@ -20,7 +20,7 @@ kind_of (Script fault) = 4
 
 -- its number among the faults of its kind; out of memory has none
 abbrev pub number_of : EngineFault → ℕ
-number_of (Load (Profile fault)) = profile.fault_number fault
+number_of (Load (Profile fault)) = profile_fault_number fault
 number_of (Load (Canon fault)) = canon.canon_fault_number fault
 number_of (Load Memory) = 0
 number_of (Script fault) = script.fault_number fault
