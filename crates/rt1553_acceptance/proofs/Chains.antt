@@ -26,7 +26,7 @@ use Rattle.rt1553_verify.specs.Stated.{StatedEvent, Latest, After, event_of, can
 use Rattle.rt1553_verify.proofs.StatedLaws.{stated-means}
 use Rattle.rt1553_acceptance.specs.Label.{label_of}
 use Rattle.rt1553_acceptance.specs.Text.{answer_stated, event_stated, comment_of, exchanges_stated, fields_stated}
-use Rattle.rt1553_acceptance.specs.Law.{AreAnswered}
+use Rattle.rt1553_acceptance.specs.Law.{AreStatedAnswers}
 use Rattle.rt1553_acceptance.specs.inner.Fits.{Fits, AllFit}
 use Rattle.rt1553_acceptance.proofs.Pieces.{Tells, Tells-nil, Tells-line, Tells-trans, Tells-same}
 use Rattle.rt1553_acceptance.proofs.Feeds.{IsLine, literal, within, joined, digits-line, decimal_digits-line, letter-line, sent_kind-line, label-line, event-line}
@@ -195,7 +195,7 @@ pub record Chain (P : Description) (n m : ℕ) (h : List Event) (text : List ℕ
   pub tells : Tells n m text latest later said
   pub splits : said ++ ended later ≡ ended latest ++ stated
   pub events : map event_of stated ≡ es
-  pub answers : AreAnswered P h stated
+  pub answers : AreStatedAnswers P h stated
 
 abbrev Chained : Description → ℕ → List Event → List ℕ → Latest → List Event → ℕ → Type 0
 Chained P n h text latest es most = (m : ℕ) × (later : Latest) × Chain P n m h text latest later es × (m ≤ most)
@@ -203,7 +203,7 @@ Chained P n h text latest es most = (m : ℕ) × (later : Latest) × Chain P n m
 Chain-nil : (P : Description) (n : ℕ) (h : List Event) (latest : Latest) → Chain P n n h [] latest latest []
 Chain-nil P n h latest = record { said = []; stated = []; tells = Tells-nil n latest; splits = sym (append-nil (ended latest)); events = refl; answers = tt }
 
-answered-append : (P : Description) (h : List Event) (ss ts : List StatedEvent) → AreAnswered P h ss → AreAnswered P (history_after (map event_of ss) h) ts → AreAnswered P h (ss ++ ts)
+answered-append : (P : Description) (h : List Event) (ss ts : List StatedEvent) → AreStatedAnswers P h ss → AreStatedAnswers P (history_after (map event_of ss) h) ts → AreStatedAnswers P h (ss ++ ts)
 answered-append P h [] ts a b = b
 answered-append P h (s ∷ ss) ts a b = (a.0, answered-append P (s.event ∷ h) ss ts a.1 b)
 
@@ -216,7 +216,7 @@ Chain-trans {P = P} {h = h} {a = a} {b = b} {c = c} p q = record {
   splits = append_assoc p.said q.said (ended c) ∙ ap (λ xs. p.said ++ xs) q.splits ∙ sym (append_assoc p.said (ended b) q.stated)
       ∙ ap (λ xs. xs ++ q.stated) p.splits ∙ append_assoc (ended a) p.stated q.stated;
   events = map-append event_of p.stated q.stated ∙ (λ j. p.events j ++ q.events j);
-  answers = answered-append P h p.stated q.stated p.answers (subst (λ xs. AreAnswered P (history_after xs h) q.stated) (sym p.events) q.answers);
+  answers = answered-append P h p.stated q.stated p.answers (subst (λ xs. AreStatedAnswers P (history_after xs h) q.stated) (sym p.events) q.answers);
 }
 
 -- an event, and what is stated of its answer

@@ -19,7 +19,7 @@ use Rattle.terminal_complete_test.proofs.Complete.{complete_test_law}
 use Rattle.rt1553_verify.specs.Stated.{StatedEvent, event_of, stated_in}
 use Rattle.rt1553_verify.specs.Verify.{Told, told_of, differing, by_script, verified}
 use Rattle.rt1553_acceptance.specs.Text.{acceptance_text}
-use Rattle.rt1553_acceptance.specs.Law.{AreAnswered, IsAcceptanceTest}
+use Rattle.rt1553_acceptance.specs.Law.{AreStatedAnswers, IsAcceptanceTest}
 use Rattle.rt1553_acceptance.specs.inner.Fits.{Fits, AllFit}
 use Rattle.rt1553_acceptance.proofs.Pieces.{Tells-all}
 use Rattle.rt1553_acceptance.proofs.Digits.{same_digits}
@@ -107,12 +107,12 @@ told-none s came more e = pick (bytes_eq came s.answer) refl e
     pick false is e = absurd (cc)
 
 -- nothing differs where just the answers of a terminal are stated
-none-differs : (Q : Description) (h : List Event) (ss : List StatedEvent) → AreAnswered Q h ss → differing Q h ss ≡ []
+none-differs : (Q : Description) (h : List Event) (ss : List StatedEvent) → AreStatedAnswers Q h ss → differing Q h ss ≡ []
 unfolding differing
 none-differs Q h [] are = refl
 none-differs Q h (s ∷ ss) are = ap (λ xs. xs ++ differing Q (s.event ∷ h) ss) (told-same s (text_at Q h s.event) are.0) ∙ none-differs Q (s.event ∷ h) ss are.1
 
-all-answered : (Q : Description) (h : List Event) (ss : List StatedEvent) → differing Q h ss ≡ [] → AreAnswered Q h ss
+all-answered : (Q : Description) (h : List Event) (ss : List StatedEvent) → differing Q h ss ≡ [] → AreStatedAnswers Q h ss
 unfolding differing
 all-answered Q h [] e = tt
 all-answered Q h (s ∷ ss) e =
@@ -120,7 +120,7 @@ all-answered Q h (s ∷ ss) e =
     (p.0, all-answered Q (s.event ∷ h) ss p.1)
 
 -- terminals of which the same answers are stated send the same words
-same-sent : (P Q : Description) (h : List Event) (ss : List StatedEvent) → AreAnswered P h ss → AreAnswered Q h ss → AllFit P h (map event_of ss)
+same-sent : (P Q : Description) (h : List Event) (ss : List StatedEvent) → AreStatedAnswers P h ss → AreStatedAnswers Q h ss → AllFit P h (map event_of ss)
     → map sent_in (outs_from Q h (map event_of ss)) ≡ map sent_in (outs_from P h (map event_of ss))
 same-sent P Q h [] p q fits = refl
 same-sent P Q h (s ∷ ss) p q fits =
@@ -128,8 +128,8 @@ same-sent P Q h (s ∷ ss) p q fits =
     let later = same-sent P Q (s.event ∷ h) ss p.1 q.1 fits.1 in (λ j. here j ∷ later j)
 
 -- of terminals that answer alike the same answers are stated
-same-answered : (P Q : Description) (h : List Event) (ss : List StatedEvent) → AreAnswered P h ss
-    → outs_from Q h (map event_of ss) ≡ outs_from P h (map event_of ss) → AreAnswered Q h ss
+same-answered : (P Q : Description) (h : List Event) (ss : List StatedEvent) → AreStatedAnswers P h ss
+    → outs_from Q h (map event_of ss) ≡ outs_from P h (map event_of ss) → AreStatedAnswers Q h ss
 same-answered P Q h [] are same = tt
 same-answered P Q h (s ∷ ss) are same =
     let here : out Q h s.event ≡ out P h s.event = cc in

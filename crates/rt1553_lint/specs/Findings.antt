@@ -21,8 +21,8 @@ faults_in (f ∷ fs) = fault_before f.fault (faults_in fs)
 -- the number and the name of a fault, among those of its type
 abbrev pub number_of : Fault → ℕ
 number_of (Profile fault) = profile_fault_number fault
-number_of (Canon fault) = canon.fault_number fault
+number_of (Canon fault) = canon.canon_fault_number fault
 
 abbrev pub name_of : Fault → List ℕ
 name_of (Profile fault) = profile_fault_name fault
-name_of (Canon fault) = canon.fault_name fault
+name_of (Canon fault) = canon.canon_fault_name fault

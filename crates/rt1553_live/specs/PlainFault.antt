@@ -21,7 +21,7 @@ kind_of (Script fault) = 4
 -- its number among the faults of its kind; out of memory has none
 abbrev pub number_of : EngineFault → ℕ
 number_of (Load (Profile fault)) = profile_fault_number fault
-number_of (Load (Canon fault)) = canon.fault_number fault
+number_of (Load (Canon fault)) = canon.canon_fault_number fault
 number_of (Load Memory) = 0
 number_of (Script fault) = script.fault_number fault
 

@@ -5,13 +5,13 @@ use Rattle.terminal_exchanges.specs.declared.exchange.Exchange.{Exchange}
 use Rattle.terminal_exchanges.specs.Values.{IsShort, AreShort}
 use Rattle.bus_complete_test.specs.declared.trial.Trial.{Trial}
 use Rattle.bus_complete_test.specs.declared.trial.Trial.TheVariants.{BroadcastOption, Transmit, Receive, OwnCode, BroadcastReceive, BroadcastCode, Wraparound}
-use Rattle.bus_complete_test.specs.Trials.{IsInRange}
+use Rattle.bus_complete_test.specs.Trials.{IsTrialInRange}
 use Rattle.rt1553_results.specs.inner.Steps.{is_trial, are_few}
 
 below_code : (code : ℕ) → code < 32 → nat_lt code 32 ≡ true
 below_code code e = grind (arith, nat_tests)
 
-pub is_trial-in_range : (o : Option Trial) → IfSome o IsInRange → is_trial o ≡ true
+pub is_trial-in_range : (o : Option Trial) → IfSome o IsTrialInRange → is_trial o ≡ true
 is_trial-in_range None e = refl
 is_trial-in_range (Some BroadcastOption) e = refl
 is_trial-in_range (Some (Transmit s n)) e = e
