@@ -21,7 +21,8 @@ pub fn bus_letter(bus: Bus) -> &'static str
     }
 }
 
-fn flag_name(flag: Flag) -> &'static str
+/// The name of a flag in a script.
+pub fn flag_name(flag: Flag) -> &'static str
     ensures { result.now ≡ flag_name flag }
 {
     match flag {

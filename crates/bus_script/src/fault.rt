@@ -23,11 +23,11 @@ pub enum RunFault {
 
 impl RunFault {
     ghost use Rattle.std.specs.Prelude.{◌≡◌};
-    ghost use Rattle.bus_script.specs.Fault.{fault_number, fault_name};
+    ghost use Rattle.bus_script.specs.Fault.{run_fault_number, run_fault_name};
 
     /// The number of the fault among those of a run, from 1.
     pub fn number(&self) -> u8
-        ensures { result ≡ fault_number self.now }
+        ensures { result ≡ run_fault_number self.now }
     {
         match self {
             RunFault::Line(_) => 1,
@@ -40,7 +40,7 @@ impl RunFault {
 
     /// The name of the fault.
     pub fn name(&self) -> &'static str
-        ensures { result.now ≡ fault_name self.now }
+        ensures { result.now ≡ run_fault_name self.now }
     {
         match self {
             RunFault::Line(_) => "Line",
