@@ -4,7 +4,7 @@ use thiserror::Error;
 /// Why a script is not run to its end. Lines are numbered from 1.
 #[derive(Clone, Copy, Debug, PartialEq, Eq, Error)]
 pub enum RunFault {
-    /// This line, of at most 64 bytes, is none of a script.
+    /// This line, of at most 64 bytes, is not a script line.
     #[error("script: line {0}")]
     Line(u64),
     /// This line has over 64 bytes before its line feed.
