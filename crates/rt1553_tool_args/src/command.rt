@@ -67,7 +67,7 @@ pub enum ToolCommand<'a> {
         script: &'a str,
         html: bool,
     },
-    /// Words of the bus by their fields, and fields by arguments.
+    /// Words of the bus by their fields, and fields by words.
     Words,
     /// Lines played as they come.
     Live(&'a str),
@@ -132,7 +132,7 @@ fn test_format(given: &ArgMatches<'_>) -> TestFormat {
     }
 }
 
-/// What `acceptance` is asked for. A comparison is told in arguments alone.
+/// What `acceptance` is asked for. A comparison is written as text alone.
 fn acceptance<'a>(given: &ArgMatches<'a>) -> Result<ToolCommand<'a>, NoCommand> {
     let profile = text(given, "profile")?;
     match (given.get_str("against"), test_format(given)) {
@@ -173,7 +173,7 @@ pub fn tool_command_of<'a>(
         "differ" => differ(given),
         "acceptance" => acceptance(given),
         "draw" => draw(given),
-        "args" => Ok(ToolCommand::Words),
+        "words" => Ok(ToolCommand::Words),
         "live" => Ok(ToolCommand::Live(text(given, "profile")?)),
         _ => Err(NoCommand::Usage),
     }
