@@ -16,8 +16,8 @@ use Rattle.terminal_complete_test.specs.CompleteTest.{complete_test, tried}
 use Rattle.bus_script.specs.Digits.{digits_of}
 use Rattle.bus_script.specs.Transcript.{sent_text, hand_text, answer_text, text_at}
 use Rattle.terminal_complete_test.proofs.Complete.{complete_test_law}
-use Rattle.rt1553_verify.specs.Stated.{StatedEvent, event_of, stated_in}
-use Rattle.rt1553_verify.specs.Verify.{Told, told_of, differing, by_script, verified}
+use Rattle.rt1553_verify.specs.Stated.{StatedEvent, stated_in}
+use Rattle.rt1553_verify.specs.Verify.{ToldAnswer, answers_told, wrong_answers_from, by_script, verified}
 use Rattle.rt1553_acceptance.specs.Text.{acceptance_text}
 use Rattle.rt1553_acceptance.specs.Law.{AreStatedAnswers, IsAcceptanceTest}
 use Rattle.rt1553_acceptance.specs.inner.Fits.{Fits, AllFit}
@@ -89,17 +89,17 @@ same_word (HandsOver h) (HandsOver k) fits e = refl
 
 -- ---- what is told
 
-abbrev told_if : Bool → StatedEvent → List ℕ → List Told
+abbrev told_if : Bool → StatedEvent → List ℕ → List ToldAnswer
 told_if same s came = if same then [] else record { line = s.line; expected = s.answer; came = came } ∷ []
 
-told-same : (s : StatedEvent) (came : List ℕ) → s.answer ≡ came → told_of s came ≡ []
+told-same : (s : StatedEvent) (came : List ℕ) → s.answer ≡ came → answers_told s came ≡ []
 told-same s came same = pick (bytes_eq came s.answer) ((bytes_eq-Decides came s.answer).1 (sym same))
   where
     pick : (b : Bool) → b ≡ true → told_if b s came ≡ []
     pick true e = refl
     pick false e = absurd (cc)
 
-told-none : (s : StatedEvent) (came : List ℕ) (more : List Told) → told_of s came ++ more ≡ [] → (s.answer ≡ came) × (more ≡ [])
+told-none : (s : StatedEvent) (came : List ℕ) (more : List ToldAnswer) → answers_told s came ++ more ≡ [] → (s.answer ≡ came) × (more ≡ [])
 told-none s came more e = pick (bytes_eq came s.answer) refl e
   where
     pick : (b : Bool) → bytes_eq came s.answer ≡ b → told_if b s came ++ more ≡ [] → (s.answer ≡ came) × (more ≡ [])
@@ -107,21 +107,21 @@ told-none s came more e = pick (bytes_eq came s.answer) refl e
     pick false is e = absurd (cc)
 
 -- nothing differs where just the answers of a terminal are stated
-none-differs : (Q : Description) (h : List Event) (ss : List StatedEvent) → AreStatedAnswers Q h ss → differing Q h ss ≡ []
-unfolding differing
+none-differs : (Q : Description) (h : List Event) (ss : List StatedEvent) → AreStatedAnswers Q h ss → wrong_answers_from Q h ss ≡ []
+unfolding wrong_answers_from
 none-differs Q h [] are = refl
-none-differs Q h (s ∷ ss) are = ap (λ xs. xs ++ differing Q (s.event ∷ h) ss) (told-same s (text_at Q h s.event) are.0) ∙ none-differs Q (s.event ∷ h) ss are.1
+none-differs Q h (s ∷ ss) are = ap (λ xs. xs ++ wrong_answers_from Q (s.event ∷ h) ss) (told-same s (text_at Q h s.event) are.0) ∙ none-differs Q (s.event ∷ h) ss are.1
 
-all-answered : (Q : Description) (h : List Event) (ss : List StatedEvent) → differing Q h ss ≡ [] → AreStatedAnswers Q h ss
-unfolding differing
+all-answered : (Q : Description) (h : List Event) (ss : List StatedEvent) → wrong_answers_from Q h ss ≡ [] → AreStatedAnswers Q h ss
+unfolding wrong_answers_from
 all-answered Q h [] e = tt
 all-answered Q h (s ∷ ss) e =
-    let p = told-none s (text_at Q h s.event) (differing Q (s.event ∷ h) ss) e in
+    let p = told-none s (text_at Q h s.event) (wrong_answers_from Q (s.event ∷ h) ss) e in
     (p.0, all-answered Q (s.event ∷ h) ss p.1)
 
 -- terminals of which the same answers are stated send the same words
-same-sent : (P Q : Description) (h : List Event) (ss : List StatedEvent) → AreStatedAnswers P h ss → AreStatedAnswers Q h ss → AllFit P h (map event_of ss)
-    → map sent_in (outs_from Q h (map event_of ss)) ≡ map sent_in (outs_from P h (map event_of ss))
+same-sent : (P Q : Description) (h : List Event) (ss : List StatedEvent) → AreStatedAnswers P h ss → AreStatedAnswers Q h ss → AllFit P h (map (λ s. s.event) ss)
+    → map sent_in (outs_from Q h (map (λ s. s.event) ss)) ≡ map sent_in (outs_from P h (map (λ s. s.event) ss))
 same-sent P Q h [] p q fits = refl
 same-sent P Q h (s ∷ ss) p q fits =
     let here = sym (same_word (out P h s.event) (out Q h s.event) fits.0 (sym p.0 ∙ q.0)) in
@@ -129,11 +129,11 @@ same-sent P Q h (s ∷ ss) p q fits =
 
 -- of terminals that answer alike the same answers are stated
 same-answered : (P Q : Description) (h : List Event) (ss : List StatedEvent) → AreStatedAnswers P h ss
-    → outs_from Q h (map event_of ss) ≡ outs_from P h (map event_of ss) → AreStatedAnswers Q h ss
+    → outs_from Q h (map (λ s. s.event) ss) ≡ outs_from P h (map (λ s. s.event) ss) → AreStatedAnswers Q h ss
 same-answered P Q h [] are same = tt
 same-answered P Q h (s ∷ ss) are same =
     let here : out Q h s.event ≡ out P h s.event = cc in
-    let later : outs_from Q (s.event ∷ h) (map event_of ss) ≡ outs_from P (s.event ∷ h) (map event_of ss) = cc in
+    let later : outs_from Q (s.event ∷ h) (map (λ s. s.event) ss) ≡ outs_from P (s.event ∷ h) (map (λ s. s.event) ss) = cc in
     (are.0 ∙ ap answer_text (sym here), same-answered P Q (s.event ∷ h) ss are.1 later)
 
 -- ---- the test
@@ -153,7 +153,7 @@ acceptance-law v normal fits =
       own = own;
       others = λ w other. let Q = description_in w in (
         (λ passes.
-            let none : differing Q [] chain.stated ≡ [] = let e = sym (ap (by_script Q) reads) ∙ passes in cc in
+            let none : wrong_answers_from Q [] chain.stated ≡ [] = let e = sym (ap (by_script Q) reads) ∙ passes in cc in
             let same = same-sent P Q [] chain.stated chain.answers (all-answered Q [] chain.stated none) (subst (AllFit P []) (sym chain.events) fits) in
             (complete_test_law.seen v w normal other).0 (ap (λ es. map sent_in (outs_from Q [] es)) (sym chain.events) ∙ same ∙ ap (λ es. map sent_in (outs_from P [] es)) chain.events)),
         (λ alike.

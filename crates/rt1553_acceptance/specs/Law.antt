@@ -6,7 +6,7 @@ use Rattle.terminal_rules.specs.declared.event.Event.{Event}
 use Rattle.terminal_rules.specs.Same.{Same}
 use Rattle.terminal_complete_test.specs.CompleteTest.{complete_test}
 use Rattle.bus_script.specs.Transcript.{text_at}
-use Rattle.rt1553_verify.specs.Stated.{StatedEvent, event_of, stated_in}
+use Rattle.rt1553_verify.specs.Stated.{StatedEvent, stated_in}
 use Rattle.rt1553_verify.specs.Verify.{verified}
 
 -- of each event, after a history, just the answer of the terminal of P is stated
@@ -20,7 +20,7 @@ AreStatedAnswers P h (s ∷ ss) = (s.answer ≡ text_at P h s.event) × AreState
 pub record IsAcceptanceTest (P : Description) (text : List ℕ) : Type 0 where
   pub stated : List StatedEvent
   pub reads : stated_in text ≡ Ok stated
-  pub events : map event_of stated ≡ complete_test P
+  pub events : map (λ s. s.event) stated ≡ complete_test P
   pub answers : AreStatedAnswers P [] stated
   pub own : verified P text ≡ Ok []
   pub others : (v : Parts) → IsNormal v → (verified (description_in v) text ≡ Ok []) ↔ Same (description_in v) P

@@ -7,12 +7,12 @@ use Rattle.toml.specs.Parse.{parse_document}
 use Rattle.bus_profile.specs.AllFaults.{told_faults}
 use Rattle.bus_profile.specs.Read.{IsTree}
 use Rattle.bus_profile.specs.declared.fault.ProfileFault.{ProfileFault}
-use Rattle.rt1553_lint.specs.declared.finding.Fault.{Fault}
-use Rattle.rt1553_lint.specs.declared.finding.Fault.TheVariants.{Profile, Canon}
+use Rattle.rt1553_lint.specs.declared.finding.LintFault.{LintFault}
+use Rattle.rt1553_lint.specs.declared.finding.LintFault.TheVariants.{Profile, Canon}
 use Rattle.rt1553_lint.specs.declared.finding.Finding.{Finding}
 use Rattle.rt1553_lint.specs.Findings.{fault_before, faults_in}
 
-fault_before-append : (o : Option Fault) (rest more : List ProfileFault) → fault_before o (rest ++ more) ≡ fault_before o rest ++ more
+fault_before-append : (o : Option LintFault) (rest more : List ProfileFault) → fault_before o (rest ++ more) ≡ fault_before o rest ++ more
 fault_before-append (Some (Profile fault)) rest more = refl
 fault_before-append (Some (Canon fault)) rest more = refl
 fault_before-append None rest more = refl

@@ -7,7 +7,7 @@ ghost use Rattle.bus_profile.specs.AllFaults.{told_faults};
 ghost use Rattle.rt1553_lint.specs.Findings.{faults_in};
 
 use crate::errors::{MOST_BYTES, errors_of};
-use crate::finding::{Fault, Finding};
+use crate::finding::{Finding, LintFault};
 use crate::lines::{position_at, position_of_line};
 use crate::warnings::push_warnings;
 use bus_canon::CanonFault;
@@ -40,7 +40,7 @@ fn canon_finding(alloc: Global, text: &[u8], fault: CanonFault) -> Result<Findin
     };
     Ok(Finding {
         position: Some(position),
-        fault: Some(Fault::Canon(fault)),
+        fault: Some(LintFault::Canon(fault)),
         message: format!(in alloc; "{fault}")?,
     })
 }
@@ -54,7 +54,7 @@ fn syntax_finding(alloc: Global, text: &[u8], error: &Error) -> Result<Finding, 
     };
     Ok(Finding {
         position,
-        fault: Some(Fault::Profile(fault)),
+        fault: Some(LintFault::Profile(fault)),
         message: format!(in alloc; "{fault}: {}", error.message())?,
     })
 }

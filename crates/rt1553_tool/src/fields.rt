@@ -114,7 +114,7 @@ pub fn status_fields(bits: u16) -> StatusFields
 }
 
 /// The bits of the status word of these fields.
-pub fn status_bits(fields: StatusFields) -> u16
+pub fn status_word_bits(fields: StatusFields) -> u16
     requires address { fields.address ≤ 31 }
     requires reserved { fields.reserved ≤ 7 }
     ensures { HasStatusFields result fields }
@@ -138,7 +138,7 @@ pub fn word_with(fields: WordFields) -> Raw
 {
     match fields {
         WordFields::Command(command) => Raw::of(Kind::Com, command_bits(command)),
-        WordFields::Status(status) => Raw::of(Kind::Com, status_bits(status)),
+        WordFields::Status(status) => Raw::of(Kind::Com, status_word_bits(status)),
         WordFields::Data(bits) => Raw::of(Kind::Dat, bits),
     }
 }

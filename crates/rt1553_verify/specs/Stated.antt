@@ -21,9 +21,6 @@ pub record StatedEvent : Type 0 where
 abbrev pub shown : Stated → StatedEvent
 shown s = record { line = s.line; event = s.event; answer = s.answer.items }
 
-abbrev pub event_of : StatedEvent → Event
-event_of s = s.event
-
 abbrev pub is_empty : List ℕ → Bool
 is_empty [] = true
 is_empty (b ∷ bytes) = false
@@ -73,14 +70,14 @@ or_misplaced n None = Err (Misplaced n)
 or_misplaced n (Some s) = Ok (stays (Some s))
 
 -- a line that states no answer: an event, nothing, or none of a script
-abbrev pub plain : ℕ → Latest → Result (Option Event) LineFault → Result After StatedFault
-plain n latest (Err fault) = Err (Line n)
-plain n latest (Ok None) = Ok (stays latest)
-plain n latest (Ok (Some e)) = Ok (record { events = ended latest; latest = Some (record { line = n; event = e; answer = [] }) })
+abbrev pub unstated_line : ℕ → Latest → Result (Option Event) LineFault → Result After StatedFault
+unstated_line n latest (Err fault) = Err (Line n)
+unstated_line n latest (Ok None) = Ok (stays latest)
+unstated_line n latest (Ok (Some e)) = Ok (record { events = ended latest; latest = Some (record { line = n; event = e; answer = [] }) })
 
 abbrev pub by_going_on : ℕ → Latest → List ℕ → Option (List ℕ) → Result After StatedFault
 by_going_on n latest line (Some rest) = or_misplaced n (goes_on latest rest)
-by_going_on n latest line None = plain n latest (meaning line)
+by_going_on n latest line None = unstated_line n latest (meaning line)
 
 abbrev pub by_answer : ℕ → Latest → List ℕ → Option (List ℕ) → Result After StatedFault
 by_answer n latest line (Some answer) = or_misplaced n (states latest answer)
