@@ -4,7 +4,8 @@
     scripts/names.py [ROOT]
 
 Finds types and public functions of crates/*/src whose name stands in two crates, and likewise definitions of crates/*/specs; types
-that a crate lets out and that docs/glossary.md doesn't list once, or lists though they are gone; and phrases in the pages that have a
+that a crate lets out and that docs/glossary.md doesn't list once, or names that it lists though neither a type nor a record of specs/
+has them; and phrases in the pages that have a
 better word. A function may have the name of the definition that it computes. ALIKE has the names that may stand twice, each with the
 reason. ROOT is the repository, by default that of this script. Prints what it finds, and at last 'N passed, M failed', where N and M
 count names and pages.
@@ -16,6 +17,7 @@ import sys
 
 TYPE = re.compile(r"^(?:pub(?:\(\w+\))? )?(?:struct|enum|trait|union|type) (\w+)", re.M)
 FUNCTION = re.compile(r'^pub (?:const |unsafe |extern "C" )*fn (\w+)', re.M)
+RECORD = re.compile(r"^(?:(?:abbrev|unfoldable) )*pub (?:record|data) ([^\s:]+)", re.M)
 DEFINITION = re.compile(r"^(?:(?:abbrev|unfoldable) )*pub (?:(?:record|data) )?(?!use\b|mod\b)([^\s:]+)", re.M)
 EXPORT = re.compile(r"^pub use ([\w:]+?)(?:::\{([^}]*)\})?;", re.M)
 
@@ -90,8 +92,9 @@ def main():
         count(len(crates) > 1 and name not in ALIKE, f"{name} stands in {', '.join(sorted(crates))}")
     rows = listed(root)
     types = {name for crate in (root / "crates").iterdir() for name in let_out(crate)}
+    values = {name for name, _ in named(root, "specs", ".antt", RECORD)}
     for name in sorted(types | set(rows)):
-        count(name not in types, f"docs/glossary.md: no crate lets out a type {name}")
+        count(name not in types | values, f"docs/glossary.md: nothing is called {name}")
         count(rows[name] != 1, f"docs/glossary.md: {name} is listed {rows[name]} times")
     for path in pages(root):
         text, place = " ".join(path.read_text().split()), str(path.relative_to(root))
