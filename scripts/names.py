@@ -4,11 +4,10 @@
     scripts/names.py [ROOT]
 
 Finds types and public functions of crates/*/src whose name stands in two crates, and likewise definitions of crates/*/specs; types
-that a crate lets out and that docs/glossary.md doesn't list once, or names that it lists though neither a type nor a record of specs/
-has them; and phrases in the pages that have a
-better word. A function may have the name of the definition that it computes. ALIKE has the names that may stand twice, each with the
-reason. ROOT is the repository, by default that of this script. Prints what it finds, and at last 'N passed, M failed', where N and M
-count names and pages.
+that a crate lets out and that docs/glossary.md doesn't list once, and names that it lists though no type or record has them; and phrases
+in the pages that have a better word. A function may have the name of the definition that it computes. ALIKE has the names that may
+stand twice, each with the reason. ROOT is the repository, by default that of this script. Prints what it finds, and at last
+'N passed, M failed', where N and M count names and pages.
 """
 import collections
 import pathlib
