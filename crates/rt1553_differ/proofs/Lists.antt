@@ -3,10 +3,10 @@ use Rattle.std.proofs.Common.{◌≡◌, ◌<◌, ◌+◌, ◌-◌, ℕ, suc, no
 use Rattle.std.proofs.lemmas.List.Elements.{filter-append}
 use Rattle.bus_legal.specs.Parts.{Parts, description_in}
 use Rattle.bus_canon.specs.declared.difference.Difference.{Difference}
-use Rattle.rt1553_differ.specs.Told.{differ, follows, told, in_row, in_rows}
+use Rattle.rt1553_differ.specs.Told.{differ, follows, told_differences, in_row, in_rows}
 
-pub told-append : (v w : Parts) (ds es : List Difference) → told v w (ds ++ es) ≡ told v w ds ++ told v w es
-unfolding told
+pub told-append : (v w : Parts) (ds es : List Difference) → told_differences v w (ds ++ es) ≡ told_differences v w ds ++ told_differences v w es
+unfolding told_differences
 told-append v w ds es = filter-append (λ d. differ (description_in v) (description_in w) d && not (follows v w d)) ds es
 
 row-suc : (kind : ℕ → Difference) (n m k : ℕ) → m ≡ suc k → in_row kind n m ≡ (kind n ∷ []) ++ in_row kind (n + 1) k
@@ -19,32 +19,32 @@ rows-suc kind s m k e = ap (in_rows kind s) e ∙ (let next : suc s ≡ s + 1 = 
 
 -- what was added, and what is left
 step : (v w : Parts) (new old all : List Difference) (here left whole : List Difference) → whole ≡ here ++ left
-    → new ≡ old ++ told v w here → old ++ told v w whole ≡ all → new ++ told v w left ≡ all
+    → new ≡ old ++ told_differences v w here → old ++ told_differences v w whole ≡ all → new ++ told_differences v w left ≡ all
 step v w new old all here left whole parts added kept =
-    ap (λ xs. xs ++ told v w left) added ∙ (append_assoc old (told v w here) (told v w left)
-    ∙ (ap (λ xs. old ++ xs) (sym (told-append v w here left) ∙ ap (told v w) (sym parts)) ∙ kept))
+    ap (λ xs. xs ++ told_differences v w left) added ∙ (append_assoc old (told_differences v w here) (told_differences v w left)
+    ∙ (ap (λ xs. old ++ xs) (sym (told-append v w here left) ∙ ap (told_differences v w) (sym parts)) ∙ kept))
 
 -- one number more of a row that ends before this number
 pub row_step : (v w : Parts) (kind : ℕ → Difference) (stop n : ℕ) (new old all : List Difference) → n < stop
-    → new ≡ old ++ told v w (kind n ∷ []) → old ++ told v w (in_row kind n (stop - n)) ≡ all → new ++ told v w (in_row kind (n + 1) (stop - (n + 1))) ≡ all
+    → new ≡ old ++ told_differences v w (kind n ∷ []) → old ++ told_differences v w (in_row kind n (stop - n)) ≡ all → new ++ told_differences v w (in_row kind (n + 1) (stop - (n + 1))) ≡ all
 row_step v w kind stop n new old all l added kept =
     let e : stop - n ≡ suc (stop - (n + 1)) = omega arith in
     step v w new old all (kind n ∷ []) (in_row kind (n + 1) (stop - (n + 1))) (in_row kind n (stop - n)) (row-suc kind n (stop - n) (stop - (n + 1)) e) added kept
 
 pub rows_step : (v w : Parts) (kind : ℕ → ℕ → Difference) (s : ℕ) (new old all : List Difference) → s < 31
-    → new ≡ old ++ told v w (in_row (kind s) 1 32) → old ++ told v w (in_rows kind s (31 - s)) ≡ all → new ++ told v w (in_rows kind (s + 1) (31 - (s + 1))) ≡ all
+    → new ≡ old ++ told_differences v w (in_row (kind s) 1 32) → old ++ told_differences v w (in_rows kind s (31 - s)) ≡ all → new ++ told_differences v w (in_rows kind (s + 1) (31 - (s + 1))) ≡ all
 rows_step v w kind s new old all l added kept =
     let e : 31 - s ≡ suc (31 - (s + 1)) = omega arith in
     step v w new old all (in_row (kind s) 1 32) (in_rows kind (s + 1) (31 - (s + 1))) (in_rows kind s (31 - s)) (rows-suc kind s (31 - s) (31 - (s + 1)) e) added kept
 
-pub row_end : (v w : Parts) (kind : ℕ → Difference) (stop n : ℕ) (xs : List Difference) → stop - n ≡ 0 → xs ++ told v w (in_row kind n (stop - n)) ≡ xs
-unfolding told in_row
-row_end v w kind stop n xs e = ap (λ m. xs ++ told v w (in_row kind n m)) e ∙ append-nil xs
+pub row_end : (v w : Parts) (kind : ℕ → Difference) (stop n : ℕ) (xs : List Difference) → stop - n ≡ 0 → xs ++ told_differences v w (in_row kind n (stop - n)) ≡ xs
+unfolding told_differences in_row
+row_end v w kind stop n xs e = ap (λ m. xs ++ told_differences v w (in_row kind n m)) e ∙ append-nil xs
 
-pub rows_end : (v w : Parts) (kind : ℕ → ℕ → Difference) (s : ℕ) (xs : List Difference) → 31 - s ≡ 0 → xs ++ told v w (in_rows kind s (31 - s)) ≡ xs
-unfolding told in_rows
-rows_end v w kind s xs e = ap (λ m. xs ++ told v w (in_rows kind s m)) e ∙ append-nil xs
+pub rows_end : (v w : Parts) (kind : ℕ → ℕ → Difference) (s : ℕ) (xs : List Difference) → 31 - s ≡ 0 → xs ++ told_differences v w (in_rows kind s (31 - s)) ≡ xs
+unfolding told_differences in_rows
+rows_end v w kind s xs e = ap (λ m. xs ++ told_differences v w (in_rows kind s m)) e ∙ append-nil xs
 
 -- what was told of some, and then of some more
-pub onto : (v w : Parts) (new old : List Difference) (ds es : List Difference) → new ≡ old ++ told v w ds → old ≡ told v w es → new ≡ told v w (es ++ ds)
-onto v w new old ds es added before = added ∙ ap (λ xs. xs ++ told v w ds) before ∙ sym (told-append v w es ds)
+pub onto : (v w : Parts) (new old : List Difference) (ds es : List Difference) → new ≡ old ++ told_differences v w ds → old ≡ told_differences v w es → new ≡ told_differences v w (es ++ ds)
+onto v w new old ds es added before = added ∙ ap (λ xs. xs ++ told_differences v w ds) before ∙ sym (told-append v w es ds)

@@ -75,8 +75,8 @@ in_rows kind s zero = []
 in_rows kind s (suc k) = in_row (kind s) 1 32 ++ in_rows kind (suc s) k
 
 -- those in which they differ, and that follow from no other
-unfoldable pub told : Parts → Parts → List Difference → List Difference
-told v w ds = filter (λ d. differ (description_in v) (description_in w) d && not (follows v w d)) ds
+unfoldable pub told_differences : Parts → Parts → List Difference → List Difference
+told_differences v w ds = filter (λ d. differ (description_in v) (description_in w) d && not (follows v w d)) ds
 
 -- all possible differences
 unfoldable pub possible : List Difference

@@ -3,7 +3,7 @@ ghost use Rattle.std.specs.Prelude.{◌≡◌, ◌≤◌, ◌<◌, ◌++◌, ◌
 ghost use Rattle.bus_word.specs.Cell.{is_data_place};
 ghost use Rattle.bus_legal.specs.Parts.{description_in};
 ghost use Rattle.bus_canon.specs.Difference.{IsInRange};
-ghost use Rattle.rt1553_differ.specs.Told.{unlike, at_place, of_code, differ, wraps_alone, follows, told, in_row, in_rows, possible};
+ghost use Rattle.rt1553_differ.specs.Told.{unlike, at_place, of_code, differ, wraps_alone, follows, told_differences, in_row, in_rows, possible};
 
 use bus_canon::Difference;
 use bus_legal::{Legality, Normal, Tables, largest_count};
@@ -144,7 +144,7 @@ fn follows(p: &Normal, q: &Normal, difference: Difference) -> bool
 }
 
 /// Adds the difference where the two differ in it, and it doesn't follow from another.
-#[tactic(auto, unfolding(crate::specs::Told::told))]
+#[tactic(auto, unfolding(crate::specs::Told::told_differences))]
 fn push_if(
     list: &mut Vec<Difference>,
     p: &Normal,
@@ -152,7 +152,7 @@ fn push_if(
     difference: Difference,
 ) -> Result<(), DifferFault>
     requires { IsInRange difference }
-    ensures { OnOk result (list.new.items ≡ list.old.items ++ told p.now q.now (difference ∷ [])) }
+    ensures { OnOk result (list.new.items ≡ list.old.items ++ told_differences p.now q.now (difference ∷ [])) }
 {
     if differs(p, q, difference) && !follows(p, q, difference) {
         list.push(difference)?;
@@ -170,7 +170,7 @@ fn push_row(
 ) -> Result<(), DifferFault>
     requires low { 1 ≤ s }
     requires high { s ≤ 30 }
-    ensures { OnOk result (list.new.items ≡ list.old.items ++ told p.now q.now (in_row (at_place kind s) 1 32)) }
+    ensures { OnOk result (list.new.items ≡ list.old.items ++ told_differences p.now q.now (in_row (at_place kind s) 1 32)) }
 {
     for n in 1..33u8 {
         push_if(list, p, q, at_place(kind, s, n))?;
@@ -185,7 +185,7 @@ fn push_rows(
     q: &Normal,
     kind: PlaceKind,
 ) -> Result<(), DifferFault>
-    ensures { OnOk result (list.new.items ≡ list.old.items ++ told p.now q.now (in_rows (at_place kind) 1 30)) }
+    ensures { OnOk result (list.new.items ≡ list.old.items ++ told_differences p.now q.now (in_rows (at_place kind) 1 30)) }
 {
     for s in 1..31u8 {
         push_row(list, p, q, kind, s)?;
@@ -200,7 +200,7 @@ fn push_codes(
     q: &Normal,
     broadcast: bool,
 ) -> Result<(), DifferFault>
-    ensures { OnOk result (list.new.items ≡ list.old.items ++ told p.now q.now (in_row (of_code broadcast) 0 32)) }
+    ensures { OnOk result (list.new.items ≡ list.old.items ++ told_differences p.now q.now (in_row (of_code broadcast) 0 32)) }
 {
     for code in 0..32u8 {
         push_if(list, p, q, of_code(broadcast, code))?;
@@ -210,7 +210,7 @@ fn push_codes(
 
 /// Gives all in which two terminals differ.
 fn all_told(alloc: Global, p: &Normal, q: &Normal) -> Result<Vec<Difference>, DifferFault>
-    ensures { IfOk result (λ found. found.items ≡ told p.now q.now possible) }
+    ensures { IfOk result (λ found. found.items ≡ told_differences p.now q.now possible) }
 {
     let mut list = Vec::new(alloc);
     push_if(&mut list, p, q, Difference::Address)?;
@@ -232,7 +232,7 @@ fn all_told(alloc: Global, p: &Normal, q: &Normal) -> Result<Vec<Difference>, Di
 /// possible, in its order, that which differs and doesn't follow from another that is told. Nothing is told exactly if the
 /// two are the same.
 pub fn differences(alloc: Global, p: &Normal, q: &Normal) -> Result<Vec<Difference>, DifferFault>
-    ensures told { IfOk result (λ found. found.items ≡ told p.now q.now possible) }
+    ensures told { IfOk result (λ found. found.items ≡ told_differences p.now q.now possible) }
     ensures none { IfOk result (λ found. (found.items ≡ []) ↔ (p.now ≡ q.now)) }
 {
     let found = all_told(alloc, p, q)?;

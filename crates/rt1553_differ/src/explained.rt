@@ -9,7 +9,7 @@ use bus_legal::Normal;
 
 /// What is so at one subaddress. In a mask bit `n - 1` stands for a word count of `n`.
 #[derive(Clone, Copy, PartialEq, Eq)]
-pub struct Row {
+pub struct SubaddressRow {
     pub subaddress: u8,
     /// The word counts that the own address may receive.
     pub receive: u32,
@@ -42,7 +42,7 @@ pub struct Settings {
 }
 
 /// The row of a subaddress, 1 to 30, by what can be reached.
-pub fn row_of(normal: &Normal, subaddress: u8) -> Row
+pub fn row_of(normal: &Normal, subaddress: u8) -> SubaddressRow
     requires low { 1 ≤ subaddress }
     requires high { subaddress ≤ 30 }
     ensures subaddress { result.subaddress ≡ subaddress }
@@ -53,7 +53,7 @@ pub fn row_of(normal: &Normal, subaddress: u8) -> Row
 {
     let tables = normal.tables();
     let index = usize::from(subaddress) - 1;
-    Row {
+    SubaddressRow {
         subaddress,
         receive: tables.own_receive[index],
         transmit: tables.own_transmit[index],

@@ -50,35 +50,40 @@ impl Alone {
 
 /// The three kinds of differences in word counts.
 #[derive(Clone, Copy, PartialEq, Eq)]
-enum Counts {
+enum CountKind {
     Receive,
     Transmit,
     Broadcast,
 }
 
 /// Gives the kind, the cell, the subaddress and the word count of a difference in word counts.
-fn counts_of(difference: Difference) -> Option<(Counts, Cell, u8, u8)> {
+fn counts_of(difference: Difference) -> Option<(CountKind, Cell, u8, u8)> {
     match difference {
-        Difference::ReceiveCell(s, n) => Some((Counts::Receive, Cell::OwnReceive(s, n), s, n)),
-        Difference::TransmitCell(s, n) => Some((Counts::Transmit, Cell::OwnTransmit(s, n), s, n)),
+        Difference::ReceiveCell(s, n) => Some((CountKind::Receive, Cell::OwnReceive(s, n), s, n)),
+        Difference::TransmitCell(s, n) => Some((
+            CountKind::Transmit,
+            Cell::OwnTransmit(s, n),
+            s,
+            n,
+        )),
         Difference::BroadcastReceiveCell(s, n) => {
-            Some((Counts::Broadcast, Cell::BroadReceive(s, n), s, n))
+            Some((CountKind::Broadcast, Cell::BroadReceive(s, n), s, n))
         }
         _ => None,
     }
 }
 
 /// Gives the difference of a kind at a subaddress and a word count.
-fn difference_at(kind: Counts, s: u8, n: u8) -> Difference {
+fn difference_at(kind: CountKind, s: u8, n: u8) -> Difference {
     match kind {
-        Counts::Receive => Difference::ReceiveCell(s, n),
-        Counts::Transmit => Difference::TransmitCell(s, n),
-        Counts::Broadcast => Difference::BroadcastReceiveCell(s, n),
+        CountKind::Receive => Difference::ReceiveCell(s, n),
+        CountKind::Transmit => Difference::TransmitCell(s, n),
+        CountKind::Broadcast => Difference::BroadcastReceiveCell(s, n),
     }
 }
 
 /// Gives what of a kind is legal in one terminal alone.
-fn alone_of(found: &[Difference], p: &Normal, kind: Counts, in_first: bool) -> Alone {
+fn alone_of(found: &[Difference], p: &Normal, kind: CountKind, in_first: bool) -> Alone {
     let mut alone = Alone { counts: [0; 30] };
     for difference in found {
         if let Some((of, cell, s, n)) = counts_of(*difference) {
@@ -95,7 +100,7 @@ fn push_counts(
     groups: &mut Vec<Group>,
     found: &[Difference],
     p: &Normal,
-    kind: Counts,
+    kind: CountKind,
 ) -> Result<(), AllocError> {
     let ours = alone_of(found, p, kind, true);
     let theirs = alone_of(found, p, kind, false);
@@ -147,7 +152,11 @@ pub fn groups_of(
             })?;
         } else if !counted {
             counted = true;
-            for kind in [Counts::Receive, Counts::Transmit, Counts::Broadcast] {
+            for kind in [
+                CountKind::Receive,
+                CountKind::Transmit,
+                CountKind::Broadcast,
+            ] {
                 push_counts(&mut groups, found, p, kind)?;
             }
         }

@@ -44,7 +44,7 @@ pub fn script_of(p: &Normal, q: &Normal, difference: Difference) -> Option<Scrip
 }
 
 /// The lines of a script.
-pub fn lines_of(alloc: Global, script: &Script) -> Result<Vec<String>, AllocError> {
+pub fn script_lines(alloc: Global, script: &Script) -> Result<Vec<String>, AllocError> {
     let mut lines = Vec::new(alloc);
     for event in script.as_slice() {
         let line = write_event(event);

@@ -1,7 +1,7 @@
 //! A profile explained, as text and as JSON.
 ghost use Rattle.std.specs.Prelude.{◌≤◌};
 
-use crate::explained::{Codes, Row, Settings, codes_of, row_of, settings_of};
+use crate::explained::{Codes, Settings, SubaddressRow, codes_of, row_of, settings_of};
 use bus_legal::Normal;
 use bus_word::mode::{BIT_WORD, DYNAMIC_BUS_CONTROL, VECTOR_WORD};
 use bus_word::mode_name;
@@ -38,19 +38,19 @@ fn has_code(codes: u32, code: u8) -> bool {
 }
 
 /// Tells whether some word count is legal at the subaddress of a row.
-fn has_some(row: &Row) -> bool {
+fn has_some(row: &SubaddressRow) -> bool {
     row.receive != 0 || row.transmit != 0 || row.broadcast != 0
 }
 
 /// Tells whether at two subaddresses the same word counts are legal.
-fn has_same(row: &Row, other: &Row) -> bool {
+fn has_same(row: &SubaddressRow, other: &SubaddressRow) -> bool {
     row.receive == other.receive
         && row.transmit == other.transmit
         && row.broadcast == other.broadcast
 }
 
 /// Gives how many words of a row there are up to the last that is not 0.
-fn words_in(row: &Row) -> usize
+fn words_in(row: &SubaddressRow) -> usize
     ensures { result ≤ 32 }
 {
     let mut len = 0;
@@ -67,7 +67,7 @@ fn push_line(
     alloc: Global,
     text: &mut String,
     subaddresses: u32,
-    row: &Row,
+    row: &SubaddressRow,
 ) -> Result<(), AllocError> {
     let at = numbers_text(alloc, subaddresses, 1)?;
     let receive = numbers_text(alloc, row.receive, 1)?;
@@ -249,7 +249,7 @@ fn rows_list(alloc: Global, normal: &Normal) -> Result<Vec<Subaddress>, AllocErr
 }
 
 /// Gives the value where the mode code that asks for it is legal.
-fn asked<T>(codes: Codes, code: u8, value: T) -> Option<T>
+fn if_asked<T>(codes: Codes, code: u8, value: T) -> Option<T>
 where
     T: Drop,
 {
@@ -271,9 +271,9 @@ pub fn explain_json(alloc: Global, normal: &Normal) -> Option<String> {
             0 => None,
             s => Some(s),
         },
-        accept_bus_control: asked(codes, DYNAMIC_BUS_CONTROL, settings.accept),
-        vector: asked(codes, VECTOR_WORD, settings.vector),
-        bit: asked(codes, BIT_WORD, settings.bit),
+        accept_bus_control: if_asked(codes, DYNAMIC_BUS_CONTROL, settings.accept),
+        vector: if_asked(codes, VECTOR_WORD, settings.vector),
+        bit: if_asked(codes, BIT_WORD, settings.bit),
         subaddresses: rows_list(alloc, normal).ok()?,
         mode_codes: codes_list(alloc, codes.own).ok()?,
         broadcast_mode_codes: codes_list(alloc, codes.broadcast).ok()?,

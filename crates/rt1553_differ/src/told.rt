@@ -1,6 +1,6 @@
 //! What differs, as text and as JSON.
 use crate::groups::{Group, GroupLine, word_at};
-use crate::scripts::{lines_of, script_of};
+use crate::scripts::{script_lines, script_of};
 use bus_canon::Difference;
 use bus_legal::{Legality, Normal};
 use bus_word::Cell;
@@ -9,14 +9,14 @@ use std::alloc::{AllocError, Global};
 use std::format;
 
 /// Gives the lines of the script that shows the first difference of a group, where there is one.
-fn script_lines(
+fn lines_showing(
     alloc: Global,
     p: &Normal,
     q: &Normal,
     group: &Group,
 ) -> Result<Option<Vec<String>>, AllocError> {
     match script_of(p, q, group.difference) {
-        Some(script) => Ok(Some(lines_of(alloc, &script)?)),
+        Some(script) => Ok(Some(script_lines(alloc, &script)?)),
         None => Ok(None),
     }
 }
@@ -49,7 +49,7 @@ pub fn differ_text(
         };
         writeln!(text, "{line}")?;
         if with_scripts {
-            if let Some(lines) = script_lines(alloc, pair.p, pair.q, group)? {
+            if let Some(lines) = lines_showing(alloc, pair.p, pair.q, group)? {
                 for event in lines.as_slice() {
                     writeln!(text, "    {}", event.as_str())?;
                 }
@@ -61,7 +61,7 @@ pub fn differ_text(
 
 /// A group as JSON.
 #[derive(Drop, Serialize)]
-struct Entry {
+struct DifferenceEntry {
     /// In what the two differ.
     what: &'static str,
     subaddresses: Vec<u8>,
@@ -107,7 +107,11 @@ fn truth(value: bool) -> &'static str {
 }
 
 /// Gives what is so in a terminal, of what differs.
-fn value_of(alloc: Global, normal: &Normal, difference: Difference) -> Result<String, AllocError> {
+fn value_text(
+    alloc: Global,
+    normal: &Normal,
+    difference: Difference,
+) -> Result<String, AllocError> {
     match difference {
         Difference::Address => format!(in alloc; "{}", normal.address()),
         Difference::BroadcastOption => String::from_str(alloc, truth(normal.broadcast())),
@@ -159,24 +163,24 @@ fn places_of(alloc: Global, group: &Group) -> Result<(Vec<u8>, Vec<u8>), AllocEr
 }
 
 /// Gives a group as JSON has it.
-fn entry_of(
+fn difference_entry(
     alloc: Global,
     pair: &Pair<'_>,
     group: &Group,
     with_scripts: bool,
-) -> Result<Entry, AllocError> {
+) -> Result<DifferenceEntry, AllocError> {
     let (subaddresses, numbers) = places_of(alloc, group)?;
     let script = if with_scripts {
-        script_lines(alloc, pair.p, pair.q, group)?
+        lines_showing(alloc, pair.p, pair.q, group)?
     } else {
         None
     };
-    Ok(Entry {
+    Ok(DifferenceEntry {
         what: name_of(group.difference),
         subaddresses,
         numbers,
-        first: value_of(alloc, pair.p, group.difference)?,
-        second: value_of(alloc, pair.q, group.difference)?,
+        first: value_text(alloc, pair.p, group.difference)?,
+        second: value_text(alloc, pair.q, group.difference)?,
         script,
     })
 }
@@ -191,7 +195,7 @@ pub fn differ_json(
     let mut entries = Vec::new(alloc);
     for group in groups {
         entries
-            .push(entry_of(alloc, pair, group, with_scripts).ok()?)
+            .push(difference_entry(alloc, pair, group, with_scripts).ok()?)
             .ok()?;
     }
     serde_json::to_string(alloc, &entries).ok()

@@ -104,9 +104,9 @@ fn flag_caption(flag: Flag) -> &'static str {
 
 /// Whom a command is for.
 #[derive(Clone, Copy)]
-struct Addressee(Command);
+struct AddressText(Command);
 
-impl fmt::Display for Addressee {
+impl fmt::Display for AddressText {
     fn fmt<W: fmt::Write>(&self, f: &mut fmt::Formatter<W>) -> fmt::Result {
         if self.0.is_broadcast() {
             return f.write_str("all");
@@ -122,7 +122,7 @@ pub struct First(pub Caption);
 
 /// Writes what a command asks for.
 fn write_command<W: fmt::Write>(f: &mut fmt::Formatter<W>, command: Command) -> fmt::Result {
-    let to = Addressee(command);
+    let to = AddressText(command);
     if command.is_mode() {
         let code = command.code();
         return write!(f, "to {to}: mode {code}");

@@ -2,16 +2,16 @@
 use Rattle.std.proofs.Common.{◌≡◌, ◌≤◌, ◌<◌, ◌==◌, ℕ, ◌+◌, ◌-◌, Bool, true, false, List, take, subst, sym, refl, arith}
 use Rattle.std.proofs.lemmas.Bool.{eqb-true}
 use Rattle.std.proofs.lemmas.Bool.Decides.{nat_tests}
-use Rattle.rt1553_lint.specs.Places.{EndsLine, IsNone}
+use Rattle.rt1553_lint.specs.Places.{IsLineEnd, IsNone}
 
-pub none_back : (text : List ℕ) (most back end at : ℕ) → back < most → at ≡ most - 1 - back → (EndsLine text at → IsNone (take at text))
-    → ((k : ℕ) → most ≤ k + back → k < end → EndsLine text k → IsNone (take k text))
-    → (k : ℕ) → most ≤ k + (back + 1) → k < end → EndsLine text k → IsNone (take k text)
+pub none_back : (text : List ℕ) (most back end at : ℕ) → back < most → at ≡ most - 1 - back → (IsLineEnd text at → IsNone (take at text))
+    → ((k : ℕ) → most ≤ k + back → k < end → IsLineEnd text k → IsNone (take k text))
+    → (k : ℕ) → most ≤ k + (back + 1) → k < end → IsLineEnd text k → IsNone (take k text)
 none_back text most back end at low is here before k from below ends = by_test (k == at) refl
   where
     by_test : (t : Bool) → (k == at) ≡ t → IsNone (take k text)
-    by_test true e = let same : k ≡ at = eqb-true k at e in subst (λ j. EndsLine text j → IsNone (take j text)) (sym same) here ends
+    by_test true e = let same : k ≡ at = eqb-true k at e in subst (λ j. IsLineEnd text j → IsNone (take j text)) (sym same) here ends
     by_test false e = let later : most ≤ k + back = grind (arith, nat_tests) in before k later below ends
 
-pub none_here : (text : List ℕ) (most back at : ℕ) → back < most → at ≡ most - 1 - back → (k : ℕ) → most ≤ k + (back + 1) → k < at → EndsLine text k → IsNone (take k text)
+pub none_here : (text : List ℕ) (most back at : ℕ) → back < most → at ≡ most - 1 - back → (k : ℕ) → most ≤ k + (back + 1) → k < at → IsLineEnd text k → IsNone (take k text)
 none_here text most back at low is k from below ends = absurd (omega arith)

@@ -16,16 +16,16 @@ abbrev pub IsNone : List ℕ → Type 0
 IsNone text = (tree : Members) → IsTree text tree → ⊥
 
 -- a line ends before this place
-abbrev pub EndsLine : List ℕ → ℕ → Type 0
-EndsLine text k = slice_index text (k - 1) ≡ 10
+abbrev pub IsLineEnd : List ℕ → ℕ → Type 0
+IsLineEnd text k = slice_index text (k - 1) ≡ 10
 
 -- The lines from `start` to `end`: the text up to `end` is a document that has what is looked for, up to `start` it is one
 -- that doesn't have it, and up to no end of a line in between it is a document.
-pub record IsPlace (sought : Members → Bool) (text : List ℕ) (start end : ℕ) : Type 0 where
+pub record IsTextRange (sought : Members → Bool) (text : List ℕ) (start end : ℕ) : Type 0 where
   pub within : end ≤ length text
   pub with : IsDocument sought (take end text) true
   pub without : IsDocument sought (take start text) false
-  pub between : (k : ℕ) → start < k → k < end → EndsLine text k → IsNone (take k text)
+  pub between : (k : ℕ) → start < k → k < end → IsLineEnd text k → IsNone (take k text)
 
 -- What a look at a text answers: nothing of it where it was too much to read.
 abbrev pub Sees : (Members → Bool) → List ℕ → Look → Type 0
@@ -38,5 +38,5 @@ Sees sought text TooMuch = Unit {0}
 abbrev pub SeesBack : (Members → Bool) → List ℕ → ℕ → Look → Type 0
 SeesBack sought text at With = IsDocument sought (take at text) true
 SeesBack sought text at Without = IsDocument sought (take at text) false
-SeesBack sought text at NoDocument = EndsLine text at → IsNone (take at text)
+SeesBack sought text at NoDocument = IsLineEnd text at → IsNone (take at text)
 SeesBack sought text at TooMuch = Unit {0}

@@ -1,17 +1,17 @@
 //! The findings of a tree's faults: for each its place, the value as it is written, and what would be allowed.
 ghost use Rattle.std.specs.Prelude.{◌≡◌, ◌++◌, IfOk, OnOk, Some};
 ghost use Rattle.toml.specs.View.{table_view};
-ghost use Rattle.bus_profile.specs.AllFaults.{told};
-ghost use Rattle.rt1553_lint.specs.declared.finding.Fault.TheVariants as Fault;
+ghost use Rattle.bus_profile.specs.AllFaults.{told_faults};
+ghost use Rattle.rt1553_lint.specs.declared.finding.LintFault.TheVariants as LintFault;
 ghost use Rattle.rt1553_lint.specs.Findings.{faults_in};
 
-use crate::finding::{Fault, Finding, Position};
+use crate::finding::{Finding, LintFault, Position};
+use crate::key_path::KeyPath;
 use crate::lines::{after_blanks, position_at};
 use crate::place::place_of;
 use crate::shown::{Quoted, Shown};
-use crate::spot::Spot;
 use crate::tree::{
-    entry_of, is_of_word, last_mode, spot_of_name, spot_of_part, table_of, value_of, wrong_word,
+    entry_of, is_of_word, last_mode, path_of_name, path_of_part, table_of, value_of, wrong_word,
 };
 use bus_profile::{Key, Part, ProfileFault, all_faults, known_keys, unknown_keys};
 use std::alloc::{AllocError, Global};
@@ -46,13 +46,13 @@ fn allowed(key: Key) -> &'static str {
 pub fn position_of(
     alloc: Global,
     text: &[u8],
-    spot: Option<Spot<'_>>,
+    path: Option<KeyPath<'_>>,
     left: &mut usize,
 ) -> Result<Option<Position>, AllocError> {
-    let Some(spot) = spot else {
+    let Some(path) = path else {
         return Ok(Some(position_at(text, 0)));
     };
-    match place_of(alloc, text, &spot, left)? {
+    match place_of(alloc, text, &path, left)? {
         Some(place) => Ok(Some(position_at(text, after_blanks(text, place.start)))),
         None => Ok(None),
     }
@@ -145,16 +145,16 @@ fn message_of(
 }
 
 /// The place of the word, of an item of the words of an initial entry.
-fn spot_of_word<'a>(part: Part, key: Key, word: Option<usize>) -> Option<Spot<'a>> {
+fn path_of_word<'a>(part: Part, key: Key, word: Option<usize>) -> Option<KeyPath<'a>> {
     let name = key.name();
     match entry_of(part) {
-        Some((array, index)) => Some(Spot {
+        Some((array, index)) => Some(KeyPath {
             key: array.name(),
             entry: Some(index),
             name: Some(name),
             word,
         }),
-        None => Some(Spot {
+        None => Some(KeyPath {
             key: name,
             entry: None,
             name: None,
@@ -164,16 +164,16 @@ fn spot_of_word<'a>(part: Part, key: Key, word: Option<usize>) -> Option<Spot<'a
 }
 
 /// The place of a key of a part; of an entry that is no table that of the entry.
-fn spot_of_key<'a>(part: Part, key: Key, word: Option<usize>) -> Option<Spot<'a>> {
+fn path_of_key<'a>(part: Part, key: Key, word: Option<usize>) -> Option<KeyPath<'a>> {
     match key {
-        Key::Rule | Key::Mode | Key::Initial if part != Part::Root => spot_of_part(part),
-        _ => spot_of_word(part, key, word),
+        Key::Rule | Key::Mode | Key::Initial if part != Part::Root => path_of_part(part),
+        _ => path_of_word(part, key, word),
     }
 }
 
 /// The place of an entry, by the key of its array.
-pub fn spot_of_entry<'a>(key: Key, index: usize) -> Option<Spot<'a>> {
-    Some(Spot {
+pub fn path_of_entry<'a>(key: Key, index: usize) -> Option<KeyPath<'a>> {
+    Some(KeyPath {
         key: key.name(),
         entry: Some(index),
         name: None,
@@ -192,10 +192,10 @@ fn position_of_unknown(
     if let Some(inner) = table_of(table, part) {
         let names = unknown_keys(alloc, inner, part)?;
         if let Some(name) = names.as_slice().first() {
-            return position_of(alloc, text, Some(spot_of_name(part, name)), left);
+            return position_of(alloc, text, Some(path_of_name(part, name)), left);
         }
     }
-    position_of(alloc, text, spot_of_part(part), left)
+    position_of(alloc, text, path_of_part(part), left)
 }
 
 /// Where a fault stands; `word` is the index of the word that has it.
@@ -207,23 +207,23 @@ fn position_of_fault(
     word: Option<usize>,
     left: &mut usize,
 ) -> Result<Option<Position>, AllocError> {
-    let spot = match fault {
+    let path = match fault {
         ProfileFault::UnknownKey(part) => {
             return position_of_unknown(alloc, text, table, part, left);
         }
-        ProfileFault::Missing(part, _) => spot_of_part(part),
-        ProfileFault::TooMany(Part::Root, key) => spot_of_entry(key, 256),
+        ProfileFault::Missing(part, _) => path_of_part(part),
+        ProfileFault::TooMany(Part::Root, key) => path_of_entry(key, 256),
         ProfileFault::WrongKind(part, key)
         | ProfileFault::OutOfRange(part, key)
         | ProfileFault::BadRanges(part, key)
-        | ProfileFault::TooMany(part, key) => spot_of_key(part, key, word),
+        | ProfileFault::TooMany(part, key) => path_of_key(part, key, word),
         ProfileFault::RequiredCode(code) => match last_mode(table, code) {
-            Some(index) => spot_of_entry(Key::Mode, index),
+            Some(index) => path_of_entry(Key::Mode, index),
             None => None,
         },
         ProfileFault::NotToml | ProfileFault::Memory => None,
     };
-    position_of(alloc, text, spot, left)
+    position_of(alloc, text, path, left)
 }
 
 /// The finding of a fault; `word` is the index of the word that has it.
@@ -235,11 +235,11 @@ fn finding_of(
     word: Option<usize>,
     left: &mut usize,
 ) -> Result<Finding, AllocError>
-    ensures { IfOk result (λ finding. finding.fault ≡ Some (Fault.Profile fault)) }
+    ensures { IfOk result (λ finding. finding.fault ≡ Some (LintFault.Profile fault)) }
 {
     Ok(Finding {
         position: position_of_fault(alloc, text, table, fault, word, left)?,
-        fault: Some(Fault::Profile(fault)),
+        fault: Some(LintFault::Profile(fault)),
         message: message_of(alloc, table, fault, word)?,
     })
 }
@@ -277,7 +277,7 @@ pub fn errors_of(
     table: &Table,
     left: &mut usize,
 ) -> Result<Vec<Finding>, AllocError>
-    ensures { IfOk result (λ found. faults_in found.items ≡ told (table_view table.now)) }
+    ensures { IfOk result (λ found. faults_in found.items ≡ told_faults (table_view table.now)) }
 {
     let faults = all_faults(alloc, table)?;
     let mut findings = Vec::new(alloc);

@@ -1,6 +1,6 @@
 //! One line of what is told of a profile text.
 ghost use Rattle.std.specs.Prelude.{◌≡◌, is_some, codes, if◌then◌else◌};
-ghost use Rattle.rt1553_lint.specs.Findings.{number_of, name_of};
+ghost use Rattle.rt1553_lint.specs.Findings.{lint_fault_number, lint_fault_name};
 
 use bus_canon::CanonFault;
 use bus_profile::ProfileFault;
@@ -17,29 +17,29 @@ pub struct Position {
 
 /// Why a text is refused.
 #[derive(Clone, Copy, PartialEq, Eq)]
-pub enum Fault {
+pub enum LintFault {
     Profile(ProfileFault),
     Canon(CanonFault),
 }
 
-impl Fault {
+impl LintFault {
     /// The number of the fault among those of its type.
     pub fn number(self) -> u8
-        ensures { result ≡ number_of self }
+        ensures { result ≡ lint_fault_number self }
     {
         match self {
-            Fault::Profile(fault) => fault.number(),
-            Fault::Canon(fault) => fault.number(),
+            LintFault::Profile(fault) => fault.number(),
+            LintFault::Canon(fault) => fault.number(),
         }
     }
 
     /// The name of the fault.
     pub fn name(self) -> &'static str
-        ensures { result.now ≡ name_of self }
+        ensures { result.now ≡ lint_fault_name self }
     {
         match self {
-            Fault::Profile(fault) => fault.name(),
-            Fault::Canon(fault) => fault.name(),
+            LintFault::Profile(fault) => fault.name(),
+            LintFault::Canon(fault) => fault.name(),
         }
     }
 }
@@ -50,7 +50,7 @@ pub struct Finding {
     /// Where it stands; None where that was too much to look for.
     pub position: Option<Position>,
     /// The fault; None for a warning.
-    pub fault: Option<Fault>,
+    pub fault: Option<LintFault>,
     /// One line.
     pub message: String,
 }

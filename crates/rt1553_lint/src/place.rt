@@ -1,14 +1,14 @@
 //! The lines of a profile text at which it gets something.
 ghost use Rattle.std.specs.Prelude.{◌≤◌, ◌<◌, IfOk, IfSome, take, length, option_map};
-ghost use Rattle.rt1553_lint.specs.Places.{IsPlace, Sees, SeesBack};
-ghost use Rattle.rt1553_lint.specs.Spots.{is_there};
+ghost use Rattle.rt1553_lint.specs.Places.{IsTextRange, Sees, SeesBack};
+ghost use Rattle.rt1553_lint.specs.KeyPaths.{is_there};
 
-use crate::spot::Spot;
+use crate::key_path::KeyPath;
 use std::alloc::{AllocError, Global};
 
 /// Lines of a text: those after its first `start` bytes, up to its first `end`.
 #[derive(Clone, Copy, PartialEq, Eq)]
-pub struct Place {
+pub struct TextRange {
     pub start: usize,
     pub end: usize,
 }
@@ -27,11 +27,11 @@ fn look_at(
     alloc: Global,
     text: &[u8],
     end: usize,
-    spot: &Spot<'_>,
+    path: &KeyPath<'_>,
     left: &mut usize,
 ) -> Result<Look, AllocError>
     requires { end ≤ length text.now }
-    ensures { IfOk result (Sees (is_there spot.now.key.now spot.now.entry (option_map (λ n. n.now) spot.now.name) spot.now.word) (take end text.now)) }
+    ensures { IfOk result (Sees (is_there path.now.key.now path.now.entry (option_map (λ n. n.now) path.now.name) path.now.word) (take end text.now)) }
 {
     if *left < end {
         return Ok(Look::TooMuch);
@@ -39,7 +39,7 @@ fn look_at(
     *left -= end;
     match toml::table_from_slice(alloc, &text[..end]) {
         Ok(table) => {
-            if spot.is_in(&table) {
+            if path.is_in(&table) {
                 Ok(Look::With)
             } else {
                 Ok(Look::Without)
@@ -73,7 +73,7 @@ fn next_document(
     text: &[u8],
     middle: usize,
     upper: usize,
-    spot: &Spot<'_>,
+    path: &KeyPath<'_>,
     left: &mut usize,
 ) -> Result<(usize, Look), AllocError>
     ensures { IfOk result (λ found. found.0 ≤ length text.now) }
@@ -83,7 +83,7 @@ fn next_document(
         if upper <= at {
             return Ok((at, Look::NoDocument));
         }
-        match look_at(alloc, text, at, spot, left)? {
+        match look_at(alloc, text, at, path, left)? {
             Look::NoDocument => at = line_end(text, at),
             seen => return Ok((at, seen)),
         }
@@ -95,7 +95,7 @@ fn next_document(
 fn some_end(
     alloc: Global,
     text: &[u8],
-    spot: &Spot<'_>,
+    path: &KeyPath<'_>,
     left: &mut usize,
 ) -> Result<usize, AllocError>
     ensures { IfOk result (λ end. end ≤ length text.now) }
@@ -108,7 +108,7 @@ fn some_end(
             break;
         }
         let middle = lower + (upper - lower) / 2;
-        let (at, seen) = next_document(alloc, text, middle, upper, spot, left)?;
+        let (at, seen) = next_document(alloc, text, middle, upper, path, left)?;
         match seen {
             Look::With => {
                 end = at;
@@ -127,14 +127,14 @@ fn look_back(
     alloc: Global,
     text: &[u8],
     at: usize,
-    spot: &Spot<'_>,
+    path: &KeyPath<'_>,
     left: &mut usize,
 ) -> Result<Look, AllocError>
     requires { at < length text.now }
-    ensures { IfOk result (SeesBack (is_there spot.now.key.now spot.now.entry (option_map (λ n. n.now) spot.now.name) spot.now.word) text.now at) }
+    ensures { IfOk result (SeesBack (is_there path.now.key.now path.now.entry (option_map (λ n. n.now) path.now.name) path.now.word) text.now at) }
 {
     if at == 0 || text[at - 1] == b'\n' {
-        return look_at(alloc, text, at, spot, left);
+        return look_at(alloc, text, at, path, left);
     }
     Ok(Look::NoDocument)
 }
@@ -147,21 +147,21 @@ fn look_back(
 pub fn place_of(
     alloc: Global,
     text: &[u8],
-    spot: &Spot<'_>,
+    path: &KeyPath<'_>,
     left: &mut usize,
-) -> Result<Option<Place>, AllocError>
-    ensures { IfOk result (λ found. IfSome found (λ place. IsPlace (is_there spot.now.key.now spot.now.entry (option_map (λ n. n.now) spot.now.name) spot.now.word) text.now place.start place.end)) }
+) -> Result<Option<TextRange>, AllocError>
+    ensures { IfOk result (λ found. IfSome found (λ place. IsTextRange (is_there path.now.key.now path.now.entry (option_map (λ n. n.now) path.now.name) path.now.word) text.now place.start place.end)) }
 {
-    let most = some_end(alloc, text, spot, left)?;
-    let Look::With = look_at(alloc, text, most, spot, left)? else {
+    let most = some_end(alloc, text, path, left)?;
+    let Look::With = look_at(alloc, text, most, path, left)? else {
         return Ok(None);
     };
     let mut end = most;
     for back in 0..most {
         let at = most - 1 - back;
-        match look_back(alloc, text, at, spot, left)? {
+        match look_back(alloc, text, at, path, left)? {
             Look::With => end = at,
-            Look::Without => return Ok(Some(Place { start: at, end })),
+            Look::Without => return Ok(Some(TextRange { start: at, end })),
             Look::NoDocument => {}
             Look::TooMuch => return Ok(None),
         }

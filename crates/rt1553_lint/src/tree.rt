@@ -1,5 +1,5 @@
 //! The parts of a profile's tree.
-use crate::spot::Spot;
+use crate::key_path::KeyPath;
 use bus_profile::{Key, Part, ProfileFault, parse_ranges, word_fault};
 use toml::{Table, Value};
 
@@ -14,9 +14,9 @@ pub fn entry_of(part: Part) -> Option<(Key, usize)> {
 }
 
 /// The place of a part: None for the root.
-pub fn spot_of_part<'a>(part: Part) -> Option<Spot<'a>> {
+pub fn path_of_part<'a>(part: Part) -> Option<KeyPath<'a>> {
     match entry_of(part) {
-        Some((key, index)) => Some(Spot {
+        Some((key, index)) => Some(KeyPath {
             key: key.name(),
             entry: Some(index),
             name: None,
@@ -27,15 +27,15 @@ pub fn spot_of_part<'a>(part: Part) -> Option<Spot<'a>> {
 }
 
 /// The place of a key of a part, as it is written.
-pub fn spot_of_name<'a>(part: Part, name: &'a str) -> Spot<'a> {
+pub fn path_of_name<'a>(part: Part, name: &'a str) -> KeyPath<'a> {
     match entry_of(part) {
-        Some((key, index)) => Spot {
+        Some((key, index)) => KeyPath {
             key: key.name(),
             entry: Some(index),
             name: Some(name),
             word: None,
         },
-        None => Spot {
+        None => KeyPath {
             key: name,
             entry: None,
             name: None,

@@ -2,12 +2,12 @@
 ghost use Rattle.std.specs.Prelude.{◌≡◌, ◌<◌, OnOk, length};
 ghost use Rattle.rt1553_lint.specs.Findings.{faults_in};
 
-use crate::errors::{position_of, spot_of_entry};
+use crate::errors::{path_of_entry, position_of};
 use crate::finding::Finding;
+use crate::key_path::KeyPath;
 use crate::spare::{
     Setting, is_spare_initial, is_spare_mode, is_spare_rule, is_spare_setting, is_spare_word,
 };
-use crate::spot::Spot;
 use crate::why::{why_initial, why_mode, why_rule, why_setting, why_word};
 use bus_legal::normalise;
 use bus_profile::{Key, Profile};
@@ -50,13 +50,13 @@ fn push_warning(
     alloc: Global,
     findings: &mut Vec<Finding>,
     text: &[u8],
-    spot: Option<Spot<'_>>,
+    path: Option<KeyPath<'_>>,
     message: String,
     left: &mut usize,
 ) -> Result<(), AllocError>
     ensures { OnOk result (faults_in findings.new.items ≡ faults_in findings.old.items) }
 {
-    let position = position_of(alloc, text, spot, left)?;
+    let position = position_of(alloc, text, path, left)?;
     findings.push(Finding {
         position,
         fault: None,
@@ -79,13 +79,13 @@ fn push_settings(
         if !is_default(profile, setting) && is_spare_setting(alloc, profile, setting)? {
             let key = key_of(setting);
             let message = format!(in alloc; "{key} has no effect: {}", why_setting(setting))?;
-            let spot = Spot {
+            let path = KeyPath {
                 key: key.name(),
                 entry: None,
                 name: None,
                 word: None,
             };
-            push_warning(alloc, findings, text, Some(spot), message, left)?;
+            push_warning(alloc, findings, text, Some(path), message, left)?;
         }
     }
     Ok(())
@@ -111,7 +111,7 @@ fn push_rules(
                 alloc,
                 findings,
                 text,
-                spot_of_entry(Key::Rule, index),
+                path_of_entry(Key::Rule, index),
                 message,
                 left,
             )?;
@@ -140,7 +140,7 @@ fn push_modes(
                 alloc,
                 findings,
                 text,
-                spot_of_entry(Key::Mode, index),
+                path_of_entry(Key::Mode, index),
                 message,
                 left,
             )?;
@@ -173,13 +173,13 @@ fn push_words(
                 index.saturating_add(1),
                 word.saturating_add(1)
             )?;
-            let spot = Spot {
+            let path = KeyPath {
                 key: Key::Initial.name(),
                 entry: Some(index),
                 name: Some(Key::Words.name()),
                 word: Some(word),
             };
-            push_warning(alloc, findings, text, Some(spot), message, left)?;
+            push_warning(alloc, findings, text, Some(path), message, left)?;
         }
     }
     Ok(())
@@ -207,7 +207,7 @@ fn push_initials(
                 alloc,
                 findings,
                 text,
-                spot_of_entry(Key::Initial, index),
+                path_of_entry(Key::Initial, index),
                 message,
                 left,
             )?;

@@ -1,9 +1,9 @@
 -- Faults as plain numbers.
 use Rattle.std.specs.Prelude.{◌≡◌, ℕ, take}
-use Rattle.bus_profile.specs.FaultNames as profile
-use Rattle.bus_canon.specs.Fault as canon
+use Rattle.bus_profile.specs.FaultNames.{profile_fault_number}
+use Rattle.bus_canon.specs.Fault.{canon_fault_number}
 use Rattle.bus_canon.specs.declared.fault.CanonFault.TheVariants as canon_fault
-use Rattle.bus_script.specs.Fault as script
+use Rattle.bus_script.specs.Fault.{run_fault_number}
 use Rattle.bus_script.specs.declared.fault.RunFault.TheVariants as script_fault
 use Rattle.rt1553.specs.declared.fault.LoadFault.TheVariants.{Profile, Canon, Memory}
 use Rattle.rt1553.specs.declared.fault.EngineFault.{EngineFault}
@@ -20,10 +20,10 @@ plain_fault_kind (Script fault) = 4
 
 -- its number among the faults of its kind; out of memory has none
 abbrev pub plain_fault_number : EngineFault → ℕ
-plain_fault_number (Load (Profile fault)) = profile.fault_number fault
-plain_fault_number (Load (Canon fault)) = canon.fault_number fault
+plain_fault_number (Load (Profile fault)) = profile_fault_number fault
+plain_fault_number (Load (Canon fault)) = canon_fault_number fault
 plain_fault_number (Load Memory) = 0
-plain_fault_number (Script fault) = script.run_fault_number fault
+plain_fault_number (Script fault) = run_fault_number fault
 
 -- the line that it names, or 0
 abbrev pub plain_fault_line : EngineFault → ℕ

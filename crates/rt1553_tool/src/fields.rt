@@ -1,7 +1,7 @@
 //! The fields of the words of a bus (MIL-STD-1553B, 4.3.3.5).
 ghost use Rattle.std.specs.Prelude.{◌≡◌, ◌≤◌, ◌<◌, ◌/◌, ◌%◌};
 ghost use Rattle.bus_word.specs.Word.{bit_of};
-ghost use Rattle.bus_word.specs.Command.{AreInRange, fields_of};
+ghost use Rattle.bus_word.specs.Command.{AreOfTheirWidth, fields_of};
 ghost use Rattle.rt1553_tool.specs.Fields.{in_word, HasStatusFields, AreOfWidth, HasFields, IsWordOf};
 
 use bus_word::{Command, Kind, Raw};
@@ -86,7 +86,7 @@ pub fn command_fields(bits: u16) -> CommandFields
 
 /// The bits of the command word of these fields.
 pub fn command_bits(fields: CommandFields) -> u16
-    requires { AreInRange (in_word fields) }
+    requires { AreOfTheirWidth (in_word fields) }
     ensures { fields_of result ≡ in_word fields }
 {
     u16::from(fields.address) * 2048
@@ -114,7 +114,7 @@ pub fn status_fields(bits: u16) -> StatusFields
 }
 
 /// The bits of the status word of these fields.
-pub fn status_bits(fields: StatusFields) -> u16
+pub fn status_word_bits(fields: StatusFields) -> u16
     requires address { fields.address ≤ 31 }
     requires reserved { fields.reserved ≤ 7 }
     ensures { HasStatusFields result fields }
@@ -138,7 +138,7 @@ pub fn word_with(fields: WordFields) -> Raw
 {
     match fields {
         WordFields::Command(command) => Raw::of(Kind::Com, command_bits(command)),
-        WordFields::Status(status) => Raw::of(Kind::Com, status_bits(status)),
+        WordFields::Status(status) => Raw::of(Kind::Com, status_word_bits(status)),
         WordFields::Data(bits) => Raw::of(Kind::Dat, bits),
     }
 }

@@ -9,9 +9,9 @@ mod word_lines;
 mod written;
 
 pub use fields::{
-    CommandFields, StatusFields, WordFields, command_bits, command_fields, status_bits,
-    status_fields, word_with,
+    CommandFields, StatusFields, WordFields, command_bits, command_fields, status_fields,
+    status_word_bits, word_with,
 };
 pub use profile_text::{TomlFault, toml_of};
-pub use session::{play, serve};
-pub use word_lines::{WordFault, WordLine, answer_words, read_word_line};
+pub use session::{play_live_line, serve};
+pub use word_lines::{WordLine, WordLineFault, answer_words, read_word_line};

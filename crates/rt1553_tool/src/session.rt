@@ -15,7 +15,7 @@ use std::io::{self, BufRead, Write};
 
 /// Plays a line, without its line feed, and gives the lines that answer it. A line that is none of a script is answered by
 /// a question mark and the reason, and the terminal stands as before.
-pub fn play<L: Legality>(terminal: &mut Terminal<L>, line: &[u8]) -> ArrayString<320>
+pub fn play_live_line<L: Legality>(terminal: &mut Terminal<L>, line: &[u8]) -> ArrayString<320>
     ensures stands { (P : Description) (h : List Event) → StandsAt L.is_legal P h terminal.old → StandsAt L.is_legal P (history_after_line (meaning line.now) h) terminal.new }
     ensures answer { (P : Description) (h : List Event) → StandsAt L.is_legal P h terminal.old → result.bytes ≡ line_answer P h (meaning line.now) }
 {
@@ -50,7 +50,7 @@ pub fn serve<L: Legality + Drop, R: BufRead + Drop, W: Write>(
             [before @ .., b'\n'] => before,
             whole => whole,
         };
-        let answer = play(&mut terminal, bytes);
+        let answer = play_live_line(&mut terminal, bytes);
         writer.write_all(answer.as_str().as_bytes())?;
         writer.write_all(b".\n")?;
         writer.flush()?;

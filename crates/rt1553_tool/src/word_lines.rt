@@ -18,7 +18,7 @@ const ALL_TERMINALS: u8 = 31;
 
 /// Why a line of words is refused.
 #[derive(Clone, Copy, Debug, PartialEq, Eq, Error)]
-pub enum WordFault {
+pub enum WordLineFault {
     /// It begins with none of the names of the language.
     #[error("a line begins with rx, tx, mode, status, data, c, s or d")]
     Name,
@@ -83,36 +83,39 @@ fn number(part: Option<&str>, most: u8) -> Option<u8>
 }
 
 /// Gives the address that a part is, 0 to 31.
-fn address(part: Option<&str>) -> Result<u8, WordFault>
+fn address(part: Option<&str>) -> Result<u8, WordLineFault>
     ensures { IfOk result (λ n. n ≤ 31) }
 {
     if part == Some("all") {
         return Ok(ALL_TERMINALS);
     }
-    number(part, 31).ok_or(WordFault::Address)
+    number(part, 31).ok_or(WordLineFault::Address)
 }
 
 /// Gives the four hexadecimal digits that a part is.
-fn digits(part: Option<&str>) -> Result<u16, WordFault> {
+fn digits(part: Option<&str>) -> Result<u16, WordLineFault> {
     let mut bytes = [0u8; 2];
     match part {
         Some(part) if hex::decode_to_slice(part.as_bytes(), &mut bytes).is_ok() => {
             Ok(u16::from_be_bytes(bytes))
         }
-        _ => Err(WordFault::Digits),
+        _ => Err(WordLineFault::Digits),
     }
 }
 
 /// Reads what follows `rx` or `tx`.
-fn read_transfer(parts: &mut SplitWhitespace<'_>, transmit: bool) -> Result<WordFields, WordFault>
+fn read_transfer(
+    parts: &mut SplitWhitespace<'_>,
+    transmit: bool,
+) -> Result<WordFields, WordLineFault>
     ensures { IfOk result AreOfWidth }
 {
     let address = address(parts.next())?;
     let Some(subaddress @ 1..=30) = number(parts.next(), 30) else {
-        return Err(WordFault::Subaddress);
+        return Err(WordLineFault::Subaddress);
     };
     let Some(count @ 1..=32) = number(parts.next(), 32) else {
-        return Err(WordFault::Count);
+        return Err(WordLineFault::Count);
     };
     Ok(WordFields::Command(CommandFields {
         address,
@@ -123,23 +126,23 @@ fn read_transfer(parts: &mut SplitWhitespace<'_>, transmit: bool) -> Result<Word
 }
 
 /// Reads what follows `mode`.
-fn read_mode(parts: &mut SplitWhitespace<'_>) -> Result<WordFields, WordFault>
+fn read_mode(parts: &mut SplitWhitespace<'_>) -> Result<WordFields, WordLineFault>
     ensures { IfOk result AreOfWidth }
 {
     let address = address(parts.next())?;
     let Some(low) = number(parts.next(), 31) else {
-        return Err(WordFault::Code);
+        return Err(WordLineFault::Code);
     };
     let transmit = match (parts.next(), mode_row(low)) {
         (Some("tx"), _) => true,
         (Some("rx"), _) => false,
         (None, Some(row)) => row.transmit,
-        _ => return Err(WordFault::Direction),
+        _ => return Err(WordLineFault::Direction),
     };
     let subaddress = match parts.next() {
         None | Some("0") => 0,
         Some("31") => 31,
-        Some(_) => return Err(WordFault::ModeSubaddress),
+        Some(_) => return Err(WordLineFault::ModeSubaddress),
     };
     Ok(WordFields::Command(CommandFields {
         address,
@@ -150,7 +153,7 @@ fn read_mode(parts: &mut SplitWhitespace<'_>) -> Result<WordFields, WordFault>
 }
 
 /// Gives the status with the bit of this name set.
-fn with_bit(mut status: StatusFields, name: &str) -> Result<StatusFields, WordFault>
+fn with_bit(mut status: StatusFields, name: &str) -> Result<StatusFields, WordLineFault>
     requires { status.reserved ≤ 7 }
     ensures address { IfOk result (λ s. s.address ≡ status.address) }
     ensures reserved { IfOk result (λ s. s.reserved ≤ 7) }
@@ -167,17 +170,17 @@ fn with_bit(mut status: StatusFields, name: &str) -> Result<StatusFields, WordFa
         "subsystem" => status.subsystem = true,
         "accept" => status.accept = true,
         "terminal" => status.terminal = true,
-        _ => return Err(WordFault::Bit),
+        _ => return Err(WordLineFault::Bit),
     }
     Ok(status)
 }
 
 /// Reads what follows `status`.
-fn read_status(parts: &mut SplitWhitespace<'_>) -> Result<WordFields, WordFault>
+fn read_status(parts: &mut SplitWhitespace<'_>) -> Result<WordFields, WordLineFault>
     ensures { IfOk result AreOfWidth }
 {
     let Some(address) = number(parts.next(), 31) else {
-        return Err(WordFault::Address);
+        return Err(WordLineFault::Address);
     };
     let mut status = status_fields(0);
     status.address = address;
@@ -188,18 +191,18 @@ fn read_status(parts: &mut SplitWhitespace<'_>) -> Result<WordFields, WordFault>
             None => return Ok(WordFields::Status(status)),
         }
     }
-    Err(WordFault::Much)
+    Err(WordLineFault::Much)
 }
 
 /// Reads the digits of a word with this sync, and its parity bit where it stands.
-fn read_digits(parts: &mut SplitWhitespace<'_>, kind: Kind) -> Result<Raw, WordFault>
+fn read_digits(parts: &mut SplitWhitespace<'_>, kind: Kind) -> Result<Raw, WordLineFault>
     ensures { IfOk result (λ word. word ≡ valid_word kind word.bits) }
 {
     let word = Raw::of(kind, digits(parts.next())?);
     match (parts.next(), word.parity) {
         (None, _) | (Some("0"), false) | (Some("1"), true) => Ok(word),
-        (Some("0" | "1"), _) => Err(WordFault::Parity),
-        _ => Err(WordFault::Much),
+        (Some("0" | "1"), _) => Err(WordLineFault::Parity),
+        _ => Err(WordLineFault::Much),
     }
 }
 
@@ -216,7 +219,7 @@ fn by_fields(fields: WordFields) -> WordLine
 }
 
 /// Reads a line that has a word's digits, behind `c` or `s` for the command sync and `d` for the data sync.
-fn read_by_digits(parts: &mut SplitWhitespace<'_>, name: &str) -> Result<WordLine, WordFault>
+fn read_by_digits(parts: &mut SplitWhitespace<'_>, name: &str) -> Result<WordLine, WordLineFault>
     ensures { IfOk result (λ line. IsWordOf line.word line.fields) }
 {
     let (fields, word) = match name {
@@ -232,7 +235,7 @@ fn read_by_digits(parts: &mut SplitWhitespace<'_>, name: &str) -> Result<WordLin
             let word = read_digits(parts, Kind::Dat)?;
             (WordFields::Data(word.bits), word)
         }
-        _ => return Err(WordFault::Name),
+        _ => return Err(WordLineFault::Name),
     };
     Ok(WordLine {
         fields,
@@ -243,15 +246,15 @@ fn read_by_digits(parts: &mut SplitWhitespace<'_>, name: &str) -> Result<WordLin
 
 /// Reads a line that says a word by its fields, or by its digits: what it tells of both is of one word. Parts of a line are
 /// separated by spaces, and what stands behind `#` is a comment.
-pub fn read_word_line(line: &[u8]) -> Result<WordLine, WordFault>
+pub fn read_word_line(line: &[u8]) -> Result<WordLine, WordLineFault>
     ensures { IfOk result (λ line. IsWordOf line.word line.fields) }
 {
     let Ok(text) = str::from_utf8(without_comment(line)) else {
-        return Err(WordFault::Name);
+        return Err(WordLineFault::Name);
     };
     let mut parts = text.split_whitespace();
     let Some(name) = parts.next() else {
-        return Err(WordFault::Name);
+        return Err(WordLineFault::Name);
     };
     let line = match name {
         "rx" => by_fields(read_transfer(&mut parts, false)?),
@@ -263,7 +266,7 @@ pub fn read_word_line(line: &[u8]) -> Result<WordLine, WordFault>
     };
     match parts.next() {
         None => Ok(line),
-        Some(_) => Err(WordFault::Much),
+        Some(_) => Err(WordLineFault::Much),
     }
 }
 

@@ -67,19 +67,19 @@ pub enum ToolCommand<'a> {
         script: &'a str,
         html: bool,
     },
-    /// Words of the bus by their fields, and fields by arguments.
+    /// Words of the bus by their fields, and fields by words.
     Words,
     /// Lines played as they come.
     Live(&'a str),
 }
 
 /// The value of an argument that has to be there.
-fn text<'a>(given: &ArgMatches<'a>, id: &str) -> Result<&'a str, NoCommand> {
+fn required<'a>(given: &ArgMatches<'a>, id: &str) -> Result<&'a str, NoCommand> {
     given.get_str(id).ok_or(NoCommand::Usage)
 }
 
 /// The values of an argument; none where it is left out.
-fn texts<'a>(alloc: Global, given: &ArgMatches<'a>, id: &str) -> Result<Vec<&'a str>, NoCommand> {
+fn all_of<'a>(alloc: Global, given: &ArgMatches<'a>, id: &str) -> Result<Vec<&'a str>, NoCommand> {
     match given.get_strs(id) {
         Some(values) => Ok(Vec::from_slice(alloc, values)?),
         None => Ok(Vec::new(alloc)),
@@ -92,8 +92,8 @@ fn as_json(given: &ArgMatches<'_>) -> bool {
 }
 
 /// What `verify` is asked for. With a folder of profiles no profile stands before the scripts.
-fn verify<'a>(alloc: Global, given: &ArgMatches<'a>) -> Result<ToolCommand<'a>, NoCommand> {
-    let mut scripts = texts(alloc, given, "script")?;
+fn verify_command<'a>(alloc: Global, given: &ArgMatches<'a>) -> Result<ToolCommand<'a>, NoCommand> {
+    let mut scripts = all_of(alloc, given, "script")?;
     let profiles = match given.get_str("profiles") {
         Some(folder) => {
             if let Some(first) = given.get_str("profile") {
@@ -101,7 +101,7 @@ fn verify<'a>(alloc: Global, given: &ArgMatches<'a>) -> Result<ToolCommand<'a>, 
             }
             Profiles::Folder(folder)
         }
-        None => Profiles::One(text(given, "profile")?),
+        None => Profiles::One(required(given, "profile")?),
     };
     if scripts.is_empty() {
         return Err(NoCommand::Usage);
@@ -114,10 +114,10 @@ fn verify<'a>(alloc: Global, given: &ArgMatches<'a>) -> Result<ToolCommand<'a>, 
 }
 
 /// What `differ` is asked for.
-fn differ<'a>(given: &ArgMatches<'a>) -> Result<ToolCommand<'a>, NoCommand> {
+fn differ_command<'a>(given: &ArgMatches<'a>) -> Result<ToolCommand<'a>, NoCommand> {
     Ok(ToolCommand::Differ {
-        profile: text(given, "profile")?,
-        other: text(given, "other")?,
+        profile: required(given, "profile")?,
+        other: required(given, "other")?,
         scripts: given.get_flag("scripts"),
         as_json: as_json(given),
     })
@@ -132,9 +132,9 @@ fn test_format(given: &ArgMatches<'_>) -> TestFormat {
     }
 }
 
-/// What `acceptance` is asked for. A comparison is told in arguments alone.
-fn acceptance<'a>(given: &ArgMatches<'a>) -> Result<ToolCommand<'a>, NoCommand> {
-    let profile = text(given, "profile")?;
+/// What `acceptance` is asked for. A comparison is written as text alone.
+fn acceptance_command<'a>(given: &ArgMatches<'a>) -> Result<ToolCommand<'a>, NoCommand> {
+    let profile = required(given, "profile")?;
     match (given.get_str("against"), test_format(given)) {
         (None, format) => Ok(ToolCommand::Acceptance { profile, format }),
         (Some(results), TestFormat::Script) => Ok(ToolCommand::Against { profile, results }),
@@ -143,10 +143,10 @@ fn acceptance<'a>(given: &ArgMatches<'a>) -> Result<ToolCommand<'a>, NoCommand> 
 }
 
 /// What `draw` is asked for.
-fn draw<'a>(given: &ArgMatches<'a>) -> Result<ToolCommand<'a>, NoCommand> {
+fn draw_command<'a>(given: &ArgMatches<'a>) -> Result<ToolCommand<'a>, NoCommand> {
     Ok(ToolCommand::Draw {
-        profile: text(given, "profile")?,
-        script: text(given, "script")?,
+        profile: required(given, "profile")?,
+        script: required(given, "script")?,
         html: given.get_flag("html"),
     })
 }
@@ -161,20 +161,20 @@ pub fn tool_command_of<'a>(
     };
     match name {
         "lint" => Ok(ToolCommand::Lint {
-            files: texts(alloc, given, "file")?,
+            files: all_of(alloc, given, "file")?,
             as_json: as_json(given),
         }),
-        "verify" => verify(alloc, given),
-        "toml" => Ok(ToolCommand::Toml(text(given, "profile")?)),
+        "verify" => verify_command(alloc, given),
+        "toml" => Ok(ToolCommand::Toml(required(given, "profile")?)),
         "explain" => Ok(ToolCommand::Explain {
-            profile: text(given, "profile")?,
+            profile: required(given, "profile")?,
             as_json: as_json(given),
         }),
-        "differ" => differ(given),
-        "acceptance" => acceptance(given),
-        "draw" => draw(given),
-        "args" => Ok(ToolCommand::Words),
-        "live" => Ok(ToolCommand::Live(text(given, "profile")?)),
+        "differ" => differ_command(given),
+        "acceptance" => acceptance_command(given),
+        "draw" => draw_command(given),
+        "words" => Ok(ToolCommand::Words),
+        "live" => Ok(ToolCommand::Live(required(given, "profile")?)),
         _ => Err(NoCommand::Usage),
     }
 }

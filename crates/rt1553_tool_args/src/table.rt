@@ -187,14 +187,14 @@ pub const COMMANDS: [CommandRow; 9] = [
     },
     CommandRow {
         name: "draw",
-        about: "Draws a run: the args on the buses, and what is handed over",
+        about: "Draws a run: the words on the buses, and what is handed over",
         example: "Example: rt1553-tool draw pump.toml pump.script > pump.svg",
         arguments: &DRAW,
     },
     CommandRow {
-        name: "args",
-        about: "Tells args of the bus by their fields, and fields by args",
-        example: "Example: printf 'rx 5 3 2\\nc 2862\\n' | rt1553-tool args",
+        name: "words",
+        about: "Tells words of the bus by their fields, and fields by words",
+        example: "Example: printf 'rx 5 3 2\\nc 2862\\n' | rt1553-tool words",
         arguments: &[],
     },
     CommandRow {

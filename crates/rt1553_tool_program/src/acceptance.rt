@@ -1,11 +1,11 @@
-//! The word `acceptance`: the test that tells a terminal from every other, and what a unit answered to it.
-use crate::fault::{DIFFERENT, Fault};
-use crate::files::{json_line, load_profile, owned, put, read_script_file};
+//! The command `acceptance`: the test that tells a terminal from every other, and what a unit answered to it.
+use crate::fault::{DIFFERENT, ToolFault};
+use crate::files::{json_line, load_profile, owned, read_script_file, write_bytes};
 use bus_legal::Normal;
 use bus_script::{FromWrite, Sink};
 use rt1553_acceptance::{Progress, write_acceptance};
 use rt1553_results::{
-    Comparison, Results, Rows, compare, csv_header, csv_row, json_row, read_results,
+    Comparison, Results, Rows, compare_results, csv_header, csv_row, json_row, read_results,
 };
 use rt1553_tool_args::TestFormat;
 use std::alloc::Global;
@@ -48,10 +48,10 @@ fn put_script<P: Progress, W: Write>(
     normal: &Normal,
     progress: &mut P,
     output: &mut W,
-) -> Result<(), Fault> {
+) -> Result<(), ToolFault> {
     let mut sink = FromWrite::new(output);
     if write_acceptance(normal, &mut sink, progress).is_err() || sink.flush().is_err() {
-        return Err(Fault::Output);
+        return Err(ToolFault::Output);
     }
     Ok(())
 }
@@ -62,11 +62,11 @@ fn put_csv<P: Progress, W: Write>(
     normal: &Normal,
     progress: &mut P,
     output: &mut W,
-) -> Result<(), Fault> {
-    put(output, csv_header(alloc)?.as_slice())?;
+) -> Result<(), ToolFault> {
+    write_bytes(output, csv_header(alloc)?.as_slice())?;
     let mut rows = Rows::new(normal);
     while let Some(row) = rows.next() {
-        put(output, csv_row(alloc, normal, &row)?.as_slice())?;
+        write_bytes(output, csv_row(alloc, normal, &row)?.as_slice())?;
         progress.exchange_written();
     }
     Ok(())
@@ -78,24 +78,24 @@ fn put_json<P: Progress, W: Write>(
     normal: &Normal,
     progress: &mut P,
     output: &mut W,
-) -> Result<(), Fault> {
+) -> Result<(), ToolFault> {
     let mut rows = Rows::new(normal);
     while let Some(row) = rows.next() {
         let line = json_line(json_row(alloc, normal, &row))?;
-        put(output, line.as_str().as_bytes())?;
+        write_bytes(output, line.as_str().as_bytes())?;
         progress.exchange_written();
     }
     Ok(())
 }
 
 /// Writes the acceptance test of the terminal of a profile. The status is 0.
-pub fn acceptance<R: Files + AllocGlobal + Eprint, W: Write>(
+pub fn write_test<R: Files + AllocGlobal + Eprint, W: Write>(
     rt: &R,
     profile: &str,
     format: TestFormat,
     shows_progress: bool,
     output: &mut W,
-) -> Result<u8, Fault> {
+) -> Result<u8, ToolFault> {
     let normal = load_profile(rt, profile)?;
     let mut progress = Counter {
         rt,
@@ -113,27 +113,27 @@ pub fn acceptance<R: Files + AllocGlobal + Eprint, W: Write>(
 }
 
 /// The results of a unit, of the file of this name.
-fn load_results<R: Files + AllocGlobal>(rt: &R, name: &str) -> Result<Results, Fault> {
+fn load_results<R: Files + AllocGlobal>(rt: &R, name: &str) -> Result<Results, ToolFault> {
     let bytes = read_script_file(rt, name)?;
     match read_results(rt.alloc(), bytes.as_slice()) {
         Ok(results) => Ok(results),
-        Err(fault) => Err(Fault::Results(owned(rt, name)?, fault)),
+        Err(fault) => Err(ToolFault::Results(owned(rt, name)?, fault)),
     }
 }
 
 /// Writes what a comparison tells, and the verdict.
-fn put_comparison<W: Write>(comparison: &Comparison, output: &mut W) -> Result<(), Fault> {
-    for difference in comparison.differences.as_slice() {
+fn put_comparison<W: Write>(comparison: &Comparison, output: &mut W) -> Result<(), ToolFault> {
+    for difference in comparison.wrong_replies.as_slice() {
         if writeln!(output, "{difference}").is_err() {
-            return Err(Fault::Output);
+            return Err(ToolFault::Output);
         }
     }
     for numbers in comparison.missing.as_slice() {
         if writeln!(output, "{numbers}").is_err() {
-            return Err(Fault::Output);
+            return Err(ToolFault::Output);
         }
     }
-    writeln!(output, "{comparison}").map_err(|_| Fault::Output)
+    writeln!(output, "{comparison}").map_err(|_| ToolFault::Output)
 }
 
 /// Compares the results of a unit with the acceptance test of the terminal of a profile. The status tells whether the unit is
@@ -143,12 +143,12 @@ pub fn against<R: Files + AllocGlobal, W: Write>(
     profile: &str,
     results: &str,
     output: &mut W,
-) -> Result<u8, Fault> {
+) -> Result<u8, ToolFault> {
     let normal = load_profile(rt, profile)?;
     let given = load_results(rt, results)?;
-    let comparison = match compare(rt.alloc(), &normal, &given) {
+    let comparison = match compare_results(rt.alloc(), &normal, &given) {
         Ok(comparison) => comparison,
-        Err(fault) => return Err(Fault::Comparison(owned(rt, results)?, fault)),
+        Err(fault) => return Err(ToolFault::Comparison(owned(rt, results)?, fault)),
     };
     put_comparison(&comparison, output)?;
     Ok(if comparison.passes() { 0 } else { DIFFERENT })

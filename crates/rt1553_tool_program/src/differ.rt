@@ -1,6 +1,6 @@
-//! The word `differ`: in what two profiles differ.
-use crate::fault::{DIFFERENT, Fault};
-use crate::files::{json_line, load_profile, put};
+//! The command `differ`: in what two profiles differ.
+use crate::fault::{DIFFERENT, ToolFault};
+use crate::files::{json_line, load_profile, write_bytes};
 use rt1553_differ::{Group, Pair, differ_json, differ_text, differences, groups_of};
 use std::alloc::Global;
 use std::io::Write;
@@ -13,7 +13,7 @@ fn text_of(
     groups: &[Group],
     scripts: bool,
     as_json: bool,
-) -> Result<String, Fault> {
+) -> Result<String, ToolFault> {
     if as_json {
         return json_line(differ_json(alloc, pair, groups, scripts));
     }
@@ -27,24 +27,24 @@ fn put_pair<R: AllocGlobal, W: Write>(
     scripts: bool,
     as_json: bool,
     output: &mut W,
-) -> Result<u8, Fault> {
+) -> Result<u8, ToolFault> {
     let found = differences(rt.alloc(), pair.p, pair.q)?;
     let groups = groups_of(rt.alloc(), found.as_slice(), pair.p)?;
     let text = text_of(rt.alloc(), pair, groups.as_slice(), scripts, as_json)?;
-    put(output, text.as_str().as_bytes())?;
+    write_bytes(output, text.as_str().as_bytes())?;
     Ok(if found.is_empty() { 0 } else { DIFFERENT })
 }
 
 /// Writes all in which the terminals of two profiles differ, with scripts that show it where they are asked for. The status
 /// tells whether they differ.
-pub fn differ<R: Files + AllocGlobal, W: Write>(
+pub fn differ_profiles<R: Files + AllocGlobal, W: Write>(
     rt: &R,
     first: &str,
     second: &str,
     scripts: bool,
     as_json: bool,
     output: &mut W,
-) -> Result<u8, Fault> {
+) -> Result<u8, ToolFault> {
     let p = load_profile(rt, first)?;
     let q = load_profile(rt, second)?;
     let pair = Pair {

@@ -17,7 +17,7 @@ pub const REFUSED: u8 = 2;
 
 /// Why the program ends early. A text is the name of a file.
 #[derive(Drop)]
-pub enum Fault {
+pub enum ToolFault {
     /// Out of memory.
     Memory,
     /// The file can't be opened or read.
@@ -48,65 +48,65 @@ pub enum Fault {
     Toml(TomlFault),
 }
 
-impl fmt::Display for Fault {
+impl fmt::Display for ToolFault {
     fn fmt<W: fmt::Write>(&self, f: &mut fmt::Formatter<W>) -> fmt::Result {
         match self {
-            Fault::Memory => f.write_str("out of memory"),
-            Fault::CannotRead(name) => write!(f, "file: cannot read {name}"),
-            Fault::TooLarge(name) => write!(f, "file: too large {name}"),
-            Fault::Stream => f.write_str("stream: read or write failed"),
-            Fault::Output => f.write_str("output: write failed"),
-            Fault::Profile(name, fault) => write!(f, "{name}: {fault}"),
-            Fault::Script(name, fault) => write!(f, "{name}: {fault}"),
-            Fault::Drawing(name, fault) => write!(f, "{name}: {fault}"),
-            Fault::Results(name, fault) => write!(f, "{name}: {fault}"),
-            Fault::Comparison(name, fault) => write!(f, "{name}: {fault}"),
-            Fault::NoProfile(name) => write!(
+            ToolFault::Memory => f.write_str("out of memory"),
+            ToolFault::CannotRead(name) => write!(f, "file: cannot read {name}"),
+            ToolFault::TooLarge(name) => write!(f, "file: too large {name}"),
+            ToolFault::Stream => f.write_str("stream: read or write failed"),
+            ToolFault::Output => f.write_str("output: write failed"),
+            ToolFault::Profile(name, fault) => write!(f, "{name}: {fault}"),
+            ToolFault::Script(name, fault) => write!(f, "{name}: {fault}"),
+            ToolFault::Drawing(name, fault) => write!(f, "{name}: {fault}"),
+            ToolFault::Results(name, fault) => write!(f, "{name}: {fault}"),
+            ToolFault::Comparison(name, fault) => write!(f, "{name}: {fault}"),
+            ToolFault::NoProfile(name) => write!(
                 f,
                 "{name}: script: no line '# Profile: NAME' at its front"
             ),
-            Fault::Usage => f.write_str("arguments: see --help"),
-            Fault::Differ(fault) => write!(f, "{fault}"),
-            Fault::Toml(fault) => write!(f, "{fault}"),
+            ToolFault::Usage => f.write_str("arguments: see --help"),
+            ToolFault::Differ(fault) => write!(f, "{fault}"),
+            ToolFault::Toml(fault) => write!(f, "{fault}"),
         }
     }
 }
 
-impl Fault {
+impl ToolFault {
     /// The status that the program ends with.
     pub fn status(&self) -> u8 {
         match self {
-            Fault::Profile(_, LoadFault::Memory)
-            | Fault::Script(_, StatedFault::Memory)
-            | Fault::Drawing(_, DrawFault::Memory)
-            | Fault::Results(_, ResultsFault::Memory)
-            | Fault::Comparison(_, CompareFault::Memory) => 4,
-            Fault::Profile(_, _)
-            | Fault::Script(_, _)
-            | Fault::Drawing(_, _)
-            | Fault::Results(_, _)
-            | Fault::Comparison(_, _)
-            | Fault::NoProfile(_) => REFUSED,
-            Fault::Usage => USAGE,
+            ToolFault::Profile(_, LoadFault::Memory)
+            | ToolFault::Script(_, StatedFault::Memory)
+            | ToolFault::Drawing(_, DrawFault::Memory)
+            | ToolFault::Results(_, ResultsFault::Memory)
+            | ToolFault::Comparison(_, CompareFault::Memory) => 4,
+            ToolFault::Profile(_, _)
+            | ToolFault::Script(_, _)
+            | ToolFault::Drawing(_, _)
+            | ToolFault::Results(_, _)
+            | ToolFault::Comparison(_, _)
+            | ToolFault::NoProfile(_) => REFUSED,
+            ToolFault::Usage => USAGE,
             _ => 4,
         }
     }
 }
 
-impl From<AllocError> for Fault {
-    fn from(_error: AllocError) -> Fault {
-        Fault::Memory
+impl From<AllocError> for ToolFault {
+    fn from(_error: AllocError) -> ToolFault {
+        ToolFault::Memory
     }
 }
 
-impl<T: Drop> From<AllocFailed<T>> for Fault {
-    fn from(_failed: AllocFailed<T>) -> Fault {
-        Fault::Memory
+impl<T: Drop> From<AllocFailed<T>> for ToolFault {
+    fn from(_failed: AllocFailed<T>) -> ToolFault {
+        ToolFault::Memory
     }
 }
 
-impl From<DifferFault> for Fault {
-    fn from(fault: DifferFault) -> Fault {
-        Fault::Differ(fault)
+impl From<DifferFault> for ToolFault {
+    fn from(fault: DifferFault) -> ToolFault {
+        ToolFault::Differ(fault)
     }
 }

@@ -1,7 +1,7 @@
 //! Files that are read whole, and what all commands need.
 ghost use Rattle.std.specs.Prelude.{◌≤◌};
 
-use crate::fault::Fault;
+use crate::fault::ToolFault;
 use bus_legal::Normal;
 use rt1553::load;
 use std::fs;
@@ -15,26 +15,26 @@ const MOST: usize = 1_048_576;
 const MOST_OF_SCRIPT: usize = 68_157_440;
 
 /// A name that a fault tells.
-pub fn owned<R: AllocGlobal>(rt: &R, name: &str) -> Result<String, Fault> {
+pub fn owned<R: AllocGlobal>(rt: &R, name: &str) -> Result<String, ToolFault> {
     match String::from_str(rt.alloc(), name) {
         Ok(name) => Ok(name),
-        Err(_) => Err(Fault::Memory),
+        Err(_) => Err(ToolFault::Memory),
     }
 }
 
 /// The fault of a file of this name that can't be opened or read.
-fn unread<R: AllocGlobal>(rt: &R, name: &str, kind: ErrorKind) -> Fault {
+fn unread<R: AllocGlobal>(rt: &R, name: &str, kind: ErrorKind) -> ToolFault {
     match kind {
-        ErrorKind::OutOfMemory => Fault::Memory,
+        ErrorKind::OutOfMemory => ToolFault::Memory,
         _ => match owned(rt, name) {
-            Ok(name) => Fault::CannotRead(name),
+            Ok(name) => ToolFault::CannotRead(name),
             Err(fault) => fault,
         },
     }
 }
 
 /// The bytes of a file of at most so many.
-fn read_file<R: Files + AllocGlobal>(rt: &R, name: &str, most: usize) -> Result<Vec<u8>, Fault>
+fn read_file<R: Files + AllocGlobal>(rt: &R, name: &str, most: usize) -> Result<Vec<u8>, ToolFault>
     requires { most ≤ 68157440 }
 {
     let file = match fs::open(rt, name) {
@@ -45,41 +45,41 @@ fn read_file<R: Files + AllocGlobal>(rt: &R, name: &str, most: usize) -> Result<
     // one byte more tells a file that is too large
     let mut part = file.take(most as u64 + 1);
     match part.read_to_end(&mut bytes) {
-        Ok(_) if bytes.len() > most => Err(Fault::TooLarge(owned(rt, name)?)),
+        Ok(_) if bytes.len() > most => Err(ToolFault::TooLarge(owned(rt, name)?)),
         Ok(_) => Ok(bytes),
         Err(error) => Err(unread(rt, name, error.kind())),
     }
 }
 
 /// The bytes of a profile file, of at most 1,048,576 bytes.
-pub fn read_profile_file<R: Files + AllocGlobal>(rt: &R, name: &str) -> Result<Vec<u8>, Fault> {
+pub fn read_tool_profile<R: Files + AllocGlobal>(rt: &R, name: &str) -> Result<Vec<u8>, ToolFault> {
     read_file(rt, name, MOST)
 }
 
 /// What can be reached of the terminal of a profile file.
-pub fn load_profile<R: Files + AllocGlobal>(rt: &R, name: &str) -> Result<Normal, Fault> {
-    let bytes = read_profile_file(rt, name)?;
+pub fn load_profile<R: Files + AllocGlobal>(rt: &R, name: &str) -> Result<Normal, ToolFault> {
+    let bytes = read_tool_profile(rt, name)?;
     match load(rt.alloc(), bytes.as_slice()) {
         Ok(normal) => Ok(normal),
-        Err(fault) => Err(Fault::Profile(owned(rt, name)?, fault)),
+        Err(fault) => Err(ToolFault::Profile(owned(rt, name)?, fault)),
     }
 }
 
 /// The bytes of a script, no more than any script that is played can have.
-pub fn read_script_file<R: Files + AllocGlobal>(rt: &R, name: &str) -> Result<Vec<u8>, Fault> {
+pub fn read_script_file<R: Files + AllocGlobal>(rt: &R, name: &str) -> Result<Vec<u8>, ToolFault> {
     read_file(rt, name, MOST_OF_SCRIPT)
 }
 
 /// A text that is written as a line of JSON; None means out of memory.
-pub fn json_line(text: Option<String>) -> Result<String, Fault> {
+pub fn json_line(text: Option<String>) -> Result<String, ToolFault> {
     let Some(mut line) = text else {
-        return Err(Fault::Memory);
+        return Err(ToolFault::Memory);
     };
     line.push('\n')?;
     Ok(line)
 }
 
 /// Writes all the bytes.
-pub fn put<W: Write>(output: &mut W, bytes: &[u8]) -> Result<(), Fault> {
-    output.write_all(bytes).map_err(|_| Fault::Output)
+pub fn write_bytes<W: Write>(output: &mut W, bytes: &[u8]) -> Result<(), ToolFault> {
+    output.write_all(bytes).map_err(|_| ToolFault::Output)
 }

@@ -1,7 +1,7 @@
-//! The word `lint`: all that is wrong with profiles, and what in them has no effect.
-use crate::fault::{DIFFERENT, Fault, REFUSED};
-use crate::files::{json_line, put, read_profile_file};
-use rt1553_lint::{Finding, lint as findings_of};
+//! The command `lint`: all that is wrong with profiles, and what in them has no effect.
+use crate::fault::{DIFFERENT, REFUSED, ToolFault};
+use crate::files::{json_line, read_tool_profile, write_bytes};
+use rt1553_lint::{Finding, lint};
 use std::io::Write;
 use std::rt::Files;
 
@@ -12,14 +12,14 @@ fn put_finding<R: AllocGlobal, W: Write>(
     finding: &Finding,
     as_json: bool,
     output: &mut W,
-) -> Result<(), Fault> {
+) -> Result<(), ToolFault> {
     if as_json {
         let line = json_line(finding.to_json(rt.alloc(), name))?;
-        return put(output, line.as_str().as_bytes());
+        return write_bytes(output, line.as_str().as_bytes());
     }
     match writeln!(output, "{name}:{finding}") {
         Ok(()) => Ok(()),
-        Err(_) => Err(Fault::Output),
+        Err(_) => Err(ToolFault::Output),
     }
 }
 
@@ -29,10 +29,10 @@ fn lint_file<R: Files + AllocGlobal, W: Write>(
     name: &str,
     as_json: bool,
     output: &mut W,
-) -> Result<u8, Fault> {
-    let bytes = read_profile_file(rt, name)?;
+) -> Result<u8, ToolFault> {
+    let bytes = read_tool_profile(rt, name)?;
     let mut status = 0;
-    for finding in findings_of(rt.alloc(), bytes.as_slice())?.as_slice() {
+    for finding in lint(rt.alloc(), bytes.as_slice())?.as_slice() {
         put_finding(rt, name, finding, as_json, output)?;
         let of_finding = match finding.fault {
             Some(_) => REFUSED,
@@ -46,12 +46,12 @@ fn lint_file<R: Files + AllocGlobal, W: Write>(
 }
 
 /// Writes what is found in files. The status is the highest that a file asks for.
-pub fn lint<R: Files + AllocGlobal + Eprint, W: Write>(
+pub fn lint_files<R: Files + AllocGlobal + Eprint, W: Write>(
     rt: &R,
     names: &[&str],
     as_json: bool,
     output: &mut W,
-) -> Result<u8, Fault> {
+) -> Result<u8, ToolFault> {
     let mut status = 0;
     for name in names {
         let of_file = match lint_file(rt, name, as_json, output) {

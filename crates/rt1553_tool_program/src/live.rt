@@ -1,5 +1,5 @@
-//! The word `live`: lines are played as they come.
-use crate::fault::Fault;
+//! The command `live`: lines are played as they come.
+use crate::fault::ToolFault;
 use crate::files::load_profile;
 use bus_terminal::Terminal;
 use rt1553_tool::serve;
@@ -7,22 +7,22 @@ use std::io::{BufReader, ErrorKind, Read, Write};
 use std::rt::Files;
 
 /// Plays lines to the terminal of a profile as they come. The status is 0.
-pub fn live<R: Files + AllocGlobal, I: Read + Drop, W: Write>(
+pub fn play_live<R: Files + AllocGlobal, I: Read + Drop, W: Write>(
     rt: &R,
     profile: &str,
     input: I,
     output: &mut W,
-) -> Result<u8, Fault> {
+) -> Result<u8, ToolFault> {
     let normal = load_profile(rt, profile)?;
     let terminal = Terminal::power_up(normal.setup(), normal);
     let Ok(reader) = BufReader::new(rt.alloc(), input) else {
-        return Err(Fault::Memory);
+        return Err(ToolFault::Memory);
     };
     match serve(rt.alloc(), terminal, reader, output) {
         Ok(()) => Ok(0),
         Err(error) => match error.kind() {
-            ErrorKind::OutOfMemory => Err(Fault::Memory),
-            _ => Err(Fault::Stream),
+            ErrorKind::OutOfMemory => Err(ToolFault::Memory),
+            _ => Err(ToolFault::Stream),
         },
     }
 }

@@ -20,7 +20,7 @@ use std::process::ExitCode;
 
 fn main(rt: HostRuntime) -> ExitCode {
     let shows_progress = rt.stderr().is_terminal() && !rt.stdout().is_terminal();
-    match work::work(&rt, shows_progress, rt.stdin(), rt.stdout()) {
+    match work::run_tool(&rt, shows_progress, rt.stdin(), rt.stdout()) {
         Ok(status) => ExitCode::from(status),
         Err(fault) => {
             // there is nowhere to tell that this could not be written

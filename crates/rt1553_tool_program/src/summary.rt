@@ -1,6 +1,6 @@
 //! Which scripts pass, clause by clause.
-use crate::fault::Fault;
-use crate::files::put;
+use crate::fault::ToolFault;
+use crate::files::write_bytes;
 use std::alloc::{AllocError, Global};
 use std::fmt;
 use std::io::Write;
@@ -119,19 +119,19 @@ impl Summary {
     }
 
     /// Writes a line for each clause, and one for all scripts.
-    pub fn put<W: Write>(&self, output: &mut W) -> Result<(), Fault> {
+    pub fn put<W: Write>(&self, output: &mut W) -> Result<(), ToolFault> {
         for clause in self.clauses.as_slice() {
             match clause.name.as_slice() {
-                [] => put(output, b"no clause")?,
-                name => put(output, name)?,
+                [] => write_bytes(output, b"no clause")?,
+                name => write_bytes(output, name)?,
             }
             if writeln!(output, ": {}", clause.count).is_err() {
-                return Err(Fault::Output);
+                return Err(ToolFault::Output);
             }
         }
         match writeln!(output, "all: {}", self.all) {
             Ok(()) => Ok(()),
-            Err(_) => Err(Fault::Output),
+            Err(_) => Err(ToolFault::Output),
         }
     }
 }

@@ -1,10 +1,10 @@
-//! The word `verify`: scripts that state their answers are played.
-use crate::fault::{DIFFERENT, Fault};
-use crate::files::{load_profile, owned, put, read_script_file};
+//! The command `verify`: scripts that state their answers are played.
+use crate::fault::{DIFFERENT, ToolFault};
+use crate::files::{load_profile, owned, read_script_file, write_bytes};
 use crate::summary::Summary;
 use bus_legal::Normal;
 use rt1553_tool_args::Profiles;
-use rt1553_verify::{Difference, answers_in, differences, named, read_stated};
+use rt1553_verify::{WrongAnswer, answers_in, named, read_stated, wrong_answers};
 use std::io::Write;
 use std::rt::Files;
 use std::{fmt, format};
@@ -25,48 +25,48 @@ impl Played<'_> {
         rt: &R,
         name: &str,
         script: &[u8],
-    ) -> Result<Normal, Fault> {
+    ) -> Result<Normal, ToolFault> {
         let folder = match self {
             Played::One(normal) => return Ok(*normal),
             Played::Folder(folder) => folder,
         };
         let profile = match named(script, b"# Profile: ") {
             Some(profile) => str::from_utf8(profile),
-            None => return Err(Fault::NoProfile(owned(rt, name)?)),
+            None => return Err(ToolFault::NoProfile(owned(rt, name)?)),
         };
         match profile {
             Ok(profile) => {
                 let path = format!(in rt.alloc(); "{folder}/{profile}")?;
                 load_profile(rt, path.as_str())
             }
-            Err(_) => Err(Fault::NoProfile(owned(rt, name)?)),
+            Err(_) => Err(ToolFault::NoProfile(owned(rt, name)?)),
         }
     }
 }
 
 /// Writes a line of a transcript without its line feed, or that there is none.
-fn put_answer<W: Write>(output: &mut W, answer: &[u8]) -> Result<(), Fault> {
+fn put_answer<W: Write>(output: &mut W, answer: &[u8]) -> Result<(), ToolFault> {
     match answer {
-        [] => put(output, b"nothing"),
-        [line @ .., b'\n'] => put(output, line),
-        line => put(output, line),
+        [] => write_bytes(output, b"nothing"),
+        [line @ .., b'\n'] => write_bytes(output, line),
+        line => write_bytes(output, line),
     }
 }
 
 /// Writes where a file differs.
-fn put_difference<W: Write>(
+fn put_wrong_answer<W: Write>(
     output: &mut W,
     name: &str,
-    difference: &Difference,
-) -> Result<(), Fault> {
-    let line = difference.line;
+    wrong: &WrongAnswer,
+) -> Result<(), ToolFault> {
+    let line = wrong.line;
     if write!(output, "{name}:{line}: expected ").is_err() {
-        return Err(Fault::Output);
+        return Err(ToolFault::Output);
     }
-    put_answer(output, difference.expected.as_slice())?;
-    put(output, b", came ")?;
-    put_answer(output, difference.came.as_slice())?;
-    put(output, b"\n")
+    put_answer(output, wrong.expected.as_slice())?;
+    write_bytes(output, b", came ")?;
+    put_answer(output, wrong.came.as_slice())?;
+    write_bytes(output, b"\n")
 }
 
 /// Writes how many answers of a file differ, or, where it is asked for, that it passes with so many.
@@ -76,7 +76,7 @@ fn put_count<W: Write>(
     count: usize,
     answers: usize,
     each: bool,
-) -> Result<(), Fault> {
+) -> Result<(), ToolFault> {
     let written = if count > 0 {
         writeln!(output, "{name}: {count} differ")
     } else if each {
@@ -84,26 +84,26 @@ fn put_count<W: Write>(
     } else {
         Ok(())
     };
-    written.map_err(|_| Fault::Output)
+    written.map_err(|_| ToolFault::Output)
 }
 
 /// Plays a script, writes where it differs, or, where it is asked for, that it passes, and gives whether it does.
-fn play<R: Files + AllocGlobal, W: Write>(
+fn play_script<R: Files + AllocGlobal, W: Write>(
     rt: &R,
     played: &Played<'_>,
     name: &str,
     script: &[u8],
     each: bool,
     output: &mut W,
-) -> Result<bool, Fault> {
+) -> Result<bool, ToolFault> {
     let normal = played.of_script(rt, name, script)?;
     let stated = match read_stated(rt.alloc(), script) {
         Ok(stated) => stated,
-        Err(fault) => return Err(Fault::Script(owned(rt, name)?, fault)),
+        Err(fault) => return Err(ToolFault::Script(owned(rt, name)?, fault)),
     };
-    let found = differences(rt.alloc(), &normal, stated.as_slice())?;
-    for difference in found.as_slice() {
-        put_difference(output, name, difference)?;
+    let found = wrong_answers(rt.alloc(), &normal, stated.as_slice())?;
+    for wrong in found.as_slice() {
+        put_wrong_answer(output, name, wrong)?;
     }
     let answers = answers_in(stated.as_slice());
     put_count(output, name, found.len(), answers, each)?;
@@ -126,7 +126,7 @@ fn play_file<R: Files + AllocGlobal, W: Write>(
     each: bool,
     summary: &mut Summary,
     output: &mut W,
-) -> Result<bool, Fault> {
+) -> Result<bool, ToolFault> {
     let script = match read_script_file(rt, name) {
         Ok(script) => script,
         Err(fault) => {
@@ -134,7 +134,7 @@ fn play_file<R: Files + AllocGlobal, W: Write>(
             return Err(fault);
         }
     };
-    let outcome = play(rt, played, name, script.as_slice(), each, output);
+    let outcome = play_script(rt, played, name, script.as_slice(), each, output);
     let passes = match &outcome {
         Ok(passes) => *passes,
         Err(_) => false,
@@ -150,7 +150,7 @@ fn play_files<R: Files + AllocGlobal + Eprint, W: Write>(
     names: &[&str],
     each: bool,
     output: &mut W,
-) -> Result<u8, Fault> {
+) -> Result<u8, ToolFault> {
     let mut summary = Summary::new(rt.alloc());
     let mut status = 0;
     for name in names {
@@ -175,13 +175,13 @@ fn play_files<R: Files + AllocGlobal + Eprint, W: Write>(
 
 /// Plays scripts that state their answers and writes where they differ; with `summary` also what passes, clause by clause.
 /// The status is the highest that a script asks for.
-pub fn verify<R: Files + AllocGlobal + Eprint, W: Write>(
+pub fn verify_scripts<R: Files + AllocGlobal + Eprint, W: Write>(
     rt: &R,
     profiles: Profiles<'_>,
     scripts: &[&str],
     summary: bool,
     output: &mut W,
-) -> Result<u8, Fault> {
+) -> Result<u8, ToolFault> {
     let played = match profiles {
         Profiles::One(name) => Played::One(load_profile(rt, name)?),
         Profiles::Folder(folder) => Played::Folder(folder),

@@ -1,77 +1,77 @@
 //! What the program does.
-use crate::acceptance::{acceptance, against};
+use crate::acceptance::{against, write_test};
 use crate::bus_words::bus_words;
-use crate::differ::differ;
-use crate::draw::draw;
-use crate::explain::explain;
-use crate::fault::Fault;
-use crate::lint::lint;
-use crate::live::live;
-use crate::profile_toml::toml;
-use crate::verify::verify;
+use crate::differ::differ_profiles;
+use crate::draw::draw_run;
+use crate::explain::explain_profile;
+use crate::fault::ToolFault;
+use crate::lint::lint_files;
+use crate::live::play_live;
+use crate::profile_toml::write_toml;
+use crate::verify::verify_scripts;
 use rt1553_tool_args::{NoCommand, ToolCommand, read_tool_args};
 use std::env;
 use std::io::{ErrorKind, Read, Write};
 use std::rt::{Env, Files};
 
 /// Does what is asked for, and gives the status to end with.
-fn do_job<R: Files + AllocGlobal + Eprint, I: Read + Drop, W: Write>(
+fn do_command<R: Files + AllocGlobal + Eprint, I: Read + Drop, W: Write>(
     rt: &R,
-    job: &ToolCommand<'_>,
+    command: &ToolCommand<'_>,
     shows_progress: bool,
     input: I,
     output: &mut W,
-) -> Result<u8, Fault> {
-    match job {
-        ToolCommand::Lint { files, as_json } => lint(rt, files.as_slice(), *as_json, output),
+) -> Result<u8, ToolFault> {
+    match command {
+        ToolCommand::Lint { files, as_json } => lint_files(rt, files.as_slice(), *as_json, output),
         ToolCommand::Verify {
             profiles,
             scripts,
             summary,
-        } => verify(rt, *profiles, scripts.as_slice(), *summary, output),
-        ToolCommand::Toml(profile) => toml(rt, profile, output),
-        ToolCommand::Explain { profile, as_json } => explain(rt, profile, *as_json, output),
+        } => verify_scripts(rt, *profiles, scripts.as_slice(), *summary, output),
+        ToolCommand::Toml(profile) => write_toml(rt, profile, output),
+        ToolCommand::Explain { profile, as_json } => explain_profile(rt, profile, *as_json, output),
         ToolCommand::Differ {
             profile,
             other,
             scripts,
             as_json,
-        } => differ(rt, profile, other, *scripts, *as_json, output),
+        } => differ_profiles(rt, profile, other, *scripts, *as_json, output),
         ToolCommand::Acceptance { profile, format } => {
-            acceptance(rt, profile, *format, shows_progress, output)
+            write_test(rt, profile, *format, shows_progress, output)
         }
         ToolCommand::Against { profile, results } => against(rt, profile, results, output),
         ToolCommand::Draw {
             profile,
             script,
             html,
-        } => draw(rt, profile, script, *html, output),
+        } => draw_run(rt, profile, script, *html, output),
         ToolCommand::Words => bus_words(rt, input, output),
-        ToolCommand::Live(profile) => live(rt, profile, input, output),
+        ToolCommand::Live(profile) => play_live(rt, profile, input, output),
     }
 }
 
 /// Does what the command line asks for, and gives the status to end with. Where somebody looks at the standard error and not at
 /// the output, it shows progress there.
-pub fn work<R: Env + Files + AllocGlobal + Print + Eprint, I: Read + Drop, O: Write + Drop>(
+pub fn run_tool<R: Env + Files + AllocGlobal + Print + Eprint, I: Read + Drop, O: Write + Drop>(
     rt: &R,
     shows_progress: bool,
     input: I,
     mut output: O,
-) -> Result<u8, Fault> {
+) -> Result<u8, ToolFault> {
     let args = match env::args(rt) {
         Ok(args) => args,
         Err(error) => match error.kind() {
-            ErrorKind::OutOfMemory => return Err(Fault::Memory),
-            _ => return Err(Fault::Usage),
+            ErrorKind::OutOfMemory => return Err(ToolFault::Memory),
+            _ => return Err(ToolFault::Usage),
         },
     };
     let args: Vec<String> = args.collect(rt.alloc())?;
     match read_tool_args(rt, args.as_slice()) {
-        Ok(job) => do_job(rt, &job, shows_progress, input, &mut output),
+        Ok(command) => do_command(rt, &command, shows_progress, input, &mut output),
         Err(NoCommand::Said(status)) => Ok(status),
-        Err(NoCommand::Output) => Err(Fault::Output),
-        Err(NoCommand::Usage) => Err(Fault::Usage),
-        Err(NoCommand::Memory) => Err(Fault::Memory),
+        Err(NoCommand::Output) => Err(ToolFault::Output),
+        Err(NoCommand::Usage) => Err(ToolFault::Usage),
+        Err(NoCommand::Memory) => Err(ToolFault::Memory),
     }
 }

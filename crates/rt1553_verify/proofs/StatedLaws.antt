@@ -1,5 +1,5 @@
 -- Laws of what a script says that states its answers.
-use Rattle.std.proofs.Common.{ℕ, ◌≡◌, ◌≢◌, ◌∙◌, ◌+◌, ◌-◌, ◌<◌, ◌≤◌, Bool, true, false, ◌&&◌, cond, nat_le, nat_lt, List, [], ◌∷◌, ◌++◌, Option, Some, None, Result, Ok, Err, length, map, get_or, take, drop, refl, sym, ap, arith, append_assoc, append-nil, codes, ⊎_elim}
+use Rattle.std.proofs.Common.{ℕ, ◌≡◌, ◌≢◌, ◌∙◌, ◌+◌, ◌-◌, ◌<◌, ◌≤◌, Bool, true, false, ◌&&◌, cond, List, [], ◌∷◌, ◌++◌, Option, Some, None, Result, Ok, Err, length, map, get_or, take, drop, refl, sym, ap, arith, append_assoc, append-nil, codes, ⊎_elim}
 use Rattle.std.proofs.lemmas.Bool.{cases_lt}
 use Rattle.std.proofs.lemmas.Bool.Decides.{nat_tests}
 use Rattle.std.proofs.lemmas.List.{take_all, drop_all, length-drop, map-append}
@@ -14,7 +14,7 @@ use Rattle.bus_script.proofs.LineLaws.{line_at, lines-line, lines-last, no_line_
 use Rattle.bus_script.proofs.ReadingLaws.{reading-line, adds-adds}
 use Rattle.rt1553_verify.specs.declared.stated.StatedFault.{StatedFault}
 use Rattle.rt1553_verify.specs.declared.stated.StatedFault.TheVariants.{LongLine, TooLong}
-use Rattle.rt1553_verify.specs.Stated.{StatedEvent, Latest, After, event_of, is_empty, states_answer, can_answer, states, goes_on, with_line_feed, ended, stays, or_misplaced, plain, by_going_on, by_answer, line_says, then_events, then_lines, stated_by}
+use Rattle.rt1553_verify.specs.Stated.{StatedEvent, Latest, After, is_empty, states_answer, can_answer, states, goes_on, ended, stays, or_misplaced, unstated_line, by_going_on, by_answer, line_says, then_events, then_lines, stated_by}
 
 -- the first line of a text with a line feed at i
 pub first-with_feed : (bytes : List ℕ) (i : ℕ) → i < length bytes → ((k : ℕ) → k < i → get_or bytes k 0 ≢ 10) → get_or bytes i 0 ≡ 10
@@ -118,53 +118,53 @@ stated_all n (b ∷ rest) latest old new all none grown before = absurd (omega (
 record Line (n : ℕ) (latest : Latest) (line : List ℕ) (after : After) : Type 0 where
   events : List Event
   means : (r : Reading) → then_reads (meaning line) n r ≡ adds events r
-  are : map event_of after.events ++ map event_of (ended after.latest) ≡ map event_of (ended latest) ++ events
+  are : map (λ s. s.event) after.events ++ map (λ s. s.event) (ended after.latest) ≡ map (λ s. s.event) (ended latest) ++ events
 
 -- a line that states an answer says no event
 stays-line : (n m : ℕ) (latest : Latest) (o : Option StatedEvent) (line : List ℕ) (after : After) → meaning line ≡ Ok None
-    → ((s : StatedEvent) → o ≡ Some s → map event_of (ended (Some s)) ≡ map event_of (ended latest)) → or_misplaced m o ≡ Ok after → Line n latest line after
+    → ((s : StatedEvent) → o ≡ Some s → map (λ s. s.event) (ended (Some s)) ≡ map (λ s. s.event) (ended latest)) → or_misplaced m o ≡ Ok after → Line n latest line after
 stays-line n m latest None line after comment same e = absurd (cc)
 stays-line n m latest (Some s) line after comment same e = let is : after ≡ stays (Some s) = cc in record {
   events = [];
   means = λ r. ap (λ x. then_reads x n r) comment;
-  are = ap (λ a. map event_of a.events ++ map event_of (ended a.latest)) is ∙ same s refl ∙ sym (append-nil _);
+  are = ap (λ a. map (λ s. s.event) a.events ++ map (λ s. s.event) (ended a.latest)) is ∙ same s refl ∙ sym (append-nil _);
 }
 
-states-event : (latest : Latest) (line : List ℕ) (s : StatedEvent) → states latest line ≡ Some s → map event_of (ended (Some s)) ≡ map event_of (ended latest)
+states-event : (latest : Latest) (line : List ℕ) (s : StatedEvent) → states latest line ≡ Some s → map (λ s. s.event) (ended (Some s)) ≡ map (λ s. s.event) (ended latest)
 states-event None line s e = absurd (cc)
 states-event (Some l) line s e = pick (is_empty l.answer && can_answer l.event line) e
   where
-    pick : (b : Bool) → cond b (Some (record l { answer = line })) None ≡ Some s → map event_of (ended (Some s)) ≡ map event_of (ended (Some l))
-    pick true e = let is : s ≡ record l { answer = line } = cc in ap (λ x. event_of x ∷ []) is
+    pick : (b : Bool) → cond b (Some (record l { answer = line })) None ≡ Some s → map (λ s. s.event) (ended (Some s)) ≡ map (λ s. s.event) (ended (Some l))
+    pick true e = let is : s ≡ record l { answer = line } = cc in ap (λ x. x.event ∷ []) is
     pick false e = absurd (cc)
 
-goes_on-event : (latest : Latest) (rest : List ℕ) (s : StatedEvent) → goes_on latest rest ≡ Some s → map event_of (ended (Some s)) ≡ map event_of (ended latest)
+goes_on-event : (latest : Latest) (rest : List ℕ) (s : StatedEvent) → goes_on latest rest ≡ Some s → map (λ s. s.event) (ended (Some s)) ≡ map (λ s. s.event) (ended latest)
 goes_on-event None rest s e = absurd (cc)
 goes_on-event (Some l) rest s e = pick (states_answer l) e
   where
-    pick : (b : Bool) → cond b (Some (record l { answer = l.answer ++ 32 ∷ rest })) None ≡ Some s → map event_of (ended (Some s)) ≡ map event_of (ended (Some l))
-    pick true e = let is : s ≡ record l { answer = l.answer ++ 32 ∷ rest } = cc in ap (λ x. event_of x ∷ []) is
+    pick : (b : Bool) → cond b (Some (record l { answer = l.answer ++ 32 ∷ rest })) None ≡ Some s → map (λ s. s.event) (ended (Some s)) ≡ map (λ s. s.event) (ended (Some l))
+    pick true e = let is : s ≡ record l { answer = l.answer ++ 32 ∷ rest } = cc in ap (λ x. x.event ∷ []) is
     pick false e = absurd (cc)
 
-plain-line : (n m : ℕ) (latest : Latest) (x : Result (Option Event) LineFault) (line : List ℕ) (after : After) → meaning line ≡ x → plain m latest x ≡ Ok after → Line n latest line after
-plain-line n m latest (Err fault) line after says e = absurd (cc)
-plain-line n m latest (Ok None) line after says e = let is : after ≡ stays latest = cc in record {
+unstated-line : (n m : ℕ) (latest : Latest) (x : Result (Option Event) LineFault) (line : List ℕ) (after : After) → meaning line ≡ x → unstated_line m latest x ≡ Ok after → Line n latest line after
+unstated-line n m latest (Err fault) line after says e = absurd (cc)
+unstated-line n m latest (Ok None) line after says e = let is : after ≡ stays latest = cc in record {
   events = [];
   means = λ r. ap (λ x. then_reads x n r) says;
-  are = ap (λ a. map event_of a.events ++ map event_of (ended a.latest)) is ∙ sym (append-nil _);
+  are = ap (λ a. map (λ s. s.event) a.events ++ map (λ s. s.event) (ended a.latest)) is ∙ sym (append-nil _);
 }
-plain-line n m latest (Ok (Some event)) line after says e =
+unstated-line n m latest (Ok (Some event)) line after says e =
     let is : after ≡ record { events = ended latest; latest = Some (record { line = m; event = event; answer = [] }) } = cc in record {
       events = event ∷ [];
       means = λ r. ap (λ x. then_reads x n r) says;
-      are = ap (λ a. map event_of a.events ++ map event_of (ended a.latest)) is;
+      are = ap (λ a. map (λ s. s.event) a.events ++ map (λ s. s.event) (ended a.latest)) is;
     }
 
 says-line : (n m : ℕ) (latest : Latest) (line : List ℕ) (result : After) → line_says m latest line ≡ Ok result → Line n latest line result
 says-line n m latest line result e = first (after (codes "#> ") line) refl e
   where
     second : (o : Option (List ℕ)) → after (codes "#+ ") line ≡ o → by_going_on m latest line o ≡ Ok result → Line n latest line result
-    second None is e = plain-line n m latest (meaning line) line result refl e
+    second None is e = unstated-line n m latest (meaning line) line result refl e
     second (Some rest) is e = stays-line n m latest (goes_on latest rest) line result (stated-means 43 line rest is) (goes_on-event latest rest) e
 
     first : (o : Option (List ℕ)) → after (codes "#> ") line ≡ o → by_answer m latest line o ≡ Ok result → Line n latest line result
@@ -173,11 +173,11 @@ says-line n m latest line result e = first (after (codes "#> ") line) refl e
 
 -- the events of lines, behind the latest, are those that a run reads
 abbrev AreRead : ℕ → Latest → List (List ℕ) → List StatedEvent → Type 0
-AreRead n latest lines ss = (events : List Event) × (map event_of ss ≡ map event_of (ended latest) ++ events) × (reading meaning n lines ≡ adds events nothing)
+AreRead n latest lines ss = (events : List Event) × (map (λ s. s.event) ss ≡ map (λ s. s.event) (ended latest) ++ events) × (reading meaning n lines ≡ adds events nothing)
 
 are_read : (n : ℕ) (latest : Latest) (lines : List (List ℕ)) (ss : List StatedEvent) → stated_by n latest lines ≡ Ok ss → AreRead n latest lines ss
 unfolding stated_by reading
-are_read n latest [] ss e = let is : ss ≡ ended latest = cc in ([], ap (map event_of) is ∙ sym (append-nil _), refl)
+are_read n latest [] ss e = let is : ss ≡ ended latest = cc in ([], ap (map (λ s. s.event)) is ∙ sym (append-nil _), refl)
 are_read n latest (line ∷ lines) ss e = ⊎_elim (few (λ latest ss is. are_read (n + 1) latest lines ss is)) many (cases_lt n 1048576)
   where
     Later : Type 0
@@ -190,9 +190,9 @@ are_read n latest (line ∷ lines) ss e = ⊎_elim (few (λ latest ss is. are_re
         let all : ss ≡ after.events ++ others = cc in
         let p = read after.latest others is in (
           l.events ++ p.0,
-          ap (map event_of) all ∙ map-append event_of after.events others ∙ ap (λ xs. map event_of after.events ++ xs) p.1
-              ∙ sym (append_assoc (map event_of after.events) (map event_of (ended after.latest)) p.0)
-              ∙ ap (λ xs. xs ++ p.0) l.are ∙ append_assoc (map event_of (ended latest)) l.events p.0,
+          ap (map (λ s. s.event)) all ∙ map-append (λ s. s.event) after.events others ∙ ap (λ xs. map (λ s. s.event) after.events ++ xs) p.1
+              ∙ sym (append_assoc (map (λ s. s.event) after.events) (map (λ s. s.event) (ended after.latest)) p.0)
+              ∙ ap (λ xs. xs ++ p.0) l.are ∙ append_assoc (map (λ s. s.event) (ended latest)) l.events p.0,
           reading-line meaning n line lines few short ∙ l.means (reading meaning (n + 1) lines) ∙ ap (adds l.events) p.2 ∙ adds-adds l.events p.0 nothing,
         )
 
@@ -210,5 +210,5 @@ are_read n latest (line ∷ lines) ss e = ⊎_elim (few (λ latest ss is. are_re
     many : 1048576 ≤ n → AreRead n latest (line ∷ lines) ss
     many high = let no = sym (stated-too_long n latest line lines high) ∙ e in absurd (cc)
 
-pub stated-read : (script : List ℕ) (ss : List StatedEvent) → stated_by 0 None (lines_of script) ≡ Ok ss → reading meaning 0 (lines_of script) ≡ adds (map event_of ss) nothing
+pub stated-read : (script : List ℕ) (ss : List StatedEvent) → stated_by 0 None (lines_of script) ≡ Ok ss → reading meaning 0 (lines_of script) ≡ adds (map (λ s. s.event) ss) nothing
 stated-read script ss e = let p = are_read 0 None (lines_of script) ss e in p.2 ∙ ap (λ es. adds es nothing) (sym p.1)

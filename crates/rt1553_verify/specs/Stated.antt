@@ -1,6 +1,6 @@
 -- What a script says that states its answers: `#> LINE` behind the event that LINE of the transcript answers, and `#+ REST`
 -- behind an answer that goes on with a space and REST. All else is read as in any script.
-use Rattle.std.specs.Prelude.{ℕ, ◌+◌, ◌≢◌, Bool, true, false, not, ◌&&◌, nat_le, nat_lt, if◌then◌else◌, List, [], ◌∷◌, ◌++◌, Option, Some, None, is_some, length, Result, Ok, Err, codes}
+use Rattle.std.specs.Prelude.{ℕ, ◌+◌, Bool, true, false, not, ◌&&◌, nat_le, nat_lt, if◌then◌else◌, List, [], ◌∷◌, ◌++◌, Option, Some, None, is_some, length, Result, Ok, Err, codes}
 use Rattle.terminal_rules.specs.declared.event.Event.{Event}
 use Rattle.terminal_rules.specs.declared.event.Event.TheVariants.{Gap, Slot}
 use Rattle.line_format.specs.Front.{after}
@@ -20,9 +20,6 @@ pub record StatedEvent : Type 0 where
 
 abbrev pub shown : Stated → StatedEvent
 shown s = record { line = s.line; event = s.event; answer = s.answer.items }
-
-abbrev pub event_of : StatedEvent → Event
-event_of s = s.event
 
 abbrev pub is_empty : List ℕ → Bool
 is_empty [] = true
@@ -73,14 +70,14 @@ or_misplaced n None = Err (Misplaced n)
 or_misplaced n (Some s) = Ok (stays (Some s))
 
 -- a line that states no answer: an event, nothing, or none of a script
-abbrev pub plain : ℕ → Latest → Result (Option Event) LineFault → Result After StatedFault
-plain n latest (Err fault) = Err (Line n)
-plain n latest (Ok None) = Ok (stays latest)
-plain n latest (Ok (Some e)) = Ok (record { events = ended latest; latest = Some (record { line = n; event = e; answer = [] }) })
+abbrev pub unstated_line : ℕ → Latest → Result (Option Event) LineFault → Result After StatedFault
+unstated_line n latest (Err fault) = Err (Line n)
+unstated_line n latest (Ok None) = Ok (stays latest)
+unstated_line n latest (Ok (Some e)) = Ok (record { events = ended latest; latest = Some (record { line = n; event = e; answer = [] }) })
 
 abbrev pub by_going_on : ℕ → Latest → List ℕ → Option (List ℕ) → Result After StatedFault
 by_going_on n latest line (Some rest) = or_misplaced n (goes_on latest rest)
-by_going_on n latest line None = plain n latest (meaning line)
+by_going_on n latest line None = unstated_line n latest (meaning line)
 
 abbrev pub by_answer : ℕ → Latest → List ℕ → Option (List ℕ) → Result After StatedFault
 by_answer n latest line (Some answer) = or_misplaced n (states latest answer)

@@ -7,4 +7,4 @@ mod verifying;
 
 pub use heading::named;
 pub use stated::{Stated, StatedFault, answers_in, read_stated};
-pub use verifying::{Difference, differences, verify};
+pub use verifying::{WrongAnswer, verify, wrong_answers};

@@ -3,7 +3,7 @@ ghost use Rattle.std.specs.Prelude.{◌≡◌, ◌≢◌, ◌<◌, ◌&&◌, ◌
 ghost use Rattle.bus_script.specs.Line.{meaning};
 ghost use Rattle.bus_script.specs.Text.{lines_of};
 ghost use Rattle.bus_script.specs.Reading.{reading, adds, nothing};
-ghost use Rattle.rt1553_verify.specs.Stated.{shown, event_of, is_empty, states_answer, can_answer, states, goes_on, ended, stays, or_misplaced, plain, line_says, stated_in};
+ghost use Rattle.rt1553_verify.specs.Stated.{shown, is_empty, states_answer, can_answer, states, goes_on, ended, stays, or_misplaced, unstated_line, line_says, stated_in};
 ghost use Rattle.rt1553_verify.specs.declared.stated.StatedFault.TheVariants.{Memory};
 ghost use Rattle.rt1553_verify.specs.inner.Says.{Says};
 
@@ -138,8 +138,8 @@ fn read_plain(
     number: u64,
     line: &[u8],
 ) -> Result<Option<Stated>, StatedFault>
-    ensures said { IfOk result (λ new. Says (plain number (option_map shown latest) (meaning line.now)) read.old.items read.new.items new) }
-    ensures refused { IfErr result (λ fault. fault ≢ StatedFault.Memory → plain number (option_map shown latest) (meaning line.now) ≡ Err fault) }
+    ensures said { IfOk result (λ new. Says (unstated_line number (option_map shown latest) (meaning line.now)) read.old.items read.new.items new) }
+    ensures refused { IfErr result (λ fault. fault ≢ StatedFault.Memory → unstated_line number (option_map shown latest) (meaning line.now) ≡ Err fault) }
 {
     match read_event(line) {
         Ok(Some(event)) => {
@@ -193,7 +193,7 @@ pub fn first_line(bytes: &[u8]) -> (&[u8], &[u8])
 pub fn read_stated(alloc: Global, script: &[u8]) -> Result<Vec<Stated>, StatedFault>
     ensures accepted { IfOk result (λ read. stated_in script.now ≡ Ok (map shown read.items)) }
     ensures refused { IfErr result (λ fault. fault ≢ StatedFault.Memory → stated_in script.now ≡ Err fault) }
-    ensures events { IfOk result (λ read. reading meaning 0 (lines_of script.now) ≡ adds (map event_of (map shown read.items)) nothing) }
+    ensures events { IfOk result (λ read. reading meaning 0 (lines_of script.now) ≡ adds (map (λ s. s.event) (map shown read.items)) nothing) }
 {
     let mut read = Vec::new(alloc);
     let mut latest = None;

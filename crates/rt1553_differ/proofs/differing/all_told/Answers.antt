@@ -1,7 +1,7 @@
 use Rattle.std.proofs.Common.{◌∷◌, [], ◌++◌, ◌∙◌, false, true, ap}
 use Rattle.bus_canon.specs.declared.difference.Difference.TheVariants.{Address, BroadcastOption, Acceptance, VectorWord, BitWord, Wraparound}
 use Rattle.rt1553_differ.specs.declared.differing.PlaceKind.TheVariants.{Receiving, Transmitting, Broadcasting, Holding}
-use Rattle.rt1553_differ.specs.Told.{at_place, of_code, told, in_row, in_rows, possible}
+use Rattle.rt1553_differ.specs.Told.{at_place, of_code, told_differences, in_row, in_rows, possible}
 use Rattle.rt1553_differ.proofs.Lists.{onto}
 use Rattle.rt1553_differ.proofs.differing.all_told.Goals as goal
 
@@ -10,7 +10,7 @@ unfolding possible
 returns c =
     let v = c.args.p.now in
     let w = c.args.q.now in
-    let l1 = c.in_ok-push_if.ensures ∙ ap (λ xs. xs ++ told v w (Address ∷ [])) c.new-list.ensures.items in
+    let l1 = c.in_ok-push_if.ensures ∙ ap (λ xs. xs ++ told_differences v w (Address ∷ [])) c.new-list.ensures.items in
     let l2 = onto v w _ _ (BroadcastOption ∷ []) _ c.in_ok-push_if-2.ensures l1 in
     let l3 = onto v w _ _ (in_rows (at_place Receiving) 1 30) _ c.in_ok-push_rows.ensures l2 in
     let l4 = onto v w _ _ (in_rows (at_place Transmitting) 1 30) _ c.in_ok-push_rows-2.ensures l3 in

@@ -1,6 +1,6 @@
 use Rattle.std.proofs.Common.{ℕ, ◌-◌, option_map, subst, refl, arith}
 use Rattle.rt1553_lint.specs.Places.{SeesBack}
-use Rattle.rt1553_lint.specs.Spots.{is_there}
+use Rattle.rt1553_lint.specs.KeyPaths.{is_there}
 use Rattle.rt1553_lint.proofs.Back.{none_back, none_here}
 use Rattle.rt1553_lint.proofs.place.place_of.Goals as goal
 use Rattle.rt1553_lint.proofs.place.place_of.Goals.{in-With-2, in-NoDocument}
@@ -8,7 +8,7 @@ use Rattle.rt1553_lint.proofs.place.place_of.Goals.{in-With-2, in-NoDocument}
 pub loop-back-preserved : goal.loop-back-preserved
 loop-back-preserved c =
     let at : ℕ = c.in_ok-most.most - 1 - c.loop-back.back in
-    let sought = is_there c.args.spot.now.key.now c.args.spot.now.entry (option_map (λ n. n.now) c.args.spot.now.name) c.args.spot.now.word in
+    let sought = is_there c.args.path.now.key.now c.args.path.now.entry (option_map (λ n. n.now) c.args.path.now.name) c.args.path.now.word in
     elim c.match-branch-5.branch [
       | in-With-2 w ↦
           rw w.end-is (record {

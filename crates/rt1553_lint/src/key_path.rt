@@ -1,14 +1,14 @@
 //! What of a profile text is looked for, and whether a tree has it.
 ghost use Rattle.std.specs.Prelude.{◌≡◌, option_map};
 ghost use Rattle.toml.specs.View.{view, table_view};
-ghost use Rattle.rt1553_lint.specs.Spots.{is_there, entry_there, name_there, word_there};
+ghost use Rattle.rt1553_lint.specs.KeyPaths.{is_there, entry_there, name_there, word_there};
 
 use toml::{Table, Value};
 
 /// A key of the root; where it is asked for, in its value the item of this index, in that this key, and in its value the
 /// item of this index.
 #[derive(Clone, Copy)]
-pub struct Spot<'a> {
+pub struct KeyPath<'a> {
     pub key: &'a str,
     pub entry: Option<usize>,
     pub name: Option<&'a str>,
@@ -42,20 +42,20 @@ fn has_name(value: Option<&Value>, name: Option<&str>, word: Option<usize>) -> b
 }
 
 /// Whether the value is there, with such an entry.
-fn has_entry(value: Option<&Value>, spot: &Spot<'_>) -> bool
-    ensures { result ≡ entry_there spot.now.entry (option_map (λ n. n.now) spot.now.name) spot.now.word (option_map (λ v. view v.now) value.entry) }
+fn has_entry(value: Option<&Value>, path: &KeyPath<'_>) -> bool
+    ensures { result ≡ entry_there path.now.entry (option_map (λ n. n.now) path.now.name) path.now.word (option_map (λ v. view v.now) value.entry) }
 {
     let Some(value) = value else {
         return false;
     };
-    match spot.entry {
-        Some(index) => has_name(value.get(index), spot.name, spot.word),
+    match path.entry {
+        Some(index) => has_name(value.get(index), path.name, path.word),
         None => true,
     }
 }
 
-impl Spot<'_> {
-    ghost use Rattle.rt1553_lint.specs.Spots.{is_there};
+impl KeyPath<'_> {
+    ghost use Rattle.rt1553_lint.specs.KeyPaths.{is_there};
 
     /// Tells whether a tree has it.
     pub fn is_in(&self, table: &Table) -> bool

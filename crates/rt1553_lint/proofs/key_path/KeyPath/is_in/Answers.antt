@@ -1,7 +1,7 @@
 use Rattle.std.proofs.Common.{ap, ◌∙◌, option_map}
 use Rattle.toml.proofs.Views.{table_get}
-use Rattle.rt1553_lint.specs.Spots.{entry_there}
-use Rattle.rt1553_lint.proofs.spot.Spot.is_in.Goals as goal
+use Rattle.rt1553_lint.specs.KeyPaths.{entry_there}
+use Rattle.rt1553_lint.proofs.key_path.KeyPath.is_in.Goals as goal
 
 pub returns : goal.returns
 returns c =
