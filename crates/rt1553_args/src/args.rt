@@ -1,6 +1,8 @@
 //! The arguments of the command line.
 ghost use Rattle.std.specs.Prelude.{◌≡◌, IfErr, IfNone, IfOk, IfSome, Some, codes, [], false, map};
 ghost use Rattle.clap.specs.Words.{app_of, fault_of, rule_of, subcommand_of, subcommand_rows_of};
+ghost use Rattle.clap.specs.Walk.{rows_of};
+ghost use Rattle.clap.specs.Matches.{found_of};
 ghost use Rattle.clap.specs.declared.builder.command.Command.TheViews.{out-Command};
 ghost use Rattle.rt1553_args.specs.Jobs.{MeansJob, MeansNoJob};
 ghost use Rattle.rt1553_args.specs.Program.{file_rule, one_file_app, two_files_app, program};
@@ -65,19 +67,28 @@ fn command<'a>(alloc: Global) -> Result<Command<'a>, AllocError>
         .subcommand(two_files(alloc, "compare")?)
 }
 
-fn job_of<'a>(matches: &ArgMatches<'a>) -> Option<Job<'a>>
-    ensures some { IfSome result (λ job. MeansJob job (subcommand_rows_of matches.now)) }
-    ensures none { IfNone result (MeansNoJob (subcommand_rows_of matches.now)) }
+/// The job that a subcommand and its arguments name.
+#[tactic(auto, using(crate::proofs::OfArgs::arg_met, crate::proofs::OfArgs::no_first, crate::proofs::OfArgs::no_second))]
+fn subcommand_job<'a>(name: &str, args: &ArgMatches<'a>) -> Option<Job<'a>>
+    ensures some { IfSome result (λ job. MeansJob job (Some (name.now, rows_of (found_of args.now)))) }
+    ensures none { IfNone result (MeansNoJob (Some (name.now, rows_of (found_of args.now)))) }
 {
-    let Some((name, args)) = matches.subcommand() else {
-        return Some(Job::Standard);
-    };
     match name {
         "check" => Some(Job::Check(args.get_str("first")?)),
         "canon" => Some(Job::Canon(args.get_str("first")?)),
         "run" => Some(Job::Run(args.get_str("first")?, args.get_str("second")?)),
         "compare" => Some(Job::Compare(args.get_str("first")?, args.get_str("second")?)),
         _ => None,
+    }
+}
+
+fn job_of<'a>(matches: &ArgMatches<'a>) -> Option<Job<'a>>
+    ensures some { IfSome result (λ job. MeansJob job (subcommand_rows_of matches.now)) }
+    ensures none { IfNone result (MeansNoJob (subcommand_rows_of matches.now)) }
+{
+    match matches.subcommand() {
+        None => Some(Job::Standard),
+        Some((name, args)) => subcommand_job(name, args),
     }
 }
 

@@ -16,8 +16,8 @@ fault_of_args args.Usage = Usage
 fault_of_args args.Memory = Memory
 
 -- why there are no arguments: out of memory, where that holds, or else one is not text
-abbrev pub IsWithoutWords : Type 0 → Fault → Type 0
-IsWithoutWords WantsMemory fault = (WantsMemory → fault ≡ Memory) × ((WantsMemory → ⊥) → fault ≡ Usage)
+abbrev pub IsWithoutArgs : Type 0 → Fault → Type 0
+IsWithoutArgs WantsMemory fault = (WantsMemory → fault ≡ Memory) × ((WantsMemory → ⊥) → fault ≡ Usage)
 
 -- ---- files
 

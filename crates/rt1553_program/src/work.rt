@@ -7,7 +7,7 @@ ghost use Rattle.rt1553.specs.Load.{Of, IsNotLoaded};
 ghost use Rattle.rt1553.specs.Canon.{IsCanon};
 ghost use Rattle.rt1553.specs.Compare.{IsNotCompared};
 ghost use Rattle.rt1553.specs.Engine.{Completes, StopsBy, OnLoad, OnScript};
-ghost use Rattle.rt1553_program.specs.Causes.{IsWithoutWords, RefusesUntouched, IsOfRun, IsOfJob};
+ghost use Rattle.rt1553_program.specs.Causes.{IsWithoutArgs, RefusesUntouched, IsOfRun, IsOfJob};
 ghost use Rattle.bus_script.specs.EventLine.{event_line, script_text};
 ghost use Rattle.rt1553_program.specs.Work.{Accepted, TellsVerdict, IsComparison, Does};
 
@@ -203,7 +203,7 @@ fn do_job<R: Files + AllocGlobal, I: Read + Drop, W: Sink>(
 /// Gives the arguments as they were found. Arguments that are not text are none that the program accepts.
 fn given<T: Drop>(found: io::Result<T>) -> Result<T, Fault>
     ensures ok { IfOk result (λ args. found ≡ Ok args) }
-    ensures refused { IfErr result (λ fault. IsErrAnd found (λ error. IsWithoutWords (error_kind error ≡ ErrorKind.OutOfMemory) fault)) }
+    ensures refused { IfErr result (λ fault. IsErrAnd found (λ error. IsWithoutArgs (error_kind error ≡ ErrorKind.OutOfMemory) fault)) }
 {
     match found {
         Ok(args) => Ok(args),
