@@ -53,7 +53,7 @@ pub fn acceptance<'a>(lines: Lines<'a>, tables: &Tables) -> Result<(bool, Lines<
 }
 
 /// Reads the word that an own mode code asks for, which the text tells where the code is legal.
-pub fn asked_word<'a>(
+pub fn word_where_asked<'a>(
     lines: Lines<'a>,
     tables: &Tables,
     code: u8,

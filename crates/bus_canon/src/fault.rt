@@ -14,11 +14,11 @@ pub enum CanonFault {
 
 impl CanonFault {
     ghost use Rattle.std.specs.Prelude.{◌≡◌};
-    ghost use Rattle.bus_canon.specs.Fault.{fault_number, fault_name};
+    ghost use Rattle.bus_canon.specs.Fault.{canon_fault_number, canon_fault_name};
 
     /// The number of the kind of fault: 1 or 2, in the order of the variants.
     pub fn number(&self) -> u8
-        ensures { result ≡ fault_number self.now }
+        ensures { result ≡ canon_fault_number self.now }
     {
         match self {
             CanonFault::Line(_) => 1,
@@ -28,7 +28,7 @@ impl CanonFault {
 
     /// The name of the kind of fault: that of its variant.
     pub fn name(&self) -> &'static str
-        ensures { result.now ≡ fault_name self.now }
+        ensures { result.now ≡ canon_fault_name self.now }
     {
         match self {
             CanonFault::Line(_) => "Line",

@@ -1,6 +1,6 @@
 //! Laws of the canonical text, and of terminals that are the same. Each is a function that does nothing, and whose contract is the law.
 ghost use Rattle.std.specs.Prelude.{◌≡◌, ◌≤◌, ◌++◌, ℕ, List, [], length};
-ghost use Rattle.line_format.specs.Answers.{Answer, Answers};
+ghost use Rattle.line_format.specs.Answers.{LineAnswer, LineAnswers};
 ghost use Rattle.bus_legal.specs.Parts.{Parts, description_in, IsNormal};
 ghost use Rattle.terminal_rules.specs.Same.{Same};
 ghost use Rattle.bus_canon.specs.Canon.{is_read, canon, Text, AnyText};
@@ -43,7 +43,7 @@ pub fn texts_are_short()
 
 /// Some bytes have one answer.
 pub fn bytes_have_one_answer()
-    ensures { (bytes : List ℕ) (r s : Answer Parts) → Answers (canon is_read) bytes r → Answers (canon is_read) bytes s → r ≡ s }
+    ensures { (bytes : List ℕ) (r s : LineAnswer Parts) → LineAnswers (canon is_read) bytes r → LineAnswers (canon is_read) bytes s → r ≡ s }
 {}
 
 /// Terminals that are the same have the same in reach.

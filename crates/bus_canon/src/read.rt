@@ -6,7 +6,7 @@ ghost use Rattle.line_format.specs.Views.{Gives, spot};
 ghost use Rattle.bus_canon.specs.Canon.{version_field, is_read, canon, AnyText};
 ghost use Rattle.bus_canon.specs.Read.{IsNoText};
 
-use crate::asked::{acceptance, asked_word, wraparound};
+use crate::asked::{acceptance, word_where_asked, wraparound};
 use crate::blocks::blocks;
 use crate::cell_lines::cells;
 use crate::fault::CanonFault;
@@ -47,8 +47,8 @@ fn text(lines: Lines<'_>) -> Result<(Normal, Lines<'_>), WrongLine>
     let (broadcast, lines) = bit_line(lines, BROADCAST)?;
     let (tables, lines) = cells(lines, broadcast)?;
     let (accept, lines) = acceptance(lines, &tables)?;
-    let (vector, lines) = asked_word(lines, &tables, VECTOR_WORD, VECTOR)?;
-    let (bit, lines) = asked_word(lines, &tables, BIT_WORD, BIT)?;
+    let (vector, lines) = word_where_asked(lines, &tables, VECTOR_WORD, VECTOR)?;
+    let (bit, lines) = word_where_asked(lines, &tables, BIT_WORD, BIT)?;
     let (wrap, lines) = wraparound(lines, version, &tables)?;
     let (initial, lines) = blocks(lines, &tables.own_transmit)?;
     let setup = Setup {

@@ -9,14 +9,14 @@ use Rattle.bus_complete_test.specs.declared.trial.Trial.{Trial}
 use Rattle.bus_complete_test.specs.declared.trial.Trial.TheVariants.{BroadcastOption, Transmit, Receive, OwnCode, BroadcastReceive, BroadcastCode, Wraparound}
 
 -- subaddresses, word counts and mode codes are in their ranges
-abbrev pub IsInRange : Trial → Type 0
-IsInRange BroadcastOption = Unit {0}
-IsInRange (Transmit s n) = is_data_place s n ≡ true
-IsInRange (Receive s n) = is_data_place s n ≡ true
-IsInRange (OwnCode code) = code < 32
-IsInRange (BroadcastReceive s n) = is_data_place s n ≡ true
-IsInRange (BroadcastCode code) = code < 32
-IsInRange (Wraparound s) = is_data_place s 1 ≡ true
+abbrev pub IsTrialInRange : Trial → Type 0
+IsTrialInRange BroadcastOption = Unit {0}
+IsTrialInRange (Transmit s n) = is_data_place s n ≡ true
+IsTrialInRange (Receive s n) = is_data_place s n ≡ true
+IsTrialInRange (OwnCode code) = code < 32
+IsTrialInRange (BroadcastReceive s n) = is_data_place s n ≡ true
+IsTrialInRange (BroadcastCode code) = code < 32
+IsTrialInRange (Wraparound s) = is_data_place s 1 ≡ true
 
 -- the exchanges of a trial
 abbrev pub tried_at : Description → Trial → List Exchange

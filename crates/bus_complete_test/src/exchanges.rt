@@ -4,7 +4,7 @@ ghost use Rattle.bus_legal.specs.Parts.{description_in, IsNormal};
 ghost use Rattle.terminal_exchanges.specs.Distinguish.{ask};
 ghost use Rattle.terminal_exchanges.specs.Values.{exchange_in, IsShort, AreShort};
 ghost use Rattle.terminal_complete_test.specs.CompleteTest.{own_code_tried, broadcast_code_tried, wraparound_tried};
-ghost use Rattle.bus_complete_test.specs.Trials.{IsInRange, tried_at};
+ghost use Rattle.bus_complete_test.specs.Trials.{IsTrialInRange, tried_at};
 
 use crate::trial::Trial;
 use arrayvec::ArrayVec;
@@ -88,7 +88,7 @@ fn wraparound(p: &Normal, subaddress: u8) -> ArrayVec<Exchange, 2>
 
 /// The exchanges of a trial: at most two, each of at most 32 data words and 33 slots.
 pub fn exchanges_of(p: &Normal, trial: Trial) -> ArrayVec<Exchange, 2>
-    requires { IsInRange trial }
+    requires { IsTrialInRange trial }
     ensures exchanges { map exchange_in result.items ≡ tried_at (description_in p.now) trial }
     ensures short { AreShort result.items }
 {

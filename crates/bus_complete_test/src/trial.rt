@@ -5,7 +5,7 @@ ghost use Rattle.bus_legal.specs.Description.{Description};
 ghost use Rattle.bus_legal.specs.Parts.{description_in};
 ghost use Rattle.terminal_exchanges.specs.Exchanges.{Exchange};
 ghost use Rattle.terminal_complete_test.specs.CompleteTest.{tried};
-ghost use Rattle.bus_complete_test.specs.Trials.{IsInRange, tried_at, tried_from, tried_after, trials_left};
+ghost use Rattle.bus_complete_test.specs.Trials.{IsTrialInRange, tried_at, tried_from, tried_after, trials_left};
 ghost use Rattle.bus_complete_test.specs.Steps.{from_place, after_place, places_left, from_code, after_code, codes_left};
 
 use bus_legal::Normal;
@@ -33,7 +33,7 @@ pub enum Trial {
 
 /// The first trial: with all later ones it is the whole test, whatever the terminal.
 pub fn first_trial() -> Trial
-    ensures range { IsInRange result }
+    ensures range { IsTrialInRange result }
     ensures whole { (P : Description) → tried_from P result ≡ tried P }
 {
     Trial::BroadcastOption
@@ -68,8 +68,8 @@ fn next_code(code: u8) -> Option<u8>
 /// The trial after this one, or None after the last. What it tries and all later ones try, behind what this one tries, is
 /// what this one and all later ones try.
 pub fn next_trial(p: &Normal, trial: Trial) -> Option<Trial>
-    requires { IsInRange trial }
-    ensures range { IfSome result IsInRange }
+    requires { IsTrialInRange trial }
+    ensures range { IfSome result IsTrialInRange }
     ensures rest { tried_from (description_in p.now) trial ≡ tried_at (description_in p.now) trial ++ tried_after (description_in p.now) result }
     ensures fewer { trials_left result < trials_left (Some trial) }
 {

@@ -2,7 +2,6 @@
 use Rattle.std.proofs.Common.{◌≡◌, ◌<◌, ◌≤◌, ℕ, suc, ◌+◌, ◌-◌, ◌==◌, nat_le, nat_lt, Bool, true, false, not, ◌&&◌, cond, pos, negsuc, List, [], ◌∷◌, ◌++◌, length, get_or, drop, map, Option, Some, None, is_none, is_some, Result, Ok, Err, refl, ap, ◌∙◌, sym, append_assoc, append-nil, arith}
 use Rattle.std.proofs.lemmas.Bool.Decides.{nat_tests}
 use Rattle.std.specs.List.{list_all}
-use Rattle.std.specs.Result.{result_err}
 use Rattle.toml.specs.Data.{Data, string, integer, float, boolean, datetime, array, table, Items, no_items, Members}
 use Rattle.std.proofs.lemmas.List.{drop_more}
 use Rattle.toml.proofs.Views.{items_view-drop}
@@ -19,15 +18,14 @@ use Rattle.bus_profile.specs.declared.fault.ProfileFault.{ProfileFault}
 use Rattle.bus_profile.specs.declared.fault.ProfileFault.TheVariants.{UnknownKey, WrongKind, BadRanges, OutOfRange, TooMany}
 use Rattle.bus_profile.specs.declared.ranges.RangeFault.{RangeFault}
 use Rattle.bus_profile.specs.declared.ranges.RangeFault.TheVariants.{Syntax, Bounds}
-use Rattle.bus_profile.specs.AllFaults.{failing, is_long, HasShortArrays, told_array, told_keys, told, rows_at}
+use Rattle.bus_profile.specs.AllFaults.{failing, is_long, HasShortArrays, told_array, told_keys, told_faults, rows_at}
 use Rattle.bus_profile.specs.Checks.{Check, under, numbered, in_order, first_fault}
 use Rattle.bus_profile.specs.Faults.{is_required, key_checks, row_checks, head_checks, array_checks, each_item, entry_checks, word_checks, words_checks, goes_beyond, entries_checks, rule_checks, mode_checks, initial_checks, key_faults, all_pass, code_faults, faults}
-use Rattle.bus_profile.specs.Keys.{Kind, truth, whole, truth_or_whole, choice, ranges, numbers, tables, required, optional, Row, row, keys_of, setting_rows, root_rows, rule_row, mode_row, initial_row, initial_rows, subaddress_row, at_row, words_row}
+use Rattle.bus_profile.specs.Keys.{ValueKind, truth, whole, truth_or_whole, choice, ranges, numbers, tables, required, optional, KeyRow, key_row, keys_of, setting_rows, root_rows, rules_key, modes_key, initials_key, initial_rows, subaddress_row, at_row, words_row}
 use Rattle.bus_profile.specs.Kinds.{found, or_default, value, items, has_unknown, is_of_kind, is_bad_ranges, is_out_of_range, is_syntax, is_bounds, is_too_long, count_items}
 use Rattle.bus_profile.specs.Gives.{modes_of}
 use Rattle.bus_profile.specs.RangesOf.{ranges_of}
-use Rattle.bus_profile.specs.inner.AllFaults.{failing_parts, present, row_of, array_row, part_of, rows_of, keys_in, checks_of, unknown_told, array_told, key_told, keys_told, code_told, codes_told}
-use Rattle.bus_profile.specs.inner.FirstFault.{Reads, ReadsAs}
+use Rattle.bus_profile.specs.inner.AllFaults.{failing_parts, present, row_of, array_row, part_of, key_rows_of, keys_in, checks_of, unknown_told, array_told, key_told, keys_told, code_told, codes_told}
 use Rattle.bus_profile.proofs.Arrays.{is_too_long-view}
 
 failing-append : (xs ys : List Check) → failing (xs ++ ys) ≡ failing xs ++ failing ys
@@ -62,7 +60,7 @@ syntax_or_bounds (Ok n) = refl
 syntax_or_bounds (Err Syntax) = refl
 syntax_or_bounds (Err Bounds) = refl
 
-alone : (k : Kind) (d : Data) → Alone (not (is_of_kind k d)) (is_bad_ranges k d) (is_out_of_range k d)
+alone : (k : ValueKind) (d : Data) → Alone (not (is_of_kind k d)) (is_bad_ranges k d) (is_out_of_range k d)
 alone truth (string s) = (refl, refl, refl)
 alone truth (integer z) = (refl, refl, refl)
 alone truth (float x) = (refl, refl, refl)
@@ -132,23 +130,15 @@ absent : (f : ProfileFault) (b : Bool) → cond (b && true) (f ∷ []) [] ≡ pr
 absent f true = refl
 absent f false = refl
 
-key_failing : (part : Part) (row : Row) (d : Option Data) → failing (key_checks part row d) ≡ present (first_fault (key_checks part row d))
+key_failing : (part : Part) (row : KeyRow) (d : Option Data) → failing (key_checks part row d) ≡ present (first_fault (key_checks part row d))
 unfolding in_order
 key_failing part row None = absent _ (is_required row.presence)
 key_failing part row (Some d) = there _ (is_required row.presence) _ _ (one_of (WrongKind part row.key) (BadRanges part row.key) (OutOfRange part row.key) (not (is_of_kind row.kind d)) (is_bad_ranges row.kind d) (is_out_of_range row.kind d) (alone row.kind d))
 
-pub row_failing : (part : Part) (ms : Members) (row : Row) → failing (row_checks part ms row) ≡ present (first_fault (row_checks part ms row))
+pub row_failing : (part : Part) (ms : Members) (row : KeyRow) → failing (row_checks part ms row) ≡ present (first_fault (row_checks part ms row))
 row_failing part ms row = key_failing part row (found row.key ms)
 
 -- ---- what the readers tell
-
-pub reads_err : {A : Type 0} (o first : Option ProfileFault) (value : A) (r : Result A ProfileFault) → o ≡ result_err r → Reads first value r → o ≡ first
-reads_err o first value (Ok a) e h = e ∙ sym h.0
-reads_err o first value (Err f) e h = e ∙ sym h
-
-pub reads_as_err : {A B : Type 0} (m : A → B) (o first : Option ProfileFault) (value : B) (r : Result A ProfileFault) → o ≡ result_err r → ReadsAs m first value r → o ≡ first
-reads_as_err m o first value (Ok a) e h = e ∙ sym h.0
-reads_as_err m o first value (Err f) e h = e ∙ sym h
 
 -- ---- arrays
 
@@ -157,12 +147,12 @@ with_last xs ys e true f = rw e
 with_last xs ys e false f = rw e
 
 -- an array as a whole: its row, and whether it is too long
-pub head_failing : (part : Part) (row : Row) (long : Items → Bool) (ms : Members)
+pub head_failing : (part : Part) (row : KeyRow) (long : Items → Bool) (ms : Members)
     → failing (head_checks part row long ms) ≡ present (first_fault (row_checks part ms row)) ++ cond (long (items (value row ms))) (TooMany part row.key ∷ []) []
 head_failing part row long ms = failing-in_order _ ∙ with_last _ _ (row_failing part ms row) (long (items (value row ms))) (TooMany part row.key)
 
 -- an array: the whole, and then its items
-pub array_failing : (part : Part) (row : Row) (long : Items → Bool) (checks : ℕ → Data → List Check) (ms : Members)
+pub array_failing : (part : Part) (row : KeyRow) (long : Items → Bool) (checks : ℕ → Data → List Check) (ms : Members)
     → failing (array_checks part row long checks ms) ≡ failing (head_checks part row long ms) ++ failing_parts (each_item checks 1 (items (value row ms)))
 unfolding array_checks
 array_failing part row long checks ms = failing-in_order _
@@ -174,9 +164,9 @@ told_where f true = refl
 told_where f false = refl
 
 -- the table of an entry: unknown keys, and then its keys
-pub table_failing : (k : EntryKind) (n : ℕ) (ms : Members) → failing (checks_of k n (table ms)) ≡ present (unknown_told (part_of k n) (rows_of k) ms) ++ failing_parts (keys_in k n ms)
+pub table_failing : (k : EntryKind) (n : ℕ) (ms : Members) → failing (checks_of k n (table ms)) ≡ present (unknown_told (part_of k n) (key_rows_of k) ms) ++ failing_parts (keys_in k n ms)
 unfolding entry_checks
-table_failing k n ms = failing-in_order _ ∙ rw (told_where (UnknownKey (part_of k n)) (has_unknown (keys_of (rows_of k)) ms))
+table_failing k n ms = failing-in_order _ ∙ rw (told_where (UnknownKey (part_of k n)) (has_unknown (keys_of (key_rows_of k)) ms))
 
 pub initial_failing : (n : ℕ) (ms : Members)
     → failing (checks_of kind.Initial n (table ms)) ≡ present (unknown_told (Initial n) initial_rows ms) ++ (keys_told (Initial n) ms (Subaddress ∷ At ∷ []) ++ failing (words_checks (Initial n) ms))
@@ -184,12 +174,6 @@ initial_failing n ms = table_failing kind.Initial n ms ∙ ap (λ fs. present (u
   where
     regroup : (a b c : List ProfileFault) → a ++ (b ++ (c ++ [])) ≡ (a ++ (b ++ [])) ++ c
     regroup a b c = rw (append-nil c, append-nil b) (sym (append_assoc a b c))
-
--- which rows the table of an entry has
-pub rows_at-entry : (k : EntryKind) (n : ℕ) → rows_at (part_of k n) ≡ rows_of k
-rows_at-entry kind.Rule n = refl
-rows_at-entry kind.Mode n = refl
-rows_at-entry kind.Initial n = refl
 
 -- ---- words
 
@@ -225,7 +209,7 @@ beyond_nowhere part ms f ds e = no_place part (found At ms) f ds e
 
 -- ---- what isn't an array
 
-tables_told : (part : Part) (k : Key) (most : ℕ) (default : Data) (d : Option Data) → array_told part k false d ≡ first_fault (key_checks part (row k (tables most) (optional default)) d)
+tables_told : (part : Part) (k : Key) (most : ℕ) (default : Data) (d : Option Data) → array_told part k false d ≡ first_fault (key_checks part (key_row k (tables most) (optional default)) d)
 unfolding in_order
 tables_told part k most default None = refl
 tables_told part k most default (Some (string x)) = refl
@@ -236,7 +220,7 @@ tables_told part k most default (Some (datetime x)) = refl
 tables_told part k most default (Some (array x)) = refl
 tables_told part k most default (Some (table x)) = refl
 
-numbers_told : (part : Part) (k : Key) (low high : ℕ) (d : Option Data) → array_told part k true d ≡ first_fault (key_checks part (row k (numbers low high) required) d)
+numbers_told : (part : Part) (k : Key) (low high : ℕ) (d : Option Data) → array_told part k true d ≡ first_fault (key_checks part (key_row k (numbers low high) required) d)
 unfolding in_order
 numbers_told part k low high None = refl
 numbers_told part k low high (Some (string x)) = refl
@@ -338,11 +322,11 @@ and_false : (b : Bool) → (b && false) ≡ false
 and_false true = refl
 and_false false = refl
 
-head_pass : (row : Row) (ms : Members) → is_long row ms ≡ true → all_pass (head_checks Root row (is_too_long row.kind) ms) ≡ false
+head_pass : (row : KeyRow) (ms : Members) → is_long row ms ≡ true → all_pass (head_checks Root row (is_too_long row.kind) ms) ≡ false
 head_pass row ms e = pass-in_order _ ∙ rw e (and_false (all_pass (row_checks Root ms row)))
 
 -- an array that is too long fails, with its entries and without
-told_array-pass : (row : Row) (checks : ℕ → Data → List Check) (ms : Members) → all_pass (told_array row checks ms) ≡ all_pass (entries_checks row checks ms)
+told_array-pass : (row : KeyRow) (checks : ℕ → Data → List Check) (ms : Members) → all_pass (told_array row checks ms) ≡ all_pass (entries_checks row checks ms)
 unfolding array_checks
 told_array-pass row checks ms = pick (is_long row ms) refl
   where
@@ -353,7 +337,7 @@ told_array-pass row checks ms = pick (is_long row ms) refl
 keys_pass : (ms : Members) → all_pass (told_keys ms) ≡ all_pass (key_faults ms)
 unfolding told_keys key_faults
 keys_pass ms =
-    pass-in_order _ ∙ (rw (told_array-pass rule_row rule_checks ms, told_array-pass mode_row mode_checks ms, told_array-pass initial_row initial_checks ms) refl ∙ sym (pass-in_order _))
+    pass-in_order _ ∙ (rw (told_array-pass rules_key rule_checks ms, told_array-pass modes_key mode_checks ms, told_array-pass initials_key initial_checks ms) refl ∙ sym (pass-in_order _))
 
 pass_where_none : (cs : List Check) → all_pass cs ≡ (length (failing cs) == 0)
 pass_where_none [] = refl
@@ -374,10 +358,10 @@ unfolding code_faults
 codes_all ms e = failing-in_order _ ∙ rw (e, append-nil (code_told (modes_of ms) 8))
 
 -- where nothing was found, what the codes have is told too
-pub told_codes : (ms : Members) (modes : List ModeRule) → (length (failing (told_keys ms)) == 0) ≡ true → modes ≡ modes_of ms → failing (told_keys ms) ++ codes_told modes ≡ told ms
+pub told_codes : (ms : Members) (modes : List ModeRule) → (length (failing (told_keys ms)) == 0) ≡ true → modes ≡ modes_of ms → failing (told_keys ms) ++ codes_told modes ≡ told_faults ms
 told_codes ms modes none is = ap (λ fs. failing (told_keys ms) ++ fs) (ap codes_told is ∙ sym (codes_all ms (sym (keys_pass ms) ∙ (pass_where_none (told_keys ms) ∙ none))))
 
-pub told_keys-alone : (ms : Members) → (length (failing (told_keys ms)) == 0) ≡ false → failing (told_keys ms) ≡ told ms
+pub told_keys-alone : (ms : Members) → (length (failing (told_keys ms)) == 0) ≡ false → failing (told_keys ms) ≡ told_faults ms
 told_keys-alone ms some = sym (rw (codes_none ms (sym (keys_pass ms) ∙ (pass_where_none (told_keys ms) ∙ some))) (append-nil (failing (told_keys ms))))
 
 told_keys-short : (ms : Members) → HasShortArrays ms → told_keys ms ≡ key_faults ms
@@ -385,7 +369,7 @@ unfolding told_keys key_faults
 told_keys-short ms short = rw (short.rules, short.modes, short.initials)
 
 -- where no array is too long, all the faults are told
-pub told_all : (ms : Members) → HasShortArrays ms → told ms ≡ failing (faults ms)
+pub told_all : (ms : Members) → HasShortArrays ms → told_faults ms ≡ failing (faults ms)
 unfolding faults
 told_all ms short = sym (failing-in_order _ ∙ rw (append-nil (failing (code_faults ms)), told_keys-short ms short))
 
@@ -446,12 +430,12 @@ failing_parts-append (x ∷ xs) ys = ap (λ fs. failing x ++ fs) (failing_parts-
 
 pub tree_told : (ms : Members) (u : Option ProfileFault) → u ≡ unknown_told Root root_rows ms
     → (((present u ++ keys_told Root ms (Key.Address ∷ Key.Broadcast ∷ Key.Wraparound ∷ Key.AcceptBusControl ∷ Key.Vector ∷ Key.Bit ∷ []))
-    ++ failing (told_array rule_row rule_checks ms)) ++ failing (told_array mode_row mode_checks ms)) ++ failing (told_array initial_row initial_checks ms) ≡ failing (told_keys ms)
+    ++ failing (told_array rules_key rule_checks ms)) ++ failing (told_array modes_key mode_checks ms)) ++ failing (told_array initials_key initial_checks ms) ≡ failing (told_keys ms)
 unfolding told_keys
 tree_told ms u is =
     rw (is, ← told_where (UnknownKey Root) (has_unknown (keys_of root_rows) ms))
     (regroup (cond (has_unknown (keys_of root_rows) ms) (UnknownKey Root ∷ []) []) (failing_parts (map (row_checks Root ms) setting_rows)) _ _ _ ∙
-    (ap (λ fs. cond (has_unknown (keys_of root_rows) ms) (UnknownKey Root ∷ []) [] ++ fs) (sym (failing_parts-append (map (row_checks Root ms) setting_rows) (told_array rule_row rule_checks ms ∷ told_array mode_row mode_checks ms ∷ told_array initial_row initial_checks ms ∷ []))) ∙ sym (failing-in_order _)))
+    (ap (λ fs. cond (has_unknown (keys_of root_rows) ms) (UnknownKey Root ∷ []) [] ++ fs) (sym (failing_parts-append (map (row_checks Root ms) setting_rows) (told_array rules_key rule_checks ms ∷ told_array modes_key mode_checks ms ∷ told_array initials_key initial_checks ms ∷ []))) ∙ sym (failing-in_order _)))
   where
     regroup : (a b c d e : List ProfileFault) → (((a ++ b) ++ c) ++ d) ++ e ≡ a ++ (b ++ (c ++ (d ++ (e ++ []))))
     regroup a b c d e = rw (append-nil e) (append_assoc ((a ++ b) ++ c) d e ∙ (append_assoc (a ++ b) c (d ++ e) ∙ append_assoc a b (c ++ (d ++ e))))
@@ -474,8 +458,8 @@ word_step p vs i v u within here is =
 
 -- ---- the codes that must be legal
 
-pub with_codes : (ms : Members) (fs : List ProfileFault) (modes : List ModeRule) → fs ≡ failing (told_keys ms) → true ≡ (length fs == 0) → modes ≡ modes_of ms → fs ++ codes_told modes ≡ told ms
+pub with_codes : (ms : Members) (fs : List ProfileFault) (modes : List ModeRule) → fs ≡ failing (told_keys ms) → true ≡ (length fs == 0) → modes ≡ modes_of ms → fs ++ codes_told modes ≡ told_faults ms
 with_codes ms fs modes is none read = rw is (told_codes ms modes (ap (λ xs. length xs == 0) (sym is) ∙ sym none) read)
 
-pub without_codes : (ms : Members) (fs : List ProfileFault) → fs ≡ failing (told_keys ms) → false ≡ (length fs == 0) → fs ≡ told ms
+pub without_codes : (ms : Members) (fs : List ProfileFault) → fs ≡ failing (told_keys ms) → false ≡ (length fs == 0) → fs ≡ told_faults ms
 without_codes ms fs is some = is ∙ told_keys-alone ms (ap (λ xs. length xs == 0) (sym is) ∙ sym some)

@@ -11,8 +11,8 @@ use Rattle.bus_profile.specs.declared.fault.Part.{Part}
 use Rattle.bus_profile.specs.declared.fault.ProfileFault.{ProfileFault}
 use Rattle.bus_profile.specs.declared.fault.ProfileFault.TheVariants.{TooMany}
 use Rattle.bus_profile.specs.Checks.{check, in_order, first_fault}
-use Rattle.bus_profile.specs.Keys.{row, tables, optional, at_row, words_row}
-use Rattle.bus_profile.specs.Kinds.{found, or_default, value, number, count_items, is_too_long}
+use Rattle.bus_profile.specs.Keys.{key_row, tables, optional, at_row, words_row}
+use Rattle.bus_profile.specs.Kinds.{found, or_default, value, whole_in, count_items, is_too_long}
 use Rattle.bus_profile.specs.Faults.{key_checks, row_checks, goes_beyond}
 use Rattle.bus_profile.specs.inner.FirstWord.{IsFirstWord}
 
@@ -32,7 +32,7 @@ array_here o (table s) ds e f = absurd (cc)
 
 -- an array has no fault as a whole but that it is too long
 pub entries_head : (part : Part) (k : Key) (ds : Items) (b : Bool)
-    → first_fault (in_order (key_checks part (row k (tables 256) (optional (array no_items))) (Some (array ds)) ∷ check (TooMany part k) b ∷ [])) ≡ cond b (Some (TooMany part k)) None
+    → first_fault (in_order (key_checks part (key_row k (tables 256) (optional (array no_items))) (Some (array ds)) ∷ check (TooMany part k) b ∷ [])) ≡ cond b (Some (TooMany part k)) None
 unfolding in_order
 entries_head part k ds b = refl
 
@@ -54,7 +54,7 @@ pub range_of : (b : Bool) (n : ℕ) (f : ProfileFault) → cond (is_none (cond b
 range_of true n f e = refl
 range_of false n f e = absurd (cc)
 
-found_place : (part : Part) (d : Option Data) → first_fault (key_checks part at_row d) ≡ None → IsFirstWord (number (or_default at_row.presence d)) (or_default at_row.presence d)
+found_place : (part : Part) (d : Option Data) → first_fault (key_checks part at_row d) ≡ None → IsFirstWord (whole_in (or_default at_row.presence d)) (or_default at_row.presence d)
 unfolding in_order
 found_place part None e = record { low = omega arith; high = omega arith; beyond = λ ds. refl }
 found_place part (Some (integer (pos n))) e =
@@ -68,5 +68,5 @@ found_place part (Some (datetime s)) e = absurd (cc)
 found_place part (Some (array s)) e = absurd (cc)
 found_place part (Some (table s)) e = absurd (cc)
 
-pub place_of : (part : Part) (ms : Members) (first : ℕ) → first_fault (row_checks part ms at_row) ≡ None → first ≡ number (value at_row ms) → IsFirstWord first (value at_row ms)
+pub place_of : (part : Part) (ms : Members) (first : ℕ) → first_fault (row_checks part ms at_row) ≡ None → first ≡ whole_in (value at_row ms) → IsFirstWord first (value at_row ms)
 place_of part ms first e is = rw is (found_place part (found At ms) e)

@@ -18,11 +18,11 @@ use Rattle.profile_types.specs.declared.profile.Profile.{Profile}
 use Rattle.bus_profile.specs.declared.ranges.RangeFault.{RangeFault}
 use Rattle.bus_profile.specs.Checks.{Check, HasNoFault, in_order, first_fault}
 use Rattle.bus_profile.specs.Faults.{key_checks, head_checks, each_item, entry_checks, rule_checks, mode_checks, initial_checks, word_checks, goes_beyond, faults}
-use Rattle.bus_profile.specs.Keys.{Presence, Row, row, whole, required, tables, root_rows, rule_rows, initial_rows, address_row, broadcast_row, wraparound_row, accept_row, vector_row, bit_row, to_row, direction_row, counts_row, legal_row, rule_row, mode_row, initial_row, subaddresses_row, subaddress_row, at_row, words_row}
-use Rattle.bus_profile.specs.Kinds.{found, value, number, wrap_value, or_default, set_from, items, count_items, is_too_long}
+use Rattle.bus_profile.specs.Keys.{Presence, KeyRow, key_row, whole, required, tables, root_rows, rule_rows, initial_rows, address_row, broadcast_row, wraparound_row, accept_row, vector_row, bit_row, to_row, direction_row, counts_row, legal_row, rules_key, modes_key, initials_key, subaddresses_row, subaddress_row, at_row, words_row}
+use Rattle.bus_profile.specs.Kinds.{found, value, whole_in, wrap_value, or_default, set_from, items, count_items, is_too_long}
 use Rattle.profile_types.specs.OwnCodes.{is_own_code_legal}
 use Rattle.profile_types.specs.Plain.{PlainRule, PlainInitial, PlainProfile, plain, plain_rule, plain_initial}
-use Rattle.bus_profile.specs.Gives.{each_of, rule_in, mode_in, word_in, initial_in, modes_of, profile_of}
+use Rattle.bus_profile.specs.Gives.{each_of, rule_in, mode_in, initial_word_in, initial_in, modes_of, profile_of}
 use Rattle.bus_profile.specs.Ranges.{IsReading}
 use Rattle.bus_profile.specs.RangesOf.{ranges_of}
 use Rattle.bus_profile.specs.Read.{IsTree, Accepts}
@@ -67,7 +67,7 @@ passes false f e = refl
 
 -- ---- keys without a fault
 
-in_whole : (p : Part) (key : Key) (low high : ℕ) (d : Option Data) → first_fault (key_checks p (row key (whole low high) required) d) ≡ None → (low ≤ number d) × (number d ≤ high)
+in_whole : (p : Part) (key : Key) (low high : ℕ) (d : Option Data) → first_fault (key_checks p (key_row key (whole low high) required) d) ≡ None → (low ≤ whole_in d) × (whole_in d ≤ high)
 unfolding in_order
 in_whole p key low high None e = absurd (cc)
 in_whole p key low high (Some (integer (pos n))) e =
@@ -117,7 +117,7 @@ subaddresses_small p (Some (table s)) e = absurd (cc)
 -- ---- arrays without a fault
 
 -- an array without a fault as a whole is not too long
-not_long : (p : Part) (r : Row) (is_long : Items → Bool) (ms : Members) → first_fault (head_checks p r is_long ms) ≡ None → is_long (items (value r ms)) ≡ false
+not_long : (p : Part) (r : KeyRow) (is_long : Items → Bool) (ms : Members) → first_fault (head_checks p r is_long ms) ≡ None → is_long (items (value r ms)) ≡ false
 not_long p r is_long ms e = passes _ _ (no_first _ _ (no_second _ _ (sym (first_fault-in_order _) ∙ e)))
 
 length-each_of : {A : Type 0} (f : Data → A) (ds : Items) → length (each_of f ds) ≡ count_items ds
@@ -127,16 +127,16 @@ length-each_of f (item d ds) = ap suc (length-each_of f ds)
 few : (count : ℕ) → nat_lt 256 count ≡ false → count ≤ 256
 few count e = grind (arith, nat_tests)
 
-no_head : (r : Row) (checks : ℕ → Data → List Check) (ms : Members) → entries_fault r checks ms ≡ None → first_fault (head_checks part.Root r (is_too_long r.kind) ms) ≡ None
+no_head : (r : KeyRow) (checks : ℕ → Data → List Check) (ms : Members) → entries_fault r checks ms ≡ None → first_fault (head_checks part.Root r (is_too_long r.kind) ms) ≡ None
 no_head r checks ms e = no_first (first_fault (head_checks part.Root r (is_too_long r.kind) ms)) (fault_of_parts (each_item checks 1 (items (value r ms)))) e
 
-no_items_fault : (r : Row) (checks : ℕ → Data → List Check) (ms : Members) → entries_fault r checks ms ≡ None → fault_of_parts (each_item checks 1 (items (value r ms))) ≡ None
+no_items_fault : (r : KeyRow) (checks : ℕ → Data → List Check) (ms : Members) → entries_fault r checks ms ≡ None → fault_of_parts (each_item checks 1 (items (value r ms))) ≡ None
 no_items_fault r checks ms e = no_second (first_fault (head_checks part.Root r (is_too_long r.kind) ms)) (fault_of_parts (each_item checks 1 (items (value r ms)))) e
 
-few_items : (key : Key) (presence : Presence) (checks : ℕ → Data → List Check) (ms : Members) → entries_fault (row key (tables 256) presence) checks ms ≡ None →
-    count_items (items (value (row key (tables 256) presence) ms)) ≤ 256
+few_items : (key : Key) (presence : Presence) (checks : ℕ → Data → List Check) (ms : Members) → entries_fault (key_row key (tables 256) presence) checks ms ≡ None →
+    count_items (items (value (key_row key (tables 256) presence) ms)) ≤ 256
 few_items key presence checks ms e =
-    let r : Row = row key (tables 256) presence in
+    let r : KeyRow = key_row key (tables 256) presence in
     few (count_items (items (value r ms))) (not_long part.Root r (is_too_long r.kind) ms (no_head r checks ms e))
 
 -- ---- rules
@@ -144,7 +144,7 @@ few_items key presence checks ms e =
 rule_given : (n : ℕ) (d : Data) → first_fault (rule_checks n d) ≡ None → (r : Rule) × (plain_rule r ≡ rule_in d)
 unfolding in_order entry_checks
 rule_given n (table ms) e =
-    let fault : Row → Option ProfileFault = λ r. row_fault (part.Rule n) ms r in
+    let fault : KeyRow → Option ProfileFault = λ r. row_fault (part.Rule n) ms r in
     let none = each_none (unknown_fault (part.Rule n) rule_rows ms ∷ fault to_row ∷ fault direction_row ∷ fault subaddresses_row ∷ fault counts_row ∷ fault legal_row ∷ []) (sym (rule_fault n ms) ∙ e) in
     let p : PlainRule = rule_in (table ms) in
     let small = subaddresses_small (part.Rule n) (found subaddresses_row.key ms) none.1.1.1.0 in
@@ -179,23 +179,23 @@ length-zeros (suc n) = ap suc (length-zeros n)
 initial_given : (n : ℕ) (d : Data) → first_fault (initial_checks n d) ≡ None → (i : InitialWords) × (plain_initial i ≡ initial_in d)
 unfolding in_order entry_checks
 initial_given n (table ms) e =
-    let fault : Row → Option ProfileFault = λ r. row_fault (part.Initial n) ms r in
+    let fault : KeyRow → Option ProfileFault = λ r. row_fault (part.Initial n) ms r in
     let head_fault : Option ProfileFault = first_fault (head_checks (part.Initial n) words_row (goes_beyond (value at_row ms)) ms) in
     let words_fault : Option ProfileFault = fault_of_parts (each_item (λ _. word_checks (part.Initial n)) 1 (items (value words_row ms))) in
     let none = each_none (unknown_fault (part.Initial n) initial_rows ms ∷ fault subaddress_row ∷ fault at_row ∷ option_or head_fault words_fault ∷ []) (sym (initial_fault n ms) ∙ e) in
     let subaddress = in_whole (part.Initial n) subaddress_row.key 1 30 (found subaddress_row.key ms) none.1.0 in
-    let first : ℕ = number (value at_row ms) in
+    let first : ℕ = whole_in (value at_row ms) in
     let at : IsFirstWord first (value at_row ms) = place_of (part.Initial n) ms first none.1.1.0 refl in
     let ds : Items = items (value words_row ms) in
     let head = no_first head_fault words_fault none.1.1.1.0 in
     let fits : nat_lt 32 (first - 1 + count_items ds) ≡ false = sym (at.beyond ds) ∙ not_long (part.Initial n) words_row (goes_beyond (value at_row ms)) ms head in
     let room : first + count_items ds ≤ 33 = room_of first (count_items ds) at.low fits in
-    let words : List ℕ = each_of word_in ds in
-    let long : length words ≡ count_items ds = length-each_of word_in ds in
+    let words : List ℕ = each_of initial_word_in ds in
+    let long : length words ≡ count_items ds = length-each_of initial_word_in ds in
     let all : length (words ++ zeros (32 - count_items ds)) ≡ 32 = whole_of words (count_items ds) long (at_most first (count_items ds) at.low room) in
     let front : take (count_items ds) (words ++ zeros (32 - count_items ds)) ≡ words = ap (λ k. take k (words ++ zeros (32 - count_items ds))) (sym long) ∙ take-front words (zeros (32 - count_items ds)) in (
-      record { subaddress = number (value subaddress_row ms); first = first; len = count_items ds; words = words ++ zeros (32 - count_items ds); subaddress_low = subaddress.0; subaddress_high = subaddress.1; first_low = at.low; first_high = at.high; room = room; whole = all },
-      λ j. record { subaddress = number (value subaddress_row ms); first = first; words = front j },
+      record { subaddress = whole_in (value subaddress_row ms); first = first; len = count_items ds; words = words ++ zeros (32 - count_items ds); subaddress_low = subaddress.0; subaddress_high = subaddress.1; first_low = at.low; first_high = at.high; room = room; whole = all },
+      λ j. record { subaddress = whole_in (value subaddress_row ms); first = first; words = front j },
     )
   where
     room_of : (first count : ℕ) → 1 ≤ first → nat_lt 32 (first - 1 + count) ≡ false → first + count ≤ 33
@@ -236,16 +236,16 @@ profile_given : (ms : Members) → HasNoFault (faults ms) → (p : Profile) × (
 profile_given ms none =
     let faultless = sym (tree_fault ms) ∙ first_fault-none (faults ms) none in
     let legal : ℕ → Bool = λ code. is_own_code_legal (modes_of ms) code in
-    let fault : Row → Option ProfileFault = λ r. row_fault part.Root ms r in
-    let root = each_none (unknown_fault part.Root root_rows ms ∷ settings_fault ms ∷ entries_fault rule_row rule_checks ms ∷ entries_fault mode_row mode_checks ms
-    ∷ entries_fault initial_row initial_checks ms ∷ []) (no_first (key_fault ms) (code_fault ms) faultless) in
+    let fault : KeyRow → Option ProfileFault = λ r. row_fault part.Root ms r in
+    let root = each_none (unknown_fault part.Root root_rows ms ∷ settings_fault ms ∷ entries_fault rules_key rule_checks ms ∷ entries_fault modes_key mode_checks ms
+    ∷ entries_fault initials_key initial_checks ms ∷ []) (no_first (key_fault ms) (code_fault ms) faultless) in
     let settings = each_none (fault address_row ∷ fault broadcast_row ∷ fault wraparound_row ∷ fault accept_row ∷ fault vector_row ∷ fault bit_row ∷ []) root.1.0 in
     let arrays = root.1.1 in
-    let rules = rules_given 1 (items (value rule_row ms)) (no_items_fault rule_row rule_checks ms arrays.0) in
-    let initials = initials_given 1 (items (value initial_row ms)) (no_items_fault initial_row initial_checks ms arrays.1.1.0) in
-    let few_rules = few_items rule_row.key rule_row.presence rule_checks ms arrays.0 in
-    let few_modes = few_items mode_row.key mode_row.presence mode_checks ms arrays.1.0 in
-    let few_initials = few_items initial_row.key initial_row.presence initial_checks ms arrays.1.1.0 in
+    let rules = rules_given 1 (items (value rules_key ms)) (no_items_fault rules_key rule_checks ms arrays.0) in
+    let initials = initials_given 1 (items (value initials_key ms)) (no_items_fault initials_key initial_checks ms arrays.1.1.0) in
+    let few_rules = few_items rules_key.key rules_key.presence rule_checks ms arrays.0 in
+    let few_modes = few_items modes_key.key modes_key.presence mode_checks ms arrays.1.0 in
+    let few_initials = few_items initials_key.key initials_key.presence initial_checks ms arrays.1.1.0 in
     let own = profile_of ms in (
       record {
         address = own.address;
@@ -260,7 +260,7 @@ profile_given ms none =
         own_address = (in_whole part.Root address_row.key 0 30 (found address_row.key ms) settings.0).1;
         own_wrap = wrap_small part.Root (found wraparound_row.key ms) settings.1.1.0;
         few_rules = omega (arith, few_rules, rules.2);
-        few_modes = omega (arith, few_modes, length-each_of mode_in (items (value mode_row ms)));
+        few_modes = omega (arith, few_modes, length-each_of mode_in (items (value modes_key ms)));
         few_initials = omega (arith, few_initials, initials.2);
         required_codes = all_four (legal transmit_status) (legal shutdown) (legal override_shutdown) (legal reset) (no_second (key_fault ms) (code_fault ms) faultless);
       },

@@ -8,7 +8,7 @@ use Rattle.bus_profile.specs.declared.fault.ProfileFault.{ProfileFault}
 use Rattle.bus_profile.specs.declared.fault.ProfileFault.TheVariants.{NotToml, UnknownKey, Missing, WrongKind, OutOfRange, BadRanges, TooMany, RequiredCode, Memory}
 use Rattle.profile_types.specs.declared.profile.Profile.{Profile}
 use Rattle.bus_profile.specs.Checks.{Check, first_fault}
-use Rattle.bus_profile.specs.Keys.{Row, setting_rows, rule_row, mode_row, initial_row, rule_rows, mode_rows, subaddress_row, at_row, words_row, initial_rows}
+use Rattle.bus_profile.specs.Keys.{KeyRow, setting_rows, rules_key, modes_key, initials_key, rule_rows, mode_rows, subaddress_row, at_row, words_row, initial_rows}
 use Rattle.bus_profile.specs.Kinds.{found, value, items, is_too_long}
 use Rattle.bus_profile.specs.Faults.{key_checks, row_checks, array_checks, each_item, entry_checks, rule_checks, mode_checks, initial_checks, word_checks, words_checks, goes_beyond, entries_checks, key_faults, code_faults, faults}
 use Rattle.bus_profile.specs.inner.FirstFault.{ReadsInMemory}
@@ -20,10 +20,10 @@ use Rattle.bus_profile.proofs.Least.{Rises, AllRise, in_order_rises, IsFirst-fro
 -- ---- keys and arrays
 
 -- The places of one check, `(tt, tt, ..)`, rise, and its fault is one of a tree.
-key_rises : (part : Part) (row : Row) (d : Option Data) → Rises (key_checks part row d)
+key_rises : (part : Part) (row : KeyRow) (d : Option Data) → Rises (key_checks part row d)
 key_rises part row d = in_order_rises _ ((tt, tt, λ e. cc), ((tt, tt, λ e. cc), ((tt, tt, λ e. cc), ((tt, tt, λ e. cc), tt))))
 
-rows_rise : (part : Part) (ms : Members) (rows : List Row) (more : List (List Check)) → AllRise more → AllRise (map (row_checks part ms) rows ++ more)
+rows_rise : (part : Part) (ms : Members) (rows : List KeyRow) (more : List (List Check)) → AllRise more → AllRise (map (row_checks part ms) rows ++ more)
 rows_rise part ms [] more a = a
 rows_rise part ms (row ∷ rows) more a = (key_rises part row (found row.key ms), rows_rise part ms rows more a)
 
@@ -31,14 +31,14 @@ items_rise : (checks : ℕ → Data → List Check) → ((n : ℕ) (d : Data) �
 items_rise checks each n no_items = tt
 items_rise checks each n (item d ds) = (each n d, items_rise checks each (suc n) ds)
 
-array_rises : (part : Part) (row : Row) (is_long : Items → Bool) (checks : ℕ → Data → List Check) → ((n : ℕ) (d : Data) → Rises (checks n d)) → (ms : Members) → Rises (array_checks part row is_long checks ms)
+array_rises : (part : Part) (row : KeyRow) (is_long : Items → Bool) (checks : ℕ → Data → List Check) → ((n : ℕ) (d : Data) → Rises (checks n d)) → (ms : Members) → Rises (array_checks part row is_long checks ms)
 unfolding array_checks
 array_rises part row is_long checks each ms =
     in_order_rises _ (in_order_rises _ (key_rises part row (found row.key ms), ((tt, tt, λ e. cc), tt)), items_rise checks each 1 (items (value row ms)))
 
 -- ---- entries
 
-entry_rises : (part : Part) (row : Row) (rows : List Row) (keys : Members → List (List Check)) → ((ms : Members) → AllRise (keys ms)) → (d : Data) → Rises (entry_checks part row rows keys d)
+entry_rises : (part : Part) (row : KeyRow) (rows : List KeyRow) (keys : Members → List (List Check)) → ((ms : Members) → AllRise (keys ms)) → (d : Data) → Rises (entry_checks part row rows keys d)
 unfolding entry_checks
 entry_rises part row rows keys each (table ms) = in_order_rises _ ((tt, tt, λ e. cc), ((tt, tt, λ e. cc), each ms))
 entry_rises part row rows keys each (string s) = in_order_rises _ ((tt, tt, λ e. cc), tt)
@@ -49,10 +49,10 @@ entry_rises part row rows keys each (datetime s) = in_order_rises _ ((tt, tt, λ
 entry_rises part row rows keys each (array s) = in_order_rises _ ((tt, tt, λ e. cc), tt)
 
 rule_rises : (n : ℕ) (d : Data) → Rises (rule_checks n d)
-rule_rises n d = entry_rises (Rule n) rule_row rule_rows (λ ms. map (row_checks (Rule n) ms) rule_rows) (λ ms. rows_rise (Rule n) ms rule_rows [] tt) d
+rule_rises n d = entry_rises (Rule n) rules_key rule_rows (λ ms. map (row_checks (Rule n) ms) rule_rows) (λ ms. rows_rise (Rule n) ms rule_rows [] tt) d
 
 mode_rises : (n : ℕ) (d : Data) → Rises (mode_checks n d)
-mode_rises n d = entry_rises (Mode n) mode_row mode_rows (λ ms. map (row_checks (Mode n) ms) mode_rows) (λ ms. rows_rise (Mode n) ms mode_rows [] tt) d
+mode_rises n d = entry_rises (Mode n) modes_key mode_rows (λ ms. map (row_checks (Mode n) ms) mode_rows) (λ ms. rows_rise (Mode n) ms mode_rows [] tt) d
 
 word_rises : (part : Part) (d : Data) → Rises (word_checks part d)
 word_rises part d = in_order_rises _ ((tt, tt, λ e. cc), ((tt, tt, λ e. cc), tt))
@@ -62,12 +62,12 @@ words_rise part ms = array_rises part words_row (goes_beyond (value at_row ms)) 
 
 initial_rises : (n : ℕ) (d : Data) → Rises (initial_checks n d)
 initial_rises n d =
-    entry_rises (Initial n) initial_row initial_rows (λ ms. row_checks (Initial n) ms subaddress_row ∷ row_checks (Initial n) ms at_row ∷ words_checks (Initial n) ms ∷ [])
+    entry_rises (Initial n) initials_key initial_rows (λ ms. row_checks (Initial n) ms subaddress_row ∷ row_checks (Initial n) ms at_row ∷ words_checks (Initial n) ms ∷ [])
     (λ ms. (key_rises (Initial n) subaddress_row (found key.Subaddress ms), (key_rises (Initial n) at_row (found key.At ms), (words_rise (Initial n) ms, tt)))) d
 
 -- ---- the tree
 
-entries_rise : (row : Row) (checks : ℕ → Data → List Check) → ((n : ℕ) (d : Data) → Rises (checks n d)) → (ms : Members) → Rises (entries_checks row checks ms)
+entries_rise : (row : KeyRow) (checks : ℕ → Data → List Check) → ((n : ℕ) (d : Data) → Rises (checks n d)) → (ms : Members) → Rises (entries_checks row checks ms)
 entries_rise row checks each ms = array_rises Root row (is_too_long row.kind) checks each ms
 
 key_faults_rise : (ms : Members) → Rises (key_faults ms)
@@ -75,8 +75,8 @@ unfolding key_faults
 key_faults_rise ms =
     in_order_rises _ (
       (tt, tt, λ e. cc),
-      rows_rise Root ms setting_rows (entries_checks rule_row rule_checks ms ∷ entries_checks mode_row mode_checks ms ∷ entries_checks initial_row initial_checks ms ∷ [])
-          (entries_rise rule_row rule_checks rule_rises ms, (entries_rise mode_row mode_checks mode_rises ms, (entries_rise initial_row initial_checks initial_rises ms, tt))),
+      rows_rise Root ms setting_rows (entries_checks rules_key rule_checks ms ∷ entries_checks modes_key mode_checks ms ∷ entries_checks initials_key initial_checks ms ∷ [])
+          (entries_rise rules_key rule_checks rule_rises ms, (entries_rise modes_key mode_checks mode_rises ms, (entries_rise initials_key initial_checks initial_rises ms, tt))),
     )
 
 code_faults_rise : (ms : Members) → Rises (code_faults ms)

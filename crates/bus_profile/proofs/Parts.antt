@@ -3,7 +3,7 @@ use Rattle.std.proofs.Common.{◌≡◌, ◌≢◌, ℕ, zero, suc, ◌+◌, ◌
 use Rattle.std.proofs.lemmas.Bool.Decides.{nat_tests}
 use Rattle.std.proofs.lemmas.Grind.{common_steps}
 use Rattle.std.specs.List.{slice_split, onto_first}
-use Rattle.bus_profile.specs.RangesOf.{trim_end, before_trimmed, pair_of}
+use Rattle.bus_profile.specs.RangesOf.{trim_end, before_trimmed, range_item}
 
 -- a space at the end
 pub trim_end-space : (bs : List ℕ) (n : ℕ) → length bs ≡ n + 1 → get_or bs n 0 ≡ 32 → trim_end (take n bs) ≡ trim_end bs
@@ -51,10 +51,10 @@ split_some p (b ∷ bs) = pick (p b) (split_some p bs)
     pick false r = (b ∷ r.0, r.1, ap (onto_first b) r.2)
 
 -- three parts or more are no item
-pub pair_of-more : (a b c : Option ℕ) (os : List (Option ℕ)) → pair_of (a ∷ b ∷ c ∷ os) ≡ None
-pair_of-more None b c os = refl
-pair_of-more (Some m) None c os = refl
-pair_of-more (Some m) (Some n) c os = refl
+pub range_item-more : (a b c : Option ℕ) (os : List (Option ℕ)) → range_item (a ∷ b ∷ c ∷ os) ≡ None
+range_item-more None b c os = refl
+range_item-more (Some m) None c os = refl
+range_item-more (Some m) (Some n) c os = refl
 
-pub no_third_part : (a b : Option ℕ) (bs : List ℕ) (p : ℕ → Bool) (f : List ℕ → Option ℕ) → pair_of (a ∷ b ∷ map f (slice_split p bs)) ≡ None
-no_third_part a b bs p f = let (x, xs, e) = split_some p bs in rw e (pair_of-more a b (f x) (map f xs))
+pub no_third_part : (a b : Option ℕ) (bs : List ℕ) (p : ℕ → Bool) (f : List ℕ → Option ℕ) → range_item (a ∷ b ∷ map f (slice_split p bs)) ≡ None
+no_third_part a b bs p f = let (x, xs, e) = split_some p bs in rw e (range_item-more a b (f x) (map f xs))

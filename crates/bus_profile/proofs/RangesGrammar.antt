@@ -6,8 +6,8 @@ use Rattle.std.proofs.lemmas.Bool.Decides.{nat_tests}
 use Rattle.std.specs.List.{slice_split, onto_first}
 use Rattle.std.specs.Char.{is_ascii_digit}
 use Rattle.bus_profile.specs.declared.ranges.Item.{Item}
-use Rattle.bus_profile.specs.RangesOf.{trim_start, trim_end, before_trimmed, decimal_of, number_of, pair_of, item_of, in_front, all_of, items_of}
-use Rattle.bus_profile.proofs.Parts.{pair_of-more}
+use Rattle.bus_profile.specs.RangesOf.{trim_start, trim_end, before_trimmed, decimal_of, range_number, range_item, item_of, in_front, all_of, items_of}
+use Rattle.bus_profile.proofs.Parts.{range_item-more}
 use Rattle.bus_profile.specs.Ranges.{AreSpaces, IsDigit, AreDigits, IsNumber, IsItem, Denotes}
 
 -- ---- what the grammar gives is found
@@ -33,8 +33,8 @@ digits_found (a ∷ b ∷ []) after n v s = rw (not_space a v.0, trim_end-spaces
 digits_found (a ∷ b ∷ c ∷ []) after n v s = rw (not_space a v.0, trim_end-spaces after s, not_space c v.2, is_digit a v.0, is_digit b v.1, is_digit c v.2) (ap Some (sym v.3))
 digits_found (a ∷ b ∷ c ∷ d ∷ ds) after n v s = absurd v
 
-number_found : (text : List ℕ) (n : ℕ) → IsNumber text n → number_of text ≡ Some n
-unfolding number_of
+number_found : (text : List ℕ) (n : ℕ) → IsNumber text n → range_number text ≡ Some n
+unfolding range_number
 number_found text n h = rw (h.is, trim_start-spaces h.before (h.digits ++ h.after) h.spaces_before) (digits_found h.digits h.after n h.value h.spaces_after)
 
 -- no byte of the text is this one
@@ -128,8 +128,8 @@ digits_are (a ∷ b ∷ []) n e = let (p, q) = cond_some _ _ _ e in let (x, y) =
 digits_are (a ∷ b ∷ c ∷ []) n e = let (p, q) = cond_some _ _ _ e in let (xy, z) = and_parts _ _ p in let (x, y) = and_parts _ _ xy in (digit_is a x, digit_is b y, digit_is c z, sym q)
 digits_are (a ∷ b ∷ c ∷ d ∷ ds) n e = absurd (cc)
 
-number_is : (text : List ℕ) (n : ℕ) → number_of text ≡ Some n → IsNumber text n
-unfolding number_of
+number_is : (text : List ℕ) (n : ℕ) → range_number text ≡ Some n → IsNumber text n
+unfolding range_number
 number_is text n e =
     let (before, cut, spaces) = start_cut text in
     let (after, cut', spaces') = end_cut (trim_start text) in
@@ -161,12 +161,12 @@ item_is : (text : List ℕ) (s : Item) → item_of text ≡ Some s → IsItem te
 unfolding item_of
 item_is text s e = pick (slice_split (λ b. b == 45) text) (joined 45 text) e
   where
-    one : (x : List ℕ) (o : Option ℕ) → number_of x ≡ o → text ≡ x → pair_of (o ∷ []) ≡ Some s → IsItem text s
+    one : (x : List ℕ) (o : Option ℕ) → range_number x ≡ o → text ≡ x → range_item (o ∷ []) ≡ Some s → IsItem text s
     one x None f is e = absurd (cc)
     one x (Some n) f is e = let same = same_Some _ _ e in inl (number_is text s.first (rw is (f ∙ ap (λ (t : Item). Some t.first) same)), sym (ap (λ (t : Item). t.last) same) ∙ ap (λ (t : Item). t.first) same)
 
-    two : (x y rest : List ℕ) (ys : List (List ℕ)) → text ≡ x ++ (45 ∷ rest) → slice_split (λ b. b == 45) rest ≡ y ∷ ys → (a b : Option ℕ) → number_of x ≡ a → number_of y ≡ b → pair_of (a ∷ b ∷ map number_of ys) ≡ Some s → IsItem text s
-    two x y rest (z ∷ zs) is split a b f g e = absurd (none_is_some _ _ (pair_of-more a b (number_of z) (map number_of zs)) e)
+    two : (x y rest : List ℕ) (ys : List (List ℕ)) → text ≡ x ++ (45 ∷ rest) → slice_split (λ b. b == 45) rest ≡ y ∷ ys → (a b : Option ℕ) → range_number x ≡ a → range_number y ≡ b → range_item (a ∷ b ∷ map range_number ys) ≡ Some s → IsItem text s
+    two x y rest (z ∷ zs) is split a b f g e = absurd (none_is_some _ _ (range_item-more a b (range_number z) (map range_number zs)) e)
     two x y rest [] is split None b f g e = absurd (cc)
     two x y rest [] is split (Some m) None f g e = absurd (cc)
     two x y rest [] is split (Some m) (Some n) f g e =
@@ -174,10 +174,10 @@ item_is text s e = pick (slice_split (λ b. b == 45) text) (joined 45 text) e
         let whole : rest ≡ y = rw split at (joined 45 rest) in
         inr (record { left = x; right = rest; is = is; first = number_is x s.first (f ∙ ap (λ (t : Item). Some t.first) same); last = number_is rest s.last (rw whole (g ∙ ap (λ (t : Item). Some t.last) same)) })
 
-    pick : (parts : List (List ℕ)) → Joined 45 text parts → pair_of (map number_of parts) ≡ Some s → IsItem text s
+    pick : (parts : List (List ℕ)) → Joined 45 text parts → range_item (map range_number parts) ≡ Some s → IsItem text s
     pick [] j e = absurd j
-    pick (x ∷ []) j e = one x (number_of x) refl j e
-    pick (x ∷ y ∷ ys) j e = two x y j.0 ys j.1 j.2 (number_of x) (number_of y) refl refl e
+    pick (x ∷ []) j e = one x (range_number x) refl j e
+    pick (x ∷ y ∷ ys) j e = two x y j.0 ys j.1 j.2 (range_number x) (range_number y) refl refl e
 
 -- what comes before the items of a rest
 abbrev Longer : List ℕ → List ℕ → Option Item → Option (List Item) → List Item → Type 0

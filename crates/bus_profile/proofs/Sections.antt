@@ -8,7 +8,7 @@ use Rattle.bus_profile.specs.declared.fault.Part.{Part}
 use Rattle.bus_profile.specs.declared.fault.Part.TheVariants.{Rule, Mode, Initial}
 use Rattle.bus_profile.specs.declared.fault.ProfileFault.{ProfileFault}
 use Rattle.bus_profile.specs.declared.fault.ProfileFault.TheVariants.{UnknownKey}
-use Rattle.bus_profile.specs.Keys.{Row, keys_of, rule_rows, mode_rows, initial_rows, to_row, direction_row, subaddresses_row, counts_row, legal_row, codes_row, subaddress_row, at_row, words_row}
+use Rattle.bus_profile.specs.Keys.{KeyRow, keys_of, rule_rows, mode_rows, initial_rows, to_row, direction_row, subaddresses_row, counts_row, legal_row, codes_row, subaddress_row, at_row, words_row}
 use Rattle.bus_profile.specs.Kinds.{has_unknown, value, items}
 use Rattle.bus_profile.specs.Faults.{row_checks, head_checks, array_checks, each_item, entry_checks, rule_checks, mode_checks, goes_beyond, word_checks, initial_checks}
 use Rattle.bus_profile.specs.Checks.{first_fault}
@@ -16,10 +16,10 @@ use Rattle.bus_profile.specs.inner.FirstFault.{fault_of_parts}
 use Rattle.bus_profile.proofs.Least.{first_fault-in_order}
 
 -- the fault of a table with a key that it doesn't have
-abbrev pub unknown_fault : Part → List Row → Members → Option ProfileFault
+abbrev pub unknown_fault : Part → List KeyRow → Members → Option ProfileFault
 unknown_fault part rows ms = cond (has_unknown (keys_of rows) ms) (Some (UnknownKey part)) None
 
-abbrev pub row_fault : Part → Members → Row → Option ProfileFault
+abbrev pub row_fault : Part → Members → KeyRow → Option ProfileFault
 row_fault part ms row = first_fault (row_checks part ms row)
 
 pub mode_fault : (n : ℕ) (ms : Members) → first_fault (mode_checks n (table ms))

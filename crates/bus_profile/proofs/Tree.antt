@@ -8,7 +8,7 @@ use Rattle.bus_profile.specs.declared.fault.ProfileFault.TheVariants.{RequiredCo
 use Rattle.profile_types.specs.OwnCodes.{is_own_code_legal}
 use Rattle.bus_profile.specs.inner.MissingCode.{missing_code}
 use Rattle.bus_profile.specs.Checks.{Check, in_order, first_fault}
-use Rattle.bus_profile.specs.Keys.{Row, address_row, broadcast_row, wraparound_row, accept_row, vector_row, bit_row, rule_row, mode_row, initial_row, root_rows}
+use Rattle.bus_profile.specs.Keys.{KeyRow, address_row, broadcast_row, wraparound_row, accept_row, vector_row, bit_row, rules_key, modes_key, initials_key, root_rows}
 use Rattle.bus_profile.specs.Kinds.{value, items, is_too_long}
 use Rattle.bus_profile.specs.Faults.{head_checks, array_checks, each_item, entries_checks, rule_checks, mode_checks, initial_checks, key_faults, all_pass, code_faults, faults}
 use Rattle.bus_profile.specs.Gives.{modes_of}
@@ -17,10 +17,10 @@ use Rattle.bus_profile.proofs.Least.{first_fault-in_order}
 use Rattle.bus_profile.proofs.Sections.{unknown_fault, row_fault}
 
 -- an array of entries: itself first, then its items
-abbrev pub entries_fault : Row → (ℕ → Data → List Check) → Members → Option ProfileFault
+abbrev pub entries_fault : KeyRow → (ℕ → Data → List Check) → Members → Option ProfileFault
 entries_fault row checks ms = option_or (first_fault (head_checks Root row (is_too_long row.kind) ms)) (fault_of_parts (each_item checks 1 (items (value row ms))))
 
-entries_fault_is : (row : Row) (checks : ℕ → Data → List Check) (ms : Members) → first_fault (entries_checks row checks ms) ≡ entries_fault row checks ms
+entries_fault_is : (row : KeyRow) (checks : ℕ → Data → List Check) (ms : Members) → first_fault (entries_checks row checks ms) ≡ entries_fault row checks ms
 unfolding array_checks
 entries_fault_is row checks ms = first_fault-in_order _
 
@@ -54,22 +54,22 @@ in_turn ms =
     (option_or (row_fault Root ms accept_row)
     (option_or (row_fault Root ms vector_row)
     (option_or (row_fault Root ms bit_row)
-    (option_or (entries_fault rule_row rule_checks ms)
-    (option_or (entries_fault mode_row mode_checks ms)
-    (option_or (entries_fault initial_row initial_checks ms) None)))))))))
+    (option_or (entries_fault rules_key rule_checks ms)
+    (option_or (entries_fault modes_key mode_checks ms)
+    (option_or (entries_fault initials_key initial_checks ms) None)))))))))
 
 in_turn_is : (ms : Members) → first_fault (key_faults ms) ≡ in_turn ms
 unfolding key_faults
 in_turn_is ms =
-    first_fault-in_order _ ∙ rw (entries_fault_is rule_row rule_checks ms, entries_fault_is mode_row mode_checks ms, entries_fault_is initial_row initial_checks ms)
+    first_fault-in_order _ ∙ rw (entries_fault_is rules_key rule_checks ms, entries_fault_is modes_key mode_checks ms, entries_fault_is initials_key initial_checks ms)
 
 abbrev pub key_fault : Members → Option ProfileFault
 key_fault ms =
     option_or (unknown_fault Root root_rows ms)
     (option_or (settings_fault ms)
-    (option_or (entries_fault rule_row rule_checks ms)
-    (option_or (entries_fault mode_row mode_checks ms)
-    (option_or (entries_fault initial_row initial_checks ms) None))))
+    (option_or (entries_fault rules_key rule_checks ms)
+    (option_or (entries_fault modes_key mode_checks ms)
+    (option_or (entries_fault initials_key initial_checks ms) None))))
 
 key_fault_is : (ms : Members) → first_fault (key_faults ms) ≡ key_fault ms
 key_fault_is ms = in_turn_is ms ∙ ap (option_or (unknown_fault Root root_rows ms)) (joined (row_fault Root ms address_row) (row_fault Root ms broadcast_row) (row_fault Root ms wraparound_row) (row_fault Root ms accept_row) (row_fault Root ms vector_row) (row_fault Root ms bit_row) _)

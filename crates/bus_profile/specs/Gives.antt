@@ -4,8 +4,8 @@ use Rattle.std.specs.Str.{bytes_eq}
 use Rattle.toml.specs.Data.{Data, table, Items, no_items, item, Members, no_members}
 use Rattle.profile_types.specs.declared.entries.ModeRule.{ModeRule}
 use Rattle.profile_types.specs.Plain.{PlainRule, PlainInitial, PlainProfile}
-use Rattle.bus_profile.specs.Keys.{address_row, broadcast_row, wraparound_row, accept_row, vector_row, bit_row, rule_row, mode_row, initial_row, to_row, direction_row, subaddresses_row, counts_row, legal_row, codes_row, subaddress_row, at_row, words_row}
-use Rattle.bus_profile.specs.Kinds.{value, number, truth_value, wrap_value, text, set_from, items}
+use Rattle.bus_profile.specs.Keys.{address_row, broadcast_row, wraparound_row, accept_row, vector_row, bit_row, rules_key, modes_key, initials_key, to_row, direction_row, subaddresses_row, counts_row, legal_row, codes_row, subaddress_row, at_row, words_row}
+use Rattle.bus_profile.specs.Kinds.{value, whole_in, truth_value, wrap_value, text, set_from, items}
 
 -- the text is this one, or "both"
 abbrev pub says : List ℕ → List ℕ → Bool
@@ -40,42 +40,42 @@ mode_from ms = record {
   legal = truth_value (value legal_row ms);
 }
 
-abbrev pub word_in : Data → ℕ
-word_in d = number (Some d)
+abbrev pub initial_word_in : Data → ℕ
+initial_word_in d = whole_in (Some d)
 
 abbrev pub initial_from : Members → PlainInitial
 initial_from ms = record {
-  subaddress = number (value subaddress_row ms);
-  first = number (value at_row ms);
-  words = each_of word_in (items (value words_row ms));
+  subaddress = whole_in (value subaddress_row ms);
+  first = whole_in (value at_row ms);
+  words = each_of initial_word_in (items (value words_row ms));
 }
 
 abbrev pub rule_in : Data → PlainRule
 rule_in d = rule_from (members d)
 
 abbrev pub rules_of : Members → List PlainRule
-rules_of ms = each_of rule_in (items (value rule_row ms))
+rules_of ms = each_of rule_in (items (value rules_key ms))
 
 abbrev pub mode_in : Data → ModeRule
 mode_in d = mode_from (members d)
 
 abbrev pub modes_of : Members → List ModeRule
-modes_of ms = each_of mode_in (items (value mode_row ms))
+modes_of ms = each_of mode_in (items (value modes_key ms))
 
 abbrev pub initial_in : Data → PlainInitial
 initial_in d = initial_from (members d)
 
 abbrev pub initials_of : Members → List PlainInitial
-initials_of ms = each_of initial_in (items (value initial_row ms))
+initials_of ms = each_of initial_in (items (value initials_key ms))
 
 abbrev pub profile_of : Members → PlainProfile
 profile_of ms = record {
-  address = number (value address_row ms);
+  address = whole_in (value address_row ms);
   broadcast = truth_value (value broadcast_row ms);
   wrap = wrap_value (value wraparound_row ms);
   accept = truth_value (value accept_row ms);
-  vector = number (value vector_row ms);
-  bit = number (value bit_row ms);
+  vector = whole_in (value vector_row ms);
+  bit = whole_in (value bit_row ms);
   rules = rules_of ms;
   modes = modes_of ms;
   initials = initials_of ms;

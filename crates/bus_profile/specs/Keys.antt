@@ -5,21 +5,21 @@ use Rattle.bus_profile.specs.declared.fault.Key.{Key}
 use Rattle.bus_profile.specs.declared.fault.Key.TheVariants.{Address, Broadcast, Wraparound, AcceptBusControl, Vector, Bit, Rule, Mode, Initial, To, Direction, Subaddresses, Counts, Legal, Codes, Subaddress, At, Words}
 
 -- what a key holds
-pub data Kind : Type 0 where
+pub data ValueKind : Type 0 where
   -- true or false
-  truth : Kind
+  truth : ValueKind
   -- a whole number from low to high
-  whole : (low high : ℕ) → Kind
+  whole : (low high : ℕ) → ValueKind
   -- true or false, or a whole number from low to high
-  truth_or_whole : (low high : ℕ) → Kind
+  truth_or_whole : (low high : ℕ) → ValueKind
   -- one of these texts
-  choice : (texts : List (List ℕ)) → Kind
+  choice : (texts : List (List ℕ)) → ValueKind
   -- numbers from low to high: a text of ranges, or one whole number
-  ranges : (low high : ℕ) → Kind
+  ranges : (low high : ℕ) → ValueKind
   -- an array of whole numbers from low to high
-  numbers : (low high : ℕ) → Kind
+  numbers : (low high : ℕ) → ValueKind
   -- an array of at most so many tables
-  tables : (most : ℕ) → Kind
+  tables : (most : ℕ) → ValueKind
 
 -- whether a key must be there, or what holds where it is not
 pub data Presence : Type 0 where
@@ -27,113 +27,113 @@ pub data Presence : Type 0 where
   optional : (default : Data) → Presence
 
 -- one line of the table of keys
-pub record Row : Type 0 where
+pub record KeyRow : Type 0 where
   pub key : Key
-  pub kind : Kind
+  pub kind : ValueKind
   pub presence : Presence
 
-abbrev pub row : Key → Kind → Presence → Row
-row key kind presence = record { key = key; kind = kind; presence = presence }
+abbrev pub key_row : Key → ValueKind → Presence → KeyRow
+key_row key kind presence = record { key = key; kind = kind; presence = presence }
 
-abbrev pub keys_of : List Row → List Key
+abbrev pub keys_of : List KeyRow → List Key
 keys_of rows = map (λ r. r.key) rows
 
 -- the key as it is written
-abbrev pub name_of : Key → List ℕ
-name_of Address = codes "address"
-name_of Broadcast = codes "broadcast"
-name_of Wraparound = codes "wraparound"
-name_of AcceptBusControl = codes "accept_bus_control"
-name_of Vector = codes "vector"
-name_of Bit = codes "bit"
-name_of Rule = codes "rule"
-name_of Mode = codes "mode"
-name_of Initial = codes "initial"
-name_of To = codes "to"
-name_of Direction = codes "direction"
-name_of Subaddresses = codes "subaddresses"
-name_of Counts = codes "counts"
-name_of Legal = codes "legal"
-name_of Codes = codes "codes"
-name_of Subaddress = codes "subaddress"
-name_of At = codes "at"
-name_of Words = codes "words"
+abbrev pub key_name : Key → List ℕ
+key_name Address = codes "address"
+key_name Broadcast = codes "broadcast"
+key_name Wraparound = codes "wraparound"
+key_name AcceptBusControl = codes "accept_bus_control"
+key_name Vector = codes "vector"
+key_name Bit = codes "bit"
+key_name Rule = codes "rule"
+key_name Mode = codes "mode"
+key_name Initial = codes "initial"
+key_name To = codes "to"
+key_name Direction = codes "direction"
+key_name Subaddresses = codes "subaddresses"
+key_name Counts = codes "counts"
+key_name Legal = codes "legal"
+key_name Codes = codes "codes"
+key_name Subaddress = codes "subaddress"
+key_name At = codes "at"
+key_name Words = codes "words"
 
 -- ---- the root
 
-abbrev pub address_row : Row
-address_row = row Address (whole 0 30) required
+abbrev pub address_row : KeyRow
+address_row = key_row Address (whole 0 30) required
 
-abbrev pub broadcast_row : Row
-broadcast_row = row Broadcast truth (optional (boolean false))
+abbrev pub broadcast_row : KeyRow
+broadcast_row = key_row Broadcast truth (optional (boolean false))
 
-abbrev pub wraparound_row : Row
-wraparound_row = row Wraparound (truth_or_whole 1 30) (optional (boolean true))
+abbrev pub wraparound_row : KeyRow
+wraparound_row = key_row Wraparound (truth_or_whole 1 30) (optional (boolean true))
 
-abbrev pub accept_row : Row
-accept_row = row AcceptBusControl truth (optional (boolean false))
+abbrev pub accept_row : KeyRow
+accept_row = key_row AcceptBusControl truth (optional (boolean false))
 
-abbrev pub vector_row : Row
-vector_row = row Vector (whole 0 65535) (optional (integer (pos 0)))
+abbrev pub vector_row : KeyRow
+vector_row = key_row Vector (whole 0 65535) (optional (integer (pos 0)))
 
-abbrev pub bit_row : Row
-bit_row = row Bit (whole 0 65535) (optional (integer (pos 0)))
+abbrev pub bit_row : KeyRow
+bit_row = key_row Bit (whole 0 65535) (optional (integer (pos 0)))
 
-abbrev pub rule_row : Row
-rule_row = row Rule (tables 256) (optional (array no_items))
+abbrev pub rules_key : KeyRow
+rules_key = key_row Rule (tables 256) (optional (array no_items))
 
-abbrev pub mode_row : Row
-mode_row = row Mode (tables 256) (optional (array no_items))
+abbrev pub modes_key : KeyRow
+modes_key = key_row Mode (tables 256) (optional (array no_items))
 
-abbrev pub initial_row : Row
-initial_row = row Initial (tables 256) (optional (array no_items))
+abbrev pub initials_key : KeyRow
+initials_key = key_row Initial (tables 256) (optional (array no_items))
 
 -- the keys of the root that hold one value, and all its keys
-abbrev pub setting_rows : List Row
+abbrev pub setting_rows : List KeyRow
 setting_rows = address_row ∷ broadcast_row ∷ wraparound_row ∷ accept_row ∷ vector_row ∷ bit_row ∷ []
 
-abbrev pub root_rows : List Row
-root_rows = setting_rows ++ rule_row ∷ mode_row ∷ initial_row ∷ []
+abbrev pub root_rows : List KeyRow
+root_rows = setting_rows ++ rules_key ∷ modes_key ∷ initials_key ∷ []
 
 -- ---- a rule
 
 -- to which address the commands go: the terminal's own, that of all terminals, or either
-abbrev pub to_row : Row
-to_row = row To (choice (codes "own" ∷ codes "broadcast" ∷ codes "both" ∷ [])) (optional (string (codes "own")))
+abbrev pub to_row : KeyRow
+to_row = key_row To (choice (codes "own" ∷ codes "broadcast" ∷ codes "both" ∷ [])) (optional (string (codes "own")))
 
-abbrev pub direction_row : Row
-direction_row = row Direction (choice (codes "receive" ∷ codes "transmit" ∷ codes "both" ∷ [])) required
+abbrev pub direction_row : KeyRow
+direction_row = key_row Direction (choice (codes "receive" ∷ codes "transmit" ∷ codes "both" ∷ [])) required
 
-abbrev pub subaddresses_row : Row
-subaddresses_row = row Subaddresses (ranges 1 30) required
+abbrev pub subaddresses_row : KeyRow
+subaddresses_row = key_row Subaddresses (ranges 1 30) required
 
-abbrev pub counts_row : Row
-counts_row = row Counts (ranges 1 32) (optional (string (codes "1-32")))
+abbrev pub counts_row : KeyRow
+counts_row = key_row Counts (ranges 1 32) (optional (string (codes "1-32")))
 
-abbrev pub legal_row : Row
-legal_row = row Legal truth (optional (boolean true))
+abbrev pub legal_row : KeyRow
+legal_row = key_row Legal truth (optional (boolean true))
 
-abbrev pub rule_rows : List Row
+abbrev pub rule_rows : List KeyRow
 rule_rows = to_row ∷ direction_row ∷ subaddresses_row ∷ counts_row ∷ legal_row ∷ []
 
 -- ---- a mode entry
 
-abbrev pub codes_row : Row
-codes_row = row Codes (ranges 0 31) required
+abbrev pub codes_row : KeyRow
+codes_row = key_row Codes (ranges 0 31) required
 
-abbrev pub mode_rows : List Row
+abbrev pub mode_rows : List KeyRow
 mode_rows = to_row ∷ codes_row ∷ legal_row ∷ []
 
 -- ---- an initial entry
 
-abbrev pub subaddress_row : Row
-subaddress_row = row Subaddress (whole 1 30) required
+abbrev pub subaddress_row : KeyRow
+subaddress_row = key_row Subaddress (whole 1 30) required
 
-abbrev pub at_row : Row
-at_row = row At (whole 1 32) (optional (integer (pos 1)))
+abbrev pub at_row : KeyRow
+at_row = key_row At (whole 1 32) (optional (integer (pos 1)))
 
-abbrev pub words_row : Row
-words_row = row Words (numbers 0 65535) required
+abbrev pub words_row : KeyRow
+words_row = key_row Words (numbers 0 65535) required
 
-abbrev pub initial_rows : List Row
+abbrev pub initial_rows : List KeyRow
 initial_rows = subaddress_row ∷ at_row ∷ words_row ∷ []

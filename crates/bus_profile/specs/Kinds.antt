@@ -9,14 +9,14 @@ use Rattle.toml.specs.Data.{Data, string, integer, boolean, array, Items, no_ite
 use Rattle.bus_profile.specs.declared.ranges.RangeFault.{RangeFault}
 use Rattle.bus_profile.specs.declared.ranges.RangeFault.TheVariants.{Syntax, Bounds}
 use Rattle.bus_profile.specs.declared.fault.Key.{Key}
-use Rattle.bus_profile.specs.Keys.{Kind, truth, whole, truth_or_whole, choice, ranges, numbers, tables, Presence, required, optional, Row, name_of}
+use Rattle.bus_profile.specs.Keys.{ValueKind, truth, whole, truth_or_whole, choice, ranges, numbers, tables, Presence, required, optional, KeyRow, key_name}
 use Rattle.bus_profile.specs.RangesOf.{ranges_of}
 
 -- ---- the keys of a table
 
 -- the value of a key, where it is there
 abbrev pub found : Key → Members → Option Data
-found key ms = get_member (name_of key) ms
+found key ms = get_member (key_name key) ms
 
 abbrev pub names_of : Members → List (List ℕ)
 names_of no_members = []
@@ -24,7 +24,7 @@ names_of (member name d ms) = name ∷ names_of ms
 
 -- the name is that of one of these keys
 abbrev pub is_known : List Key → List ℕ → Bool
-is_known keys name = list_any (λ key. bytes_eq (name_of key) name) keys
+is_known keys name = list_any (λ key. bytes_eq (key_name key) name) keys
 
 -- the table has a key that is none of these
 abbrev pub has_unknown : List Key → Members → Bool
@@ -32,7 +32,7 @@ has_unknown keys ms = list_any (λ name. not (is_known keys name)) (names_of ms)
 
 -- ---- the values of a kind
 
-abbrev pub is_of_kind : Kind → Data → Bool
+abbrev pub is_of_kind : ValueKind → Data → Bool
 is_of_kind truth (boolean b) = true
 is_of_kind (whole low high) (integer z) = true
 is_of_kind (truth_or_whole low high) (boolean b) = true
@@ -58,12 +58,12 @@ is_bounds (Err Bounds) = true
 is_bounds _ = false
 
 -- a text where ranges should stand, and it is none
-abbrev pub is_bad_ranges : Kind → Data → Bool
+abbrev pub is_bad_ranges : ValueKind → Data → Bool
 is_bad_ranges (ranges low high) (string s) = is_syntax (ranges_of low high s)
 is_bad_ranges _ _ = false
 
 -- a value of the kind that is out of its range; what an array holds is looked at item by item
-abbrev pub is_out_of_range : Kind → Data → Bool
+abbrev pub is_out_of_range : ValueKind → Data → Bool
 is_out_of_range (whole low high) (integer z) = is_none (in_range low high z)
 is_out_of_range (truth_or_whole low high) (integer z) = is_none (in_range low high z)
 is_out_of_range (choice texts) (string s) = not (list_any (bytes_eq s) texts)
@@ -72,7 +72,7 @@ is_out_of_range (ranges low high) (integer z) = is_none (in_range low high z)
 is_out_of_range _ _ = false
 
 -- what each item of an array of numbers is to be
-abbrev pub item_kind : Kind → Kind
+abbrev pub item_kind : ValueKind → ValueKind
 item_kind (numbers low high) = whole low high
 item_kind kind = kind
 
@@ -81,7 +81,7 @@ count_items no_items = 0
 count_items (item d ds) = suc (count_items ds)
 
 -- an array of more tables than it may hold
-abbrev pub is_too_long : Kind → Items → Bool
+abbrev pub is_too_long : ValueKind → Items → Bool
 is_too_long (tables most) ds = nat_lt most (count_items ds)
 is_too_long _ ds = false
 
@@ -92,12 +92,12 @@ abbrev pub or_default : Presence → Option Data → Option Data
 or_default required d = d
 or_default (optional default) d = option_or d (Some default)
 
-abbrev pub value : Row → Members → Option Data
+abbrev pub value : KeyRow → Members → Option Data
 value row ms = or_default row.presence (found row.key ms)
 
-abbrev pub number : Option Data → ℕ
-number (Some (integer (pos n))) = n
-number _ = 0
+abbrev pub whole_in : Option Data → ℕ
+whole_in (Some (integer (pos n))) = n
+whole_in _ = 0
 
 abbrev pub truth_value : Option Data → Bool
 truth_value (Some (boolean b)) = b
@@ -106,7 +106,7 @@ truth_value _ = false
 -- A wraparound subaddress: the number that stands there, 30 for true, and 0, that is none, for false.
 abbrev pub wrap_value : Option Data → ℕ
 wrap_value (Some (boolean b)) = if b then wraparound_subaddress else 0
-wrap_value d = number d
+wrap_value d = whole_in d
 
 abbrev pub text : Option Data → List ℕ
 text (Some (string s)) = s

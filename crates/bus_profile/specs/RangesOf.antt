@@ -31,18 +31,18 @@ decimal_of (a ∷ b ∷ c ∷ []) = if (is_ascii_digit a && is_ascii_digit b) &&
 decimal_of _ = None
 
 -- a number with spaces before and after it
-unfoldable pub number_of : List ℕ → Option ℕ
-number_of text = decimal_of (trim_end (trim_start text))
+unfoldable pub range_number : List ℕ → Option ℕ
+range_number text = decimal_of (trim_end (trim_start text))
 
 -- the item of one number, or of two
-abbrev pub pair_of : List (Option ℕ) → Option Item
-pair_of (Some n ∷ []) = Some (record { first = n; last = n })
-pair_of (Some m ∷ Some n ∷ []) = Some (record { first = m; last = n })
-pair_of _ = None
+abbrev pub range_item : List (Option ℕ) → Option Item
+range_item (Some n ∷ []) = Some (record { first = n; last = n })
+range_item (Some m ∷ Some n ∷ []) = Some (record { first = m; last = n })
+range_item _ = None
 
 -- the item of a text, by its parts between minus signs
 unfoldable pub item_of : List ℕ → Option Item
-item_of text = pair_of (map number_of (slice_split (λ b. b == minus) text))
+item_of text = range_item (map range_number (slice_split (λ b. b == minus) text))
 
 -- an item in front of items, where both are there
 abbrev pub in_front : Option Item → Option (List Item) → Option (List Item)

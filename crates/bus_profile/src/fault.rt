@@ -1,7 +1,7 @@
 //! Why a profile text is refused, and where in it the fault stands.
 ghost use Rattle.std.specs.Prelude.{◌≡◌};
-ghost use Rattle.bus_profile.specs.FaultNames.{fault_number, fault_name};
-ghost use Rattle.bus_profile.specs.Keys.{name_of};
+ghost use Rattle.bus_profile.specs.FaultNames.{profile_fault_number, profile_fault_name};
+ghost use Rattle.bus_profile.specs.Keys.{key_name};
 
 use std::alloc::AllocFailed;
 use std::fmt;
@@ -57,7 +57,7 @@ pub enum Key {
 impl Key {
     /// The key as it is written in the profile text.
     pub fn name(self) -> &'static str
-        ensures { result.now ≡ name_of self }
+        ensures { result.now ≡ key_name self }
     {
         match self {
             Key::Address => "address",
@@ -125,7 +125,7 @@ pub enum ProfileFault {
 impl ProfileFault {
     /// The number of the kind of fault, 1 to 9 in the order of the variants.
     pub fn number(&self) -> u8
-        ensures { result ≡ fault_number self.now }
+        ensures { result ≡ profile_fault_number self.now }
     {
         match self {
             ProfileFault::NotToml => 1,
@@ -142,7 +142,7 @@ impl ProfileFault {
 
     /// The name of the kind of fault: that of its variant.
     pub fn name(&self) -> &'static str
-        ensures { result.now ≡ fault_name self.now }
+        ensures { result.now ≡ profile_fault_name self.now }
     {
         match self {
             ProfileFault::NotToml => "NotToml",

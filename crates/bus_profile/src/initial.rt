@@ -8,7 +8,7 @@ ghost use Rattle.bus_profile.specs.Faults.{initial_checks, head_checks, goes_bey
 ghost use Rattle.bus_profile.specs.Keys.{at_row, words_row};
 ghost use Rattle.bus_profile.specs.Kinds.{items};
 ghost use Rattle.profile_types.specs.Plain.{plain_initial};
-ghost use Rattle.bus_profile.specs.Gives.{initial_in, word_in, each_of};
+ghost use Rattle.bus_profile.specs.Gives.{initial_in, initial_word_in, each_of};
 ghost use Rattle.bus_profile.specs.inner.Section.{tree_of, value_at};
 ghost use Rattle.bus_profile.specs.inner.FirstWord.{IsFirstWord};
 
@@ -93,7 +93,7 @@ impl Section<'_> {
 /// Reads the words, which stand in front of the answer, as many as there are.
 fn words_of(values: &[Value], part: Part) -> Result<[u16; 32], ProfileFault>
     requires { length values.now ≤ 32 }
-    ensures { ReadsAs (take (length values.now)) (fault_of_parts (each_item (λ _. word_checks part) 1 (items_view values.now))) (each_of word_in (items_view values.now)) result }
+    ensures { ReadsAs (take (length values.now)) (fault_of_parts (each_item (λ _. word_checks part) 1 (items_view values.now))) (each_of initial_word_in (items_view values.now)) result }
 {
     let mut words = [0; 32];
     for (index, value) in values.iter().enumerate() {
@@ -105,7 +105,7 @@ fn words_of(values: &[Value], part: Part) -> Result<[u16; 32], ProfileFault>
 /// Reads one word.
 #[tactic(auto, unfolding(crate::specs::Checks::in_order))]
 pub fn word_of(value: &Value, part: Part) -> Result<u16, ProfileFault>
-    ensures { Reads (first_fault (word_checks part (view value.now))) (word_in (view value.now)) result }
+    ensures { Reads (first_fault (word_checks part (view value.now))) (initial_word_in (view value.now)) result }
 {
     let Some(n) = value.as_integer() else {
         return Err(ProfileFault::WrongKind(part, Key::Words));

@@ -4,7 +4,7 @@ ghost use Rattle.std.specs.List.{slice_split};
 ghost use Rattle.bus_word.specs.Mask.{has_bit};
 ghost use Rattle.bus_profile.specs.Ranges.{IsReading};
 ghost use Rattle.bus_profile.specs.inner.RangeParts.{parts_after};
-ghost use Rattle.bus_profile.specs.RangesOf.{trim_start, trim_end, decimal_of, number_of, pair_of, item_of, is_within, ranges_of};
+ghost use Rattle.bus_profile.specs.RangesOf.{trim_start, trim_end, decimal_of, range_number, range_item, item_of, is_within, ranges_of};
 
 use thiserror::Error;
 
@@ -72,7 +72,7 @@ fn mask_of_items(text: &str, low: u8, high: u8) -> Result<u32, RangeFault>
         if item.is_within(low, high) {
             let first = (item.first - u16::from(low)) as u8;
             let last = (item.last - u16::from(low)) as u8;
-            mask = with_bits(mask, first, last);
+            mask = with_range(mask, first, last);
         } else {
             within = false;
         }
@@ -105,9 +105,9 @@ fn item_of(text: &[u8]) -> Option<Item>
 {
     let (first, after) = first_part(text, b'-');
     match after {
-        Some(rest) => pair_of(first, rest),
+        Some(rest) => range_item(first, rest),
         None => {
-            let number = number_of(first)?;
+            let number = range_number(first)?;
             Some(Item {
                 first: number,
                 last: number,
@@ -118,23 +118,23 @@ fn item_of(text: &[u8]) -> Option<Item>
 
 /// Reads the item of a number and what follows its minus sign.
 #[tactic(auto, using(crate::proofs::Parts::no_third_part))]
-fn pair_of(first: &[u8], rest: &[u8]) -> Option<Item>
-    ensures { result ≡ pair_of (number_of first.now ∷ map number_of (slice_split (λ b. b == 45) rest.now)) }
+fn range_item(first: &[u8], rest: &[u8]) -> Option<Item>
+    ensures { result ≡ range_item (range_number first.now ∷ map range_number (slice_split (λ b. b == 45) rest.now)) }
 {
     let (last, after) = first_part(rest, b'-');
     if after.is_some() {
         return None;
     }
     Some(Item {
-        first: number_of(first)?,
-        last: number_of(last)?,
+        first: range_number(first)?,
+        last: range_number(last)?,
     })
 }
 
 /// Reads a number with spaces before and after it.
-#[tactic(auto, unfolding(crate::specs::RangesOf::number_of))]
-fn number_of(text: &[u8]) -> Option<u16>
-    ensures { result ≡ number_of text.now }
+#[tactic(auto, unfolding(crate::specs::RangesOf::range_number))]
+fn range_number(text: &[u8]) -> Option<u16>
+    ensures { result ≡ range_number text.now }
 {
     decimal_of(trim_end(trim_start(text)))
 }
@@ -181,7 +181,7 @@ fn decimal_of(digits: &[u8]) -> Option<u16>
 }
 
 /// Gives the mask with the bits from `first` to `last` set too.
-fn with_bits(mask: u32, first: u8, last: u8) -> u32
+fn with_range(mask: u32, first: u8, last: u8) -> u32
     requires order { first ≤ last }
     requires room { last < 32 }
     ensures { (i : ℕ) → i < 32 → has_bit result i ≡ (has_bit mask i || (nat_le first i && nat_le i last)) }

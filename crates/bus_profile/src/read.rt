@@ -4,7 +4,7 @@ ghost use Rattle.toml.specs.View.{table_view};
 ghost use Rattle.profile_types.specs.Plain.{plain, plain_rule, plain_initial};
 ghost use Rattle.bus_profile.specs.Faults.{faults, rule_checks, mode_checks, initial_checks};
 ghost use Rattle.bus_profile.specs.Gives.{profile_of, rules_of, modes_of, initials_of};
-ghost use Rattle.bus_profile.specs.Keys.{rule_row, mode_row, initial_row};
+ghost use Rattle.bus_profile.specs.Keys.{rules_key, modes_key, initials_key};
 ghost use Rattle.bus_profile.specs.Checks.{first_fault};
 ghost use Rattle.bus_profile.specs.inner.FirstFault.{Reads, ReadsInMemory};
 ghost use Rattle.bus_profile.specs.inner.Settings.{settings_fault, settings_of, entries_fault};
@@ -83,7 +83,7 @@ fn settings_of(root: &Section<'_>) -> Result<Settings, ProfileFault>
 
 /// Reads the rules.
 fn rules_in(alloc: Global, root: &Section<'_>) -> Result<Entries<Rule>, ProfileFault>
-    ensures reads { ReadsInMemory (map plain_rule) (entries_fault rule_row rule_checks root.now) (rules_of (tree_of root.now)) result }
+    ensures reads { ReadsInMemory (map plain_rule) (entries_fault rules_key rule_checks root.now) (rules_of (tree_of root.now)) result }
     ensures few { IfOk result (λ rules. length rules ≤ 256) }
 {
     rules_of(alloc, root.entries(Key::Rule)?)
@@ -91,7 +91,7 @@ fn rules_in(alloc: Global, root: &Section<'_>) -> Result<Entries<Rule>, ProfileF
 
 /// Reads the mode entries.
 fn modes_in(alloc: Global, root: &Section<'_>) -> Result<Entries<ModeRule>, ProfileFault>
-    ensures reads { ReadsInMemory (λ modes. modes) (entries_fault mode_row mode_checks root.now) (modes_of (tree_of root.now)) result }
+    ensures reads { ReadsInMemory (λ modes. modes) (entries_fault modes_key mode_checks root.now) (modes_of (tree_of root.now)) result }
     ensures few { IfOk result (λ modes. length modes ≤ 256) }
 {
     modes_of(alloc, root.entries(Key::Mode)?)
@@ -99,7 +99,7 @@ fn modes_in(alloc: Global, root: &Section<'_>) -> Result<Entries<ModeRule>, Prof
 
 /// Reads the initial entries.
 fn initials_in(alloc: Global, root: &Section<'_>) -> Result<Entries<InitialWords>, ProfileFault>
-    ensures reads { ReadsInMemory (map plain_initial) (entries_fault initial_row initial_checks root.now) (initials_of (tree_of root.now)) result }
+    ensures reads { ReadsInMemory (map plain_initial) (entries_fault initials_key initial_checks root.now) (initials_of (tree_of root.now)) result }
     ensures few { IfOk result (λ initials. length initials ≤ 256) }
 {
     initials_of(alloc, root.entries(Key::Initial)?)

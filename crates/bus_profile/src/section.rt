@@ -5,8 +5,8 @@ ghost use Rattle.toml.specs.View.{view, items_view};
 ghost use Rattle.bus_profile.specs.Checks.{first_fault};
 ghost use Rattle.bus_profile.specs.inner.FirstFault.{Reads, ReadsAs};
 ghost use Rattle.bus_profile.specs.Faults.{key_checks, head_checks};
-ghost use Rattle.bus_profile.specs.Keys.{row, whole, truth, ranges, tables, required, optional, counts_row, wraparound_row};
-ghost use Rattle.bus_profile.specs.Kinds.{found, number, truth_value, wrap_value, set_from, items, in_range, is_too_long, is_known, has_unknown};
+ghost use Rattle.bus_profile.specs.Keys.{key_row, whole, truth, ranges, tables, required, optional, counts_row, wraparound_row};
+ghost use Rattle.bus_profile.specs.Kinds.{found, whole_in, truth_value, wrap_value, set_from, items, in_range, is_too_long, is_known, has_unknown};
 ghost use Rattle.bus_profile.specs.inner.Section.{tree_of, value_at, fault_at};
 
 use crate::fault::{Key, Part, ProfileFault};
@@ -44,7 +44,7 @@ impl Section<'_> {
     /// A whole number from `low` to `high` that must be there.
     #[tactic(auto, unfolding(crate::specs::Checks::in_order))]
     pub fn required_whole(&self, key: Key, low: u16, high: u16) -> Result<u16, ProfileFault>
-        ensures reads { let line = row key (whole low high) required in Reads (fault_at line self.now) (number (value_at line self.now)) result }
+        ensures reads { let line = key_row key (whole low high) required in Reads (fault_at line self.now) (whole_in (value_at line self.now)) result }
         ensures range { IfOk result (λ n. (low ≤ n) × (n ≤ high)) }
     {
         let Some(value) = self.value(key) else {
@@ -67,7 +67,7 @@ impl Section<'_> {
     ) -> Result<u16, ProfileFault>
         requires low { low ≤ default }
         requires high { default ≤ high }
-        ensures reads { let line = row key (whole low high) (optional (integer (pos default))) in Reads (fault_at line self.now) (number (value_at line self.now)) result }
+        ensures reads { let line = key_row key (whole low high) (optional (integer (pos default))) in Reads (fault_at line self.now) (whole_in (value_at line self.now)) result }
         ensures range { IfOk result (λ n. (low ≤ n) × (n ≤ high)) }
     {
         let Some(value) = self.value(key) else {
@@ -82,7 +82,7 @@ impl Section<'_> {
     /// A truth value, or the default.
     #[tactic(auto, unfolding(crate::specs::Checks::in_order))]
     pub fn optional_truth(&self, key: Key, default: bool) -> Result<bool, ProfileFault>
-        ensures { let line = row key truth (optional (boolean default)) in Reads (fault_at line self.now) (truth_value (value_at line self.now)) result }
+        ensures { let line = key_row key truth (optional (boolean default)) in Reads (fault_at line self.now) (truth_value (value_at line self.now)) result }
     {
         match self.value(key) {
             Some(value) => value
@@ -117,7 +117,7 @@ impl Section<'_> {
     pub fn required_ranges(&self, key: Key, low: u8, high: u8) -> Result<u32, ProfileFault>
         requires order { low ≤ high }
         requires width { high - low ≤ 31 }
-        ensures reads { let line = row key (ranges low high) required in Reads (fault_at line self.now) (set_from low high (value_at line self.now)) result }
+        ensures reads { let line = key_row key (ranges low high) required in Reads (fault_at line self.now) (set_from low high (value_at line self.now)) result }
         ensures small { IfOk result (λ set. set < 2 ^ (high - low + 1)) }
     {
         match self.value(key) {
@@ -142,7 +142,7 @@ impl Section<'_> {
     fn ranges_in(&self, key: Key, value: &Value, low: u8, high: u8) -> Result<u32, ProfileFault>
         requires order { low ≤ high }
         requires width { high - low ≤ 31 }
-        ensures reads { Reads (first_fault (key_checks self.now.part (row key (ranges low high) required) (Some (view value.now)))) (set_from low high (Some (view value.now))) result }
+        ensures reads { Reads (first_fault (key_checks self.now.part (key_row key (ranges low high) required) (Some (view value.now)))) (set_from low high (Some (view value.now))) result }
         ensures small { IfOk result (λ set. set < 2 ^ (high - low + 1)) }
     {
         match value {
@@ -162,7 +162,7 @@ impl Section<'_> {
     /// The items of an array of tables, at most 256: none where there is no such key.
     #[tactic(auto, unfolding(crate::specs::Checks::in_order))]
     pub fn entries(&self, key: Key) -> Result<&[Value], ProfileFault>
-        ensures reads { let line = row key (tables 256) (optional (array no_items)) in ReadsAs (λ values. items_view values.now) (first_fault (head_checks self.now.part line (is_too_long line.kind) (tree_of self.now))) (items (value_at line self.now)) result }
+        ensures reads { let line = key_row key (tables 256) (optional (array no_items)) in ReadsAs (λ values. items_view values.now) (first_fault (head_checks self.now.part line (is_too_long line.kind) (tree_of self.now))) (items (value_at line self.now)) result }
         ensures few { IfOk result (λ values. length values.now ≤ 256) }
     {
         let Some(value) = self.value(key) else {

@@ -7,8 +7,8 @@ ghost use Rattle.bus_profile.specs.Checks.{check, in_order, first_fault};
 ghost use Rattle.bus_profile.specs.Keys.{keys_of, at_row, root_rows};
 ghost use Rattle.bus_profile.specs.Kinds.{found, value, items, has_unknown};
 ghost use Rattle.bus_profile.specs.Faults.{faults, each_item, word_checks, words_checks, goes_beyond, code_faults};
-ghost use Rattle.bus_profile.specs.AllFaults.{failing, HasShortArrays, told_array, told_keys, told, rows_at, unknown_names};
-ghost use Rattle.bus_profile.specs.inner.AllFaults.{failing_parts, present, row_of, unknown_told, array_told, key_told, keys_told, array_row, part_of, rows_of, checks_of, code_told, codes_told};
+ghost use Rattle.bus_profile.specs.AllFaults.{failing, HasShortArrays, told_array, told_keys, told_faults, rows_at, unknown_names};
+ghost use Rattle.bus_profile.specs.inner.AllFaults.{failing_parts, present, row_of, unknown_told, array_told, key_told, keys_told, array_row, part_of, key_rows_of, checks_of, code_told, codes_told};
 ghost use Rattle.bus_profile.specs.inner.Section.{tree_of, value_at};
 
 use crate::fault::{Key, Part, ProfileFault};
@@ -341,7 +341,7 @@ fn push_code(faults: &mut Vec<ProfileFault>, modes: &[ModeRule], code: u8) -> Re
 }
 
 /// Adds the faults of the codes that must be legal.
-fn push_codes(faults: &mut Vec<ProfileFault>, modes: &[ModeRule]) -> Result<(), AllocError>
+fn push_code_faults(faults: &mut Vec<ProfileFault>, modes: &[ModeRule]) -> Result<(), AllocError>
     ensures { OnOk result (faults.new.items ≡ faults.old.items ++ codes_told modes.now) }
 {
     push_code(faults, modes, TRANSMIT_STATUS)?;
@@ -357,7 +357,7 @@ fn push_required(
     table: &Table,
 ) -> Result<(), AllocError>
     requires { faults.now.items ≡ failing (told_keys (table_view table.now)) }
-    ensures { OnOk result (faults.new.items ≡ told (table_view table.now)) }
+    ensures { OnOk result (faults.new.items ≡ told_faults (table_view table.now)) }
 {
     if !faults.as_slice().is_empty() {
         return Ok(());
@@ -372,14 +372,14 @@ fn push_required(
     let Ok(modes) = modes_of(alloc, values) else {
         return Err(AllocError);
     };
-    push_codes(faults, modes.as_slice())
+    push_code_faults(faults, modes.as_slice())
 }
 
 /// Gives all the faults of the tree of a profile text, in their order: that which `read_profile` tells is the first.
 ///
 /// Of an array of more than 256 entries that alone is told, and nothing of its entries. The only error is out of memory.
 pub fn all_faults(alloc: Global, table: &Table) -> Result<Vec<ProfileFault>, AllocError>
-    ensures told { IfOk result (λ fs. fs.items ≡ told (table_view table.now)) }
+    ensures told { IfOk result (λ fs. fs.items ≡ told_faults (table_view table.now)) }
     ensures all { IfOk result (λ fs. HasShortArrays (table_view table.now) → fs.items ≡ failing (faults (table_view table.now))) }
 {
     let mut faults = Vec::new(alloc);

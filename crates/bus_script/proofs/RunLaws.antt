@@ -99,13 +99,13 @@ IfSome-any None P each = tt
 IfSome-any (Some xs) P each = each xs
 
 -- what a read behind the first bytes leaves
-pub filled : (held n : ℕ) (xs ys : List ℕ) → held ≤ length xs → n ≤ length ys
-    → take (held + n) (put_mid held (length xs - held) xs ys) ≡ take held xs ++ take n ys
-filled held n xs ys h k =
-    let front : length (take held xs) ≡ held = grind (arith, common_steps) in
-    subst (λ m. take (m + n) (put_mid held (length xs - held) xs ys) ≡ take held xs ++ take n ys) front
-    (take-append-add (take held xs) (ys ++ post_of held (length xs - held) xs) n
-    ∙ ap (λ z. take held xs ++ z) (take-append-le n ys (post_of held (length xs - held) xs) k))
+pub filled : (buffered n : ℕ) (xs ys : List ℕ) → buffered ≤ length xs → n ≤ length ys
+    → take (buffered + n) (put_mid buffered (length xs - buffered) xs ys) ≡ take buffered xs ++ take n ys
+filled buffered n xs ys h k =
+    let front : length (take buffered xs) ≡ buffered = grind (arith, common_steps) in
+    subst (λ m. take (m + n) (put_mid buffered (length xs - buffered) xs ys) ≡ take buffered xs ++ take n ys) front
+    (take-append-add (take buffered xs) (ys ++ post_of buffered (length xs - buffered) xs) n
+    ∙ ap (λ z. take buffered xs ++ z) (take-append-le n ys (post_of buffered (length xs - buffered) xs) k))
 
 -- ---- a read, and the whole lines that came
 
@@ -134,7 +134,7 @@ says-more : (meaning : Meaning) (whole pending more : List ℕ) (es : List Event
     → reading meaning 0 (lines_of (whole ++ pending ++ more)) ≡ adds es (reading meaning lines (lines_of (pending ++ more)))
 says-more meaning whole pending more es lines p = ap (λ xs. reading meaning 0 (lines_of xs)) (append_assoc whole pending more) ∙ p.each (pending ++ more)
 
--- what is held back can't be handed on
+-- what is buffered can't be flushed
 pub Running-unsent : {D M R W : Type 0} {meaning : Meaning} {stands : D → List Event → M → Type 0} {out : D → List Event → Event → List ℕ}
     {left : R → Option (List ℕ)} {written : W → Option (List ℕ)} {m m' : M} {r r' : R} {w w' : W} {lines events : ℕ} {pending whole : List ℕ} {es : List Event}
     (w'' : W)
@@ -288,9 +288,9 @@ no_bytes [] n len none = refl
 no_bytes (b ∷ bytes) n len none = absurd (omega arith)
 
 -- a read of no bytes leaves what stood before
-pub same_front : (held n : ℕ) (bytes old new : List ℕ) → n ≡ 0 → bytes ≡ [] → take (held + n) new ≡ take held old ++ bytes → take held new ≡ take held old
-same_front held n bytes old new none empty is =
-    ap (λ m. take m new) (sym (add-zero held) ∙ ap (λ m. held + m) (sym none)) ∙ is ∙ ap (λ xs. take held old ++ xs) empty ∙ append-nil (take held old)
+pub same_front : (buffered n : ℕ) (bytes old new : List ℕ) → n ≡ 0 → bytes ≡ [] → take (buffered + n) new ≡ take buffered old ++ bytes → take buffered new ≡ take buffered old
+same_front buffered n bytes old new none empty is =
+    ap (λ m. take m new) (sym (add-zero buffered) ∙ ap (λ m. buffered + m) (sym none)) ∙ is ∙ ap (λ xs. take buffered old ++ xs) empty ∙ append-nil (take buffered old)
 
 -- ---- what a last flush keeps
 
@@ -308,7 +308,7 @@ pub BreaksAt-kept : {D M W : Type 0} {meaning : Meaning} {stands : D → List Ev
     → BreaksAt meaning stands out written m m' w w' text es e r → BreaksAt meaning stands out written m m' w w'' text es e r
 BreaksAt-kept k p = record { says = p.says; plays = PlaysPart-kept p.plays k }
 
--- what was played can't be handed on
+-- the transcript of what was played can't be flushed
 pub RunsTo-unsent : {D M W : Type 0} {meaning : Meaning} {stands : D → List Event → M → Type 0} {out : D → List Event → Event → List ℕ} {written : W → Option (List ℕ)}
     {m m' : M} {w w' w'' : W} {text : List ℕ} {es : List Event} {r : Reading} {n : ℕ} → 0 < n → n ≡ length es → Keeps (written w') (written w'')
     → RunsTo meaning stands out written m m' w w' text es r

@@ -1,31 +1,14 @@
--- Known bytes, over calls that are tried again and bytes that are held back.
-use Rattle.std.proofs.Common.{ℕ, ◌≡◌, ◌+◌, ◌-◌, List, [], ◌∷◌, ◌++◌, length, take, drop, Option, None, Some, Result, Ok, Err, refl, sym, ap, ◌∙◌, arith, subst, append-nil, append_assoc, take-append-drop, drop-cons, flat_map, get_or, ◌<◌, OnErr}
+-- Known bytes, over calls that are tried again and bytes that are buffered.
+use Rattle.std.proofs.Common.{ℕ, ◌≡◌, ◌+◌, ◌-◌, List, [], ◌∷◌, ◌++◌, length, take, drop, Option, Result, Ok, Err, sym, ap, ◌∙◌, arith, subst, append-nil, append_assoc, take-append-drop, drop-cons, flat_map, get_or, ◌<◌, OnErr}
 use Rattle.std.proofs.lemmas.Grind.{common_steps, flat_map-append}
 use Rattle.std.proofs.Math.Seq.{take-add}
 use Rattle.std.proofs.KnownBytes.{Appends-trans, Keeps-trans, append_known-kept, append_known-moved, append_known-passed}
 use Rattle.bus_script.specs.Device.{IsPartWritten}
-use Rattle.std.specs.Io.KnownBytes.{Keeps, Appends, Consumes, WriteAppends, append_known}
+use Rattle.std.specs.Io.KnownBytes.{Keeps, Appends, WriteAppends, append_known}
 
 -- the value of `&bytes[at..]`
 pub from_there : (at : ℕ) (bytes : List ℕ) → take (length bytes - at) (drop at bytes) ≡ drop at bytes
 from_there at bytes = grind (arith, common_steps)
-
--- what a first call that failed keeps, a second appends to
-pub Appends-again : (a b c : Option (List ℕ)) (bs : List ℕ) → Keeps a b → Appends b c bs → Appends a c bs
-Appends-again None b c bs p q = tt
-Appends-again (Some x) None c bs p q = absurd p
-Appends-again (Some x) (Some y) None bs p q = absurd q
-Appends-again (Some x) (Some y) (Some z) bs p q = q ∙ ap (λ l. l ++ bs) p
-
-pub Consumes-again : (a b c : Option (List ℕ)) (bs : List ℕ) → Keeps a b → Consumes b c bs → Consumes a c bs
-Consumes-again None b c bs p q = tt
-Consumes-again (Some x) None c bs p q = absurd p
-Consumes-again (Some x) (Some y) None bs p q = absurd q
-Consumes-again (Some x) (Some y) (Some z) bs p q = sym p ∙ q
-
-pub append_known-nil : (a : Option (List ℕ)) → append_known a [] ≡ a
-append_known-nil None = refl
-append_known-nil (Some x) = ap Some (append-nil x)
 
 -- more of the bytes was taken
 pub Appends-more : (a b c : Option (List ℕ)) (bytes : List ℕ) (at n : ℕ) → Appends a b (take at bytes) → Appends b c (take n (take (length bytes - at) (drop at bytes)))
@@ -34,22 +17,22 @@ Appends-more a b c bytes at n p q =
     subst (Appends a c) (ap (λ xs. take at bytes ++ take n xs) (from_there at bytes) ∙ sym (take-add at n bytes))
     (Appends-trans a b c (take at bytes) (take n (take (length bytes - at) (drop at bytes))) p q)
 
--- the writer took n of the held bytes that it had not taken
-pub held-taken : (a b : Option (List ℕ)) (slice held : List ℕ) (taken n : ℕ) → slice ≡ held → Appends a b (take n (take (length slice - taken) (drop taken slice)))
-    → Keeps (append_known a (drop taken held)) (append_known b (drop (taken + n) held))
-held-taken a b slice held taken n same p =
-    let front : take n (take (length slice - taken) (drop taken slice)) ≡ take n (drop taken held) =
+-- the writer took n of the buffered bytes that it had not taken
+pub buffered-taken : (a b : Option (List ℕ)) (slice buffered : List ℕ) (taken n : ℕ) → slice ≡ buffered → Appends a b (take n (take (length slice - taken) (drop taken slice)))
+    → Keeps (append_known a (drop taken buffered)) (append_known b (drop (taken + n) buffered))
+buffered-taken a b slice buffered taken n same p =
+    let front : take n (take (length slice - taken) (drop taken slice)) ≡ take n (drop taken buffered) =
     ap (take n) (from_there taken slice ∙ ap (drop taken) same) in
-    let rest : drop n (drop taken held) ≡ drop (taken + n) held = grind (arith, common_steps) in
-    append_known-moved a b (take n (drop taken held)) (drop (taken + n) held) (drop taken held) (subst (Appends a b) front p)
-    (sym (take-append-drop n (drop taken held)) ∙ ap (λ xs. take n (drop taken held) ++ xs) rest)
+    let rest : drop n (drop taken buffered) ≡ drop (taken + n) buffered = grind (arith, common_steps) in
+    append_known-moved a b (take n (drop taken buffered)) (drop (taken + n) buffered) (drop taken buffered) (subst (Appends a b) front p)
+    (sym (take-append-drop n (drop taken buffered)) ∙ ap (λ xs. take n (drop taken buffered) ++ xs) rest)
 
--- nothing was held back, and the writer took what was written
-pub held-passed : {E : Type 0} (a b c : Option (List ℕ)) (held bytes : List ℕ) (r : Result ℕ E) → Keeps a (append_known b held) → held ≡ [] → WriteAppends b c r bytes
-    → WriteAppends a (append_known c held) r bytes
-held-passed a b c held bytes (Ok n) p none q =
-    subst (Appends a (append_known c held)) (append-nil (take n bytes)) (append_known-passed a b c held held (take n bytes) [] p none q (sym (append-nil held)))
-held-passed a b c held bytes (Err e) p none q = Keeps-trans a (append_known b held) (append_known c held) p (append_known-kept b c held q)
+-- nothing was buffered, and the writer took what was written
+pub buffered-passed : {E : Type 0} (a b c : Option (List ℕ)) (buffered bytes : List ℕ) (r : Result ℕ E) → Keeps a (append_known b buffered) → buffered ≡ [] → WriteAppends b c r bytes
+    → WriteAppends a (append_known c buffered) r bytes
+buffered-passed a b c buffered bytes (Ok n) p none q =
+    subst (Appends a (append_known c buffered)) (append-nil (take n bytes)) (append_known-passed a b c buffered buffered (take n bytes) [] p none q (sym (append-nil buffered)))
+buffered-passed a b c buffered bytes (Err e) p none q = Keeps-trans a (append_known b buffered) (append_known c buffered) p (append_known-kept b c buffered q)
 
 pub drop-none : (n : ℕ) (xs : List ℕ) → xs ≡ [] → drop n xs ≡ []
 drop-none n xs none = grind (arith, common_steps)

@@ -1,5 +1,6 @@
--- Events as lines of a script, without the line feed.
-use Rattle.std.specs.Prelude.{ℕ, Bool, true, false, if◌then◌else◌, List, [], ◌++◌, codes}
+-- Events as lines of a script.
+use Rattle.std.specs.Prelude.{ℕ, Bool, true, false, if◌then◌else◌, List, [], ◌∷◌, ◌++◌, codes}
+use Rattle.std.specs.List.{flat_map}
 use Rattle.bus_word.specs.declared.word.Kind.{Kind}
 use Rattle.bus_word.specs.declared.word.Kind.TheVariants.{Com, Dat}
 use Rattle.bus_word.specs.declared.word.Raw.{Raw}
@@ -34,6 +35,7 @@ flag_name Busy = codes "busy"
 flag_name Subsystem = codes "subsystem"
 flag_name Terminal = codes "terminal"
 
+-- without its line feed
 abbrev pub event_text : Event → List ℕ
 event_text (event.Word bus w) = bus_letter bus ++ word_text w
 event_text (event.Noise bus) = bus_letter bus ++ codes " noise"
@@ -43,3 +45,11 @@ event_text (event.Vector word) = codes "vector " ++ digits_of word
 event_text (event.Bit word) = codes "bit " ++ digits_of word
 event_text (event.Flag f value) = codes "flag " ++ (flag_name f ++ truth_field value)
 event_text event.Slot = codes "slot"
+
+-- with its line feed
+abbrev pub event_line : Event → List ℕ
+event_line e = event_text e ++ 10 ∷ []
+
+-- the lines of a script, each with its line feed
+abbrev pub script_text : List Event → List ℕ
+script_text es = flat_map event_line es

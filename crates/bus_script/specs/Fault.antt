@@ -3,19 +3,19 @@ use Rattle.std.specs.Prelude.{ℕ, Bool, true, false, List, codes}
 use Rattle.bus_script.specs.declared.fault.RunFault.{RunFault}
 use Rattle.bus_script.specs.declared.fault.RunFault.TheVariants.{Line, LongLine, TooLong, Read, Write}
 
-abbrev pub fault_number : RunFault → ℕ
-fault_number (Line n) = 1
-fault_number (LongLine n) = 2
-fault_number TooLong = 3
-fault_number Read = 4
-fault_number Write = 5
+abbrev pub run_fault_number : RunFault → ℕ
+run_fault_number (Line n) = 1
+run_fault_number (LongLine n) = 2
+run_fault_number TooLong = 3
+run_fault_number Read = 4
+run_fault_number Write = 5
 
-abbrev pub fault_name : RunFault → List ℕ
-fault_name (Line n) = codes "Line"
-fault_name (LongLine n) = codes "LongLine"
-fault_name TooLong = codes "TooLong"
-fault_name Read = codes "Read"
-fault_name Write = codes "Write"
+abbrev pub run_fault_name : RunFault → List ℕ
+run_fault_name (Line n) = codes "Line"
+run_fault_name (LongLine n) = codes "LongLine"
+run_fault_name TooLong = codes "TooLong"
+run_fault_name Read = codes "Read"
+run_fault_name Write = codes "Write"
 
 -- the script has the fault, and no device
 abbrev pub is_of_script : RunFault → Bool

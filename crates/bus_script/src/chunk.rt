@@ -33,7 +33,7 @@ fn before_line_feed(bytes: &[u8]) -> usize
 /// Where the first line feed stands. Most lines end within 64 bytes, which are looked at together; the end of a chunk
 /// and what has no line feed so near is gone through byte by byte.
 #[inline(always)]
-fn find_line_feed(bytes: &[u8]) -> Option<usize>
+pub fn find_line_feed(bytes: &[u8]) -> Option<usize>
     ensures within { IfSome result (λ i. i < length bytes.now) }
     ensures found { IfSome result (λ i. slice_index bytes.now i ≡ 10) }
     ensures first { IfSome result (λ i. (k : ℕ) → k < i → slice_index bytes.now k ≢ 10) }

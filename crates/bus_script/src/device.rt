@@ -41,7 +41,7 @@ pub trait Sink {
         ensures bytes { WriteAppends (written self.old) (written self.new) result bytes.now }
         ensures failed { has_failed self.new ≡ (has_failed self.old || write_fails result (length bytes.now)) };
 
-    /// Hands on what the sink holds back. A sink that holds nothing back has nothing to do.
+    /// Writes out what the sink has buffered. A sink without a buffer has nothing to do.
     fn flush(&mut self) -> Result<(), IoFailed>
         ensures bytes { Keeps (written self.old) (written self.new) }
         ensures failed { has_failed self.new ≡ (has_failed self.old || not (is_ok result)) }

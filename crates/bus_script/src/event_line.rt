@@ -21,7 +21,8 @@ pub fn bus_letter(bus: Bus) -> &'static str
     }
 }
 
-fn flag_name(flag: Flag) -> &'static str
+/// The name of a flag in a script.
+pub fn flag_name(flag: Flag) -> &'static str
     ensures { result.now ≡ flag_name flag }
 {
     match flag {
@@ -41,7 +42,8 @@ fn truth_field(value: bool) -> &'static str
 /// Writes what follows the bus, with the parity bit only where it is the wrong one.
 fn push_raw(text: &mut ArrayString<64>, word: &Raw)
     requires { array_string_len text.old ≤ 40 }
-    ensures { text.new.bytes ≡ text.old.bytes ++ word_text word.now }
+    ensures bytes { text.new.bytes ≡ text.old.bytes ++ word_text word.now }
+    ensures width { word.now.bits < 2 ^ 16 }
 {
     text.push_str(match word.kind {
         Kind::Com => " c ",
@@ -57,6 +59,7 @@ fn push_place(text: &mut ArrayString<64>, place: WordPlace)
     requires { array_string_len text.old ≤ 40 }
     ensures bytes { text.new.bytes ≡ text.old.bytes ++ place_text place }
     ensures len { array_string_len text.new ≡ array_string_len text.old + 5 }
+    ensures there { is_data_place place.subaddress place.number ≡ true }
 {
     push_number(text, place.subaddress());
     text.push_str(" ");
@@ -64,7 +67,8 @@ fn push_place(text: &mut ArrayString<64>, place: WordPlace)
 }
 
 fn event_text(event: &Event) -> ArrayString<64>
-    ensures { result.bytes ≡ event_text event.now }
+    ensures text { result.bytes ≡ event_text event.now }
+    ensures proper { IsProper event.now }
 {
     let mut text = ArrayString::new();
     match event {
@@ -104,40 +108,11 @@ fn event_text(event: &Event) -> ArrayString<64>
     text
 }
 
-/// A word has 16 bits.
-fn has_16_bits(word: u16)
-    ensures { word < 2 ^ 16 }
-{}
-
-/// An event's words have 16 bits, and the place of a write is there.
-fn is_proper(event: &Event)
-    ensures { IsProper event.now }
-{
-    match event {
-        Event::Word(_, word) => has_16_bits(word.bits),
-        Event::Write(place, word) => {
-            has_16_bits(*word);
-            is_there(*place);
-        }
-        Event::Vector(word) | Event::Bit(word) => has_16_bits(*word),
-        Event::Noise(_) | Event::Gap(_) | Event::Flag(_, _) | Event::Slot => {}
-    }
-}
-
-/// The subaddress of a place is 1 to 30, its number 1 to 32.
-fn is_there(place: WordPlace)
-    ensures { is_data_place place.subaddress place.number ≡ true }
-{
-    let _ = place.subaddress();
-    let _ = place.number();
-}
-
 /// The line of an event, without its line feed, in small digits. Of a word it has the parity bit only
 /// where that is the wrong one. `read_event` reads that event from it.
 pub fn write_event(event: &Event) -> ArrayString<64>
     ensures text { result.bytes ≡ event_text event.now }
     ensures read { meaning result.bytes ≡ Ok (Some event.now) }
 {
-    is_proper(event);
     event_text(event)
 }

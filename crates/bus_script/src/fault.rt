@@ -4,7 +4,7 @@ use thiserror::Error;
 /// Why a script is not run to its end. Lines are numbered from 1.
 #[derive(Clone, Copy, Debug, PartialEq, Eq, Error)]
 pub enum RunFault {
-    /// This line, of at most 64 bytes, is none of a script.
+    /// This line, of at most 64 bytes, is not a script line.
     #[error("script: line {0}")]
     Line(u64),
     /// This line has over 64 bytes before its line feed.
@@ -23,11 +23,11 @@ pub enum RunFault {
 
 impl RunFault {
     ghost use Rattle.std.specs.Prelude.{◌≡◌};
-    ghost use Rattle.bus_script.specs.Fault.{fault_number, fault_name};
+    ghost use Rattle.bus_script.specs.Fault.{run_fault_number, run_fault_name};
 
     /// The number of the fault among those of a run, from 1.
     pub fn number(&self) -> u8
-        ensures { result ≡ fault_number self.now }
+        ensures { result ≡ run_fault_number self.now }
     {
         match self {
             RunFault::Line(_) => 1,
@@ -40,7 +40,7 @@ impl RunFault {
 
     /// The name of the fault.
     pub fn name(&self) -> &'static str
-        ensures { result.now ≡ fault_name self.now }
+        ensures { result.now ≡ run_fault_name self.now }
     {
         match self {
             RunFault::Line(_) => "Line",

@@ -19,9 +19,10 @@ mod words;
 mod wrapped;
 mod writing;
 
+pub use chunk::find_line_feed;
 pub use device::{IoFailed, Sink, Source};
 pub use digits::{push_number, push_word};
-pub use event_line::write_event;
+pub use event_line::{flag_name, write_event};
 pub use fault::RunFault;
 pub use line::{LineFault, read_event};
 pub use memory::{MemorySink, MemorySource};

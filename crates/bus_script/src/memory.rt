@@ -100,7 +100,7 @@ fn is_failing_call(calls: &mut Option<u64>) -> bool
     }
 }
 
-/// Keeps up to `N` bytes. A full sink takes none.
+/// Stores up to `N` bytes. A full sink takes none.
 #[derive(Drop)]
 pub struct MemorySink<const N: usize> {
     bytes: ArrayVec<u8, N>,

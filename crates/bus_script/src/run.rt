@@ -1,4 +1,4 @@
-//! The run loop: reads a piece, plays the whole lines that came, and keeps the rest for the next read.
+//! The run loop: reads a piece, plays the whole lines that came, and leaves the rest in the buffer for the next read.
 ghost use Rattle.std.specs.Prelude.{◌≡◌, ◌≤◌, ◌<◌, ◌+◌, ◌-◌, ◌∷◌, ◌++◌, [], List, ℕ, true, false, length, take, drop, IfOk, IfErr, IfSome, OnOk, OnErr, IsErrOf};
 ghost use Rattle.std.specs.Io.KnownBytes.{Keeps, Consumes, IsAtEnd};
 ghost use Rattle.terminal_rules.specs.declared.event.Event.{Event};
@@ -20,23 +20,23 @@ use bus_terminal::Terminal;
 /// How many bytes are read at most at once.
 const BLOCK: usize = 65_536;
 
-/// Reads behind the `held` bytes that stand first.
-fn fill<R: Source>(reader: &mut R, buffer: &mut [u8], held: usize) -> Result<usize, IoFailed>
-    requires { held < length buffer.old }
-    ensures fits { IfOk result (λ n. held + n ≤ length buffer.new) }
-    ensures ok { IfOk result (λ n. (bytes : List ℕ) × (length bytes ≡ n) × (take (held + n) buffer.new ≡ take held buffer.old ++ bytes)
+/// Reads behind the first `buffered` bytes, which are not played yet.
+fn fill<R: Source>(reader: &mut R, buffer: &mut [u8], buffered: usize) -> Result<usize, IoFailed>
+    requires { buffered < length buffer.old }
+    ensures fits { IfOk result (λ n. buffered + n ≤ length buffer.new) }
+    ensures ok { IfOk result (λ n. (bytes : List ℕ) × (length bytes ≡ n) × (take (buffered + n) buffer.new ≡ take buffered buffer.old ++ bytes)
         × Consumes (R.left reader.old) (R.left reader.new) bytes × (n ≡ 0 → IsAtEnd (R.left reader.new))) }
     ensures err { OnErr result (Keeps (R.left reader.old) (R.left reader.new)) }
     ensures failed { OnErr result (R.has_failed reader.new ≡ true) }
 {
-    match reader.read(&mut buffer[held..]) {
+    match reader.read(&mut buffer[buffered..]) {
         Ok(count) => Ok(count),
         Err(_) => Err(IoFailed),
     }
 }
 
 /// Moves what stands from `done` to `total` to the front.
-fn keep(buffer: &mut [u8], done: usize, total: usize)
+fn move_to_front(buffer: &mut [u8], done: usize, total: usize)
     requires within { done ≤ total }
     requires fits { total ≤ length buffer.old }
     ensures { take (total - done) buffer.new ≡ drop done (take total buffer.old) }
@@ -44,9 +44,9 @@ fn keep(buffer: &mut [u8], done: usize, total: usize)
     buffer.copy_within(done..total, 0);
 }
 
-/// Hands on what the writer holds back, if there was an event.
-fn hand_on<W: Sink>(writer: &mut W, events: u64) -> Result<(), IoFailed>
-    ensures kept { Keeps (W.written writer.old) (W.written writer.new) }
+/// Flushes the writer, if there was an event.
+fn flush_after_events<W: Sink>(writer: &mut W, events: u64) -> Result<(), IoFailed>
+    ensures bytes { Keeps (W.written writer.old) (W.written writer.new) }
     ensures some { OnErr result (0 < events) }
     ensures failed { OnErr result (W.has_failed writer.new ≡ true) }
 {
@@ -86,7 +86,7 @@ fn finish<L: Legality, W: Sink>(
     }
 }
 
-/// Plays the lines of a script, and counts the events. The writer may hold back the end of the transcript.
+/// Plays the lines of a script, and counts the events. The end of the transcript may be left unwritten in the writer's buffer.
 fn run_lines<L: Legality, R: Source, W: Sink>(
     terminal: &mut Terminal<L>,
     reader: &mut R,
@@ -105,28 +105,28 @@ fn run_lines<L: Legality, R: Source, W: Sink>(
 {
     let digits = HexDigits::asked();
     let mut buffer = [0u8; BLOCK];
-    let mut held = 0;
+    let mut buffered = 0;
     'reads: loop {
-        match hand_on(writer, counts.events) {
+        match flush_after_events(writer, counts.events) {
             Ok(()) => {}
             Err(_) => return Err(RunFault::Write),
         }
-        let count = match fill(reader, &mut buffer, held) {
+        let count = match fill(reader, &mut buffer, buffered) {
             Ok(count) => count,
             Err(_) => return Err(RunFault::Read),
         };
         if count == 0 {
             break 'reads;
         }
-        let total = held + count;
+        let total = buffered + count;
         let done = match feed_lines(terminal, writer, counts, &digits, &buffer[..total]) {
             Ok(done) => done,
             Err(fault) => return Err(fault),
         };
-        keep(&mut buffer, done, total);
-        held = total - done;
+        move_to_front(&mut buffer, done, total);
+        buffered = total - done;
     }
-    finish(terminal, writer, counts, &digits, &buffer[..held])
+    finish(terminal, writer, counts, &digits, &buffer[..buffered])
 }
 
 /// Says whether the script has the fault, and no device.
@@ -139,9 +139,9 @@ fn is_of_script(fault: &RunFault) -> bool
     }
 }
 
-/// Runs a script and writes its transcript, and gives the number of its events. Where there are events, what the
-/// writer holds back is handed on before each read that follows one, at the end of the script, and where a line is
-/// refused; where that fails, the answer is `Write`. Without events the writer is left as it was, with what a
+/// Runs a script and writes its transcript, and gives the number of its events. Where there are events, the
+/// writer is flushed before each read that follows one, at the end of the script, and where a line is refused; where that
+/// fails, the answer is `Write`. Without events the writer is left as it was, with what a
 /// caller had put into it.
 pub fn run_script<L: Legality, R: Source, W: Sink>(
     terminal: &mut Terminal<L>,
@@ -161,7 +161,7 @@ pub fn run_script<L: Legality, R: Source, W: Sink>(
         events: 0,
     };
     match run_lines(terminal, reader, writer, &mut counts) {
-        Ok(()) => match hand_on(writer, counts.events) {
+        Ok(()) => match flush_after_events(writer, counts.events) {
             Ok(()) => Ok(counts.events),
             Err(_) => Err(RunFault::Write),
         },
@@ -169,7 +169,7 @@ pub fn run_script<L: Legality, R: Source, W: Sink>(
             if !is_of_script(&fault) {
                 return Err(fault);
             }
-            match hand_on(writer, counts.events) {
+            match flush_after_events(writer, counts.events) {
                 Ok(()) => Err(fault),
                 Err(_) => Err(RunFault::Write),
             }

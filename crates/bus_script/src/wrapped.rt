@@ -7,8 +7,8 @@ use crate::{IoFailed, Sink, Source};
 use arrayvec::ArrayVec;
 use std::io::{ErrorKind, Read, Write};
 
-/// How many bytes a `FromWrite` holds back at most.
-const HELD: usize = 65_536;
+/// How many bytes the buffer of a `FromWrite` has.
+const CAPACITY: usize = 65_536;
 
 /// Reads once. A read that was interrupted is tried again.
 fn read_once<R: Read>(reader: &mut R, out: &mut [u8]) -> Result<usize, IoFailed>
@@ -118,20 +118,20 @@ impl<W: Write + Drop> Sink for Direct<W> {
     }
 }
 
-/// Hands on to a writer, a file, the standard output or bytes in memory, in blocks: what is written is held back
+/// Writes to a writer, a file, the standard output or bytes in memory, in blocks: what is written is buffered
 /// until there are 65,536 bytes, or until a flush. A write that was interrupted is tried again. After a failure nothing
 /// is written any more.
 #[derive(Drop)]
 pub struct FromWrite<W: Write + Drop> {
     sink: Direct<W>,
-    held: ArrayVec<u8, HELD>,
-    /// How many of the held bytes the writer has taken: none, where no write has failed.
+    buffer: ArrayVec<u8, CAPACITY>,
+    /// How many of the buffered bytes the writer has taken: none, where no write has failed.
     taken: usize,
-    ghost within: { taken ≤ length held.items },
+    ghost within: { taken ≤ length buffer.items },
 }
 
 impl<W: Write + Drop> FromWrite<W> {
-    /// Over this writer, which needs no buffer of its own. What is held back when the value is
+    /// Over this writer, which needs no buffer of its own. What is in the buffer when the value is
     /// dropped is lost: flush first.
     pub fn new(writer: W) -> Self
         ensures written { ⟦<FromWrite<W> as Sink>⟧.written result ≡ W.contents writer }
@@ -142,45 +142,45 @@ impl<W: Write + Drop> FromWrite<W> {
                 writer,
                 failed: false,
             },
-            held: ArrayVec::new(),
+            buffer: ArrayVec::new(),
             taken: 0,
         }
     }
 
-    /// Writes out what is held back, where no write has failed.
+    /// Writes out the buffered bytes, where no write has failed.
     #[inline(never)]
     fn drain(&mut self) -> Result<(), IoFailed>
         ensures bytes { Keeps (⟦<FromWrite<W> as Sink>⟧.written self.old) (⟦<FromWrite<W> as Sink>⟧.written self.new) }
-        ensures empty { OnOk result (self.new.held.items ≡ []) }
+        ensures empty { OnOk result (self.new.buffer.items ≡ []) }
         ensures failed { self.new.sink.failed ≡ (self.old.sink.failed || not (is_ok result)) }
     {
         if self.sink.failed {
             return Err(IoFailed);
         }
-        self.taken += write_front(&mut self.sink, &self.held.as_slice()[self.taken..]);
-        if self.taken < self.held.len() {
+        self.taken += write_front(&mut self.sink, &self.buffer.as_slice()[self.taken..]);
+        if self.taken < self.buffer.len() {
             return Err(IoFailed);
         }
-        self.held.clear();
+        self.buffer.clear();
         self.taken = 0;
         Ok(())
     }
 
-    /// Holds back bytes for which there is room.
+    /// Buffers bytes for which there is room.
     #[inline(always)]
-    fn hold(&mut self, bytes: &[u8]) -> Result<usize, IoFailed>
-        requires { length self.old.held.items + length bytes.now ≤ 65536 }
+    fn put_in_buffer(&mut self, bytes: &[u8]) -> Result<usize, IoFailed>
+        requires { length self.old.buffer.items + length bytes.now ≤ 65536 }
         ensures all { result ≡ Ok (length bytes.now) }
         ensures bytes { Appends (⟦<FromWrite<W> as Sink>⟧.written self.old) (⟦<FromWrite<W> as Sink>⟧.written self.new) bytes.now }
         ensures failed { self.new.sink.failed ≡ self.old.sink.failed }
     {
-        let _ = self.held.try_extend_from_slice(bytes);
+        let _ = self.buffer.try_extend_from_slice(bytes);
         Ok(bytes.len())
     }
 }
 
 impl<W: Write + Drop> Sink for FromWrite<W> {
-    ghost written = { λ s. append_known (W.contents s.sink.writer) (drop s.taken s.held.items) };
+    ghost written = { λ s. append_known (W.contents s.sink.writer) (drop s.taken s.buffer.items) };
 
     ghost has_failed = { λ s. s.sink.failed };
 
@@ -189,14 +189,14 @@ impl<W: Write + Drop> Sink for FromWrite<W> {
         if self.sink.failed {
             return Err(IoFailed);
         }
-        if bytes.len() <= self.held.remaining_capacity() {
-            return self.hold(bytes);
+        if bytes.len() <= self.buffer.remaining_capacity() {
+            return self.put_in_buffer(bytes);
         }
         self.drain()?;
-        if bytes.len() > HELD {
+        if bytes.len() > CAPACITY {
             return self.sink.write(bytes);
         }
-        self.hold(bytes)
+        self.put_in_buffer(bytes)
     }
 
     fn flush(&mut self) -> Result<(), IoFailed> {

@@ -36,7 +36,7 @@ impl<L: Legality> Terminal<L> {
     ghost use Rattle.terminal_rules.specs.declared.event.Event.TheVariants.{Word as WordEvent};
     ghost use Rattle.bus_word.specs.Word.{valid_word};
     ghost use Rattle.bus_word.specs.declared.word.Kind.TheVariants.{Com, Dat};
-    ghost use Rattle.terminal_rules.specs.Starts.{is_for};
+    ghost use Rattle.terminal_rules.specs.Starts.{is_for_terminal};
     ghost use Rattle.terminal_rules.specs.Ends.{well};
     ghost use Rattle.terminal_rules.specs.Status.{spares, adds_error};
     ghost use Rattle.terminal_rules.specs.Reply.{reply_bus};
@@ -51,7 +51,7 @@ impl<L: Legality> Terminal<L> {
     ghost use Rattle.terminal_state.specs.inner.Buses.{on_bus, with_bus};
     ghost use Rattle.bus_terminal.specs.Answer.{shown_answer, IsSmall};
     ghost use Rattle.bus_terminal.specs.inner.Answer.{shown_sent};
-    ghost use Rattle.bus_terminal.specs.Stands.{StandsAt, own_description, held_word};
+    ghost use Rattle.bus_terminal.specs.Stands.{StandsAt, TakesEvent, AnswersEvent, own_description, held_word};
     ghost use Rattle.bus_terminal.specs.contracts.terminal.Terminal.{the_row};
     ghost use Rattle.bus_terminal.specs.inner.Terminal.{sends_from, ends_at_gap, begins_at_gap, TakesStart, TakesWord, TakesNoise, TakesGap, TakesSlot, TakesWrite};
 
@@ -79,8 +79,8 @@ impl<L: Legality> Terminal<L> {
     /// slot the next word of the reply in progress is sent. All else is not answered.
     #[inline(always)]
     pub fn step(&mut self, event: Event) -> Answer<'_>
-        ensures answer { (P : Description) (h : List Event) → StandsAt L.is_legal P h self.old → shown_answer result ≡ out P h event }
-        ensures* stands { sem 𝓛 (Rests (the_row L.row) self.entry (λ new. (P : Description) (h : List Event) → StandsAt L.is_legal P h self.old → StandsAt L.is_legal P (event ∷ h) new)) }
+        ensures answer { AnswersEvent L.is_legal event self.old (shown_answer result) }
+        ensures* stands { sem 𝓛 (Rests (the_row L.row) self.entry (λ new. TakesEvent L.is_legal event self.old new)) }
         ensures small { IsSmall (shown_answer result) }
     {
         match event {
@@ -105,7 +105,7 @@ impl<L: Legality> Terminal<L> {
     /// most scripts are made, are taken where this is called.
     #[inline(always)]
     pub fn take(&mut self, event: Event)
-        ensures { (P : Description) (h : List Event) → StandsAt L.is_legal P h self.old → StandsAt L.is_legal P (event ∷ h) self.new }
+        ensures { TakesEvent L.is_legal event self.old self.new }
     {
         match event {
             Event::Word(bus, word) => self.hear(bus, word),
@@ -116,7 +116,7 @@ impl<L: Legality> Terminal<L> {
     /// Takes the word of this sync and these bits with the right parity, as nearly all words have it.
     #[inline(always)]
     pub fn take_valid(&mut self, bus: Bus, kind: Kind, bits: u16)
-        ensures { (P : Description) (h : List Event) → StandsAt L.is_legal P h self.old → StandsAt L.is_legal P (WordEvent bus (valid_word kind bits) ∷ h) self.new }
+        ensures { TakesEvent L.is_legal (WordEvent bus (valid_word kind bits)) self.old self.new }
     {
         if self.replies_on(bus) {
             return;
@@ -130,7 +130,7 @@ impl<L: Legality> Terminal<L> {
     /// Takes a word on this bus, if no reply is in progress there.
     #[inline(always)]
     fn hear(&mut self, bus: Bus, word: Raw)
-        ensures { (P : Description) (h : List Event) → StandsAt L.is_legal P h self.old → StandsAt L.is_legal P (WordEvent bus word ∷ h) self.new }
+        ensures { TakesEvent L.is_legal (WordEvent bus word) self.old self.new }
     {
         if !self.replies_on(bus) {
             let ours = word.is_for(self.settings.address, self.settings.broadcast);
@@ -141,7 +141,7 @@ impl<L: Legality> Terminal<L> {
     /// Takes one event of any kind and drops its answer.
     #[inline(never)]
     fn take_any(&mut self, event: Event)
-        ensures { (P : Description) (h : List Event) → StandsAt L.is_legal P h self.old → StandsAt L.is_legal P (event ∷ h) self.new }
+        ensures { TakesEvent L.is_legal event self.old self.new }
     {
         match event {
             Event::Word(bus, word) => self.hear(bus, word),
@@ -211,16 +211,16 @@ impl<L: Legality> Terminal<L> {
         ensures { ending_of result self.now.in_progress.words.items ≡ gap_ends (own_description L.is_legal self.now) self.now.registers.flags.busy (standing_on bus self.now.in_progress) }
     {
         match self.in_progress.end_at_gap(bus) {
-            GapEnd::Whole(command) => self.verdict(command),
-            GapEnd::Error(command) => Ended::Badly(command),
-            GapEnd::Nothing => Ended::Nothing,
+            GapEnd::Complete(command) => self.verdict(command),
+            GapEnd::InError(command) => Ended::Badly(command),
+            GapEnd::NoEnd => Ended::Nothing,
         }
     }
 
     /// Tells whether a word for the terminal starts a message.
     #[inline(always)]
     fn starts(&self, bus: Bus, word: Raw, ours: bool) -> bool
-        requires { ours ≡ is_for (own_description L.is_legal self.now) word }
+        requires { ours ≡ is_for_terminal (own_description L.is_legal self.now) word }
         ensures { result ≡ starts_by (own_description L.is_legal self.now) word (on_bus bus self.now.heard) (standing_on bus self.now.in_progress) }
     {
         let command = Command::of(word.bits);
@@ -322,7 +322,7 @@ impl<L: Legality> Terminal<L> {
     /// Takes a word on this bus, which has no reply in progress. `ours` says whether it is for the terminal.
     #[inline(always)]
     fn take_word(&mut self, bus: Bus, word: Raw, ours: bool)
-        requires { ours ≡ is_for (own_description L.is_legal self.old) word }
+        requires { ours ≡ is_for_terminal (own_description L.is_legal self.old) word }
         ensures { TakesWord L.is_legal bus word self.old self.new }
     {
         let starts = self.starts(bus, word, ours);

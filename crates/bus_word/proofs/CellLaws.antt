@@ -6,7 +6,7 @@ use Rattle.bus_word.specs.Word.{bit_of}
 use Rattle.bus_word.specs.declared.mode.ModeRow.{ModeRow}
 use Rattle.bus_word.specs.declared.cell.Cell.{Cell}
 use Rattle.bus_word.specs.declared.cell.Cell.TheVariants.{OwnReceive, OwnTransmit, BroadReceive, OwnMode, BroadMode}
-use Rattle.bus_word.specs.Command.{Fields, word_of, fields_of, address_of, transmits, subaddress_of, code_of, count_in, count_of, is_mode, is_broadcast}
+use Rattle.bus_word.specs.Command.{Fields, command_bits, fields_of, address_of, transmits, subaddress_of, code_of, count_in, count_of, is_mode, is_broadcast}
 use Rattle.std.specs.List.{list_all}
 use Rattle.bus_word.specs.Mode.{ModeEntry, row_in, mode_table, mode_row}
 use Rattle.bus_word.specs.Cell.{data_cell, mode_cell_by, cell_of, is_data_place, is_allowed, allows_broadcast, same_bool}
@@ -49,8 +49,8 @@ commands_have_allowed cell h = subst AllowsOf h.is (cell_allowed h.command)
 fields_at : (address tr s low : ℕ) → address ≤ 31 → tr ≤ 1 → s ≤ 31 → low ≤ 31 → (c : ℕ) × (c < 2 ^ 16) × (address_of c ≡ address) × ((fields_of c).tr ≡ tr) × (subaddress_of c ≡ s) × (code_of c ≡ low)
 fields_at address tr s low ha ht hs hl =
     let f : Fields = record { address = address; tr = tr; subaddress = s; low = low } in
-    let law : (word_of f < 2 ^ 16) × (fields_of (word_of f) ≡ f) = fields_are_unique f (record { address = ha; tr = ht; subaddress = hs; low = hl }) in
-    (word_of f, law.0, ap (λ (g : Fields). g.address) law.1, ap (λ (g : Fields). g.tr) law.1, ap (λ (g : Fields). g.subaddress) law.1, ap (λ (g : Fields). g.low) law.1)
+    let law : (command_bits f < 2 ^ 16) × (fields_of (command_bits f) ≡ f) = fields_are_unique f (record { address = ha; tr = ht; subaddress = hs; low = hl }) in
+    (command_bits f, law.0, ap (λ (g : Fields). g.address) law.1, ap (λ (g : Fields). g.tr) law.1, ap (λ (g : Fields). g.subaddress) law.1, ap (λ (g : Fields). g.low) law.1)
 
 -- the cell of a command of data, by its fields
 abbrev pub data_by : Bool → Bool → ℕ → ℕ → Option Cell

@@ -2,17 +2,17 @@
 use Rattle.std.proofs.Common.{◌≡◌, ℕ, ◌+◌, ◌*◌, ◌/◌, ◌%◌, ◌<◌, Bool, true, false, arith}
 use Rattle.bus_word.specs.declared.status.StatusParts.{StatusParts}
 use Rattle.bus_word.specs.Word.{bit_of}
-use Rattle.bus_word.specs.Command.{word_of}
+use Rattle.bus_word.specs.Command.{command_bits}
 use Rattle.bus_word.specs.Status.{status_word}
 use Rattle.bus_word.specs.Laws.{FieldsAreUnique, StatusHasBits}
 use Rattle.bus_word.proofs.Masks.{mask_if-times}
 
 pub fields_are_unique : FieldsAreUnique
 fields_are_unique f h =
-    let address : word_of f / 2048 ≡ f.address = omega arith in
-    let tr : word_of f / 1024 % 2 ≡ f.tr = omega arith in
-    let subaddress : word_of f / 32 % 32 ≡ f.subaddress = omega arith in
-    let low : word_of f % 32 ≡ f.low = omega arith in
+    let address : command_bits f / 2048 ≡ f.address = omega arith in
+    let tr : command_bits f / 1024 % 2 ≡ f.tr = omega arith in
+    let subaddress : command_bits f / 32 % 32 ≡ f.subaddress = omega arith in
+    let low : command_bits f % 32 ≡ f.low = omega arith in
     (omega arith, λ i. record { address = address i; tr = tr i; subaddress = subaddress i; low = low i })
 
 pub bit_of-below : (b : Bool) → bit_of b < 2

@@ -10,15 +10,15 @@ pub record Fields : Type 0 where
   pub low : ℕ
 
 -- each field is of its width
-pub record AreInRange (f : Fields) : Type 0 where
+pub record AreOfTheirWidth (f : Fields) : Type 0 where
   pub address : f.address ≤ 31
   pub tr : f.tr ≤ 1
   pub subaddress : f.subaddress ≤ 31
   pub low : f.low ≤ 31
 
 -- the command word of these fields
-abbrev pub word_of : Fields → ℕ
-word_of f = f.address * 2048 + f.tr * 1024 + f.subaddress * 32 + f.low
+abbrev pub command_bits : Fields → ℕ
+command_bits f = f.address * 2048 + f.tr * 1024 + f.subaddress * 32 + f.low
 
 -- the fields of a command word; that they are the only ones whose word it is, is a law
 abbrev pub fields_of : ℕ → Fields

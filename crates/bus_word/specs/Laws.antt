@@ -5,7 +5,7 @@ use Rattle.bus_word.specs.declared.status.StatusParts.{StatusParts}
 use Rattle.bus_word.specs.declared.mode.ModeRow.{ModeRow}
 use Rattle.bus_word.specs.declared.cell.Cell.{Cell}
 use Rattle.bus_word.specs.Word.{bit_of, is_valid, valid_word}
-use Rattle.bus_word.specs.Command.{Fields, AreInRange, word_of, fields_of, transmits, code_of, is_mode, expected}
+use Rattle.bus_word.specs.Command.{Fields, AreOfTheirWidth, command_bits, fields_of, transmits, code_of, is_mode, expected}
 use Rattle.bus_word.specs.Status.{status_word}
 use Rattle.bus_word.specs.Mode.{mode_row, is_required_code}
 use Rattle.bus_word.specs.Cell.{cell_of, is_allowed, allows_broadcast}
@@ -16,11 +16,11 @@ OneValidWord = (w : Raw) → is_valid w ≡ true → w ≡ valid_word w.kind w.b
 
 -- each command word is that of its fields, which are in range
 abbrev pub EachWordHasFields : Type 0
-EachWordHasFields = (command : ℕ) → command < 2 ^ 16 → AreInRange (fields_of command) × (word_of (fields_of command) ≡ command)
+EachWordHasFields = (command : ℕ) → command < 2 ^ 16 → AreOfTheirWidth (fields_of command) × (command_bits (fields_of command) ≡ command)
 
 -- fields in range are the fields of their command word: so it has no others
 abbrev pub FieldsAreUnique : Type 0
-FieldsAreUnique = (f : Fields) → AreInRange f → (word_of f < 2 ^ 16) × (fields_of (word_of f) ≡ f)
+FieldsAreUnique = (f : Fields) → AreOfTheirWidth f → (command_bits f < 2 ^ 16) × (fields_of (command_bits f) ≡ f)
 
 -- where each bit of a status word stands
 pub record HasStatusBits (status address : ℕ) (parts : StatusParts) : Type 0 where

@@ -3,7 +3,7 @@ use Rattle.std.proofs.Common.{◌≡◌, ℕ, suc, ◌<◌, List, [], ◌∷◌,
 use Rattle.std.proofs.lemmas.Bool.{cases_lt}
 use Rattle.line_format.specs.Format.{Format, Spells, IsSound}
 use Rattle.line_format.specs.Reading.{Spot, start, read, whole_or_more, answer_found}
-use Rattle.line_format.specs.Answers.{Trails, HasWrongLine, Answer, Whole, More, Wrong, Answers}
+use Rattle.line_format.specs.Answers.{Trails, HasWrongLine, LineAnswer, Whole, More, Wrong, LineAnswers}
 use Rattle.line_format.proofs.FormatLaws.{read-is, read-again, read-wrong, begins-fewer, Meets, WrongAt}
 
 -- a value was read, and nothing is left
@@ -37,14 +37,14 @@ read_err F sound bytes n e =
     }
 
 -- what reading finds is an answer
-pub reading_answers : {A : Type 0} (F : Format A) (bytes : List ℕ) → IsSound F → Answers F bytes (answer_found (read F (start bytes)))
+pub reading_answers : {A : Type 0} (F : Format A) (bytes : List ℕ) → IsSound F → LineAnswers F bytes (answer_found (read F (start bytes)))
 reading_answers {A = A} F bytes sound = pick (read F (start bytes)) refl
   where
-    of : (v : A) (p : Spot) (rest : List ℕ) → p.rest ≡ rest → read F (start bytes) ≡ Ok (v, p) → Answers F bytes (whole_or_more v rest)
+    of : (v : A) (p : Spot) (rest : List ℕ) → p.rest ≡ rest → read F (start bytes) ≡ Ok (v, p) → LineAnswers F bytes (whole_or_more v rest)
     of v p [] is e = read_whole F bytes v p e is
     of v p (b ∷ bs) is e = read_more F bytes v p e (rw is (omega arith))
 
-    pick : (found : Result (A × Spot) ℕ) → read F (start bytes) ≡ found → Answers F bytes (answer_found found)
+    pick : (found : Result (A × Spot) ℕ) → read F (start bytes) ≡ found → LineAnswers F bytes (answer_found found)
     pick (Ok q) e = of q.0 q.1 q.1.rest refl e
     pick (Err n) e = read_err F sound bytes n e
 
@@ -71,7 +71,7 @@ no_more : {A : Type 0} (F : Format A) (bytes : List ℕ) (v : A) → Spells F v 
 no_more F bytes v a b = let none : [] ≡ b.byte ∷ b.more = (one_front F bytes v b.value bytes b.text [] (b.byte ∷ b.more) a b.means (sym (append-nil bytes)) b.is).1 in cc
 
 -- bytes have one answer
-pub one : {A : Type 0} (F : Format A) (bytes : List ℕ) (r s : Answer A) → Answers F bytes r → Answers F bytes s → r ≡ s
+pub one : {A : Type 0} (F : Format A) (bytes : List ℕ) (r s : LineAnswer A) → LineAnswers F bytes r → LineAnswers F bytes s → r ≡ s
 one F bytes (Whole v) (Whole w) a b = ap Whole (one_front F bytes v w bytes bytes [] [] a b (sym (append-nil bytes)) (sym (append-nil bytes))).0
 one F bytes (Whole v) More a b = absurd (no_more F bytes v a b)
 one F bytes (Whole v) (Wrong n) a b = absurd (b.unread v bytes [] a (sym (append-nil bytes)))

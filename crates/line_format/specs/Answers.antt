@@ -22,12 +22,12 @@ pub record HasWrongLine {A : Type 0} (F : Format A) (bytes : List ℕ) (n : ℕ)
   pub unread : (value : A) (text more : List ℕ) → Spells F value text → bytes ≡ text ++ more → ⊥
 
 -- which of the three it is
-pub data Answer (A : Type 0) : Type 0 where
-  Whole : (value : A) → Answer A
-  More : Answer A
-  Wrong : (line : ℕ) → Answer A
+pub data LineAnswer (A : Type 0) : Type 0 where
+  Whole : (value : A) → LineAnswer A
+  More : LineAnswer A
+  Wrong : (line : ℕ) → LineAnswer A
 
-abbrev pub Answers : {A : Type 0} → Format A → List ℕ → Answer A → Type 0
-Answers F bytes (Whole v) = Spells F v bytes
-Answers F bytes More = Trails F bytes
-Answers F bytes (Wrong n) = HasWrongLine F bytes n
+abbrev pub LineAnswers : {A : Type 0} → Format A → List ℕ → LineAnswer A → Type 0
+LineAnswers F bytes (Whole v) = Spells F v bytes
+LineAnswers F bytes More = Trails F bytes
+LineAnswers F bytes (Wrong n) = HasWrongLine F bytes n

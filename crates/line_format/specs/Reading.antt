@@ -2,7 +2,7 @@
 use Rattle.std.specs.Prelude.{ℕ, zero, suc, ◌+◌, ◌-◌, ◌*◌, Bool, nat_lt, nat_le, ◌&&◌, if◌then◌else◌, List, [], ◌∷◌, Option, Some, None, Result, Ok, Err}
 use Rattle.line_format.specs.Format.{Field, Shape, Format, done, line}
 use Rattle.line_format.specs.Front.{◌>>=◌, after}
-use Rattle.line_format.specs.Answers.{Answer, Whole, More, Wrong}
+use Rattle.line_format.specs.Answers.{LineAnswer, Whole, More, Wrong}
 
 -- a number, where it is a digit of this base
 abbrev pub below : ℕ → ℕ → Option ℕ
@@ -66,11 +66,11 @@ read (done a) p = Ok (a, p)
 read (line s next) p = elim (line_at s p.rest) [ None ↦ Err p.number | Some found ↦ read (next found.0) (record { number = p.number + 1; rest = found.1 }) ]
 
 -- A value that was read with nothing left is that of a whole text.
-abbrev pub whole_or_more : {A : Type 0} → A → List ℕ → Answer A
+abbrev pub whole_or_more : {A : Type 0} → A → List ℕ → LineAnswer A
 whole_or_more v [] = Whole v
 whole_or_more v (b ∷ bs) = More
 
 -- what reading from the start finds, as an answer
-abbrev pub answer_found : {A : Type 0} → Result (A × Spot) ℕ → Answer A
+abbrev pub answer_found : {A : Type 0} → Result (A × Spot) ℕ → LineAnswer A
 answer_found (Ok p) = whole_or_more p.0 p.1.rest
 answer_found (Err n) = Wrong n

@@ -11,11 +11,11 @@ use Rattle.bus_profile.specs.declared.fault.ProfileFault.{ProfileFault}
 use Rattle.profile_types.specs.declared.profile.Profile.{Profile}
 use Rattle.bus_profile.specs.Checks.{Check, HasNoFault, in_order, first_fault}
 use Rattle.bus_profile.specs.Faults.{key_checks, head_checks, each_item, entry_checks, rule_checks, mode_checks, initial_checks, word_checks, goes_beyond, faults}
-use Rattle.bus_profile.specs.Keys.{Row, row, whole, optional, address_row, broadcast_row, wraparound_row, accept_row, vector_row, bit_row, rule_row, mode_row, initial_row, root_rows, subaddress_row, at_row, words_row, initial_rows}
-use Rattle.bus_profile.specs.Kinds.{found, value, number, or_default, items, is_too_long}
+use Rattle.bus_profile.specs.Keys.{KeyRow, key_row, whole, optional, address_row, broadcast_row, wraparound_row, accept_row, vector_row, bit_row, rules_key, modes_key, initials_key, root_rows, subaddress_row, at_row, words_row, initial_rows}
+use Rattle.bus_profile.specs.Kinds.{found, value, whole_in, or_default, items, is_too_long}
 use Rattle.profile_types.specs.Last.{or_last, last_of}
 use Rattle.profile_types.specs.Plain.{PlainInitial, plain_initial}
-use Rattle.bus_profile.specs.Gives.{each_of, word_in, initial_in}
+use Rattle.bus_profile.specs.Gives.{each_of, initial_word_in, initial_in}
 use Rattle.bus_profile.specs.Read.{Accepts}
 use Rattle.bus_profile.specs.inner.FirstFault.{fault_of_parts}
 use Rattle.bus_profile.proofs.Arrays.{range_of}
@@ -60,8 +60,8 @@ word_below : (n : ℕ) → (nat_le 0 n && nat_le n 65535) ≡ true → n < 2 ^ 1
 word_below n e = let high : n ≤ 65535 = grind (arith, nat_tests) in omega arith
 
 -- a key of a word
-key_word : (p : Part) (key : Key) (d : Option Data) → first_fault (key_checks p (row key (whole 0 65535) (optional (integer (pos 0)))) d) ≡ None →
-    number (or_default (optional (integer (pos 0))) d) < 2 ^ 16
+key_word : (p : Part) (key : Key) (d : Option Data) → first_fault (key_checks p (key_row key (whole 0 65535) (optional (integer (pos 0)))) d) ≡ None →
+    whole_in (or_default (optional (integer (pos 0))) d) < 2 ^ 16
 unfolding in_order
 key_word p key None e = omega arith
 key_word p key (Some (integer (pos n))) e = word_below n (range_of (nat_le 0 n && nat_le n 65535) n _ e)
@@ -74,7 +74,7 @@ key_word p key (Some (array s)) e = absurd (cc)
 key_word p key (Some (table s)) e = absurd (cc)
 
 -- an item of an array of words
-item_word : (p : Part) (d : Data) → first_fault (word_checks p d) ≡ None → word_in d < 2 ^ 16
+item_word : (p : Part) (d : Data) → first_fault (word_checks p d) ≡ None → initial_word_in d < 2 ^ 16
 unfolding in_order
 item_word p (integer (pos n)) e = word_below n (range_of (nat_le 0 n && nat_le n 65535) n _ e)
 item_word p (integer (negsuc n)) e = absurd (cc)
@@ -89,7 +89,7 @@ item_word p (table s) e = absurd (cc)
 abbrev AreBelow : List ℕ → Type 0
 AreBelow words = (i : ℕ) → get_or words i 0 < 2 ^ 16
 
-each_word : (p : Part) (n : ℕ) (ds : Items) → fault_of_parts (each_item (λ _. word_checks p) n ds) ≡ None → AreBelow (each_of word_in ds)
+each_word : (p : Part) (n : ℕ) (ds : Items) → fault_of_parts (each_item (λ _. word_checks p) n ds) ≡ None → AreBelow (each_of initial_word_in ds)
 each_word p n no_items e i = omega arith
 each_word p n (item d ds) e zero = item_word p d (no_first (first_fault (word_checks p d)) (fault_of_parts (each_item (λ _. word_checks p) (suc n) ds)) e)
 each_word p n (item d ds) e (suc i) = each_word p (suc n) ds (no_second (first_fault (word_checks p d)) (fault_of_parts (each_item (λ _. word_checks p) (suc n) ds)) e) i
@@ -99,7 +99,7 @@ each_word p n (item d ds) e (suc i) = each_word p (suc n) ds (no_second (first_f
 entry_words : (n : ℕ) (d : Data) → first_fault (initial_checks n d) ≡ None → AreBelow (initial_in d).words
 unfolding in_order entry_checks
 entry_words n (table ms) e =
-    let fault : (r : Row) → Option ProfileFault = λ r. row_fault (part.Initial n) ms r in
+    let fault : (r : KeyRow) → Option ProfileFault = λ r. row_fault (part.Initial n) ms r in
     let head_fault : Option ProfileFault = first_fault (head_checks (part.Initial n) words_row (goes_beyond (value at_row ms)) ms) in
     let words_fault : Option ProfileFault = fault_of_parts (each_item (λ _. word_checks (part.Initial n)) 1 (items (value words_row ms))) in
     let none = each_none (unknown_fault (part.Initial n) initial_rows ms ∷ fault subaddress_row ∷ fault at_row ∷ option_or head_fault words_fault ∷ []) (sym (initial_fault n ms) ∙ e) in
@@ -142,13 +142,13 @@ pub accepted_in_range : (text : List ℕ) (p : Profile) → Accepts text p → I
 accepted_in_range text p accepts =
     let ms = accepts.tree in
     let faultless = sym (tree_fault ms) ∙ none_first (faults ms) accepts.faultless in
-    let fault : (r : Row) → Option ProfileFault = λ r. row_fault part.Root ms r in
-    let root = each_none (unknown_fault part.Root root_rows ms ∷ settings_fault ms ∷ entries_fault rule_row rule_checks ms ∷ entries_fault mode_row mode_checks ms
-    ∷ entries_fault initial_row initial_checks ms ∷ []) (no_first (key_fault ms) (code_fault ms) faultless) in
+    let fault : (r : KeyRow) → Option ProfileFault = λ r. row_fault part.Root ms r in
+    let root = each_none (unknown_fault part.Root root_rows ms ∷ settings_fault ms ∷ entries_fault rules_key rule_checks ms ∷ entries_fault modes_key mode_checks ms
+    ∷ entries_fault initials_key initial_checks ms ∷ []) (no_first (key_fault ms) (code_fault ms) faultless) in
     let settings = each_none (fault address_row ∷ fault broadcast_row ∷ fault wraparound_row ∷ fault accept_row ∷ fault vector_row ∷ fault bit_row ∷ []) root.1.0 in
-    let head_fault : Option ProfileFault = first_fault (head_checks part.Root initial_row (is_too_long initial_row.kind) ms) in
-    let items_fault : Option ProfileFault = fault_of_parts (each_item initial_checks 1 (items (value initial_row ms))) in
-    let hold : HoldWords (each_of initial_in (items (value initial_row ms))) = entries_words 1 (items (value initial_row ms)) (no_second head_fault items_fault root.1.1.1.1.0) in
+    let head_fault : Option ProfileFault = first_fault (head_checks part.Root initials_key (is_too_long initials_key.kind) ms) in
+    let items_fault : Option ProfileFault = fault_of_parts (each_item initial_checks 1 (items (value initials_key ms))) in
+    let hold : HoldWords (each_of initial_in (items (value initials_key ms))) = entries_words 1 (items (value initials_key ms)) (no_second head_fault items_fault root.1.1.1.1.0) in
     record {
       address = p.own_address;
       wrap = p.own_wrap;

@@ -1,6 +1,6 @@
 -- Laws of texts that aren't loaded.
 use Rattle.std.proofs.Common.{◌≡◌, ℕ, List, Bool, true, false, refl, sym, ◌∙◌, subst}
-use Rattle.line_format.specs.Answers.{Answers, Whole, More, Wrong}
+use Rattle.line_format.specs.Answers.{LineAnswers, Whole, More, Wrong}
 use Rattle.line_format.proofs.AnswerLaws.{one}
 use Rattle.bus_profile.specs.declared.fault.ProfileFault.{ProfileFault}
 use Rattle.bus_profile.specs.declared.fault.ProfileFault.TheVariants as profile
@@ -36,7 +36,7 @@ no_profile text p (profile.BadRanges part key) accepts refused = no_first text p
 no_profile text p (profile.TooMany part key) accepts refused = no_first text p (profile.TooMany part key) accepts refused
 no_profile text p (profile.RequiredCode code) accepts refused = no_first text p (profile.RequiredCode code) accepts refused
 
-no_canon : (text : List ℕ) (v : Parts) (fault : CanonFault) → Answers (canon is_read) text (Whole v) → IsNoText text fault → ⊥
+no_canon : (text : List ℕ) (v : Parts) (fault : CanonFault) → LineAnswers (canon is_read) text (Whole v) → IsNoText text fault → ⊥
 no_canon text v (Line n) whole refused = let wrong : Whole v ≡ Wrong n = one (canon is_read) text (Whole v) (Wrong n) whole refused in cc
 no_canon text v Trailing whole refused = let wrong : Whole v ≡ More = one (canon is_read) text (Whole v) More whole refused in cc
 

@@ -31,8 +31,8 @@ fn run_normal<R: Source, W: Sink>(
 }
 
 /// Runs a profile over a script and writes the transcript: for each event what the terminal sends and hands
-/// over. Gives the number of events. What the sink holds back is handed on before each read that follows an
-/// event, and on every way out, which no clause sees.
+/// over. Gives the number of events. The sink is flushed before each read that follows an event, and on
+/// every way out, which no clause sees.
 ///
 /// Refuses the profile before anything is read or written. A refused script leaves the transcript of the
 /// lines before the refused one, and a failed read that of the whole lines that were read. Where the profile

@@ -1,7 +1,6 @@
 -- Lines have no line feed in them, and are short.
-use Rattle.std.proofs.Common.{ℕ, zero, suc, ◌≡◌, ◌≢◌, ◌+◌, ◌/◌, ◌%◌, ◌≤◌, Bool, true, false, not, ◌&&◌, ◌==◌, nat_lt, if◌then◌else◌, List, [], ◌∷◌, ◌++◌, Option, Some, None, length, codes, length-append, refl, arith}
+use Rattle.std.proofs.Common.{ℕ, ◌≡◌, ◌≢◌, ◌+◌, ◌≤◌, Bool, true, false, not, ◌&&◌, ◌==◌, nat_lt, if◌then◌else◌, List, [], ◌∷◌, ◌++◌, length, codes, length-append, refl, arith}
 use Rattle.std.proofs.lemmas.Bool.Decides.{nat_tests}
-use Rattle.bus_word.specs.declared.cell.Cell.{Cell}
 use Rattle.bus_word.specs.declared.word.Bus.{Bus}
 use Rattle.bus_word.specs.declared.word.Bus.TheVariants.{A, B}
 use Rattle.bus_word.specs.declared.word.Kind.{Kind}
@@ -18,9 +17,9 @@ use Rattle.terminal_rules.specs.declared.event.Flag.TheVariants.{Service, Busy, 
 use Rattle.bus_script.specs.Digits.{digits_of, decimal_digits}
 use Rattle.bus_script.specs.Text.{NoLineFeed}
 use Rattle.bus_script.specs.Transcript.{bus_letter, sent_kind}
-use Rattle.bus_script.specs.EventLine.{kind_text, truth_field, word_text, place_text, flag_name, event_text}
+use Rattle.bus_script.specs.EventLine.{kind_text, truth_field, place_text, flag_name, event_text}
 use Rattle.bus_script.proofs.TranscriptLaws.{four_digits}
-use Rattle.rt1553_acceptance.specs.Label.{decimal, words_counted, data_asked, asked, is_legal_by, label_of}
+use Rattle.rt1553_acceptance.specs.Label.{small_decimal, data_asked, asked, is_legal_by, label_of}
 use Rattle.rt1553_acceptance.proofs.Pieces.{feeds-append}
 use Rattle.rt1553_acceptance.proofs.Digits.{feeds-digits, feeds-decimal}
 
@@ -64,7 +63,7 @@ decimal_digits-line n = record { feeds = feeds-decimal n; short = omega arith }
 
 -- ---- labels
 
-decimal-line : (n : ℕ) → IsLine 2 (decimal n)
+decimal-line : (n : ℕ) → IsLine 2 (small_decimal n)
 decimal-line n = either (nat_lt n 10) _ _
     (record { feeds = (λ e. absurd (omega (arith, e)), tt); short = omega arith })
     (record { feeds = (λ e. absurd (omega (arith, e)), (λ e. absurd (omega (arith, e)), tt)); short = omega arith })
@@ -77,16 +76,12 @@ name-line code =
     (either (code == 16) _ _ (within (omega arith) (literal _ refl)) (either (code == 17) _ _ (within (omega arith) (literal _ refl)) (either (code == 18) _ _ (within (omega arith) (literal _ refl))
     (either (code == 19) _ _ (within (omega arith) (literal _ refl)) (either (code == 20) _ _ (within (omega arith) (literal _ refl)) (either (code == 21) _ _ (within (omega arith) (literal _ refl)) (within (omega arith) (literal _ refl))))))))))))))))
 
--- no mode code has a longer name than override inhibit terminal flag bit
-pub name_length : (code : ℕ) → length (mode_name code) ≤ 34
-name_length code = (name-line code).short
-
 data-line : (c : ℕ) → IsLine 34 (data_asked c)
 data-line c = within (omega arith)
     (joined (if transmits c then codes "transmit " else codes "receive ") _ (either (transmits c) _ _ (within {most = 9} (omega arith) (literal _ refl)) (within (omega arith) (literal _ refl)))
-    (joined (decimal (subaddress_of c)) _ (decimal-line (subaddress_of c))
+    (joined (small_decimal (subaddress_of c)) _ (decimal-line (subaddress_of c))
     (joined (codes ", ") _ (literal _ refl)
-    (joined (decimal (count_of c)) _ (decimal-line (count_of c)) (either (count_of c == 1) _ _ (within {most = 6} (omega arith) (literal _ refl)) (within (omega arith) (literal _ refl)))))))
+    (joined (small_decimal (count_of c)) _ (decimal-line (count_of c)) (either (count_of c == 1) _ _ (within {most = 6} (omega arith) (literal _ refl)) (within (omega arith) (literal _ refl)))))))
 
 -- a label has no line feed, and at most 53 bytes
 pub label-line : (P : Description) (c : ℕ) → IsLine 53 (label_of P c)

@@ -1,5 +1,5 @@
 -- What the acceptance test shows: a terminal is found to answer as it states exactly if it is the same terminal.
-use Rattle.std.proofs.Common.{ℕ, ◌≡◌, ◌∙◌, ◌+◌, ◌*◌, ◌<◌, ◌≤◌, ◌^◌, ◌↔◌, Bool, true, false, if◌then◌else◌, List, [], ◌∷◌, ◌++◌, Option, Some, None, Result, Ok, length, map, take, drop, get_or, refl, sym, ap, subst, arith, append-nil}
+use Rattle.std.proofs.Common.{ℕ, ◌≡◌, ◌∙◌, ◌<◌, ◌^◌, Bool, true, false, if◌then◌else◌, List, [], ◌∷◌, ◌++◌, Some, None, Ok, map, take, drop, get_or, refl, sym, ap, subst, arith}
 use Rattle.std.specs.Str.{bytes_eq}
 use Rattle.std.proofs.lemmas.Slice.Eq.{bytes_eq-Decides}
 use Rattle.hex.specs.Hex.{encode_with}
@@ -10,9 +10,8 @@ use Rattle.bus_word.specs.declared.word.Kind.TheVariants.{Com, Dat}
 use Rattle.bus_legal.specs.Description.{Description}
 use Rattle.bus_legal.specs.Parts.{Parts, description_in, IsNormal}
 use Rattle.terminal_rules.specs.declared.event.Event.{Event}
-use Rattle.terminal_rules.specs.Same.{Same}
 use Rattle.terminal_rules.specs.Out.{Sending, Handing, HandsReceived, HandsSynchronize, HandsSynchronizeWith, HandsSelfTest, HandsBusControl, Out, Silence, SendsWord, HandsOver, out, outs_from}
-use Rattle.terminal_exchanges.specs.Sent.{sent_in, sent}
+use Rattle.terminal_exchanges.specs.Sent.{sent_in}
 use Rattle.terminal_complete_test.specs.CompleteTest.{complete_test, tried}
 use Rattle.bus_script.specs.Digits.{digits_of}
 use Rattle.bus_script.specs.Transcript.{sent_text, hand_text, answer_text, text_at}
@@ -20,11 +19,11 @@ use Rattle.terminal_complete_test.proofs.Complete.{complete_test_law}
 use Rattle.rt1553_verify.specs.Stated.{StatedEvent, stated_in}
 use Rattle.rt1553_verify.specs.Verify.{ToldAnswer, answers_told, wrong_answers_from, by_script, verified}
 use Rattle.rt1553_acceptance.specs.Text.{acceptance_text}
-use Rattle.rt1553_acceptance.specs.Law.{AreAnswered, IsAcceptanceTest}
+use Rattle.rt1553_acceptance.specs.Law.{AreStatedAnswers, IsAcceptanceTest}
 use Rattle.rt1553_acceptance.specs.inner.Fits.{Fits, AllFit}
 use Rattle.rt1553_acceptance.proofs.Pieces.{Tells-all}
 use Rattle.rt1553_acceptance.proofs.Digits.{same_digits}
-use Rattle.rt1553_acceptance.proofs.Chains.{Chain, some_exchanges}
+use Rattle.rt1553_acceptance.proofs.Chains.{some_exchanges}
 
 -- ---- texts of answers tell the words that are sent
 
@@ -108,12 +107,12 @@ told-none s came more e = pick (bytes_eq came s.answer) refl e
     pick false is e = absurd (cc)
 
 -- nothing differs where just the answers of a terminal are stated
-none-differs : (Q : Description) (h : List Event) (ss : List StatedEvent) → AreAnswered Q h ss → wrong_answers_from Q h ss ≡ []
+none-differs : (Q : Description) (h : List Event) (ss : List StatedEvent) → AreStatedAnswers Q h ss → wrong_answers_from Q h ss ≡ []
 unfolding wrong_answers_from
 none-differs Q h [] are = refl
 none-differs Q h (s ∷ ss) are = ap (λ xs. xs ++ wrong_answers_from Q (s.event ∷ h) ss) (told-same s (text_at Q h s.event) are.0) ∙ none-differs Q (s.event ∷ h) ss are.1
 
-all-answered : (Q : Description) (h : List Event) (ss : List StatedEvent) → wrong_answers_from Q h ss ≡ [] → AreAnswered Q h ss
+all-answered : (Q : Description) (h : List Event) (ss : List StatedEvent) → wrong_answers_from Q h ss ≡ [] → AreStatedAnswers Q h ss
 unfolding wrong_answers_from
 all-answered Q h [] e = tt
 all-answered Q h (s ∷ ss) e =
@@ -121,7 +120,7 @@ all-answered Q h (s ∷ ss) e =
     (p.0, all-answered Q (s.event ∷ h) ss p.1)
 
 -- terminals of which the same answers are stated send the same words
-same-sent : (P Q : Description) (h : List Event) (ss : List StatedEvent) → AreAnswered P h ss → AreAnswered Q h ss → AllFit P h (map (λ s. s.event) ss)
+same-sent : (P Q : Description) (h : List Event) (ss : List StatedEvent) → AreStatedAnswers P h ss → AreStatedAnswers Q h ss → AllFit P h (map (λ s. s.event) ss)
     → map sent_in (outs_from Q h (map (λ s. s.event) ss)) ≡ map sent_in (outs_from P h (map (λ s. s.event) ss))
 same-sent P Q h [] p q fits = refl
 same-sent P Q h (s ∷ ss) p q fits =
@@ -129,8 +128,8 @@ same-sent P Q h (s ∷ ss) p q fits =
     let later = same-sent P Q (s.event ∷ h) ss p.1 q.1 fits.1 in (λ j. here j ∷ later j)
 
 -- of terminals that answer alike the same answers are stated
-same-answered : (P Q : Description) (h : List Event) (ss : List StatedEvent) → AreAnswered P h ss
-    → outs_from Q h (map (λ s. s.event) ss) ≡ outs_from P h (map (λ s. s.event) ss) → AreAnswered Q h ss
+same-answered : (P Q : Description) (h : List Event) (ss : List StatedEvent) → AreStatedAnswers P h ss
+    → outs_from Q h (map (λ s. s.event) ss) ≡ outs_from P h (map (λ s. s.event) ss) → AreStatedAnswers Q h ss
 same-answered P Q h [] are same = tt
 same-answered P Q h (s ∷ ss) are same =
     let here : out Q h s.event ≡ out P h s.event = cc in

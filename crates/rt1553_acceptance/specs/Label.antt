@@ -7,16 +7,16 @@ use Rattle.bus_word.specs.Mode.{mode_name}
 use Rattle.bus_legal.specs.Description.{Description}
 
 -- a number below 100, in decimal digits
-abbrev pub decimal : ℕ → List ℕ
-decimal n = if nat_lt n 10 then (48 + n) ∷ [] else (48 + n / 10) ∷ (48 + n % 10) ∷ []
+abbrev pub small_decimal : ℕ → List ℕ
+small_decimal n = if nat_lt n 10 then (48 + n) ∷ [] else (48 + n / 10) ∷ (48 + n % 10) ∷ []
 
 -- how many data words
 abbrev pub words_counted : ℕ → List ℕ
-words_counted n = decimal n ++ (if n == 1 then codes " word" else codes " words")
+words_counted n = small_decimal n ++ (if n == 1 then codes " word" else codes " words")
 
 -- a command to a subaddress of data: its direction, subaddress and word count
 abbrev pub data_asked : ℕ → List ℕ
-data_asked c = (if transmits c then codes "transmit " else codes "receive ") ++ (decimal (subaddress_of c) ++ (codes ", " ++ words_counted (count_of c)))
+data_asked c = (if transmits c then codes "transmit " else codes "receive ") ++ (small_decimal (subaddress_of c) ++ (codes ", " ++ words_counted (count_of c)))
 
 -- what a command asks for; a mode code by its name
 abbrev pub asked : ℕ → List ℕ

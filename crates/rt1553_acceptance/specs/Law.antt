@@ -10,9 +10,9 @@ use Rattle.rt1553_verify.specs.Stated.{StatedEvent, stated_in}
 use Rattle.rt1553_verify.specs.Verify.{verified}
 
 -- of each event, after a history, just the answer of the terminal of P is stated
-abbrev pub AreAnswered : Description → List Event → List StatedEvent → Type 0
-AreAnswered P h [] = Unit {0}
-AreAnswered P h (s ∷ ss) = (s.answer ≡ text_at P h s.event) × AreAnswered P (s.event ∷ h) ss
+abbrev pub AreStatedAnswers : Description → List Event → List StatedEvent → Type 0
+AreStatedAnswers P h [] = Unit {0}
+AreStatedAnswers P h (s ∷ ss) = (s.answer ≡ text_at P h s.event) × AreStatedAnswers P (s.event ∷ h) ss
 
 -- The text is a script that states its answers. Its events are those of the complete test of the terminal of P, and its
 -- answers are those of this terminal; so `verify` finds nothing for the terminal of P, and for the terminal of any other
@@ -21,6 +21,6 @@ pub record IsAcceptanceTest (P : Description) (text : List ℕ) : Type 0 where
   pub stated : List StatedEvent
   pub reads : stated_in text ≡ Ok stated
   pub events : map (λ s. s.event) stated ≡ complete_test P
-  pub answers : AreAnswered P [] stated
+  pub answers : AreStatedAnswers P [] stated
   pub own : verified P text ≡ Ok []
   pub others : (v : Parts) → IsNormal v → (verified (description_in v) text ≡ Ok []) ↔ Same (description_in v) P

@@ -3,20 +3,20 @@ ghost use Rattle.std.specs.Prelude.{◌≡◌, ◌≤◌, ◌<◌, ◌+◌, ◌+
 ghost use Rattle.arrayvec.specs.ArrayString.{array_string_len};
 ghost use Rattle.bus_word.specs.Cell.{cell_of};
 ghost use Rattle.bus_legal.specs.Parts.{description_in};
-ghost use Rattle.rt1553_acceptance.specs.Label.{decimal, words_counted, data_asked, asked, is_legal_by, label_of};
+ghost use Rattle.rt1553_acceptance.specs.Label.{small_decimal, words_counted, data_asked, asked, is_legal_by, label_of};
 
 use arrayvec::ArrayString;
 use bus_legal::{Legality, Normal};
 use bus_word::{Command, cell_of, mode_name};
 
 /// A line without its line feed.
-pub type Line = ArrayString<64>;
+pub type LabelLine = ArrayString<64>;
 
 /// Writes a number below 100, in decimal digits.
-fn push_decimal(text: &mut Line, number: u8)
+fn push_decimal(text: &mut LabelLine, number: u8)
     requires room { array_string_len text.old ≤ 62 }
     requires number { number < 100 }
-    ensures bytes { text.new.bytes ≡ text.old.bytes ++ decimal number }
+    ensures bytes { text.new.bytes ≡ text.old.bytes ++ small_decimal number }
     ensures len { array_string_len text.new ≤ array_string_len text.old + 2 }
 {
     if number >= 10 {
@@ -26,7 +26,7 @@ fn push_decimal(text: &mut Line, number: u8)
 }
 
 /// Writes how many data words.
-fn push_words_counted(text: &mut Line, count: u8)
+fn push_words_counted(text: &mut LabelLine, count: u8)
     requires room { array_string_len text.old ≤ 54 }
     requires count { count < 100 }
     ensures bytes { text.new.bytes ≡ text.old.bytes ++ words_counted count }
@@ -37,7 +37,7 @@ fn push_words_counted(text: &mut Line, count: u8)
 }
 
 /// Writes a command to a subaddress of data.
-fn push_data_asked(text: &mut Line, command: Command)
+fn push_data_asked(text: &mut LabelLine, command: Command)
     requires { array_string_len text.old ≤ 10 }
     ensures bytes { text.new.bytes ≡ text.old.bytes ++ data_asked command }
     ensures len { array_string_len text.new ≤ array_string_len text.old + 34 }
@@ -53,7 +53,7 @@ fn push_data_asked(text: &mut Line, command: Command)
 }
 
 /// Writes what a command asks for.
-fn push_asked(text: &mut Line, command: Command)
+fn push_asked(text: &mut LabelLine, command: Command)
     requires { array_string_len text.old ≤ 10 }
     ensures bytes { text.new.bytes ≡ text.old.bytes ++ asked command }
     ensures len { array_string_len text.new ≤ array_string_len text.old + 34 }
@@ -77,12 +77,12 @@ fn is_legal(p: &Normal, command: Command) -> bool
 
 /// What an exchange with this command word tries, and whether the command is legal to the terminal: as
 /// `transmit 3, 5 words: illegal`, or `broadcast synchronize: legal`. At most 53 bytes, with no line feed.
-pub fn label_of(p: &Normal, command: u16) -> Line
+pub fn label_of(p: &Normal, command: u16) -> LabelLine
     ensures bytes { result.bytes ≡ label_of (description_in p.now) command }
     ensures short { array_string_len result ≤ 53 }
 {
     let command = Command::of(command);
-    let mut label = Line::new();
+    let mut label = LabelLine::new();
     if command.is_broadcast() {
         label.push_str("broadcast ");
     }

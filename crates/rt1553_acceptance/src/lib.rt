@@ -5,5 +5,5 @@ mod label;
 mod stating;
 mod writing;
 
-pub use label::{Line, label_of};
+pub use label::{LabelLine, label_of};
 pub use writing::{Progress, write_acceptance};

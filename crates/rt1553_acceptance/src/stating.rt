@@ -12,7 +12,7 @@ use bus_script::{push_number, push_word, received_by, write_answer, write_event}
 use bus_terminal::{Answer, Event, Hand};
 
 /// The lines of an event and of what is stated of its answer.
-pub type Lines = ArrayString<400>;
+pub type StatedLines = ArrayString<400>;
 
 /// How many words have room on the first line of an answer.
 const ROOM: usize = 7;
@@ -21,7 +21,7 @@ const ROOM: usize = 7;
 const MORE_ROOM: usize = 11;
 
 /// Writes one of the last words of an answer, where so many have room on the line, and gives how many have room after it.
-fn push_field(text: &mut Lines, room: usize, word: u16) -> usize
+fn push_field(text: &mut StatedLines, room: usize, word: u16) -> usize
     requires { array_string_len text.old + 8 ≤ 400 }
     ensures bytes { (words : List ℕ) → text.new.bytes ++ fields_stated result words ≡ text.old.bytes ++ fields_stated room (word ∷ words) }
     ensures len { array_string_len text.new ≤ array_string_len text.old + 8 }
@@ -37,7 +37,7 @@ fn push_field(text: &mut Lines, room: usize, word: u16) -> usize
 }
 
 /// Writes the last words of an answer.
-fn push_fields(text: &mut Lines, words: &[u16])
+fn push_fields(text: &mut StatedLines, words: &[u16])
     requires { array_string_len text.old + (8 * length words.now + 1) ≤ 400 }
     ensures { text.new.bytes ≡ text.old.bytes ++ fields_stated 7 words.now }
 {
@@ -49,7 +49,7 @@ fn push_fields(text: &mut Lines, words: &[u16])
 }
 
 /// Writes what is stated of data words that were received.
-fn push_received(text: &mut Lines, broadcast: bool, subaddress: u8, words: &[u16])
+fn push_received(text: &mut StatedLines, broadcast: bool, subaddress: u8, words: &[u16])
     requires room { array_string_len text.old ≤ 65 }
     requires few { length words.now ≤ 32 }
     ensures { text.new.bytes ≡ text.old.bytes ++ answer_stated (HandsOver (HandsReceived broadcast subaddress words.now)) }
@@ -61,7 +61,7 @@ fn push_received(text: &mut Lines, broadcast: bool, subaddress: u8, words: &[u16
 }
 
 /// Writes what is stated of an answer.
-fn push_stated(text: &mut Lines, answer: &Answer)
+fn push_stated(text: &mut StatedLines, answer: &Answer)
     requires room { array_string_len text.old ≤ 65 }
     requires small { IsSmall (shown_answer answer.now) }
     ensures { text.new.bytes ≡ text.old.bytes ++ answer_stated (shown_answer answer.now) }
@@ -83,11 +83,11 @@ fn push_stated(text: &mut Lines, answer: &Answer)
 }
 
 /// The lines of an event, and of what is stated of this answer to it.
-pub fn lines_of(event: &Event, answer: &Answer) -> Lines
+pub fn stated_lines(event: &Event, answer: &Answer) -> StatedLines
     requires { IsSmall (shown_answer answer.now) }
     ensures { result.bytes ≡ event_text event.now ++ 10 ∷ answer_stated (shown_answer answer.now) }
 {
-    let mut text = Lines::new();
+    let mut text = StatedLines::new();
     text.push_str(write_event(event).as_str());
     text.push_str("\n");
     push_stated(&mut text, answer);

@@ -15,7 +15,7 @@ ghost use Rattle.rt1553_acceptance.specs.inner.Fits.{Fits, AllFit};
 ghost use Rattle.rt1553_acceptance.specs.inner.Puts.{Puts};
 
 use crate::label::label_of;
-use crate::stating::{Lines, fits, lines_of};
+use crate::stating::{StatedLines, fits, stated_lines};
 use bus_complete_test::{Exchange, exchanges_of, first_trial, next_trial};
 use bus_legal::{Legality, Normal};
 use bus_script::{IoFailed, Sink, write_all};
@@ -40,7 +40,7 @@ fn put_event<L: Legality, W: Sink>(
 {
     let answer = terminal.step(event);
     fits(&answer);
-    let lines = lines_of(&event, &answer);
+    let lines = stated_lines(&event, &answer);
     write_all(sink, lines.as_str().as_bytes())
 }
 
@@ -65,7 +65,7 @@ fn put_comment<W: Sink>(sink: &mut W, p: &Normal, exchange: Exchange) -> Result<
     ensures wrote { OnOk result (Appends (W.written sink.old) (W.written sink.new) (comment_of (description_in p.now) (exchange_in exchange))) }
     ensures failed { W.has_failed sink.new ≡ (W.has_failed sink.old || not (is_ok result)) }
 {
-    let mut line = Lines::new();
+    let mut line = StatedLines::new();
     line.push_str("# ");
     line.push_str(label_of(p, exchange.command).as_str());
     line.push_str("\n");

@@ -11,7 +11,7 @@ use Rattle.rt1553.specs.Canon.{IsCanon}
 use Rattle.rt1553.specs.Compare.{AreDifferent}
 use Rattle.rt1553.specs.Engine.{Completes, StopsBy, OnLoad, OnScript}
 use Rattle.rt1553.specs.Report.{exit_status_of}
-use Rattle.rt1553_live.specs.PlainFault.{Tells}
+use Rattle.rt1553_live.specs.PlainFault.{TellsFault}
 use Rattle.rt1553_live.specs.declared.fault.PlainFault.{PlainFault}
 
 -- A fault for which this holds is told by its numbers and its line, with the status of the program `rt1553` for it: 2
@@ -19,7 +19,7 @@ use Rattle.rt1553_live.specs.declared.fault.PlainFault.{PlainFault}
 pub record IsTold (Why : LoadFault → Type 0) (to : PlainFault) (status : ℕ) : Type 0 where
   pub fault : LoadFault
   pub why : Why fault
-  pub tells : Tells to (Load fault)
+  pub tells : TellsFault to (Load fault)
   pub answers : status ≡ exit_status_of (Load fault)
 
 -- the text is refused by this fault, its first, or out of memory
@@ -48,5 +48,5 @@ pub record IsStopped (profile script transcript : List ℕ) (to : PlainFault) (s
   pub left : Option (List ℕ)
   pub not_loaded : OnLoad fault (λ f. IsNotLoaded profile f × (transcript ≡ []))
   pub stopped : OnScript fault (λ f. (P : Description) × Of profile P × StopsBy P script (Some script) left (Some []) (Some transcript) f)
-  pub tells : Tells to fault
+  pub tells : TellsFault to fault
   pub answers : status ≡ exit_status_of fault

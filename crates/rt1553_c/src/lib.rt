@@ -13,18 +13,18 @@ ghost use Rattle.rt1553.specs.Load.{Of, IsNotLoaded};
 ghost use Rattle.rt1553.specs.Canon.{IsCanon};
 ghost use Rattle.rt1553.specs.Compare.{AreSame, AreDifferent, IsNotCompared};
 ghost use Rattle.rt1553.specs.Report.{exit_status_of};
-ghost use Rattle.rt1553_live.specs.PlainFault.{Tells};
+ghost use Rattle.rt1553_live.specs.PlainFault.{TellsFault};
 ghost use Rattle.rt1553_live.specs.declared.live.Live.{Live};
 ghost use Rattle.rt1553_live.specs.contracts.live.Live.{the_row};
 ghost use Rattle.rt1553_live.specs.Live.{Steps};
-ghost use Rattle.rt1553_c.specs.Scripts.{script_text};
+ghost use Rattle.bus_script.specs.EventLine.{script_text};
 ghost use Rattle.rt1553_c.specs.Told.{IsTold, IsNotWritten, IsTooLong, Differ, RunsThrough, IsStopped};
 
-mod kept;
+mod bounded_sink;
 mod room;
 
-use kept::Kept;
-use room::{put, put_script};
+use bounded_sink::BoundedSink;
+use room::{put_bytes, put_script};
 use rt1553::{EngineFault, LoadFault, MemorySource, Verdict, canonical, compare, load, run};
 use rt1553_live::{Live, PlainAnswer, PlainEvent, PlainFault, new_live, step_live, tell_fault};
 use std::alloc::Global;
@@ -65,9 +65,9 @@ pub extern "C" fn rt1553_version(version: &mut Version)
     };
 }
 
-/// Tells why a text is not loaded, and gives the status for it.
+/// TellsFault why a text is not loaded, and gives the status for it.
 fn told(fault: &mut PlainFault, why: LoadFault) -> u8
-    ensures told { Tells fault.new (EngineFault.Load why) }
+    ensures told { TellsFault fault.new (EngineFault.Load why) }
     ensures status { result ≡ exit_status_of (EngineFault.Load why) }
     ensures not_done { result ≢ DONE }
     ensures not_compared { result ≢ DIFFER }
@@ -105,7 +105,7 @@ pub extern "C" fn rt1553_canonical(
     *filled = 0;
     match canonical(alloc, text) {
         Ok(bytes) => {
-            if put(to, filled, bytes.as_slice()) {
+            if put_bytes(to, filled, bytes.as_slice()) {
                 DONE
             } else {
                 *filled = bytes.len();
@@ -165,10 +165,10 @@ pub extern "C" fn rt1553_run(
 {
     *filled = 0;
     let mut source = MemorySource::new(script, usize::MAX, None);
-    let mut sink = Kept::new(alloc, to.len());
+    let mut sink = BoundedSink::new(alloc, to.len());
     match run(alloc, profile, &mut source, &mut sink) {
         Ok(_) => {
-            if put(to, filled, sink.as_slice()) {
+            if put_bytes(to, filled, sink.as_slice()) {
                 DONE
             } else {
                 NO_ROOM
@@ -176,7 +176,7 @@ pub extern "C" fn rt1553_run(
         }
         Err(EngineFault::Load(why)) => told(fault, why),
         Err(EngineFault::Script(why)) => {
-            if !put(to, filled, sink.as_slice()) || sink.is_full() {
+            if !put_bytes(to, filled, sink.as_slice()) || sink.is_full() {
                 NO_ROOM
             } else {
                 tell_fault(fault, &EngineFault::Script(why))

@@ -1,6 +1,6 @@
-//! Bytes are put into the room that a caller gives.
+//! Bytes are put_bytes into the room that a caller gives.
 ghost use Rattle.std.specs.Prelude.{◌≡◌, ◌≤◌, ◌<◌, ◌+◌, ◌++◌, true, false, length, take};
-ghost use Rattle.rt1553_c.specs.Scripts.{event_line, script_text};
+ghost use Rattle.bus_script.specs.EventLine.{event_line, script_text};
 
 use bus_script::write_event;
 use bus_terminal::Event;
@@ -14,7 +14,7 @@ fn put_behind(to: &mut [u8], used: usize, piece: &[u8])
 }
 
 /// Puts a piece behind the first `used` bytes, and counts it. False where there is no room for it: then all stays as it was.
-pub fn put(to: &mut [u8], used: &mut usize, piece: &[u8]) -> bool
+pub fn put_bytes(to: &mut [u8], used: &mut usize, piece: &[u8]) -> bool
     ensures bytes { result ≡ true → take used.new to.new ≡ take used.old to.old ++ piece.now }
     ensures count { result ≡ true → used.new ≡ used.old + length piece.now }
     ensures full { result ≡ false → length to.old < used.old + length piece.now }
@@ -33,7 +33,7 @@ pub fn put(to: &mut [u8], used: &mut usize, piece: &[u8]) -> bool
 fn put_event(to: &mut [u8], used: &mut usize, event: &Event) -> bool
     ensures { result ≡ true → take used.new to.new ≡ take used.old to.old ++ event_line event.now }
 {
-    put(to, used, write_event(event).as_str().as_bytes()) && put(to, used, b"\n")
+    put_bytes(to, used, write_event(event).as_str().as_bytes()) && put_bytes(to, used, b"\n")
 }
 
 /// Puts the lines of a script at the front; false where there is no room for them.

@@ -93,7 +93,7 @@ impl Caption {
     }
 }
 
-fn flag_name(flag: Flag) -> &'static str {
+fn flag_caption(flag: Flag) -> &'static str {
     match flag {
         Flag::Service => "service request",
         Flag::Busy => "busy",
@@ -146,7 +146,7 @@ impl fmt::Display for First {
             Caption::Write { subaddress, .. } => write!(f, "write at {subaddress}"),
             Caption::Vector(_) => f.write_str("vector word"),
             Caption::Bit(_) => f.write_str("BIT word"),
-            Caption::Flag(flag, _) => f.write_str(flag_name(flag)),
+            Caption::Flag(flag, _) => f.write_str(flag_caption(flag)),
             Caption::Received { subaddress, .. } => write!(f, "received at {subaddress}"),
             Caption::Synchronize => f.write_str("synchronize"),
             Caption::SynchronizeWith(_) => f.write_str("synchronize with"),

@@ -4,7 +4,7 @@ use Rattle.std.proofs.lemmas.List.{drop_more}
 use Rattle.std.proofs.lemmas.Option.{same_Some}
 use Rattle.toml.specs.Data.{Members}
 use Rattle.toml.specs.Parse.{parse_document}
-use Rattle.bus_profile.specs.AllFaults.{told}
+use Rattle.bus_profile.specs.AllFaults.{told_faults}
 use Rattle.bus_profile.specs.Read.{IsTree}
 use Rattle.bus_profile.specs.declared.fault.ProfileFault.{ProfileFault}
 use Rattle.rt1553_lint.specs.declared.finding.LintFault.{LintFault}
@@ -37,6 +37,6 @@ faults_in-step fs new f faults i d all within is told before =
 
 -- a text has one tree
 pub told_of_text : {E : Type 0} (text : List ℕ) (own : Members) (r : Result (Vec Finding Global) E) → parse_document text ≡ Some own
-    → IfOk r (λ found. faults_in found.items ≡ told own) → IfOk r (λ found. (tree : Members) → IsTree text tree → faults_in found.items ≡ told tree)
+    → IfOk r (λ found. faults_in found.items ≡ told_faults own) → IfOk r (λ found. (tree : Members) → IsTree text tree → faults_in found.items ≡ told_faults tree)
 told_of_text text own (Ok found) reads all = λ tree is. rw (same_Some tree own (sym is.reads ∙ reads)) all
 told_of_text text own (Err error) reads all = tt

@@ -1,7 +1,7 @@
 //! The findings of a tree's faults: for each its place, the value as it is written, and what would be allowed.
 ghost use Rattle.std.specs.Prelude.{◌≡◌, ◌++◌, IfOk, OnOk, Some};
 ghost use Rattle.toml.specs.View.{table_view};
-ghost use Rattle.bus_profile.specs.AllFaults.{told};
+ghost use Rattle.bus_profile.specs.AllFaults.{told_faults};
 ghost use Rattle.rt1553_lint.specs.declared.finding.LintFault.TheVariants as LintFault;
 ghost use Rattle.rt1553_lint.specs.Findings.{faults_in};
 
@@ -277,7 +277,7 @@ pub fn errors_of(
     table: &Table,
     left: &mut usize,
 ) -> Result<Vec<Finding>, AllocError>
-    ensures { IfOk result (λ found. faults_in found.items ≡ told (table_view table.now)) }
+    ensures { IfOk result (λ found. faults_in found.items ≡ told_faults (table_view table.now)) }
 {
     let faults = all_faults(alloc, table)?;
     let mut findings = Vec::new(alloc);

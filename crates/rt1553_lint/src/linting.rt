@@ -3,7 +3,7 @@ ghost use Rattle.std.specs.Prelude.{◌≡◌, IfOk};
 ghost use Rattle.toml.specs.Data.{Members};
 ghost use Rattle.toml.specs.View.{table_view};
 ghost use Rattle.bus_profile.specs.Read.{IsTree};
-ghost use Rattle.bus_profile.specs.AllFaults.{told};
+ghost use Rattle.bus_profile.specs.AllFaults.{told_faults};
 ghost use Rattle.rt1553_lint.specs.Findings.{faults_in};
 
 use crate::errors::{MOST_BYTES, errors_of};
@@ -19,7 +19,7 @@ use toml::de::Error;
 
 /// The findings of a text that is TOML: its faults, or where it has none what has no effect.
 fn lint_table(alloc: Global, text: &[u8], table: &Table) -> Result<Vec<Finding>, AllocError>
-    ensures { IfOk result (λ found. faults_in found.items ≡ told (table_view table.now)) }
+    ensures { IfOk result (λ found. faults_in found.items ≡ told_faults (table_view table.now)) }
 {
     let mut left = MOST_BYTES;
     let mut findings = errors_of(alloc, text, table, &mut left)?;
@@ -76,7 +76,7 @@ fn lint_other(alloc: Global, text: &[u8], error: &Error) -> Result<Vec<Finding>,
 ///
 /// Of a text that is no TOML, or no canonical text, the first fault alone is found.
 pub fn lint(alloc: Global, text: &[u8]) -> Result<Vec<Finding>, AllocError>
-    ensures { IfOk result (λ found. (tree : Members) → IsTree text.now tree → faults_in found.items ≡ told tree) }
+    ensures { IfOk result (λ found. (tree : Members) → IsTree text.now tree → faults_in found.items ≡ told_faults tree) }
 {
     match toml::table_from_slice(alloc, text) {
         Ok(table) => lint_table(alloc, text, &table),

@@ -8,7 +8,7 @@ use Rattle.terminal_rules.specs.Out.{out, Silence}
 use Rattle.bus_terminal.specs.declared.terminal.Terminal.{Terminal}
 use Rattle.bus_terminal.specs.Stands.{StandsAt}
 use Rattle.rt1553_live.specs.declared.live.Live.{Live}
-use Rattle.rt1553_live.specs.PlainEvent.{event_of}
+use Rattle.rt1553_live.specs.PlainEvent.{plain_event}
 use Rattle.rt1553_live.specs.PlainAnswer.{answer_in}
 
 -- The terminal stands at this history, the latest event first, as one of this description: it stands there under a
@@ -25,16 +25,16 @@ pub record IsNew (P : Description) (x : Live) : Type 0 where
 
 -- The event was played: for each description and each history at which the terminal stood, what stands in front of it
 -- is the answer of that description, and the terminal stands behind the event.
-pub record Plays (x : Live) (e : Event) (w : Live) : Type 0 where
+pub record IsStepped (x : Live) (e : Event) (w : Live) : Type 0 where
   pub answers : (P : Description) (h : List Event) → AnswersAs P h x.terminal → answer_in w.answer ≡ Some (out P h e)
   pub stands : (P : Description) (h : List Event) → AnswersAs P h x.terminal → AnswersAs P (e ∷ h) w.terminal
   pub event : w.event ≡ x.event
 
 -- 0 where an event was played; 2 where there was none, and nothing changed
 abbrev pub StepsBy : Option Event → Live → ℕ → Live → Type 0
-StepsBy (Some e) x status w = (status ≡ 0) × Plays x e w
+StepsBy (Some e) x status w = (status ≡ 0) × IsStepped x e w
 StepsBy None x status w = (status ≡ 2) × (w ≡ x)
 
 -- the event that the numbers in front mean was played, or they mean none and nothing changed
 abbrev pub Steps : Live → ℕ → Live → Type 0
-Steps x status w = StepsBy (event_of x.event) x status w
+Steps x status w = StepsBy (plain_event x.event) x status w

@@ -3,12 +3,12 @@ use Rattle.std.specs.Prelude.{◌==◌, nat_le, if◌then◌else◌, Option, Som
 use Rattle.bus_word.specs.declared.word.Kind.{Kind}
 use Rattle.bus_word.specs.declared.word.Kind.TheVariants.{Com, Dat}
 use Rattle.terminal_rules.specs.Out.{sending, HandsReceived, HandsSynchronize, HandsSynchronizeWith, HandsSelfTest, HandsBusControl, Out, Silence, SendsWord, HandsOver}
-use Rattle.rt1553_live.specs.PlainEvent.{bus_of}
+use Rattle.rt1553_live.specs.PlainEvent.{bus_of_number}
 use Rattle.rt1553_live.specs.declared.answer.PlainAnswer.{PlainAnswer}
 
 -- a word of this kind is sent
 abbrev pub sends_in : Kind → PlainAnswer → Option Out
-sends_in kind a = option_and_then (λ bus. Some (SendsWord (sending bus kind a.bits))) (bus_of a.bus)
+sends_in kind a = option_and_then (λ bus. Some (SendsWord (sending bus kind a.bits))) (bus_of_number a.bus)
 
 -- words that were received are handed over
 abbrev pub received_in : PlainAnswer → Option Out

@@ -13,49 +13,49 @@ use Rattle.terminal_rules.specs.declared.event.Event.{Event}
 use Rattle.terminal_rules.specs.declared.event.Event.TheVariants.{Word, Noise, Gap, Write, Vector, Bit, Flag as FlagIs, Slot}
 use Rattle.rt1553_live.specs.declared.event.PlainEvent.{PlainEvent}
 
-abbrev pub bus_of : ℕ → Option Bus
-bus_of n = if n == 0 then Some A else if n == 1 then Some B else None
+abbrev pub bus_of_number : ℕ → Option Bus
+bus_of_number n = if n == 0 then Some A else if n == 1 then Some B else None
 
 -- by the sync of a word
-abbrev pub kind_of : ℕ → Option Kind
-kind_of n = if n == 0 then Some Com else if n == 1 then Some Dat else None
+abbrev pub sync_of_number : ℕ → Option Kind
+sync_of_number n = if n == 0 then Some Com else if n == 1 then Some Dat else None
 
-abbrev pub flag_of : ℕ → Option Flag
-flag_of n = if n == 0 then Some Service else if n == 1 then Some Busy else if n == 2 then Some Subsystem else if n == 3 then Some Terminal else None
+abbrev pub flag_of_number : ℕ → Option Flag
+flag_of_number n = if n == 0 then Some Service else if n == 1 then Some Busy else if n == 2 then Some Subsystem else if n == 3 then Some Terminal else None
 
-abbrev pub truth_of : ℕ → Option Bool
-truth_of n = if n == 0 then Some false else if n == 1 then Some true else None
+abbrev pub truth_of_number : ℕ → Option Bool
+truth_of_number n = if n == 0 then Some false else if n == 1 then Some true else None
 
 -- a word with this parity bit, or with the right one
 abbrev pub word_with : Kind → ℕ → ℕ → Option Raw
 word_with kind parity bits =
     if parity == 2 then Some (valid_word kind bits)
-    else option_and_then (λ p. Some (record { kind = kind; bits = bits; parity = p })) (truth_of parity)
+    else option_and_then (λ p. Some (record { kind = kind; bits = bits; parity = p })) (truth_of_number parity)
 
 -- the word that is meant
-abbrev pub word_in : PlainEvent → Option Raw
-word_in p = option_and_then (λ kind. word_with kind p.parity p.bits) (kind_of p.sync)
+abbrev pub plain_word : PlainEvent → Option Raw
+plain_word p = option_and_then (λ kind. word_with kind p.parity p.bits) (sync_of_number p.sync)
 
 -- the write of the subsystem that is meant: subaddress 1 to 30, number 1 to 32
-abbrev pub write_in : PlainEvent → Option Event
-write_in p =
+abbrev pub plain_write : PlainEvent → Option Event
+plain_write p =
     if is_data_place p.subaddress p.number
     then Some (Write (record { subaddress = p.subaddress; number = p.number }) p.bits)
     else None
 
 -- the change of a flag that is meant
-abbrev pub flag_in : PlainEvent → Option Event
-flag_in p = option_and_then (λ flag. option_and_then (λ value. Some (FlagIs flag value)) (truth_of p.value)) (flag_of p.flag)
+abbrev pub plain_flag : PlainEvent → Option Event
+plain_flag p = option_and_then (λ flag. option_and_then (λ value. Some (FlagIs flag value)) (truth_of_number p.value)) (flag_of_number p.flag)
 
 -- the event that is meant, or none
-abbrev pub event_of : PlainEvent → Option Event
-event_of p =
-    if p.what == 0 then option_and_then (λ bus. option_and_then (λ word. Some (Word bus word)) (word_in p)) (bus_of p.bus)
-    else if p.what == 1 then option_and_then (λ bus. Some (Noise bus)) (bus_of p.bus)
-    else if p.what == 2 then option_and_then (λ bus. Some (Gap bus)) (bus_of p.bus)
-    else if p.what == 3 then write_in p
+abbrev pub plain_event : PlainEvent → Option Event
+plain_event p =
+    if p.what == 0 then option_and_then (λ bus. option_and_then (λ word. Some (Word bus word)) (plain_word p)) (bus_of_number p.bus)
+    else if p.what == 1 then option_and_then (λ bus. Some (Noise bus)) (bus_of_number p.bus)
+    else if p.what == 2 then option_and_then (λ bus. Some (Gap bus)) (bus_of_number p.bus)
+    else if p.what == 3 then plain_write p
     else if p.what == 4 then Some (Vector p.bits)
     else if p.what == 5 then Some (Bit p.bits)
-    else if p.what == 6 then flag_in p
+    else if p.what == 6 then plain_flag p
     else if p.what == 7 then Some Slot
     else None

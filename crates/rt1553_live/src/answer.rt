@@ -2,7 +2,7 @@
 ghost use Rattle.std.specs.Prelude.{◌≡◌, ◌≤◌, length, take, Some};
 ghost use Rattle.terminal_rules.specs.Out.{SendsWord, HandsOver};
 ghost use Rattle.bus_terminal.specs.Answer.{shown_answer, shown_word, shown_handing, words_handed, IsSmall};
-ghost use Rattle.rt1553_live.specs.PlainEvent.{bus_of};
+ghost use Rattle.rt1553_live.specs.PlainEvent.{bus_of_number};
 ghost use Rattle.rt1553_live.specs.PlainAnswer.{answer_in};
 
 use bus_terminal::{Answer, Hand, Sent};
@@ -29,8 +29,8 @@ pub struct PlainAnswer {
     pub words: [u16; 32],
 }
 
-fn number_of(bus: Bus) -> u8
-    ensures { bus_of result ≡ Some bus }
+fn bus_number(bus: Bus) -> u8
+    ensures { bus_of_number result ≡ Some bus }
 {
     match bus {
         Bus::A => 0,
@@ -38,12 +38,12 @@ fn number_of(bus: Bus) -> u8
     }
 }
 
-/// Puts words at the front of a row.
-fn put_first(row: &mut [u16], words: &[u16])
-    requires { length words.now ≤ length row.old }
-    ensures { take (length words.now) row.new ≡ words.now }
+/// Puts items at the front of a row.
+pub fn put_first<T: Copy>(row: &mut [T], items: &[T])
+    requires { length items.now ≤ length row.old }
+    ensures { take (length items.now) row.new ≡ items.now }
 {
-    row[..words.len()].copy_from_slice(words);
+    row[..items.len()].copy_from_slice(items);
 }
 
 /// Shows a word that is sent.
@@ -54,7 +54,7 @@ fn show_sent(to: &mut PlainAnswer, sent: &Sent)
         Kind::Com => 1,
         Kind::Dat => 2,
     };
-    to.bus = number_of(sent.bus);
+    to.bus = bus_number(sent.bus);
     to.bits = sent.bits;
 }
 

@@ -1,6 +1,6 @@
 //! Events as plain numbers.
 ghost use Rattle.std.specs.Prelude.{◌≡◌};
-ghost use Rattle.rt1553_live.specs.PlainEvent.{bus_of, kind_of, flag_of, truth_of, word_in, write_in, flag_in, event_of};
+ghost use Rattle.rt1553_live.specs.PlainEvent.{bus_of_number, sync_of_number, flag_of_number, truth_of_number, plain_word, plain_write, plain_flag, plain_event};
 
 use bus_terminal::{Event, Flag, WordPlace};
 use bus_word::{Bus, Kind, Raw};
@@ -29,8 +29,8 @@ pub struct PlainEvent {
     pub bits: u16,
 }
 
-fn bus_of(bus: u8) -> Option<Bus>
-    ensures { result ≡ bus_of bus }
+fn bus_of_number(bus: u8) -> Option<Bus>
+    ensures { result ≡ bus_of_number bus }
 {
     match bus {
         0 => Some(Bus::A),
@@ -39,8 +39,8 @@ fn bus_of(bus: u8) -> Option<Bus>
     }
 }
 
-fn kind_of(sync: u8) -> Option<Kind>
-    ensures { result ≡ kind_of sync }
+fn sync_of_number(sync: u8) -> Option<Kind>
+    ensures { result ≡ sync_of_number sync }
 {
     match sync {
         0 => Some(Kind::Com),
@@ -49,8 +49,8 @@ fn kind_of(sync: u8) -> Option<Kind>
     }
 }
 
-fn flag_of(flag: u8) -> Option<Flag>
-    ensures { result ≡ flag_of flag }
+fn flag_of_number(flag: u8) -> Option<Flag>
+    ensures { result ≡ flag_of_number flag }
 {
     match flag {
         0 => Some(Flag::Service),
@@ -61,8 +61,8 @@ fn flag_of(flag: u8) -> Option<Flag>
     }
 }
 
-fn truth_of(value: u8) -> Option<bool>
-    ensures { result ≡ truth_of value }
+fn truth_of_number(value: u8) -> Option<bool>
+    ensures { result ≡ truth_of_number value }
 {
     match value {
         0 => Some(false),
@@ -72,14 +72,14 @@ fn truth_of(value: u8) -> Option<bool>
 }
 
 /// The word that is meant.
-fn word_in(plain: PlainEvent) -> Option<Raw>
-    ensures { result ≡ word_in plain }
+fn plain_word(plain: PlainEvent) -> Option<Raw>
+    ensures { result ≡ plain_word plain }
 {
-    let kind = kind_of(plain.sync)?;
+    let kind = sync_of_number(plain.sync)?;
     if plain.parity == 2 {
         return Some(Raw::of(kind, plain.bits));
     }
-    let parity = truth_of(plain.parity)?;
+    let parity = truth_of_number(plain.parity)?;
     Some(Raw {
         kind,
         bits: plain.bits,
@@ -88,44 +88,44 @@ fn word_in(plain: PlainEvent) -> Option<Raw>
 }
 
 /// The write of the subsystem that is meant.
-fn write_in(plain: PlainEvent) -> Option<Event>
-    ensures { result ≡ write_in plain }
+fn plain_write(plain: PlainEvent) -> Option<Event>
+    ensures { result ≡ plain_write plain }
 {
     let place = WordPlace::of(plain.subaddress, plain.number)?;
     Some(Event::Write(place, plain.bits))
 }
 
 /// The change of a flag that is meant.
-fn flag_in(plain: PlainEvent) -> Option<Event>
-    ensures { result ≡ flag_in plain }
+fn plain_flag(plain: PlainEvent) -> Option<Event>
+    ensures { result ≡ plain_flag plain }
 {
-    let flag = flag_of(plain.flag)?;
-    let value = truth_of(plain.value)?;
+    let flag = flag_of_number(plain.flag)?;
+    let value = truth_of_number(plain.value)?;
     Some(Event::Flag(flag, value))
 }
 
 /// The event that the numbers mean; None where they mean none.
-pub fn event_of(plain: PlainEvent) -> Option<Event>
-    ensures { result ≡ event_of plain }
+pub fn plain_event(plain: PlainEvent) -> Option<Event>
+    ensures { result ≡ plain_event plain }
 {
     match plain.what {
         0 => {
-            let bus = bus_of(plain.bus)?;
-            let word = word_in(plain)?;
+            let bus = bus_of_number(plain.bus)?;
+            let word = plain_word(plain)?;
             Some(Event::Word(bus, word))
         }
         1 => {
-            let bus = bus_of(plain.bus)?;
+            let bus = bus_of_number(plain.bus)?;
             Some(Event::Noise(bus))
         }
         2 => {
-            let bus = bus_of(plain.bus)?;
+            let bus = bus_of_number(plain.bus)?;
             Some(Event::Gap(bus))
         }
-        3 => write_in(plain),
+        3 => plain_write(plain),
         4 => Some(Event::Vector(plain.bits)),
         5 => Some(Event::Bit(plain.bits)),
-        6 => flag_in(plain),
+        6 => plain_flag(plain),
         7 => Some(Event::Slot),
         _ => None,
     }

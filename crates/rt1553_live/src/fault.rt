@@ -1,8 +1,9 @@
 //! Faults as plain numbers, with their text.
-ghost use Rattle.std.specs.Prelude.{◌≡◌, ◌≤◌, length, take};
+ghost use Rattle.std.specs.Prelude.{◌≡◌};
 ghost use Rattle.rt1553.specs.Report.{exit_status_of};
-ghost use Rattle.rt1553_live.specs.PlainFault.{kind_of, number_of, line_of, Tells};
+ghost use Rattle.rt1553_live.specs.PlainFault.{plain_fault_kind, plain_fault_number, plain_fault_line, TellsFault};
 
+use crate::answer::put_first;
 use bus_canon::CanonFault;
 use bus_script::RunFault;
 use rt1553::{EngineFault, LoadFault, describe};
@@ -23,8 +24,8 @@ pub struct PlainFault {
     pub text: [u8; 136],
 }
 
-fn kind_of(fault: &EngineFault) -> u8
-    ensures { result ≡ kind_of fault.now }
+fn plain_fault_kind(fault: &EngineFault) -> u8
+    ensures { result ≡ plain_fault_kind fault.now }
 {
     match fault {
         EngineFault::Load(LoadFault::Profile(_)) => 1,
@@ -34,8 +35,8 @@ fn kind_of(fault: &EngineFault) -> u8
     }
 }
 
-fn number_of(fault: &EngineFault) -> u8
-    ensures { result ≡ number_of fault.now }
+fn plain_fault_number(fault: &EngineFault) -> u8
+    ensures { result ≡ plain_fault_number fault.now }
 {
     match fault {
         EngineFault::Load(LoadFault::Profile(fault)) => fault.number(),
@@ -45,8 +46,8 @@ fn number_of(fault: &EngineFault) -> u8
     }
 }
 
-fn line_of(fault: &EngineFault) -> u64
-    ensures { result ≡ line_of fault.now }
+fn plain_fault_line(fault: &EngineFault) -> u64
+    ensures { result ≡ plain_fault_line fault.now }
 {
     match fault {
         EngineFault::Load(LoadFault::Canon(CanonFault::Line(line))) => *line as u64,
@@ -55,24 +56,16 @@ fn line_of(fault: &EngineFault) -> u64
     }
 }
 
-/// Puts a text at the front of a row.
-fn put_first(row: &mut [u8], text: &[u8])
-    requires { length text.now ≤ length row.old }
-    ensures { take (length text.now) row.new ≡ text.now }
-{
-    row[..text.len()].copy_from_slice(text);
-}
-
-/// Tells a fault, and gives the status of the program `rt1553` for it: 2 where a text is refused, 4 where memory or room was
+/// TellsFault a fault, and gives the status of the program `rt1553` for it: 2 where a text is refused, 4 where memory or room was
 /// wanting.
 pub fn tell_fault(to: &mut PlainFault, fault: &EngineFault) -> u8
     ensures status { result ≡ exit_status_of fault.now }
-    ensures told { Tells to.new fault.now }
+    ensures told { TellsFault to.new fault.now }
 {
     let (status, line) = describe(fault);
-    to.kind = kind_of(fault);
-    to.number = number_of(fault);
-    to.line = line_of(fault);
+    to.kind = plain_fault_kind(fault);
+    to.number = plain_fault_number(fault);
+    to.line = plain_fault_line(fault);
     to.length = line.len() as u8;
     to.text = [0; 136];
     put_first(&mut to.text, line.as_str().as_bytes());

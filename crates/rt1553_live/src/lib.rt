@@ -8,6 +8,6 @@ mod fault;
 mod live;
 
 pub use answer::PlainAnswer;
-pub use event::{PlainEvent, event_of};
+pub use event::{PlainEvent, plain_event};
 pub use fault::{PlainFault, tell_fault};
 pub use live::{Live, new_live, step_live};

@@ -7,7 +7,7 @@ ghost use Rattle.rt1553.specs.Load.{Of, IsNotLoaded};
 ghost use Rattle.rt1553_live.specs.Live.{AnswersAs, IsNew, Steps};
 
 use crate::answer::{PlainAnswer, show};
-use crate::event::{PlainEvent, event_of};
+use crate::event::{PlainEvent, plain_event};
 use bus_legal::Normal;
 use bus_terminal::Terminal;
 use rt1553::{LoadFault, load};
@@ -27,7 +27,7 @@ pub struct Live {
 pub fn step_live(live: &mut Live) -> u8
     ensures { Steps live.old result live.new }
 {
-    match event_of(live.event) {
+    match plain_event(live.event) {
         None => 2,
         Some(event) => {
             let answer = live.terminal.step(event);

@@ -57,8 +57,8 @@ IsOfLoad P (Engine (engine.Load fault)) = P fault
 IsOfLoad P fault = ⊥
 
 -- the output can't be written, or a text isn't loaded, for such a reason, and then the output is untouched
-abbrev pub Refuses : (LoadFault → Type 0) → Type 0 → Fault → Type 0
-Refuses P Untouched fault = (fault ≡ Output) ⊎ (IsOfLoad P fault × Untouched)
+abbrev pub RefusesUntouched : (LoadFault → Type 0) → Type 0 → Fault → Type 0
+RefusesUntouched P Untouched fault = (fault ≡ Output) ⊎ (IsOfLoad P fault × Untouched)
 
 -- a run of a profile over a script ended early, for a reason of which this holds
 abbrev pub IsOfRun : (EngineFault → Type 0) → Fault → Type 0

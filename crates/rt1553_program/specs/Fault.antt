@@ -5,10 +5,10 @@ use Rattle.rt1553_program.specs.declared.fault.Fault.{Fault}
 use Rattle.rt1553_program.specs.declared.fault.Fault.TheVariants.{Usage, Memory, CannotRead, TooLarge, Output, Engine}
 
 -- 3 for arguments that the program does not accept; 4 for a file, out of memory or the output; else that of the fault
-abbrev pub ends_with : Fault → ℕ
-ends_with Usage = 3
-ends_with Memory = 4
-ends_with (CannotRead name) = 4
-ends_with (TooLarge name) = 4
-ends_with Output = 4
-ends_with (Engine fault) = exit_status_of fault
+abbrev pub exit_status : Fault → ℕ
+exit_status Usage = 3
+exit_status Memory = 4
+exit_status (CannotRead name) = 4
+exit_status (TooLarge name) = 4
+exit_status Output = 4
+exit_status (Engine fault) = exit_status_of fault

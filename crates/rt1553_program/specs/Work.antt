@@ -1,22 +1,14 @@
 -- What the program's arguments ask for, over texts.
-use Rattle.std.specs.Prelude.{ℕ, ◌≡◌, ◌⊎◌, List, [], ◌∷◌, ◌++◌, Option, codes}
-use Rattle.std.specs.List.{flat_map}
+use Rattle.std.specs.Prelude.{ℕ, ◌≡◌, ◌⊎◌, List, Option, codes}
 use Rattle.std.specs.Io.KnownBytes.{Appends}
 use Rattle.bus_legal.specs.Description.{Description}
 use Rattle.terminal_rules.specs.declared.event.Event.{Event}
-use Rattle.bus_script.specs.EventLine.{event_text}
+use Rattle.bus_script.specs.EventLine.{script_text}
 use Rattle.rt1553.specs.Load.{Of}
 use Rattle.rt1553.specs.Canon.{IsCanon}
 use Rattle.rt1553.specs.Compare.{AreSame, AreDifferent}
 use Rattle.rt1553_args.specs.declared.args.Job.{Job}
 use Rattle.rt1553_args.specs.declared.args.Job.TheVariants as job
-
-abbrev pub event_line : Event → List ℕ
-event_line e = event_text e ++ 10 ∷ []
-
--- the lines of a script
-abbrev pub script_text : List Event → List ℕ
-script_text es = flat_map event_line es
 
 -- the text is of a terminal
 abbrev pub Accepted : List ℕ → Type 0
@@ -24,8 +16,8 @@ Accepted text = (P : Description) × Of text P
 
 -- Status 0: the two are the same, and this was written. Status 1: they are different, and a script was written that
 -- shows it.
-abbrev pub Tells : List ℕ → List ℕ → Option (List ℕ) → Option (List ℕ) → ℕ → Type 0
-Tells first second old new status =
+abbrev pub TellsVerdict : List ℕ → List ℕ → Option (List ℕ) → Option (List ℕ) → ℕ → Type 0
+TellsVerdict first second old new status =
     ((status ≡ 0) × AreSame first second × Appends old new (codes "same\n"))
     ⊎ ((status ≡ 1) × (script : List Event) × AreDifferent first second script × Appends old new (script_text script))
 
@@ -42,4 +34,4 @@ Does job.Standard old new status = Unit {0}
 Does (job.Check p) old new status = (text : List ℕ) × Accepted text × Appends old new (codes "ok\n")
 Does (job.Canon p) old new status = (text : List ℕ) × (bytes : List ℕ) × IsCanon text bytes × Appends old new bytes
 Does (job.Run p q) old new status = Unit {0}
-Does (job.Compare p q) old new status = (first : List ℕ) × (second : List ℕ) × Tells first second old new status
+Does (job.Compare p q) old new status = (first : List ℕ) × (second : List ℕ) × TellsVerdict first second old new status

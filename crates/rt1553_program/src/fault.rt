@@ -39,11 +39,11 @@ impl fmt::Display for Fault {
 
 impl Fault {
     ghost use Rattle.std.specs.Prelude.{◌≡◌};
-    ghost use Rattle.rt1553_program.specs.Fault.{ends_with};
+    ghost use Rattle.rt1553_program.specs.Fault.{exit_status};
 
     /// The status that the program ends with.
     pub fn status(&self) -> u8
-        ensures { result ≡ ends_with self.now }
+        ensures { result ≡ exit_status self.now }
     {
         match self {
             Fault::Usage => 3,

@@ -7,8 +7,9 @@ ghost use Rattle.rt1553.specs.Load.{Of, IsNotLoaded};
 ghost use Rattle.rt1553.specs.Canon.{IsCanon};
 ghost use Rattle.rt1553.specs.Compare.{IsNotCompared};
 ghost use Rattle.rt1553.specs.Engine.{Completes, StopsBy, OnLoad, OnScript};
-ghost use Rattle.rt1553_program.specs.Causes.{IsWithoutWords, Refuses, IsOfRun, IsOfJob};
-ghost use Rattle.rt1553_program.specs.Work.{event_line, script_text, Accepted, Tells, IsComparison, Does};
+ghost use Rattle.rt1553_program.specs.Causes.{IsWithoutWords, RefusesUntouched, IsOfRun, IsOfJob};
+ghost use Rattle.bus_script.specs.EventLine.{event_line, script_text};
+ghost use Rattle.rt1553_program.specs.Work.{Accepted, TellsVerdict, IsComparison, Does};
 
 use crate::fault::Fault;
 use crate::files::{open_file, read_profile_file};
@@ -32,67 +33,67 @@ const SAME: u8 = 0;
 const DIFFERENT: u8 = 1;
 
 /// Writes all the bytes.
-fn put<W: Sink>(writer: &mut W, bytes: &[u8]) -> Result<(), Fault>
+fn write_out<W: Sink>(writer: &mut W, bytes: &[u8]) -> Result<(), Fault>
     ensures ok { OnOk result (Appends (W.written writer.old) (W.written writer.new) bytes.now) }
     ensures refused { IfErr result (λ fault. fault ≡ Fault.Output) }
 {
     write_all(writer, bytes).map_err(|_| Fault::Output)
 }
 
-/// Hands on what was written.
-fn hand_on<W: Sink>(writer: &mut W) -> Result<(), Fault>
+/// Flushes the writer.
+fn flush_out<W: Sink>(writer: &mut W) -> Result<(), Fault>
     ensures ok { OnOk result (Keeps (W.written writer.old) (W.written writer.new)) }
     ensures refused { IfErr result (λ fault. fault ≡ Fault.Output) }
 {
     writer.flush().map_err(|_| Fault::Output)
 }
 
-/// Writes all the bytes and hands them on.
-fn say<W: Sink>(writer: &mut W, bytes: &[u8]) -> Result<(), Fault>
+/// Writes all the bytes and flushes the writer.
+fn write_flushed<W: Sink>(writer: &mut W, bytes: &[u8]) -> Result<(), Fault>
     ensures ok { OnOk result (Appends (W.written writer.old) (W.written writer.new) bytes.now) }
     ensures refused { IfErr result (λ fault. fault ≡ Fault.Output) }
 {
-    put(writer, bytes)?;
-    hand_on(writer)
+    write_out(writer, bytes)?;
+    flush_out(writer)
 }
 
 /// Writes the line of an event.
-fn say_event<W: Sink>(writer: &mut W, event: &Event) -> Result<(), Fault>
+fn write_event_line<W: Sink>(writer: &mut W, event: &Event) -> Result<(), Fault>
     ensures ok { OnOk result (Appends (W.written writer.old) (W.written writer.new) (event_line event.now)) }
     ensures refused { IfErr result (λ fault. fault ≡ Fault.Output) }
 {
-    put(writer, write_event(event).as_str().as_bytes())?;
-    put(writer, b"\n")?;
+    write_out(writer, write_event(event).as_str().as_bytes())?;
+    write_out(writer, b"\n")?;
     Ok(())
 }
 
 /// Writes a script, an event a line.
-fn say_script<W: Sink>(writer: &mut W, script: &Script) -> Result<(), Fault>
+fn write_script<W: Sink>(writer: &mut W, script: &Script) -> Result<(), Fault>
     ensures ok { OnOk result (Appends (W.written writer.old) (W.written writer.new) (script_text script.now.items)) }
     ensures refused { IfErr result (λ fault. fault ≡ Fault.Output) }
 {
     for event in script.as_slice() {
-        say_event(writer, event)?;
+        write_event_line(writer, event)?;
     }
-    hand_on(writer)
+    flush_out(writer)
 }
 
 /// Loads a text, and says so.
 fn check<W: Sink>(alloc: Global, text: &[u8], writer: &mut W) -> Result<(), Fault>
     ensures ok { OnOk result (Accepted text.now × Appends (W.written writer.old) (W.written writer.new) (codes "ok\n")) }
-    ensures refused { IfErr result (Refuses (IsNotLoaded text.now) (writer.new ≡ writer.old)) }
+    ensures refused { IfErr result (RefusesUntouched (IsNotLoaded text.now) (writer.new ≡ writer.old)) }
 {
     load(alloc, text)?;
-    say(writer, b"ok\n")
+    write_flushed(writer, b"ok\n")
 }
 
 /// Writes the canonical bytes of a text.
 fn canon<W: Sink>(alloc: Global, text: &[u8], writer: &mut W) -> Result<(), Fault>
     ensures ok { OnOk result ((bytes : List ℕ) × IsCanon text.now bytes × Appends (W.written writer.old) (W.written writer.new) bytes) }
-    ensures refused { IfErr result (Refuses (λ fault. (fault ≡ LoadFault.Memory) ⊎ IsNotLoaded text.now fault) (writer.new ≡ writer.old)) }
+    ensures refused { IfErr result (RefusesUntouched (λ fault. (fault ≡ LoadFault.Memory) ⊎ IsNotLoaded text.now fault) (writer.new ≡ writer.old)) }
 {
     let bytes = canonical(alloc, text)?;
-    say(writer, bytes.as_slice())
+    write_flushed(writer, bytes.as_slice())
 }
 
 /// Compares two texts, tells the verdict, and gives the status to end with.
@@ -102,16 +103,16 @@ fn tell_verdict<W: Sink>(
     second: &[u8],
     writer: &mut W,
 ) -> Result<u8, Fault>
-    ensures ok { IfOk result (Tells first.now second.now (W.written writer.old) (W.written writer.new)) }
-    ensures refused { IfErr result (Refuses (IsNotCompared first.now second.now) (writer.new ≡ writer.old)) }
+    ensures ok { IfOk result (TellsVerdict first.now second.now (W.written writer.old) (W.written writer.new)) }
+    ensures refused { IfErr result (RefusesUntouched (IsNotCompared first.now second.now) (writer.new ≡ writer.old)) }
 {
     match compare(alloc, first, second)? {
         Verdict::Same => {
-            say(writer, b"same\n")?;
+            write_flushed(writer, b"same\n")?;
             Ok(SAME)
         }
         Verdict::Differ(script) => {
-            say_script(writer, &script)?;
+            write_script(writer, &script)?;
             Ok(DIFFERENT)
         }
     }
@@ -162,7 +163,7 @@ fn compare_files<R: Files + AllocGlobal, W: Sink>(
     writer: &mut W,
 ) -> Result<u8, Fault>
     ensures ok { IfOk result (λ status. status ≤ 1) }
-    ensures tells { IfOk result (λ status. (p : List ℕ) × (q : List ℕ) × Tells p q (W.written writer.old) (W.written writer.new) status) }
+    ensures tells { IfOk result (λ status. (p : List ℕ) × (q : List ℕ) × TellsVerdict p q (W.written writer.old) (W.written writer.new) status) }
     ensures refused { IfErr result IsOfJob }
 {
     let p = read_profile_file(rt, first)?;

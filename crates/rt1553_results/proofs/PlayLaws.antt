@@ -10,10 +10,10 @@ use Rattle.terminal_rules.specs.Ends.{ends_now}
 use Rattle.terminal_rules.specs.Out.{Handing, Sending, hands, handing_over, sends, sending_out, out, outs_from}
 use Rattle.terminal_exchanges.specs.Exchanges.{Exchange, command_event, data_event, words_then, slots_then, script_of}
 use Rattle.terminal_exchanges.specs.ExchangeLaws.{after_words, before_its_gap, after_slots}
-use Rattle.rt1553_results.specs.Rows.{Answered, word_of, words_sent, handing_of, first_of, handed_over, row_at, after_exchange}
+use Rattle.rt1553_results.specs.Rows.{Answered, sent_word, words_sent, handing_of, first_handing, handed_over, row_at, after_exchange}
 
 -- a gap sends no word, and a slot hands nothing over
-no_word : (o : Option Handing) → word_of (handing_over o) ≡ []
+no_word : (o : Option Handing) → sent_word (handing_over o) ≡ []
 no_word None = refl
 no_word (Some handing) = refl
 
@@ -21,7 +21,7 @@ no_handing : (o : Option Sending) → handing_of (sending_out o) ≡ None
 no_handing None = refl
 no_handing (Some sending) = refl
 
-first_alone : (o : Option Handing) → first_of o None ≡ o
+first_alone : (o : Option Handing) → first_handing o None ≡ o
 first_alone None = refl
 first_alone (Some handing) = refl
 
@@ -45,7 +45,7 @@ slots_hand_nothing : (P : Description) (h : List Event) (n : ℕ) → handed_ove
 unfolding handed_over
 slots_hand_nothing P h zero = refl
 slots_hand_nothing P h (suc n) =
-    (λ j. first_of (no_handing (sends P (past P h) (reply_now (past P h))) j) (slots_hand_nothing P (Slot ∷ h) n j))
+    (λ j. first_handing (no_handing (sends P (past P h) (reply_now (past P h))) j) (slots_hand_nothing P (Slot ∷ h) n j))
 
 slots_pass : (h : List Event) (n : ℕ) → history_after (slots_then n []) h ≡ after_slots n h
 slots_pass h zero = refl
@@ -64,7 +64,7 @@ unfolding handed_over
 exchange_hands P h x =
     let g : List Event = before_its_gap x h in
     handed_pass P (command_event x.command ∷ h) x.words (Gap A ∷ slots_then x.slots [])
-    ∙ ap (λ o. first_of (handing_of (out P g (Gap A))) o) (slots_hand_nothing P (Gap A ∷ g) x.slots)
+    ∙ ap (λ o. first_handing (handing_of (out P g (Gap A))) o) (slots_hand_nothing P (Gap A ∷ g) x.slots)
     ∙ first_alone (handing_of (out P g (Gap A)))
 
 pub exchange_passes : (h : List Event) (x : Exchange) → after_exchange x h ≡ after_slots x.slots (Gap A ∷ before_its_gap x h)
@@ -80,12 +80,12 @@ row_kept P h x reply handed e f =
 
 -- one slot more was played
 pub slot_more : (P : Description) (g : List Event) (old new all : List ℕ) (n : ℕ)
-    → new ≡ old ++ word_of (out P g Slot) → old ++ words_sent (outs_from P g (slots_then (suc n) [])) ≡ all
+    → new ≡ old ++ sent_word (out P g Slot) → old ++ words_sent (outs_from P g (slots_then (suc n) [])) ≡ all
     → new ++ words_sent (outs_from P (Slot ∷ g) (slots_then n [])) ≡ all
 unfolding words_sent
 slot_more P g old new all n grown before =
     ap (λ ws. ws ++ words_sent (outs_from P (Slot ∷ g) (slots_then n []))) grown
-    ∙ append_assoc old (word_of (out P g Slot)) (words_sent (outs_from P (Slot ∷ g) (slots_then n [])))
+    ∙ append_assoc old (sent_word (out P g Slot)) (words_sent (outs_from P (Slot ∷ g) (slots_then n [])))
     ∙ before
 
 -- the loops, one step on and at their ends
@@ -110,7 +110,7 @@ slots_over count i k all over before =
     ap (λ n. after_slots n k) none ∙ before
 
 pub sent_more : (P : Description) (k : List Event) (old new all : List ℕ) (count i : ℕ) → i < count
-    → new ≡ old ++ word_of (out P k Slot) → old ++ words_sent (outs_from P k (slots_then (count - i) [])) ≡ all
+    → new ≡ old ++ sent_word (out P k Slot) → old ++ words_sent (outs_from P k (slots_then (count - i) [])) ≡ all
     → new ++ words_sent (outs_from P (Slot ∷ k) (slots_then (count - (i + 1)) [])) ≡ all
 sent_more P k old new all count i few grown before =
     let next : suc (count - (i + 1)) ≡ count - i = omega arith in

@@ -11,18 +11,18 @@ use Rattle.std.proofs.lemmas.Map.Keys.{IsDistinct-push}
 use Rattle.csv.specs.Records.{Row, fields_of}
 use Rattle.rt1553_results.specs.declared.results.Columns.{Columns}
 use Rattle.rt1553_results.specs.declared.results.Results.{Results}
-use Rattle.rt1553_results.specs.Results.{IsRead, AreRead, answer}
+use Rattle.rt1553_results.specs.Results.{IsRead, AreResultsRead, answer}
 
 -- what some rows say, and that the results have just that
 pub record SoFar (columns : Columns) (rows : List (List (List ℕ))) (results : Results) : Type 0 where
   pub pairs : List (ℕ × List ℕ)
-  pub read : AreRead columns rows pairs
+  pub read : AreResultsRead columns rows pairs
   pub once : IsDistinct nat_eq (map (λ pair. pair.0) pairs)
   pub answers : (n : ℕ) → answer results n ≡ lookup (nat_eq n) pairs
 
 read_more : (columns : Columns) (rows : List (List (List ℕ))) (pairs : List (ℕ × List ℕ)) (row : List (List ℕ)) (pair : ℕ × List ℕ)
-    → AreRead columns rows pairs → IsRead columns row pair → AreRead columns (rows ++ row ∷ []) (pairs ++ pair ∷ [])
-unfolding AreRead
+    → AreResultsRead columns rows pairs → IsRead columns row pair → AreResultsRead columns (rows ++ row ∷ []) (pairs ++ pair ∷ [])
+unfolding AreResultsRead
 read_more columns [] [] row pair read is = (is, tt)
 read_more columns [] (p ∷ pairs) row pair read is = absurd read
 read_more columns (r ∷ rows) [] row pair read is = absurd read
@@ -67,7 +67,7 @@ answers_more pairs k v old new before fresh grown n = by_test (nat_eq k n) refl
         grown n ∙ (ap (λ b. cond b (Some v) (old n)) e ∙ (before n ∙ sym (lookup_others (nat_eq n) pairs (k, v) test)))
 
 pub so_far_none : (columns : Columns) (results : Results) → results.given.entries ≡ [] → SoFar columns [] results
-unfolding AreRead IsDistinct
+unfolding AreResultsRead IsDistinct
 so_far_none columns results none = record {
   pairs = [];
   read = tt;

@@ -1,6 +1,5 @@
 -- The words of a reply tell what is sent in each slot of an exchange: a reply is sent from the first slot on without a break.
 use Rattle.std.proofs.Common.{◌≡◌, ℕ, zero, suc, Bool, true, false, if◌then◌else◌, nat_le, ◌==◌, ◌⊎◌, inl, inr, Option, Some, None, List, [], ◌∷◌, ◌++◌, length, map, refl, ap, sym, ◌∙◌, arith}
-use Rattle.std.proofs.lemmas.List.{map-append}
 use Rattle.std.proofs.lemmas.Bool.Decides.{nat_tests}
 use Rattle.bus_word.specs.declared.word.Bus.TheVariants.{A}
 use Rattle.bus_word.specs.declared.word.Kind.{Kind}
@@ -15,10 +14,10 @@ use Rattle.terminal_rules.specs.Turn.{is_answered, done_cell}
 use Rattle.terminal_rules.specs.Past.{past}
 use Rattle.terminal_rules.specs.Status.{kept_now}
 use Rattle.bus_word.specs.Status.{status_word}
-use Rattle.terminal_rules.specs.Out.{Out, Silence, SendsWord, Handing, sending, reply_word, sends, sending_out, handing_over}
+use Rattle.terminal_rules.specs.Out.{Out, Silence, SendsWord, sending, reply_word, sends, sending_out}
 use Rattle.terminal_exchanges.specs.Sent.{sent_in}
 use Rattle.terminal_exchanges.specs.ExchangeLaws.{silent_slots, reply_to, reply_then}
-use Rattle.rt1553_results.specs.Rows.{word_of, words_sent}
+use Rattle.rt1553_results.specs.Rows.{sent_word, words_sent}
 
 -- the kind of word number k of a reply: the status word is number 0
 abbrev kind_at : ℕ → Kind
@@ -38,7 +37,7 @@ GoesOn k (o ∷ os) = ((bits : ℕ) × (o ≡ SendsWord (sending A (kind_at k) b
 silent_sent : (os : List Out) → AllSilent os → words_sent os ≡ []
 unfolding AllSilent words_sent
 silent_sent [] a = refl
-silent_sent (o ∷ os) (is, a) = ap (λ o. word_of o ++ words_sent os) is ∙ silent_sent os a
+silent_sent (o ∷ os) (is, a) = ap (λ o. sent_word o ++ words_sent os) is ∙ silent_sent os a
 
 silent_alike : (os ps : List Out) → length os ≡ length ps → AllSilent os → AllSilent ps → map sent_in os ≡ map sent_in ps
 unfolding AllSilent
@@ -56,15 +55,15 @@ same_slots k [] [] long a b e = refl
 same_slots k [] (p ∷ ps) long a b e = absurd (omega (arith, long))
 same_slots k (o ∷ os) [] long a b e = absurd (omega (arith, long))
 same_slots k (o ∷ os) (p ∷ ps) long (inl (c, is, a)) (inl (d, js, b)) e =
-    let words : (c ∷ words_sent os) ≡ (d ∷ words_sent ps) = sym (ap (λ o. word_of o ++ words_sent os) is) ∙ e ∙ ap (λ p. word_of p ++ words_sent ps) js in
+    let words : (c ∷ words_sent os) ≡ (d ∷ words_sent ps) = sym (ap (λ o. sent_word o ++ words_sent os) is) ∙ e ∙ ap (λ p. sent_word p ++ words_sent ps) js in
     let bits : c ≡ d = cc in
     let rest : words_sent os ≡ words_sent ps = cc in
     let later = same_slots (suc k) os ps (omega (arith, long)) a b rest in
     let here : sent_in o ≡ sent_in p = ap sent_in is ∙ ap (λ x. Some (sending A (kind_at k) x)) bits ∙ sym (ap sent_in js) in (λ j. here j ∷ later j)
 same_slots k (o ∷ os) (p ∷ ps) long (inl (c, is, a)) (inr (js, b)) e =
-    let no : (c ∷ words_sent os) ≡ [] = sym (ap (λ o. word_of o ++ words_sent os) is) ∙ e ∙ ap (λ p. word_of p ++ words_sent ps) js ∙ silent_sent ps b in absurd (cc)
+    let no : (c ∷ words_sent os) ≡ [] = sym (ap (λ o. sent_word o ++ words_sent os) is) ∙ e ∙ ap (λ p. sent_word p ++ words_sent ps) js ∙ silent_sent ps b in absurd (cc)
 same_slots k (o ∷ os) (p ∷ ps) long (inr (is, a)) (inl (d, js, b)) e =
-    let no : [] ≡ d ∷ words_sent ps = sym (ap (λ o. word_of o ++ words_sent os) is ∙ silent_sent os a) ∙ e ∙ ap (λ p. word_of p ++ words_sent ps) js in absurd (cc)
+    let no : [] ≡ d ∷ words_sent ps = sym (ap (λ o. sent_word o ++ words_sent os) is ∙ silent_sent os a) ∙ e ∙ ap (λ p. sent_word p ++ words_sent ps) js in absurd (cc)
 same_slots k (o ∷ os) (p ∷ ps) long (inr (is, a)) (inr (js, b)) e = silent_alike (o ∷ os) (p ∷ ps) long (is, a) (js, b)
 
 -- ---- the slots of an exchange are such

@@ -1,19 +1,18 @@
 -- Results of a unit that is the terminal of some profile: when they pass.
-use Rattle.std.proofs.Common.{◌≡◌, ℕ, zero, suc, ◌+◌, ◌≤◌, Bool, true, false, if◌then◌else◌, Option, Some, None, List, [], ◌∷◌, ◌++◌, length, map, refl, ap, sym, subst, ◌∙◌, arith, append-nil, nat_eq}
+use Rattle.std.proofs.Common.{◌≡◌, ℕ, zero, suc, ◌+◌, Bool, true, false, if◌then◌else◌, Option, Some, None, List, [], ◌∷◌, ◌++◌, length, map, refl, ap, sym, ◌∙◌, arith, append-nil, nat_eq}
 use Rattle.std.specs.Cmp.Lexicographic.{pointwise}
 use Rattle.std.proofs.lemmas.Slice.Eq.{bytes_eq-Decides}
 use Rattle.std.proofs.lemmas.List.{map-append}
 use Rattle.bus_legal.specs.Description.{Description}
-use Rattle.bus_legal.specs.Parts.{Parts, description_in, IsNormal}
+use Rattle.bus_legal.specs.Parts.{description_in}
 use Rattle.terminal_rules.specs.declared.event.Event.{Event}
 use Rattle.terminal_rules.specs.declared.event.Event.TheVariants.{Gap, Slot}
 use Rattle.terminal_rules.specs.Starts.{is_meant}
 use Rattle.terminal_rules.specs.Past.{past, history_after}
-use Rattle.terminal_rules.specs.Same.{Same}
 use Rattle.terminal_rules.specs.Out.{Out, Silence, Handing, hands, handing_over, sends, sending_out, outs_from}
 use Rattle.bus_word.specs.declared.word.Bus.TheVariants.{A}
 use Rattle.terminal_exchanges.specs.Exchanges.{Exchange, command_event, data_event, words_then, slots_then, exchange_then, script_of}
-use Rattle.terminal_exchanges.specs.Sent.{sent_in, sent}
+use Rattle.terminal_exchanges.specs.Sent.{sent_in}
 use Rattle.terminal_exchanges.specs.ExchangeLaws.{AreWhole, AreAnswered, history_of, after_words, after_slots, before_its_gap, end_of, silent_then, silent_slots, reply_to, reply_then}
 use Rattle.terminal_exchanges.proofs.ExchangeAnswers.{meant_exchange_law, unmeant_law}
 use Rattle.terminal_complete_test.specs.CompleteTest.{complete_test, tried}
@@ -21,11 +20,10 @@ use Rattle.terminal_complete_test.proofs.Walk.{IsSound, AreSound, answered_more}
 use Rattle.terminal_complete_test.proofs.Sound.{tried_sound}
 use Rattle.terminal_exchanges.proofs.Distinguish.Reached.{normal-reached}
 use Rattle.terminal_complete_test.proofs.Complete.{complete_test_law}
-use Rattle.rt1553_results.specs.declared.comparison.Comparison.{Comparison}
 use Rattle.rt1553_acceptance.specs.Label.{label_of}
-use Rattle.rt1553_results.specs.Rows.{Answered, word_of, words_sent, row_at, after_exchange, rows_from, rows_of}
-use Rattle.rt1553_results.specs.Compare.{Told, told_of, differing, missing_at, missing, Compares}
-use Rattle.rt1553_results.specs.Unit.{AreGiven, AreResultsOf, Passes, UnitLaw}
+use Rattle.rt1553_results.specs.Rows.{Answered, sent_word, words_sent, row_at, after_exchange, rows_from}
+use Rattle.rt1553_results.specs.Compare.{ToldReply, replies_told, wrong_replies, missing_at, missing}
+use Rattle.rt1553_results.specs.Unit.{AreGiven, UnitLaw}
 use Rattle.rt1553_results.proofs.SlotLaws.{GoesOn, same_slots, unmeant_slots, meant_slots}
 
 -- ---- what a terminal answers to an exchange: something at the gap that sends nothing, and slots of a reply
@@ -37,7 +35,7 @@ around x gap slots rest = Silence ∷ silent_then x.words (gap ∷ (slots ++ res
 record Shape (P : Description) (xs : List Exchange) (x : Exchange) : Type 0 where
   gap : Out
   slots : List Out
-  quiet : word_of gap ≡ []
+  quiet : sent_word gap ≡ []
   unsent : sent_in gap ≡ None
   long : length slots ≡ x.slots
   goes : GoesOn 0 slots
@@ -62,7 +60,7 @@ reply_long : (P : Description) (x : Exchange) (k n : ℕ) (h : List Event) → l
 reply_long P x k zero h = refl
 reply_long P x k (suc n) h = ap suc (reply_long P x (suc k) n (Slot ∷ h))
 
-quiet_gap : (o : Option Handing) → word_of (handing_over o) ≡ []
+quiet_gap : (o : Option Handing) → sent_word (handing_over o) ≡ []
 quiet_gap None = refl
 quiet_gap (Some handing) = refl
 
@@ -103,7 +101,7 @@ unfolding words_sent
 words_after [] os = refl
 words_after (d ∷ ds) os = words_after ds os
 
-reply_around : (x : Exchange) (gap : Out) (slots : List Out) → word_of gap ≡ [] → words_sent (around x gap slots []) ≡ words_sent slots
+reply_around : (x : Exchange) (gap : Out) (slots : List Out) → sent_word gap ≡ [] → words_sent (around x gap slots []) ≡ words_sent slots
 unfolding words_sent
 reply_around x gap slots quiet =
     words_after x.words (gap ∷ (slots ++ [])) ∙ ap (λ ws. ws ++ words_sent (slots ++ [])) quiet ∙ ap words_sent (append-nil slots)
@@ -163,43 +161,43 @@ sent_alike P Q xs (y ∷ ys) whole a b (s, ss) e =
 
 -- ---- what is told of results
 
-abbrev told_if : Bool → Description → ℕ → Answered → List ℕ → List Told
+abbrev told_if : Bool → Description → ℕ → Answered → List ℕ → List ToldReply
 told_if same P n row came = if same then [] else record { number = n; label = label_of P row.exchange.command; expected = row.reply; came = came } ∷ []
 
-told_none : (P : Description) (n : ℕ) (row : Answered) (came : List ℕ) (more : List Told) → told_of P n row (Some came) ++ more ≡ [] → (came ≡ row.reply) × (more ≡ [])
+told_none : (P : Description) (n : ℕ) (row : Answered) (came : List ℕ) (more : List ToldReply) → replies_told P n row (Some came) ++ more ≡ [] → (came ≡ row.reply) × (more ≡ [])
 told_none P n row came more e = pick (pointwise nat_eq came row.reply) refl e
   where
     pick : (b : Bool) → pointwise nat_eq came row.reply ≡ b → told_if b P n row came ++ more ≡ [] → (came ≡ row.reply) × (more ≡ [])
     pick true is e = ((bytes_eq-Decides came row.reply).0 is, e)
     pick false is e = absurd (cc)
 
-told_same : (P : Description) (n : ℕ) (row : Answered) (came : List ℕ) → came ≡ row.reply → told_of P n row (Some came) ≡ []
+told_same : (P : Description) (n : ℕ) (row : Answered) (came : List ℕ) → came ≡ row.reply → replies_told P n row (Some came) ≡ []
 told_same P n row came same = pick (pointwise nat_eq came row.reply) ((bytes_eq-Decides came row.reply).1 same)
   where
     pick : (b : Bool) → b ≡ true → told_if b P n row came ≡ []
     pick true e = refl
     pick false e = absurd (cc)
 
-none_differs : (P : Description) (came : ℕ → Option (List ℕ)) (n : ℕ) (ps qs : List Answered) → length ps ≡ length qs → AreGiven came n qs → differing P came n ps ≡ [] → replies_of qs ≡ replies_of ps
-unfolding differing
+none_differs : (P : Description) (came : ℕ → Option (List ℕ)) (n : ℕ) (ps qs : List Answered) → length ps ≡ length qs → AreGiven came n qs → wrong_replies P came n ps ≡ [] → replies_of qs ≡ replies_of ps
+unfolding wrong_replies
 none_differs P came n [] [] long given e = refl
 none_differs P came n [] (q ∷ qs) long given e = absurd (omega (arith, long))
 none_differs P came n (p ∷ ps) [] long given e = absurd (omega (arith, long))
 none_differs P came n (p ∷ ps) (q ∷ qs) long given e =
-    let one = told_none P n p q.reply (differing P came (n + 1) ps) (ap (λ o. told_of P n p o ++ differing P came (n + 1) ps) (sym given.0) ∙ e) in
+    let one = told_none P n p q.reply (wrong_replies P came (n + 1) ps) (ap (λ o. replies_told P n p o ++ wrong_replies P came (n + 1) ps) (sym given.0) ∙ e) in
     let later = none_differs P came (n + 1) ps qs (omega (arith, long)) given.1 one.1 in
     let here = one.0 in (λ j. here j ∷ later j)
 
-alike_differ : (P : Description) (came : ℕ → Option (List ℕ)) (n : ℕ) (ps qs : List Answered) → length ps ≡ length qs → AreGiven came n qs → replies_of qs ≡ replies_of ps → differing P came n ps ≡ []
-unfolding differing
+alike_differ : (P : Description) (came : ℕ → Option (List ℕ)) (n : ℕ) (ps qs : List Answered) → length ps ≡ length qs → AreGiven came n qs → replies_of qs ≡ replies_of ps → wrong_replies P came n ps ≡ []
+unfolding wrong_replies
 alike_differ P came n [] [] long given e = refl
 alike_differ P came n [] (q ∷ qs) long given e = absurd (omega (arith, long))
 alike_differ P came n (p ∷ ps) [] long given e = absurd (omega (arith, long))
 alike_differ P came n (p ∷ ps) (q ∷ qs) long given e =
     let here : q.reply ≡ p.reply = cc in
     let later : replies_of qs ≡ replies_of ps = cc in
-    ap (λ o. told_of P n p o ++ differing P came (n + 1) ps) given.0
-    ∙ ap (λ xs. xs ++ differing P came (n + 1) ps) (told_same P n p q.reply here)
+    ap (λ o. replies_told P n p o ++ wrong_replies P came (n + 1) ps) given.0
+    ∙ ap (λ xs. xs ++ wrong_replies P came (n + 1) ps) (told_same P n p q.reply here)
     ∙ alike_differ P came (n + 1) ps qs (omega (arith, long)) given.1 later
 
 none_missing : (came : ℕ → Option (List ℕ)) (n : ℕ) (ps qs : List Answered) → length ps ≡ length qs → AreGiven came n qs → missing came n ps ≡ []
@@ -224,7 +222,7 @@ unit_law v w came c normal other given compares =
     let long : length ps ≡ length qs = rows_long P [] xs ∙ sym (rows_long Q [] xs) in
     let test = complete_test P in (
       (λ passes.
-          let none : differing P came 1 ps ≡ [] = sym compares.tells.differ ∙ passes.0 in
+          let none : wrong_replies P came 1 ps ≡ [] = sym compares.tells.differ ∙ passes.0 in
           let same = none_differs P came 1 ps qs long given none in
           (complete_test_law.seen v w normal other).0 (sent_alike P Q [] xs tt tt tt (tried_sound P (normal-reached v normal)) same)),
       (λ alike.

@@ -4,8 +4,8 @@ use Rattle.std.specs.Cmp.Lexicographic.{pointwise}
 use Rattle.std.specs.List.{flat_map}
 use Rattle.bus_legal.specs.Description.{Description}
 use Rattle.rt1553_acceptance.specs.Label.{label_of}
-use Rattle.rt1553_results.specs.declared.comparison.Difference.{Difference}
-use Rattle.rt1553_results.specs.declared.comparison.Numbers.{Numbers}
+use Rattle.rt1553_results.specs.declared.comparison.WrongReply.{WrongReply}
+use Rattle.rt1553_results.specs.declared.comparison.NumberRange.{NumberRange}
 use Rattle.rt1553_results.specs.declared.comparison.Comparison.{Comparison}
 use Rattle.rt1553_results.specs.declared.comparing.CompareFault.{CompareFault}
 use Rattle.rt1553_results.specs.declared.comparing.CompareFault.TheVariants.{Beyond, Memory}
@@ -14,26 +14,26 @@ use Rattle.rt1553_results.specs.Rows.{Answered, rows_of}
 use Rattle.rt1553_results.specs.Results.{line_in}
 
 -- the exchange of this number was to be answered by these words, and was answered by others
-pub record Told : Type 0 where
+pub record ToldReply : Type 0 where
   pub number : ℕ
   pub label : List ℕ
   pub expected : List ℕ
   pub came : List ℕ
 
-abbrev pub told : Difference → Told
-told d = record { number = d.number; label = d.label.bytes; expected = d.expected.items; came = d.came.items }
+abbrev pub told_reply : WrongReply → ToldReply
+told_reply d = record { number = d.number; label = d.label.bytes; expected = d.expected.items; came = d.came.items }
 
 -- what is told of exchange number n, of the terminal of P, by the reply that came, if there is a result
-abbrev pub told_of : Description → ℕ → Answered → Option (List ℕ) → List Told
-told_of P n row None = []
-told_of P n row (Some came) =
+abbrev pub replies_told : Description → ℕ → Answered → Option (List ℕ) → List ToldReply
+replies_told P n row None = []
+replies_told P n row (Some came) =
     if pointwise nat_eq came row.reply then []
     else record { number = n; label = label_of P row.exchange.command; expected = row.reply; came = came } ∷ []
 
 -- what is told of rows, in their order, of which the first has number n
-unfoldable pub differing : Description → (ℕ → Option (List ℕ)) → ℕ → List Answered → List Told
-differing P came n [] = []
-differing P came n (row ∷ rows) = told_of P n row (came n) ++ differing P came (n + 1) rows
+unfoldable pub wrong_replies : Description → (ℕ → Option (List ℕ)) → ℕ → List Answered → List ToldReply
+wrong_replies P came n [] = []
+wrong_replies P came n (row ∷ rows) = replies_told P n row (came n) ++ wrong_replies P came (n + 1) rows
 
 -- the number, if there is no result for it
 abbrev pub missing_at : ℕ → Option (List ℕ) → List ℕ
@@ -50,22 +50,22 @@ unfoldable pub counted : ℕ → ℕ → List ℕ
 counted first zero = []
 counted first (suc n) = first ∷ counted (first + 1) n
 
-abbrev pub numbers_in : List Numbers → List ℕ
+abbrev pub numbers_in : List NumberRange → List ℕ
 numbers_in ranges = flat_map (λ range. counted range.first range.count) ranges
 
 -- What is told of results by a comparison with the terminal of P: just the exchanges to which another reply came, and just
 -- those for which there is none.
-pub record Tells (P : Description) (came : ℕ → Option (List ℕ)) (c : Comparison) : Type 0 where
+pub record TellsResults (P : Description) (came : ℕ → Option (List ℕ)) (c : Comparison) : Type 0 where
   pub total : c.total ≡ length (rows_of P)
-  pub differ : map told c.differences.items ≡ differing P came 1 (rows_of P)
+  pub differ : map told_reply c.wrong_replies.items ≡ wrong_replies P came 1 (rows_of P)
   pub miss : numbers_in c.missing.items ≡ missing came 1 (rows_of P)
 
 -- The same, and no result is of an exchange beyond the last.
 pub record Compares (P : Description) (came : ℕ → Option (List ℕ)) (c : Comparison) : Type 0 where
-  pub tells : Tells P came c
+  pub tells : TellsResults P came c
   pub within : (n : ℕ) → length (rows_of P) < n → came n ≡ None
 
 -- Why results are not compared with the terminal of P: the row at this line has a number that no exchange has; or memory.
-abbrev pub IsRefused : Description → Results → CompareFault → Type 0
-IsRefused P results (Beyond line) = (n : ℕ) × (length (rows_of P) < n) × (line_in results n ≡ Some line)
-IsRefused P results Memory = Unit {0}
+abbrev pub AreNotCompared : Description → Results → CompareFault → Type 0
+AreNotCompared P results (Beyond line) = (n : ℕ) × (length (rows_of P) < n) × (line_in results n ≡ Some line)
+AreNotCompared P results Memory = Unit {0}

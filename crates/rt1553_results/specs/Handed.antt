@@ -4,7 +4,7 @@ use Rattle.terminal_rules.specs.Out.{Handing, HandsReceived, HandsSynchronize, H
 use Rattle.terminal_exchanges.specs.Values.{exchange_in}
 use Rattle.rt1553_results.specs.declared.playing.Handed.{Handed}
 use Rattle.rt1553_results.specs.declared.playing.Handed.TheVariants.{Received, Synchronize, SynchronizeWith, SelfTest, BusControl}
-use Rattle.rt1553_results.specs.declared.playing.Row.{Row}
+use Rattle.rt1553_results.specs.declared.playing.TestRow.{TestRow}
 use Rattle.rt1553_results.specs.Rows.{Answered}
 
 abbrev pub handing_in : Handed → Handing
@@ -14,5 +14,5 @@ handing_in (SynchronizeWith word) = HandsSynchronizeWith word
 handing_in SelfTest = HandsSelfTest
 handing_in BusControl = HandsBusControl
 
-abbrev pub row_in : Row → Answered
-row_in row = record { exchange = exchange_in row.exchange; reply = row.reply.items; handed = option_map handing_in row.handed }
+abbrev pub answered_in : TestRow → Answered
+answered_in row = record { exchange = exchange_in row.exchange; reply = row.reply.items; handed = option_map handing_in row.handed }

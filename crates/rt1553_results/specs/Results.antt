@@ -11,7 +11,7 @@ use Rattle.csv.specs.Reading.{AreRecords, default_config, strip_bom}
 use Rattle.csv.specs.Records.{field_at}
 use Rattle.bus_script.specs.Digits.{word_of}
 use Rattle.rt1553_results.specs.declared.results.Results.{Results}
-use Rattle.rt1553_results.specs.declared.results.Entry.{Entry}
+use Rattle.rt1553_results.specs.declared.results.NumberedReply.{NumberedReply}
 use Rattle.rt1553_results.specs.declared.results.Columns.{Columns}
 
 -- a word before others, where all are there
@@ -50,7 +50,7 @@ pub record AreColumns (header : List (List ℕ)) (columns : Columns) : Type 0 wh
   pub reply : IsColumn (codes "reply") header columns.reply
 
 -- what a row says: a number, and the reply to the exchange of this number
-abbrev pub pair_in : Entry → ℕ × List ℕ
+abbrev pub pair_in : NumberedReply → ℕ × List ℕ
 pair_in entry = (entry.number, entry.reply.items)
 
 -- a row, of as many fields as the header, says this number and this reply
@@ -65,10 +65,10 @@ pub record IsRead (columns : Columns) (row : List (List ℕ)) (pair : ℕ × Lis
   pub reply_is : reply_said reply ≡ Some pair.1
 
 -- rows say these, one each, in their order
-unfoldable pub AreRead : Columns → List (List (List ℕ)) → List (ℕ × List ℕ) → Type 0
-AreRead columns [] [] = Unit {0}
-AreRead columns (row ∷ rows) (pair ∷ pairs) = IsRead columns row pair × AreRead columns rows pairs
-AreRead columns _ _ = ⊥
+unfoldable pub AreResultsRead : Columns → List (List (List ℕ)) → List (ℕ × List ℕ) → Type 0
+AreResultsRead columns [] [] = Unit {0}
+AreResultsRead columns (row ∷ rows) (pair ∷ pairs) = IsRead columns row pair × AreResultsRead columns rows pairs
+AreResultsRead columns _ _ = ⊥
 
 -- the reply that results have for an exchange
 abbrev pub answer : Results → ℕ → Option (List ℕ)
@@ -87,6 +87,6 @@ pub record SaysResults (text : List ℕ) (results : Results) : Type 0 where
   pub pairs : List (ℕ × List ℕ)
   pub records : AreRecords default_config StartRecord (strip_bom text) (header ∷ rows)
   pub found : AreColumns header columns
-  pub read : AreRead columns rows pairs
+  pub read : AreResultsRead columns rows pairs
   pub once : IsDistinct nat_eq (map (λ pair. pair.0) pairs)
   pub answers : (n : ℕ) → answer results n ≡ lookup (nat_eq n) pairs

@@ -15,9 +15,9 @@ pub record Answered : Type 0 where
   pub handed : Option Handing
 
 -- the word that an answer sends, if it sends one, and what it hands over
-abbrev pub word_of : Out → List ℕ
-word_of (SendsWord sending) = sending.bits ∷ []
-word_of _ = []
+abbrev pub sent_word : Out → List ℕ
+sent_word (SendsWord sending) = sending.bits ∷ []
+sent_word _ = []
 
 abbrev pub handing_of : Out → Option Handing
 handing_of (HandsOver handing) = Some handing
@@ -26,17 +26,17 @@ handing_of _ = None
 -- the words that some answers send
 unfoldable pub words_sent : List Out → List ℕ
 words_sent [] = []
-words_sent (o ∷ os) = word_of o ++ words_sent os
+words_sent (o ∷ os) = sent_word o ++ words_sent os
 
 -- the first of two that is there
-abbrev pub first_of : Option Handing → Option Handing → Option Handing
-first_of (Some handing) other = Some handing
-first_of None other = other
+abbrev pub first_handing : Option Handing → Option Handing → Option Handing
+first_handing (Some handing) other = Some handing
+first_handing None other = other
 
 -- what some answers hand over: that of the first that does
 unfoldable pub handed_over : List Out → Option Handing
 handed_over [] = None
-handed_over (o ∷ os) = first_of (handing_of o) (handed_over os)
+handed_over (o ∷ os) = first_handing (handing_of o) (handed_over os)
 
 -- what the terminal of P answers to an exchange after a history
 abbrev pub row_at : Description → List Event → Exchange → Answered

@@ -6,7 +6,7 @@ use Rattle.terminal_rules.specs.Same.{Same}
 use Rattle.terminal_complete_test.specs.CompleteTest.{tried}
 use Rattle.rt1553_results.specs.declared.comparison.Comparison.{Comparison}
 use Rattle.rt1553_results.specs.Rows.{Answered, rows_from}
-use Rattle.rt1553_results.specs.Compare.{told, numbers_in, Compares}
+use Rattle.rt1553_results.specs.Compare.{told_reply, numbers_in, Compares}
 
 -- from this number on the results are the replies of these rows
 abbrev pub AreGiven : (ℕ → Option (List ℕ)) → ℕ → List Answered → Type 0
@@ -19,7 +19,7 @@ AreResultsOf P Q came = AreGiven came 1 (rows_from Q [] (tried P))
 
 -- nothing is told of the results, and none is missing
 abbrev pub Passes : Comparison → Type 0
-Passes c = (map told c.differences.items ≡ []) × (numbers_in c.missing.items ≡ [])
+Passes c = (map told_reply c.wrong_replies.items ≡ []) × (numbers_in c.missing.items ≡ [])
 
 -- Results of a unit that is the terminal of some profile, with whatever it replies, pass exactly if that is the terminal with
 -- which they are compared.

@@ -1,12 +1,12 @@
 //! The results of a unit, compared with the acceptance test of a terminal.
 ghost use Rattle.std.specs.Prelude.{◌≡◌, ◌≤◌, ◌++◌, ◌∷◌, [], ◌<◌, ℕ, Some, None, length, map, IfOk, IfErr, IfSome, MatchOption, OnOk};
 ghost use Rattle.bus_legal.specs.Parts.{description_in};
-ghost use Rattle.rt1553_results.specs.Handed.{row_in};
+ghost use Rattle.rt1553_results.specs.Handed.{answered_in};
 ghost use Rattle.rt1553_results.specs.Results.{answer, line_in};
-ghost use Rattle.rt1553_results.specs.Compare.{told, told_of, missing_at, counted, numbers_in, Tells, Compares, IsRefused};
+ghost use Rattle.rt1553_results.specs.Compare.{told_reply, replies_told, missing_at, counted, numbers_in, TellsResults, Compares, AreNotCompared};
 
-use crate::comparison::{Comparison, Difference, Numbers};
-use crate::playing::Row;
+use crate::comparison::{Comparison, NumberRange, WrongReply};
+use crate::playing::TestRow;
 use crate::results::Results;
 use crate::rows::Rows;
 use arrayvec::ArrayVec;
@@ -37,11 +37,11 @@ fn copied(words: &[u16]) -> ArrayVec<u16, 33>
 }
 
 /// Numbers with one number more, if it is the next.
-fn with_next(numbers: Numbers, next: u32) -> Option<Numbers>
+fn with_next(numbers: NumberRange, next: u32) -> Option<NumberRange>
     ensures { IfSome result (λ more. counted more.first more.count ≡ counted numbers.first numbers.count ++ next ∷ []) }
 {
     if numbers.count < next && next - numbers.count == numbers.first {
-        Some(Numbers {
+        Some(NumberRange {
             first: numbers.first,
             count: numbers.count + 1,
         })
@@ -51,10 +51,10 @@ fn with_next(numbers: Numbers, next: u32) -> Option<Numbers>
 }
 
 /// Adds a number to those that are missing.
-fn miss(missing: &mut Vec<Numbers>, number: u32) -> Result<(), AllocError>
+fn miss(missing: &mut Vec<NumberRange>, number: u32) -> Result<(), AllocError>
     ensures { OnOk result (numbers_in missing.new.items ≡ numbers_in missing.old.items ++ number ∷ []) }
 {
-    let alone = Numbers {
+    let alone = NumberRange {
         first: number,
         count: 1,
     };
@@ -75,17 +75,17 @@ fn miss(missing: &mut Vec<Numbers>, number: u32) -> Result<(), AllocError>
 /// Keeps an exchange to which another reply came than that of the terminal.
 fn differ(
     normal: &Normal,
-    row: Row,
+    row: TestRow,
     came: &[u16],
-    differences: &mut Vec<Difference>,
+    wrong: &mut Vec<WrongReply>,
 ) -> Result<(), AllocError>
     requires { length came.now ≤ 33 }
-    ensures { OnOk result (map told differences.new.items ≡ map told differences.old.items ++ told_of (description_in normal.now) row.number (row_in row) (Some came.now)) }
+    ensures { OnOk result (map told_reply wrong.new.items ≡ map told_reply wrong.old.items ++ replies_told (description_in normal.now) row.number (answered_in row) (Some came.now)) }
 {
     if came == row.reply.as_slice() {
         return Ok(());
     }
-    differences.push(Difference {
+    wrong.push(WrongReply {
         number: row.number,
         label: label_of(normal, row.exchange.command),
         expected: row.reply,
@@ -98,28 +98,28 @@ fn differ(
 fn note(
     normal: &Normal,
     results: &Results,
-    row: Row,
+    row: TestRow,
     comparison: &mut Comparison,
 ) -> Result<(), AllocError>
-    ensures differ { OnOk result (map told comparison.new.differences.items ≡ map told comparison.old.differences.items ++ told_of (description_in normal.now) row.number (row_in row) (answer results.now row.number)) }
+    ensures differ { OnOk result (map told_reply comparison.new.wrong_replies.items ≡ map told_reply comparison.old.wrong_replies.items ++ replies_told (description_in normal.now) row.number (answered_in row) (answer results.now row.number)) }
     ensures miss { OnOk result (numbers_in comparison.new.missing.items ≡ numbers_in comparison.old.missing.items ++ missing_at row.number (answer results.now row.number)) }
     ensures total { OnOk result (comparison.new.total ≡ row.number) }
 {
     comparison.total = row.number;
     match results.reply(row.number) {
-        Some(came) => differ(normal, row, came, &mut comparison.differences),
+        Some(came) => differ(normal, row, came, &mut comparison.wrong_replies),
         None => miss(&mut comparison.missing, row.number),
     }
 }
 
 /// Plays the acceptance test of a terminal, and tells to which exchanges another reply came, and which have no result.
 fn tell(alloc: Global, normal: &Normal, results: &Results) -> Result<Comparison, AllocError>
-    ensures { IfOk result (Tells (description_in normal.now) (answer results.now)) }
+    ensures { IfOk result (TellsResults (description_in normal.now) (answer results.now)) }
 {
     let mut rows = Rows::new(normal);
     let mut comparison = Comparison {
         total: 0,
-        differences: Vec::new(alloc),
+        wrong_replies: Vec::new(alloc),
         missing: Vec::new(alloc),
     };
     while let Some(row) = rows.next() {
@@ -140,13 +140,13 @@ fn beyond(results: &Results, total: u32) -> Option<u64>
 
 /// Compares the results of a unit with the acceptance test of a terminal: to which exchanges another reply came, and which
 /// have no result.
-pub fn compare(
+pub fn compare_results(
     alloc: Global,
     normal: &Normal,
     results: &Results,
 ) -> Result<Comparison, CompareFault>
     ensures ok { IfOk result (Compares (description_in normal.now) (answer results.now)) }
-    ensures refused { IfErr result (IsRefused (description_in normal.now) results.now) }
+    ensures refused { IfErr result (AreNotCompared (description_in normal.now) results.now) }
 {
     let Ok(comparison) = tell(alloc, normal, results) else {
         return Err(CompareFault::Memory);

@@ -5,7 +5,7 @@ use arrayvec::{ArrayString, ArrayVec};
 
 /// An exchange to which another reply came than that of the terminal.
 #[derive(Drop)]
-pub struct Difference {
+pub struct WrongReply {
     /// The number of the exchange, from 1.
     pub number: u32,
     /// What it tries.
@@ -18,7 +18,7 @@ pub struct Difference {
 
 /// Numbers of exchanges, one after the other.
 #[derive(Clone, Copy)]
-pub struct Numbers {
+pub struct NumberRange {
     pub first: u32,
     /// How many they are: at least one.
     pub count: u32,
@@ -31,12 +31,12 @@ pub struct Comparison {
     /// How many exchanges the acceptance test has.
     pub total: u32,
     /// Those to which another reply came, in their order.
-    pub differences: Vec<Difference>,
+    pub wrong_replies: Vec<WrongReply>,
     /// Those without a result, in their order.
-    pub missing: Vec<Numbers>,
+    pub missing: Vec<NumberRange>,
 }
 
-impl Numbers {
+impl NumberRange {
     /// The last of them.
     pub(crate) fn last(&self) -> u32 {
         self.first.saturating_add(self.count - 1)
@@ -53,12 +53,12 @@ impl Comparison {
         count
     }
 
-    ghost use Rattle.rt1553_results.specs.Compare.{told, numbers_in};
+    ghost use Rattle.rt1553_results.specs.Compare.{told_reply, numbers_in};
 
     /// Whether each exchange has a result, and that is the reply of the terminal.
     pub fn passes(&self) -> bool
-        ensures { IsTrue result ↔ ((map told self.now.differences.items ≡ []) × (numbers_in self.now.missing.items ≡ [])) }
+        ensures { IsTrue result ↔ ((map told_reply self.now.wrong_replies.items ≡ []) × (numbers_in self.now.missing.items ≡ [])) }
     {
-        self.differences.is_empty() && self.missing.is_empty()
+        self.wrong_replies.is_empty() && self.missing.is_empty()
     }
 }

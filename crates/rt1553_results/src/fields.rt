@@ -9,7 +9,7 @@ use arrayvec::ArrayVec;
 use std::str;
 
 /// The number in a field: decimal digits and nothing else, from 1 on.
-pub fn read_number(field: &[u8]) -> Option<u32>
+pub fn read_exchange_number(field: &[u8]) -> Option<u32>
     ensures { SomeIff result (IsNumber field.now) (digits_value 10 field.now) }
 {
     if field.first() == Some(&b'+') {

@@ -1,5 +1,5 @@
 //! Rows of the acceptance test as JSON.
-use crate::playing::Row;
+use crate::playing::TestRow;
 use crate::texts::{data_words, digits, handed_text};
 use bus_legal::Normal;
 use rt1553_acceptance::label_of;
@@ -9,7 +9,7 @@ use std::str;
 
 /// A row as JSON.
 #[derive(Drop, Serialize)]
-struct Line {
+struct JsonRow {
     number: u32,
     tries: String,
     command: String,
@@ -46,7 +46,7 @@ fn reply_strings(alloc: Global, words: &[u16]) -> Result<Option<Vec<String>>, Al
 }
 
 /// What is handed over, or None for nothing.
-fn handed_string(alloc: Global, row: &Row) -> Result<Option<String>, AllocError> {
+fn handed_string(alloc: Global, row: &TestRow) -> Result<Option<String>, AllocError> {
     if row.handed.is_none() {
         return Ok(None);
     }
@@ -58,9 +58,9 @@ fn handed_string(alloc: Global, row: &Row) -> Result<Option<String>, AllocError>
 }
 
 /// The row as it is written.
-fn line_of(alloc: Global, normal: &Normal, row: &Row) -> Result<Line, AllocError> {
+fn line_of(alloc: Global, normal: &Normal, row: &TestRow) -> Result<JsonRow, AllocError> {
     let label = label_of(normal, row.exchange.command);
-    Ok(Line {
+    Ok(JsonRow {
         number: row.number,
         tries: String::from_str(alloc, label.as_str())?,
         command: word_string(alloc, row.exchange.command)?,
@@ -71,7 +71,7 @@ fn line_of(alloc: Global, normal: &Normal, row: &Row) -> Result<Line, AllocError
 }
 
 /// A row of the table of this terminal as one line of JSON, without a line feed; None where memory runs out.
-pub fn json_row(alloc: Global, normal: &Normal, row: &Row) -> Option<String> {
+pub fn json_row(alloc: Global, normal: &Normal, row: &TestRow) -> Option<String> {
     let line = line_of(alloc, normal, row).ok()?;
     serde_json::to_string(alloc, &line).ok()
 }

@@ -17,10 +17,10 @@ mod texts;
 mod told;
 
 pub use bus_complete_test::Exchange;
-pub use comparing::{CompareFault, compare};
-pub use comparison::{Comparison, Difference, Numbers};
+pub use comparing::{CompareFault, compare_results};
+pub use comparison::{Comparison, NumberRange, WrongReply};
 pub use json::json_row;
-pub use playing::{Handed, Row};
-pub use results::{Given, Place, Results, ResultsFault, read_results};
+pub use playing::{Handed, TestRow};
+pub use results::{GivenReply, Results, ResultsFault, TablePlace, read_results};
 pub use rows::Rows;
 pub use table::{csv_header, csv_row};

@@ -11,8 +11,8 @@ ghost use Rattle.terminal_exchanges.specs.Values.{exchange_in};
 ghost use Rattle.terminal_exchanges.specs.ExchangeLaws.{after_words, before_its_gap, after_slots};
 ghost use Rattle.bus_terminal.specs.Answer.{shown_handing, words_handed};
 ghost use Rattle.bus_terminal.specs.Stands.{StandsAt};
-ghost use Rattle.rt1553_results.specs.Rows.{word_of, words_sent, handing_of, row_at, after_exchange};
-ghost use Rattle.rt1553_results.specs.Handed.{handing_in, row_in};
+ghost use Rattle.rt1553_results.specs.Rows.{sent_word, words_sent, handing_of, row_at, after_exchange};
+ghost use Rattle.rt1553_results.specs.Handed.{handing_in, answered_in};
 
 use arrayvec::ArrayVec;
 use bus_complete_test::Exchange;
@@ -44,7 +44,7 @@ pub enum Handed {
 
 /// An exchange of the acceptance test, and what a terminal answers to it.
 #[derive(Drop)]
-pub struct Row {
+pub struct TestRow {
     /// The number of the exchange, from 1.
     pub number: u32,
     pub exchange: Exchange,
@@ -122,7 +122,7 @@ fn take_gap<L: Legality>(terminal: &mut Terminal<L>) -> Option<Handed>
 fn take_slot<L: Legality>(terminal: &mut Terminal<L>, reply: &mut ArrayVec<u16, 33>)
     requires { array_vec_len reply.old < 33 }
     ensures stands { (P : Description) (h : List Event) → StandsAt L.is_legal P h terminal.old → StandsAt L.is_legal P (SlotEvent ∷ h) terminal.new }
-    ensures sent { (P : Description) (h : List Event) → StandsAt L.is_legal P h terminal.old → reply.new.items ≡ reply.old.items ++ word_of (out P h SlotEvent) }
+    ensures sent { (P : Description) (h : List Event) → StandsAt L.is_legal P h terminal.old → reply.new.items ≡ reply.old.items ++ sent_word (out P h SlotEvent) }
     ensures len { array_vec_len reply.new ≤ array_vec_len reply.old + 1 }
 {
     if let Answer::Sends(sent) = terminal.step(Event::Slot) {
@@ -144,16 +144,20 @@ fn take_slots<L: Legality>(terminal: &mut Terminal<L>, slots: u8) -> ArrayVec<u1
 }
 
 /// Plays an exchange, and keeps what is answered to it.
-pub fn play<L: Legality>(terminal: &mut Terminal<L>, number: u32, exchange: Exchange) -> Row
+pub fn play_exchange<L: Legality>(
+    terminal: &mut Terminal<L>,
+    number: u32,
+    exchange: Exchange,
+) -> TestRow
     requires { exchange.slots ≤ 33 }
     ensures stands { (P : Description) (h : List Event) → StandsAt L.is_legal P h terminal.old → StandsAt L.is_legal P (after_exchange (exchange_in exchange) h) terminal.new }
-    ensures row { (P : Description) (h : List Event) → StandsAt L.is_legal P h terminal.old → row_in result ≡ row_at P h (exchange_in exchange) }
+    ensures row { (P : Description) (h : List Event) → StandsAt L.is_legal P h terminal.old → answered_in result ≡ row_at P h (exchange_in exchange) }
     ensures number { result.number ≡ number }
 {
     take_words(terminal, &exchange);
     let handed = take_gap(terminal);
     let reply = take_slots(terminal, exchange.slots);
-    Row {
+    TestRow {
         number,
         exchange,
         reply,

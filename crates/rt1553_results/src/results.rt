@@ -5,7 +5,7 @@ ghost use Rattle.csv.specs.Reading.{AreRecords, default_config, strip_bom};
 ghost use Rattle.csv.specs.Records.{fields_of, field_at};
 ghost use Rattle.rt1553_results.specs.Results.{IsColumn, AreColumns, pair_in, IsRead, answer, line_in, SaysResults};
 
-use crate::fields::{read_number, read_reply};
+use crate::fields::{read_exchange_number, read_reply};
 use arrayvec::ArrayVec;
 use csv::{ByteRecord, ErrorKind, ReaderBuilder};
 use std::alloc::{AllocError, AllocFailed, Global};
@@ -15,12 +15,12 @@ use thiserror::Error;
 
 /// A place in a table: a line of its text and a field of it, each from 1.
 #[derive(Clone, Copy, Debug, PartialEq, Eq)]
-pub struct Place {
+pub struct TablePlace {
     pub row: u64,
     pub column: u64,
 }
 
-impl fmt::Display for Place {
+impl fmt::Display for TablePlace {
     fn fmt<W: fmt::Write>(&self, f: &mut fmt::Formatter<W>) -> fmt::Result {
         write!(f, "row {}, column {}", self.row, self.column)
     }
@@ -31,25 +31,25 @@ impl fmt::Display for Place {
 pub enum ResultsFault {
     /// There is no header.
     #[error("results: {0}: no header")]
-    NoHeader(Place),
+    NoHeader(TablePlace),
     /// No column of the header has this name: the place is behind the last.
     #[error("results: {0}: no column is named {1}")]
-    NoColumn(Place, &'static str),
+    NoColumn(TablePlace, &'static str),
     /// A second column of the header has this name.
     #[error("results: {0}: a second column is named {1}")]
-    TwoColumns(Place, &'static str),
+    TwoColumns(TablePlace, &'static str),
     /// A row has not as many fields as the header.
     #[error("results: {0}: not as many fields as the header")]
-    Fields(Place),
+    Fields(TablePlace),
     /// The field is no number from 1 to 4,294,967,295 in decimal digits.
     #[error("results: {0}: not the number of an exchange")]
-    Number(Place),
+    Number(TablePlace),
     /// An earlier row has the same number.
     #[error("results: {0}: the number of an earlier row")]
-    Twice(Place),
+    Twice(TablePlace),
     /// The field is no reply.
     #[error("results: {0}: not `none`, or 1 to 33 words of four hexadecimal digits")]
-    Reply(Place),
+    Reply(TablePlace),
     /// The text can't be read as CSV.
     #[error("results: not CSV")]
     NotCsv,
@@ -81,7 +81,7 @@ impl From<csv::Error> for ResultsFault {
 
 /// The reply to an exchange, and the line of the row that says it.
 #[derive(Drop)]
-pub struct Given {
+pub struct GivenReply {
     pub line: u64,
     pub reply: ArrayVec<u16, 33>,
 }
@@ -89,12 +89,12 @@ pub struct Given {
 /// What a unit replied, by the numbers of exchanges.
 #[derive(Drop)]
 pub struct Results {
-    given: BTreeMap<u32, Given>,
+    given: BTreeMap<u32, GivenReply>,
 }
 
 /// What a row says.
 #[derive(Drop)]
-struct Entry {
+struct NumberedReply {
     number: u32,
     line: u64,
     reply: ArrayVec<u16, 33>,
@@ -153,8 +153,8 @@ fn at_record(text: &[u8], from: Cursor, row: &ByteRecord) -> Cursor {
 }
 
 /// A field of a row, by its place from 0.
-fn place_of(line: u64, field: usize) -> Place {
-    Place {
+fn place_of(line: u64, field: usize) -> TablePlace {
+    TablePlace {
         row: line,
         column: (field as u64).saturating_add(1),
     }
@@ -201,7 +201,7 @@ fn columns_of(header: &ByteRecord, line: u64) -> Result<Columns, ResultsFault>
 }
 
 /// What a row says.
-fn read_row(columns: &Columns, row: &ByteRecord, line: u64) -> Result<Entry, ResultsFault>
+fn read_row(columns: &Columns, row: &ByteRecord, line: u64) -> Result<NumberedReply, ResultsFault>
     ensures { IfOk result (λ entry. IsRead columns.now (fields_of row.now) (pair_in entry)) }
 {
     if row.len() != columns.width {
@@ -210,13 +210,13 @@ fn read_row(columns: &Columns, row: &ByteRecord, line: u64) -> Result<Entry, Res
     let (Some(number), Some(reply)) = (row.get(columns.number), row.get(columns.reply)) else {
         return Err(ResultsFault::Fields(place_of(line, row.len())));
     };
-    let Some(number) = read_number(number) else {
+    let Some(number) = read_exchange_number(number) else {
         return Err(ResultsFault::Number(place_of(line, columns.number)));
     };
     let Some(reply) = read_reply(reply) else {
         return Err(ResultsFault::Reply(place_of(line, columns.reply)));
     };
-    Ok(Entry {
+    Ok(NumberedReply {
         number,
         line,
         reply,
@@ -246,11 +246,11 @@ impl Results {
     }
 
     /// Keeps what a row says, if no other row had its number.
-    fn keep(&mut self, columns: &Columns, entry: Entry) -> Result<(), ResultsFault>
+    fn keep(&mut self, columns: &Columns, entry: NumberedReply) -> Result<(), ResultsFault>
         ensures new { OnOk result (answer self.old entry.number ≡ None) }
         ensures kept { OnOk result ((n : ℕ) → answer self.new n ≡ cond (nat_eq entry.number n) (Some entry.reply.items) (answer self.old n)) }
     {
-        let given = Given {
+        let given = GivenReply {
             line: entry.line,
             reply: entry.reply,
         };
@@ -269,7 +269,7 @@ pub fn read_results(alloc: Global, text: &[u8]) -> Result<Results, ResultsFault>
     let records = records(alloc, text)?;
     let rows = records.as_slice();
     if rows.is_empty() {
-        return Err(ResultsFault::NoHeader(Place { row: 1, column: 1 }));
+        return Err(ResultsFault::NoHeader(TablePlace { row: 1, column: 1 }));
     }
     let start = Cursor { at: 0, line: 1 };
     let header = &rows[0];

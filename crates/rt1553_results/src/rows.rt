@@ -3,7 +3,7 @@ ghost use Rattle.std.specs.Prelude.{◌≡◌, ◌<◌, ◌+◌, ◌∷◌, [], 
 ghost use Rattle.bus_legal.specs.Parts.{description_in};
 
 use crate::exchanges::Exchanges;
-use crate::playing::{Row, play};
+use crate::playing::{TestRow, play_exchange};
 use bus_legal::Normal;
 use bus_terminal::Terminal;
 
@@ -16,7 +16,7 @@ pub struct Rows {
 
 impl Rows {
     ghost use Rattle.rt1553_results.specs.Rows.{Answered, rows_of};
-    ghost use Rattle.rt1553_results.specs.Handed.{row_in};
+    ghost use Rattle.rt1553_results.specs.Handed.{answered_in};
     ghost use Rattle.rt1553_results.specs.Left.{rows_left, AreLeft};
 
     /// All rows of the acceptance test of a terminal, which is at power-up.
@@ -30,12 +30,12 @@ impl Rows {
     }
 
     /// The next row, or None after the last.
-    pub fn next(&mut self) -> Option<Row>
-        ensures next { (n : ℕ) (left : List Answered) → AreLeft self.old n left → MatchOption result (left ≡ []) (λ row. (row.number ≡ n) × ((rest : List Answered) × (left ≡ row_in row ∷ rest) × AreLeft self.new (n + 1) rest)) }
+    pub fn next(&mut self) -> Option<TestRow>
+        ensures next { (n : ℕ) (left : List Answered) → AreLeft self.old n left → MatchOption result (left ≡ []) (λ row. (row.number ≡ n) × ((rest : List Answered) × (left ≡ answered_in row ∷ rest) × AreLeft self.new (n + 1) rest)) }
         ensures fewer { OnSome result (rows_left self.new < rows_left self.old) }
     {
         let exchange = self.exchanges.next()?;
         let number = self.exchanges.given();
-        Some(play(&mut self.terminal, number, exchange))
+        Some(play_exchange(&mut self.terminal, number, exchange))
     }
 }

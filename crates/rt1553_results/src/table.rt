@@ -2,10 +2,10 @@
 ghost use Rattle.std.specs.Prelude.{◌≡◌, map, IfOk};
 ghost use Rattle.csv.specs.Writing.{row_text};
 ghost use Rattle.bus_legal.specs.Parts.{description_in};
-ghost use Rattle.rt1553_results.specs.Handed.{row_in};
+ghost use Rattle.rt1553_results.specs.Handed.{answered_in};
 ghost use Rattle.rt1553_results.specs.Table.{table_writer, csv_header, csv_row};
 
-use crate::playing::Row;
+use crate::playing::TestRow;
 use crate::texts::{data_words, digits, handed_text, reply_text, words_text};
 use bus_legal::Normal;
 use csv::{Terminator, WriterBuilder};
@@ -47,8 +47,8 @@ pub fn csv_header(alloc: Global) -> Result<Vec<u8>, AllocError>
 }
 
 /// A row of the table of this terminal, with CR and LF behind it.
-pub fn csv_row(alloc: Global, normal: &Normal, row: &Row) -> Result<Vec<u8>, AllocError>
-    ensures { IfOk result (λ bytes. bytes.items ≡ csv_row (description_in normal.now) row.now.number (row_in row.now)) }
+pub fn csv_row(alloc: Global, normal: &Normal, row: &TestRow) -> Result<Vec<u8>, AllocError>
+    ensures { IfOk result (λ bytes. bytes.items ≡ csv_row (description_in normal.now) row.now.number (answered_in row.now)) }
 {
     let mut number = Buffer::new();
     let label = label_of(normal, row.exchange.command);

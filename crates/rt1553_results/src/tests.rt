@@ -1,5 +1,7 @@
 //! What only calls show: bytes of JSON, texts, and which tables are refused, and where.
-use crate::{Comparison, Row, Rows, compare, csv_header, csv_row, json_row, read_results};
+use crate::{
+    Comparison, Rows, TestRow, compare_results, csv_header, csv_row, json_row, read_results,
+};
 use bus_legal::Normal;
 use rt1553::load;
 use std::alloc::{AllocError, Global};
@@ -18,7 +20,7 @@ counts = \"1-2\"
 /// How many exchanges its acceptance test has.
 const TOTAL: u32 = 3871;
 
-fn row_number(p: &Normal, number: u32) -> Option<Row> {
+fn row_number(p: &Normal, number: u32) -> Option<TestRow> {
     let mut rows = Rows::new(p);
     while let Some(row) = rows.next() {
         if row.number == number {
@@ -92,7 +94,7 @@ fn rows_as_json(rt: HostRuntime) -> Result<(), Fail> {
 fn compared(alloc: Global, text: &[u8]) -> Result<Comparison, Fail> {
     let p = load(alloc, PROFILE)?;
     let results = read_results(alloc, text)?;
-    Ok(compare(alloc, &p, &results)?)
+    Ok(compare_results(alloc, &p, &results)?)
 }
 
 #[test]
@@ -118,7 +120,7 @@ fn others_and_missing_ones(rt: HostRuntime) -> Result<(), Fail> {
     )?;
     assert!(rt; !comparison.passes());
     let mut told = String::new(alloc);
-    for difference in &comparison.differences {
+    for difference in &comparison.wrong_replies {
         writeln!(told, "{difference}")?;
     }
     for numbers in &comparison.missing {
@@ -146,7 +148,7 @@ fn number_beyond_the_last(rt: HostRuntime) -> Result<(), Fail> {
     let alloc = rt.alloc();
     let p = load(alloc, PROFILE)?;
     let results = read_results(alloc, b"number,reply\n3872,none\n1,none\n")?;
-    let Err(fault) = compare(alloc, &p, &results) else {
+    let Err(fault) = compare_results(alloc, &p, &results) else {
         return Err("compared")?;
     };
     assert_eq!(rt;

@@ -1,5 +1,5 @@
 //! What a comparison tells, in words.
-use crate::comparison::{Comparison, Difference, Numbers};
+use crate::comparison::{Comparison, NumberRange, WrongReply};
 use std::fmt;
 
 /// A reply as text: its words, or `none`.
@@ -20,7 +20,7 @@ impl fmt::Display for ReplyText<'_> {
 }
 
 /// As `12: receive 3, 2 words: legal: expected 2800, came none`.
-impl fmt::Display for Difference {
+impl fmt::Display for WrongReply {
     fn fmt<W: fmt::Write>(&self, f: &mut fmt::Formatter<W>) -> fmt::Result {
         write!(
             f,
@@ -34,7 +34,7 @@ impl fmt::Display for Difference {
 }
 
 /// As `no result for 14 to 17`, or `no result for 14`.
-impl fmt::Display for Numbers {
+impl fmt::Display for NumberRange {
     fn fmt<W: fmt::Write>(&self, f: &mut fmt::Formatter<W>) -> fmt::Result {
         write!(f, "no result for {}", self.first)?;
         if self.count > 1 {
@@ -48,8 +48,8 @@ impl fmt::Display for Numbers {
 impl fmt::Display for Comparison {
     fn fmt<W: fmt::Write>(&self, f: &mut fmt::Formatter<W>) -> fmt::Result {
         let total = self.total;
-        if !self.differences.is_empty() {
-            let others = self.differences.len();
+        if !self.wrong_replies.is_empty() {
+            let others = self.wrong_replies.len();
             write!(
                 f,
                 "{others} of {total} exchanges are answered otherwise: it is another terminal"

@@ -4,7 +4,7 @@ use Rattle.bus_word.specs.declared.word.Kind.{Kind}
 use Rattle.bus_word.specs.declared.word.Kind.TheVariants.{Com, Dat}
 use Rattle.bus_word.specs.declared.word.Raw.{Raw}
 use Rattle.bus_word.specs.Word.{bit_of, valid_word}
-use Rattle.bus_word.specs.Command.{Fields, AreInRange, fields_of}
+use Rattle.bus_word.specs.Command.{Fields, AreOfTheirWidth, fields_of}
 use Rattle.rt1553_tool.specs.declared.fields.CommandFields.{CommandFields}
 use Rattle.rt1553_tool.specs.declared.fields.StatusFields.{StatusFields}
 use Rattle.rt1553_tool.specs.declared.fields.WordFields.{WordFields}
@@ -29,7 +29,7 @@ pub record HasStatusFields (bits : ℕ) (f : StatusFields) : Type 0 where
 
 -- each field is of its width
 abbrev pub AreOfWidth : WordFields → Type 0
-AreOfWidth (Command f) = AreInRange (in_word f)
+AreOfWidth (Command f) = AreOfTheirWidth (in_word f)
 AreOfWidth (Status f) = (f.address ≤ 31) × (f.reserved ≤ 7)
 AreOfWidth (Data bits) = Unit {0}
 

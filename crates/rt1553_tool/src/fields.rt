@@ -1,7 +1,7 @@
 //! The fields of the words of a bus (MIL-STD-1553B, 4.3.3.5).
 ghost use Rattle.std.specs.Prelude.{◌≡◌, ◌≤◌, ◌<◌, ◌/◌, ◌%◌};
 ghost use Rattle.bus_word.specs.Word.{bit_of};
-ghost use Rattle.bus_word.specs.Command.{AreInRange, fields_of};
+ghost use Rattle.bus_word.specs.Command.{AreOfTheirWidth, fields_of};
 ghost use Rattle.rt1553_tool.specs.Fields.{in_word, HasStatusFields, AreOfWidth, HasFields, IsWordOf};
 
 use bus_word::{Command, Kind, Raw};
@@ -86,7 +86,7 @@ pub fn command_fields(bits: u16) -> CommandFields
 
 /// The bits of the command word of these fields.
 pub fn command_bits(fields: CommandFields) -> u16
-    requires { AreInRange (in_word fields) }
+    requires { AreOfTheirWidth (in_word fields) }
     ensures { fields_of result ≡ in_word fields }
 {
     u16::from(fields.address) * 2048

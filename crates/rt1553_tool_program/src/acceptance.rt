@@ -5,7 +5,7 @@ use bus_legal::Normal;
 use bus_script::{FromWrite, Sink};
 use rt1553_acceptance::{Progress, write_acceptance};
 use rt1553_results::{
-    Comparison, Results, Rows, compare, csv_header, csv_row, json_row, read_results,
+    Comparison, Results, Rows, compare_results, csv_header, csv_row, json_row, read_results,
 };
 use rt1553_tool_args::TestFormat;
 use std::alloc::Global;
@@ -123,7 +123,7 @@ fn load_results<R: Files + AllocGlobal>(rt: &R, name: &str) -> Result<Results, T
 
 /// Writes what a comparison tells, and the verdict.
 fn put_comparison<W: Write>(comparison: &Comparison, output: &mut W) -> Result<(), ToolFault> {
-    for difference in comparison.differences.as_slice() {
+    for difference in comparison.wrong_replies.as_slice() {
         if writeln!(output, "{difference}").is_err() {
             return Err(ToolFault::Output);
         }
@@ -146,7 +146,7 @@ pub fn against<R: Files + AllocGlobal, W: Write>(
 ) -> Result<u8, ToolFault> {
     let normal = load_profile(rt, profile)?;
     let given = load_results(rt, results)?;
-    let comparison = match compare(rt.alloc(), &normal, &given) {
+    let comparison = match compare_results(rt.alloc(), &normal, &given) {
         Ok(comparison) => comparison,
         Err(fault) => return Err(ToolFault::Comparison(owned(rt, results)?, fault)),
     };

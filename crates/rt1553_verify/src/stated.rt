@@ -1,5 +1,5 @@
 //! Scripts that state their answers.
-ghost use Rattle.std.specs.Prelude.{◌≡◌, ◌≢◌, ◌<◌, ◌&&◌, ◌∷◌, ◌++◌, ℕ, length, map, option_map, slice_index, filter, Ok, Err, IfOk, IfErr, IfSome, IfNone, OnOk};
+ghost use Rattle.std.specs.Prelude.{◌≡◌, ◌≢◌, ◌<◌, ◌&&◌, ◌∷◌, ◌++◌, ℕ, length, map, option_map, filter, Ok, Err, IfOk, IfErr, IfSome, OnOk};
 ghost use Rattle.bus_script.specs.Line.{meaning};
 ghost use Rattle.bus_script.specs.Text.{lines_of};
 ghost use Rattle.bus_script.specs.Reading.{reading, adds, nothing};
@@ -7,7 +7,7 @@ ghost use Rattle.rt1553_verify.specs.Stated.{shown, is_empty, states_answer, can
 ghost use Rattle.rt1553_verify.specs.declared.stated.StatedFault.TheVariants.{Memory};
 ghost use Rattle.rt1553_verify.specs.inner.Says.{Says};
 
-use bus_script::{LineFault, read_event};
+use bus_script::{LineFault, find_line_feed, read_event};
 use bus_terminal::Event;
 use line_format::after;
 use std::alloc::{AllocError, AllocFailed, Global};
@@ -173,21 +173,6 @@ fn read_line(
         return go_on(latest, number, rest);
     }
     read_plain(alloc, read, latest, number, line)
-}
-
-/// Gives where the first line feed stands.
-fn find_line_feed(bytes: &[u8]) -> Option<usize>
-    ensures within { IfSome result (λ i. i < length bytes.now) }
-    ensures found { IfSome result (λ i. slice_index bytes.now i ≡ 10) }
-    ensures first { IfSome result (λ i. (k : ℕ) → k < i → slice_index bytes.now k ≢ 10) }
-    ensures none { IfNone result ((k : ℕ) → k < length bytes.now → slice_index bytes.now k ≢ 10) }
-{
-    for (i, byte) in bytes.iter().enumerate() {
-        if *byte == b'\n' {
-            return Some(i);
-        }
-    }
-    None
 }
 
 /// The first line, without its line feed, and what follows it.

@@ -19,7 +19,7 @@ use Rattle.terminal_rules.specs.declared.event.Flag.{Flag}
 use Rattle.terminal_rules.specs.declared.event.Flag.TheVariants.{Busy}
 use Rattle.terminal_rules.specs.LookBack.{latest, since}
 use Rattle.terminal_rules.specs.History.{Replying, NoTurn, Noted, noted_as, Entry, Ending, Nothing, Badly, Illegal, Blocked, Done}
-use Rattle.terminal_rules.specs.Open.{Open, Closed, First, Waiting, Second, is_on, transfer, open_now}
+use Rattle.terminal_rules.specs.Open.{Open, Idle, Collects, Waits, Resumes, is_on, transfer, open_now}
 use Rattle.terminal_rules.specs.Reply.{words_after_status, begun, begins_reply, reply_after, reply_of, reply_now, reply_bus}
 use Rattle.terminal_rules.specs.Starts.{heard_now, is_free, is_fresh_broadcast, starts_message, is_meant}
 use Rattle.terminal_rules.specs.Flags.{flag_now}
@@ -27,10 +27,10 @@ use Rattle.terminal_rules.specs.Ends.{data_of, with_word, data_words, if_expecte
 use Rattle.terminal_rules.specs.SinceReset.{off_now}
 use Rattle.terminal_rules.specs.Turn.{is_answered, done_cell, unless_ignored_turn, turn_of_gap, turn_of_slot}
 use Rattle.terminal_rules.specs.Past.{note, past}
-use Rattle.terminal_rules.specs.Out.{Out, Silence, hands, handing_over, sends, sending_out, out, outs_from}
+use Rattle.terminal_rules.specs.Out.{Silence, hands, handing_over, out, outs_from}
 use Rattle.terminal_exchanges.specs.Exchanges.{Exchange, command_event, data_event, words_then, slots_then}
-use Rattle.terminal_exchanges.specs.ExchangeLaws.{IsWhole, AreWhole, after_words, after_slots, before_its_gap, history_of, ending_of_exchange, slots_needed, AreAnswered, silent_then, silent_slots}
-use Rattle.terminal_exchanges.proofs.Notes.{word_note, word_notes, command_note, gap_note, slot_note, slot_notes, notes_before_gap, notes_at_gap, exchange_notes, gap_answer, slot_answer, slots_answered, NotedExchangeLaw, NotedUnmeantLaw}
+use Rattle.terminal_exchanges.specs.ExchangeLaws.{IsWhole, AreWhole, after_words, after_slots, before_its_gap, history_of, ending_of_exchange, slots_needed, AreAnswered, silent_then}
+use Rattle.terminal_exchanges.proofs.Notes.{word_note, word_notes, command_note, gap_note, slot_note, slot_notes, notes_before_gap, notes_at_gap, exchange_notes, gap_answer, slot_answer, slots_answered, NotedExchangeLaw}
 use Rattle.terminal_rules.specs.inner.Steps.{replies_on, sent_one, begun_if, dropped_if}
 use Rattle.terminal_rules.proofs.OpenLaw.{word_law, gap_law, slot_law, after_word, after_gap, after_entry, waits, unheard}
 use Rattle.terminal_rules.proofs.ReplyLaw.{no_words, next_of, reply_word_law, reply_gap_law, reply_slot_law}
@@ -41,7 +41,7 @@ is_valid-valid_word k bits = odd_with_parity (ones (low_bits 16 bits))
 
 -- a message that doesn't wait takes data words quietly
 abbrev is_steady : Open → Bool
-is_steady (Waiting c a) = false
+is_steady (Waits c a) = false
 is_steady _ = true
 
 abbrev data_raw : ℕ → Option Raw
@@ -51,16 +51,16 @@ abbrev data_entry : ℕ → Entry
 data_entry d = unheard (data_raw d)
 
 steady_ends : (w : Option Raw) (o : Open) → is_steady o ≡ true → at_entry w o ≡ Nothing
-steady_ends w Closed s = refl
-steady_ends w (First c xs) s = refl
-steady_ends w (Waiting c a) s = cc
-steady_ends w (Second c a xs) s = refl
+steady_ends w Idle s = refl
+steady_ends w (Collects c xs) s = refl
+steady_ends w (Waits c a) s = cc
+steady_ends w (Resumes c xs) s = refl
 
 steady_stays : (x : Entry) (o : Open) → is_steady o ≡ true → is_steady (after_entry x o) ≡ true
-steady_stays x Closed s = refl
-steady_stays x (First c xs) s = refl
-steady_stays x (Waiting c a) s = cc
-steady_stays x (Second c a xs) s = refl
+steady_stays x Idle s = refl
+steady_stays x (Collects c xs) s = refl
+steady_stays x (Waits c a) s = cc
+steady_stays x (Resumes c xs) s = refl
 
 abbrev with_data : List ℕ → Open → Open
 with_data [] o = o
@@ -107,11 +107,11 @@ abbrev data_entries : List ℕ → List Entry → List Entry
 data_entries [] xs = xs
 data_entries (d ∷ ds) xs = data_entries ds (data_entry d ∷ xs)
 
-with_data-first : (ds : List ℕ) (c : ℕ) (xs : List Entry) → with_data ds (First c xs) ≡ First c (data_entries ds xs)
+with_data-first : (ds : List ℕ) (c : ℕ) (xs : List Entry) → with_data ds (Collects c xs) ≡ Collects c (data_entries ds xs)
 with_data-first [] c xs = refl
 with_data-first (d ∷ ds) c xs = with_data-first ds c (data_entry d ∷ xs)
 
-with_data-closed : (ds : List ℕ) → with_data ds Closed ≡ Closed
+with_data-closed : (ds : List ℕ) → with_data ds Idle ≡ Idle
 with_data-closed [] = refl
 with_data-closed (d ∷ ds) = with_data-closed ds
 
@@ -139,12 +139,12 @@ transfer-data P c (d ∷ e ∷ ds) = transfer-longer P c ds (data_entry e) (data
 
 -- nothing is in progress on bus A, its run is empty, no reply is in progress, and the terminal isn't busy
 pub record IsIdle (P : Description) (h : List Noted) : Type 0 where
-  pub closed : open_now P h A ≡ Closed
+  pub closed : open_now P h A ≡ Idle
   pub unused : heard_now P h A ≡ false
   pub silent : (let none : Option Replying = None in reply_now h ≡ none)
   pub ready : flag_now h Busy ≡ false
 
-starts_law : (P : Description) (c : ℕ) (h : List Noted) → open_now P h A ≡ Closed → heard_now P h A ≡ false →
+starts_law : (P : Description) (c : ℕ) (h : List Noted) → open_now P h A ≡ Idle → heard_now P h A ≡ false →
     starts_message P (valid_word Com c) (heard_now P h A) (is_free (open_now P h A)) (is_fresh_broadcast (open_now P h A)) ≡ is_meant P c
 starts_law P c h o n = rw (n, o, is_valid-valid_word Com c) (and-true (is_meant P c))
 
@@ -152,7 +152,7 @@ quiet_on : (P : Description) (h : List Noted) → IsIdle P h → replies_on h A 
 quiet_on P h i = ap (λ r. is_on A (reply_bus r)) i.silent
 
 abbrev first_if : Bool → ℕ → Open
-first_if m c = if m then First c [] else Closed
+first_if m c = if m then Collects c [] else Idle
 
 command_is : (P : Description) (c : ℕ) (h : List Noted) → IsIdle P h → note P h (command_event c) ≡ command_note P c
 command_is P c h i =
@@ -167,7 +167,7 @@ command_open : (P : Description) (c : ℕ) (h : List Noted) → IsIdle P h → o
 command_open P c h i =
     word_law P h A A (valid_word Com c) (is_meant P c) Nothing
     ∙ (ap (after_word A A (valid_word Com c) (is_meant P c)) i.closed
-    ∙ elim (is_meant P c) as (λ m. after_word A A (valid_word Com c) m Closed ≡ first_if m c) [ true ↦ refl | false ↦ refl ])
+    ∙ elim (is_meant P c) as (λ m. after_word A A (valid_word Com c) m Idle ≡ first_if m c) [ true ↦ refl | false ↦ refl ])
 
 dropped_none : (s : Bool) → (let none : Option Replying = None in dropped_if s none ≡ none)
 dropped_none true = refl
@@ -181,7 +181,7 @@ steady_first true c = refl
 steady_first false c = refl
 
 abbrev collected : Bool → Exchange → Open
-collected m x = if m then First x.command (data_entries x.words []) else Closed
+collected m x = if m then Collects x.command (data_entries x.words []) else Idle
 
 collected-if : (m : Bool) (x : Exchange) → with_data x.words (first_if m x.command) ≡ collected m x
 collected-if true x = with_data-first x.words x.command []
@@ -208,10 +208,6 @@ before_replies P x h i = words_replies x.words (command_note P x.command ∷ h) 
 pub words_flag : (f : Flag) (ds : List ℕ) (h : List Noted) → flag_now (word_notes ds h) f ≡ flag_now h f
 words_flag f [] h = refl
 words_flag f (d ∷ ds) h = words_flag f ds (word_note d ∷ h)
-
--- and slots neither
-pub slot_flag : (f : Flag) (r : Option Replying) (h : List Noted) → flag_now (noted_as Slot (turn_of_slot r) false Nothing ∷ h) f ≡ flag_now h f
-slot_flag f r h = refl
 
 pub slots_flag : (f : Flag) (n : ℕ) (h : List Noted) → flag_now (slot_notes n h) f ≡ flag_now h f
 slots_flag f zero h = refl
@@ -245,7 +241,7 @@ slots_past : (P : Description) (n : ℕ) (h : List Event) → past P (after_slot
 slots_past P zero h = refl
 slots_past P (suc n) h = slots_past P n (Slot ∷ h)
 
-after_gap-collected : (P : Description) (x : Exchange) (m : Bool) → after_gap P (collected m x) ≡ Closed
+after_gap-collected : (P : Description) (x : Exchange) (m : Bool) → after_gap P (collected m x) ≡ Idle
 after_gap-collected P x true = ap waits (transfer-data P x.command x.words)
 after_gap-collected P x false = refl
 
@@ -399,22 +395,5 @@ exchange_law P xs x es (w, ws) a =
     ((λ j. answer_law P xs x (w, ws) a j ∷ slots_law P x.slots (Gap A ∷ h) es j)
     ∙ ap (λ n. gap_answer P x ∷ slots_answered P x.slots n (outs_from P (history_of (x ∷ xs)) es)) k))
 
--- where no reply is in progress, slots are silent
-quiet_slots : (P : Description) (n : ℕ) (h : List Noted) (os : List Out) → (let none : Option Replying = None in reply_now h ≡ none) → slots_answered P n h os ≡ silent_slots n os
-quiet_slots P zero h os e = refl
-quiet_slots P (suc n) h os e =
-    ap (λ r. sending_out (sends P h r) ∷ slots_answered P n (slot_note h ∷ h) os) e
-    ∙ ap (λ os. Silence ∷ os) (quiet_slots P n (slot_note h ∷ h) os (reply_slot_law h (reply_now h) Nothing ∙ ap sent_one e))
-
 pub unmeant_end : (P : Description) (x : Exchange) → is_meant P x.command ≡ false → ending_of_exchange P x ≡ Nothing
 unmeant_end P x e = ap (λ m. if m then well P false x.command x.words else Nothing) e
-
-pub unmeant_exchange_law : NotedUnmeantLaw
-unmeant_exchange_law P xs x os a e =
-    let h : List Noted = exchange_notes P xs in
-    let k : List Noted = notes_before_gap P x h in (
-      ap (λ y. handing_over (hands P y)) (unmeant_end P x e),
-      quiet_slots P x.slots (notes_at_gap P x h) os
-          (at_gap_reply P x h (idle_law P xs a)
-          ∙ ap (λ y. let none : Option Replying = None in begun_if (is_answered (off_now k A) y) A (done_cell y) none) (unmeant_end P x e)),
-    )

@@ -1,7 +1,7 @@
 -- Scripts that tell two terminals apart: one for each kind of difference between what can be reached of them.
 use Rattle.std.specs.Prelude.{ℕ, zero, suc, ◌+◌, ◌-◌, ◌%◌, ◌≤◌, ◌≢◌, Bool, ◌==◌, if◌then◌else◌, List, [], ◌∷◌, length, replicate}
 use Rattle.bus_word.specs.declared.cell.Cell.TheVariants.{OwnReceive, BroadReceive}
-use Rattle.bus_word.specs.Command.{word_of}
+use Rattle.bus_word.specs.Command.{command_bits}
 use Rattle.bus_word.specs.Mode as mode
 use Rattle.bus_legal.specs.Description.{Description}
 use Rattle.bus_legal.specs.Reach.{any_to, any_count, largest_count, transmits_at}
@@ -30,7 +30,7 @@ abbrev pub all_terminals : ℕ
 all_terminals = 31
 
 abbrev pub command_of : ℕ → ℕ → ℕ → ℕ → ℕ
-command_of address tr subaddress low = word_of (record { address = address; tr = tr; subaddress = subaddress; low = low })
+command_of address tr subaddress low = command_bits (record { address = address; tr = tr; subaddress = subaddress; low = low })
 
 -- A command to the own address is answered in slots, and one to all terminals isn't.
 abbrev pub slots_for : ℕ → ℕ → ℕ

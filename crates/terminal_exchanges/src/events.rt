@@ -16,7 +16,7 @@ use terminal_rules::Event;
 pub type Script = ArrayVec<Event, 80>;
 
 /// Adds a valid word.
-fn push_word(script: &mut Script, kind: Kind, bits: u16)
+fn push_valid_word(script: &mut Script, kind: Kind, bits: u16)
     requires { array_vec_len script.old < 80 }
     ensures items { script.new.items ≡ script.old.items ++ Word A (valid_word kind bits) ∷ [] }
     ensures len { array_vec_len script.new ≡ array_vec_len script.old + 1 }
@@ -31,9 +31,9 @@ fn push_data(script: &mut Script, first: Option<u16>, zeros: u8)
     ensures len { array_vec_len script.new ≤ array_vec_len script.old + 1 + zeros }
 {
     if let Some(word) = first {
-        push_word(script, Kind::Dat, word);
+        push_valid_word(script, Kind::Dat, word);
         for _zero in 0..zeros {
-            push_word(script, Kind::Dat, 0);
+            push_valid_word(script, Kind::Dat, 0);
         }
     }
 }
@@ -55,7 +55,7 @@ pub fn push_exchange(script: &mut Script, exchange: Exchange)
     ensures items { script.new.items ≡ script.old.items ++ exchange_then (exchange_in exchange) [] }
     ensures len { array_vec_len script.new ≤ array_vec_len script.old + exchange.zeros + exchange.slots + 3 }
 {
-    push_word(script, Kind::Com, exchange.command);
+    push_valid_word(script, Kind::Com, exchange.command);
     push_data(script, exchange.first, exchange.zeros);
     script.push(Event::Gap(Bus::A));
     push_slots(script, exchange.slots);

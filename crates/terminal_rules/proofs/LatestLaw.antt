@@ -10,7 +10,7 @@ use Rattle.terminal_rules.specs.declared.event.Event.TheVariants.{Word, Noise, G
 use Rattle.terminal_rules.specs.Buses.{same_bus}
 use Rattle.terminal_rules.specs.LookBack.{latest}
 use Rattle.terminal_rules.specs.History.{Noted, Entry, run, of_word}
-use Rattle.terminal_rules.specs.Open.{Open, Closed, First, Waiting, Second, transfer, is_status_of, transmitter, is_on, is_latest, start_bus, first_of, awaited_of, open_of, open_now, before_gap}
+use Rattle.terminal_rules.specs.Open.{Open, Idle, Collects, Waits, Resumes, transfer, is_status_of, transmitter, is_on, is_latest, start_bus, first_message, awaited_of, open_of, open_now, before_gap}
 use Rattle.terminal_rules.specs.Reply.{reply_now, ignores}
 use Rattle.terminal_rules.specs.Starts.{heard_now, is_free, is_fresh_broadcast, starts_message, starts_now}
 use Rattle.terminal_rules.specs.Past.{past}
@@ -21,21 +21,18 @@ use Rattle.terminal_rules.proofs.OpenLaw.{open_law, after_word, after_gap, after
 abbrev Stays : Open → Open → Type 0
 Stays o o' = (c : ℕ) → command_open o ≡ Some c → command_open o' ≡ Some c
 
-closed_stays : (o : Open) → Stays Closed o
-closed_stays o c e = cc
-
 entry_stays : (x : Entry) (o : Open) → Stays (after_entry x o) o
-entry_stays x Closed c e = e
-entry_stays x (First d after) c e = e
-entry_stays x (Waiting d a) c e = by_test (is_status_of a x) e
+entry_stays x Idle c e = e
+entry_stays x (Collects d after) c e = e
+entry_stays x (Waits d a) c e = by_test (is_status_of a x) e
   where
-    by_test : (s : Bool) → command_open (if s then Second d a [] else Closed) ≡ Some c → Some d ≡ Some c
+    by_test : (s : Bool) → command_open (if s then Resumes d [] else Idle) ≡ Some c → Some d ≡ Some c
     by_test true e = e
     by_test false e = cc
-entry_stays x (Second d a after) c e = e
+entry_stays x (Resumes d after) c e = e
 
 -- a transfer has the command of its message
-transfer_stays : (P : Description) (d : ℕ) (after : List Entry) → Stays (waits (transfer P (Some (d, after)))) (First d after)
+transfer_stays : (P : Description) (d : ℕ) (after : List Entry) → Stays (waits (transfer P (Some (d, after)))) (Collects d after)
 transfer_stays P d [] c e = cc
 transfer_stays P d (x ∷ []) c e = by_tests (is_receive d) (transmitter P x) e
   where
@@ -46,10 +43,10 @@ transfer_stays P d (x ∷ []) c e = by_tests (is_receive d) (transmitter P x) e
 transfer_stays P d (x ∷ y ∷ ys) c e = cc
 
 gap_stays : (P : Description) (o : Open) → Stays (after_gap P o) o
-gap_stays P Closed c e = e
-gap_stays P (First d after) c e = transfer_stays P d after c e
-gap_stays P (Waiting d a) c e = cc
-gap_stays P (Second d a after) c e = cc
+gap_stays P Idle c e = e
+gap_stays P (Collects d after) c e = transfer_stays P d after c e
+gap_stays P (Waits d a) c e = cc
+gap_stays P (Resumes d after) c e = cc
 
 choice_stays : (x : Bool) (o o' : Open) → Stays o o' → Stays (if x then o else o') o'
 choice_stays true o o' k = k
@@ -131,8 +128,8 @@ latest_start_law P (e ∷ h) b c i =
     (latest_start_law P h b)
 
 -- both buses at once
-closed_unless_latest : (P : Description) (h : List Noted) (b : Bus) → is_latest h b ≡ false → open_now P h b ≡ Closed
-closed_unless_latest P h b e = ap (λ l. open_of (run h b) (first_of l (run h b)) (awaited_of P b l (before_gap h b))) e
+closed_unless_latest : (P : Description) (h : List Noted) (b : Bus) → is_latest h b ≡ false → open_now P h b ≡ Idle
+closed_unless_latest P h b e = ap (λ l. open_of (run h b) (first_message l (run h b)) (awaited_of P b l (before_gap h b))) e
 
 one_latest : (o : Option Bus) → (is_on A o ≡ false) ⊎ (is_on B o ≡ false)
 one_latest None = inl refl

@@ -9,4 +9,3 @@ pub mod ResetCases
 pub mod CellLaw
 pub mod LatestLaw
 pub mod Reach
-pub mod RandomRows

@@ -16,31 +16,31 @@ use Rattle.terminal_rules.specs.SinceReset.{off_now}
 use Rattle.terminal_rules.specs.Turn.{is_answered, done_cell, turn_of_gap, turn_of_slot, unless_ignored_turn}
 use Rattle.terminal_rules.specs.Past.{note}
 use Rattle.terminal_rules.specs.History.{Replying, NoTurn, Noted, noted_as, Entry, Ending, Nothing, run}
-use Rattle.terminal_rules.specs.Open.{Open, Closed, First, Waiting, Second, transfer, is_status_of, first_of, awaited_of, open_of, open_now, waiting_or_second, started_by, is_latest, before_gap}
+use Rattle.terminal_rules.specs.Open.{Open, Idle, Collects, Waits, Resumes, transfer, is_status_of, first_message, awaited_of, open_of, open_now, waits_or_resumes, started_by, is_latest, before_gap}
 use Rattle.terminal_rules.specs.inner.Steps.{replies_on}
 
 -- what a gap leaves of a message in progress
 abbrev pub waits : Option (ℕ × ℕ) → Open
-waits None = Closed
-waits (Some t) = Waiting t.0 t.1
+waits None = Idle
+waits (Some t) = Waits t.0 t.1
 
 abbrev pub after_gap : Description → Open → Open
-after_gap P (First c after) = waits (transfer P (Some (c, after)))
-after_gap P _ = Closed
+after_gap P (Collects c after) = waits (transfer P (Some (c, after)))
+after_gap P _ = Idle
 
 -- what a word or noise leaves of it that starts nothing
 abbrev pub unheard : Option Raw → Entry
 unheard w = record { word = w; starts = false }
 
 abbrev pub after_entry : Entry → Open → Open
-after_entry x (First c after) = First c (x ∷ after)
-after_entry x (Waiting c a) = if is_status_of a x then Second c a [] else Closed
-after_entry x (Second c a after) = Second c a (x ∷ after)
-after_entry x Closed = Closed
+after_entry x (Collects c after) = Collects c (x ∷ after)
+after_entry x (Waits c a) = if is_status_of a x then Resumes c [] else Idle
+after_entry x (Resumes c after) = Resumes c (x ∷ after)
+after_entry x Idle = Idle
 
 -- what a word leaves, by whether it starts a message
 abbrev pub after_word : Bus → Bus → Raw → Bool → Open → Open
-after_word b c w true o = if same_bus b c then First w.bits [] else Closed
+after_word b c w true o = if same_bus b c then Collects w.bits [] else Idle
 after_word b c w false o = if same_bus b c then after_entry (unheard (Some w)) o else o
 
 abbrev pub after_event : Description → Bus → Event → Bool → Open → Open
@@ -49,10 +49,10 @@ after_event P b (Noise c) starts o = if same_bus b c then after_entry (unheard N
 after_event P b (Gap c) starts o = if same_bus b c then after_gap P o else o
 after_event P b e starts o = o
 
-closes : (P : Description) (c a : ℕ) (x : Option (Entry × List Entry)) → Closed ≡ after_gap P (waiting_or_second c a x)
+closes : (P : Description) (c a : ℕ) (x : Option (Entry × List Entry)) → Idle ≡ after_gap P (waits_or_resumes c a x)
 closes P c a None = refl
 closes P c a (Some p) =
-    elim (is_status_of a p.0) as (λ s. Closed ≡ after_gap P (if s then Second c a p.1 else Closed)) [ true ↦ refl | false ↦ refl ]
+    elim (is_status_of a p.0) as (λ s. Idle ≡ after_gap P (if s then Resumes c p.1 else Idle)) [ true ↦ refl | false ↦ refl ]
 
 gap_of : (P : Description) (r : List Entry) (f : Option (ℕ × List Entry)) (t : Option (ℕ × ℕ)) → open_of [] None (transfer P f) ≡ after_gap P (open_of r f t)
 gap_of P r None None = refl
@@ -60,23 +60,23 @@ gap_of P r None (Some t) = closes P t.0 t.1 (oldest r)
 gap_of P r (Some f) t = elim (transfer P (Some f)) as (λ u. open_of [] None u ≡ waits u) [ None ↦ refl | Some u ↦ refl ]
 
 run_law : (P : Description) (l : Bool) (r : List Entry) (t : Option (ℕ × ℕ)) →
-    open_of [] (first_of l []) (if l then transfer P (first_of l r) else None) ≡ after_gap P (open_of r (first_of l r) t)
+    open_of [] (first_message l []) (if l then transfer P (first_message l r) else None) ≡ after_gap P (open_of r (first_message l r) t)
 run_law P false r t = gap_of P r None t
-run_law P true r t = gap_of P r (first_of true r) t
+run_law P true r t = gap_of P r (first_message true r) t
 
 second_law : (x : Entry) (c a : ℕ) (o : Option (Entry × List Entry)) (r : List Entry) → oldest r ≡ o →
-    waiting_or_second c a (oldest (x ∷ r)) ≡ after_entry x (waiting_or_second c a o)
-second_law x c a None r e = ap (λ o. waiting_or_second c a (elim o [ None ↦ Some (x, []) | Some p ↦ Some (p.0, x ∷ p.1) ])) e
+    waits_or_resumes c a (oldest (x ∷ r)) ≡ after_entry x (waits_or_resumes c a o)
+second_law x c a None r e = ap (λ o. waits_or_resumes c a (elim o [ None ↦ Some (x, []) | Some p ↦ Some (p.0, x ∷ p.1) ])) e
 second_law x c a (Some p) r e =
-    ap (λ o. waiting_or_second c a (elim o [ None ↦ Some (x, []) | Some p ↦ Some (p.0, x ∷ p.1) ])) e
-    ∙ elim (is_status_of a p.0) as (λ s. (if s then Second c a (x ∷ p.1) else Closed) ≡ after_entry x (if s then Second c a p.1 else Closed)) [ true ↦ refl | false ↦ refl ]
+    ap (λ o. waits_or_resumes c a (elim o [ None ↦ Some (x, []) | Some p ↦ Some (p.0, x ∷ p.1) ])) e
+    ∙ elim (is_status_of a p.0) as (λ s. (if s then Resumes c (x ∷ p.1) else Idle) ≡ after_entry x (if s then Resumes c p.1 else Idle)) [ true ↦ refl | false ↦ refl ]
 
 unheard_law : (w : Option Raw) (r : List Entry) (t : Option (ℕ × ℕ)) → open_of (unheard w ∷ r) None t ≡ after_entry (unheard w) (open_of r None t)
 unheard_law w r None = refl
 unheard_law w r (Some t) = second_law (unheard w) t.0 t.1 (oldest r) r refl
 
 entry_law : (w : Option Raw) (l : Bool) (r : List Entry) (t : Option (ℕ × ℕ)) →
-    open_of (unheard w ∷ r) (first_of l (unheard w ∷ r)) t ≡ after_entry (unheard w) (open_of r (first_of l r) t)
+    open_of (unheard w ∷ r) (first_message l (unheard w ∷ r)) t ≡ after_entry (unheard w) (open_of r (first_message l r) t)
 entry_law w false r t = unheard_law w r t
 entry_law w true r t =
     let x : Entry = unheard w in

@@ -12,7 +12,7 @@ use Rattle.bus_legal.specs.Description.{Description}
 use Rattle.terminal_rules.specs.declared.event.Event.TheVariants.{Word, Noise, Gap, Write, Vector, Bit, Flag as FlagIs, Slot}
 use Rattle.terminal_rules.specs.declared.event.Flag.TheVariants.{Busy}
 use Rattle.terminal_rules.specs.History.{Replying, NoTurn, Ending, Nothing, Badly, Illegal, Blocked, Done}
-use Rattle.terminal_rules.specs.Open.{Open, Closed, First, Waiting, Second, open_now, transfer, status_at}
+use Rattle.terminal_rules.specs.Open.{Open, Idle, Collects, Waits, Resumes, open_now, transfer, status_at}
 use Rattle.terminal_rules.specs.Reply.{reply_now}
 use Rattle.terminal_rules.specs.Flags.{flag_now}
 use Rattle.terminal_rules.specs.Ends.{complete, is_blocked_by_busy, verdict, ends_with, at_gap, at_entry, unless_ignored}
@@ -85,10 +85,10 @@ with_own P busy c None (Some t) = tt
 with_own P busy c None None = tt
 
 gap_own : (P : Description) (busy : Bool) (o : Open) → OwnIsNoBroadcast (at_gap P busy o)
-gap_own P busy Closed = tt
-gap_own P busy (First c after) = with_own P busy c (complete c after) (transfer P (Some (c, after)))
-gap_own P busy (Waiting c a) = tt
-gap_own P busy (Second c a after) = with_own P busy c (complete c after) None
+gap_own P busy Idle = tt
+gap_own P busy (Collects c after) = with_own P busy c (complete c after) (transfer P (Some (c, after)))
+gap_own P busy (Waits c a) = tt
+gap_own P busy (Resumes c after) = with_own P busy c (complete c after) None
 
 -- at a gap that isn't ignored no reply to an own reset begins just where the transmitter is shut down
 silent_gap : (b : Bus) (off : Bool) (x : Ending) → OwnIsNoBroadcast x →
@@ -125,10 +125,10 @@ EntryCase i x = resets (unless_ignored_turn i NoTurn) (unless_ignored i x) ≡ (
 
 entry_case : (w : Option Raw) (i : Bool) (o : Open) → EntryCase i (at_entry w o)
 entry_case w true o = refl
-entry_case w false Closed = refl
-entry_case w false (First c after) = refl
-entry_case w false (Waiting c a) = elim (status_at a w) as (λ s. EntryCase false (if s then Nothing else Badly c)) [ true ↦ refl | false ↦ refl ]
-entry_case w false (Second c a after) = refl
+entry_case w false Idle = refl
+entry_case w false (Collects c after) = refl
+entry_case w false (Waits c a) = elim (status_at a w) as (λ s. EntryCase false (if s then Nothing else Badly c)) [ true ↦ refl | false ↦ refl ]
+entry_case w false (Resumes c after) = refl
 
 pub reset_law : ResetLaw
 reset_law P h (Gap b) = gap_case b (replies_on (past P h) b) (off_now (past P h) b) (at_gap P (flag_now (past P h) Busy) (open_now P (past P h) b)) (gap_own P (flag_now (past P h) Busy) (open_now P (past P h) b))

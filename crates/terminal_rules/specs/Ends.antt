@@ -12,7 +12,7 @@ use Rattle.terminal_rules.specs.declared.event.Event.{Event}
 use Rattle.terminal_rules.specs.declared.event.Event.TheVariants.{Word, Noise, Gap}
 use Rattle.terminal_rules.specs.declared.event.Flag.TheVariants.{Busy}
 use Rattle.terminal_rules.specs.History.{Noted, Entry, Ending, Nothing, Badly, Illegal, Blocked, Done}
-use Rattle.terminal_rules.specs.Open.{Open, Closed, First, Waiting, Second, open_now, transfer, status_at}
+use Rattle.terminal_rules.specs.Open.{Open, Idle, Collects, Waits, Resumes, open_now, transfer, status_at}
 use Rattle.terminal_rules.specs.Flags.{flag_now}
 use Rattle.terminal_rules.specs.Reply.{reply_now, ignores}
 
@@ -66,14 +66,14 @@ ends_with P busy c None None = Badly c
 
 -- what a gap ends; while a transfer waits, it is the time-out (4.3.3.9; Notice 2, 30.9)
 abbrev pub at_gap : Description → Bool → Open → Ending
-at_gap P busy Closed = Nothing
-at_gap P busy (First c after) = ends_with P busy c (complete c after) (transfer P (Some (c, after)))
-at_gap P busy (Waiting c a) = Badly c
-at_gap P busy (Second c a after) = ends_with P busy c (complete c after) None
+at_gap P busy Idle = Nothing
+at_gap P busy (Collects c after) = ends_with P busy c (complete c after) (transfer P (Some (c, after)))
+at_gap P busy (Waits c a) = Badly c
+at_gap P busy (Resumes c after) = ends_with P busy c (complete c after) None
 
 -- what a word or noise ends: a transfer that waits for another word
 abbrev pub at_entry : Option Raw → Open → Ending
-at_entry w (Waiting c a) = if status_at a w then Nothing else Badly c
+at_entry w (Waits c a) = if status_at a w then Nothing else Badly c
 at_entry w _ = Nothing
 
 -- how an event that is heard ends the message in progress on its bus, after a noted history

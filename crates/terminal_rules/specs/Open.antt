@@ -9,14 +9,18 @@ use Rattle.terminal_rules.specs.Buses.{same_bus}
 use Rattle.terminal_rules.specs.LookBack.{latest, since, before, oldest}
 use Rattle.terminal_rules.specs.History.{Noted, Entry, of_start, ends_run, run}
 
--- what is in progress: no message; a message in the run of its command, with what followed the command; a
--- receive command that waits for the status word of an address; such a message after that status word, with
--- what followed the status
-pub data Open : Type 0 where
-  Closed : Open
-  First : (command : ℕ) → (after : List Entry) → Open
-  Waiting : (command : ℕ) → (address : ℕ) → Open
-  Second : (command : ℕ) → (address : ℕ) → (after : List Entry) → Open
+-- The state of a message, by what is known of what followed: no message; a message in the run of its command, with what followed
+-- the command; a receive command that waits for the status word of an address; such a message after that status word, with what
+-- followed the status.
+pub data MessageState (Followed : Type 0) : Type 0 where
+  Idle : MessageState Followed
+  Collects : (command : ℕ) → (after : Followed) → MessageState Followed
+  Waits : (command : ℕ) → (address : ℕ) → MessageState Followed
+  Resumes : (command : ℕ) → (after : Followed) → MessageState Followed
+
+-- the message in progress, with all that followed
+abbrev pub Open : Type 0
+Open = MessageState (List Entry)
 
 -- the bus of a start
 abbrev pub start_bus : Noted → Option Bus
@@ -40,12 +44,12 @@ abbrev pub started_by : Entry → Option ℕ
 started_by x = if x.starts then bits_of x.word else None
 
 -- the latest start of a run, with what followed it
-abbrev pub first_of : Bool → List Entry → Option (ℕ × List Entry)
-first_of is_latest r =
+abbrev pub first_message : Bool → List Entry → Option (ℕ × List Entry)
+first_message is_latest r =
     if is_latest then (elim (latest started_by r) [ None ↦ None | Some c ↦ Some (c, since (λ x. x.starts) r) ]) else None
 
 abbrev pub first_open : List Noted → Bus → Option (ℕ × List Entry)
-first_open h b = first_of (is_latest h b) (run h b)
+first_open h b = first_message (is_latest h b) (run h b)
 
 -- the address of a valid command word that has another terminal transmit
 abbrev pub transmitter_at : ℕ → Option Raw → Option ℕ
@@ -84,14 +88,14 @@ abbrev pub is_status_of : ℕ → Entry → Bool
 is_status_of a x = status_at a x.word
 
 -- a transfer waits while its run is empty; where the run begins with the awaited status, the message goes on
-abbrev pub waiting_or_second : ℕ → ℕ → Option (Entry × List Entry) → Open
-waiting_or_second c a None = Waiting c a
-waiting_or_second c a (Some (x, after)) = if is_status_of a x then Second c a after else Closed
+abbrev pub waits_or_resumes : ℕ → ℕ → Option (Entry × List Entry) → Open
+waits_or_resumes c a None = Waits c a
+waits_or_resumes c a (Some (x, after)) = if is_status_of a x then Resumes c after else Idle
 
 abbrev pub open_of : List Entry → Option (ℕ × List Entry) → Option (ℕ × ℕ) → Open
-open_of r (Some f) t = First f.0 f.1
-open_of r None None = Closed
-open_of r None (Some t) = waiting_or_second t.0 t.1 (oldest r)
+open_of r (Some f) t = Collects f.0 f.1
+open_of r None None = Idle
+open_of r None (Some t) = waits_or_resumes t.0 t.1 (oldest r)
 
 -- the message in progress on a bus: that of its latest start, unless the other bus has had a start since
 abbrev pub open_now : Description → List Noted → Bus → Open

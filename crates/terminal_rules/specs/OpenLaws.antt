@@ -6,7 +6,7 @@ use Rattle.bus_legal.specs.Description.{Description}
 use Rattle.terminal_rules.specs.declared.event.Event.{Event}
 use Rattle.terminal_rules.specs.LookBack.{latest}
 use Rattle.terminal_rules.specs.History.{Noted, of_start}
-use Rattle.terminal_rules.specs.Open.{Open, Closed, First, Waiting, Second}
+use Rattle.terminal_rules.specs.Open.{Open, Idle, Collects, Waits, Resumes}
 use Rattle.terminal_rules.specs.Past.{past, open_at}
 
 -- the bus and the command of a start
@@ -15,10 +15,10 @@ start_of p = of_start (λ b w. (b, w.bits)) p
 
 -- the command of the message in progress
 abbrev pub command_open : Open → Option ℕ
-command_open Closed = None
-command_open (First c after) = Some c
-command_open (Waiting c a) = Some c
-command_open (Second c a after) = Some c
+command_open Idle = None
+command_open (Collects c after) = Some c
+command_open (Waits c a) = Some c
+command_open (Resumes c after) = Some c
 
 -- The message in progress on a bus is that of the latest start of all: so its start is the latest on its bus,
 -- and no start on the other bus came after it.
@@ -28,4 +28,4 @@ LatestStartLaw =
 
 -- At most one bus has a message in progress.
 abbrev pub OneMessageLaw : Type 0
-OneMessageLaw = (P : Description) (h : List Event) → (open_at P h A ≡ Closed) ⊎ (open_at P h B ≡ Closed)
+OneMessageLaw = (P : Description) (h : List Event) → (open_at P h A ≡ Idle) ⊎ (open_at P h B ≡ Idle)

@@ -103,12 +103,12 @@ abbrev pub bit_now : Description → List Noted → ℕ
 bit_now P h = or_else (latest (λ p. bit_word_set p.event) (since_reset h)) P.bit
 
 -- word number i of a list, from 1
-abbrev pub number : ℕ → List ℕ → Option ℕ
-number i [] = None
-number i (d ∷ ds) = if i == 1 then Some d else number (i - 1) ds
+abbrev pub nth_word : ℕ → List ℕ → Option ℕ
+nth_word i [] = None
+nth_word i (d ∷ ds) = if i == 1 then Some d else nth_word (i - 1) ds
 
 abbrev pub wrapped_at : ℕ → ℕ → ℕ → ℕ → List ℕ → Option ℕ
-wrapped_at wrap s i t ds = if (s == t) && (t == wrap) then number i ds else None
+wrapped_at wrap s i t ds = if (s == t) && (t == wrap) then nth_word i ds else None
 
 -- words received at the wraparound subaddress (Notice 2, 30.7), own or by broadcast, are held there
 abbrev pub wrapped : ℕ → ℕ → ℕ → Ending → Option ℕ

@@ -9,7 +9,7 @@ use Rattle.terminal_rules.specs.declared.event.Event.{Event}
 use Rattle.terminal_rules.specs.declared.event.Event.TheVariants.{Word}
 use Rattle.terminal_rules.specs.LookBack.{some}
 use Rattle.terminal_rules.specs.History.{Noted, run}
-use Rattle.terminal_rules.specs.Open.{Open, Closed, First, Waiting, open_now}
+use Rattle.terminal_rules.specs.Open.{MessageState, Open, Idle, Collects, Waits, open_now}
 use Rattle.terminal_rules.specs.Reply.{reply_now, ignores}
 
 -- a command for the terminal: to its own address, or to all where it has the broadcast option
@@ -17,26 +17,26 @@ abbrev pub is_meant : Description → ℕ → Bool
 is_meant P c = is_addressed_to P.address P.broadcast c
 
 -- a word for the terminal: valid, of command sync, to its own address, or to all where it has the broadcast option
-abbrev pub is_for : Description → Raw → Bool
-is_for P w = is_for_address P.address P.broadcast w
+abbrev pub is_for_terminal : Description → Raw → Bool
+is_for_terminal P w = is_for_address P.address P.broadcast w
 
 abbrev pub is_word_for : Description → Option Raw → Bool
 is_word_for P None = false
-is_word_for P (Some w) = is_for P w
+is_word_for P (Some w) = is_for_terminal P w
 
 -- the run of the bus holds a word for the terminal
 abbrev pub heard_now : Description → List Noted → Bus → Bool
 heard_now P h b = some (λ x. is_word_for P x.word) (run h b)
 
 -- no message is in progress, or one that waits, which any word but the awaited status ends
-abbrev pub is_free : Open → Bool
-is_free Closed = true
-is_free (Waiting c a) = true
+abbrev pub is_free : {F : Type 0} → MessageState F → Bool
+is_free Idle = true
+is_free (Waits c a) = true
 is_free _ = false
 
 -- a broadcast receive command to a subaddress of data that nothing has followed
 abbrev pub is_fresh_broadcast : Open → Bool
-is_fresh_broadcast (First c []) = is_receive c && is_broadcast c
+is_fresh_broadcast (Collects c []) = is_receive c && is_broadcast c
 is_fresh_broadcast _ = false
 
 -- A word for the terminal starts a message in two cases. Its run holds no earlier word for the terminal, and no
@@ -45,7 +45,7 @@ is_fresh_broadcast _ = false
 -- receiver of it.
 abbrev pub starts_message : Description → Raw → Bool → Bool → Bool → Bool
 starts_message P w heard free fresh =
-    is_for P w && ((not heard && free) || (fresh && (transmits w.bits && (address_of w.bits == P.address))))
+    is_for_terminal P w && ((not heard && free) || (fresh && (transmits w.bits && (address_of w.bits == P.address))))
 
 -- only a word starts a message, and what is ignored starts none
 abbrev pub starts_unless : Bool → Description → List Noted → Event → Bool

@@ -11,7 +11,7 @@ use Rattle.terminal_rules.specs.declared.event.Flag.TheVariants.{Busy}
 use Rattle.terminal_rules.specs.LookBack.{latest, since, some}
 use Rattle.terminal_rules.specs.History.{NoTurn, Noted, Replying, Ending}
 use Rattle.bus_legal.specs.Description.{Description}
-use Rattle.terminal_rules.specs.Open.{Open, Closed, First, Waiting, Second, open_now, transfer}
+use Rattle.terminal_rules.specs.Open.{Open, Idle, Collects, Waits, Resumes, open_now, transfer}
 use Rattle.terminal_rules.specs.Ends.{complete, ends_with, at_gap, unless_ignored, ends_now}
 use Rattle.terminal_rules.specs.Flags.{flag_now}
 use Rattle.terminal_rules.specs.SinceReset.{off_now}
@@ -33,10 +33,10 @@ ends_with_allowed P busy c None (Some t) = refl
 ends_with_allowed P busy c None None = refl
 
 at_gap_allowed : (P : Description) (busy : Bool) (o : Open) → none_or_allowed (done_cell (at_gap P busy o)) ≡ true
-at_gap_allowed P busy Closed = refl
-at_gap_allowed P busy (First c after) = ends_with_allowed P busy c (complete c after) (transfer P (Some (c, after)))
-at_gap_allowed P busy (Waiting c a) = refl
-at_gap_allowed P busy (Second c a after) = ends_with_allowed P busy c (complete c after) None
+at_gap_allowed P busy Idle = refl
+at_gap_allowed P busy (Collects c after) = ends_with_allowed P busy c (complete c after) (transfer P (Some (c, after)))
+at_gap_allowed P busy (Waits c a) = refl
+at_gap_allowed P busy (Resumes c after) = ends_with_allowed P busy c (complete c after) None
 
 gap_turn_allowed : (i a : Bool) (b : Bus) (x : Ending) → none_or_allowed (done_cell x) ≡ true →
     none_or_allowed (cell_begun (begun (unless_ignored_turn i (turn_of_gap b a (done_cell (unless_ignored i x)))))) ≡ true

@@ -10,10 +10,10 @@ use Rattle.bus_word.specs.Word.{is_command_sync, is_data_sync, is_valid}
 use Rattle.bus_word.specs.Command.{address_of, transmits, is_receive, code_of, count_of, is_mode, is_broadcast, expected}
 use Rattle.bus_legal.specs.Description.{Description}
 use Rattle.terminal_rules.specs.History.{Entry}
-use Rattle.terminal_rules.specs.Open.{Open, Closed, First, Waiting, Second, transmitter, is_status_of, transfer}
+use Rattle.terminal_rules.specs.Open.{Open, Idle, Collects, Waits, Resumes, transmitter, is_status_of, transfer}
 use Rattle.terminal_rules.specs.Starts.{is_free, is_fresh_broadcast}
 use Rattle.terminal_rules.specs.Ends.{data_words, with_word, data_of, if_expected, complete, at_gap, at_entry, ends_with}
-use Rattle.terminal_state.specs.inner.Standing.{Collected, Words, Transmitter, Spoilt, lone_transmitter, transmitter_or_spoilt, few, collected_by, collected_of, Idle, Collects, Resumes, standing_of, next, whole_of, transfer_of, gap_ends, stop_of, stop_ends, waits_for, gap_leaves, entry_leaves, entry_fails, fails, stands_free, stands_fresh}
+use Rattle.terminal_state.specs.inner.Standing.{Collected, Words, Transmitter, Spoilt, lone_transmitter, transmitter_or_spoilt, few, collected_by, collected_of, standing_of, next, whole_of, transfer_of, gap_ends, gap_end_of, ending_at, waits_for, gap_leaves, entry_leaves, entry_fails, fails, stands_fresh}
 use Rattle.terminal_rules.proofs.OpenLaw.{after_gap, after_entry, waits}
 
 few_more : (ds : List ℕ) (d : ℕ) (a : Option ℕ) → few (ds ++ d ∷ []) ≡ next (few ds) (Some d) a
@@ -120,20 +120,20 @@ whole_by P c after (Some ds) = whole_test c ds (nat_le (length ds) 32) (expected
 pub complete_law : (P : Description) (c : ℕ) (after : List Entry) → complete c after ≡ whole_of c (collected_of P after)
 complete_law P c after = whole_by P c after (data_words after)
 
-ends_stop : (P : Description) (busy : Bool) (c : ℕ) (m : Option (List ℕ)) (t : Option (ℕ × ℕ)) → ends_with P busy c m t ≡ stop_ends P busy (stop_of c m t)
+ends_stop : (P : Description) (busy : Bool) (c : ℕ) (m : Option (List ℕ)) (t : Option (ℕ × ℕ)) → ends_with P busy c m t ≡ ending_at P busy (gap_end_of c m t)
 ends_stop P busy c None None = refl
 ends_stop P busy c None (Some t) = refl
 ends_stop P busy c (Some ds) t = refl
 
 -- what a gap ends
 pub gap_ends_law : (P : Description) (busy : Bool) (o : Open) → at_gap P busy o ≡ gap_ends P busy (standing_of P o)
-gap_ends_law P busy Closed = refl
-gap_ends_law P busy (Waiting c a) = refl
-gap_ends_law P busy (First c after) =
+gap_ends_law P busy Idle = refl
+gap_ends_law P busy (Waits c a) = refl
+gap_ends_law P busy (Collects c after) =
     ap (λ m. ends_with P busy c m (transfer P (Some (c, after)))) (complete_law P c after)
     ∙ (ap (ends_with P busy c (whole_of c (collected_of P after))) (transfer_law P c after)
     ∙ ends_stop P busy c (whole_of c (collected_of P after)) (transfer_of c (collected_of P after)))
-gap_ends_law P busy (Second c a after) = ap (λ m. ends_with P busy c m None) (complete_law P c after) ∙ ends_stop P busy c (whole_of c (collected_of P after)) None
+gap_ends_law P busy (Resumes c after) = ap (λ m. ends_with P busy c m None) (complete_law P c after) ∙ ends_stop P busy c (whole_of c (collected_of P after)) None
 
 waits_law : (P : Description) (t : Option (ℕ × ℕ)) → standing_of P (waits t) ≡ waits_for t
 waits_law P None = refl
@@ -141,21 +141,21 @@ waits_law P (Some t) = refl
 
 -- what a gap leaves
 pub gap_leaves_law : (P : Description) (o : Open) → standing_of P (after_gap P o) ≡ gap_leaves (standing_of P o)
-gap_leaves_law P Closed = refl
-gap_leaves_law P (Waiting c a) = refl
-gap_leaves_law P (Second c a after) = refl
-gap_leaves_law P (First c after) = waits_law P (transfer P (Some (c, after))) ∙ ap waits_for (transfer_law P c after)
+gap_leaves_law P Idle = refl
+gap_leaves_law P (Waits c a) = refl
+gap_leaves_law P (Resumes c after) = refl
+gap_leaves_law P (Collects c after) = waits_law P (transfer P (Some (c, after))) ∙ ap waits_for (transfer_law P c after)
 
-status_law : (P : Description) (c a : ℕ) (s : Bool) → standing_of P (if s then Second c a [] else Closed) ≡ (if s then Resumes c (Words []) else Idle)
+status_law : (P : Description) (c a : ℕ) (s : Bool) → standing_of P (if s then Resumes c [] else Idle) ≡ (if s then Resumes c (Words []) else Idle)
 status_law P c a true = refl
 status_law P c a false = refl
 
 -- what a word or noise leaves
 pub entry_leaves_law : (P : Description) (x : Entry) (o : Open) → standing_of P (after_entry x o) ≡ entry_leaves P.address x.word (standing_of P o)
-entry_leaves_law P x Closed = refl
-entry_leaves_law P x (First c after) = ap (Collects c) (collected_step P x after)
-entry_leaves_law P x (Waiting c a) = status_law P c a (is_status_of a x)
-entry_leaves_law P x (Second c a after) = ap (Resumes c) (collected_step P x after)
+entry_leaves_law P x Idle = refl
+entry_leaves_law P x (Collects c after) = ap (Collects c) (collected_step P x after)
+entry_leaves_law P x (Waits c a) = status_law P c a (is_status_of a x)
+entry_leaves_law P x (Resumes c after) = ap (Resumes c) (collected_step P x after)
 
 waiting_fails : (c : ℕ) (s : Bool) → (if s then fails None else fails (Some c)) ≡ fails (if s then None else Some c)
 waiting_fails c true = refl
@@ -163,16 +163,16 @@ waiting_fails c false = refl
 
 -- what a word or noise ends
 pub entry_ends_law : (P : Description) (w : Option Raw) (o : Open) → at_entry w o ≡ fails (entry_fails w (standing_of P o))
-entry_ends_law P w Closed = refl
-entry_ends_law P w (First c after) = refl
-entry_ends_law P w (Waiting c a) = waiting_fails c _
-entry_ends_law P w (Second c a after) = refl
+entry_ends_law P w Idle = refl
+entry_ends_law P w (Collects c after) = refl
+entry_ends_law P w (Waits c a) = waiting_fails c _
+entry_ends_law P w (Resumes c after) = refl
 
-pub free_law : (P : Description) (o : Open) → is_free o ≡ stands_free (standing_of P o)
-free_law P Closed = refl
-free_law P (First c after) = refl
-free_law P (Waiting c a) = refl
-free_law P (Second c a after) = refl
+pub free_law : (P : Description) (o : Open) → is_free o ≡ is_free (standing_of P o)
+free_law P Idle = refl
+free_law P (Collects c after) = refl
+free_law P (Waits c a) = refl
+free_law P (Resumes c after) = refl
 
 more_not_fresh : (c : ℕ) (b : Bool) (ds : List ℕ) (d : ℕ) → false ≡ stands_fresh (Collects c (if b then Words (ds ++ d ∷ []) else Spoilt))
 more_not_fresh c false ds d = refl
@@ -188,8 +188,8 @@ not_fresh c (Transmitter b) k a = refl
 not_fresh c Spoilt k a = refl
 
 pub fresh_law : (P : Description) (o : Open) → is_fresh_broadcast o ≡ stands_fresh (standing_of P o)
-fresh_law P Closed = refl
-fresh_law P (First c []) = refl
-fresh_law P (First c (x ∷ xs)) = not_fresh c (collected_of P xs) (data_of x.word) (transmitter P x) ∙ ap (λ f. stands_fresh (Collects c f)) (sym (collected_step P x xs))
-fresh_law P (Waiting c a) = refl
-fresh_law P (Second c a after) = refl
+fresh_law P Idle = refl
+fresh_law P (Collects c []) = refl
+fresh_law P (Collects c (x ∷ xs)) = not_fresh c (collected_of P xs) (data_of x.word) (transmitter P x) ∙ ap (λ f. stands_fresh (Collects c f)) (sym (collected_step P x xs))
+fresh_law P (Waits c a) = refl
+fresh_law P (Resumes c after) = refl

@@ -4,7 +4,7 @@ use Rattle.std.proofs.lemmas.Bool.{ltb-true, ltb-false, eqb-true}
 use Rattle.std.proofs.lemmas.List.{get_or-replicate, get_or_past, length-replicate}
 use Rattle.std.proofs.lemmas.Bool.Decides.{nat_tests}
 use Rattle.terminal_rules.specs.LookBack.{or_else}
-use Rattle.terminal_rules.specs.SinceReset.{number, wrapped_at}
+use Rattle.terminal_rules.specs.SinceReset.{nth_word, wrapped_at}
 
 -- nothing but the value that is read past the end
 pub get_or-all : {X : Type 0} (n i : ℕ) (x : X) → get_or (replicate n x) i x ≡ x
@@ -21,13 +21,13 @@ block_in-unchanged blocks initial s =
     ap (λ b. if b then get_or blocks (s - 1) [] else get_or initial (s - 1) []) (get_or-all 30 (s - 1) false)
 
 -- word number i of a list, or another where there is none
-number_law : (i : ℕ) (ds : List ℕ) (old : ℕ) → 1 ≤ i → or_else (number i ds) old ≡ (if nat_le i (length ds) then get_or ds (i - 1) 0 else old)
+number_law : (i : ℕ) (ds : List ℕ) (old : ℕ) → 1 ≤ i → or_else (nth_word i ds) old ≡ (if nat_le i (length ds) then get_or ds (i - 1) 0 else old)
 number_law i [] old h = let e : nat_le i 0 ≡ false = grind (arith, nat_tests) in rw e refl
 number_law i (d ∷ ds) old h = by_test (i == 1) refl (number_law (i - 1) ds old)
   where
     by_test : (t : Bool) → (i == 1) ≡ t →
-        (1 ≤ i - 1 → or_else (number (i - 1) ds) old ≡ (if nat_le (i - 1) (length ds) then get_or ds (i - 1 - 1) 0 else old)) →
-        or_else (if t then Some d else number (i - 1) ds) old ≡ (if nat_le i (length (d ∷ ds)) then get_or (d ∷ ds) (i - 1) 0 else old)
+        (1 ≤ i - 1 → or_else (nth_word (i - 1) ds) old ≡ (if nat_le (i - 1) (length ds) then get_or ds (i - 1 - 1) 0 else old)) →
+        or_else (if t then Some d else nth_word (i - 1) ds) old ≡ (if nat_le i (length (d ∷ ds)) then get_or (d ∷ ds) (i - 1) 0 else old)
     by_test true e rest =
         let first : i ≡ 1 = eqb-true i 1 e in
         let fits : nat_le i (suc (length ds)) ≡ true = grind (arith, nat_tests) in
@@ -51,6 +51,6 @@ wrapped_law wrap s i t ds old e h =
     ap (λ b. if b && nat_le i (length ds) then get_or ds (i - 1) 0 else old) (same_subaddress s t wrap e)
     ∙ by_test ((s == t) && (t == wrap))
   where
-    by_test : (b : Bool) → (if b && nat_le i (length ds) then get_or ds (i - 1) 0 else old) ≡ or_else (if b then number i ds else None) old
+    by_test : (b : Bool) → (if b && nat_le i (length ds) then get_or ds (i - 1) 0 else old) ≡ or_else (if b then nth_word i ds else None) old
     by_test true = sym (number_law i ds old h)
     by_test false = refl

@@ -11,6 +11,6 @@ mod reply;
 pub use buses::{OnBuses, same_bus};
 pub use ended::{Ended, code_in, reports_kept, verdict_of};
 pub use held::{Blocks, HeldWords};
-pub use message::{Followed, GapEnd, InProgress, Message, Phase};
+pub use message::{Collected, GapEnd, InProgress, Message, Phase};
 pub use registers::{Flags, Registers};
 pub use reply::{Reply, advance, advance_by};

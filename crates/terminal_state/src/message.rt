@@ -3,35 +3,36 @@ ghost use Rattle.std.specs.Prelude.{◌≡◌, ◌<◌, if◌then◌else◌, [],
 ghost use Rattle.bus_word.specs.declared.word.Bus.{Bus};
 ghost use Rattle.bus_word.specs.declared.word.Raw.{Raw};
 ghost use Rattle.terminal_rules.specs.Buses.{same_bus};
-ghost use Rattle.terminal_rules.specs.Open.{transmitter_at, status_at};
+ghost use Rattle.terminal_rules.specs.Open.{Idle, Collects, transmitter_at, status_at};
+ghost use Rattle.terminal_rules.specs.Starts.{is_free};
 ghost use Rattle.terminal_rules.specs.Ends.{data_of};
-ghost use Rattle.terminal_state.specs.inner.Standing.{Collects, Words, Idle, next, entry_leaves, entry_fails, gap_leaves, stop_at_gap, stands_free, stands_fresh};
+ghost use Rattle.terminal_state.specs.inner.Standing.{Words, next, entry_leaves, entry_fails, gap_leaves, gap_end, stands_fresh};
 ghost use Rattle.terminal_rules.specs.Out.{first_word};
-ghost use Rattle.terminal_state.specs.inner.Message.{collected_in, standing_on, stop_with, in_phase};
+ghost use Rattle.terminal_state.specs.inner.Message.{collected_in, standing_on, gap_end_with, in_phase};
 
 use crate::buses::same_bus;
 use arrayvec::ArrayVec;
 use bus_word::{Bus, Command, Raw};
 
-/// What followed a command, or the status word that it waited for.
+/// What was collected behind a command, or behind the status word that it waited for.
 #[derive(Clone, Copy)]
-pub enum Followed {
+pub enum Collected {
     /// Nothing but data words: those of the buffer.
     Words,
     /// A command word alone that has the terminal of this address transmit.
     Transmitter(u8),
     /// Anything else: the message can only end in error.
-    Other,
+    Spoilt,
 }
 
 #[derive(Clone, Copy)]
 pub enum Phase {
     /// In the run of its command.
-    Collects(Followed),
+    Collects(Collected),
     /// For the status word of this address.
     Waits(u8),
     /// After that status word.
-    Resumes(Followed),
+    Resumes(Collected),
 }
 
 #[derive(Clone, Copy)]
@@ -45,11 +46,11 @@ pub struct Message {
 #[derive(Clone, Copy)]
 pub enum GapEnd {
     /// Not: there is none, or it comes to wait.
-    Nothing,
+    NoEnd,
     /// In error.
-    Error(Command),
+    InError(Command),
     /// Well, with the words of the buffer.
-    Whole(Command),
+    Complete(Command),
 }
 
 /// The message in progress, on whichever bus, and the buffer of its data words.
@@ -121,14 +122,14 @@ impl InProgress {
         self.message = Some(Message {
             bus,
             command,
-            phase: Phase::Collects(Followed::Words),
+            phase: Phase::Collects(Collected::Words),
         });
     }
 
     /// Tells whether a command on this bus may start a message.
     #[inline(always)]
     pub fn is_free(&self, bus: Bus) -> bool
-        ensures { result ≡ stands_free (standing_on bus self.now) }
+        ensures { result ≡ is_free (standing_on bus self.now) }
     {
         match &self.message {
             Some(message) => !same_bus(bus, message.bus)
@@ -145,7 +146,7 @@ impl InProgress {
         match &self.message {
             Some(message) => {
                 same_bus(bus, message.bus)
-                    && matches!(message.phase, Phase::Collects(Followed::Words))
+                    && matches!(message.phase, Phase::Collects(Collected::Words))
                     && self.words.is_empty()
                     && message.command.is_receive()
                     && message.command.is_broadcast()
@@ -156,23 +157,23 @@ impl InProgress {
 
     /// Gives what followed, with one word or noise more.
     #[inline(always)]
-    fn add(&mut self, followed: Followed, own: u8, word: Option<Raw>) -> Followed
-        ensures followed { collected_in result self.new.words.items ≡ next (collected_in followed self.old.words.items) (data_of word) (transmitter_at own word) }
+    fn add(&mut self, collected: Collected, own: u8, word: Option<Raw>) -> Collected
+        ensures collected { collected_in result self.new.words.items ≡ next (collected_in collected self.old.words.items) (data_of word) (transmitter_at own word) }
         ensures message { self.new.message ≡ self.old.message }
     {
-        match followed {
-            Followed::Words => match data_of(word) {
+        match collected {
+            Collected::Words => match data_of(word) {
                 Some(bits) if self.words.len() < 32 => {
                     self.words.push(bits);
-                    Followed::Words
+                    Collected::Words
                 }
-                Some(_) => Followed::Other,
+                Some(_) => Collected::Spoilt,
                 None => match transmitter_at(own, word) {
-                    Some(address) if self.words.is_empty() => Followed::Transmitter(address),
-                    _ => Followed::Other,
+                    Some(address) if self.words.is_empty() => Collected::Transmitter(address),
+                    _ => Collected::Spoilt,
                 },
             },
-            _ => Followed::Other,
+            _ => Collected::Spoilt,
         }
     }
 
@@ -183,7 +184,7 @@ impl InProgress {
     {
         match &self.message {
             Some(message) => match message.phase {
-                Phase::Collects(Followed::Words)
+                Phase::Collects(Collected::Words)
                     if same_bus(bus, message.bus) && self.words.len() < 32 => Some(message.command),
                 _ => None,
             },
@@ -229,14 +230,16 @@ impl InProgress {
         if let Some(message) = self.message {
             if same_bus(bus, message.bus) {
                 let phase = match message.phase {
-                    Phase::Collects(followed) => Some(Phase::Collects(self.add(
-                        followed, own, word,
+                    Phase::Collects(collected) => Some(Phase::Collects(self.add(
+                        collected, own, word,
                     ))),
-                    Phase::Resumes(followed) => Some(Phase::Resumes(self.add(followed, own, word))),
+                    Phase::Resumes(collected) => Some(Phase::Resumes(self.add(
+                        collected, own, word,
+                    ))),
                     Phase::Waits(address) => {
                         self.words = ArrayVec::new();
                         if is_status_of(address, word) {
-                            Some(Phase::Resumes(Followed::Words))
+                            Some(Phase::Resumes(Collected::Words))
                         } else {
                             None
                         }
@@ -279,22 +282,22 @@ impl InProgress {
     /// Tells how a gap on this bus ends the message.
     #[inline(always)]
     pub fn end_at_gap(&self, bus: Bus) -> GapEnd
-        ensures { stop_with result self.now.words.items ≡ stop_at_gap (standing_on bus self.now) }
+        ensures { gap_end_with result self.now.words.items ≡ gap_end (standing_on bus self.now) }
     {
         match &self.message {
             Some(message) if same_bus(bus, message.bus) => match message.phase {
-                Phase::Collects(Followed::Words) | Phase::Resumes(Followed::Words) => {
+                Phase::Collects(Collected::Words) | Phase::Resumes(Collected::Words) => {
                     if self.words.len() == usize::from(message.command.expected()) {
-                        GapEnd::Whole(message.command)
+                        GapEnd::Complete(message.command)
                     } else {
-                        GapEnd::Error(message.command)
+                        GapEnd::InError(message.command)
                     }
                 }
-                Phase::Collects(Followed::Transmitter(_)) if message.command.is_receive() =>
-                    GapEnd::Nothing,
-                _ => GapEnd::Error(message.command),
+                Phase::Collects(Collected::Transmitter(_)) if message.command.is_receive() =>
+                    GapEnd::NoEnd,
+                _ => GapEnd::InError(message.command),
             },
-            _ => GapEnd::Nothing,
+            _ => GapEnd::NoEnd,
         }
     }
 
@@ -307,7 +310,7 @@ impl InProgress {
         if let Some(message) = self.message {
             if same_bus(bus, message.bus) {
                 let phase = match message.phase {
-                    Phase::Collects(Followed::Transmitter(address))
+                    Phase::Collects(Collected::Transmitter(address))
                         if message.command.is_receive() => Some(Phase::Waits(address)),
                     _ => None,
                 };

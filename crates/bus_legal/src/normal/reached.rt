@@ -55,7 +55,7 @@ fn accepts(profile: &Profile, tables: &Tables) -> bool
 }
 
 /// Gives the word, where the own mode code that asks for it is legal, else 0.
-fn asked_word(tables: &Tables, code: u8, word: u16) -> u16
+fn reached_word(tables: &Tables, code: u8, word: u16) -> u16
     requires { code < 32 }
     ensures { result ≡ (if has_bit tables.now.own_mode code then word else 0) }
 {
@@ -99,8 +99,8 @@ pub fn normalise(profile: &Profile) -> Normal
         broadcast: profile.broadcast,
         wrap: reached_wrap(profile, &tables),
         accept: accepts(profile, &tables),
-        vector: asked_word(&tables, VECTOR_WORD, profile.vector),
-        bit: asked_word(&tables, BIT_WORD, profile.bit),
+        vector: reached_word(&tables, VECTOR_WORD, profile.vector),
+        bit: reached_word(&tables, BIT_WORD, profile.bit),
         initial,
     };
     Normal { setup, tables }

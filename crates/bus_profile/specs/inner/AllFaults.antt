@@ -12,7 +12,7 @@ use Rattle.bus_profile.specs.declared.fault.ProfileFault.{ProfileFault}
 use Rattle.bus_profile.specs.declared.fault.ProfileFault.TheVariants.{UnknownKey, Missing, WrongKind, RequiredCode}
 use Rattle.bus_word.specs.Mode.{transmit_status, shutdown, override_shutdown, reset}
 use Rattle.bus_profile.specs.Checks.{Check, first_fault}
-use Rattle.bus_profile.specs.Keys.{Row, keys_of, address_row, broadcast_row, wraparound_row, accept_row, vector_row, bit_row, rule_row, mode_row, initial_row, to_row, direction_row, subaddresses_row, counts_row, legal_row, codes_row, subaddress_row, at_row, words_row, rule_rows, mode_rows, initial_rows}
+use Rattle.bus_profile.specs.Keys.{KeyRow, keys_of, address_row, broadcast_row, wraparound_row, accept_row, vector_row, bit_row, rules_key, modes_key, initials_key, to_row, direction_row, subaddresses_row, counts_row, legal_row, codes_row, subaddress_row, at_row, words_row, rule_rows, mode_rows, initial_rows}
 use Rattle.bus_profile.specs.Kinds.{has_unknown}
 use Rattle.bus_profile.specs.Faults.{row_checks, entry_checks, words_checks}
 use Rattle.profile_types.specs.OwnCodes.{is_own_code_legal}
@@ -28,16 +28,16 @@ present None = []
 present (Some f) = f ∷ []
 
 -- the line of the table of keys that a key has
-abbrev pub row_of : Key → Row
+abbrev pub row_of : Key → KeyRow
 row_of key.Address = address_row
 row_of key.Broadcast = broadcast_row
 row_of key.Wraparound = wraparound_row
 row_of key.AcceptBusControl = accept_row
 row_of key.Vector = vector_row
 row_of key.Bit = bit_row
-row_of key.Rule = rule_row
-row_of key.Mode = mode_row
-row_of key.Initial = initial_row
+row_of key.Rule = rules_key
+row_of key.Mode = modes_key
+row_of key.Initial = initials_key
 row_of key.To = to_row
 row_of key.Direction = direction_row
 row_of key.Subaddresses = subaddresses_row
@@ -49,7 +49,7 @@ row_of key.At = at_row
 row_of key.Words = words_row
 
 -- the fault of a table with a key that it may not have
-abbrev pub unknown_told : Part → List Row → Members → Option ProfileFault
+abbrev pub unknown_told : Part → List KeyRow → Members → Option ProfileFault
 unknown_told part rows ms = if has_unknown (keys_of rows) ms then Some (UnknownKey part) else None
 
 -- the fault of a key
@@ -67,20 +67,20 @@ keys_told part ms keys = failing_parts (map (λ key. row_checks part ms (row_of 
 
 -- ---- the entries of the three arrays
 
-abbrev pub array_row : EntryKind → Row
-array_row kind.Rule = rule_row
-array_row kind.Mode = mode_row
-array_row kind.Initial = initial_row
+abbrev pub array_row : EntryKind → KeyRow
+array_row kind.Rule = rules_key
+array_row kind.Mode = modes_key
+array_row kind.Initial = initials_key
 
 abbrev pub part_of : EntryKind → ℕ → Part
 part_of kind.Rule n = part.Rule n
 part_of kind.Mode n = part.Mode n
 part_of kind.Initial n = part.Initial n
 
-abbrev pub rows_of : EntryKind → List Row
-rows_of kind.Rule = rule_rows
-rows_of kind.Mode = mode_rows
-rows_of kind.Initial = initial_rows
+abbrev pub key_rows_of : EntryKind → List KeyRow
+key_rows_of kind.Rule = rule_rows
+key_rows_of kind.Mode = mode_rows
+key_rows_of kind.Initial = initial_rows
 
 -- the checks of the keys of an entry
 abbrev pub keys_in : EntryKind → ℕ → Members → List (List Check)
@@ -90,7 +90,7 @@ keys_in kind.Initial n ms = row_checks (part.Initial n) ms subaddress_row ∷ ro
 
 -- the checks of an entry: those of `Faults` of its kind
 abbrev pub checks_of : EntryKind → ℕ → Data → List Check
-checks_of k n = entry_checks (part_of k n) (array_row k) (rows_of k) (λ ms. keys_in k n ms)
+checks_of k n = entry_checks (part_of k n) (array_row k) (key_rows_of k) (λ ms. keys_in k n ms)
 
 -- ---- codes
 

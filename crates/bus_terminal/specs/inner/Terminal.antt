@@ -14,11 +14,12 @@ use Rattle.terminal_state.specs.declared.registers.Registers.{Registers}
 use Rattle.bus_terminal.specs.declared.terminal.Terminal.{Terminal}
 use Rattle.terminal_rules.specs.History.{Replying, Ending}
 use Rattle.terminal_rules.specs.Buses.{same_bus}
-use Rattle.terminal_rules.specs.Starts.{is_for}
+use Rattle.terminal_rules.specs.Open.{Idle, Collects}
+use Rattle.terminal_rules.specs.Starts.{is_for_terminal}
 use Rattle.terminal_rules.specs.Status.{spares, adds_error}
 use Rattle.terminal_rules.specs.Turn.{is_answered, done_cell}
 use Rattle.terminal_rules.specs.Out.{Sending, sending}
-use Rattle.terminal_state.specs.inner.Standing.{Collects, Words, Idle, word_leaves, entry_leaves, entry_fails, gap_leaves, gap_ends, starts_by}
+use Rattle.terminal_state.specs.inner.Standing.{Words, word_leaves, entry_leaves, entry_fails, gap_leaves, gap_ends, starts_by}
 use Rattle.terminal_state.specs.inner.Message.{standing_on}
 use Rattle.terminal_state.specs.inner.Registers.{failed_by, started, started_if, settled, reset_if}
 use Rattle.terminal_rules.specs.inner.Steps.{resets_at_gap, dropped_if, begun_if, sent_one, resets_next}
@@ -54,7 +55,7 @@ sends_from address r held (Some reply) = Some (next_sent_from address r held rep
 
 -- on which buses the run holds a word for the terminal, after a word
 abbrev pub heard_after_word : Description → Bus → Raw → OnBuses → OnBuses
-heard_after_word P b w heard = if is_for P w then with_bus b true heard else heard
+heard_after_word P b w heard = if is_for_terminal P w then with_bus b true heard else heard
 
 -- whether a word starts a message
 abbrev pub starts_in : {L : Type 0} → (L → Cell → Bool) → Terminal L → Bus → Raw → Bool

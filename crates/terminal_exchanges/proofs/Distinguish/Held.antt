@@ -12,7 +12,7 @@ use Rattle.bus_word.specs.Status.{status_word}
 use Rattle.bus_legal.specs.Description.{Description}
 use Rattle.terminal_rules.specs.LookBack.{or_else}
 use Rattle.terminal_rules.specs.History.{Noted, Replying, Ending, Nothing, Badly, Illegal, Blocked, Done}
-use Rattle.terminal_rules.specs.SinceReset.{off_now, number, wrapped_at, wrapped, held_set, held_now}
+use Rattle.terminal_rules.specs.SinceReset.{off_now, nth_word, wrapped_at, wrapped, held_set, held_now}
 use Rattle.terminal_rules.specs.Ends.{verdict, well}
 use Rattle.terminal_rules.specs.Starts.{is_meant}
 use Rattle.terminal_rules.specs.Turn.{is_answered, done_cell}
@@ -110,7 +110,7 @@ initial_held P xs s i passed =
 
 -- and at every subaddress but that of wraparound
 unwrapped_at : (wrap s i t : ℕ) (ds : List ℕ) → (s == wrap) ≡ false → wrapped_at wrap s i t ds ≡ None
-unwrapped_at wrap s i t ds other = ap (λ b. if b then number i ds else None) (by_tests s t wrap other)
+unwrapped_at wrap s i t ds other = ap (λ b. if b then nth_word i ds else None) (by_tests s t wrap other)
   where
     by_tests : (s t wrap : ℕ) → (s == wrap) ≡ false → (s == t) && (t == wrap) ≡ false
     by_tests s t wrap other = grind (arith, nat_tests)

@@ -17,8 +17,8 @@ use Rattle.terminal_rules.specs.declared.event.Event.TheVariants.{Word, Noise, G
 use Rattle.terminal_rules.specs.declared.event.Flag.TheVariants.{Busy}
 use Rattle.terminal_rules.specs.LookBack.{latest}
 use Rattle.terminal_rules.specs.History.{Noted, Ending, Nothing, Badly, Illegal, Blocked, Done, of_word}
-use Rattle.terminal_rules.specs.Open.{Open, Closed, First, Waiting, Second, open_now, transfer, status_at}
-use Rattle.terminal_rules.specs.Starts.{is_for, heard_now, is_free, is_fresh_broadcast, starts_message, starts_now, is_meant}
+use Rattle.terminal_rules.specs.Open.{Open, Idle, Collects, Waits, Resumes, open_now, transfer, status_at}
+use Rattle.terminal_rules.specs.Starts.{is_for_terminal, heard_now, is_free, is_fresh_broadcast, starts_message, starts_now, is_meant}
 use Rattle.terminal_rules.specs.Flags.{flag_now}
 use Rattle.terminal_rules.specs.Ends.{verdict, complete, is_blocked_by_busy, ends_with, at_gap, at_entry, unless_ignored, ends_now}
 use Rattle.terminal_rules.specs.Past.{past}
@@ -74,7 +74,7 @@ meant_cell P c low meant =
 
 -- only a word for the terminal starts a message
 started_meant : (P : Description) (w : Raw) (heard free fresh : Bool) → starts_message P w heard free fresh ≡ true → is_meant P w.bits ≡ true
-started_meant P w heard free fresh e = (and_parts (is_command w) _ (and_parts (is_for P w) _ e).0).1
+started_meant P w heard free fresh e = (and_parts (is_command w) _ (and_parts (is_for_terminal P w) _ e).0).1
 
 start_meant : (P : Description) (h : List Event) (b : Bus) (c : ℕ) → latest start_of (past P h) ≡ Some (b, c) → is_meant P c ≡ true
 start_meant P [] b c i = cc
@@ -131,16 +131,16 @@ ends_with_can P low busy c None (Some t) m = tt
 ends_with_can P low busy c (Some ds) t m = verdict_can P busy c ds (cell_of c) (meant_cell P c low m)
 
 pub gap_can : (P : Description) → P.address ≤ 30 → (busy : Bool) (o : Open) → IsMeant P o → DoesWhatItCan P (at_gap P busy o)
-gap_can P low busy Closed m = tt
-gap_can P low busy (First c after) m = ends_with_can P low busy c (complete c after) (transfer P (Some (c, after))) (m c refl)
-gap_can P low busy (Waiting c a) m = tt
-gap_can P low busy (Second c a after) m = ends_with_can P low busy c (complete c after) None (m c refl)
+gap_can P low busy Idle m = tt
+gap_can P low busy (Collects c after) m = ends_with_can P low busy c (complete c after) (transfer P (Some (c, after))) (m c refl)
+gap_can P low busy (Waits c a) m = tt
+gap_can P low busy (Resumes c after) m = ends_with_can P low busy c (complete c after) None (m c refl)
 
 entry_can : (P : Description) (w : Option Raw) (o : Open) → DoesWhatItCan P (at_entry w o)
-entry_can P w Closed = tt
-entry_can P w (First c after) = tt
-entry_can P w (Waiting c a) = elim (status_at a w) as (λ s. DoesWhatItCan P (if s then Nothing else Badly c)) [ true ↦ tt | false ↦ tt ]
-entry_can P w (Second c a after) = tt
+entry_can P w Idle = tt
+entry_can P w (Collects c after) = tt
+entry_can P w (Waits c a) = elim (status_at a w) as (λ s. DoesWhatItCan P (if s then Nothing else Badly c)) [ true ↦ tt | false ↦ tt ]
+entry_can P w (Resumes c after) = tt
 
 unless_can : (P : Description) (i : Bool) (x : Ending) → DoesWhatItCan P x → DoesWhatItCan P (unless_ignored i x)
 unless_can P true x can = tt

@@ -7,7 +7,7 @@ use Rattle.bus_word.specs.Cell.{is_data_place}
 use Rattle.bus_legal.specs.Description.{Description}
 use Rattle.bus_legal.specs.Reach.{Rest, with_rest, transmits_at, receives_at}
 use Rattle.terminal_rules.specs.History.{Noted, Ending, Nothing, Badly, Illegal, Blocked, Done}
-use Rattle.terminal_rules.specs.SinceReset.{is_reset, number, wrapped, written, either_word, held_now}
+use Rattle.terminal_rules.specs.SinceReset.{is_reset, nth_word, wrapped, written, either_word, held_now}
 use Rattle.terminal_rules.specs.inner.Steps.{unless_reset}
 use Rattle.terminal_rules.proofs.BackLaw.{held_step}
 use Rattle.terminal_rules.proofs.Reach.Heard.{DoesWhatItCan, AllDoWhatTheyCan}
@@ -34,10 +34,10 @@ wrapped_alike P R a s n i sent place (Done c (OwnTransmit t m) ds) can = refl
 wrapped_alike P R a s n i sent place (Done c (OwnMode code) ds) can = refl
 wrapped_alike P R a s n i sent place (Done c (BroadMode code) ds) can = refl
 wrapped_alike P R a s n i sent place (Done c (OwnReceive t m) ds) can =
-    gated (t == R.wrap) (t == P.wrap) (s == t) (number i ds)
+    gated (t == R.wrap) (t == P.wrap) (s == t) (nth_word i ds)
     (wrap_alike P R a s n t m sent place (ap (λ b. b || (P.broadcast && P.legal (BroadReceive t m))) can.legal) can.allowed)
 wrapped_alike P R a s n i sent place (Done c (BroadReceive t m) ds) can =
-    gated (t == R.wrap) (t == P.wrap) (s == t) (number i ds)
+    gated (t == R.wrap) (t == P.wrap) (s == t) (nth_word i ds)
     (wrap_alike P R a s n t m sent place
     ((λ j. P.legal (OwnReceive t m) || (can.heard j && can.legal j)) ∙ or-true (P.legal (OwnReceive t m)))
     can.allowed)

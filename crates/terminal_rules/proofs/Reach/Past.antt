@@ -10,7 +10,7 @@ use Rattle.terminal_rules.specs.declared.event.Event.TheVariants.{Word, Noise, G
 use Rattle.terminal_rules.specs.declared.event.Flag.TheVariants.{Busy}
 use Rattle.terminal_rules.specs.History.{Noted, Illegal, Blocked, Done}
 use Rattle.terminal_rules.specs.Turn.{noted}
-use Rattle.terminal_rules.specs.Open.{Open, Closed, First, Waiting, Second, open_now, transfer}
+use Rattle.terminal_rules.specs.Open.{Open, Idle, Collects, Waits, Resumes, open_now, transfer}
 use Rattle.terminal_rules.specs.Flags.{flag_now}
 use Rattle.terminal_rules.specs.Ends.{verdict, is_blocked_by_busy, complete, ends_with, at_gap, unless_ignored}
 use Rattle.terminal_rules.specs.Past.{note, past}
@@ -31,10 +31,10 @@ ends_with_alike P R a low busy c None (Some t) m = refl
 ends_with_alike P R a low busy c (Some ds) t m = verdict_alike P R a busy c ds (cell_of c) (meant_cell P c low m)
 
 pub at_gap_alike : (P : Description) (R : Rest) → Agrees P R → P.address ≤ 30 → (busy : Bool) (o : Open) → IsMeant P o → at_gap (with_rest P R) busy o ≡ at_gap P busy o
-at_gap_alike P R a low busy Closed m = refl
-at_gap_alike P R a low busy (First c after) m = ends_with_alike P R a low busy c (complete c after) (transfer P (Some (c, after))) (m c refl)
-at_gap_alike P R a low busy (Waiting c d) m = refl
-at_gap_alike P R a low busy (Second c d after) m = ends_with_alike P R a low busy c (complete c after) None (m c refl)
+at_gap_alike P R a low busy Idle m = refl
+at_gap_alike P R a low busy (Collects c after) m = ends_with_alike P R a low busy c (complete c after) (transfer P (Some (c, after))) (m c refl)
+at_gap_alike P R a low busy (Waits c d) m = refl
+at_gap_alike P R a low busy (Resumes c after) m = ends_with_alike P R a low busy c (complete c after) None (m c refl)
 
 note_alike : (P : Description) (R : Rest) → Agrees P R → P.address ≤ 30 → (h : List Noted) (e : Event) → ((b : Bus) → IsMeant P (open_now P h b)) → note (with_rest P R) h e ≡ note P h e
 note_alike P R a low h (Word b w) m = refl

@@ -86,9 +86,9 @@ abbrev pub hands_at_gap : Bus → Handing → Step
 hands_at_gap b handing = record { event = Gap b; answer = HandsOver handing }
 
 -- data words, one behind another
-abbrev pub data_words : Bus → List ℕ → List Step
-data_words b [] = []
-data_words b (d ∷ ds) = unanswered (data_word b d) ∷ data_words b ds
+abbrev pub data_run : Bus → List ℕ → List Step
+data_run b [] = []
+data_run b (d ∷ ds) = unanswered (data_word b d) ∷ data_run b ds
 
 -- one line of an example: some events, with what answers each
 abbrev pub quiet : Event → List Step

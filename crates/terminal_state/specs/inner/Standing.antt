@@ -4,8 +4,8 @@ use Rattle.bus_word.specs.declared.word.Raw.{Raw}
 use Rattle.bus_word.specs.Command.{is_receive, is_broadcast, expected}
 use Rattle.bus_legal.specs.Description.{Description}
 use Rattle.terminal_rules.specs.History.{Entry, Ending, Nothing, Badly}
-use Rattle.terminal_rules.specs.Open.{Open, Closed, First, Waiting, Second, transmitter, transmitter_at, status_at}
-use Rattle.terminal_rules.specs.Starts.{starts_message}
+use Rattle.terminal_rules.specs.Open.{MessageState, Open, Idle, Collects, Waits, Resumes, transmitter, transmitter_at, status_at}
+use Rattle.terminal_rules.specs.Starts.{is_free, starts_message}
 use Rattle.terminal_rules.specs.Ends.{data_words, data_of, well}
 
 -- what was collected: at most 32 data words; just a command to the transmitter of a transfer; or what can
@@ -34,19 +34,16 @@ collected_by P after (Some ds) = few ds
 abbrev pub collected_of : Description → List Entry → Collected
 collected_of P after = collected_by P after (data_words after)
 
--- how the message on a bus stands
-pub data Standing : Type 0 where
-  Idle : Standing
-  Collects : (command : ℕ) → Collected → Standing
-  Waits : (command : ℕ) → (address : ℕ) → Standing
-  Resumes : (command : ℕ) → Collected → Standing
+-- how the message on a bus stands: its state, with what was collected
+abbrev pub Standing : Type 0
+Standing = MessageState Collected
 
 -- what is kept of the message in progress
 abbrev pub standing_of : Description → Open → Standing
-standing_of P Closed = Idle
-standing_of P (First c after) = Collects c (collected_of P after)
-standing_of P (Waiting c a) = Waits c a
-standing_of P (Second c a after) = Resumes c (collected_of P after)
+standing_of P Idle = Idle
+standing_of P (Collects c after) = Collects c (collected_of P after)
+standing_of P (Waits c a) = Waits c a
+standing_of P (Resumes c after) = Resumes c (collected_of P after)
 
 -- one word more, where there is room
 abbrev pub more : List ℕ → ℕ → Collected
@@ -79,29 +76,29 @@ transfer_of c Spoilt = None
 transfer_of c (Transmitter a) = if is_receive c then Some (c, a) else None
 
 -- how a gap ends what stands: not, in error, or with its words
-pub data Stop : Type 0 where
-  NoStop : Stop
-  ErrorStop : (command : ℕ) → Stop
-  WholeStop : (command : ℕ) → (words : List ℕ) → Stop
+pub data GapEnd : Type 0 where
+  NoEnd : GapEnd
+  InError : (command : ℕ) → GapEnd
+  Complete : (command : ℕ) → (words : List ℕ) → GapEnd
 
-abbrev pub stop_of : ℕ → Option (List ℕ) → Option (ℕ × ℕ) → Stop
-stop_of c (Some ds) t = WholeStop c ds
-stop_of c None (Some t) = NoStop
-stop_of c None None = ErrorStop c
+abbrev pub gap_end_of : ℕ → Option (List ℕ) → Option (ℕ × ℕ) → GapEnd
+gap_end_of c (Some ds) t = Complete c ds
+gap_end_of c None (Some t) = NoEnd
+gap_end_of c None None = InError c
 
-abbrev pub stop_at_gap : Standing → Stop
-stop_at_gap Idle = NoStop
-stop_at_gap (Collects c f) = stop_of c (whole_of c f) (transfer_of c f)
-stop_at_gap (Waits c a) = ErrorStop c
-stop_at_gap (Resumes c f) = stop_of c (whole_of c f) None
+abbrev pub gap_end : Standing → GapEnd
+gap_end Idle = NoEnd
+gap_end (Collects c f) = gap_end_of c (whole_of c f) (transfer_of c f)
+gap_end (Waits c a) = InError c
+gap_end (Resumes c f) = gap_end_of c (whole_of c f) None
 
-abbrev pub stop_ends : Description → Bool → Stop → Ending
-stop_ends P busy NoStop = Nothing
-stop_ends P busy (ErrorStop c) = Badly c
-stop_ends P busy (WholeStop c ds) = well P busy c ds
+abbrev pub ending_at : Description → Bool → GapEnd → Ending
+ending_at P busy NoEnd = Nothing
+ending_at P busy (InError c) = Badly c
+ending_at P busy (Complete c ds) = well P busy c ds
 
 abbrev pub gap_ends : Description → Bool → Standing → Ending
-gap_ends P busy s = stop_ends P busy (stop_at_gap s)
+gap_ends P busy s = ending_at P busy (gap_end s)
 
 abbrev pub waits_for : Option (ℕ × ℕ) → Standing
 waits_for None = Idle
@@ -128,18 +125,13 @@ abbrev pub fails : Option ℕ → Ending
 fails None = Nothing
 fails (Some c) = Badly c
 
-abbrev pub stands_free : Standing → Bool
-stands_free Idle = true
-stands_free (Waits c a) = true
-stands_free _ = false
-
 abbrev pub stands_fresh : Standing → Bool
 stands_fresh (Collects c (Words [])) = is_receive c && is_broadcast c
 stands_fresh _ = false
 
 -- whether a word starts a message, from what is kept
 abbrev pub starts_by : Description → Raw → Bool → Standing → Bool
-starts_by P w heard s = starts_message P w heard (stands_free s) (stands_fresh s)
+starts_by P w heard s = starts_message P w heard (is_free s) (stands_fresh s)
 
 -- what a word leaves, by whether it starts a message and whether it is on this bus
 abbrev pub word_leaves : ℕ → Bool → Bool → Raw → Standing → Standing

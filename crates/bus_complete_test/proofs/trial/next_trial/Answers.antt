@@ -3,7 +3,7 @@ use Rattle.bus_legal.specs.Description.{Description}
 use Rattle.bus_legal.specs.Parts.{description_in}
 use Rattle.terminal_complete_test.specs.CompleteTest.{option_tried, transmit_tried, own_code_tried, wraparound_tried}
 use Rattle.bus_complete_test.specs.declared.trial.Trial.TheVariants.{BroadcastOption, Transmit, OwnCode, Wraparound}
-use Rattle.bus_complete_test.specs.Trials.{IsInRange}
+use Rattle.bus_complete_test.specs.Trials.{IsTrialInRange}
 use Rattle.bus_complete_test.proofs.TrialLaws.{by_trial, place_first, place_end, code_end, subaddress_next, subaddress_last, after_transmits, after_codes, receives_first, heard_first}
 use Rattle.bus_complete_test.proofs.trial.next_trial.Goals as goal
 
@@ -37,4 +37,4 @@ pub returns-in-Wraparound-2-clause-rest : goal.returns-in-Wraparound-2-clause-re
 returns-in-Wraparound-2-clause-rest c =
     let P : Description = description_in c.args.p.now in
     by_trial P c.args.trial (Wraparound c.in-Wraparound.s) _ c.in-Wraparound.is
-    (subaddress_last (wraparound_tried P) c.in-Wraparound.s (subst IsInRange c.in-Wraparound.is c.requires) (omega arith))
+    (subaddress_last (wraparound_tried P) c.in-Wraparound.s (subst IsTrialInRange c.in-Wraparound.is c.requires) (omega arith))

@@ -13,8 +13,8 @@ returns-in_default-item_of c =
 pub loop-rest-preserved-then-is_within : goal.loop-rest-preserved-then-is_within
 loop-rest-preserved-then-is_within c =
     let so_far = rw c.in-Some.is at c.loop-rest.invariant.1 in
-    let bits = rw (c.from.ensures, c.from-then-is_within.ensures) at c.with_bits-mask.ensures in
-    (omega arith, sym (finish-within c.args.low c.args.high c.loop-rest.within c.loop-rest.mask c.with_bits-mask.result _ _ _ c.in-Some-item_of.item c.first_part.ensures.parts (sym (c.in-Some-item_of.ensures)) (sym (c.if-is_within.ensures)) bits) ∙ so_far)
+    let bits = rw (c.from.ensures, c.from-then-is_within.ensures) at c.with_range-mask.ensures in
+    (omega arith, sym (finish-within c.args.low c.args.high c.loop-rest.within c.loop-rest.mask c.with_range-mask.result _ _ _ c.in-Some-item_of.item c.first_part.ensures.parts (sym (c.in-Some-item_of.ensures)) (sym (c.if-is_within.ensures)) bits) ∙ so_far)
 
 pub loop-rest-preserved : goal.loop-rest-preserved
 loop-rest-preserved c =

@@ -4,4 +4,4 @@ use Rattle.bus_script.proofs.RoundTrip.{event_read}
 use Rattle.bus_script.proofs.event_line.write_event.Goals as goal
 
 pub returns-clause-read : goal.returns-clause-read
-returns-clause-read c = ap meaning c.event_text.ensures ∙ event_read c.args.event.now c.is_proper.ensures
+returns-clause-read c = ap meaning c.event_text.ensures.text ∙ event_read c.args.event.now c.event_text.ensures.proper

@@ -9,7 +9,7 @@ returns-in-Ok-clause-ok g c =
     let n : c.in-Ok.count ≤ length out = c.in-Ok.ensures.count in (
       take c.in-Ok.count out,
       grind (arith, common_steps),
-      filled c.args.held c.in-Ok.count c.args.buffer.now out (omega arith) n,
+      filled c.args.buffered c.in-Ok.count c.args.buffer.now out (omega arith) n,
       c.in-Ok.ensures.bytes.0,
       λ none. c.in-Ok.ensures.bytes.1 none (omega arith),
     )

@@ -9,39 +9,39 @@ use Rattle.bus_script.proofs.run.run_lines.Goals as goal
 
 pub reads-init : goal.reads-init
 reads-init g c = record {
-  held = omega arith;
+  buffered = omega arith;
   fits = refl;
   running = ([], [], Running-nil meaning (StandsAt g.L.Legality.is_legal) text_at g.R.Source.left g.W.Sink.written c.args.terminal.now c.args.reader.now c.args.writer.now _ _ c.requires.lines c.requires.events);
 }
 
 pub returns-in-Err-clause-fault : goal.returns-in-Err-clause-fault
-returns-in-Err-clause-fault g c = Running-unsent c.hand_on.new.writer c.reads.invariant.running.2 c.hand_on.ensures.kept c.in-Err.ensures.some
+returns-in-Err-clause-fault g c = Running-unsent c.flush_after_events.new.writer c.reads.invariant.running.2 c.flush_after_events.ensures.bytes c.in-Err.ensures.some
 
 pub returns-in-Err-fill-clause-fault : goal.returns-in-Err-fill-clause-fault
-returns-in-Err-fill-clause-fault g c = Running-unread c.fill.new.reader c.hand_on.new.writer c.reads.invariant.running.2 c.hand_on.ensures.kept c.in-Err-fill.ensures.err
+returns-in-Err-fill-clause-fault g c = Running-unread c.fill.new.reader c.flush_after_events.new.writer c.reads.invariant.running.2 c.flush_after_events.ensures.bytes c.in-Err-fill.ensures.err
 
 pub returns-in-Err-feed_lines-clause-fault : goal.returns-in-Err-feed_lines-clause-fault
 returns-in-Err-feed_lines-clause-fault g c =
-    let chunk = take (c.reads.held + c.in-Ok-fill.count) c.fill.new.buffer in
+    let chunk = take (c.reads.buffered + c.in-Ok-fill.count) c.fill.new.buffer in
     let f = c.in-Ok-fill.ensures.ok in
     let r = c.reads.invariant.running.2 in
     ByFault-IfSome c.in-Err-feed_lines.fault (g.R.Source.left c.args.reader.now) _ _ _
     (ByFault-weaker c.in-Err-feed_lines.fault
-    (λ s. Running-refused c.fill.new.reader f.0 chunk r c.hand_on.ensures.kept f.3 f.2 s.1 s.2 s.3)
+    (λ s. Running-refused c.fill.new.reader f.0 chunk r c.flush_after_events.ensures.bytes f.3 f.2 s.1 s.2 s.3)
     (λ x. x)
-    (λ w. Running-broken c.fill.new.reader f.0 chunk w.2 w.3 r c.hand_on.ensures.kept f.3 f.2 w.5 w.6 w.8)
+    (λ w. Running-broken c.fill.new.reader f.0 chunk w.2 w.3 r c.flush_after_events.ensures.bytes f.3 f.2 w.5 w.6 w.8)
     c.in-Err-feed_lines.ensures.fault)
 
 pub reads-preserved : goal.reads-preserved
 reads-preserved g c =
-    let chunk = take (c.reads.held + c.in-Ok-fill.count) c.fill.new.buffer in
+    let chunk = take (c.reads.buffered + c.in-Ok-fill.count) c.fill.new.buffer in
     let f = c.in-Ok-fill.ensures.ok in
     let p = c.in-Ok-feed_lines.ensures.ok in
     let within = p.1.feeding.within in
     let short = p.1.rest.short in
-    let fits : c.reads.held + c.in-Ok-fill.count ≤ length c.fill.new.buffer = c.in-Ok-fill.ensures.fits in
+    let fits : c.reads.buffered + c.in-Ok-fill.count ≤ length c.fill.new.buffer = c.in-Ok-fill.ensures.fits in
     record {
-      held = rest_len c.in-Ok-feed_lines.done (c.reads.held + c.in-Ok-fill.count) c.fill.new.buffer fits short;
+      buffered = rest_len c.in-Ok-feed_lines.done (c.reads.buffered + c.in-Ok-fill.count) c.fill.new.buffer fits short;
       fits = omega arith;
       running = (
         c.reads.invariant.running.0 ++ take c.in-Ok-feed_lines.done chunk,
@@ -49,8 +49,8 @@ reads-preserved g c =
         subst (λ xs. Running meaning (StandsAt g.L.Legality.is_legal) text_at g.R.Source.left g.W.Sink.written c.args.terminal.now c.feed_lines.new.terminal
             c.args.reader.now c.fill.new.reader c.args.writer.now c.feed_lines.new.writer c.feed_lines.new.counts.lines c.feed_lines.new.counts.events xs
             (c.reads.invariant.running.0 ++ take c.in-Ok-feed_lines.done chunk) (c.reads.invariant.running.1 ++ p.0))
-            (sym c.keep.ensures)
-            (Running-fed f.0 chunk c.reads.invariant.running.2 c.hand_on.ensures.kept f.3 f.2 p.1),
+            (sym c.move_to_front.ensures)
+            (Running-fed f.0 chunk c.reads.invariant.running.2 c.flush_after_events.ensures.bytes f.3 f.2 p.1),
       );
     }
 
@@ -58,8 +58,8 @@ pub returns-clause-fault : goal.returns-clause-fault
 returns-clause-fault g c =
     let f = c.in-Ok-fill.ensures.ok in
     let none : f.0 ≡ [] = no_bytes f.0 c.in-Ok-fill.count f.1 c.if-count-eq0.true in
-    let still = same_front c.reads.held c.in-Ok-fill.count f.0 c.reads.buffer c.fill.new.buffer c.if-count-eq0.true none f.2 in
-    let r = Running-end f.0 c.reads.invariant.running.2 c.hand_on.ensures.kept f.3 none in
+    let still = same_front c.reads.buffered c.in-Ok-fill.count f.0 c.reads.buffer c.fill.new.buffer c.if-count-eq0.true none f.2 in
+    let r = Running-end f.0 c.reads.invariant.running.2 c.flush_after_events.ensures.bytes f.3 none in
     IfErr-weaker c.finish.result _ _
     (λ fault stopped. ByFault-IfSome fault (g.R.Source.left c.args.reader.now) _ _ _
     (ByFault-weaker fault
@@ -73,6 +73,6 @@ pub returns-clause-ok : goal.returns-clause-ok
 returns-clause-ok g c =
     let f = c.in-Ok-fill.ensures.ok in
     let none : f.0 ≡ [] = no_bytes f.0 c.in-Ok-fill.count f.1 c.if-count-eq0.true in
-    let still = same_front c.reads.held c.in-Ok-fill.count f.0 c.reads.buffer c.fill.new.buffer c.if-count-eq0.true none f.2 in
-    let r = Running-end f.0 c.reads.invariant.running.2 c.hand_on.ensures.kept f.3 none in
+    let still = same_front c.reads.buffered c.in-Ok-fill.count f.0 c.reads.buffer c.fill.new.buffer c.if-count-eq0.true none f.2 in
+    let r = Running-end f.0 c.reads.invariant.running.2 c.flush_after_events.ensures.bytes f.3 none in
     on_ok_weaker c.finish.result (λ p. Running-done r (f.4 c.if-count-eq0.true) (rw still at p.1) p.2 p.3) c.finish.ensures.ok

@@ -8,12 +8,12 @@ use Rattle.bus_script.proofs.run.run_lines.Given as goal
 
 abbrev pub invariant-reads : goal.invariant-reads
 invariant-reads g l = record {
-  held : l.held ≤ 64;
+  buffered : l.buffered ≤ 64;
   fits : length l.buffer ≡ 65536;
   running : (whole : List ℕ) × (es : List Event)
       × Running meaning (StandsAt g.L.Legality.is_legal) text_at g.R.Source.left g.W.Sink.written l.fn.terminal l.terminal l.fn.reader l.reader l.fn.writer l.writer
-      l.counts.lines l.counts.events (take l.held l.buffer) whole es;
+      l.counts.lines l.counts.events (take l.buffered l.buffer) whole es;
 }
 
 abbrev pub decreases-reads : goal.decreases-reads
-decreases-reads g l = 68157505 - (65 * l.counts.lines + l.held)
+decreases-reads g l = 68157505 - (65 * l.counts.lines + l.buffered)

@@ -9,5 +9,5 @@ use Rattle.rt1553_acceptance.proofs.writing.put_event.Goals as goal
 pub returns-clause-wrote : goal.returns-clause-wrote
 returns-clause-wrote g c = on_ok_weaker c.write_all.result
     (λ wrote. Plays-one (StandsAt g.L.Legality.is_legal) event_stated g.W.Sink.written _ _ _ _ c.args.event _ c.step.follows.holds-at-none
-    (λ P h s. c.as_bytes.ensures.value ∙ c.as_str.ensures.value ∙ c.lines_of-lines.ensures ∙ ap (λ o. event_text c.args.event ++ 10 ∷ answer_stated o) (c.step.ensures.answer P h s)) wrote)
+    (λ P h s. c.as_bytes.ensures.value ∙ c.as_str.ensures.value ∙ c.stated_lines-lines.ensures ∙ ap (λ o. event_text c.args.event ++ 10 ∷ answer_stated o) (c.step.ensures.answer P h s)) wrote)
     c.write_all.ensures.ok

@@ -3,7 +3,7 @@ use Rattle.std.proofs.lemmas.Bool.Decides.{nat_tests}
 use Rattle.csv.specs.declared.parser.State.TheVariants.{StartRecord}
 use Rattle.csv.specs.Reading.{AreRecords, default_config, strip_bom}
 use Rattle.csv.specs.Records.{fields_of}
-use Rattle.rt1553_results.specs.Results.{AreRead}
+use Rattle.rt1553_results.specs.Results.{AreResultsRead}
 use Rattle.rt1553_results.proofs.ResultLaws.{SoFar, so_far_none, so_far_more, under_header, row_more, all_under}
 use Rattle.rt1553_results.proofs.results.read_results.Goals as goal
 
@@ -33,7 +33,7 @@ returns c =
       pairs = so_far.pairs;
       records = subst (AreRecords default_config StartRecord (strip_bom c.args.text.now)) (ap (map fields_of) (sym c.as_slice-rows.ensures.value) ∙ under_header rows first some c.index-rows-0.is) c.in_ok-records.ensures;
       found = c.in_ok-columns.ensures;
-      read = subst (λ rows. AreRead c.in_ok-columns.columns rows so_far.pairs) (ap (map fields_of) (all_under rows c.loop-row.row-index c.loop-row-test.false)) so_far.read;
+      read = subst (λ rows. AreResultsRead c.in_ok-columns.columns rows so_far.pairs) (ap (map fields_of) (all_under rows c.loop-row.row-index c.loop-row-test.false)) so_far.read;
       once = so_far.once;
       answers = so_far.answers;
     }

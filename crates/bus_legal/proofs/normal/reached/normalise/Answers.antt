@@ -31,8 +31,8 @@ invariant_of-result c =
       unheard_receive = tables.ensures.unheard_receive;
       unheard_mode = tables.ensures.unheard_mode;
       unasked_accept = λ e. c.accepts.ensures ∙ ap (λ b. b && p.accept) e;
-      unasked_vector = λ e. c.asked_word.ensures ∙ off_word _ p.vector e;
-      unasked_bit = λ e. c.asked_word-2.ensures ∙ off_word _ p.bit e;
+      unasked_vector = λ e. c.reached_word.ensures ∙ off_word _ p.vector e;
+      unasked_bit = λ e. c.reached_word-2.ensures ∙ off_word _ p.bit e;
       wrap = c.reached_wrap.ensures.small;
       unwrapped = c.reached_wrap.ensures.unwrapped;
       unsent = λ s i l k past. words.ensures.words s i l k ∙ off_word (nat_lt i (largest_in (get_or masks.own_transmit s 0))) _ (grind (arith, nat_tests, past));
@@ -54,8 +54,8 @@ returns c =
       small = p.own_wrap;
       wrap = c.reached_wrap.ensures.wrap;
       accept = c.accepts.ensures;
-      vector = c.asked_word.ensures;
-      bit = c.asked_word-2.ensures;
+      vector = c.reached_word.ensures;
+      bit = c.reached_word-2.ensures;
       initial = λ s i place.
           words.ensures.words (s - 1) (i - 1) (place_low s i place) (place_high s i place)
           ∙ ap (λ w. cond (nat_lt (i - 1) (largest_in (get_or masks.own_transmit (s - 1) 0))) w 0)

@@ -5,7 +5,7 @@ use Rattle.rt1553_results.proofs.comparison.Comparison.passes.Goals as goal
 
 pub returns-then-is_empty : goal.returns-then-is_empty
 returns-then-is_empty c =
-    let ds = c.args.self.now.differences.items in
+    let ds = c.args.self.now.wrong_replies.items in
     let none : length ds ≡ 0 = grind (arith, nat_tests, c.is_empty.ensures, c.if-is_empty.true) in
     let missing = c.args.self.now.missing in
     let same : vec_len missing ≡ length missing.items = omega arith in

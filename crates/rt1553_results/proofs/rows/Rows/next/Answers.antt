@@ -15,15 +15,15 @@ returns-clause-next c n left is =
     let P = is.description in
     let h = is.history in
     let rest = exchanges_left c.next.new.self in
-    let row = c.play.ensures.row P h is.stands in (
-      c.play.ensures.number ∙ (c.given-number.ensures ∙ (c.in_ok-exchange.ensures.given ∙ is.number)),
+    let row = c.play_exchange.ensures.row P h is.stands in (
+      c.play_exchange.ensures.number ∙ (c.given-number.ensures ∙ (c.in_ok-exchange.ensures.given ∙ is.number)),
       (
         rows_from P (after_exchange x h) rest,
         next_row P h x (exchanges_left c.args.self.now.exchanges) rest left c.in_ok-exchange.ensures.next is.rest ∙ ap (λ r. r ∷ rows_from P (after_exchange x h) rest) (sym row),
         record {
           description = P;
           history = after_exchange x h;
-          stands = c.play.ensures.stands P h is.stands;
+          stands = c.play_exchange.ensures.stands P h is.stands;
           rest = refl;
           number = ap (λ k. k + 1) (c.in_ok-exchange.ensures.given ∙ is.number);
         },

@@ -1,7 +1,7 @@
 use Rattle.std.proofs.Common.{take}
 use Rattle.std.specs.Io.KnownBytes.{Appends}
-use Rattle.rt1553_program.specs.Work.{script_text}
-use Rattle.rt1553_program.proofs.work.say_script.Given as goal
+use Rattle.bus_script.specs.EventLine.{script_text}
+use Rattle.rt1553_program.proofs.work.write_script.Given as goal
 
 abbrev pub invariant-loop-event : goal.invariant-loop-event
 invariant-loop-event g l = Appends (g.W.Sink.written l.fn.writer) (g.W.Sink.written l.writer) (script_text (take l.event-index l.event-items))

@@ -1,26 +1,26 @@
-//! A sink that keeps what is written, up to a bound.
+//! A sink into memory, up to a bound.
 ghost use Rattle.std.specs.Prelude.{◌≡◌, [], Some, false};
 
 use bus_script::{IoFailed, Sink};
 use std::alloc::Global;
 
-/// Keeps at most `most` bytes.
+/// Stores at most `most` bytes.
 #[derive(Drop)]
-pub struct Kept {
+pub struct BoundedSink {
     bytes: Vec<u8>,
     most: usize,
     failed: bool,
     full: bool,
 }
 
-impl Kept {
-    /// Nothing is kept yet.
-    pub fn new(alloc: Global, most: usize) -> Kept
-        ensures written { ⟦<Kept as Sink>⟧.written result ≡ Some [] }
-        ensures fresh { ⟦<Kept as Sink>⟧.has_failed result ≡ false }
+impl BoundedSink {
+    /// Nothing is stored yet.
+    pub fn new(alloc: Global, most: usize) -> BoundedSink
+        ensures written { ⟦<BoundedSink as Sink>⟧.written result ≡ Some [] }
+        ensures fresh { ⟦<BoundedSink as Sink>⟧.has_failed result ≡ false }
         ensures most { result.most ≡ most }
     {
-        Kept {
+        BoundedSink {
             bytes: Vec::new(alloc),
             most,
             failed: false,
@@ -37,13 +37,13 @@ impl Kept {
 
     /// What was written.
     pub fn as_slice(&self) -> &[u8]
-        ensures { ⟦<Kept as Sink>⟧.written self.now ≡ Some result.now }
+        ensures { ⟦<BoundedSink as Sink>⟧.written self.now ≡ Some result.now }
     {
         self.bytes.as_slice()
     }
 }
 
-impl Sink for Kept {
+impl Sink for BoundedSink {
     ghost written = { λ s. Some s.bytes.items };
 
     ghost has_failed = { λ s. s.failed };

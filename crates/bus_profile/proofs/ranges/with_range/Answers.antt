@@ -1,6 +1,6 @@
 use Rattle.std.proofs.Common.{◌∙◌, ap, ◌||◌, ◌==◌, arith}
 use Rattle.bus_profile.proofs.Bits.{has_bit-set, with_next, with_last}
-use Rattle.bus_profile.proofs.ranges.with_bits.Goals as goal
+use Rattle.bus_profile.proofs.ranges.with_range.Goals as goal
 
 pub loop-bit-preserved : goal.loop-bit-preserved
 loop-bit-preserved c i l =
