@@ -1,2 +1,3 @@
 pub mod TrialLaws
 pub mod WrapLaws
+pub mod WaitingLaws

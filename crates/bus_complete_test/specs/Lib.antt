@@ -1,3 +1,5 @@
 pub use Rattle.bus_legal.specs.Parts
 pub mod Steps
 pub mod Trials
+pub mod Left
+pub mod inner

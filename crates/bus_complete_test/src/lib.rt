@@ -3,7 +3,9 @@
 
 mod exchanges;
 mod trial;
+mod walk;
 
 pub use exchanges::exchanges_of;
 pub use terminal_exchanges::Exchange;
 pub use trial::{Trial, first_trial, next_trial};
+pub use walk::Exchanges;

@@ -1,6 +1,6 @@
 -- What was written of exchanges, one after the other.
-use Rattle.std.proofs.Common.{ℕ, zero, suc, ◌≡◌, ◌∙◌, ◌+◌, ◌<◌, ◌||◌, Bool, true, false, List, [], ◌∷◌, ◌++◌, Option, Result, Ok, Err, OnOk, length, get_or, map, take, refl, sym, ap, subst, arith, append_assoc, append-nil}
-use Rattle.std.proofs.lemmas.List.{take_more, map-append}
+use Rattle.std.proofs.Common.{ℕ, ◌≡◌, ◌∙◌, ◌+◌, ◌<◌, ◌||◌, Bool, true, false, List, [], ◌∷◌, ◌++◌, Option, Result, Ok, Err, OnOk, length, get_or, take, refl, sym, ap, subst, append_assoc, append-nil}
+use Rattle.std.proofs.lemmas.List.{take_more}
 use Rattle.std.specs.Io.KnownBytes.{Appends}
 use Rattle.std.proofs.KnownBytes.{Appends-nil, Appends-trans}
 use Rattle.bus_word.specs.declared.cell.Cell.{Cell}
@@ -8,8 +8,6 @@ use Rattle.bus_legal.specs.Description.{Description}
 use Rattle.terminal_rules.specs.declared.event.Event.{Event}
 use Rattle.terminal_rules.specs.Past.{history_after}
 use Rattle.terminal_exchanges.specs.Exchanges.{Exchange, exchange_then, script_of}
-use Rattle.terminal_exchanges.specs.Values.{exchange_in, IsShort, AreShort}
-use Rattle.terminal_exchanges.specs.declared.exchange.Exchange.{Exchange as Value}
 use Rattle.terminal_exchanges.proofs.EventLaws.{exchange-append}
 use Rattle.bus_terminal.specs.declared.terminal.Terminal.{Terminal}
 use Rattle.bus_terminal.specs.Stands.{StandsAt}
@@ -86,15 +84,6 @@ Puts-events is_legal written P t t' w w' w'' x events (Err e) is comment plays f
 -- one element more of a list
 pub taken_more : {X : Type 0} (xs : List X) (i : ℕ) (x : X) → i < length xs → get_or xs i x ≡ x → take (i + 1) xs ≡ take i xs ++ x ∷ []
 taken_more xs i x low is = take_more xs i x low ∙ ap (λ y. take i xs ++ y ∷ []) is
-
-pub short_at : (xs : List Value) (i : ℕ) (d : Value) → i < length xs → AreShort xs → IsShort (get_or xs i d)
-short_at [] i d low short = absurd (omega (arith, low))
-short_at (x ∷ xs) zero d low short = short.0
-short_at (x ∷ xs) (suc i) d low short = short_at xs i d (omega (arith, low)) short.1
-
--- one exchange more
-pub exchange_more : (xs : List Value) (i : ℕ) (d : Value) → i < length xs → map exchange_in (take (i + 1) xs) ≡ map exchange_in (take i xs) ++ exchange_in (get_or xs i d) ∷ []
-exchange_more xs i d low = ap (map exchange_in) (take_more xs i d low) ∙ map-append exchange_in (take i xs) (get_or xs i d ∷ [])
 
 -- a write that passes leaves it as it was whether one has failed
 pub failed_as_before : (first old new : Bool) → old ≡ first → new ≡ (old || false) → new ≡ first

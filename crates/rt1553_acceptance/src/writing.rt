@@ -1,11 +1,11 @@
 //! The acceptance test, written.
-ghost use Rattle.std.specs.Prelude.{◌≡◌, ◌||◌, ◌∷◌, [], List, map, not, is_ok, OnOk};
+ghost use Rattle.std.specs.Prelude.{◌≡◌, ◌||◌, ◌∷◌, [], List, not, is_ok, OnOk};
 ghost use Rattle.std.specs.Io.KnownBytes.{Appends};
 ghost use Rattle.bus_legal.specs.Description.{Description};
 ghost use Rattle.bus_legal.specs.Parts.{description_in};
 ghost use Rattle.terminal_rules.specs.declared.event.Event.{Event};
 ghost use Rattle.terminal_rules.specs.Out.{out};
-ghost use Rattle.terminal_exchanges.specs.Values.{exchange_in, IsShort, AreShort};
+ghost use Rattle.terminal_exchanges.specs.Values.{exchange_in, IsShort};
 ghost use Rattle.terminal_complete_test.specs.CompleteTest.{tried};
 ghost use Rattle.bus_terminal.specs.Stands.{StandsAt};
 ghost use Rattle.bus_script.specs.Playing.{Plays};
@@ -16,7 +16,7 @@ ghost use Rattle.rt1553_acceptance.specs.inner.Puts.{Puts};
 
 use crate::label::label_of;
 use crate::stating::{StatedLines, fits, stated_lines};
-use bus_complete_test::{Exchange, exchanges_of, first_trial, next_trial};
+use bus_complete_test::{Exchange, Exchanges};
 use bus_legal::{Legality, Normal};
 use bus_script::{IoFailed, Sink, write_all};
 use bus_terminal::{Event, Terminal};
@@ -88,27 +88,8 @@ fn put_exchange<L: Legality, W: Sink>(
     put_events(sink, terminal, events.as_slice())
 }
 
-/// Plays exchanges, and writes each behind its comment.
+/// Plays all exchanges of the test, and writes each behind its comment.
 fn put_exchanges<L: Legality, W: Sink, T: Progress>(
-    sink: &mut W,
-    terminal: &mut Terminal<L>,
-    p: &Normal,
-    exchanges: &[Exchange],
-    progress: &mut T,
-) -> Result<(), IoFailed>
-    requires { AreShort exchanges.now }
-    ensures wrote { OnOk result (Puts L.is_legal W.written (description_in p.now) terminal.old terminal.new sink.old sink.new (map exchange_in exchanges.now)) }
-    ensures failed { W.has_failed sink.new ≡ (W.has_failed sink.old || not (is_ok result)) }
-{
-    for exchange in exchanges {
-        put_exchange(sink, terminal, p, *exchange)?;
-        progress.exchange_written();
-    }
-    Ok(())
-}
-
-/// Plays all trials, and writes them.
-fn put_trials<L: Legality, W: Sink, T: Progress>(
     sink: &mut W,
     terminal: &mut Terminal<L>,
     p: &Normal,
@@ -117,11 +98,10 @@ fn put_trials<L: Legality, W: Sink, T: Progress>(
     ensures wrote { OnOk result (Puts L.is_legal W.written (description_in p.now) terminal.old terminal.new sink.old sink.new (tried (description_in p.now))) }
     ensures failed { W.has_failed sink.new ≡ (W.has_failed sink.old || not (is_ok result)) }
 {
-    let mut next = Some(first_trial());
-    while let Some(trial) = next {
-        let exchanges = exchanges_of(p, trial);
-        put_exchanges(sink, terminal, p, exchanges.as_slice(), progress)?;
-        next = next_trial(p, trial);
+    let mut exchanges = Exchanges::new(p);
+    while let Some(exchange) = exchanges.next() {
+        put_exchange(sink, terminal, p, exchange)?;
+        progress.exchange_written();
     }
     Ok(())
 }
@@ -140,5 +120,5 @@ pub fn write_acceptance<W: Sink, T: Progress>(
 {
     let setup = normal.setup();
     let mut terminal = Terminal::power_up(setup, *normal);
-    put_trials(sink, &mut terminal, normal, progress)
+    put_exchanges(sink, &mut terminal, normal, progress)
 }

@@ -1,5 +1,4 @@
 pub mod PlayLaws
-pub mod StepLaws
 pub mod RowLaws
 pub mod TextLaws
 pub mod FieldLaws

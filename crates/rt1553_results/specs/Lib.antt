@@ -6,4 +6,3 @@ pub mod Table
 pub mod Results
 pub mod Compare
 pub mod Unit
-pub mod inner

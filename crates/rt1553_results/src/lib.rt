@@ -3,7 +3,6 @@
 
 mod comparing;
 mod comparison;
-mod exchanges;
 mod fields;
 mod json;
 pub mod laws;

@@ -2,8 +2,8 @@
 ghost use Rattle.std.specs.Prelude.{◌≡◌, ◌<◌, ◌+◌, ◌∷◌, [], ℕ, List, MatchOption, OnSome};
 ghost use Rattle.bus_legal.specs.Parts.{description_in};
 
-use crate::exchanges::Exchanges;
 use crate::playing::{TestRow, play_exchange};
+use bus_complete_test::Exchanges;
 use bus_legal::Normal;
 use bus_terminal::Terminal;
 

@@ -1,6 +1,6 @@
 use Rattle.std.proofs.Common.{◌+◌, ◌∙◌, sym, ap, ◌∷◌, refl}
 use Rattle.terminal_exchanges.specs.Values.{exchange_in}
-use Rattle.rt1553_results.specs.Left.{exchanges_left}
+use Rattle.bus_complete_test.specs.Left.{exchanges_left}
 use Rattle.rt1553_results.specs.Rows.{after_exchange, rows_from}
 use Rattle.rt1553_results.proofs.RowLaws.{next_row, no_row}
 use Rattle.rt1553_results.proofs.rows.Rows.next.Goals as goal

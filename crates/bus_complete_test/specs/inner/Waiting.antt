@@ -1,5 +1,5 @@
--- Where the exchanges of the test stand.
-use Rattle.std.specs.Prelude.{Bool, true, nat_lt, nat_le, Option, Some, None, List}
+-- The trial that comes next, and the exchanges that wait, as truth values.
+use Rattle.std.specs.Prelude.{Bool, true, ◌&&◌, nat_lt, nat_le, Option, Some, None, List}
 use Rattle.std.specs.List.{list_all}
 use Rattle.bus_word.specs.Cell.{is_data_place}
 use Rattle.terminal_exchanges.specs.declared.exchange.Exchange.{Exchange}
@@ -17,6 +17,6 @@ is_trial (Some (BroadcastReceive s n)) = is_data_place s n
 is_trial (Some (BroadcastCode code)) = nat_lt code 32
 is_trial (Some (Wraparound s)) = is_data_place s 1
 
--- no exchange has more than 33 slots: a status word and 32 data words
-abbrev pub are_few : List Exchange → Bool
-are_few exchanges = list_all (λ x. nat_le x.slots 33) exchanges
+-- no exchange has more than 32 data words or 33 slots
+abbrev pub are_short : List Exchange → Bool
+are_short exchanges = list_all (λ x. nat_le x.zeros 31 && nat_le x.slots 33) exchanges

@@ -1,13 +1,15 @@
-//! The exchanges of the acceptance test, one after the other.
+//! The exchanges of the complete test, one after the other, in constant memory.
 ghost use Rattle.std.specs.Prelude.{◌≡◌, ◌≤◌, ◌+◌, ◌*◌, true, length};
 ghost use Rattle.bus_complete_test.specs.Trials.{trials_left};
-ghost use Rattle.rt1553_results.specs.inner.Steps.{is_trial, are_few};
+ghost use Rattle.bus_complete_test.specs.inner.Waiting.{is_trial, are_short};
 
+use crate::exchanges::exchanges_of;
+use crate::trial::{Trial, first_trial, next_trial};
 use arrayvec::ArrayVec;
-use bus_complete_test::{Exchange, Trial, exchanges_of, first_trial, next_trial};
 use bus_legal::Normal;
+use terminal_exchanges::Exchange;
 
-/// The exchanges of the acceptance test that are still to come.
+/// The exchanges of the complete test of a terminal that are still to come.
 #[derive(Drop)]
 pub struct Exchanges {
     normal: Normal,
@@ -18,18 +20,18 @@ pub struct Exchanges {
     /// How many were given.
     given: u32,
     ghost ranges: { is_trial trial ≡ true },
-    ghost few: { are_few waiting.items ≡ true },
+    ghost short: { are_short waiting.items ≡ true },
     ghost small: { given + (length waiting.items + 2 * trials_left trial) ≤ 20000 },
 }
 
 impl Exchanges {
     ghost use Rattle.std.specs.Prelude.{◌<◌, ◌++◌, ◌∷◌, [], ℕ, MatchOption, IfSome, None, OnSome, IsNone};
-    ghost use Rattle.terminal_exchanges.specs.Values.{exchange_in};
+    ghost use Rattle.terminal_exchanges.specs.Values.{exchange_in, IsShort};
     ghost use Rattle.bus_legal.specs.Parts.{description_in};
     ghost use Rattle.terminal_complete_test.specs.CompleteTest.{tried};
-    ghost use Rattle.rt1553_results.specs.Left.{exchanges_left};
+    ghost use Rattle.bus_complete_test.specs.Left.{exchanges_left};
 
-    /// All exchanges of the acceptance test.
+    /// All exchanges of the complete test of a terminal.
     pub fn new(normal: &Normal) -> Exchanges
         ensures left { exchanges_left result ≡ tried (description_in normal.now) }
         ensures given { result.given ≡ 0 }
@@ -73,7 +75,7 @@ impl Exchanges {
     pub fn next(&mut self) -> Option<Exchange>
         ensures next { MatchOption result (exchanges_left self.old ≡ []) (λ x. exchanges_left self.old ≡ exchange_in x ∷ exchanges_left self.new) }
         ensures given { OnSome result (self.new.given ≡ self.old.given + 1) }
-        ensures few { IfSome result (λ x. x.slots ≤ 33) }
+        ensures short { IfSome result IsShort }
     {
         self.refill();
         if self.waiting.is_empty() {

@@ -1,7 +1,7 @@
 use Rattle.std.proofs.Common.{◌≡◌}
 use Rattle.bus_complete_test.specs.Trials.{trials_left}
-use Rattle.rt1553_results.specs.Left.{exchanges_left}
-use Rattle.rt1553_results.proofs.exchanges.Exchanges.refill.Given as goal
+use Rattle.bus_complete_test.specs.Left.{exchanges_left}
+use Rattle.bus_complete_test.proofs.walk.Exchanges.refill.Given as goal
 
 abbrev pub invariant-loop-trial : goal.invariant-loop-trial
 invariant-loop-trial l = record {

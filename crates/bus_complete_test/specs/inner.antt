@@ -1,0 +1,2 @@
+-- What an iterator over the exchanges keeps true of its fields.
+pub mod Waiting
