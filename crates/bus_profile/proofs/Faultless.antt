@@ -36,28 +36,28 @@ use Rattle.bus_profile.proofs.Tree.{entries_fault, settings_fault, key_fault, co
 
 -- ---- no fault among several
 
-first_fault-none : (cs : List Check) → HasNoFault cs → first_fault cs ≡ None
+pub first_fault-none : (cs : List Check) → HasNoFault cs → first_fault cs ≡ None
 first_fault-none [] h = refl
 first_fault-none (c ∷ cs) h = rw (h c (inl refl)) (first_fault-none cs (λ d among. h d (inr among)))
 
-no_first : (a b : Option ProfileFault) → option_or a b ≡ None → a ≡ None
+pub no_first : (a b : Option ProfileFault) → option_or a b ≡ None → a ≡ None
 no_first None b e = refl
 no_first (Some f) b e = e
 
-no_second : (a b : Option ProfileFault) → option_or a b ≡ None → b ≡ None
+pub no_second : (a b : Option ProfileFault) → option_or a b ≡ None → b ≡ None
 no_second None b e = e
 no_second (Some f) b e = absurd (cc)
 
 -- faults that are asked for in turn
-abbrev in_turn : List (Option ProfileFault) → Option ProfileFault
+abbrev pub in_turn : List (Option ProfileFault) → Option ProfileFault
 in_turn [] = None
 in_turn (o ∷ os) = option_or o (in_turn os)
 
-abbrev AreNone : List (Option ProfileFault) → Type 0
+abbrev pub AreNone : List (Option ProfileFault) → Type 0
 AreNone [] = Unit {0}
 AreNone (o ∷ os) = (o ≡ None) × AreNone os
 
-each_none : (os : List (Option ProfileFault)) → in_turn os ≡ None → AreNone os
+pub each_none : (os : List (Option ProfileFault)) → in_turn os ≡ None → AreNone os
 each_none [] e = tt
 each_none (o ∷ os) e = (no_first o (in_turn os) e, each_none os (no_second o (in_turn os) e))
 

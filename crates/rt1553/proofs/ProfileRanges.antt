@@ -9,7 +9,7 @@ use Rattle.bus_profile.specs.declared.fault.Part.{Part}
 use Rattle.bus_profile.specs.declared.fault.Part.TheVariants as part
 use Rattle.bus_profile.specs.declared.fault.ProfileFault.{ProfileFault}
 use Rattle.profile_types.specs.declared.profile.Profile.{Profile}
-use Rattle.bus_profile.specs.Checks.{Check, HasNoFault, in_order, first_fault}
+use Rattle.bus_profile.specs.Checks.{in_order, first_fault}
 use Rattle.bus_profile.specs.Faults.{key_checks, head_checks, each_item, entry_checks, rule_checks, mode_checks, initial_checks, word_checks, goes_beyond, faults}
 use Rattle.bus_profile.specs.Keys.{KeyRow, key_row, whole, optional, address_row, broadcast_row, wraparound_row, accept_row, vector_row, bit_row, rules_key, modes_key, initials_key, root_rows, subaddress_row, at_row, words_row, initial_rows}
 use Rattle.bus_profile.specs.Kinds.{found, value, whole_in, or_default, items, is_too_long}
@@ -19,6 +19,7 @@ use Rattle.bus_profile.specs.Gives.{each_of, initial_word_in, initial_in}
 use Rattle.bus_profile.specs.Read.{Accepts}
 use Rattle.bus_profile.specs.inner.FirstFault.{fault_of_parts}
 use Rattle.bus_profile.proofs.Arrays.{range_of}
+use Rattle.bus_profile.proofs.Faultless.{first_fault-none, no_first, no_second, each_none}
 use Rattle.bus_profile.proofs.Sections.{unknown_fault, row_fault, initial_fault}
 use Rattle.bus_profile.proofs.Tree.{entries_fault, settings_fault, key_fault, code_fault, tree_fault}
 use Rattle.bus_legal.specs.Initial.{gives_number, gives, word_given, initial_word}
@@ -26,33 +27,6 @@ use Rattle.bus_legal.specs.Meaning.{description_of}
 use Rattle.bus_legal.proofs.Bools.{right_of}
 use Rattle.bus_legal.proofs.LegalLaws.{legal_allowed, required_codes}
 use Rattle.bus_legal.proofs.Made.{IsInRange}
-
--- ---- no fault among several
-
-none_first : (cs : List Check) → HasNoFault cs → first_fault cs ≡ None
-none_first [] h = refl
-none_first (c ∷ cs) h = rw (h c (inl refl)) (none_first cs (λ d among. h d (inr among)))
-
-no_first : (a b : Option ProfileFault) → option_or a b ≡ None → a ≡ None
-no_first None b e = refl
-no_first (Some f) b e = e
-
-no_second : (a b : Option ProfileFault) → option_or a b ≡ None → b ≡ None
-no_second None b e = e
-no_second (Some f) b e = absurd (cc)
-
--- faults that are asked for in turn
-abbrev in_turn : List (Option ProfileFault) → Option ProfileFault
-in_turn [] = None
-in_turn (o ∷ os) = option_or o (in_turn os)
-
-abbrev AreNone : List (Option ProfileFault) → Type 0
-AreNone [] = Unit {0}
-AreNone (o ∷ os) = (o ≡ None) × AreNone os
-
-each_none : (os : List (Option ProfileFault)) → in_turn os ≡ None → AreNone os
-each_none [] e = tt
-each_none (o ∷ os) e = (no_first o (in_turn os) e, each_none os (no_second o (in_turn os) e))
 
 -- ---- words
 
@@ -141,7 +115,7 @@ given_word (e ∷ entries) s n hold = pick (last_of (gives s n) entries) (given_
 pub accepted_in_range : (text : List ℕ) (p : Profile) → Accepts text p → IsInRange (description_of p)
 accepted_in_range text p accepts =
     let ms = accepts.tree in
-    let faultless = sym (tree_fault ms) ∙ none_first (faults ms) accepts.faultless in
+    let faultless = sym (tree_fault ms) ∙ first_fault-none (faults ms) accepts.faultless in
     let fault : (r : KeyRow) → Option ProfileFault = λ r. row_fault part.Root ms r in
     let root = each_none (unknown_fault part.Root root_rows ms ∷ settings_fault ms ∷ entries_fault rules_key rule_checks ms ∷ entries_fault modes_key mode_checks ms
     ∷ entries_fault initials_key initial_checks ms ∷ []) (no_first (key_fault ms) (code_fault ms) faultless) in

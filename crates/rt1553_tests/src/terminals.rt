@@ -1,5 +1,4 @@
 //! The terminal by its calls: where nothing is legal, which no profile says, and slots at once.
-mod random;
 mod slots;
 
 ghost use Rattle.std.specs.Prelude.{◌<◌};
@@ -62,11 +61,4 @@ fn required_mode_codes_where_they_are_illegal(rt: HostRuntime) {
             "code {code} while busy"
         );
     }
-}
-
-/// The digest is that of `tests/model/random_scripts.py`, over rules that are written apart from the program.
-#[test]
-fn random_messages_where_nothing_is_legal(rt: HostRuntime) {
-    let terminal = Terminal::power_up(equipped(), Every(false));
-    assert_eq!(rt; random::digest_of(terminal), 0xdb57_89d6);
 }
