@@ -7,7 +7,7 @@ use Rattle.std.proofs.lemmas.Bool.Decides.{nat_tests}
 use Rattle.std.proofs.lemmas.Nat.{xor_lt}
 use Rattle.std.proofs.lemmas.Nat.Bits.{bit_at_xor, bit_at-trailing_zeros, bit_at-zero, bit_at-lt, same_from_bits}
 use Rattle.bus_word.specs.Cell.{is_data_place}
-use Rattle.bus_legal.proofs.Places.{place_above, place_from, place_high}
+use Rattle.bus_word.proofs.Places.{place_above, place_from, place_high}
 use Rattle.bus_canon.specs.Difference.{IsLower}
 use Rattle.bus_word.specs.Mask.{has_bit}
 use Rattle.bus_canon.specs.inner.Search.{IsFirstNumber, IsFirstPlace}

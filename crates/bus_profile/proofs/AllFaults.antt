@@ -371,7 +371,7 @@ codes_none ms e = rw e
 
 codes_all : (ms : Members) → all_pass (key_faults ms) ≡ true → failing (code_faults ms) ≡ codes_told (modes_of ms)
 unfolding code_faults
-codes_all ms e = failing-in_order _ ∙ rw (e, append-nil (code_told (modes_of ms) 8))
+codes_all ms e = failing-in_order _ ∙ rw e refl
 
 -- where nothing was found, what the codes have is told too
 pub told_codes : (ms : Members) (modes : List ModeRule) → (length (failing (told_keys ms)) == 0) ≡ true → modes ≡ modes_of ms → failing (told_keys ms) ++ codes_told modes ≡ told_faults ms

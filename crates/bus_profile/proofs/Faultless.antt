@@ -5,7 +5,6 @@ use Rattle.std.specs.Result.{result_unwrap_or}
 use Rattle.std.proofs.lemmas.Bool.Decides.{nat_tests}
 use Rattle.std.proofs.lemmas.Nat.{pow_below}
 use Rattle.std.proofs.lemmas.Option.{same_Some}
-use Rattle.bus_word.specs.Mode.{transmit_status, shutdown, override_shutdown, reset}
 use Rattle.toml.specs.Data.{Data, string, integer, float, boolean, datetime, array, table, Items, no_items, item, Members}
 use Rattle.profile_types.specs.declared.entries.Rule.{Rule}
 use Rattle.profile_types.specs.declared.entries.InitialWords.{InitialWords}
@@ -222,7 +221,7 @@ initials_given n (item d ds) e =
 
 -- ---- the tree
 
-all_four : (a b c d : Bool) → option_map RequiredCode (cond (not a) (Some 2) (cond (not b) (Some 4) (cond (not c) (Some 5) (cond (not d) (Some 8) None)))) ≡ None → (a && (b && (c && d))) ≡ true
+all_four : (a b c d : Bool) → option_map RequiredCode (cond (not a) (Some 2) (cond (not b) (Some 4) (cond (not c) (Some 5) (cond (not d) (Some 8) None)))) ≡ None → (a && (b && (c && (d && true)))) ≡ true
 all_four false b c d e = absurd (cc)
 all_four true false c d e = absurd (cc)
 all_four true true false d e = absurd (cc)
@@ -262,7 +261,7 @@ profile_given ms none =
         few_rules = omega (arith, few_rules, rules.2);
         few_modes = omega (arith, few_modes, length-each_of mode_in (items (value modes_key ms)));
         few_initials = omega (arith, few_initials, initials.2);
-        required_codes = all_four (legal transmit_status) (legal shutdown) (legal override_shutdown) (legal reset) (no_second (key_fault ms) (code_fault ms) faultless);
+        required_codes = all_four (legal 2) (legal 4) (legal 5) (legal 8) (no_second (key_fault ms) (code_fault ms) faultless);
       },
       λ j. plain_with ms (rules.1 j) (initials.1 j),
     )

@@ -8,7 +8,7 @@ ghost use Rattle.bus_profile.specs.Keys.{keys_of, at_row, root_rows};
 ghost use Rattle.bus_profile.specs.Kinds.{found, value, items, has_unknown};
 ghost use Rattle.bus_profile.specs.Faults.{faults, each_item, word_checks, words_checks, goes_beyond, code_faults};
 ghost use Rattle.bus_profile.specs.AllFaults.{failing, HasShortArrays, told_array, told_keys, told_faults, rows_at, unknown_names};
-ghost use Rattle.bus_profile.specs.inner.AllFaults.{failing_parts, present, row_of, unknown_told, array_told, key_told, keys_told, array_row, part_of, key_rows_of, checks_of, code_told, codes_told};
+ghost use Rattle.bus_profile.specs.inner.AllFaults.{failing_parts, present, row_of, unknown_told, array_told, key_told, keys_told, array_row, part_of, key_rows_of, checks_of, codes_told};
 ghost use Rattle.bus_profile.specs.inner.Section.{tree_of, value_at};
 
 use crate::fault::{Key, Part, ProfileFault};
@@ -18,7 +18,7 @@ use crate::own_codes::is_own_code_legal;
 use crate::read::KEYS as ROOT_KEYS;
 use crate::rule::KEYS as RULE_KEYS;
 use crate::section::{Section, is_known, items_of};
-use bus_word::mode::{OVERRIDE_SHUTDOWN, RESET, SHUTDOWN, TRANSMIT_STATUS};
+use bus_word::mode;
 use profile_types::ModeRule;
 use std::alloc::{AllocError, Global};
 use toml::{Table, Value};
@@ -329,25 +329,16 @@ fn push_tree(faults: &mut Vec<ProfileFault>, table: &Table) -> Result<(), AllocE
     push_array(faults, table, EntryKind::Initial)
 }
 
-/// Adds the fault of a code that must be legal, where it isn't.
-fn push_code(faults: &mut Vec<ProfileFault>, modes: &[ModeRule], code: u8) -> Result<(), AllocError>
-    requires { code ≤ 31 }
-    ensures { OnOk result (faults.new.items ≡ faults.old.items ++ code_told modes.now code) }
-{
-    if !is_own_code_legal(modes, code) {
-        faults.push(ProfileFault::RequiredCode(code))?;
-    }
-    Ok(())
-}
-
 /// Adds the faults of the codes that must be legal.
 fn push_code_faults(faults: &mut Vec<ProfileFault>, modes: &[ModeRule]) -> Result<(), AllocError>
     ensures { OnOk result (faults.new.items ≡ faults.old.items ++ codes_told modes.now) }
 {
-    push_code(faults, modes, TRANSMIT_STATUS)?;
-    push_code(faults, modes, SHUTDOWN)?;
-    push_code(faults, modes, OVERRIDE_SHUTDOWN)?;
-    push_code(faults, modes, RESET)
+    for code in mode::REQUIRED {
+        if !is_own_code_legal(modes, code) {
+            faults.push(ProfileFault::RequiredCode(code))?;
+        }
+    }
+    Ok(())
 }
 
 /// Adds the faults of the codes that must be legal where there is no other.
