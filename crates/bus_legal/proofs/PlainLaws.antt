@@ -112,7 +112,7 @@ gives-plain s n e =
     ap (λ len. (s == e.subaddress) && (nat_le e.first n && nat_lt n (e.first + len))) (sym (length-take-le e.len e.words (omega arith)))
 
 -- a number that is given is among the words that count
-number_within : (first len n : ℕ) → (nat_le first n && nat_lt n (first + len)) ≡ true → n - first < len
+pub number_within : (first len n : ℕ) → (nat_le first n && nat_lt n (first + len)) ≡ true → n - first < len
 number_within first len n e = grind (arith, nat_tests)
 
 initial_word-plain : (entries : List InitialWords) (s n : ℕ) → initial_word entries s n ≡ plain_initial_word (map plain_initial entries) s n

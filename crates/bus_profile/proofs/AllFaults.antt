@@ -1,22 +1,23 @@
 -- All the faults of a tree: each row has at most one, and those of parts come one after the other.
 use Rattle.std.proofs.Common.{◌≡◌, ◌<◌, ◌≤◌, ℕ, suc, ◌+◌, ◌-◌, ◌==◌, nat_le, nat_lt, Bool, true, false, not, ◌&&◌, cond, pos, negsuc, List, [], ◌∷◌, ◌++◌, length, get_or, drop, map, Option, Some, None, is_none, is_some, Result, Ok, Err, refl, ap, ◌∙◌, sym, append_assoc, append-nil, arith}
+use Rattle.std.proofs.Math.Bool.{and-false}
 use Rattle.std.proofs.lemmas.Bool.Decides.{nat_tests}
-use Rattle.std.specs.List.{list_all}
+use Rattle.std.specs.List.{list_all, flat_map}
 use Rattle.std.specs.Result.{result_err}
 use Rattle.toml.specs.Data.{Data, string, integer, float, boolean, datetime, array, table, Items, no_items, Members}
 use Rattle.std.proofs.lemmas.List.{drop_more}
 use Rattle.toml.proofs.Views.{items_view-drop}
 use Rattle.toml.specs.View.{view, items_view}
 use Rattle.toml.specs.declared.value.Value.{Value}
-use Rattle.bus_profile.specs.declared.told.EntryKind.{EntryKind}
-use Rattle.bus_profile.specs.declared.told.EntryKind.TheVariants as kind
+use Rattle.bus_profile.specs.declared.entry_faults.EntryKind.{EntryKind}
+use Rattle.bus_profile.specs.declared.entry_faults.EntryKind.TheVariants as kind
 use Rattle.profile_types.specs.declared.entries.ModeRule.{ModeRule}
 use Rattle.bus_profile.specs.declared.fault.Key.{Key}
 use Rattle.bus_profile.specs.declared.fault.Key.TheVariants.{Subaddress, At}
 use Rattle.bus_profile.specs.declared.fault.Part.{Part}
 use Rattle.bus_profile.specs.declared.fault.Part.TheVariants.{Root, Initial}
 use Rattle.bus_profile.specs.declared.fault.ProfileFault.{ProfileFault}
-use Rattle.bus_profile.specs.declared.fault.ProfileFault.TheVariants.{UnknownKey, WrongKind, BadRanges, OutOfRange, TooMany}
+use Rattle.bus_profile.specs.declared.fault.ProfileFault.TheVariants.{UnknownKey, WrongKind, BadRanges, OutOfRange, TooMany, RequiredCode}
 use Rattle.bus_profile.specs.declared.ranges.RangeFault.{RangeFault}
 use Rattle.bus_profile.specs.declared.ranges.RangeFault.TheVariants.{Syntax, Bounds}
 use Rattle.bus_profile.specs.AllFaults.{failing, is_long, HasShortArrays, told_array, told_keys, told_faults, rows_at}
@@ -25,6 +26,7 @@ use Rattle.bus_profile.specs.Faults.{is_required, key_checks, row_checks, head_c
 use Rattle.bus_profile.specs.Keys.{ValueKind, truth, whole, truth_or_whole, choice, ranges, numbers, tables, required, optional, KeyRow, key_row, keys_of, setting_rows, root_rows, rules_key, modes_key, initials_key, initial_rows, subaddress_row, at_row, words_row}
 use Rattle.bus_profile.specs.Kinds.{found, or_default, value, items, has_unknown, is_of_kind, is_bad_ranges, is_out_of_range, is_syntax, is_bounds, is_too_long, count_items}
 use Rattle.bus_profile.specs.Gives.{modes_of}
+use Rattle.profile_types.specs.OwnCodes.{is_own_code_legal}
 use Rattle.bus_profile.specs.RangesOf.{ranges_of}
 use Rattle.bus_profile.specs.inner.AllFaults.{failing_parts, present, row_of, array_row, part_of, key_rows_of, keys_in, checks_of, unknown_told, array_told, key_told, keys_told, code_told, codes_told}
 use Rattle.bus_profile.specs.inner.FirstFault.{Reads, ReadsAs}
@@ -334,12 +336,8 @@ pass-in_order : (parts : List (List Check)) → all_pass (in_order parts) ≡ li
 unfolding in_order
 pass-in_order parts = pass-numbered 0 parts
 
-and_false : (b : Bool) → (b && false) ≡ false
-and_false true = refl
-and_false false = refl
-
 head_pass : (row : KeyRow) (ms : Members) → is_long row ms ≡ true → all_pass (head_checks Root row (is_too_long row.kind) ms) ≡ false
-head_pass row ms e = pass-in_order _ ∙ rw e (and_false (all_pass (row_checks Root ms row)))
+head_pass row ms e = pass-in_order _ ∙ rw e (and-false (all_pass (row_checks Root ms row)))
 
 -- an array that is too long fails, with its entries and without
 told_array-pass : (row : KeyRow) (checks : ℕ → Data → List Check) (ms : Members) → all_pass (told_array row checks ms) ≡ all_pass (entries_checks row checks ms)
@@ -473,6 +471,10 @@ word_step p vs i v u within here is =
     rw (next, items_view-drop vs i v within, ← here, is, word_failing p (view v))
 
 -- ---- the codes that must be legal
+
+pub code_step : (modes : List ModeRule) (codes : List ℕ) (i d : ℕ) (legal : Bool) → i < length codes → legal ≡ is_own_code_legal modes (get_or codes i d)
+    → flat_map (code_told modes) (drop i codes) ≡ cond (not legal) (RequiredCode (get_or codes i d) ∷ []) [] ++ flat_map (code_told modes) (drop (i + 1) codes)
+code_step modes codes i d legal within is = rw (is, drop_more codes i d within)
 
 pub with_codes : (ms : Members) (fs : List ProfileFault) (modes : List ModeRule) → fs ≡ failing (told_keys ms) → true ≡ (length fs == 0) → modes ≡ modes_of ms → fs ++ codes_told modes ≡ told_faults ms
 with_codes ms fs modes is none read = rw is (told_codes ms modes (ap (λ xs. length xs == 0) (sym is) ∙ sym none) read)

@@ -29,36 +29,11 @@ use Rattle.bus_profile.specs.inner.FirstFault.{fault_of_parts}
 use Rattle.bus_profile.specs.inner.FirstWord.{IsFirstWord}
 use Rattle.bus_profile.proofs.Arrays.{range_of, place_of}
 use Rattle.bus_profile.proofs.Least.{first_fault-in_order}
+use Rattle.bus_profile.proofs.NoFault.{no_first, no_second, first_fault-none, each_none}
 use Rattle.bus_profile.proofs.RangesMeaning.{reading}
 use Rattle.bus_profile.proofs.Sections.{unknown_fault, rule_fault, initial_fault, row_fault}
-use Rattle.bus_profile.proofs.Tree.{entries_fault, settings_fault, key_fault, code_fault, tree_fault}
-
--- ---- no fault among several
-
-first_fault-none : (cs : List Check) → HasNoFault cs → first_fault cs ≡ None
-first_fault-none [] h = refl
-first_fault-none (c ∷ cs) h = rw (h c (inl refl)) (first_fault-none cs (λ d among. h d (inr among)))
-
-no_first : (a b : Option ProfileFault) → option_or a b ≡ None → a ≡ None
-no_first None b e = refl
-no_first (Some f) b e = e
-
-no_second : (a b : Option ProfileFault) → option_or a b ≡ None → b ≡ None
-no_second None b e = e
-no_second (Some f) b e = absurd (cc)
-
--- faults that are asked for in turn
-abbrev in_turn : List (Option ProfileFault) → Option ProfileFault
-in_turn [] = None
-in_turn (o ∷ os) = option_or o (in_turn os)
-
-abbrev AreNone : List (Option ProfileFault) → Type 0
-AreNone [] = Unit {0}
-AreNone (o ∷ os) = (o ≡ None) × AreNone os
-
-each_none : (os : List (Option ProfileFault)) → in_turn os ≡ None → AreNone os
-each_none [] e = tt
-each_none (o ∷ os) e = (no_first o (in_turn os) e, each_none os (no_second o (in_turn os) e))
+use Rattle.bus_profile.specs.inner.Section.{entries_fault}
+use Rattle.bus_profile.proofs.Tree.{root_faults, key_fault, code_fault, tree_fault}
 
 passes : (b : Bool) (f : ProfileFault) → cond b (Some f) None ≡ None → b ≡ false
 passes true f e = absurd (cc)
@@ -126,13 +101,13 @@ length-each_of f (item d ds) = ap suc (length-each_of f ds)
 few : (count : ℕ) → nat_lt 256 count ≡ false → count ≤ 256
 few count e = grind (arith, nat_tests)
 
-no_head : (r : KeyRow) (checks : ℕ → Data → List Check) (ms : Members) → entries_fault r checks ms ≡ None → first_fault (head_checks part.Root r (is_too_long r.kind) ms) ≡ None
+no_head : (r : KeyRow) (checks : ℕ → Data → List Check) (ms : Members) → entries_fault part.Root r checks ms ≡ None → first_fault (head_checks part.Root r (is_too_long r.kind) ms) ≡ None
 no_head r checks ms e = no_first (first_fault (head_checks part.Root r (is_too_long r.kind) ms)) (fault_of_parts (each_item checks 1 (items (value r ms)))) e
 
-no_items_fault : (r : KeyRow) (checks : ℕ → Data → List Check) (ms : Members) → entries_fault r checks ms ≡ None → fault_of_parts (each_item checks 1 (items (value r ms))) ≡ None
+no_items_fault : (r : KeyRow) (checks : ℕ → Data → List Check) (ms : Members) → entries_fault part.Root r checks ms ≡ None → fault_of_parts (each_item checks 1 (items (value r ms))) ≡ None
 no_items_fault r checks ms e = no_second (first_fault (head_checks part.Root r (is_too_long r.kind) ms)) (fault_of_parts (each_item checks 1 (items (value r ms)))) e
 
-few_items : (key : Key) (presence : Presence) (checks : ℕ → Data → List Check) (ms : Members) → entries_fault (key_row key (tables 256) presence) checks ms ≡ None →
+few_items : (key : Key) (presence : Presence) (checks : ℕ → Data → List Check) (ms : Members) → entries_fault part.Root (key_row key (tables 256) presence) checks ms ≡ None →
     count_items (items (value (key_row key (tables 256) presence) ms)) ≤ 256
 few_items key presence checks ms e =
     let r : KeyRow = key_row key (tables 256) presence in
@@ -235,11 +210,8 @@ profile_given : (ms : Members) → HasNoFault (faults ms) → (p : Profile) × (
 profile_given ms none =
     let faultless = sym (tree_fault ms) ∙ first_fault-none (faults ms) none in
     let legal : ℕ → Bool = λ code. is_own_code_legal (modes_of ms) code in
-    let fault : KeyRow → Option ProfileFault = λ r. row_fault part.Root ms r in
-    let root = each_none (unknown_fault part.Root root_rows ms ∷ settings_fault ms ∷ entries_fault rules_key rule_checks ms ∷ entries_fault modes_key mode_checks ms
-    ∷ entries_fault initials_key initial_checks ms ∷ []) (no_first (key_fault ms) (code_fault ms) faultless) in
-    let settings = each_none (fault address_row ∷ fault broadcast_row ∷ fault wraparound_row ∷ fault accept_row ∷ fault vector_row ∷ fault bit_row ∷ []) root.1.0 in
-    let arrays = root.1.1 in
+    let settings = (each_none (root_faults ms) (no_first (key_fault ms) (code_fault ms) faultless)).1 in
+    let arrays = settings.1.1.1.1.1.1 in
     let rules = rules_given 1 (items (value rules_key ms)) (no_items_fault rules_key rule_checks ms arrays.0) in
     let initials = initials_given 1 (items (value initials_key ms)) (no_items_fault initials_key initial_checks ms arrays.1.1.0) in
     let few_rules = few_items rules_key.key rules_key.presence rule_checks ms arrays.0 in

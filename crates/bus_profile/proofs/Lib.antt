@@ -12,4 +12,5 @@ pub mod RangesGrammar
 pub mod RangesMeaning
 pub mod RangesRest
 pub mod Sections
+pub mod NoFault
 pub mod Tree

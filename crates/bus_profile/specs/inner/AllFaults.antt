@@ -1,8 +1,8 @@
 -- What the readers of all faults tell, table by table.
 use Rattle.std.specs.Prelude.{ℕ, Bool, not, List, [], ◌∷◌, ◌++◌, Option, Some, None, is_some, map, flat_map, if◌then◌else◌}
 use Rattle.toml.specs.Data.{Data, Members, as_array}
-use Rattle.bus_profile.specs.declared.told.EntryKind.{EntryKind}
-use Rattle.bus_profile.specs.declared.told.EntryKind.TheVariants as kind
+use Rattle.bus_profile.specs.declared.entry_faults.EntryKind.{EntryKind}
+use Rattle.bus_profile.specs.declared.entry_faults.EntryKind.TheVariants as kind
 use Rattle.profile_types.specs.declared.entries.ModeRule.{ModeRule}
 use Rattle.bus_profile.specs.declared.fault.Key.{Key}
 use Rattle.bus_profile.specs.declared.fault.Key.TheVariants as key
