@@ -1,10 +1,10 @@
 #!/usr/bin/env bash
-# The gate: every proof and test, and that public contracts cite nothing of specs/inner; then the built programs from end to
-# end, texts with known answers, the protocol tests, the acceptance tests, the library in C, C++, Python and Rust, the
-# sessions of the pages, and what is installed; and beside all this the must-fail edits. What an earlier run on this machine
-# proved of the same files, and the edits that it refused, are taken from there; tests and programs run each time. With
-# ANEW=1 all is proved and tried. The line before the last tells how long it took. The last line, 'N passed, M failed', adds
-# the counts of the parts.
+# The gate: every proof and test, that public contracts cite nothing of specs/inner, and that nothing is there to which nothing
+# refers; then the built programs from end to end, texts with known answers, the protocol tests, the acceptance tests, the library
+# in C, C++, Python and Rust, the sessions of the pages, and what is installed; and beside all this the must-fail edits. What an
+# earlier run on this machine proved of the same files, and the edits that it refused, are taken from there; tests and programs run
+# each time. With ANEW=1 all is proved and tried. The line before the last tells how long it took. The last line, 'N passed, M
+# failed', adds the counts of the parts.
 set -uo pipefail
 cd "$(dirname "$0")/.." || exit 1
 work=$(mktemp -d) || exit 1
@@ -66,6 +66,7 @@ part() {
 start_edits
 part proved
 part python3 scripts/inner.py
+part python3 scripts/unused.py
 # what was not proved is not run, and its edits tell nothing
 if [[ $failed -eq 0 ]]; then
     part bash scripts/end-to-end.sh "$built"

@@ -94,7 +94,7 @@ def main():
         count(name not in types, f"docs/glossary.md: no crate lets out a type {name}")
         count(rows[name] != 1, f"docs/glossary.md: {name} is listed {rows[name]} times")
     for path in pages(root):
-        text, place = path.read_text(), str(path.relative_to(root))
+        text, place = " ".join(path.read_text().split()), str(path.relative_to(root))
         wrong = [f"{found[0]} ({better})" for phrase, better in PHRASES.items() for found in re.finditer(phrase, text)
                  if not (place in FOR_READERS_OF_CODE and "cell" in phrase)]
         count(wrong, f"{place}: {'; '.join(wrong)}")

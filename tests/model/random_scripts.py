@@ -1,10 +1,9 @@
 """Messages that look random, played to the model of the rules in `rules.py`.
 
     random_scripts.py digests           what scripts/texts.py compares, and a test of crates/rt1553_tests
-    random_scripts.py rows FIRST LAST   rows of terminal_rules, each with its proof: the files of proofs/RandomRows
     random_scripts.py vectors FOLDER    scripts with their transcripts: the cases slots-NNNN of tests/vectors/scripts
 
-The same words give the same numbers, so that each of the three can be made anew and compared.
+The same words give the same numbers, so that both can be made anew and compared.
 """
 
 import pathlib
@@ -191,104 +190,6 @@ def digests():
     print("every cell legal, options off:", digest(lambda cell: True, options=False))
 
 
-# rows
-
-CELLS = {"own receive": "OwnReceive", "own transmit": "OwnTransmit", "broadcast receive": "BroadReceive",
-         "own mode": "OwnMode", "broadcast mode": "BroadMode"}
-HEAD = """\
--- Messages that look random, with what the rules say is answered to them: the definitions give the same. The rows are
--- those of a model of docs/terminal.md in another language, and were written by it:
---
---     python3 tests/model/random_scripts.py rows {first} {last} >crates/terminal_rules/proofs/RandomRows/{name}.antt
-use Rattle.std.specs.Prelude.{{◌≡◌, refl, ℕ, ◌+◌, ◌*◌, Bool, true, false, List, [], ◌∷◌}}
-use Rattle.bus_word.specs.declared.word.Bus.TheVariants.{{A, B}}
-use Rattle.bus_word.specs.declared.cell.Cell.{{Cell}}
-use Rattle.bus_word.specs.declared.cell.Cell.TheVariants.{{OwnReceive, OwnTransmit, BroadReceive, OwnMode, BroadMode}}
-use Rattle.bus_legal.specs.Description.{{Description}}
-use Rattle.terminal_rules.specs.declared.event.Event.TheVariants.{{Noise, Vector, Bit, Flag as FlagIs}}
-use Rattle.terminal_rules.specs.declared.event.Flag.TheVariants.{{Service, Busy, Subsystem, Terminal}}
-use Rattle.terminal_rules.specs.Out.{{HandsReceived, HandsSynchronize, HandsSynchronizeWith, HandsSelfTest, HandsBusControl}}
-use Rattle.terminal_rules.specs.WorkedExamples.Words.{{five, command, data_word, invalid, invalid_data, write, quiet, gap, gap_hands, idle_slot, slot_status, slot_word, Answers}}
-
--- Address 5: the broadcast option, the wraparound subaddress, acceptance of bus control, and legal cells. Word i of
--- subaddress s is 256 * s + i at power-up.
-abbrev equipped : Bool → ℕ → Bool → List Cell → Description
-equipped broadcast wrap accept cells =
-    record (five cells) {{ broadcast = broadcast; wrap = wrap; accept = accept; vector = 0x00aa; bit = 0x00bb; initial = λ s i. 256 * s + i }}
-"""
-
-
-def truth(value):
-    return "true" if value else "false"
-
-
-def list_of(items):
-    return "(" + " ∷ ".join([*items, "[]"]) + ")" if items else "[]"
-
-
-def event_in_antt(event):
-    name, *rest = event
-    if name == "word":
-        written = {("c", True): "command", ("c", False): "invalid", ("d", True): "data_word", ("d", False): "invalid_data"}
-        return f"{written[rest[1][0], rules.is_valid(rest[1])]} {rest[0]} 0x{rest[1][1]:04x}"
-    if name == "noise":
-        return f"Noise {rest[0]}"
-    if name == "write":
-        return f"write {rest[0]} {rest[1]} 0x{rest[2]:04x}"
-    if name == "flag":
-        return f"FlagIs {rest[0].capitalize()} {truth(rest[1])}"
-    return f"{name.capitalize()} 0x{rest[0]:04x}"
-
-
-def handing_in_antt(answer):
-    name, *rest = answer
-    if name == "received":
-        words = list_of([f"0x{word:04x}" for word in rest[2]])
-        return f"(HandsReceived {truth(rest[0])} {rest[1]} {words})"
-    if name == "synchronize with":
-        return f"(HandsSynchronizeWith 0x{rest[0]:04x})"
-    return {"synchronize": "HandsSynchronize", "self test": "HandsSelfTest", "bus control": "HandsBusControl"}[name]
-
-
-def line_in_antt(event, answer):
-    if event[0] == "slot":
-        if answer is None:
-            return "idle_slot"
-        return f"{'slot_status' if answer[0] == 'status' else 'slot_word'} {answer[1]} 0x{answer[2]:04x}"
-    if event[0] == "gap":
-        return f"gap {event[1]}" if answer is None else f"gap_hands {event[1]} {handing_in_antt(answer)}"
-    return f"quiet ({event_in_antt(event)})"
-
-
-def print_row(number):
-    """A row: its description has just those legal cells that its events ask for."""
-    asked, lines = {}, []
-
-    def legal(cell):
-        if cell not in asked:
-            asked[cell] = cell in REQUIRED or messages.draw(8) > 0
-        return asked[cell]
-
-    setup = rules.Setup(address=5, legal=legal, broadcast=number % 4 > 0, wraparound=(30, 7, 0, 30, 7)[number % 5],
-                        accept=number % 3 > 0, vector=0x00AA, bit=0x00BB,
-                        initial={(s, i): 256 * s + i for s in range(1, 31) for i in range(1, 33)})
-    messages = Messages(setup, (7, 30), number, lambda event, answer: lines.append(line_in_antt(event, answer)))
-    while len(lines) < 30:
-        messages.message()
-    cells = [" ".join([CELLS[cell[0]], *map(str, cell[1:])]) for cell in asked if asked[cell] and cell not in REQUIRED]
-    print(f"\nrandom_{number:03} : Answers (equipped {truth(setup.broadcast)} {setup.wraparound} {truth(setup.accept)}"
-          f" {list_of(cells)})")
-    for at in range(0, len(lines), 6):
-        print(f"    {'(' if at == 0 else '∷ '}{' ∷ '.join(lines[at : at + 6])}")
-    print(f"    ∷ [])\nrandom_{number:03} = refl")
-
-
-def rows(first, last):
-    print(HEAD.format(first=first, last=last, name=f"From{first}"), end="")
-    for number in range(first, last + 1):
-        print_row(number)
-
-
 # vectors
 
 VECTORS = 16
@@ -331,8 +232,19 @@ def line_of(event):
     return " ".join(map(str, event))
 
 
-def write_vector(folder, number):
-    case, text = folder / f"slots-{number:04}", PROFILE.format(
+def truth(value):
+    return "true" if value else "false"
+
+
+def write_case(folder, name, profile, lines, transcript):
+    files = {"toml": profile, "script": "".join(f"{line}\n" for line in lines), "args": f"run\n{name}.toml\n{name}.script\n",
+             "stdout": "".join(f"{line}\n" for line in transcript), "stderr": "", "status": "0\n"}
+    for ending, content in files.items():
+        (folder / f"{name}.{ending}").write_text(content)
+
+
+def write_slots(folder, number):
+    text = PROFILE.format(
         address=number * 2,
         broadcast=truth(number % 4 > 0),
         wraparound=("true", "29", "true", "false")[number % 4],
@@ -349,21 +261,16 @@ def write_vector(folder, number):
     messages = Messages(play.setup_of(tomllib.loads(text)), (29, 30), number, note)
     while len(lines) < 200:
         messages.message()
-    files = {"toml": text, "script": "\n".join([*lines, ""]), "args": f"run\n{case.name}.toml\n{case.name}.script\n",
-             "stdout": "\n".join([*transcript, ""]), "stderr": "", "status": "0\n"}
-    for ending, content in files.items():
-        case.with_suffix("." + ending).write_text(content)
+    write_case(folder, f"slots-{number:04}", text, lines, transcript)
 
 
 def main():
     job, *rest = sys.argv[1:]
     if job == "digests":
         digests()
-    elif job == "rows":
-        rows(*map(int, rest))
-    else:
-        for number in range(VECTORS):
-            write_vector(pathlib.Path(*rest), number)
+        return
+    for number in range(VECTORS):
+        write_slots(pathlib.Path(*rest), number)
 
 
 if __name__ == "__main__":

@@ -1,7 +1,7 @@
 """The rules of the remote terminal, docs/terminal.md, as a model of their own.
 
 It was written from that page and takes nothing from the program. `play.py` plays scripts to it, and
-`random_scripts.py` plays messages that look random, for digests and for rows.
+`random_scripts.py` plays messages that look random, for digests and for cases.
 
 An event is a tuple, in which a bus is "A" or "B":
 

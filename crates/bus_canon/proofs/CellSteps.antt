@@ -1,12 +1,11 @@
 -- From masks, and tables of words, to what is legal and what is held.
-use Rattle.std.proofs.Common.{◌≡◌, ℕ, ◌<◌, Bool, true, false, ◌&&◌, cond, if◌then◌else◌, is_some, bit_and, inl, inr, refl, sym, ap, ◌∙◌, arith}
+use Rattle.std.proofs.Common.{◌≡◌, ℕ, ◌<◌, Bool, true, false, ◌&&◌, is_some, bit_and, inl, inr, refl, sym, ap, ◌∙◌, arith}
 use Rattle.std.proofs.lemmas.Bool.{eqb-true, and_parts}
 use Rattle.bus_word.specs.Cell.{is_data_place, allows_broadcast}
 use Rattle.bus_word.specs.Mode.{mode_row}
 use Rattle.bus_legal.specs.Tables.{is_own_mask, is_broadcast_mask}
 use Rattle.bus_legal.proofs.Bools.{guarded}
 use Rattle.bus_legal.proofs.Bits.{has_bit-and}
-use Rattle.bus_legal.proofs.Descriptions.{cond-guarded}
 use Rattle.bus_legal.proofs.TableSteps.{own_codes-bits, broadcast_codes-bits, row_below, broadcast_row_below}
 use Rattle.bus_canon.specs.Difference.{IsLower}
 use Rattle.bus_word.specs.Mask.{has_bit}
@@ -25,20 +24,6 @@ cells_lower f g s n first t m lower = guarded (is_data_place t m) (f t m) (g t m
 pub cells_differ : (f g : ℕ → ℕ → Bool) (s n : ℕ) → IsFirstPlace f g s n → said f s n ≡ said g s n → ⊥
 cells_differ f g s n first e =
     first.differ (sym (ap (λ b. b && f s n) first.place) ∙ (e ∙ ap (λ b. b && g s n) first.place))
-
--- what is held at places of data
-abbrev pub held : (ℕ → ℕ → ℕ) → ℕ → ℕ → ℕ
-held f s i = if is_data_place s i then f s i else 0
-
-pub words_alike : (f g : ℕ → ℕ → ℕ) → ((s i : ℕ) → is_data_place s i ≡ true → f s i ≡ g s i) → (s i : ℕ) → held f s i ≡ held g s i
-words_alike f g same s i = cond-guarded (is_data_place s i) (f s i) (g s i) (same s i)
-
-pub words_lower : (f g : ℕ → ℕ → ℕ) (s i : ℕ) → IsFirstPlace f g s i → (t m : ℕ) → IsLower t m s i → held f t m ≡ held g t m
-words_lower f g s i first t m lower = cond-guarded (is_data_place t m) (f t m) (g t m) (λ place. first.alike t m place lower)
-
-pub words_differ : (f g : ℕ → ℕ → ℕ) (s i : ℕ) → IsFirstPlace f g s i → held f s i ≡ held g s i → ⊥
-words_differ f g s i first e =
-    first.differ (sym (ap (λ b. cond b (f s i) 0) first.place) ∙ (e ∙ ap (λ b. cond b (g s i) 0) first.place))
 
 -- mode codes of a table of them, which are below 32
 pub codes_alike : (may_be : ℕ → Bool) (a b : ℕ) → ((c : ℕ) → may_be c ≡ true → c < 32) → ((c : ℕ) → c < 32 → has_bit a c ≡ has_bit b c) →

@@ -45,21 +45,6 @@ alike_in P Q meant BitWord f m = f m
 alike_in P Q meant (InitialWord s i) f m = f s i m
 alike_in P Q meant Wraparound f m = f m
 
--- nothing is of a kind before the first
-pub before_all : (P Q : Description) → AlikeBefore 1 P Q
-before_all P Q Address l = absurd (omega arith)
-before_all P Q BroadcastOption l = absurd (omega arith)
-before_all P Q (ReceiveCell s n) l = absurd (omega arith)
-before_all P Q (TransmitCell s n) l = absurd (omega arith)
-before_all P Q (BroadcastReceiveCell s n) l = absurd (omega arith)
-before_all P Q (OwnCode code) l = absurd (omega arith)
-before_all P Q (BroadcastCode code) l = absurd (omega arith)
-before_all P Q Acceptance l = absurd (omega arith)
-before_all P Q VectorWord l = absurd (omega arith)
-before_all P Q BitWord l = absurd (omega arith)
-before_all P Q (InitialWord s i) l = absurd (omega arith)
-before_all P Q Wraparound l = absurd (omega arith)
-
 -- alike in one more kind
 pub alike_to : (kind next : ℕ) (P Q : Description) → next ≡ kind + 1 → AlikeBefore kind P Q → AlikeIn kind P Q All → AlikeBefore next P Q
 alike_to kind next P Q is before f c l = by_kind (cases_lt (rank c) kind)
@@ -77,8 +62,3 @@ first_of_kind P Q d before lower differ = record { differ = differ; alike = λ c
     by_order : (c : Difference) → (rank c < rank d) ⊎ ((rank c ≡ rank d) × Lower d (first_number c) (second_number c)) → AreAlike P Q c
     by_order c (inl lt) = before c lt
     by_order c (inr b) = alike_in P Q (Lower d) c (subst (λ k. AlikeIn k P Q (Lower d)) (sym b.0) lower) b.1
-
--- no numbers come before those of a kind that has one difference
-pub none_lower : (X : Type 0) → IsLower 0 0 0 0 → X
-none_lower X (inl l) = absurd (omega arith)
-none_lower X (inr b) = absurd (omega (arith, b.1))

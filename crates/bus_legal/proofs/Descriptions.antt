@@ -27,10 +27,6 @@ cond-twice : (a : Bool) (n : ℕ) → cond a (cond a n 0) 0 ≡ cond a n 0
 cond-twice true n = refl
 cond-twice false n = refl
 
-pub cond-guarded : (t : Bool) (a b : ℕ) → (t ≡ true → a ≡ b) → cond t a 0 ≡ cond t b 0
-cond-guarded true a b h = h refl
-cond-guarded false a b h = refl
-
 receives-reach : (P : Description) (s n : ℕ) → receives_at (reach P) s n ≡ receives_at P s n
 receives-reach P s n = ap (λ b. P.legal (OwnReceive s n) || b) (and-twice P.broadcast (P.legal (BroadReceive s n)))
 

@@ -62,10 +62,6 @@ mask_of : ℕ → (ℕ → Bool) → ℕ
 mask_of zero said = 0
 mask_of (suc n) said = cond (said n) 1 0 * 2 ^ n + mask_of n said
 
-one_bit : (b : Bool) → cond b 1 0 < 2
-one_bit true = omega arith
-one_bit false = omega arith
-
 mask_of-small : (n : ℕ) (said : ℕ → Bool) → mask_of n said < 2 ^ n
 unfolding mask_of
 mask_of-small zero said = omega arith

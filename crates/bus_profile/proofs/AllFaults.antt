@@ -3,7 +3,6 @@ use Rattle.std.proofs.Common.{◌≡◌, ◌<◌, ◌≤◌, ℕ, suc, ◌+◌, 
 use Rattle.std.proofs.Math.Bool.{and-false}
 use Rattle.std.proofs.lemmas.Bool.Decides.{nat_tests}
 use Rattle.std.specs.List.{list_all, flat_map}
-use Rattle.std.specs.Result.{result_err}
 use Rattle.toml.specs.Data.{Data, string, integer, float, boolean, datetime, array, table, Items, no_items, Members}
 use Rattle.std.proofs.lemmas.List.{drop_more}
 use Rattle.toml.proofs.Views.{items_view-drop}
@@ -29,7 +28,6 @@ use Rattle.bus_profile.specs.Gives.{modes_of}
 use Rattle.profile_types.specs.OwnCodes.{is_own_code_legal}
 use Rattle.bus_profile.specs.RangesOf.{ranges_of}
 use Rattle.bus_profile.specs.inner.AllFaults.{failing_parts, present, row_of, array_row, part_of, key_rows_of, keys_in, checks_of, unknown_told, array_told, key_told, keys_told, code_told, codes_told}
-use Rattle.bus_profile.specs.inner.FirstFault.{Reads, ReadsAs}
 use Rattle.bus_profile.proofs.Arrays.{is_too_long-view}
 
 failing-append : (xs ys : List Check) → failing (xs ++ ys) ≡ failing xs ++ failing ys
@@ -144,14 +142,6 @@ row_failing part ms row = key_failing part row (found row.key ms)
 
 -- ---- what the readers tell
 
-pub reads_err : {A : Type 0} (o first : Option ProfileFault) (value : A) (r : Result A ProfileFault) → o ≡ result_err r → Reads first value r → o ≡ first
-reads_err o first value (Ok a) e h = e ∙ sym h.0
-reads_err o first value (Err f) e h = e ∙ sym h
-
-pub reads_as_err : {A B : Type 0} (m : A → B) (o first : Option ProfileFault) (value : B) (r : Result A ProfileFault) → o ≡ result_err r → ReadsAs m first value r → o ≡ first
-reads_as_err m o first value (Ok a) e h = e ∙ sym h.0
-reads_as_err m o first value (Err f) e h = e ∙ sym h
-
 -- ---- arrays
 
 with_last : (xs ys : List ProfileFault) → xs ≡ ys → (b : Bool) (f : ProfileFault) → xs ++ (cond b (f ∷ []) [] ++ []) ≡ ys ++ cond b (f ∷ []) []
@@ -186,12 +176,6 @@ initial_failing n ms = table_failing kind.Initial n ms ∙ ap (λ fs. present (u
   where
     regroup : (a b c : List ProfileFault) → a ++ (b ++ (c ++ [])) ≡ (a ++ (b ++ [])) ++ c
     regroup a b c = rw (append-nil c, append-nil b) (sym (append_assoc a b c))
-
--- which rows the table of an entry has
-pub rows_at-entry : (k : EntryKind) (n : ℕ) → rows_at (part_of k n) ≡ key_rows_of k
-rows_at-entry kind.Rule n = refl
-rows_at-entry kind.Mode n = refl
-rows_at-entry kind.Initial n = refl
 
 -- ---- words
 

@@ -10,9 +10,6 @@ use Rattle.bus_script.specs.Reading.{Meaning, Reading, adds, stops, then_reads, 
 use Rattle.bus_script.specs.inner.Lines.{Reads, Faults, IsRefused}
 use Rattle.bus_script.proofs.LineLaws.{EndsLine-append, EndsLine-line, lines-line, lines-some, lines-front}
 
-pub adds-nil : (r : Reading) → adds [] r ≡ r
-adds-nil r = refl
-
 pub adds-adds : (es fs : List Event) (r : Reading) → adds es (adds fs r) ≡ adds (es ++ fs) r
 adds-adds es fs r = ap (λ xs. record { events = xs; fault = r.fault }) (sym (append_assoc es fs r.events))
 

@@ -1,31 +1,14 @@
 -- Known bytes, over calls that are tried again and bytes that are held back.
-use Rattle.std.proofs.Common.{ℕ, ◌≡◌, ◌+◌, ◌-◌, List, [], ◌∷◌, ◌++◌, length, take, drop, Option, None, Some, Result, Ok, Err, refl, sym, ap, ◌∙◌, arith, subst, append-nil, append_assoc, take-append-drop, drop-cons, flat_map, get_or, ◌<◌, OnErr}
+use Rattle.std.proofs.Common.{ℕ, ◌≡◌, ◌+◌, ◌-◌, List, [], ◌∷◌, ◌++◌, length, take, drop, Option, Result, Ok, Err, sym, ap, ◌∙◌, arith, subst, append-nil, append_assoc, take-append-drop, drop-cons, flat_map, get_or, ◌<◌, OnErr}
 use Rattle.std.proofs.lemmas.Grind.{common_steps, flat_map-append}
 use Rattle.std.proofs.Math.Seq.{take-add}
 use Rattle.std.proofs.KnownBytes.{Appends-trans, Keeps-trans, append_known-kept, append_known-moved, append_known-passed}
 use Rattle.bus_script.specs.Device.{IsPartWritten}
-use Rattle.std.specs.Io.KnownBytes.{Keeps, Appends, Consumes, WriteAppends, append_known}
+use Rattle.std.specs.Io.KnownBytes.{Keeps, Appends, WriteAppends, append_known}
 
 -- the value of `&bytes[at..]`
 pub from_there : (at : ℕ) (bytes : List ℕ) → take (length bytes - at) (drop at bytes) ≡ drop at bytes
 from_there at bytes = grind (arith, common_steps)
-
--- what a first call that failed keeps, a second appends to
-pub Appends-again : (a b c : Option (List ℕ)) (bs : List ℕ) → Keeps a b → Appends b c bs → Appends a c bs
-Appends-again None b c bs p q = tt
-Appends-again (Some x) None c bs p q = absurd p
-Appends-again (Some x) (Some y) None bs p q = absurd q
-Appends-again (Some x) (Some y) (Some z) bs p q = q ∙ ap (λ l. l ++ bs) p
-
-pub Consumes-again : (a b c : Option (List ℕ)) (bs : List ℕ) → Keeps a b → Consumes b c bs → Consumes a c bs
-Consumes-again None b c bs p q = tt
-Consumes-again (Some x) None c bs p q = absurd p
-Consumes-again (Some x) (Some y) None bs p q = absurd q
-Consumes-again (Some x) (Some y) (Some z) bs p q = sym p ∙ q
-
-pub append_known-nil : (a : Option (List ℕ)) → append_known a [] ≡ a
-append_known-nil None = refl
-append_known-nil (Some x) = ap Some (append-nil x)
 
 -- more of the bytes was taken
 pub Appends-more : (a b c : Option (List ℕ)) (bytes : List ℕ) (at n : ℕ) → Appends a b (take at bytes) → Appends b c (take n (take (length bytes - at) (drop at bytes)))

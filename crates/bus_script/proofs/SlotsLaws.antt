@@ -30,10 +30,6 @@ pub slots-append : (j k : ℕ) → slots j ++ slots k ≡ slots (j + k)
 slots-append zero k = grind (arith, common_steps)
 slots-append (suc j) k = let more : suc j + k ≡ suc (j + k) = omega arith in ap (λ es. Slot ∷ es) (slots-append j k) ∙ ap slots (sym more)
 
-pub slots-length : (k : ℕ) → length (slots k) ≡ k
-slots-length zero = refl
-slots-length (suc k) = let i = slots-length k in omega (arith, i)
-
 -- one slot more is later than the others
 pub slots-after : (k : ℕ) (h : List Event) → history_after (slots (suc k)) h ≡ Slot ∷ history_after (slots k) h
 slots-after zero h = refl

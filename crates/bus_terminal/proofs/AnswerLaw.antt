@@ -9,7 +9,7 @@ use Rattle.bus_word.specs.Cell.{is_data_place}
 use Rattle.bus_word.specs.Status.{status_word}
 use Rattle.bus_legal.specs.Description.{Description}
 use Rattle.terminal_rules.specs.declared.event.Event.{Event}
-use Rattle.terminal_rules.specs.declared.event.Event.TheVariants.{Word, Noise, Gap, Write, Vector, Bit, Flag as FlagIs, Slot}
+use Rattle.terminal_rules.specs.declared.event.Event.TheVariants.{Gap, Slot}
 use Rattle.terminal_rules.specs.declared.event.Flag.TheVariants.{Busy}
 use Rattle.terminal_state.specs.declared.registers.Registers.{Registers}
 use Rattle.bus_terminal.specs.declared.terminal.Terminal.{Terminal}
@@ -20,7 +20,7 @@ use Rattle.terminal_rules.specs.Flags.{flag_now}
 use Rattle.terminal_rules.specs.Ends.{at_gap, unless_ignored}
 use Rattle.terminal_rules.specs.SinceReset.{held_now}
 use Rattle.terminal_rules.specs.Past.{past}
-use Rattle.terminal_rules.specs.Out.{Out, Silence, handing_over, sending_out, sending, hands, reply_word, sends, out}
+use Rattle.terminal_rules.specs.Out.{Out, handing_over, sending_out, sending, hands, reply_word, sends, out}
 use Rattle.terminal_state.specs.inner.Standing.{gap_ends}
 use Rattle.terminal_state.specs.inner.Registers.{registers_now}
 use Rattle.terminal_state.specs.inner.Replies.{shown_reply, has_place, can_send}
@@ -28,21 +28,6 @@ use Rattle.bus_terminal.specs.Stands.{StandsAt, held_word, own_description}
 use Rattle.bus_terminal.specs.inner.Terminal.{reply_word_from, sends_from, ends_at_gap, IsSameSetup}
 use Rattle.terminal_state.proofs.CollectedLaw.{gap_ends_law}
 use Rattle.terminal_state.proofs.CanSendLaw.{can_send_law}
-
--- what is ignored isn't answered
-pub ignored_answers : {L : Type 0} (is_legal : L → Cell → Bool) (P : Description) (h : List Event) (e : Event) (t : Terminal L) → ignores (shown_reply t.reply) e ≡ true →
-    StandsAt is_legal P h t → Silence ≡ out P h e
-ignored_answers is_legal P h e t i s = by_event e (ap (λ r. ignores r e) (sym s.reply) ∙ i)
-  where
-    by_event : (e : Event) → ignores (reply_now (past P h)) e ≡ true → Silence ≡ out P h e
-    by_event (Word b w) i = refl
-    by_event (Noise b) i = refl
-    by_event (Gap b) i = sym (ap (λ i. handing_over (hands P (unless_ignored i (at_gap P (flag_now (past P h) Busy) (open_now P (past P h) b))))) i)
-    by_event (Write q v) i = refl
-    by_event (Vector v) i = refl
-    by_event (Bit v) i = refl
-    by_event (FlagIs f v) i = refl
-    by_event Slot i = cc
 
 -- a terminal that stood at a history answers a gap that is not ignored, once it has taken it, as the definitions say
 pub gap_answers : {L : Type 0} (is_legal : L → Cell → Bool) (P : Description) (h : List Event) (b : Bus) (t u : Terminal L) (x : Ending) (o : Out) →

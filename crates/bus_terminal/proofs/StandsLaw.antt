@@ -1,25 +1,22 @@
 -- A terminal that stands at a history stands, after an event, at the history followed by that event.
 use Rattle.std.proofs.lemmas.Bool.Decides.{nat_tests}
-use Rattle.std.proofs.Common.{◌≡◌, ◌≤◌, arith, ℕ, Bool, true, false, not, ◌&&◌, ◌||◌, ◌==◌, if◌then◌else◌, Option, Some, None, List, [], ◌∷◌, refl, ap, sym, ◌∙◌}
+use Rattle.std.proofs.Common.{◌≡◌, ◌≤◌, arith, ℕ, Bool, true, false, not, ◌&&◌, ◌||◌, if◌then◌else◌, Option, Some, None, List, [], ◌∷◌, refl, ap, sym, ◌∙◌}
 use Rattle.bus_word.specs.declared.word.Bus.{Bus}
 use Rattle.bus_word.specs.declared.word.Bus.TheVariants.{A, B}
 use Rattle.bus_word.specs.declared.word.Raw.{Raw}
 use Rattle.bus_word.specs.declared.cell.Cell.{Cell}
 use Rattle.bus_word.specs.Cell.{is_data_place}
 use Rattle.bus_legal.specs.Description.{Description, word_at, words_at_places}
-use Rattle.terminal_rules.specs.Place.{Place}
-use Rattle.terminal_rules.specs.declared.event.Flag.{Flag}
 use Rattle.terminal_rules.specs.declared.event.Event.{Event}
-use Rattle.terminal_rules.specs.declared.event.Event.TheVariants.{Word, Noise, Gap, Write, Vector, Bit, Flag as FlagIs, Slot}
+use Rattle.terminal_rules.specs.declared.event.Event.TheVariants.{Word, Noise, Gap, Slot}
 use Rattle.terminal_state.specs.declared.buses.OnBuses.{OnBuses}
-use Rattle.terminal_state.specs.declared.registers.Flags.{Flags}
 use Rattle.terminal_state.specs.declared.registers.Registers.{Registers}
 use Rattle.bus_terminal.specs.declared.terminal.Terminal.{Terminal}
 use Rattle.terminal_rules.specs.Buses.{same_bus}
 use Rattle.terminal_rules.specs.declared.event.Flag.TheVariants.{Busy}
-use Rattle.terminal_rules.specs.LookBack.{latest, or_else, since}
-use Rattle.terminal_rules.specs.History.{Replying, NoTurn, Ignored, Noted, noted_as, Ending, Nothing}
-use Rattle.terminal_rules.specs.Reply.{begun, begins_reply, reply_of, reply_now, ignores}
+use Rattle.terminal_rules.specs.LookBack.{or_else}
+use Rattle.terminal_rules.specs.History.{Replying, NoTurn, Noted, noted_as, Ending, Nothing}
+use Rattle.terminal_rules.specs.Reply.{reply_now, ignores}
 use Rattle.terminal_rules.specs.Flags.{flag_now}
 use Rattle.terminal_rules.specs.Turn.{is_answered, done_cell, turn_of_gap, turn_of_slot, unless_ignored_turn}
 use Rattle.terminal_rules.specs.Open.{Open, Idle, Collects, open_now}
@@ -29,14 +26,14 @@ use Rattle.terminal_rules.specs.SinceReset.{resets, is_reset, off_now, wrapped, 
 use Rattle.terminal_rules.specs.Status.{spares, adds_error}
 use Rattle.terminal_rules.specs.Past.{note, past}
 use Rattle.terminal_state.specs.inner.Standing.{Standing, Words, standing_of, word_leaves, entry_leaves, entry_fails, fails, gap_leaves, gap_ends, starts_by}
-use Rattle.terminal_state.specs.inner.Registers.{registers_now, registers_after, flags_after, failed_by, started_if, settled, reset_if}
+use Rattle.terminal_state.specs.inner.Registers.{registers_now, registers_after, failed_by, started_if, settled, reset_if}
 use Rattle.terminal_rules.specs.inner.Steps.{replies_on, unless_reset, resets_at_gap, sent_one, resets_next, begun_if, dropped_if}
 use Rattle.terminal_state.specs.inner.Replies.{shown_reply}
 use Rattle.terminal_state.specs.inner.Buses.{on_bus, with_bus}
 use Rattle.terminal_state.specs.inner.Message.{standing_on}
 use Rattle.terminal_state.specs.inner.Held.{word_in}
-use Rattle.bus_terminal.specs.Stands.{StandsAt, own_description, heard_on_buses}
-use Rattle.bus_terminal.specs.inner.Terminal.{heard_after_word, ends_at_gap, begins_at_gap, TakesWord, TakesNoise, TakesGap, TakesSlot, TakesWrite}
+use Rattle.bus_terminal.specs.Stands.{StandsAt, heard_on_buses}
+use Rattle.bus_terminal.specs.inner.Terminal.{heard_after_word, ends_at_gap, begins_at_gap, TakesWord, TakesNoise, TakesGap, TakesSlot}
 use Rattle.terminal_rules.proofs.OpenLaw.{word_law, noise_law, gap_law, slot_law, after_word, after_gap, after_entry, unheard}
 use Rattle.terminal_state.proofs.CollectedLaw.{gap_ends_law, gap_leaves_law, entry_leaves_law, entry_ends_law, free_law, fresh_law}
 use Rattle.terminal_rules.proofs.BackLaw.{held_step}
@@ -233,20 +230,6 @@ held_gap_law P h b s i e =
     ∙ (held_step P s i (gap_as b (begins_by P h b) (gap_by P h b)) h
     ∙ ap (λ k. held_by P s i (Gap b) k (gap_by P h b) (held_now P h s i)) (gap_resets b (begins_by P h b) (gap_by P h b)))
 
-choice_or : (b : Bool) (v old : ℕ) → or_else (either_word (if b then Some v else None) None) old ≡ (if b then v else old)
-choice_or true v old = refl
-choice_or false v old = refl
-
-held_write_law : (P : Description) (h : List Noted) (place : Place) (v s i : ℕ) →
-    held_now P (note P h (Write place v) ∷ h) s i ≡ (if (place.subaddress == s) && (place.number == i) then v else held_now P h s i)
-held_write_law P h place v s i =
-    held_step P s i (note P h (Write place v)) h
-    ∙ choice_or ((place.subaddress == s) && (place.number == i)) v (held_now P h s i)
-
--- the same function of values that are the same
-same₃ : {X Y Z R : Type 0} (f : X → Y → Z → R) {x x' : X} {y y' : Y} {z z' : Z} → x ≡ x' → y ≡ y' → z ≡ z' → f x y z ≡ f x' y' z'
-same₃ f {x} {x'} {y} {y'} {z} {z'} p q r = λ j. f (p j) (q j) (r j)
-
 same₄ : {X Y Z W R : Type 0} (f : X → Y → Z → W → R) {x x' : X} {y y' : Y} {z z' : Z} {w w' : W} → x ≡ x' → y ≡ y' → z ≡ z' → w ≡ w' → f x y z w ≡ f x' y' z' w'
 same₄ f {x} {x'} {y} {y'} {z} {z'} {w} {w'} p q r s = λ j. f (p j) (q j) (r j) (s j)
 
@@ -360,131 +343,3 @@ slot_stands is_legal P h t u s k = record {
       ∙ ((λ j. if resets_next (s.reply j) then (sym (at_place t.held.initial m i low high first last) ∙ ap (λ D. D.initial m i) s.description) j else s.held m i low high first last j)
       ∙ sym (held_slot_law P (past P h) m i));
 }
-
--- what comes from the subsystem has nothing to do with replies
-still_write : (h : List Noted) (place : Place) (v : ℕ) → reply_now (noted_as (Write place v) NoTurn false Nothing ∷ h) ≡ reply_now h
-still_write h place v = elim (latest (λ p. begun p.turn) h) as (λ o. reply_of (noted_as (Write place v) NoTurn false Nothing ∷ since begins_reply h) o ≡ reply_of (since begins_reply h) o) [ None ↦ refl | Some r ↦ refl ]
-
-still_vector : (h : List Noted) (v : ℕ) → reply_now (noted_as (Vector v) NoTurn false Nothing ∷ h) ≡ reply_now h
-still_vector h v = elim (latest (λ p. begun p.turn) h) as (λ o. reply_of (noted_as (Vector v) NoTurn false Nothing ∷ since begins_reply h) o ≡ reply_of (since begins_reply h) o) [ None ↦ refl | Some r ↦ refl ]
-
-still_bit : (h : List Noted) (v : ℕ) → reply_now (noted_as (Bit v) NoTurn false Nothing ∷ h) ≡ reply_now h
-still_bit h v = elim (latest (λ p. begun p.turn) h) as (λ o. reply_of (noted_as (Bit v) NoTurn false Nothing ∷ since begins_reply h) o ≡ reply_of (since begins_reply h) o) [ None ↦ refl | Some r ↦ refl ]
-
-still_flag : (h : List Noted) (f : Flag) (v : Bool) → reply_now (noted_as (FlagIs f v) NoTurn false Nothing ∷ h) ≡ reply_now h
-still_flag h f v = elim (latest (λ p. begun p.turn) h) as (λ o. reply_of (noted_as (FlagIs f v) NoTurn false Nothing ∷ since begins_reply h) o ≡ reply_of (since begins_reply h) o) [ None ↦ refl | Some r ↦ refl ]
-
-pub write_stands : {L : Type 0} (is_legal : L → Cell → Bool) (P : Description) (h : List Event) (place : Place) (v : ℕ) (t u : Terminal L) →
-    StandsAt is_legal P h t → TakesWrite is_legal place v t u → StandsAt is_legal P (Write place v ∷ h) u
-write_stands is_legal P h place v t u s k = record {
-  description = k.setup.description ∙ s.description;
-  heard = k.heard ∙ s.heard;
-  standing = λ c. ap (standing_on c) k.in_progress ∙ s.standing c;
-  registers = k.registers ∙ (s.registers ∙ sym (registers_law P (note P (past P h) (Write place v)) (past P h)));
-  reply = ap shown_reply k.reply ∙ (s.reply ∙ sym (still_write (past P h) place v));
-  held = λ m i low high first last.
-      k.held m i low high first last
-      ∙ ((λ j. if (place.subaddress == m) && (place.number == i) then v else s.held m i low high first last j)
-      ∙ sym (held_write_law P (past P h) place v m i));
-}
-
--- a change of the registers alone, by an event that says nothing of the buses and of the words held ready
-setting_stands : {L : Type 0} (is_legal : L → Cell → Bool) (P : Description) (h : List Event) (e : Event) (t : Terminal L) (r : Registers) →
-    ((b : Bus) → open_now P (note P (past P h) e ∷ past P h) b ≡ open_now P (past P h) b) →
-    heard_on_buses P (note P (past P h) e ∷ past P h) ≡ heard_on_buses P (past P h) →
-    ((s i : ℕ) → held_now P (note P (past P h) e ∷ past P h) s i ≡ held_now P (past P h) s i) →
-    reply_now (note P (past P h) e ∷ past P h) ≡ reply_now (past P h) →
-    registers_now P (note P (past P h) e ∷ past P h) ≡ r →
-    r.power_up ≡ t.registers.power_up →
-    StandsAt is_legal P h t → StandsAt is_legal P (e ∷ h) (record t { registers = r })
-setting_stands is_legal P h e t r stays heard held reply registers power_up s = record {
-  description = (λ j. record (own_description is_legal t) { vector = (power_up j).vector; bit = (power_up j).bit }) ∙ s.description;
-  heard = s.heard ∙ sym heard;
-  standing = λ c. s.standing c ∙ ap (standing_of P) (sym (stays c));
-  registers = sym registers;
-  reply = s.reply ∙ sym reply;
-  held = λ m i low high first last. s.held m i low high first last ∙ sym (held m i);
-}
-
-pub vector_stands : {L : Type 0} (is_legal : L → Cell → Bool) (P : Description) (h : List Event) (v : ℕ) (t : Terminal L) →
-    StandsAt is_legal P h t → StandsAt is_legal P (Vector v ∷ h) (record t { registers = record t.registers { vector = v } })
-vector_stands is_legal P h v t s =
-    setting_stands is_legal P h (Vector v) t (record t.registers { vector = v }) (λ b. refl) refl (λ m i. refl) (still_vector (past P h) v)
-    (registers_law P (note P (past P h) (Vector v)) (past P h) ∙ ap (λ (r : Registers). record r { vector = v }) (sym s.registers)) refl s
-
-pub bit_stands : {L : Type 0} (is_legal : L → Cell → Bool) (P : Description) (h : List Event) (v : ℕ) (t : Terminal L) →
-    StandsAt is_legal P h t → StandsAt is_legal P (Bit v ∷ h) (record t { registers = record t.registers { bit = v } })
-bit_stands is_legal P h v t s =
-    setting_stands is_legal P h (Bit v) t (record t.registers { bit = v }) (λ b. refl) refl (λ m i. refl) (still_bit (past P h) v)
-    (registers_law P (note P (past P h) (Bit v)) (past P h) ∙ ap (λ (r : Registers). record r { bit = v }) (sym s.registers)) refl s
-
-pub flag_stands : {L : Type 0} (is_legal : L → Cell → Bool) (P : Description) (h : List Event) (f : Flag) (v : Bool) (t : Terminal L) (k : Flags) →
-    k ≡ flags_after (FlagIs f v) t.registers.flags →
-    StandsAt is_legal P h t → StandsAt is_legal P (FlagIs f v ∷ h) (record t { registers = record t.registers { flags = k } })
-flag_stands is_legal P h f v t k e s =
-    setting_stands is_legal P h (FlagIs f v) t (record t.registers { flags = k }) (λ b. refl) refl (λ m i. refl) (still_flag (past P h) f v)
-    (registers_law P (note P (past P h) (FlagIs f v)) (past P h)
-    ∙ (ap (λ (r : Registers). record r { flags = flags_after (FlagIs f v) r.flags }) (sym s.registers)
-    ∙ ap (λ (k : Flags). record t.registers { flags = k }) (sym e))) refl s
-
--- What is ignored changes nothing.
-registers_ignored_gap : (P : Description) (b : Bus) (h : List Noted) → registers_now P (noted_as (Gap b) Ignored false Nothing ∷ h) ≡ registers_now P h
-registers_ignored_gap P A h = registers_law P (noted_as (Gap A) Ignored false Nothing) h
-registers_ignored_gap P B h = registers_law P (noted_as (Gap B) Ignored false Nothing) h
-
-ignored_word : (h : List Noted) (b : Bus) (w : Raw) → reply_now (noted_as (Word b w) Ignored false Nothing ∷ h) ≡ reply_now h
-ignored_word h b w = elim (latest (λ p. begun p.turn) h) as (λ o. reply_of (noted_as (Word b w) Ignored false Nothing ∷ since begins_reply h) o ≡ reply_of (since begins_reply h) o) [ None ↦ refl | Some r ↦ refl ]
-
-ignored_noise : (h : List Noted) (b : Bus) → reply_now (noted_as (Noise b) Ignored false Nothing ∷ h) ≡ reply_now h
-ignored_noise h b = elim (latest (λ p. begun p.turn) h) as (λ o. reply_of (noted_as (Noise b) Ignored false Nothing ∷ since begins_reply h) o ≡ reply_of (since begins_reply h) o) [ None ↦ refl | Some r ↦ refl ]
-
-ignored_gap : (h : List Noted) (b : Bus) → reply_now (noted_as (Gap b) Ignored false Nothing ∷ h) ≡ reply_now h
-ignored_gap h b = elim (latest (λ p. begun p.turn) h) as (λ o. reply_of (noted_as (Gap b) Ignored false Nothing ∷ since begins_reply h) o ≡ reply_of (since begins_reply h) o) [ None ↦ refl | Some r ↦ refl ]
-
-ignored_is : (P : Description) (h : List Noted) (e : Event) → ignores (reply_now h) e ≡ true → note P h e ≡ noted_as e Ignored false Nothing
-ignored_is P h (Word b w) e = ap (λ i. noted_as (Word b w) (unless_ignored_turn i NoTurn) (not i && word_starts P h b w) (unless_ignored i (at_entry (Some w) (open_now P h b)))) e
-ignored_is P h (Noise b) e = ap (λ i. noted_as (Noise b) (unless_ignored_turn i NoTurn) false (unless_ignored i (at_entry None (open_now P h b)))) e
-ignored_is P h (Gap b) e =
-    let x : Ending = at_gap P (flag_now h Busy) (open_now P h b) in
-    ap (λ i. noted_as (Gap b) (unless_ignored_turn i (turn_of_gap b (is_answered (off_now h b) (unless_ignored i x)) (done_cell (unless_ignored i x)))) false (unless_ignored i x)) e
-ignored_is P h (Write q v) e = cc
-ignored_is P h (Vector v) e = cc
-ignored_is P h (Bit v) e = cc
-ignored_is P h (FlagIs f v) e = cc
-ignored_is P h Slot e = cc
-
--- a note that changes nothing
-unchanged : {L : Type 0} (is_legal : L → Cell → Bool) (P : Description) (h : List Event) (e : Event) (n : Noted) (t : Terminal L) → note P (past P h) e ≡ n →
-    ((b : Bus) → open_now P (n ∷ past P h) b ≡ open_now P (past P h) b) →
-    heard_on_buses P (n ∷ past P h) ≡ heard_on_buses P (past P h) →
-    ((s i : ℕ) → held_now P (n ∷ past P h) s i ≡ held_now P (past P h) s i) →
-    reply_now (n ∷ past P h) ≡ reply_now (past P h) →
-    registers_now P (n ∷ past P h) ≡ registers_now P (past P h) →
-    StandsAt is_legal P h t → StandsAt is_legal P (e ∷ h) t
-unchanged is_legal P h e n t q stays heard held reply registers s =
-    setting_stands is_legal P h e t t.registers
-    (λ b. ap (λ n. open_now P (n ∷ past P h) b) q ∙ stays b)
-    (ap (λ n. heard_on_buses P (n ∷ past P h)) q ∙ heard)
-    (λ m i. ap (λ n. held_now P (n ∷ past P h) m i) q ∙ held m i)
-    (ap (λ n. reply_now (n ∷ past P h)) q ∙ reply)
-    (ap (λ n. registers_now P (n ∷ past P h)) q ∙ (registers ∙ sym s.registers)) refl s
-
-pub ignored_stands : {L : Type 0} (is_legal : L → Cell → Bool) (P : Description) (h : List Event) (e : Event) (t : Terminal L) → ignores (shown_reply t.reply) e ≡ true →
-    StandsAt is_legal P h t → StandsAt is_legal P (e ∷ h) t
-ignored_stands is_legal P h e t i s = by_event e (ap (λ r. ignores r e) (sym s.reply) ∙ i)
-  where
-    by_event : (e : Event) → ignores (reply_now (past P h)) e ≡ true → StandsAt is_legal P (e ∷ h) t
-    by_event (Word b w) i =
-        let n : Noted = noted_as (Word b w) Ignored false Nothing in
-        unchanged is_legal P h (Word b w) n t (ignored_is P (past P h) (Word b w) i) (λ c. refl) refl (λ m i. refl) (ignored_word (past P h) b w) (registers_law P n (past P h)) s
-    by_event (Noise b) i =
-        let n : Noted = noted_as (Noise b) Ignored false Nothing in
-        unchanged is_legal P h (Noise b) n t (ignored_is P (past P h) (Noise b) i) (λ c. refl) refl (λ m i. refl) (ignored_noise (past P h) b) (registers_law P n (past P h)) s
-    by_event (Gap b) i =
-        let n : Noted = noted_as (Gap b) Ignored false Nothing in
-        unchanged is_legal P h (Gap b) n t (ignored_is P (past P h) (Gap b) i) (λ c. refl) refl (λ m i. refl) (ignored_gap (past P h) b) (registers_ignored_gap P b (past P h)) s
-    by_event (Write q v) i = cc
-    by_event (Vector v) i = cc
-    by_event (Bit v) i = cc
-    by_event (FlagIs f v) i = cc
-    by_event Slot i = cc

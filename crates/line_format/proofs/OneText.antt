@@ -30,17 +30,6 @@ parted (line s next) g v bytes (xs, rest, allows, is, spells) =
       spells_rest = p.spells_rest;
     }
 
--- one format after another, where the whole's value leaves one value for the first
-pub one_then : {A B : Type 0} (F : Format A) (g : A → Format B) → HasOneText F → ((a : A) → HasOneText (g a))
-    → ((a b : A) (v : B) (x y x' y' : List ℕ) → Spells F a x → Spells (g a) v y → Spells F b x' → Spells (g b) v y' → a ≡ b) → HasOneText (and_then F g)
-one_then F g one_front one_rest same v x y s t =
-    let p = parted F g v x s in
-    let q = parted F g v y t in
-    let e : p.value ≡ q.value = same p.value q.value v p.front p.rest q.front q.rest p.spells_front p.spells_rest q.spells_front q.spells_rest in
-    let fronts : p.front ≡ q.front = one_front q.value p.front q.front (subst (λ a. Spells F a p.front) e p.spells_front) q.spells_front in
-    let rests : p.rest ≡ q.rest = one_rest q.value v p.rest q.rest (subst (λ a. Spells (g a) v p.rest) e p.spells_rest) q.spells_rest in
-    p.is ∙ ap₂ (λ a b. a ++ b) fronts rests ∙ sym q.is
-
 -- ---- lines
 
 no_fields : (xs : List ℕ) → Fit [] xs → xs ≡ []

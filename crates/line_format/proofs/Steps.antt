@@ -107,8 +107,6 @@ pub words_not : (name : List ℕ) (s count : ℕ) (p : Spot) (t : ℕ) (ws rest 
 unfolding words_line
 words_not name s count p t ws rest e other = line_not _ (λ xs. done (others xs)) p (t ∷ ws) rest (sym e) (grind (arith, nat_tests))
 
-pub ruleset reading = (read-then)
-
 -- ---- words
 
 abbrev pub fields_front : List ℕ → Option (List ℕ × List ℕ) → Option (List ℕ × List ℕ)
@@ -123,7 +121,3 @@ fields_more f (suc k) front bytes n rest some e = let less : suc k - 1 ≡ k = o
     join : (o : Option (List ℕ × List ℕ)) → fields_front front (o >>= λ p. Some (n ∷ p.0, p.1)) ≡ fields_front (front ++ n ∷ []) o
     join None = refl
     join (Some p) = ap (λ l. Some (l, p.1)) (sym (append_assoc front (n ∷ []) p.0))
-
-pub fields_none : (f : Field) (left : ℕ) (front : List ℕ) (bytes : List ℕ) → 0 < left → None ≡ field_at f.base f.width bytes → fields_front front (fields_at (replicate left f) bytes) ≡ None
-fields_none f zero front bytes some e = absurd (omega arith)
-fields_none f (suc k) front bytes some e = rw (← e) refl

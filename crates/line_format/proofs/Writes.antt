@@ -1,5 +1,5 @@
 -- Texts that are written.
-use Rattle.std.proofs.Common.{◌≡◌, ℕ, zero, suc, ◌+◌, ◌-◌, ◌==◌, Bool, false, cond, length, get_or, drop, replicate, ◌^◌, ◌<◌, ◌≤◌, List, [], ◌∷◌, ◌++◌, true, refl, ap, sym, ◌∙◌, arith, append_assoc, append-nil}
+use Rattle.std.proofs.Common.{◌≡◌, ℕ, zero, suc, ◌+◌, ◌-◌, ◌==◌, Bool, false, cond, length, get_or, drop, replicate, ◌^◌, ◌<◌, List, [], ◌∷◌, ◌++◌, true, refl, ap, sym, ◌∙◌, arith, append_assoc, append-nil}
 use Rattle.std.proofs.lemmas.Bool.Decides.{nat_tests}
 use Rattle.std.proofs.lemmas.List.{drop_more}
 use Rattle.line_format.specs.Format.{Field, Shape, Format, done, line, and_then, digits, Fit, Allows, spell_fields, spell, Spells}
@@ -54,6 +54,3 @@ words_more out ws i l =
     let some : length ws - i ≡ suc (length ws - (i + 1)) = omega arith in
     let front : drop i ws ≡ get_or ws i 0 ∷ drop (i + 1) ws = drop_more ws i 0 l in
     rw (some, front) (sym (append_assoc (out ++ 32 ∷ []) (digits 16 4 (get_or ws i 0)) _ ∙ append_assoc out (32 ∷ []) _))
-
-pub words_end : (out ws : List ℕ) (i : ℕ) → length ws ≤ i → out ++ spell_fields (replicate (length ws - i) word) (drop i ws) ≡ out
-words_end out ws i l = let none : length ws - i ≡ 0 = omega arith in rw none (append-nil out)

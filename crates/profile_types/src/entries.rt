@@ -79,11 +79,4 @@ impl<T> Entries<T> {
     {
         &self.entries
     }
-
-    /// Gives the entries back.
-    pub fn into_vec(self) -> Vec<T>
-        ensures { result.items ≡ self }
-    {
-        self.entries
-    }
 }

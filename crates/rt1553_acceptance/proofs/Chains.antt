@@ -1,5 +1,5 @@
 -- The text of events with what is stated of their answers, read: it says these events, and just these answers.
-use Rattle.std.proofs.Common.{ℕ, zero, suc, ◌≡◌, ◌≢◌, ◌∙◌, ◌+◌, ◌*◌, ◌-◌, ◌<◌, ◌≤◌, Bool, true, false, not, ◌&&◌, if◌then◌else◌, List, [], ◌∷◌, ◌++◌, Option, Some, None, is_some, Result, Ok, Err, length, map, flat_map, refl, sym, ap, subst, arith, append_assoc, append-nil, length-append, codes}
+use Rattle.std.proofs.Common.{ℕ, ◌≡◌, ◌∙◌, ◌+◌, ◌*◌, ◌<◌, ◌≤◌, Bool, true, false, if◌then◌else◌, List, [], ◌∷◌, ◌++◌, Option, Some, None, Result, Ok, length, map, flat_map, refl, sym, ap, subst, arith, append_assoc, append-nil, length-append, codes}
 use Rattle.std.proofs.lemmas.List.{map-append}
 use Rattle.bus_word.specs.declared.word.Bus.{Bus}
 use Rattle.bus_word.specs.declared.word.Bus.TheVariants.{A, B}
@@ -8,7 +8,6 @@ use Rattle.bus_word.specs.declared.word.Kind.TheVariants.{Com, Dat}
 use Rattle.bus_legal.specs.Description.{Description}
 use Rattle.terminal_rules.specs.declared.event.Event.{Event}
 use Rattle.terminal_rules.specs.declared.event.Event.TheVariants as event
-use Rattle.terminal_rules.specs.History.{Replying}
 use Rattle.terminal_rules.specs.Reply.{reply_now}
 use Rattle.terminal_rules.specs.Ends.{ends_now}
 use Rattle.terminal_rules.specs.Past.{past, history_after}
@@ -18,22 +17,20 @@ use Rattle.terminal_exchanges.specs.Exchanges.{Exchange, script_of}
 use Rattle.terminal_exchanges.proofs.EventLaws.{exchange-append}
 use Rattle.bus_script.specs.Digits.{digits_of, decimal_digits}
 use Rattle.bus_script.specs.Line.{meaning}
-use Rattle.bus_script.specs.Text.{NoLineFeed}
 use Rattle.bus_script.specs.EventLine.{event_text}
-use Rattle.bus_script.specs.Transcript.{bus_letter, sent_kind, sent_text, word_field, received_by, received_text, hand_text, answer_text, text_at, transcript}
+use Rattle.bus_script.specs.Transcript.{bus_letter, sent_kind, sent_text, word_field, received_by, answer_text, transcript}
 use Rattle.bus_script.proofs.RoundTrip.{event_read}
 use Rattle.line_format.specs.Front.{after}
 use Rattle.rt1553_verify.specs.declared.stated.StatedFault.{StatedFault}
-use Rattle.rt1553_verify.specs.Stated.{StatedEvent, Latest, After, event_of, can_answer, states, ended, stays, or_misplaced, plain, by_going_on, by_answer, with_line_feed, is_empty, line_says}
+use Rattle.rt1553_verify.specs.Stated.{StatedEvent, Latest, After, event_of, can_answer, ended, stays, or_misplaced, plain, by_going_on, by_answer, with_line_feed, is_empty, line_says}
 use Rattle.rt1553_verify.proofs.StatedLaws.{stated-means}
 use Rattle.rt1553_acceptance.specs.Label.{label_of}
-use Rattle.rt1553_acceptance.specs.Text.{hand_stated, answer_stated, event_stated, comment_of, exchanges_stated, fields_stated}
+use Rattle.rt1553_acceptance.specs.Text.{answer_stated, event_stated, comment_of, exchanges_stated, fields_stated}
 use Rattle.rt1553_acceptance.specs.Law.{AreAnswered}
 use Rattle.rt1553_acceptance.specs.inner.Fits.{Fits, AllFit}
-use Rattle.rt1553_acceptance.proofs.Pieces.{Tells, Tells-nil, Tells-line, Tells-trans, Tells-same, feeds-append}
-use Rattle.rt1553_acceptance.proofs.Digits.{feeds-digits, feeds-decimal}
+use Rattle.rt1553_acceptance.proofs.Pieces.{Tells, Tells-nil, Tells-line, Tells-trans, Tells-same}
 use Rattle.rt1553_acceptance.proofs.Feeds.{IsLine, literal, within, joined, digits-line, decimal_digits-line, letter-line, sent_kind-line, label-line, event-line}
-use Rattle.rt1553_acceptance.proofs.Fields.{answered, Adds, fields-added}
+use Rattle.rt1553_acceptance.proofs.Fields.{answered, fields-added}
 
 -- ---- the line of an event
 

@@ -1,7 +1,6 @@
 -- Lines have no line feed in them, and are short.
-use Rattle.std.proofs.Common.{ℕ, zero, suc, ◌≡◌, ◌≢◌, ◌+◌, ◌/◌, ◌%◌, ◌≤◌, Bool, true, false, not, ◌&&◌, ◌==◌, nat_lt, if◌then◌else◌, List, [], ◌∷◌, ◌++◌, Option, Some, None, length, codes, length-append, refl, arith}
+use Rattle.std.proofs.Common.{ℕ, ◌≡◌, ◌≢◌, ◌+◌, ◌≤◌, Bool, true, false, not, ◌&&◌, ◌==◌, nat_lt, if◌then◌else◌, List, [], ◌∷◌, ◌++◌, length, codes, length-append, refl, arith}
 use Rattle.std.proofs.lemmas.Bool.Decides.{nat_tests}
-use Rattle.bus_word.specs.declared.cell.Cell.{Cell}
 use Rattle.bus_word.specs.declared.word.Bus.{Bus}
 use Rattle.bus_word.specs.declared.word.Bus.TheVariants.{A, B}
 use Rattle.bus_word.specs.declared.word.Kind.{Kind}
@@ -18,9 +17,9 @@ use Rattle.terminal_rules.specs.declared.event.Flag.TheVariants.{Service, Busy, 
 use Rattle.bus_script.specs.Digits.{digits_of, decimal_digits}
 use Rattle.bus_script.specs.Text.{NoLineFeed}
 use Rattle.bus_script.specs.Transcript.{bus_letter, sent_kind}
-use Rattle.bus_script.specs.EventLine.{kind_text, truth_field, word_text, place_text, flag_name, event_text}
+use Rattle.bus_script.specs.EventLine.{kind_text, truth_field, place_text, flag_name, event_text}
 use Rattle.bus_script.proofs.TranscriptLaws.{four_digits}
-use Rattle.rt1553_acceptance.specs.Label.{decimal, words_counted, data_asked, asked, is_legal_by, label_of}
+use Rattle.rt1553_acceptance.specs.Label.{decimal, data_asked, asked, is_legal_by, label_of}
 use Rattle.rt1553_acceptance.proofs.Pieces.{feeds-append}
 use Rattle.rt1553_acceptance.proofs.Digits.{feeds-digits, feeds-decimal}
 
@@ -76,10 +75,6 @@ name-line code =
     (either (code == 6) _ _ (within (omega arith) (literal _ refl)) (either (code == 7) _ _ (within (omega arith) (literal _ refl)) (either (code == 8) _ _ (within (omega arith) (literal _ refl))
     (either (code == 16) _ _ (within (omega arith) (literal _ refl)) (either (code == 17) _ _ (within (omega arith) (literal _ refl)) (either (code == 18) _ _ (within (omega arith) (literal _ refl))
     (either (code == 19) _ _ (within (omega arith) (literal _ refl)) (either (code == 20) _ _ (within (omega arith) (literal _ refl)) (either (code == 21) _ _ (within (omega arith) (literal _ refl)) (within (omega arith) (literal _ refl))))))))))))))))
-
--- no mode code has a longer name than override inhibit terminal flag bit
-pub name_length : (code : ℕ) → length (mode_name code) ≤ 34
-name_length code = (name-line code).short
 
 data-line : (c : ℕ) → IsLine 34 (data_asked c)
 data-line c = within (omega arith)

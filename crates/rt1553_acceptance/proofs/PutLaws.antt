@@ -104,6 +104,3 @@ failed_as_before first false new before after = after ∙ before
 -- a trial more was tried
 pub tried_on : (xs here later all : List Exchange) (from : List Exchange) → from ≡ here ++ later → xs ++ from ≡ all → (xs ++ here) ++ later ≡ all
 tried_on xs here later all from is before = append_assoc xs here later ∙ ap (λ ys. xs ++ ys) (sym is) ∙ before
-
-pub tried_all : (xs all : List Exchange) → xs ++ [] ≡ all → xs ≡ all
-tried_all xs all e = sym (append-nil xs) ∙ e

@@ -1,5 +1,5 @@
 -- What the acceptance test shows: a terminal is found to answer as it states exactly if it is the same terminal.
-use Rattle.std.proofs.Common.{ℕ, ◌≡◌, ◌∙◌, ◌+◌, ◌*◌, ◌<◌, ◌≤◌, ◌^◌, ◌↔◌, Bool, true, false, if◌then◌else◌, List, [], ◌∷◌, ◌++◌, Option, Some, None, Result, Ok, length, map, take, drop, get_or, refl, sym, ap, subst, arith, append-nil}
+use Rattle.std.proofs.Common.{ℕ, ◌≡◌, ◌∙◌, ◌<◌, ◌^◌, Bool, true, false, if◌then◌else◌, List, [], ◌∷◌, ◌++◌, Some, None, Ok, map, take, drop, get_or, refl, sym, ap, subst, arith}
 use Rattle.std.specs.Str.{bytes_eq}
 use Rattle.std.proofs.lemmas.Slice.Eq.{bytes_eq-Decides}
 use Rattle.hex.specs.Hex.{encode_with}
@@ -10,9 +10,8 @@ use Rattle.bus_word.specs.declared.word.Kind.TheVariants.{Com, Dat}
 use Rattle.bus_legal.specs.Description.{Description}
 use Rattle.bus_legal.specs.Parts.{Parts, description_in, IsNormal}
 use Rattle.terminal_rules.specs.declared.event.Event.{Event}
-use Rattle.terminal_rules.specs.Same.{Same}
 use Rattle.terminal_rules.specs.Out.{Sending, Handing, HandsReceived, HandsSynchronize, HandsSynchronizeWith, HandsSelfTest, HandsBusControl, Out, Silence, SendsWord, HandsOver, out, outs_from}
-use Rattle.terminal_exchanges.specs.Sent.{sent_in, sent}
+use Rattle.terminal_exchanges.specs.Sent.{sent_in}
 use Rattle.terminal_complete_test.specs.CompleteTest.{complete_test, tried}
 use Rattle.bus_script.specs.Digits.{digits_of}
 use Rattle.bus_script.specs.Transcript.{sent_text, hand_text, answer_text, text_at}
@@ -24,7 +23,7 @@ use Rattle.rt1553_acceptance.specs.Law.{AreAnswered, IsAcceptanceTest}
 use Rattle.rt1553_acceptance.specs.inner.Fits.{Fits, AllFit}
 use Rattle.rt1553_acceptance.proofs.Pieces.{Tells-all}
 use Rattle.rt1553_acceptance.proofs.Digits.{same_digits}
-use Rattle.rt1553_acceptance.proofs.Chains.{Chain, some_exchanges}
+use Rattle.rt1553_acceptance.proofs.Chains.{some_exchanges}
 
 -- ---- texts of answers tell the words that are sent
 

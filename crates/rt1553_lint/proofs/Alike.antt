@@ -2,13 +2,12 @@
 use Rattle.std.proofs.Common.{◌≡◌, ◌≤◌, ◌↔◌, ℕ, [], Bool, true, false, IsTrue, ap, ◌∙◌, sym}
 use Rattle.profile_types.specs.declared.profile.Profile.{Profile}
 use Rattle.profile_types.specs.OwnCodes.{has_required_codes}
-use Rattle.bus_legal.specs.Meaning.{description_of}
 use Rattle.bus_legal.specs.Reach.{reach}
 use Rattle.terminal_rules.specs.Out.{outs}
 use Rattle.terminal_rules.specs.Same.{Same}
 use Rattle.terminal_rules.proofs.Reach.Same.{same_where_reached, outs_from-reach}
 use Rattle.bus_canon.proofs.SameLaws.{equal_where_same}
-use Rattle.rt1553_lint.specs.Without.{without, without_mode, IsSpareMode}
+use Rattle.rt1553_lint.specs.Without.{without, IsSpareMode}
 use Rattle.bus_legal.specs.Description.{Description}
 use Rattle.bus_legal.specs.Parts.{Parts, description_in, IsNormal}
 
@@ -23,6 +22,3 @@ alike b v w P Q lp lq nv nw ev ew same = (
 -- Without a mode entry the codes that must be legal are not, or they are.
 pub has_effect : (p : Profile) (k : ℕ) → false ≡ has_required_codes (without k p.modes) → IsTrue false ↔ IsSpareMode p k
 has_effect p k missing = ((λ (h : false ≡ true). absurd (cc)), (λ s. let both : false ≡ true = missing ∙ s.0 in absurd (cc)))
-
-pub has_none : (p : Profile) (k : ℕ) (b : Bool) → has_required_codes (without k p.modes) ≡ true → (IsTrue b ↔ Same (description_of p) (without_mode p k)) → IsTrue b ↔ IsSpareMode p k
-has_none p k b required same = ((λ h. (required, same.0 h)), (λ s. same.1 s.1))

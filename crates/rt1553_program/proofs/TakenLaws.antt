@@ -1,13 +1,10 @@
 -- The bytes of a reader, read up to a limit.
-use Rattle.std.proofs.Common.{ℕ, ◌≡◌, ◌<◌, ◌+◌, List, [], length, take, Option, Some, None, IfSome, option_map, arith, ◌++◌, subst}
+use Rattle.std.proofs.Common.{ℕ, ◌≡◌, ◌<◌, List, [], length, take, Option, Some, None, IfSome, option_map, arith, ◌++◌, subst}
 use Rattle.std.proofs.lemmas.Grind.{common_steps}
 
 -- all was read where fewer bytes came than were asked for
 pub all_taken : (n : ℕ) (bytes all : List ℕ) → bytes ≡ take n all → length bytes < n → bytes ≡ all
 all_taken n bytes all is few = grind (arith, common_steps)
-
-pub more_left : (n : ℕ) (bytes all : List ℕ) → bytes ≡ take (n + 1) all → n < length bytes → n < length all
-more_left n bytes all is many = grind (arith, common_steps)
 
 pub known_whole : (n : ℕ) (bytes : List ℕ) (left : Option (List ℕ)) → IfSome (option_map (take n) left) (λ xs. bytes ≡ xs) → length bytes < n
     → IfSome left (λ all. bytes ≡ all)

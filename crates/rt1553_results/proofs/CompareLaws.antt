@@ -51,10 +51,6 @@ none_missing (n ∷ ns) e = by_count n.first n.count n.some e
     by_count first zero some e = absurd (omega arith)
     by_count first (suc count) some e = cc e
 
-pub none_told : (ds : List Difference) → map told ds ≡ [] → length ds ≡ 0
-none_told [] e = refl
-none_told (d ∷ ds) e = cc e
-
 pub no_missing : (ns : List Numbers) → length ns ≡ 0 → numbers_in ns ≡ []
 no_missing [] e = refl
 no_missing (n ∷ ns) e = absurd (omega arith)

@@ -1,12 +1,10 @@
 -- The fields of a table of results: numbers, replies, and the columns of a header.
-use Rattle.std.proofs.Common.{◌≡◌, ◌≢◌, ℕ, ◌+◌, ◌-◌, ◌<◌, ◌≤◌, ◌==◌, nat_le, Bool, true, false, if◌then◌else◌, Option, Some, None, option_map, take, List, [], ◌∷◌, ◌++◌, length, drop, get_or, refl, sym, ap, subst, ◌∙◌, append_assoc, ◌⊎◌, arith}
-use Rattle.std.proofs.Math.Logic.{⊎_elim, ⊎_swap}
-use Rattle.std.proofs.Math.Nat.{eq-or-lt_of_le}
+use Rattle.std.proofs.Common.{◌≡◌, ◌≢◌, ℕ, ◌-◌, ◌<◌, ◌≤◌, ◌==◌, nat_le, Bool, true, false, if◌then◌else◌, Option, Some, None, option_map, take, List, [], ◌∷◌, ◌++◌, length, drop, get_or, refl, sym, ap, subst, ◌∙◌, append_assoc, arith}
+use Rattle.std.proofs.Math.Logic.{⊎_elim}
 use Rattle.std.specs.Str.{IsUtf8}
 use Rattle.std.specs.Str.Parse.{IsNumeral}
 use Rattle.std.proofs.lemmas.Fmt.{IsAscii-from_digits}
 use Rattle.std.proofs.lemmas.Str.{IsUtf8-from_ascii}
-use Rattle.std.proofs.lemmas.Str.Parse.{digit_at}
 use Rattle.std.proofs.lemmas.Bool.{cases_lt}
 use Rattle.std.proofs.lemmas.Bool.Decides.{nat_tests}
 use Rattle.std.proofs.lemmas.List.{length-append, length-drop, take_all}
@@ -17,10 +15,6 @@ use Rattle.rt1553_results.specs.Results.{word_then, words_said, at_most_33, IsCo
 
 pub numeral_is_text : (bs : List ℕ) → IsNumeral 10 bs → IsUtf8 bs
 numeral_is_text bs is = IsUtf8-from_ascii bs (IsAscii-from_digits bs is.1)
-
--- a number does not begin with a plus
-pub numeral_no_plus : (bs : List ℕ) → get_or bs 0 0 ≡ 43 → IsNumeral 10 bs → ⊥
-numeral_no_plus bs plus is = let digit = digit_at bs 0 is.1 is.0 in omega arith
 
 -- ---- words
 
@@ -99,10 +93,6 @@ said_some (a ∷ b ∷ c ∷ d ∷ s ∷ rest) words e = if_some (s == 32) (word
 abbrev pub behind : List ℕ → Option (List ℕ) → Option (List ℕ)
 behind words o = option_map (λ more. words ++ more) o
 
-pub behind_nothing : (o : Option (List ℕ)) → behind [] o ≡ o
-behind_nothing None = refl
-behind_nothing (Some more) = refl
-
 pub refused : (words : List ℕ) (said all : Option (List ℕ)) → behind words said ≡ all → said ≡ None → None ≡ at_most_33 all
 refused words said all is none = ap at_most_33 (sym (ap (behind words) none) ∙ is)
 
@@ -147,23 +137,10 @@ next_word_of words rest all word is long there space =
 
 -- ---- columns
 
-below_or_at : (k place : ℕ) → k < place + 1 → (k < place) ⊎ (k ≡ place)
-below_or_at k place low = let few : k ≤ place = omega arith in ⊎_swap (eq-or-lt_of_le few)
-
 -- what is found of a name in the fields before a place
 abbrev pub Found : List (List ℕ) → List ℕ → ℕ → Option ℕ → Type 0
 Found header name place None = (k : ℕ) → k < place → field_at header k ≡ Some name → ⊥
 Found header name place (Some found) = (field_at header found ≡ Some name) × ((k : ℕ) → k < place → field_at header k ≡ Some name → k ≡ found)
-
-pub found_no_more : (header : List (List ℕ)) (name : List ℕ) (place : ℕ) (o : Option ℕ) → Found header name place o → (field_at header place ≡ Some name → ⊥) → Found header name (place + 1) o
-found_no_more header name place None before here =
-    (λ k low there. ⊎_elim (λ below. before k below there) (λ at. here (ap (field_at header) (sym at) ∙ there)) (below_or_at k place low))
-found_no_more header name place (Some found) before here =
-    (before.0, λ k low there. ⊎_elim (λ below. before.1 k below there) (λ at. absurd (here (ap (field_at header) (sym at) ∙ there))) (below_or_at k place low))
-
-pub found_first : (header : List (List ℕ)) (name : List ℕ) (place : ℕ) → Found header name place None → field_at header place ≡ Some name → Found header name (place + 1) (Some place)
-found_first header name place before here =
-    (here, λ k low there. ⊎_elim (λ below. absurd (before k below there)) (λ at. at) (below_or_at k place low))
 
 pub found_column : (header : List (List ℕ)) (name : List ℕ) (place found : ℕ) → length header ≤ place → Found header name place (Some found) → IsColumn name header found
 found_column header name place found all before = record {

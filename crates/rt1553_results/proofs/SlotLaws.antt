@@ -1,6 +1,5 @@
 -- The words of a reply tell what is sent in each slot of an exchange: a reply is sent from the first slot on without a break.
 use Rattle.std.proofs.Common.{◌≡◌, ℕ, zero, suc, Bool, true, false, if◌then◌else◌, nat_le, ◌==◌, ◌⊎◌, inl, inr, Option, Some, None, List, [], ◌∷◌, ◌++◌, length, map, refl, ap, sym, ◌∙◌, arith}
-use Rattle.std.proofs.lemmas.List.{map-append}
 use Rattle.std.proofs.lemmas.Bool.Decides.{nat_tests}
 use Rattle.bus_word.specs.declared.word.Bus.TheVariants.{A}
 use Rattle.bus_word.specs.declared.word.Kind.{Kind}
@@ -15,7 +14,7 @@ use Rattle.terminal_rules.specs.Turn.{is_answered, done_cell}
 use Rattle.terminal_rules.specs.Past.{past}
 use Rattle.terminal_rules.specs.Status.{kept_now}
 use Rattle.bus_word.specs.Status.{status_word}
-use Rattle.terminal_rules.specs.Out.{Out, Silence, SendsWord, Handing, sending, reply_word, sends, sending_out, handing_over}
+use Rattle.terminal_rules.specs.Out.{Out, Silence, SendsWord, sending, reply_word, sends, sending_out}
 use Rattle.terminal_exchanges.specs.Sent.{sent_in}
 use Rattle.terminal_exchanges.specs.ExchangeLaws.{silent_slots, reply_to, reply_then}
 use Rattle.rt1553_results.specs.Rows.{word_of, words_sent}

@@ -1,19 +1,18 @@
 -- Results of a unit that is the terminal of some profile: when they pass.
-use Rattle.std.proofs.Common.{◌≡◌, ℕ, zero, suc, ◌+◌, ◌≤◌, Bool, true, false, if◌then◌else◌, Option, Some, None, List, [], ◌∷◌, ◌++◌, length, map, refl, ap, sym, subst, ◌∙◌, arith, append-nil, nat_eq}
+use Rattle.std.proofs.Common.{◌≡◌, ℕ, zero, suc, ◌+◌, Bool, true, false, if◌then◌else◌, Option, Some, None, List, [], ◌∷◌, ◌++◌, length, map, refl, ap, sym, ◌∙◌, arith, append-nil, nat_eq}
 use Rattle.std.specs.Cmp.Lexicographic.{pointwise}
 use Rattle.std.proofs.lemmas.Slice.Eq.{bytes_eq-Decides}
 use Rattle.std.proofs.lemmas.List.{map-append}
 use Rattle.bus_legal.specs.Description.{Description}
-use Rattle.bus_legal.specs.Parts.{Parts, description_in, IsNormal}
+use Rattle.bus_legal.specs.Parts.{description_in}
 use Rattle.terminal_rules.specs.declared.event.Event.{Event}
 use Rattle.terminal_rules.specs.declared.event.Event.TheVariants.{Gap, Slot}
 use Rattle.terminal_rules.specs.Starts.{is_meant}
 use Rattle.terminal_rules.specs.Past.{past, history_after}
-use Rattle.terminal_rules.specs.Same.{Same}
 use Rattle.terminal_rules.specs.Out.{Out, Silence, Handing, hands, handing_over, sends, sending_out, outs_from}
 use Rattle.bus_word.specs.declared.word.Bus.TheVariants.{A}
 use Rattle.terminal_exchanges.specs.Exchanges.{Exchange, command_event, data_event, words_then, slots_then, exchange_then, script_of}
-use Rattle.terminal_exchanges.specs.Sent.{sent_in, sent}
+use Rattle.terminal_exchanges.specs.Sent.{sent_in}
 use Rattle.terminal_exchanges.specs.ExchangeLaws.{AreWhole, AreAnswered, history_of, after_words, after_slots, before_its_gap, end_of, silent_then, silent_slots, reply_to, reply_then}
 use Rattle.terminal_exchanges.proofs.ExchangeAnswers.{meant_exchange_law, unmeant_law}
 use Rattle.terminal_complete_test.specs.CompleteTest.{complete_test, tried}
@@ -21,11 +20,10 @@ use Rattle.terminal_complete_test.proofs.Walk.{IsSound, AreSound, answered_more}
 use Rattle.terminal_complete_test.proofs.Sound.{tried_sound}
 use Rattle.terminal_exchanges.proofs.Distinguish.Reached.{normal-reached}
 use Rattle.terminal_complete_test.proofs.Complete.{complete_test_law}
-use Rattle.rt1553_results.specs.declared.comparison.Comparison.{Comparison}
 use Rattle.rt1553_acceptance.specs.Label.{label_of}
-use Rattle.rt1553_results.specs.Rows.{Answered, word_of, words_sent, row_at, after_exchange, rows_from, rows_of}
-use Rattle.rt1553_results.specs.Compare.{Told, told_of, differing, missing_at, missing, Compares}
-use Rattle.rt1553_results.specs.Unit.{AreGiven, AreResultsOf, Passes, UnitLaw}
+use Rattle.rt1553_results.specs.Rows.{Answered, word_of, words_sent, row_at, after_exchange, rows_from}
+use Rattle.rt1553_results.specs.Compare.{Told, told_of, differing, missing_at, missing}
+use Rattle.rt1553_results.specs.Unit.{AreGiven, UnitLaw}
 use Rattle.rt1553_results.proofs.SlotLaws.{GoesOn, same_slots, unmeant_slots, meant_slots}
 
 -- ---- what a terminal answers to an exchange: something at the gap that sends nothing, and slots of a reply

@@ -1,5 +1,5 @@
 -- Laws of what a script says that states its answers.
-use Rattle.std.proofs.Common.{ℕ, ◌≡◌, ◌≢◌, ◌∙◌, ◌+◌, ◌-◌, ◌<◌, ◌≤◌, Bool, true, false, ◌&&◌, cond, nat_le, nat_lt, List, [], ◌∷◌, ◌++◌, Option, Some, None, Result, Ok, Err, length, map, get_or, take, drop, refl, sym, ap, arith, append_assoc, append-nil, codes, ⊎_elim}
+use Rattle.std.proofs.Common.{ℕ, ◌≡◌, ◌≢◌, ◌∙◌, ◌+◌, ◌-◌, ◌<◌, ◌≤◌, Bool, true, false, ◌&&◌, cond, List, [], ◌∷◌, ◌++◌, Option, Some, None, Result, Ok, Err, length, map, get_or, take, drop, refl, sym, ap, arith, append_assoc, append-nil, codes, ⊎_elim}
 use Rattle.std.proofs.lemmas.Bool.{cases_lt}
 use Rattle.std.proofs.lemmas.Bool.Decides.{nat_tests}
 use Rattle.std.proofs.lemmas.List.{take_all, drop_all, length-drop, map-append}
@@ -14,7 +14,7 @@ use Rattle.bus_script.proofs.LineLaws.{line_at, lines-line, lines-last, no_line_
 use Rattle.bus_script.proofs.ReadingLaws.{reading-line, adds-adds}
 use Rattle.rt1553_verify.specs.declared.stated.StatedFault.{StatedFault}
 use Rattle.rt1553_verify.specs.declared.stated.StatedFault.TheVariants.{LongLine, TooLong}
-use Rattle.rt1553_verify.specs.Stated.{StatedEvent, Latest, After, event_of, is_empty, states_answer, can_answer, states, goes_on, with_line_feed, ended, stays, or_misplaced, plain, by_going_on, by_answer, line_says, then_events, then_lines, stated_by}
+use Rattle.rt1553_verify.specs.Stated.{StatedEvent, Latest, After, event_of, is_empty, states_answer, can_answer, states, goes_on, ended, stays, or_misplaced, plain, by_going_on, by_answer, line_says, then_events, then_lines, stated_by}
 
 -- the first line of a text with a line feed at i
 pub first-with_feed : (bytes : List ℕ) (i : ℕ) → i < length bytes → ((k : ℕ) → k < i → get_or bytes k 0 ≢ 10) → get_or bytes i 0 ≡ 10

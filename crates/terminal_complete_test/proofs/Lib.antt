@@ -3,4 +3,3 @@ pub mod Played
 pub mod Sound
 pub mod Length
 pub mod Complete
-pub mod Examples

@@ -103,9 +103,6 @@ pub sound_place : (f : ℕ → ℕ → List Exchange) → ((s n : ℕ) → is_da
 sound_place f s =
     sound_each 1 30 (λ s. each_in 1 32 (f s)) (λ t t_from t_upto. sound_each 1 32 (f t) (λ n n_from n_upto. s t n (in_place t n t_from t_upto n_from n_upto)))
 
-pub pass_place : (ok : Exchange → Bool) (f : ℕ → ℕ → List Exchange) → ((s n : ℕ) → all_pass ok (f s n) ≡ true) → all_pass ok (each_place f) ≡ true
-pass_place ok f s = pass_each ok 1 30 (λ s. each_in 1 32 (f s)) (λ t. pass_each ok 1 32 (f t) (s t))
-
 pub played_place : (ok : Exchange → Bool) (P Q : Description) (f : ℕ → ℕ → List Exchange) →
     ((s n : ℕ) → is_data_place s n ≡ true → AreSound (f s n)) → ((s n : ℕ) → all_pass ok (f s n) ≡ true) →
     Played ok P Q (each_place f) → (s n : ℕ) → is_data_place s n ≡ true → Played ok P Q (f s n)

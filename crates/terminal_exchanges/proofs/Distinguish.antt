@@ -10,4 +10,3 @@ pub mod Words
 pub mod Apart
 pub mod Held
 pub mod Reached
-pub mod Scripts

@@ -27,10 +27,10 @@ use Rattle.terminal_rules.specs.Ends.{data_of, with_word, data_words, if_expecte
 use Rattle.terminal_rules.specs.SinceReset.{off_now}
 use Rattle.terminal_rules.specs.Turn.{is_answered, done_cell, unless_ignored_turn, turn_of_gap, turn_of_slot}
 use Rattle.terminal_rules.specs.Past.{note, past}
-use Rattle.terminal_rules.specs.Out.{Out, Silence, hands, handing_over, sends, sending_out, out, outs_from}
+use Rattle.terminal_rules.specs.Out.{Silence, hands, handing_over, out, outs_from}
 use Rattle.terminal_exchanges.specs.Exchanges.{Exchange, command_event, data_event, words_then, slots_then}
-use Rattle.terminal_exchanges.specs.ExchangeLaws.{IsWhole, AreWhole, after_words, after_slots, before_its_gap, history_of, ending_of_exchange, slots_needed, AreAnswered, silent_then, silent_slots}
-use Rattle.terminal_exchanges.proofs.Notes.{word_note, word_notes, command_note, gap_note, slot_note, slot_notes, notes_before_gap, notes_at_gap, exchange_notes, gap_answer, slot_answer, slots_answered, NotedExchangeLaw, NotedUnmeantLaw}
+use Rattle.terminal_exchanges.specs.ExchangeLaws.{IsWhole, AreWhole, after_words, after_slots, before_its_gap, history_of, ending_of_exchange, slots_needed, AreAnswered, silent_then}
+use Rattle.terminal_exchanges.proofs.Notes.{word_note, word_notes, command_note, gap_note, slot_note, slot_notes, notes_before_gap, notes_at_gap, exchange_notes, gap_answer, slot_answer, slots_answered, NotedExchangeLaw}
 use Rattle.terminal_rules.specs.inner.Steps.{replies_on, sent_one, begun_if, dropped_if}
 use Rattle.terminal_rules.proofs.OpenLaw.{word_law, gap_law, slot_law, after_word, after_gap, after_entry, waits, unheard}
 use Rattle.terminal_rules.proofs.ReplyLaw.{no_words, next_of, reply_word_law, reply_gap_law, reply_slot_law}
@@ -208,10 +208,6 @@ before_replies P x h i = words_replies x.words (command_note P x.command ∷ h) 
 pub words_flag : (f : Flag) (ds : List ℕ) (h : List Noted) → flag_now (word_notes ds h) f ≡ flag_now h f
 words_flag f [] h = refl
 words_flag f (d ∷ ds) h = words_flag f ds (word_note d ∷ h)
-
--- and slots neither
-pub slot_flag : (f : Flag) (r : Option Replying) (h : List Noted) → flag_now (noted_as Slot (turn_of_slot r) false Nothing ∷ h) f ≡ flag_now h f
-slot_flag f r h = refl
 
 pub slots_flag : (f : Flag) (n : ℕ) (h : List Noted) → flag_now (slot_notes n h) f ≡ flag_now h f
 slots_flag f zero h = refl
@@ -399,22 +395,5 @@ exchange_law P xs x es (w, ws) a =
     ((λ j. answer_law P xs x (w, ws) a j ∷ slots_law P x.slots (Gap A ∷ h) es j)
     ∙ ap (λ n. gap_answer P x ∷ slots_answered P x.slots n (outs_from P (history_of (x ∷ xs)) es)) k))
 
--- where no reply is in progress, slots are silent
-quiet_slots : (P : Description) (n : ℕ) (h : List Noted) (os : List Out) → (let none : Option Replying = None in reply_now h ≡ none) → slots_answered P n h os ≡ silent_slots n os
-quiet_slots P zero h os e = refl
-quiet_slots P (suc n) h os e =
-    ap (λ r. sending_out (sends P h r) ∷ slots_answered P n (slot_note h ∷ h) os) e
-    ∙ ap (λ os. Silence ∷ os) (quiet_slots P n (slot_note h ∷ h) os (reply_slot_law h (reply_now h) Nothing ∙ ap sent_one e))
-
 pub unmeant_end : (P : Description) (x : Exchange) → is_meant P x.command ≡ false → ending_of_exchange P x ≡ Nothing
 unmeant_end P x e = ap (λ m. if m then well P false x.command x.words else Nothing) e
-
-pub unmeant_exchange_law : NotedUnmeantLaw
-unmeant_exchange_law P xs x os a e =
-    let h : List Noted = exchange_notes P xs in
-    let k : List Noted = notes_before_gap P x h in (
-      ap (λ y. handing_over (hands P y)) (unmeant_end P x e),
-      quiet_slots P x.slots (notes_at_gap P x h) os
-          (at_gap_reply P x h (idle_law P xs a)
-          ∙ ap (λ y. let none : Option Replying = None in begun_if (is_answered (off_now k A) y) A (done_cell y) none) (unmeant_end P x e)),
-    )

@@ -11,7 +11,7 @@ use Rattle.terminal_rules.specs.SinceReset.{off_now}
 use Rattle.terminal_rules.specs.Turn.{is_answered, done_cell, turn_of_gap, turn_of_slot}
 use Rattle.terminal_rules.specs.Out.{Out, Silence, hands, handing_over, sends, sending_out, outs_from}
 use Rattle.terminal_exchanges.specs.Exchanges.{Exchange, command_event, data_event, exchange_then}
-use Rattle.terminal_exchanges.specs.ExchangeLaws.{AreWhole, AreAnswered, history_of, ending_of_exchange, silent_then, silent_slots}
+use Rattle.terminal_exchanges.specs.ExchangeLaws.{AreWhole, AreAnswered, history_of, ending_of_exchange, silent_then}
 
 -- what each event of an exchange did, where no reply was in progress before it
 abbrev pub word_note : ℕ → Noted
@@ -65,8 +65,3 @@ NotedExchangeLaw =
     (P : Description) (xs : List Exchange) (x : Exchange) (es : List Event) → AreWhole (x ∷ xs) → AreAnswered P xs →
     outs_from P (history_of xs) (exchange_then x es)
     ≡ Silence ∷ silent_then x.words (gap_answer P x ∷ slots_answered P x.slots (notes_at_gap P x (exchange_notes P xs)) (outs_from P (history_of (x ∷ xs)) es))
-
-abbrev pub NotedUnmeantLaw : Type 0
-NotedUnmeantLaw =
-    (P : Description) (xs : List Exchange) (x : Exchange) (os : List Out) → AreAnswered P xs → is_meant P x.command ≡ false →
-    (gap_answer P x ≡ Silence) × (slots_answered P x.slots (notes_at_gap P x (exchange_notes P xs)) os ≡ silent_slots x.slots os)

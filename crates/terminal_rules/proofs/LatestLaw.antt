@@ -21,9 +21,6 @@ use Rattle.terminal_rules.proofs.OpenLaw.{open_law, after_word, after_gap, after
 abbrev Stays : Open → Open → Type 0
 Stays o o' = (c : ℕ) → command_open o ≡ Some c → command_open o' ≡ Some c
 
-closed_stays : (o : Open) → Stays Idle o
-closed_stays o c e = cc
-
 entry_stays : (x : Entry) (o : Open) → Stays (after_entry x o) o
 entry_stays x Idle c e = e
 entry_stays x (Collects d after) c e = e

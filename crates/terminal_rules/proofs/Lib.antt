@@ -8,4 +8,3 @@ pub mod ResetCases
 pub mod CellLaw
 pub mod LatestLaw
 pub mod Reach
-pub mod RandomRows

@@ -1,5 +1,5 @@
 -- Answers of a size that a line can state.
-use Rattle.std.specs.Prelude.{ℕ, ◌<◌, ◌^◌, List, [], ◌∷◌, Some}
+use Rattle.std.specs.Prelude.{◌<◌, ◌^◌, List, [], ◌∷◌, Some}
 use Rattle.bus_legal.specs.Description.{Description}
 use Rattle.bus_terminal.specs.Answer.{AreFew}
 use Rattle.terminal_rules.specs.declared.event.Event.{Event}

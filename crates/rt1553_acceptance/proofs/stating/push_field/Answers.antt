@@ -1,5 +1,4 @@
-use Rattle.std.proofs.Common.{◌∙◌, ap, arith}
-use Rattle.rt1553_acceptance.specs.Text.{fields_stated}
+use Rattle.std.proofs.Common.{arith}
 use Rattle.rt1553_acceptance.proofs.FieldSteps.{first_field, next_field}
 use Rattle.rt1553_acceptance.proofs.stating.push_field.Goals as goal
 

@@ -1,4 +1,4 @@
-use Rattle.std.proofs.Common.{◌≡◌, ◌+◌, ◌++◌, [], ◌∷◌, take, subst, sym, arith, rules}
+use Rattle.std.proofs.Common.{[], ◌∷◌, take, subst, sym, arith, rules}
 use Rattle.terminal_rules.specs.Past.{history_after}
 use Rattle.bus_terminal.specs.Stands.{StandsAt}
 use Rattle.bus_script.specs.Playing.{Plays}

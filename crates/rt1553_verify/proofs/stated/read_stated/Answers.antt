@@ -1,4 +1,4 @@
-use Rattle.std.proofs.Common.{◌∙◌, map, option_map, arith}
+use Rattle.std.proofs.Common.{map, option_map, arith}
 use Rattle.std.proofs.lemmas.Result.{err_from_is_err_and}
 use Rattle.rt1553_verify.specs.Stated.{shown}
 use Rattle.rt1553_verify.proofs.StatedLaws.{stated_on, stated_stops, stated_many, stated_long, stated_all, stated-read}

@@ -1,2 +1,0 @@
-pub mod From1
-pub mod From61

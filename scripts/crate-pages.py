@@ -1,0 +1,145 @@
+#!/usr/bin/env python3
+"""Whether the pages beside the code speak of what is there.
+
+    scripts/crate-pages.py check [ROOT]    the last line is 'N passed, M failed'
+    scripts/crate-pages.py count [ROOT]    writes the line counts of docs/proofs.md anew
+
+Each crate has a README.md with the sections of SECTIONS. What stands in backticks there, in docs/proofs.md and in
+docs/architecture.md and looks like a path is a file or folder, of the crate or of the repository; what looks like a name stands in
+the code; and `crate::name` is of that crate. The Rust lines of a first use stand in a test of crates/rt1553_tests, where they are
+proved and run. In the table of docs/proofs.md whose rows begin with a specs folder the number behind each file is that of its lines.
+ROOT is the repository, by default that of this script.
+"""
+import pathlib
+import re
+import sys
+
+SECTIONS = ["First use", "What is proved", "What is only tested", "Where to begin", "What not to break"]
+PAGES = ["docs/proofs.md", "docs/architecture.md"]
+# folders that each crate may have, and what a build leaves
+ANY = re.compile(r"(?:src|specs|specs/inner|proofs|must-fail|must-not-compile|inner)/?|bin/.*|crates/\w+/out/.*")
+# crates that are programs or tests for one purpose: a page without sections
+SMALL = {"rt1553_tests", "growths", "changes", "toml_alone"}
+
+CODE = {".rt", ".antt", ".py", ".sh", ".rs", ".h", ".c", ".hpp", ".toml"}
+NAME = re.compile(r"[A-Za-z_][\w'\-]*(?:(?:::|\.)[A-Za-z_][\w'\-]*)*(?:\(\.*\))?")
+WORD = re.compile(r"[^\W\d][\w'\-]*")
+COUNTED = re.compile(r"(\w+) (\d+)")
+
+
+def plain(text):
+    """A text with its white space folded."""
+    return " ".join(text.split())
+
+
+class Repository:
+    """The files, and the names that stand in them."""
+
+    def __init__(self, root):
+        self.root = root
+        self.crates = [path.name for path in sorted((root / "crates").iterdir()) if path.is_dir()]
+        self.names = {crate: self.names_of(root / "crates" / crate, "src", "specs", "proofs") for crate in self.crates}
+        self.everywhere = set().union(*self.names.values(), self.names_of(root, "scripts", "tests/model", "library"), self.crates)
+        tests = (root / "crates/rt1553_tests/src").rglob("*.rt")
+        self.tested = plain("\n".join(path.read_text() for path in sorted(tests)))
+
+    def names_of(self, top, *folders):
+        files = [path for folder in folders for path in (top / folder).rglob("*") if path.is_file() and path.suffix in CODE]
+        return {word for path in files for word in WORD.findall(path.read_text())} | {part for path in files for part in (path.stem, path.parent.name)}
+
+    def has_path(self, base, path):
+        return any((top / path).exists() or (top / f"{path}.antt").exists() for top in (base, self.root, self.root / "crates"))
+
+    def has_name(self, name):
+        parts = re.split(r"::|\.", name.split("(")[0])
+        known = self.names.get(parts[0]) if len(parts) > 1 else None
+        return all(part in (known or self.everywhere) for part in parts[1 if known else 0:])
+
+
+def spans(text):
+    """What stands in backticks, outside of blocks."""
+    return re.findall(r"`([^`\n]+)`", re.sub(r"^ *```.*?^ *```|^    .*?$", "", text, flags=re.M | re.S))
+
+
+def faults_of(repository, path):
+    """What a page names that isn't there."""
+    base = path.parent
+    for span in spans(path.read_text()):
+        if re.search(r"NAME|\*|\s|\.\.", span) or ANY.fullmatch(span):
+            continue
+        if "/" in span:
+            if not repository.has_path(base, span.rstrip("/")) and re.fullmatch(r"[\w./\-]+", span):
+                yield f"no file {span}"
+        elif NAME.fullmatch(span) and not repository.has_name(span) and not repository.has_path(base, span):
+            yield f"no name {span}"
+
+
+def untested(repository, text):
+    """The Rust lines of a first use that no test has."""
+    for block in re.findall(r"^```rust\n(.*?)^```", text, re.M | re.S):
+        if plain(block) not in repository.tested:
+            yield f"no test has the lines {plain(block)[:60]} .."
+
+
+def rows(text):
+    """The rows of the table of files with their lines: the folder, what it is needed for, the list of files, the sum."""
+    return re.finditer(r"^\| `([\w/]+/specs)` \| ([^|]*) \| ([^|]*) \| (\d+) \|$", text, re.M)
+
+
+def lines_in(repository, folder, name):
+    path = repository.root / "crates" / folder / f"{name}.antt"
+    files = [path, *sorted((path.parent / name).glob("*.antt"))]
+    return sum(len(file.read_text().splitlines()) for file in files)
+
+
+def counted(repository, text):
+    """The page with each number as it is."""
+    def row(found):
+        numbers = [lines_in(repository, found[1], name) for name, _ in COUNTED.findall(found[3])]
+        left = iter(numbers)
+        listed = COUNTED.sub(lambda file: f"{file[1]} {next(left)}", found[3])
+        return f"| `{found[1]}` | {found[2]} | {listed} | {sum(numbers)} |"
+
+    for found in reversed(list(rows(text))):
+        text = text[:found.start()] + row(found) + text[found.end():]
+    return text
+
+
+def check(repository):
+    passed = failed = 0
+    for crate in repository.crates:
+        path = repository.root / "crates" / crate / "README.md"
+        wrong = ["no README.md"]
+        if path.exists():
+            text = path.read_text()
+            wrong = [f"no section {name}" for name in SECTIONS if crate not in SMALL and f"\n## {name}\n" not in text]
+            wrong += [*faults_of(repository, path), *untested(repository, text)]
+        passed, failed = passed + (not wrong), failed + len(wrong)
+        for text in wrong:
+            print(f"crates/{crate}/README.md: {text}")
+    for page in PAGES:
+        path = repository.root / page
+        wrong = [*faults_of(repository, path)]
+        if counted(repository, path.read_text()) != path.read_text():
+            wrong.append("other line counts: scripts/crate-pages.py count")
+        passed, failed = passed + (not wrong), failed + len(wrong)
+        for text in wrong:
+            print(f"{page}: {text}")
+    print(f"{passed} passed, {failed} failed")
+    return failed > 0
+
+
+def main():
+    root = pathlib.Path(sys.argv[2]) if len(sys.argv) > 2 else pathlib.Path(__file__).resolve().parent.parent
+    repository = Repository(root)
+    if sys.argv[1:2] == ["check"]:
+        return check(repository)
+    if sys.argv[1:2] == ["count"]:
+        path = root / "docs/proofs.md"
+        path.write_text(counted(repository, path.read_text()))
+        return 0
+    print(__doc__)
+    return 1
+
+
+sys.exit(main())
