@@ -14,11 +14,11 @@ use Rattle.bus_legal.proofs.TableSteps.{required_codes-bits}
 -- what holds of each code of a list holds of one that is in it
 each_of : (p : ℕ → Bool) (codes : List ℕ) → list_all p codes ≡ true → (c : ℕ) → list_any (λ d. d == c) codes ≡ true → p c ≡ true
 each_of p [] all c e = cc
-each_of p (d ∷ codes) all c e = by_here (d == c) refl e
+each_of p (d ∷ codes) all c e = by_here (d == c) refl e (each_of p codes (right_of (p d) _ all) c)
   where
-    by_here : (t : Bool) → (d == c) ≡ t → (t || list_any (λ d. d == c) codes) ≡ true → p c ≡ true
-    by_here true here e = ap p (sym (eqb-true d c here)) ∙ left_of (p d) _ all
-    by_here false other e = each_of p codes (right_of (p d) _ all) c e
+    by_here : (t : Bool) → (d == c) ≡ t → (t || list_any (λ d. d == c) codes) ≡ true → (list_any (λ d. d == c) codes ≡ true → p c ≡ true) → p c ≡ true
+    by_here true here e later = ap p (sym (eqb-true d c here)) ∙ left_of (p d) _ all
+    by_here false other e later = later e
 
 pub each_required : (p : ℕ → Bool) → list_all p required_codes ≡ true → (c : ℕ) → is_required_code c ≡ true → p c ≡ true
 each_required p all c e = each_of p required_codes all c e

@@ -49,10 +49,7 @@ all-heard v is cell = by_option v.broadcast refl
       where
         all : (cell : Cell) → (is_heard true cell && tables_say v.tables cell) ≡ tables_say v.tables cell
         all (OwnReceive s n) = refl
-        all (OwnTransmit s n) = refl
-        all (BroadReceive s n) = refl
-        all (OwnMode c) = refl
-        all (BroadMode c) = refl
+        all _ = refl
     by_option false e =
         (λ j. tables_say (record v.tables { broadcast_receive = is.unheard_receive e j; broadcast_mode = is.unheard_mode e j }) cell)
         ∙ (unheard-says v.tables cell ∙ ap (λ b. is_heard b cell && tables_say v.tables cell) (sym e))

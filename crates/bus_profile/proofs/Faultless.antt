@@ -47,13 +47,7 @@ in_whole p key low high None e = absurd (cc)
 in_whole p key low high (Some (integer (pos n))) e =
     let inside : (nat_le low n && nat_le n high) ≡ true = range_of (nat_le low n && nat_le n high) n _ e in
     (grind (arith, nat_tests), grind (arith, nat_tests))
-in_whole p key low high (Some (integer (negsuc n))) e = absurd (cc)
-in_whole p key low high (Some (string s)) e = absurd (cc)
-in_whole p key low high (Some (float s)) e = absurd (cc)
-in_whole p key low high (Some (boolean s)) e = absurd (cc)
-in_whole p key low high (Some (datetime s)) e = absurd (cc)
-in_whole p key low high (Some (array s)) e = absurd (cc)
-in_whole p key low high (Some (table s)) e = absurd (cc)
+in_whole p key low high _ e = absurd (cc)
 
 wrap_small : (p : Part) (d : Option Data) → first_fault (key_checks p wraparound_row d) ≡ None → wrap_value (or_default wraparound_row.presence d) ≤ 30
 unfolding in_order
@@ -63,11 +57,7 @@ wrap_small p (Some (integer (pos n))) e =
 wrap_small p (Some (integer (negsuc n))) e = absurd (cc)
 wrap_small p (Some (boolean true)) e = omega arith
 wrap_small p (Some (boolean false)) e = omega arith
-wrap_small p (Some (string s)) e = absurd (cc)
-wrap_small p (Some (float s)) e = absurd (cc)
-wrap_small p (Some (datetime s)) e = absurd (cc)
-wrap_small p (Some (array s)) e = absurd (cc)
-wrap_small p (Some (table s)) e = absurd (cc)
+wrap_small p _ e = absurd (cc)
 
 -- the set that a text of ranges gives
 set_small : (s : List ℕ) (r : Result ℕ RangeFault) → IsReading s 1 30 r → result_unwrap_or r 0 < 2 ^ 30
@@ -81,12 +71,7 @@ subaddresses_small p (Some (integer (pos n))) e =
     let inside : (nat_le 1 n && nat_le n 30) ≡ true = range_of (nat_le 1 n && nat_le n 30) n _ e in
     let below : n - 1 < 30 = grind (arith, nat_tests) in pow_below (n - 1) 30 below
 subaddresses_small p (Some (string s)) e = set_small s (ranges_of 1 30 s) (reading s 1 30 (omega arith))
-subaddresses_small p (Some (integer (negsuc n))) e = absurd (cc)
-subaddresses_small p (Some (float s)) e = absurd (cc)
-subaddresses_small p (Some (boolean s)) e = absurd (cc)
-subaddresses_small p (Some (datetime s)) e = absurd (cc)
-subaddresses_small p (Some (array s)) e = absurd (cc)
-subaddresses_small p (Some (table s)) e = absurd (cc)
+subaddresses_small p _ e = absurd (cc)
 
 -- ---- arrays without a fault
 
@@ -123,12 +108,7 @@ rule_given n (table ms) e =
     let p : PlainRule = rule_in (table ms) in
     let small = subaddresses_small (part.Rule n) (found subaddresses_row.key ms) none.1.1.1.0 in
     (record { own = p.own; broadcast = p.broadcast; receive = p.receive; transmit = p.transmit; subaddresses = p.subaddresses; counts = p.counts; legal = p.legal; thirty_subaddresses = small }, refl)
-rule_given n (string s) e = absurd (cc)
-rule_given n (integer s) e = absurd (cc)
-rule_given n (float s) e = absurd (cc)
-rule_given n (boolean s) e = absurd (cc)
-rule_given n (datetime s) e = absurd (cc)
-rule_given n (array s) e = absurd (cc)
+rule_given n _ e = absurd (cc)
 
 rules_given : (n : ℕ) (ds : Items) → fault_of_parts (each_item rule_checks n ds) ≡ None → (rules : List Rule) × (map plain_rule rules ≡ each_of rule_in ds) × (length rules ≡ count_items ds)
 rules_given n no_items e = ([], refl, refl)
@@ -180,12 +160,7 @@ initial_given n (table ms) e =
 
     whole_of : (words : List ℕ) (count : ℕ) → length words ≡ count → count ≤ 32 → length (words ++ zeros (32 - count)) ≡ 32
     whole_of words count long few = omega (arith, long, few, length-append words (zeros (32 - count)), length-zeros (32 - count))
-initial_given n (string s) e = absurd (cc)
-initial_given n (integer s) e = absurd (cc)
-initial_given n (float s) e = absurd (cc)
-initial_given n (boolean s) e = absurd (cc)
-initial_given n (datetime s) e = absurd (cc)
-initial_given n (array s) e = absurd (cc)
+initial_given n _ e = absurd (cc)
 
 initials_given : (n : ℕ) (ds : Items) → fault_of_parts (each_item initial_checks n ds) ≡ None → (initials : List InitialWords) × (map plain_initial initials ≡ each_of initial_in ds) × (length initials ≡ count_items ds)
 initials_given n no_items e = ([], refl, refl)

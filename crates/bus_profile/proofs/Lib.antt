@@ -1,4 +1,5 @@
 pub mod AllFaults
+pub mod PushedFaults
 pub mod Arrays
 pub mod Bits
 pub mod Defaults

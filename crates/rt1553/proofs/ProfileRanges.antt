@@ -40,25 +40,13 @@ key_word : (p : Part) (key : Key) (d : Option Data) → first_fault (key_checks 
 unfolding in_order
 key_word p key None e = omega arith
 key_word p key (Some (integer (pos n))) e = word_below n (range_of (nat_le 0 n && nat_le n 65535) n _ e)
-key_word p key (Some (integer (negsuc n))) e = absurd (cc)
-key_word p key (Some (string s)) e = absurd (cc)
-key_word p key (Some (float s)) e = absurd (cc)
-key_word p key (Some (boolean s)) e = absurd (cc)
-key_word p key (Some (datetime s)) e = absurd (cc)
-key_word p key (Some (array s)) e = absurd (cc)
-key_word p key (Some (table s)) e = absurd (cc)
+key_word p key _ e = absurd (cc)
 
 -- an item of an array of words
 item_word : (p : Part) (d : Data) → first_fault (word_checks p d) ≡ None → initial_word_in d < 2 ^ 16
 unfolding in_order
 item_word p (integer (pos n)) e = word_below n (range_of (nat_le 0 n && nat_le n 65535) n _ e)
-item_word p (integer (negsuc n)) e = absurd (cc)
-item_word p (string s) e = absurd (cc)
-item_word p (float s) e = absurd (cc)
-item_word p (boolean s) e = absurd (cc)
-item_word p (datetime s) e = absurd (cc)
-item_word p (array s) e = absurd (cc)
-item_word p (table s) e = absurd (cc)
+item_word p _ e = absurd (cc)
 
 -- all are words
 abbrev AreBelow : List ℕ → Type 0
@@ -79,12 +67,7 @@ entry_words n (table ms) e =
     let words_fault : Option ProfileFault = fault_of_parts (each_item (λ _. word_checks (part.Initial n)) 1 (items (value words_row ms))) in
     let none = each_none (unknown_fault (part.Initial n) initial_rows ms ∷ fault subaddress_row ∷ fault at_row ∷ option_or head_fault words_fault ∷ []) (sym (initial_fault n ms) ∙ e) in
     each_word (part.Initial n) 1 (items (value words_row ms)) (no_second head_fault words_fault none.1.1.1.0)
-entry_words n (string s) e = absurd (cc)
-entry_words n (integer s) e = absurd (cc)
-entry_words n (float s) e = absurd (cc)
-entry_words n (boolean s) e = absurd (cc)
-entry_words n (datetime s) e = absurd (cc)
-entry_words n (array s) e = absurd (cc)
+entry_words n _ e = absurd (cc)
 
 abbrev HoldWords : List PlainInitial → Type 0
 HoldWords [] = Unit {0}

@@ -67,9 +67,7 @@ by_end_alike P R a h (Done c cell ds) can =
 adds_alike : (P R : Description) → Agrees P R → (x : Ending) → adds_error (addressed P R) x ≡ adds_error P x
 adds_alike P R a Nothing = refl
 adds_alike P R a (Badly c) = spares_alike P R a (cell_of c)
-adds_alike P R a (Illegal c) = refl
-adds_alike P R a (Blocked c cell) = refl
-adds_alike P R a (Done c cell ds) = refl
+adds_alike P R a _ = refl
 
 pub kept_alike : (P R : Description) → Agrees P R → (h : List Noted) → AllDoWhatTheyCan P h → kept_now (addressed P R) h ≡ kept_now P h
 kept_alike P R a [] all = refl

@@ -39,11 +39,7 @@ note_alike : (P R : Description) → Agrees P R → P.address ≤ 30 → (h : Li
 note_alike P R a low h (Word b w) m = refl
 note_alike P R a low h (Noise b) m = refl
 note_alike P R a low h (Gap b) m = ap (λ x. noted h (Gap b) false (unless_ignored (replies_on h b) x)) (at_gap_alike P R a low (flag_now h Busy) (open_now P h b) (m b))
-note_alike P R a low h (Write q v) m = refl
-note_alike P R a low h (Vector v) m = refl
-note_alike P R a low h (Bit v) m = refl
-note_alike P R a low h (FlagIs f v) m = refl
-note_alike P R a low h Slot m = refl
+note_alike P R a low h _ m = refl
 
 pub past_alike : (P R : Description) → Agrees P R → P.address ≤ 30 → (h : List Event) → past (addressed P R) h ≡ past P h
 past_alike P R a low [] = refl

@@ -1,5 +1,5 @@
 use Rattle.bus_word.specs.Mode.{required_codes}
-use Rattle.bus_profile.proofs.AllFaults.{told_step, code_step}
+use Rattle.bus_profile.proofs.PushedFaults.{told_step, code_step}
 use Rattle.bus_profile.proofs.told.push_code_faults.Goals as goal
 
 pub loop-code-preserved : goal.loop-code-preserved
