@@ -59,7 +59,8 @@ Alone a b c = ((a && b) ≡ false) × ((a && c) ≡ false) × ((b && c) ≡ fals
 
 syntax_or_bounds : (r : Result ℕ RangeFault) → (is_syntax r && is_bounds r) ≡ false
 syntax_or_bounds (Ok n) = refl
-syntax_or_bounds _ = refl
+syntax_or_bounds (Err Syntax) = refl
+syntax_or_bounds (Err Bounds) = refl
 
 alone : (k : ValueKind) (d : Data) → Alone (not (is_of_kind k d)) (is_bad_ranges k d) (is_out_of_range k d)
 alone truth (string s) = (refl, refl, refl)
@@ -104,7 +105,13 @@ alone (numbers low high) (boolean b) = (refl, refl, refl)
 alone (numbers low high) (datetime t) = (refl, refl, refl)
 alone (numbers low high) (array ds) = (refl, refl, refl)
 alone (numbers low high) (table ms) = (refl, refl, refl)
-alone (tables most) _ = (refl, refl, refl)
+alone (tables most) (string s) = (refl, refl, refl)
+alone (tables most) (integer z) = (refl, refl, refl)
+alone (tables most) (float x) = (refl, refl, refl)
+alone (tables most) (boolean b) = (refl, refl, refl)
+alone (tables most) (datetime t) = (refl, refl, refl)
+alone (tables most) (array ds) = (refl, refl, refl)
+alone (tables most) (table ms) = (refl, refl, refl)
 
 one_of : (f g h : ProfileFault) (a b c : Bool) → Alone a b c
     → cond a (f ∷ cond b (g ∷ cond c (h ∷ []) []) (cond c (h ∷ []) [])) (cond b (g ∷ cond c (h ∷ []) []) (cond c (h ∷ []) []))
@@ -114,7 +121,8 @@ one_of f g h true false true e = absurd (cc)
 one_of f g h true false false e = refl
 one_of f g h false true true e = absurd (cc)
 one_of f g h false true false e = refl
-one_of f g h false false _ e = refl
+one_of f g h false false true e = refl
+one_of f g h false false false e = refl
 
 pub there : (f : ProfileFault) (b : Bool) (fs : List ProfileFault) (o : Option ProfileFault) → fs ≡ present o → cond (b && false) (f ∷ fs) fs ≡ present (cond (b && false) (Some f) o)
 there f true fs o e = e
@@ -174,7 +182,8 @@ initial_failing n ms = table_failing kind.Initial n ms ∙ ap (λ fs. present (u
 one_of_two : (f g : ProfileFault) (a b : Bool) → (a && b) ≡ false → cond a (f ∷ cond b (g ∷ []) []) (cond b (g ∷ []) []) ≡ present (cond a (Some f) (cond b (Some g) None))
 one_of_two f g true true e = absurd (cc)
 one_of_two f g true false e = refl
-one_of_two f g false _ e = refl
+one_of_two f g false true e = refl
+one_of_two f g false false e = refl
 
 pub word_failing : (part : Part) (d : Data) → failing (word_checks part d) ≡ present (first_fault (word_checks part d))
 unfolding in_order
