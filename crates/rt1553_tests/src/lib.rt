@@ -10,6 +10,8 @@ mod by_hand;
 #[cfg(test)]
 mod faults;
 #[cfg(test)]
+mod first_uses;
+#[cfg(test)]
 mod formats;
 #[cfg(test)]
 mod scripts;
