@@ -6,7 +6,7 @@ use Rattle.terminal_exchanges.specs.ExchangeLaws.{before_its_gap}
 use Rattle.bus_terminal.specs.Stands.{StandsAt}
 use Rattle.rt1553_results.specs.Handed.{handing_in}
 use Rattle.rt1553_results.proofs.PlayLaws.{exchange_passes, row_kept}
-use Rattle.rt1553_results.proofs.playing.play.Goals as goal
+use Rattle.rt1553_results.proofs.playing.play_exchange.Goals as goal
 
 pub returns-clause-stands : goal.returns-clause-stands
 returns-clause-stands g c P h s =
