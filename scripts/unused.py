@@ -16,8 +16,6 @@ import re
 import sys
 
 EXCEPT = {
-    ("bus_legal", "setup_of"): "callers of the library set a terminal up by it",
-    ("bus_legal", "RuleList::of"): "callers of the library ask what is legal by it",
     ("rt1553_live", "live_is_sent"): "compiles only where a terminal may be handed from thread to thread",
 }
 # files in which `rt` seeks what it names itself

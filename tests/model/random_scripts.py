@@ -1,6 +1,6 @@
 """Messages that look random, played to the model of the rules in `rules.py`.
 
-    random_scripts.py digests           what scripts/texts.py compares, and a test of crates/rt1553_tests
+    random_scripts.py digests           what scripts/texts.py compares
     random_scripts.py vectors FOLDER    scripts with their transcripts: the cases slots-NNNN of tests/vectors/scripts
 
 The same words give the same numbers, so that both can be made anew and compared.
@@ -184,7 +184,6 @@ def digest(legal, options=True, wraparound=30):
 def digests():
     print("every cell legal:", digest(lambda cell: True))
     print("some cells legal:", digest(lambda cell: cell in [*REQUIRED, ("own mode", 18), ("own mode", 6)]))
-    print("no cell legal:", digest(lambda cell: False))
     print("every cell legal, wraparound at 29:", digest(lambda cell: True, wraparound=29))
     print("every cell legal, no wraparound:", digest(lambda cell: True, wraparound=0))
     print("every cell legal, options off:", digest(lambda cell: True, options=False))

@@ -3,7 +3,7 @@ use Rattle.std.proofs.Common.{◌≡◌, ℕ, suc, ◌+◌, ◌-◌, ◌<◌, �
 use Rattle.std.proofs.lemmas.Bool.Decides.{nat_tests}
 use Rattle.bus_word.specs.Cell.{is_data_place}
 use Rattle.bus_legal.specs.Description.{Description}
-use Rattle.terminal_rules.proofs.PlaceLaw.{place_count}
+use Rattle.bus_word.proofs.Places.{place_count}
 use Rattle.terminal_exchanges.specs.Exchanges.{Exchange}
 use Rattle.terminal_complete_test.specs.CompleteTest.{each_in, each_place, each_code, each_subaddress, receive_tried, own_code_tried, broadcast_receive_tried, broadcast_code_tried, broadcasts_tried, wraparound_tried}
 use Rattle.bus_complete_test.specs.declared.trial.Trial.{Trial}

@@ -11,7 +11,7 @@ use Rattle.bus_legal.specs.Description.{word_at}
 use Rattle.bus_legal.specs.Initial.{gives_number, gives, word_given, initial_word}
 use Rattle.bus_legal.proofs.Last.{last_of-take}
 use Rattle.bus_legal.proofs.Words.{zero_block}
-use Rattle.bus_legal.proofs.Places.{place_above, place_from, place_low, place_high}
+use Rattle.bus_word.proofs.Places.{place_above, place_from, place_low, place_high}
 
 word_given-cond : (default number : ℕ) (t : Bool) (e : InitialWords) (o : Option InitialWords) →
     word_given default number (cond t (Some e) o) ≡ cond t (get_or e.words (number - e.first) 0) (word_given default number o)

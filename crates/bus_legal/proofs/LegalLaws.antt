@@ -9,7 +9,7 @@ use Rattle.profile_types.specs.declared.entries.ModeRule.{ModeRule}
 use Rattle.profile_types.specs.declared.profile.Profile.{Profile}
 use Rattle.profile_types.specs.OwnCodes.{is_own_code_legal}
 use Rattle.bus_legal.specs.Legal.{last_says, is_legal}
-use Rattle.bus_legal.proofs.Bools.{left_of, right_of}
+use Rattle.bus_legal.proofs.Bools.{left_of}
 use Rattle.bus_legal.proofs.ModeMasks.{each_required}
 
 pub legal_allowed : (rules : List Rule) (modes : List ModeRule) (cell : Cell) → is_legal rules modes cell ≡ true → is_allowed cell ≡ true
@@ -21,8 +21,4 @@ unfolding is_legal
 own_codes rules modes code = refl
 
 pub required_codes : (p : Profile) (code : ℕ) → is_required_code code ≡ true → is_legal p.rules p.modes (OwnMode code) ≡ true
-required_codes p =
-    let legal = is_own_code_legal p.modes in
-    let others = right_of (legal 2) _ p.required_codes in
-    let last = right_of (legal 4) _ others in
-    λ code e. own_codes p.rules p.modes code ∙ each_required legal (left_of (legal 2) _ p.required_codes) (left_of (legal 4) _ others) (left_of (legal 5) _ last) (right_of (legal 5) _ last) code e
+required_codes p code e = own_codes p.rules p.modes code ∙ each_required (is_own_code_legal p.modes) p.required_codes code e

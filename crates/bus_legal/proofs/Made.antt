@@ -19,7 +19,7 @@ use Rattle.bus_legal.specs.Parts.{Parts, description_in, AreMasks, IsBlock, AreW
 use Rattle.bus_legal.proofs.Bits.{has_bit-and, same_mask, and-contained}
 use Rattle.bus_legal.proofs.Bools.{right_of}
 use Rattle.bus_legal.proofs.PartsReach.{description_in-made}
-use Rattle.bus_legal.proofs.Places.{place_above, place_from, place_low, place_high}
+use Rattle.bus_word.proofs.Places.{place_above, place_from, place_low, place_high}
 use Rattle.bus_legal.proofs.TableSteps.{required_codes-bits, own_codes-bits, broadcast_codes-bits, row_below, broadcast_row_below}
 
 -- A description of its ranges: only cells that some command has are legal, and the required own mode codes are.

@@ -1,11 +1,11 @@
 -- The laws of what a `Normal` is seen as.
-use Rattle.std.proofs.Common.{◌≡◌, ℕ, ◌-◌, ◌<◌, ◌==◌, ◌≤◌, bit_and, Bool, true, false, ◌&&◌, cond, nat_lt, List, get_or, refl, ap, sym, ◌∙◌, arith}
+use Rattle.std.proofs.Common.{◌≡◌, ℕ, ◌-◌, ◌<◌, ◌==◌, ◌≤◌, bit_and, Bool, true, false, ◌&&◌, cond, nat_lt, List, get_or, is_some, refl, ap, sym, ◌∙◌, arith}
 use Rattle.std.proofs.lemmas.Bool.{eqb-true}
 use Rattle.std.proofs.lemmas.Bool.Decides.{nat_tests}
 use Rattle.bus_word.specs.declared.cell.Cell.{Cell}
 use Rattle.bus_word.specs.declared.cell.Cell.TheVariants.{OwnReceive, OwnTransmit, BroadReceive, OwnMode, BroadMode}
 use Rattle.bus_word.specs.Cell.{is_data_place, is_allowed}
-use Rattle.bus_word.specs.Mode.{is_required_code, dynamic_bus_control, vector_word, bit_word, transmit_status, shutdown, override_shutdown, reset}
+use Rattle.bus_word.specs.Mode.{is_required_code, dynamic_bus_control, vector_word, bit_word, mode_row}
 use Rattle.profile_types.specs.declared.profile.Profile.{Profile}
 use Rattle.bus_word.specs.Mask.{has_bit}
 use Rattle.bus_legal.specs.declared.setup.Setup.{Setup}
@@ -21,9 +21,10 @@ use Rattle.bus_legal.proofs.Bits.{has_bit-and}
 use Rattle.bus_legal.proofs.Bools.{right_of}
 use Rattle.bus_legal.proofs.ModeMasks.{each_required}
 use Rattle.bus_legal.proofs.Descriptions.{same_description, and-twice}
+use Rattle.bus_legal.proofs.TableSteps.{required_codes-bits, row_below}
 use Rattle.bus_legal.proofs.InitialSteps.{initial_word-outside}
 use Rattle.bus_legal.proofs.PartsReach.{description_in-made}
-use Rattle.bus_legal.proofs.Places.{place_low, place_high}
+use Rattle.bus_word.proofs.Places.{place_low, place_high}
 use Rattle.bus_legal.proofs.TablesReach.{unheard-says}
 
 -- of a flag that stands only where a test passes
@@ -48,10 +49,7 @@ all-heard v is cell = by_option v.broadcast refl
       where
         all : (cell : Cell) → (is_heard true cell && tables_say v.tables cell) ≡ tables_say v.tables cell
         all (OwnReceive s n) = refl
-        all (OwnTransmit s n) = refl
-        all (BroadReceive s n) = refl
-        all (OwnMode c) = refl
-        all (BroadMode c) = refl
+        all _ = refl
     by_option false e =
         (λ j. tables_say (record v.tables { broadcast_receive = is.unheard_receive e j; broadcast_mode = is.unheard_mode e j }) cell)
         ∙ (unheard-says v.tables cell ∙ ap (λ b. is_heard b cell && tables_say v.tables cell) (sym e))
@@ -106,7 +104,10 @@ reach-set_up_normal v setup is same = ap reach (set_up_normal v setup same) ∙ 
 
 -- own mode codes 2, 4, 5 and 8 are legal in a `Normal`
 pub required-legal : (v : Parts) → IsNormal v → (c : ℕ) → is_required_code c ≡ true → tables_say v.tables (OwnMode c) ≡ true
-required-legal v is = each_required (λ c. tables_say v.tables (OwnMode c)) (has transmit_status (omega arith) refl) (has shutdown (omega arith) refl) (has override_shutdown (omega arith) refl) (has reset (omega arith) refl)
+required-legal v is c e =
+    let row : is_some (mode_row c) ≡ true = each_required (λ c. is_some (mode_row c)) refl c e in
+    let low : c < 32 = row_below c row in
+    λ j. row j && has c low (required_codes-bits c low ∙ e) j
   where
     all : bit_and v.tables.own_mode 0x134 ≡ 0x134
     all = eqb-true (bit_and v.tables.own_mode 0x134) 0x134 (right_of (bit_and v.tables.own_mode 0x000f01ff == v.tables.own_mode) _ is.own_mode)

@@ -13,7 +13,7 @@ use Rattle.bus_legal.specs.Parts.{Parts, description_in, AreMasks}
 use Rattle.bus_legal.proofs.Bools.{left_of}
 use Rattle.bus_legal.proofs.Counts.{sent_place}
 use Rattle.bus_legal.proofs.Descriptions.{same_description, cond-none}
-use Rattle.bus_legal.proofs.Places.{place_from}
+use Rattle.bus_word.proofs.Places.{place_from}
 use Rattle.bus_legal.proofs.TablesReach.{is_subaddress, masks_wrap-said, largest_count-said}
 
 -- how the parts were made of a description

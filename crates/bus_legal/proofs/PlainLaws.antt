@@ -53,8 +53,7 @@ abbrev plain_contains : Cell → PlainRule → Bool
 plain_contains (OwnReceive s n) r = r.own && r.receive && plain_among s n r
 plain_contains (OwnTransmit s n) r = r.own && r.transmit && plain_among s n r
 plain_contains (BroadReceive s n) r = r.broadcast && r.receive && plain_among s n r
-plain_contains (OwnMode c) r = false
-plain_contains (BroadMode c) r = false
+plain_contains _ r = false
 
 abbrev plain_rule_says : Option PlainRule → Bool
 plain_rule_says None = false
@@ -67,10 +66,7 @@ plain_last_says rules modes cell = plain_rule_says (last_of (plain_contains cell
 
 contains-plain : (cell : Cell) (r : Rule) → contains cell r ≡ plain_contains cell (plain_rule r)
 contains-plain (OwnReceive s n) r = refl
-contains-plain (OwnTransmit s n) r = refl
-contains-plain (BroadReceive s n) r = refl
-contains-plain (OwnMode c) r = refl
-contains-plain (BroadMode c) r = refl
+contains-plain _ r = refl
 
 says-plain : (o : Option Rule) → rule_says o ≡ plain_rule_says (option_map plain_rule o)
 says-plain None = refl
@@ -85,8 +81,7 @@ last_says-plain : (rules : List Rule) (modes : List ModeRule) (cell : Cell) → 
 last_says-plain rules modes (OwnReceive s n) = rules-plain rules (OwnReceive s n)
 last_says-plain rules modes (OwnTransmit s n) = rules-plain rules (OwnTransmit s n)
 last_says-plain rules modes (BroadReceive s n) = rules-plain rules (BroadReceive s n)
-last_says-plain rules modes (OwnMode c) = refl
-last_says-plain rules modes (BroadMode c) = refl
+last_says-plain rules modes _ = refl
 
 legal-plain : (rules : List Rule) (modes : List ModeRule) (cell : Cell) → is_legal rules modes cell ≡ (is_allowed cell && plain_last_says (map plain_rule rules) modes cell)
 unfolding is_legal
@@ -112,7 +107,7 @@ gives-plain s n e =
     ap (λ len. (s == e.subaddress) && (nat_le e.first n && nat_lt n (e.first + len))) (sym (length-take-le e.len e.words (omega arith)))
 
 -- a number that is given is among the words that count
-number_within : (first len n : ℕ) → (nat_le first n && nat_lt n (first + len)) ≡ true → n - first < len
+pub number_within : (first len n : ℕ) → (nat_le first n && nat_lt n (first + len)) ≡ true → n - first < len
 number_within first len n e = grind (arith, nat_tests)
 
 initial_word-plain : (entries : List InitialWords) (s n : ℕ) → initial_word entries s n ≡ plain_initial_word (map plain_initial entries) s n

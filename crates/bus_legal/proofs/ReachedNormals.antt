@@ -7,7 +7,7 @@ use Rattle.bus_legal.specs.Parts.{Parts, description_in, AreInRange, AreReached,
 use Rattle.bus_legal.proofs.Bools.{left_of}
 use Rattle.bus_legal.proofs.Made.{IsInRange, made_of, made-normal, made-reach}
 use Rattle.bus_legal.proofs.NormalLaws.{reach-normal, required-legal}
-use Rattle.bus_legal.proofs.Places.{place_low}
+use Rattle.bus_word.proofs.Places.{place_low}
 use Rattle.bus_legal.proofs.SameNormals.{normal_in_range, same_in_range}
 
 -- what such parts describe is in its ranges too

@@ -19,7 +19,7 @@ use Rattle.bus_word.proofs.ModeLaws.{same_bool-true}
 use Rattle.bus_legal.proofs.Bits.{each_below, has_bit-and}
 use Rattle.bus_legal.proofs.Bools.{guarded}
 use Rattle.bus_legal.proofs.Last.{last_of-take}
-use Rattle.bus_legal.proofs.Places.{place_low, place_high}
+use Rattle.bus_word.proofs.Places.{place_low, place_high}
 
 rule_says-cond : (t : Bool) (r : Rule) (o : Option Rule) → rule_says (cond t (Some r) o) ≡ cond t r.legal (rule_says o)
 rule_says-cond true r o = refl

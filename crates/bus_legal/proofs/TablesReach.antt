@@ -10,7 +10,8 @@ use Rattle.bus_legal.specs.Reach.{largest_count, any_count, is_heard}
 use Rattle.bus_legal.specs.Tables.{has_count, tables_say, mask_at, largest_in, has_any, masks_wrap}
 use Rattle.bus_legal.specs.Parts.{AreMasks}
 use Rattle.bus_legal.proofs.Counts.{any_to-same, any_to-or, largest_to-same}
-use Rattle.bus_legal.proofs.Places.{place_low, place_high, mask_from}
+use Rattle.bus_word.proofs.Places.{place_low, place_high}
+use Rattle.bus_legal.proofs.Places.{mask_from}
 use Rattle.bus_legal.proofs.TableSteps.{zeros-bits}
 use Rattle.bus_legal.proofs.TopBit.{has_count_of, zero-bit, any_count-mask}
 

@@ -48,33 +48,12 @@ can_wrap P subaddress = any_count (receives_at P subaddress) && any_count (trans
 abbrev pub can_transmit : Description → ℕ → ℕ → Bool
 can_transmit P s i = nat_le 1 i && nat_le i (largest_count (transmits_at P s))
 
--- all of a description but its address and its broadcast option
-pub record Rest : Type 0 where
-  pub wrap : ℕ
-  pub accept : Bool
-  pub vector : ℕ
-  pub bit : ℕ
-  pub initial : ℕ → ℕ → ℕ
-  pub legal : Cell → Bool
-
-abbrev pub with_rest : Description → Rest → Description
-with_rest P rest = record {
-  address = P.address;
-  broadcast = P.broadcast;
-  wrap = rest.wrap;
-  accept = rest.accept;
-  vector = rest.vector;
-  bit = rest.bit;
-  initial = rest.initial;
-  legal = rest.legal;
-}
-
--- What can be reached beside address and option: the legal cells of commands that are meant for the
--- terminal; acceptance, the vector word and the BIT word where the own mode code that asks for it is
--- legal; the initial words that some legal command makes the terminal transmit; and the
--- wraparound subaddress where words can be received at it and transmitted from it.
-abbrev pub reached : Description → Rest
-reached P = record {
+-- The part of a description that can be reached: the legal cells of commands that are meant for the terminal; acceptance,
+-- the vector word and the BIT word where the own mode code that asks for it is legal; the initial words that some legal
+-- command makes the terminal transmit; and the wraparound subaddress where words can be received at it and transmitted
+-- from it. All else is false or 0.
+abbrev pub reach : Description → Description
+reach P = record P {
   wrap = if can_wrap P P.wrap then P.wrap else 0;
   accept = P.legal (OwnMode dynamic_bus_control) && P.accept;
   vector = if P.legal (OwnMode vector_word) then P.vector else 0;
@@ -82,7 +61,3 @@ reached P = record {
   initial = λ s i. if can_transmit P s i then P.initial s i else 0;
   legal = λ cell. is_heard P.broadcast cell && P.legal cell;
 }
-
--- The part of a description that can be reached; all else is false or 0.
-abbrev pub reach : Description → Description
-reach P = with_rest P (reached P)

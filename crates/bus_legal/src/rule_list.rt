@@ -6,8 +6,8 @@ ghost use Rattle.profile_types.specs.Last.{last_of};
 ghost use Rattle.profile_types.specs.OwnCodes.{contains_own, mode_says};
 ghost use Rattle.bus_legal.specs.Legal.{is_among, contains, contains_broadcast, rule_says, last_says, is_legal};
 
-use crate::legality::{Legality, is_allowed};
-use bus_word::{Cell, has_bit, is_required_code};
+use crate::legality::Legality;
+use bus_word::{Cell, has_bit, is_allowed, is_required_code};
 use profile_types::{ModeRule, Profile, Rule};
 
 /// The rules and mode entries of a profile, asked one by one from the last.

@@ -9,9 +9,9 @@ ghost use Rattle.bus_legal.specs.inner.Masks.{is_broadcast_code_legal};
 ghost use Rattle.bus_legal.specs.Tables.{has_count, tables_say, masks_wrap, is_own_mask, is_broadcast_mask, any_wraps};
 ghost use Rattle.bus_legal.specs.inner.Masks.{MasksSay, has_both_bits, bit_said};
 
-use crate::legality::{Legality, is_allowed};
+use crate::legality::Legality;
 use crate::masks::with_bits;
-use bus_word::{Cell, has_bit};
+use bus_word::{Cell, has_bit, is_allowed};
 use profile_types::{ModeRule, Profile, Rule};
 
 /// The mode codes that may be legal to the own address, bit `c` for code `c`.

@@ -1,21 +1,22 @@
 -- All the faults of a tree: each row has at most one, and those of parts come one after the other.
 use Rattle.std.proofs.Common.{◌≡◌, ◌<◌, ◌≤◌, ℕ, suc, ◌+◌, ◌-◌, ◌==◌, nat_le, nat_lt, Bool, true, false, not, ◌&&◌, cond, pos, negsuc, List, [], ◌∷◌, ◌++◌, length, get_or, drop, map, Option, Some, None, is_none, is_some, Result, Ok, Err, refl, ap, ◌∙◌, sym, append_assoc, append-nil, arith}
+use Rattle.std.proofs.Math.Bool.{and-false}
 use Rattle.std.proofs.lemmas.Bool.Decides.{nat_tests}
-use Rattle.std.specs.List.{list_all}
+use Rattle.std.specs.List.{list_all, flat_map}
 use Rattle.toml.specs.Data.{Data, string, integer, float, boolean, datetime, array, table, Items, no_items, Members}
 use Rattle.std.proofs.lemmas.List.{drop_more}
 use Rattle.toml.proofs.Views.{items_view-drop}
 use Rattle.toml.specs.View.{view, items_view}
 use Rattle.toml.specs.declared.value.Value.{Value}
-use Rattle.bus_profile.specs.declared.told.EntryKind.{EntryKind}
-use Rattle.bus_profile.specs.declared.told.EntryKind.TheVariants as kind
+use Rattle.bus_profile.specs.declared.entry_faults.EntryKind.{EntryKind}
+use Rattle.bus_profile.specs.declared.entry_faults.EntryKind.TheVariants as kind
 use Rattle.profile_types.specs.declared.entries.ModeRule.{ModeRule}
 use Rattle.bus_profile.specs.declared.fault.Key.{Key}
 use Rattle.bus_profile.specs.declared.fault.Key.TheVariants.{Subaddress, At}
 use Rattle.bus_profile.specs.declared.fault.Part.{Part}
 use Rattle.bus_profile.specs.declared.fault.Part.TheVariants.{Root, Initial}
 use Rattle.bus_profile.specs.declared.fault.ProfileFault.{ProfileFault}
-use Rattle.bus_profile.specs.declared.fault.ProfileFault.TheVariants.{UnknownKey, WrongKind, BadRanges, OutOfRange, TooMany}
+use Rattle.bus_profile.specs.declared.fault.ProfileFault.TheVariants.{UnknownKey, WrongKind, BadRanges, OutOfRange, TooMany, RequiredCode}
 use Rattle.bus_profile.specs.declared.ranges.RangeFault.{RangeFault}
 use Rattle.bus_profile.specs.declared.ranges.RangeFault.TheVariants.{Syntax, Bounds}
 use Rattle.bus_profile.specs.AllFaults.{failing, is_long, HasShortArrays, told_array, told_keys, told_faults, rows_at}
@@ -24,6 +25,7 @@ use Rattle.bus_profile.specs.Faults.{is_required, key_checks, row_checks, head_c
 use Rattle.bus_profile.specs.Keys.{ValueKind, truth, whole, truth_or_whole, choice, ranges, numbers, tables, required, optional, KeyRow, key_row, keys_of, setting_rows, root_rows, rules_key, modes_key, initials_key, initial_rows, subaddress_row, at_row, words_row}
 use Rattle.bus_profile.specs.Kinds.{found, or_default, value, items, has_unknown, is_of_kind, is_bad_ranges, is_out_of_range, is_syntax, is_bounds, is_too_long, count_items}
 use Rattle.bus_profile.specs.Gives.{modes_of}
+use Rattle.profile_types.specs.OwnCodes.{is_own_code_legal}
 use Rattle.bus_profile.specs.RangesOf.{ranges_of}
 use Rattle.bus_profile.specs.inner.AllFaults.{failing_parts, present, row_of, array_row, part_of, key_rows_of, keys_in, checks_of, unknown_told, array_told, key_told, keys_told, code_told, codes_told}
 use Rattle.bus_profile.proofs.Arrays.{is_too_long-view}
@@ -122,7 +124,7 @@ one_of f g h false true false e = refl
 one_of f g h false false true e = refl
 one_of f g h false false false e = refl
 
-there : (f : ProfileFault) (b : Bool) (fs : List ProfileFault) (o : Option ProfileFault) → fs ≡ present o → cond (b && false) (f ∷ fs) fs ≡ present (cond (b && false) (Some f) o)
+pub there : (f : ProfileFault) (b : Bool) (fs : List ProfileFault) (o : Option ProfileFault) → fs ≡ present o → cond (b && false) (f ∷ fs) fs ≡ present (cond (b && false) (Some f) o)
 there f true fs o e = e
 there f false fs o e = e
 
@@ -159,7 +161,7 @@ array_failing part row long checks ms = failing-in_order _
 
 -- ---- entries
 
-told_where : (f : ProfileFault) (b : Bool) → cond b (f ∷ []) [] ≡ present (cond b (Some f) None)
+pub told_where : (f : ProfileFault) (b : Bool) → cond b (f ∷ []) [] ≡ present (cond b (Some f) None)
 told_where f true = refl
 told_where f false = refl
 
@@ -196,13 +198,7 @@ no_place part (Some (integer (pos n))) f ds e = pick (nat_le 1 n && nat_le n 32)
     pick : (b : Bool) → cond (is_none (cond b (Some n) None)) (Some (OutOfRange part At)) None ≡ Some f → (is_some (cond b (Some n) None) && nat_lt 32 (n - 1 + count_items ds)) ≡ false
     pick true e = absurd (cc)
     pick false e = refl
-no_place part (Some (integer (negsuc n))) f ds e = refl
-no_place part (Some (string s)) f ds e = refl
-no_place part (Some (float s)) f ds e = refl
-no_place part (Some (boolean s)) f ds e = refl
-no_place part (Some (datetime s)) f ds e = refl
-no_place part (Some (array s)) f ds e = refl
-no_place part (Some (table s)) f ds e = refl
+no_place part _ f ds e = refl
 
 pub beyond_nowhere : (part : Part) (ms : Members) (f : ProfileFault) (ds : Items) → first_fault (row_checks part ms at_row) ≡ Some f → goes_beyond (value at_row ms) ds ≡ false
 beyond_nowhere part ms f ds e = no_place part (found At ms) f ds e
@@ -211,25 +207,13 @@ beyond_nowhere part ms f ds e = no_place part (found At ms) f ds e
 
 tables_told : (part : Part) (k : Key) (most : ℕ) (default : Data) (d : Option Data) → array_told part k false d ≡ first_fault (key_checks part (key_row k (tables most) (optional default)) d)
 unfolding in_order
-tables_told part k most default None = refl
 tables_told part k most default (Some (string x)) = refl
-tables_told part k most default (Some (integer x)) = refl
-tables_told part k most default (Some (float x)) = refl
-tables_told part k most default (Some (boolean x)) = refl
-tables_told part k most default (Some (datetime x)) = refl
-tables_told part k most default (Some (array x)) = refl
-tables_told part k most default (Some (table x)) = refl
+tables_told part k most default _ = refl
 
 numbers_told : (part : Part) (k : Key) (low high : ℕ) (d : Option Data) → array_told part k true d ≡ first_fault (key_checks part (key_row k (numbers low high) required) d)
 unfolding in_order
-numbers_told part k low high None = refl
 numbers_told part k low high (Some (string x)) = refl
-numbers_told part k low high (Some (integer x)) = refl
-numbers_told part k low high (Some (float x)) = refl
-numbers_told part k low high (Some (boolean x)) = refl
-numbers_told part k low high (Some (datetime x)) = refl
-numbers_told part k low high (Some (array x)) = refl
-numbers_told part k low high (Some (table x)) = refl
+numbers_told part k low high _ = refl
 
 pub array_told-rule : (part : Part) (ms : Members) → array_told part Key.Rule false (found Key.Rule ms) ≡ key_told part ms Key.Rule
 array_told-rule part ms = tables_told part Key.Rule 256 (array no_items) (found Key.Rule ms)
@@ -257,8 +241,7 @@ entries_there kind.Initial ms = items-found (found Key.Initial ms)
 
 pub row_of-entries : (k : EntryKind) → row_of (array_row k).key ≡ array_row k
 row_of-entries kind.Rule = refl
-row_of-entries kind.Mode = refl
-row_of-entries kind.Initial = refl
+row_of-entries _ = refl
 
 pub long-view : (k : EntryKind) (ms : Members) (vs : List Value) → items_view vs ≡ items (found (array_row k).key ms) → is_long (array_row k) ms ≡ nat_lt 256 (length vs)
 long-view kind.Rule ms vs e = rw (entries_there kind.Rule ms, ← e) (is_too_long-view vs)
@@ -318,12 +301,8 @@ pass-in_order : (parts : List (List Check)) → all_pass (in_order parts) ≡ li
 unfolding in_order
 pass-in_order parts = pass-numbered 0 parts
 
-and_false : (b : Bool) → (b && false) ≡ false
-and_false true = refl
-and_false false = refl
-
 head_pass : (row : KeyRow) (ms : Members) → is_long row ms ≡ true → all_pass (head_checks Root row (is_too_long row.kind) ms) ≡ false
-head_pass row ms e = pass-in_order _ ∙ rw e (and_false (all_pass (row_checks Root ms row)))
+head_pass row ms e = pass-in_order _ ∙ rw e (and-false (all_pass (row_checks Root ms row)))
 
 -- an array that is too long fails, with its entries and without
 told_array-pass : (row : KeyRow) (checks : ℕ → Data → List Check) (ms : Members) → all_pass (told_array row checks ms) ≡ all_pass (entries_checks row checks ms)
@@ -355,7 +334,7 @@ codes_none ms e = rw e
 
 codes_all : (ms : Members) → all_pass (key_faults ms) ≡ true → failing (code_faults ms) ≡ codes_told (modes_of ms)
 unfolding code_faults
-codes_all ms e = failing-in_order _ ∙ rw (e, append-nil (code_told (modes_of ms) 8))
+codes_all ms e = failing-in_order _ ∙ rw e refl
 
 -- where nothing was found, what the codes have is told too
 pub told_codes : (ms : Members) (modes : List ModeRule) → (length (failing (told_keys ms)) == 0) ≡ true → modes ≡ modes_of ms → failing (told_keys ms) ++ codes_told modes ≡ told_faults ms
@@ -372,94 +351,3 @@ told_keys-short ms short = rw (short.rules, short.modes, short.initials)
 pub told_all : (ms : Members) → HasShortArrays ms → told_faults ms ≡ failing (faults ms)
 unfolding faults
 told_all ms short = sym (failing-in_order _ ∙ rw (append-nil (failing (code_faults ms)), told_keys-short ms short))
-
--- ---- lists that grow
-
-pub next : (old mid new more last : List ProfileFault) → mid ≡ old ++ more → new ≡ mid ++ last → new ≡ old ++ (more ++ last)
-next old mid new more last h k = k ∙ (ap (λ fs. fs ++ last) h ∙ append_assoc old more last)
-
-pub grown : (old mid more last all : List ProfileFault) → mid ≡ old ++ more → more ++ last ≡ all → mid ++ last ≡ old ++ all
-grown old mid more last all h k = ap (λ fs. fs ++ last) h ∙ (append_assoc old more last ∙ ap (λ fs. old ++ fs) k)
-
--- ---- what the tables of entries tell
-
-pub rule_told : (k : EntryKind) (n : ℕ) (p : Part) (u : Option ProfileFault) (ms : Members) → k ≡ kind.Rule → p ≡ part_of k n → u ≡ unknown_told p (rows_at p) ms
-    → present u ++ keys_told p ms (Key.To ∷ Key.Direction ∷ Key.Subaddresses ∷ Key.Counts ∷ Key.Legal ∷ []) ≡ failing (checks_of k n (table ms))
-rule_told k n p u ms is here unknown = rw (unknown, here, is) (sym (table_failing kind.Rule n ms))
-
-pub mode_told : (k : EntryKind) (n : ℕ) (p : Part) (u : Option ProfileFault) (ms : Members) → k ≡ kind.Mode → p ≡ part_of k n → u ≡ unknown_told p (rows_at p) ms
-    → present u ++ keys_told p ms (Key.To ∷ Key.Codes ∷ Key.Legal ∷ []) ≡ failing (checks_of k n (table ms))
-mode_told k n p u ms is here unknown = rw (unknown, here, is) (sym (table_failing kind.Mode n ms))
-
-pub initial_told : (k : EntryKind) (n : ℕ) (p : Part) (u : Option ProfileFault) (ms : Members) → k ≡ kind.Initial → p ≡ part_of k n → u ≡ unknown_told p (rows_at p) ms
-    → (present u ++ keys_told p ms (Subaddress ∷ At ∷ [])) ++ failing (words_checks p ms) ≡ failing (checks_of k n (table ms))
-initial_told k n p u ms is here unknown =
-    rw (unknown, here, is) (append_assoc (present (unknown_told (Initial n) initial_rows ms)) (keys_told (Initial n) ms (Subaddress ∷ At ∷ [])) (failing (words_checks (Initial n) ms)) ∙ sym (initial_failing n ms))
-
--- the words of an initial entry
-pub words_told : (p : Part) (ms : Members) (u : Option ProfileFault) (beyond : Bool) (vs : List Value)
-    → u ≡ key_told p ms Key.Words → items_view vs ≡ items (found Key.Words ms) → beyond ≡ goes_beyond (value at_row ms) (items_view vs)
-    → (present u ++ cond beyond (TooMany p Key.Words ∷ []) []) ++ failing_parts (each_item (λ _. word_checks p) 1 (items_view vs)) ≡ failing (words_checks p ms)
-words_told p ms u beyond vs own is there =
-    rw (own, there, is) (ap (λ fs. fs ++ failing_parts (each_item (λ _. word_checks p) 1 (items (found Key.Words ms)))) (sym (head_failing p words_row (goes_beyond (value at_row ms)) ms))
-    ∙ sym (array_failing p words_row (goes_beyond (value at_row ms)) (λ _. word_checks p) ms))
-
--- ---- what arrays of entries tell
-
-pub long_told : (k : EntryKind) (ms : Members) (vs : List Value) (a b c : Key) (u : Option ProfileFault)
-    → a ≡ (array_row k).key → b ≡ (array_row k).key → c ≡ (array_row k).key → u ≡ key_told Root ms a → items_view vs ≡ items (found b ms) → 256 < length vs
-    → present u ++ (TooMany Root c ∷ []) ≡ failing (told_array (array_row k) (checks_of k) ms)
-long_told k ms vs a b c u ea eb ec eu is many =
-    let there : items_view vs ≡ items (found (array_row k).key ms) = is ∙ ap (λ key. items (found key ms)) eb in
-    let long : is_long (array_row k) ms ≡ true = long-view k ms vs there ∙ grind (arith, nat_tests) in
-    rw (eu, ea, ec) (sym (told_array-long k ms long))
-
-pub short_told : (k : EntryKind) (ms : Members) (vs : List Value) (a b : Key) (u : Option ProfileFault)
-    → a ≡ (array_row k).key → b ≡ (array_row k).key → u ≡ key_told Root ms a → items_view vs ≡ items (found b ms) → length vs ≤ 256
-    → present u ++ failing_parts (each_item (checks_of k) 1 (items_view vs)) ≡ failing (told_array (array_row k) (checks_of k) ms)
-short_told k ms vs a b u ea eb eu is few =
-    let there : items_view vs ≡ items (found (array_row k).key ms) = is ∙ ap (λ key. items (found key ms)) eb in
-    let short : is_long (array_row k) ms ≡ false = long-view k ms vs there ∙ grind (arith, nat_tests) in
-    rw (eu, ea) (sym (told_array-short k ms vs there short))
-
--- ---- what the tree tells
-
-failing_parts-append : (xs ys : List (List Check)) → failing_parts (xs ++ ys) ≡ failing_parts xs ++ failing_parts ys
-failing_parts-append [] ys = refl
-failing_parts-append (x ∷ xs) ys = ap (λ fs. failing x ++ fs) (failing_parts-append xs ys) ∙ sym (append_assoc (failing x) (failing_parts xs) (failing_parts ys))
-
-pub tree_told : (ms : Members) (u : Option ProfileFault) → u ≡ unknown_told Root root_rows ms
-    → (((present u ++ keys_told Root ms (Key.Address ∷ Key.Broadcast ∷ Key.Wraparound ∷ Key.AcceptBusControl ∷ Key.Vector ∷ Key.Bit ∷ []))
-    ++ failing (told_array rules_key rule_checks ms)) ++ failing (told_array modes_key mode_checks ms)) ++ failing (told_array initials_key initial_checks ms) ≡ failing (told_keys ms)
-unfolding told_keys
-tree_told ms u is =
-    rw (is, ← told_where (UnknownKey Root) (has_unknown (keys_of root_rows) ms))
-    (regroup (cond (has_unknown (keys_of root_rows) ms) (UnknownKey Root ∷ []) []) (failing_parts (map (row_checks Root ms) setting_rows)) _ _ _ ∙
-    (ap (λ fs. cond (has_unknown (keys_of root_rows) ms) (UnknownKey Root ∷ []) [] ++ fs) (sym (failing_parts-append (map (row_checks Root ms) setting_rows) (told_array rules_key rule_checks ms ∷ told_array modes_key mode_checks ms ∷ told_array initials_key initial_checks ms ∷ []))) ∙ sym (failing-in_order _)))
-  where
-    regroup : (a b c d e : List ProfileFault) → (((a ++ b) ++ c) ++ d) ++ e ≡ a ++ (b ++ (c ++ (d ++ (e ++ []))))
-    regroup a b c d e = rw (append-nil e) (append_assoc ((a ++ b) ++ c) d e ∙ (append_assoc (a ++ b) c (d ++ e) ∙ append_assoc a b (c ++ (d ++ e))))
-
--- ---- loops
-
--- what was told and what is left is all
-pub told_step : (fs new more rest left all : List ProfileFault) → new ≡ fs ++ more → left ≡ more ++ rest → fs ++ left ≡ all → new ++ rest ≡ all
-told_step fs new more rest left all h k before = ap (λ x. x ++ rest) h ∙ (append_assoc fs more rest ∙ (ap (λ x. fs ++ x) (sym k) ∙ before))
-
-pub key_step : (p : Part) (ms : Members) (keys : List Key) (i : ℕ) (d : Key) (u : Option ProfileFault) → i < length keys → u ≡ key_told p ms (get_or keys i d)
-    → keys_told p ms (drop i keys) ≡ present u ++ keys_told p ms (drop (i + 1) keys)
-key_step p ms keys i d u within is = rw (is, drop_more keys i d within, row_failing p ms (row_of (get_or keys i d)))
-
-pub word_step : (p : Part) (vs : List Value) (i : ℕ) (v : Value) (u : Option ProfileFault) → i < length vs → v ≡ get_or vs i v → u ≡ first_fault (word_checks p (view v))
-    → failing_parts (each_item (λ _. word_checks p) (1 + i) (items_view (drop i vs))) ≡ present u ++ failing_parts (each_item (λ _. word_checks p) (1 + (i + 1)) (items_view (drop (i + 1) vs)))
-word_step p vs i v u within here is =
-    let next : 1 + (i + 1) ≡ suc (1 + i) = omega arith in
-    rw (next, items_view-drop vs i v within, ← here, is, word_failing p (view v))
-
--- ---- the codes that must be legal
-
-pub with_codes : (ms : Members) (fs : List ProfileFault) (modes : List ModeRule) → fs ≡ failing (told_keys ms) → true ≡ (length fs == 0) → modes ≡ modes_of ms → fs ++ codes_told modes ≡ told_faults ms
-with_codes ms fs modes is none read = rw is (told_codes ms modes (ap (λ xs. length xs == 0) (sym is) ∙ sym none) read)
-
-pub without_codes : (ms : Members) (fs : List ProfileFault) → fs ≡ failing (told_keys ms) → false ≡ (length fs == 0) → fs ≡ told_faults ms
-without_codes ms fs is some = is ∙ told_keys-alone ms (ap (λ xs. length xs == 0) (sym is) ∙ sym some)

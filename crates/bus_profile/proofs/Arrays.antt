@@ -23,12 +23,7 @@ count_items-view (v ∷ vs) = ap suc (count_items-view vs)
 -- a value with items is an array
 pub array_here : (o : Option Data) (d : Data) (ds : Items) → Some d ≡ o → Some ds ≡ as_array d → Some (array ds) ≡ o
 array_here o (array es) ds e f = rw (same_Some _ _ f) e
-array_here o (string s) ds e f = absurd (cc)
-array_here o (integer s) ds e f = absurd (cc)
-array_here o (float s) ds e f = absurd (cc)
-array_here o (boolean s) ds e f = absurd (cc)
-array_here o (datetime s) ds e f = absurd (cc)
-array_here o (table s) ds e f = absurd (cc)
+array_here o _ ds e f = absurd (cc)
 
 -- an array has no fault as a whole but that it is too long
 pub entries_head : (part : Part) (k : Key) (ds : Items) (b : Bool)
@@ -60,13 +55,7 @@ found_place part None e = record { low = omega arith; high = omega arith; beyond
 found_place part (Some (integer (pos n))) e =
     let inside : (nat_le 1 n && nat_le n 32) ≡ true = range_of (nat_le 1 n && nat_le n 32) n _ e in
     record { low = grind (arith, nat_tests); high = grind (arith, nat_tests); beyond = λ ds. rw inside }
-found_place part (Some (integer (negsuc n))) e = absurd (cc)
-found_place part (Some (string s)) e = absurd (cc)
-found_place part (Some (float s)) e = absurd (cc)
-found_place part (Some (boolean s)) e = absurd (cc)
-found_place part (Some (datetime s)) e = absurd (cc)
-found_place part (Some (array s)) e = absurd (cc)
-found_place part (Some (table s)) e = absurd (cc)
+found_place part _ e = absurd (cc)
 
 pub place_of : (part : Part) (ms : Members) (first : ℕ) → first_fault (row_checks part ms at_row) ≡ None → first ≡ whole_in (value at_row ms) → IsFirstWord first (value at_row ms)
 place_of part ms first e is = rw is (found_place part (found At ms) e)

@@ -3,7 +3,7 @@ use Rattle.std.proofs.Common.{◌≡◌, ◌≢◌, ℕ, zero, suc, ◌+◌, ◌
 use Rattle.std.proofs.lemmas.Bool.Decides.{nat_tests}
 use Rattle.std.proofs.lemmas.Bool.{cases_lt}
 use Rattle.std.proofs.lemmas.Nat.Bits.{bit_at_cat_low, bit_at_cat_high, bit_at-lt, bit_at-zero, same_from_bits_below, bit_at_set_same, bit_at_set_other}
-use Rattle.std.proofs.Math.Bool.{or-true}
+use Rattle.std.proofs.Math.Bool.{or-false, or-true}
 use Rattle.std.proofs.Math.Nat.{pow-suc}
 use Rattle.std.specs.Int.{w32}
 use Rattle.std.specs.Prelude.{bit_or}
@@ -44,16 +44,12 @@ bits_where-whole k n small =
     same_from_bits_below k _ n (bits_where-small k (has_bit n)) small
     (λ i l. same_bit _ _ (bit_at-lt _ i) (bit_at-lt n i) (bits_where-bit k (has_bit n) i l))
 
-pub or_false : (b : Bool) → b ≡ (b || false)
-or_false true = refl
-or_false false = refl
-
 -- one more bit set
 pub has_bit-set : (n k i : ℕ) → k < 32 → has_bit (bit_or n (1 * 2 ^ k % 2 ^ 32)) i ≡ (has_bit n i || (i == k))
 has_bit-set n k i within = ⊎_elim less (λ le. ⊎_elim more (λ le'. same (omega arith)) (cases_lt k i)) (cases_lt i k)
   where
     other : i ≢ k → has_bit (bit_or n (1 * 2 ^ k % 2 ^ 32)) i ≡ (has_bit n i || (i == k))
-    other apart = let no : (i == k) ≡ false = grind (arith, nat_tests) in rw (bit_at_set_other w32 n k within i apart, no) (or_false (has_bit n i))
+    other apart = let no : (i == k) ≡ false = grind (arith, nat_tests) in rw (bit_at_set_other w32 n k within i apart, no) (sym (or-false (has_bit n i)))
 
     less : i < k → has_bit (bit_or n (1 * 2 ^ k % 2 ^ 32)) i ≡ (has_bit n i || (i == k))
     less l = other (λ e. absurd (omega arith))

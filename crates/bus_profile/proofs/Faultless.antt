@@ -5,7 +5,6 @@ use Rattle.std.specs.Result.{result_unwrap_or}
 use Rattle.std.proofs.lemmas.Bool.Decides.{nat_tests}
 use Rattle.std.proofs.lemmas.Nat.{pow_below}
 use Rattle.std.proofs.lemmas.Option.{same_Some}
-use Rattle.bus_word.specs.Mode.{transmit_status, shutdown, override_shutdown, reset}
 use Rattle.toml.specs.Data.{Data, string, integer, float, boolean, datetime, array, table, Items, no_items, item, Members}
 use Rattle.profile_types.specs.declared.entries.Rule.{Rule}
 use Rattle.profile_types.specs.declared.entries.InitialWords.{InitialWords}
@@ -30,36 +29,11 @@ use Rattle.bus_profile.specs.inner.FirstFault.{fault_of_parts}
 use Rattle.bus_profile.specs.inner.FirstWord.{IsFirstWord}
 use Rattle.bus_profile.proofs.Arrays.{range_of, place_of}
 use Rattle.bus_profile.proofs.Least.{first_fault-in_order}
+use Rattle.bus_profile.proofs.NoFault.{no_first, no_second, first_fault-none, each_none}
 use Rattle.bus_profile.proofs.RangesMeaning.{reading}
 use Rattle.bus_profile.proofs.Sections.{unknown_fault, rule_fault, initial_fault, row_fault}
-use Rattle.bus_profile.proofs.Tree.{entries_fault, settings_fault, key_fault, code_fault, tree_fault}
-
--- ---- no fault among several
-
-first_fault-none : (cs : List Check) → HasNoFault cs → first_fault cs ≡ None
-first_fault-none [] h = refl
-first_fault-none (c ∷ cs) h = rw (h c (inl refl)) (first_fault-none cs (λ d among. h d (inr among)))
-
-no_first : (a b : Option ProfileFault) → option_or a b ≡ None → a ≡ None
-no_first None b e = refl
-no_first (Some f) b e = e
-
-no_second : (a b : Option ProfileFault) → option_or a b ≡ None → b ≡ None
-no_second None b e = e
-no_second (Some f) b e = absurd (cc)
-
--- faults that are asked for in turn
-abbrev in_turn : List (Option ProfileFault) → Option ProfileFault
-in_turn [] = None
-in_turn (o ∷ os) = option_or o (in_turn os)
-
-abbrev AreNone : List (Option ProfileFault) → Type 0
-AreNone [] = Unit {0}
-AreNone (o ∷ os) = (o ≡ None) × AreNone os
-
-each_none : (os : List (Option ProfileFault)) → in_turn os ≡ None → AreNone os
-each_none [] e = tt
-each_none (o ∷ os) e = (no_first o (in_turn os) e, each_none os (no_second o (in_turn os) e))
+use Rattle.bus_profile.specs.inner.Section.{entries_fault}
+use Rattle.bus_profile.proofs.Tree.{root_faults, key_fault, code_fault, tree_fault}
 
 passes : (b : Bool) (f : ProfileFault) → cond b (Some f) None ≡ None → b ≡ false
 passes true f e = absurd (cc)
@@ -73,13 +47,7 @@ in_whole p key low high None e = absurd (cc)
 in_whole p key low high (Some (integer (pos n))) e =
     let inside : (nat_le low n && nat_le n high) ≡ true = range_of (nat_le low n && nat_le n high) n _ e in
     (grind (arith, nat_tests), grind (arith, nat_tests))
-in_whole p key low high (Some (integer (negsuc n))) e = absurd (cc)
-in_whole p key low high (Some (string s)) e = absurd (cc)
-in_whole p key low high (Some (float s)) e = absurd (cc)
-in_whole p key low high (Some (boolean s)) e = absurd (cc)
-in_whole p key low high (Some (datetime s)) e = absurd (cc)
-in_whole p key low high (Some (array s)) e = absurd (cc)
-in_whole p key low high (Some (table s)) e = absurd (cc)
+in_whole p key low high _ e = absurd (cc)
 
 wrap_small : (p : Part) (d : Option Data) → first_fault (key_checks p wraparound_row d) ≡ None → wrap_value (or_default wraparound_row.presence d) ≤ 30
 unfolding in_order
@@ -89,11 +57,7 @@ wrap_small p (Some (integer (pos n))) e =
 wrap_small p (Some (integer (negsuc n))) e = absurd (cc)
 wrap_small p (Some (boolean true)) e = omega arith
 wrap_small p (Some (boolean false)) e = omega arith
-wrap_small p (Some (string s)) e = absurd (cc)
-wrap_small p (Some (float s)) e = absurd (cc)
-wrap_small p (Some (datetime s)) e = absurd (cc)
-wrap_small p (Some (array s)) e = absurd (cc)
-wrap_small p (Some (table s)) e = absurd (cc)
+wrap_small p _ e = absurd (cc)
 
 -- the set that a text of ranges gives
 set_small : (s : List ℕ) (r : Result ℕ RangeFault) → IsReading s 1 30 r → result_unwrap_or r 0 < 2 ^ 30
@@ -107,12 +71,7 @@ subaddresses_small p (Some (integer (pos n))) e =
     let inside : (nat_le 1 n && nat_le n 30) ≡ true = range_of (nat_le 1 n && nat_le n 30) n _ e in
     let below : n - 1 < 30 = grind (arith, nat_tests) in pow_below (n - 1) 30 below
 subaddresses_small p (Some (string s)) e = set_small s (ranges_of 1 30 s) (reading s 1 30 (omega arith))
-subaddresses_small p (Some (integer (negsuc n))) e = absurd (cc)
-subaddresses_small p (Some (float s)) e = absurd (cc)
-subaddresses_small p (Some (boolean s)) e = absurd (cc)
-subaddresses_small p (Some (datetime s)) e = absurd (cc)
-subaddresses_small p (Some (array s)) e = absurd (cc)
-subaddresses_small p (Some (table s)) e = absurd (cc)
+subaddresses_small p _ e = absurd (cc)
 
 -- ---- arrays without a fault
 
@@ -127,13 +86,13 @@ length-each_of f (item d ds) = ap suc (length-each_of f ds)
 few : (count : ℕ) → nat_lt 256 count ≡ false → count ≤ 256
 few count e = grind (arith, nat_tests)
 
-no_head : (r : KeyRow) (checks : ℕ → Data → List Check) (ms : Members) → entries_fault r checks ms ≡ None → first_fault (head_checks part.Root r (is_too_long r.kind) ms) ≡ None
+no_head : (r : KeyRow) (checks : ℕ → Data → List Check) (ms : Members) → entries_fault part.Root r checks ms ≡ None → first_fault (head_checks part.Root r (is_too_long r.kind) ms) ≡ None
 no_head r checks ms e = no_first (first_fault (head_checks part.Root r (is_too_long r.kind) ms)) (fault_of_parts (each_item checks 1 (items (value r ms)))) e
 
-no_items_fault : (r : KeyRow) (checks : ℕ → Data → List Check) (ms : Members) → entries_fault r checks ms ≡ None → fault_of_parts (each_item checks 1 (items (value r ms))) ≡ None
+no_items_fault : (r : KeyRow) (checks : ℕ → Data → List Check) (ms : Members) → entries_fault part.Root r checks ms ≡ None → fault_of_parts (each_item checks 1 (items (value r ms))) ≡ None
 no_items_fault r checks ms e = no_second (first_fault (head_checks part.Root r (is_too_long r.kind) ms)) (fault_of_parts (each_item checks 1 (items (value r ms)))) e
 
-few_items : (key : Key) (presence : Presence) (checks : ℕ → Data → List Check) (ms : Members) → entries_fault (key_row key (tables 256) presence) checks ms ≡ None →
+few_items : (key : Key) (presence : Presence) (checks : ℕ → Data → List Check) (ms : Members) → entries_fault part.Root (key_row key (tables 256) presence) checks ms ≡ None →
     count_items (items (value (key_row key (tables 256) presence) ms)) ≤ 256
 few_items key presence checks ms e =
     let r : KeyRow = key_row key (tables 256) presence in
@@ -149,12 +108,7 @@ rule_given n (table ms) e =
     let p : PlainRule = rule_in (table ms) in
     let small = subaddresses_small (part.Rule n) (found subaddresses_row.key ms) none.1.1.1.0 in
     (record { own = p.own; broadcast = p.broadcast; receive = p.receive; transmit = p.transmit; subaddresses = p.subaddresses; counts = p.counts; legal = p.legal; thirty_subaddresses = small }, refl)
-rule_given n (string s) e = absurd (cc)
-rule_given n (integer s) e = absurd (cc)
-rule_given n (float s) e = absurd (cc)
-rule_given n (boolean s) e = absurd (cc)
-rule_given n (datetime s) e = absurd (cc)
-rule_given n (array s) e = absurd (cc)
+rule_given n _ e = absurd (cc)
 
 rules_given : (n : ℕ) (ds : Items) → fault_of_parts (each_item rule_checks n ds) ≡ None → (rules : List Rule) × (map plain_rule rules ≡ each_of rule_in ds) × (length rules ≡ count_items ds)
 rules_given n no_items e = ([], refl, refl)
@@ -206,12 +160,7 @@ initial_given n (table ms) e =
 
     whole_of : (words : List ℕ) (count : ℕ) → length words ≡ count → count ≤ 32 → length (words ++ zeros (32 - count)) ≡ 32
     whole_of words count long few = omega (arith, long, few, length-append words (zeros (32 - count)), length-zeros (32 - count))
-initial_given n (string s) e = absurd (cc)
-initial_given n (integer s) e = absurd (cc)
-initial_given n (float s) e = absurd (cc)
-initial_given n (boolean s) e = absurd (cc)
-initial_given n (datetime s) e = absurd (cc)
-initial_given n (array s) e = absurd (cc)
+initial_given n _ e = absurd (cc)
 
 initials_given : (n : ℕ) (ds : Items) → fault_of_parts (each_item initial_checks n ds) ≡ None → (initials : List InitialWords) × (map plain_initial initials ≡ each_of initial_in ds) × (length initials ≡ count_items ds)
 initials_given n no_items e = ([], refl, refl)
@@ -222,7 +171,7 @@ initials_given n (item d ds) e =
 
 -- ---- the tree
 
-all_four : (a b c d : Bool) → option_map RequiredCode (cond (not a) (Some 2) (cond (not b) (Some 4) (cond (not c) (Some 5) (cond (not d) (Some 8) None)))) ≡ None → (a && (b && (c && d))) ≡ true
+all_four : (a b c d : Bool) → option_map RequiredCode (cond (not a) (Some 2) (cond (not b) (Some 4) (cond (not c) (Some 5) (cond (not d) (Some 8) None)))) ≡ None → (a && (b && (c && (d && true)))) ≡ true
 all_four false b c d e = absurd (cc)
 all_four true false c d e = absurd (cc)
 all_four true true false d e = absurd (cc)
@@ -236,11 +185,8 @@ profile_given : (ms : Members) → HasNoFault (faults ms) → (p : Profile) × (
 profile_given ms none =
     let faultless = sym (tree_fault ms) ∙ first_fault-none (faults ms) none in
     let legal : ℕ → Bool = λ code. is_own_code_legal (modes_of ms) code in
-    let fault : KeyRow → Option ProfileFault = λ r. row_fault part.Root ms r in
-    let root = each_none (unknown_fault part.Root root_rows ms ∷ settings_fault ms ∷ entries_fault rules_key rule_checks ms ∷ entries_fault modes_key mode_checks ms
-    ∷ entries_fault initials_key initial_checks ms ∷ []) (no_first (key_fault ms) (code_fault ms) faultless) in
-    let settings = each_none (fault address_row ∷ fault broadcast_row ∷ fault wraparound_row ∷ fault accept_row ∷ fault vector_row ∷ fault bit_row ∷ []) root.1.0 in
-    let arrays = root.1.1 in
+    let settings = (each_none (root_faults ms) (no_first (key_fault ms) (code_fault ms) faultless)).1 in
+    let arrays = settings.1.1.1.1.1.1 in
     let rules = rules_given 1 (items (value rules_key ms)) (no_items_fault rules_key rule_checks ms arrays.0) in
     let initials = initials_given 1 (items (value initials_key ms)) (no_items_fault initials_key initial_checks ms arrays.1.1.0) in
     let few_rules = few_items rules_key.key rules_key.presence rule_checks ms arrays.0 in
@@ -262,7 +208,7 @@ profile_given ms none =
         few_rules = omega (arith, few_rules, rules.2);
         few_modes = omega (arith, few_modes, length-each_of mode_in (items (value modes_key ms)));
         few_initials = omega (arith, few_initials, initials.2);
-        required_codes = all_four (legal transmit_status) (legal shutdown) (legal override_shutdown) (legal reset) (no_second (key_fault ms) (code_fault ms) faultless);
+        required_codes = all_four (legal 2) (legal 4) (legal 5) (legal 8) (no_second (key_fault ms) (code_fault ms) faultless);
       },
       λ j. plain_with ms (rules.1 j) (initials.1 j),
     )

@@ -1,4 +1,5 @@
 pub mod AllFaults
+pub mod PushedFaults
 pub mod Arrays
 pub mod Bits
 pub mod Defaults
@@ -12,4 +13,5 @@ pub mod RangesGrammar
 pub mod RangesMeaning
 pub mod RangesRest
 pub mod Sections
+pub mod NoFault
 pub mod Tree

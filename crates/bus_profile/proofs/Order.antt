@@ -41,12 +41,7 @@ array_rises part row is_long checks each ms =
 entry_rises : (part : Part) (row : KeyRow) (rows : List KeyRow) (keys : Members → List (List Check)) → ((ms : Members) → AllRise (keys ms)) → (d : Data) → Rises (entry_checks part row rows keys d)
 unfolding entry_checks
 entry_rises part row rows keys each (table ms) = in_order_rises _ ((tt, tt, λ e. cc), ((tt, tt, λ e. cc), each ms))
-entry_rises part row rows keys each (string s) = in_order_rises _ ((tt, tt, λ e. cc), tt)
-entry_rises part row rows keys each (integer s) = in_order_rises _ ((tt, tt, λ e. cc), tt)
-entry_rises part row rows keys each (float s) = in_order_rises _ ((tt, tt, λ e. cc), tt)
-entry_rises part row rows keys each (boolean s) = in_order_rises _ ((tt, tt, λ e. cc), tt)
-entry_rises part row rows keys each (datetime s) = in_order_rises _ ((tt, tt, λ e. cc), tt)
-entry_rises part row rows keys each (array s) = in_order_rises _ ((tt, tt, λ e. cc), tt)
+entry_rises part row rows keys each _ = in_order_rises _ ((tt, tt, λ e. cc), tt)
 
 rule_rises : (n : ℕ) (d : Data) → Rises (rule_checks n d)
 rule_rises n d = entry_rises (Rule n) rules_key rule_rows (λ ms. map (row_checks (Rule n) ms) rule_rows) (λ ms. rows_rise (Rule n) ms rule_rows [] tt) d
@@ -101,9 +96,4 @@ refuses text tree (Ok profile) is reads = tt
 refuses text tree (Err Memory) is reads = tt
 refuses text tree (Err NotToml) is reads = absurd (first_fault-tree (faults tree) (faults_rise tree) (reads (λ e. cc)))
 refuses text tree (Err (UnknownKey a)) is reads = has_first text tree _ is (reads (λ e. cc))
-refuses text tree (Err (Missing a b)) is reads = has_first text tree _ is (reads (λ e. cc))
-refuses text tree (Err (WrongKind a b)) is reads = has_first text tree _ is (reads (λ e. cc))
-refuses text tree (Err (OutOfRange a b)) is reads = has_first text tree _ is (reads (λ e. cc))
-refuses text tree (Err (BadRanges a b)) is reads = has_first text tree _ is (reads (λ e. cc))
-refuses text tree (Err (TooMany a b)) is reads = has_first text tree _ is (reads (λ e. cc))
-refuses text tree (Err (RequiredCode a)) is reads = has_first text tree _ is (reads (λ e. cc))
+refuses text tree _ is reads = has_first text tree _ is (reads (λ e. cc))

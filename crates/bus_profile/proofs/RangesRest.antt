@@ -1,5 +1,6 @@
 -- What the items that are left of a text make of a mask.
 use Rattle.std.proofs.Common.{◌≡◌, ℕ, ◌+◌, ◌-◌, ◌^◌, ◌<◌, ◌≤◌, ◌==◌, ◌&&◌, ◌||◌, nat_le, Bool, true, false, cond, List, [], ◌∷◌, Option, Some, None, Result, Ok, Err, refl, ap, sym, ◌∙◌, arith}
+use Rattle.std.proofs.Math.Bool.{and-false, or-false}
 use Rattle.std.proofs.lemmas.Bool.Decides.{nat_tests}
 use Rattle.std.proofs.lemmas.Nat.Bits.{bit_at-zero}
 use Rattle.std.specs.List.{slice_split, list_all}
@@ -9,7 +10,7 @@ use Rattle.bus_profile.specs.declared.ranges.RangeFault.TheVariants.{Syntax, Bou
 use Rattle.bus_word.specs.Mask.{has_bit}
 use Rattle.bus_profile.specs.RangesOf.{bits_where, is_within, is_named, in_front, items_of, item_of, mask_of, ranges_of, mask_within}
 use Rattle.bus_profile.specs.inner.RangeParts.{parts_after}
-use Rattle.bus_profile.proofs.Bits.{or_false, bits_where-same, bits_where-whole}
+use Rattle.bus_profile.proofs.Bits.{bits_where-same, bits_where-whole}
 
 -- the items of what is left, where nothing may be
 abbrev pub items_left : Option (List ℕ) → Option (List Item)
@@ -30,13 +31,9 @@ pub finish-none : (low high : ℕ) (ok : Bool) (mask : ℕ) (text part : List �
     → slice_split (λ b. b == 44) text ≡ part ∷ parts_after 44 after → item_of part ≡ None → finish low high ok mask (items_of text) ≡ Err Syntax
 finish-none low high ok mask text part after e none = rw (items_of-parts text part after e, none)
 
-and_false : (b : Bool) → (b && false) ≡ false
-and_false true = refl
-and_false false = refl
-
 outside : (low high : ℕ) (ok : Bool) (mask : ℕ) (s : Item) (ss : Option (List Item)) → is_within low high s ≡ false → finish low high ok mask (in_front (Some s) ss) ≡ finish low high false mask ss
 outside low high ok mask s None out = refl
-outside low high ok mask s (Some ss) out = rw (out, and_false ok)
+outside low high ok mask s (Some ss) out = rw (out, and-false ok)
 
 pub finish-outside : (low high : ℕ) (ok : Bool) (mask : ℕ) (text part : List ℕ) (after : Option (List ℕ)) (s : Item)
     → slice_split (λ b. b == 44) text ≡ part ∷ parts_after 44 after → item_of part ≡ Some s → is_within low high s ≡ false
@@ -83,5 +80,5 @@ finish-start low high text = from (items_of text)
     from (Some ss) = ap (λ m. cond (list_all (is_within low high) ss) (Ok m) (Err Bounds)) (bits_where-same 32 (λ i. has_bit 0 i || is_named ss (low + i)) (λ i. is_named ss (low + i)) (λ i l. rw (bit_at-zero i)))
 
 pub finish-end : (low high : ℕ) (ok : Bool) (mask : ℕ) → mask < 2 ^ 32 → finish low high ok mask (Some []) ≡ cond ok (Ok mask) (Err Bounds)
-finish-end low high true mask small = ap Ok (bits_where-same 32 _ _ (λ i l. sym (or_false (has_bit mask i))) ∙ bits_where-whole 32 mask small)
+finish-end low high true mask small = ap Ok (bits_where-same 32 _ _ (λ i l. or-false (has_bit mask i)) ∙ bits_where-whole 32 mask small)
 finish-end low high false mask small = refl

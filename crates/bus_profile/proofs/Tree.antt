@@ -9,70 +9,39 @@ use Rattle.profile_types.specs.OwnCodes.{is_own_code_legal}
 use Rattle.bus_profile.specs.inner.MissingCode.{missing_code}
 use Rattle.bus_profile.specs.Checks.{Check, in_order, first_fault}
 use Rattle.bus_profile.specs.Keys.{KeyRow, address_row, broadcast_row, wraparound_row, accept_row, vector_row, bit_row, rules_key, modes_key, initials_key, root_rows}
-use Rattle.bus_profile.specs.Kinds.{value, items, is_too_long}
-use Rattle.bus_profile.specs.Faults.{head_checks, array_checks, each_item, entries_checks, rule_checks, mode_checks, initial_checks, key_faults, all_pass, code_faults, faults}
+use Rattle.bus_profile.specs.Faults.{array_checks, entries_checks, rule_checks, mode_checks, initial_checks, key_faults, all_pass, code_faults, faults}
 use Rattle.bus_profile.specs.Gives.{modes_of}
-use Rattle.bus_profile.specs.inner.FirstFault.{fault_of_parts}
+use Rattle.bus_profile.specs.inner.Section.{entries_fault}
 use Rattle.bus_profile.proofs.Least.{first_fault-in_order}
+use Rattle.bus_profile.proofs.NoFault.{in_turn}
 use Rattle.bus_profile.proofs.Sections.{unknown_fault, row_fault}
 
--- an array of entries: itself first, then its items
-abbrev pub entries_fault : KeyRow → (ℕ → Data → List Check) → Members → Option ProfileFault
-entries_fault row checks ms = option_or (first_fault (head_checks Root row (is_too_long row.kind) ms)) (fault_of_parts (each_item checks 1 (items (value row ms))))
-
-entries_fault_is : (row : KeyRow) (checks : ℕ → Data → List Check) (ms : Members) → first_fault (entries_checks row checks ms) ≡ entries_fault row checks ms
+entries_fault_is : (row : KeyRow) (checks : ℕ → Data → List Check) (ms : Members) → first_fault (entries_checks row checks ms) ≡ entries_fault Root row checks ms
 unfolding array_checks
 entries_fault_is row checks ms = first_fault-in_order _
 
--- the keys that hold one value
-abbrev pub settings_fault : Members → Option ProfileFault
-settings_fault ms =
-    option_or (row_fault Root ms address_row)
-    (option_or (row_fault Root ms broadcast_row)
-    (option_or (row_fault Root ms wraparound_row)
-    (option_or (row_fault Root ms accept_row)
-    (option_or (row_fault Root ms vector_row)
-    (option_or (row_fault Root ms bit_row) None)))))
-
-joined : (a b c d e f rest : Option ProfileFault) → option_or a (option_or b (option_or c (option_or d (option_or e (option_or f rest)))))
-    ≡ option_or (option_or a (option_or b (option_or c (option_or d (option_or e (option_or f None)))))) rest
-joined (Some x) b c d e f rest = refl
-joined None (Some x) c d e f rest = refl
-joined None None (Some x) d e f rest = refl
-joined None None None (Some x) e f rest = refl
-joined None None None None (Some x) f rest = refl
-joined None None None None None (Some x) rest = refl
-joined None None None None None None rest = refl
-
--- key by key
-abbrev in_turn : Members → Option ProfileFault
-in_turn ms =
-    option_or (unknown_fault Root root_rows ms)
-    (option_or (row_fault Root ms address_row)
-    (option_or (row_fault Root ms broadcast_row)
-    (option_or (row_fault Root ms wraparound_row)
-    (option_or (row_fault Root ms accept_row)
-    (option_or (row_fault Root ms vector_row)
-    (option_or (row_fault Root ms bit_row)
-    (option_or (entries_fault rules_key rule_checks ms)
-    (option_or (entries_fault modes_key mode_checks ms)
-    (option_or (entries_fault initials_key initial_checks ms) None)))))))))
-
-in_turn_is : (ms : Members) → first_fault (key_faults ms) ≡ in_turn ms
-unfolding key_faults
-in_turn_is ms =
-    first_fault-in_order _ ∙ rw (entries_fault_is rules_key rule_checks ms, entries_fault_is modes_key mode_checks ms, entries_fault_is initials_key initial_checks ms)
+-- the first faults of the keys of the root, key by key
+abbrev pub root_faults : Members → List (Option ProfileFault)
+root_faults ms =
+    unknown_fault Root root_rows ms
+    ∷ row_fault Root ms address_row
+    ∷ row_fault Root ms broadcast_row
+    ∷ row_fault Root ms wraparound_row
+    ∷ row_fault Root ms accept_row
+    ∷ row_fault Root ms vector_row
+    ∷ row_fault Root ms bit_row
+    ∷ entries_fault Root rules_key rule_checks ms
+    ∷ entries_fault Root modes_key mode_checks ms
+    ∷ entries_fault Root initials_key initial_checks ms
+    ∷ []
 
 abbrev pub key_fault : Members → Option ProfileFault
-key_fault ms =
-    option_or (unknown_fault Root root_rows ms)
-    (option_or (settings_fault ms)
-    (option_or (entries_fault rules_key rule_checks ms)
-    (option_or (entries_fault modes_key mode_checks ms)
-    (option_or (entries_fault initials_key initial_checks ms) None))))
+key_fault ms = in_turn (root_faults ms)
 
 key_fault_is : (ms : Members) → first_fault (key_faults ms) ≡ key_fault ms
-key_fault_is ms = in_turn_is ms ∙ ap (option_or (unknown_fault Root root_rows ms)) (joined (row_fault Root ms address_row) (row_fault Root ms broadcast_row) (row_fault Root ms wraparound_row) (row_fault Root ms accept_row) (row_fault Root ms vector_row) (row_fault Root ms bit_row) _)
+unfolding key_faults
+key_fault_is ms =
+    first_fault-in_order _ ∙ rw (entries_fault_is rules_key rule_checks ms, entries_fault_is modes_key mode_checks ms, entries_fault_is initials_key initial_checks ms)
 
 -- ---- the codes that must be legal
 

@@ -4,7 +4,7 @@ use Rattle.std.specs.Prelude.{ℕ, suc, ◌+◌, ◌-◌, nat_lt, Bool, true, fa
 use Rattle.std.specs.Option.{option_map_or}
 use Rattle.std.specs.List.{list_all}
 use Rattle.toml.specs.Data.{Data, integer, table, Items, no_items, item, Members}
-use Rattle.bus_word.specs.Mode.{transmit_status, shutdown, override_shutdown, reset}
+use Rattle.bus_word.specs.Mode.{required_codes}
 use Rattle.bus_profile.specs.declared.fault.Key.TheVariants as key
 use Rattle.bus_profile.specs.declared.fault.Part.{Part}
 use Rattle.bus_profile.specs.declared.fault.Part.TheVariants as part
@@ -119,7 +119,7 @@ abbrev pub code_check : Members → ℕ → List Check
 code_check ms code = check (RequiredCode code) (all_pass (key_faults ms) && not (is_own_code_legal (modes_of ms) code))
 
 unfoldable pub code_faults : Members → List Check
-code_faults ms = in_order (code_check ms transmit_status ∷ code_check ms shutdown ∷ code_check ms override_shutdown ∷ code_check ms reset ∷ [])
+code_faults ms = in_order (map (code_check ms) required_codes)
 
 -- all the checks of a tree
 unfoldable pub faults : Members → List Check

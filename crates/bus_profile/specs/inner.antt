@@ -6,4 +6,3 @@ pub mod FirstWord
 pub mod RangeParts
 pub mod MissingCode
 pub mod AllFaults
-pub mod Settings

@@ -13,13 +13,11 @@ ghost use Rattle.bus_profile.specs.inner.Section.{tree_of, value_at};
 ghost use Rattle.bus_profile.specs.inner.FirstWord.{IsFirstWord};
 
 use crate::fault::{Key, Part, ProfileFault};
+use crate::keys::INITIAL_KEYS;
 use crate::section::{Section, in_range, items_of};
 use profile_types::{Entries, InitialWords};
 use std::alloc::Global;
 use toml::{Table, Value};
-
-/// The keys of an initial entry.
-pub const KEYS: [Key; 3] = [Key::Subaddress, Key::At, Key::Words];
 
 /// The initial entries that are the items of an array.
 pub fn initials_of(alloc: Global, values: &[Value]) -> Result<Entries<InitialWords>, ProfileFault>
@@ -54,7 +52,7 @@ fn initial_from(table: &Table, number: u16) -> Result<InitialWords, ProfileFault
         table,
         part: Part::Initial(number),
     };
-    if section.has_unknown_key(&KEYS) {
+    if section.has_unknown_key(&INITIAL_KEYS) {
         return Err(ProfileFault::UnknownKey(section.part));
     }
     let subaddress = section.required_whole(Key::Subaddress, 1, 30)?;

@@ -3,8 +3,11 @@
 #![tactic(auto)]
 
 mod choice;
+mod entry_faults;
 mod fault;
 mod initial;
+mod key_faults;
+mod keys;
 pub mod laws;
 mod mode;
 mod own_codes;
@@ -15,7 +18,9 @@ mod section;
 mod told;
 
 pub use fault::{Key, Part, ProfileFault};
+pub use key_faults::word_fault;
+pub use keys::known_keys;
 pub use profile_types::{Entries, InitialWords, ModeRule, Profile, Rule};
 pub use ranges::{RangeFault, parse_ranges};
 pub use read::read_profile;
-pub use told::{all_faults, known_keys, unknown_keys, word_fault};
+pub use told::{all_faults, unknown_keys};

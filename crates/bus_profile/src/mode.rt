@@ -8,13 +8,11 @@ ghost use Rattle.bus_profile.specs.Faults.{mode_checks, each_item};
 ghost use Rattle.bus_profile.specs.Gives.{mode_in, each_of};
 
 use crate::fault::{Key, Part, ProfileFault};
+use crate::keys::MODE_KEYS;
 use crate::section::Section;
 use profile_types::{Entries, ModeRule};
 use std::alloc::Global;
 use toml::{Table, Value};
-
-/// The keys of a mode entry.
-pub const KEYS: [Key; 3] = [Key::To, Key::Codes, Key::Legal];
 
 /// The mode entries that are the items of an array.
 pub fn modes_of(alloc: Global, values: &[Value]) -> Result<Entries<ModeRule>, ProfileFault>
@@ -49,7 +47,7 @@ fn mode_from(table: &Table, number: u16) -> Result<ModeRule, ProfileFault>
         table,
         part: Part::Mode(number),
     };
-    if section.has_unknown_key(&KEYS) {
+    if section.has_unknown_key(&MODE_KEYS) {
         return Err(ProfileFault::UnknownKey(section.part));
     }
     let addressee = section.addressee()?;

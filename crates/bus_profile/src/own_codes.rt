@@ -3,18 +3,14 @@ ghost use Rattle.std.specs.Prelude.{◌≡◌, ◌<◌};
 ghost use Rattle.profile_types.specs.OwnCodes.{is_own_code_legal};
 ghost use Rattle.bus_profile.specs.inner.MissingCode.{missing_code};
 
-use bus_word::mode::{OVERRIDE_SHUTDOWN, RESET, SHUTDOWN, TRANSMIT_STATUS};
-use bus_word::{has_bit, is_required_code, mode_row};
+use bus_word::{has_bit, is_required_code, mode, mode_row};
 use profile_types::ModeRule;
-
-/// The own mode codes that must be legal, in the order in which they are asked for.
-const REQUIRED_CODES: [u8; 4] = [TRANSMIT_STATUS, SHUTDOWN, OVERRIDE_SHUTDOWN, RESET];
 
 /// The least own mode code that must be legal and isn't.
 pub fn missing_code(modes: &[ModeRule]) -> Option<u8>
     ensures { result ≡ missing_code modes.now }
 {
-    REQUIRED_CODES
+    mode::REQUIRED
         .iter()
         .copied()
         .find(|code| !is_own_code_legal(modes, *code))

@@ -6,13 +6,13 @@ ghost use Rattle.bus_profile.specs.Faults.{faults, rule_checks, mode_checks, ini
 ghost use Rattle.bus_profile.specs.Gives.{profile_of, rules_of, modes_of, initials_of};
 ghost use Rattle.bus_profile.specs.Keys.{rules_key, modes_key, initials_key};
 ghost use Rattle.bus_profile.specs.Checks.{first_fault};
-ghost use Rattle.bus_profile.specs.inner.FirstFault.{Reads, ReadsInMemory};
-ghost use Rattle.bus_profile.specs.inner.Settings.{settings_fault, settings_of, entries_fault};
-ghost use Rattle.bus_profile.specs.inner.Section.{tree_of};
+ghost use Rattle.bus_profile.specs.inner.FirstFault.{ReadsInMemory};
+ghost use Rattle.bus_profile.specs.inner.Section.{tree_of, entries_fault};
 ghost use Rattle.bus_profile.specs.Read.{Accepts, Refuses};
 
 use crate::fault::{Key, Part, ProfileFault};
 use crate::initial::initials_of;
+use crate::keys::ROOT_KEYS;
 use crate::mode::modes_of;
 use crate::own_codes::missing_code;
 use crate::rule::rules_of;
@@ -20,19 +20,6 @@ use crate::section::Section;
 use profile_types::{Entries, InitialWords, ModeRule, Profile, Rule};
 use std::alloc::Global;
 use toml::Table;
-
-/// The keys of the root.
-pub const KEYS: [Key; 9] = [
-    Key::Address,
-    Key::Broadcast,
-    Key::Wraparound,
-    Key::AcceptBusControl,
-    Key::Vector,
-    Key::Bit,
-    Key::Rule,
-    Key::Mode,
-    Key::Initial,
-];
 
 /// Reads a profile text: a TOML document in UTF-8.
 ///
@@ -49,41 +36,9 @@ pub fn read_profile(alloc: Global, text: &[u8]) -> Result<Profile, ProfileFault>
     }
 }
 
-/// What the keys of the root say that hold one value.
-#[derive(Clone, Copy)]
-struct Settings {
-    address: u16,
-    broadcast: bool,
-    wrap: u8,
-    accept: bool,
-    vector: u16,
-    bit: u16,
-}
-
-/// Reads the keys of the root that hold one value.
-fn settings_of(root: &Section<'_>) -> Result<Settings, ProfileFault>
-    ensures reads { Reads (settings_fault root.now) (settings_of root.now) result }
-    ensures own { IfOk result (λ s. (s.address ≤ 30) × (s.wrap ≤ 30)) }
-{
-    let address = root.required_whole(Key::Address, 0, 30)?;
-    let broadcast = root.optional_truth(Key::Broadcast, false)?;
-    let wrap = root.wraparound()?;
-    let accept = root.optional_truth(Key::AcceptBusControl, false)?;
-    let vector = root.optional_whole(Key::Vector, 0, 65535, 0)?;
-    let bit = root.optional_whole(Key::Bit, 0, 65535, 0)?;
-    Ok(Settings {
-        address,
-        broadcast,
-        wrap,
-        accept,
-        vector,
-        bit,
-    })
-}
-
 /// Reads the rules.
 fn rules_in(alloc: Global, root: &Section<'_>) -> Result<Entries<Rule>, ProfileFault>
-    ensures reads { ReadsInMemory (map plain_rule) (entries_fault rules_key rule_checks root.now) (rules_of (tree_of root.now)) result }
+    ensures reads { ReadsInMemory (map plain_rule) (entries_fault root.now.part rules_key rule_checks (tree_of root.now)) (rules_of (tree_of root.now)) result }
     ensures few { IfOk result (λ rules. length rules ≤ 256) }
 {
     rules_of(alloc, root.entries(Key::Rule)?)
@@ -91,7 +46,7 @@ fn rules_in(alloc: Global, root: &Section<'_>) -> Result<Entries<Rule>, ProfileF
 
 /// Reads the mode entries.
 fn modes_in(alloc: Global, root: &Section<'_>) -> Result<Entries<ModeRule>, ProfileFault>
-    ensures reads { ReadsInMemory (λ modes. modes) (entries_fault modes_key mode_checks root.now) (modes_of (tree_of root.now)) result }
+    ensures reads { ReadsInMemory (λ modes. modes) (entries_fault root.now.part modes_key mode_checks (tree_of root.now)) (modes_of (tree_of root.now)) result }
     ensures few { IfOk result (λ modes. length modes ≤ 256) }
 {
     modes_of(alloc, root.entries(Key::Mode)?)
@@ -99,7 +54,7 @@ fn modes_in(alloc: Global, root: &Section<'_>) -> Result<Entries<ModeRule>, Prof
 
 /// Reads the initial entries.
 fn initials_in(alloc: Global, root: &Section<'_>) -> Result<Entries<InitialWords>, ProfileFault>
-    ensures reads { ReadsInMemory (map plain_initial) (entries_fault initials_key initial_checks root.now) (initials_of (tree_of root.now)) result }
+    ensures reads { ReadsInMemory (map plain_initial) (entries_fault root.now.part initials_key initial_checks (tree_of root.now)) (initials_of (tree_of root.now)) result }
     ensures few { IfOk result (λ initials. length initials ≤ 256) }
 {
     initials_of(alloc, root.entries(Key::Initial)?)
@@ -114,10 +69,15 @@ fn profile_of(alloc: Global, table: &Table) -> Result<Profile, ProfileFault>
         table,
         part: Part::Root,
     };
-    if root.has_unknown_key(&KEYS) {
+    if root.has_unknown_key(&ROOT_KEYS) {
         return Err(ProfileFault::UnknownKey(root.part));
     }
-    let settings = settings_of(&root)?;
+    let address = root.required_whole(Key::Address, 0, 30)?;
+    let broadcast = root.optional_truth(Key::Broadcast, false)?;
+    let wrap = root.wraparound()?;
+    let accept = root.optional_truth(Key::AcceptBusControl, false)?;
+    let vector = root.optional_whole(Key::Vector, 0, 65535, 0)?;
+    let bit = root.optional_whole(Key::Bit, 0, 65535, 0)?;
     let rules = rules_in(alloc, &root)?;
     let modes = modes_in(alloc, &root)?;
     let initials = initials_in(alloc, &root)?;
@@ -125,12 +85,12 @@ fn profile_of(alloc: Global, table: &Table) -> Result<Profile, ProfileFault>
         return Err(ProfileFault::RequiredCode(code));
     }
     Ok(Profile {
-        address: settings.address as u8,
-        broadcast: settings.broadcast,
-        wrap: settings.wrap,
-        accept: settings.accept,
-        vector: settings.vector,
-        bit: settings.bit,
+        address: address as u8,
+        broadcast,
+        wrap,
+        accept,
+        vector,
+        bit,
         rules,
         modes,
         initials,

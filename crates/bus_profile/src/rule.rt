@@ -9,19 +9,11 @@ ghost use Rattle.profile_types.specs.Plain.{plain_rule};
 ghost use Rattle.bus_profile.specs.Gives.{rule_in, each_of};
 
 use crate::fault::{Key, Part, ProfileFault};
+use crate::keys::RULE_KEYS;
 use crate::section::Section;
 use profile_types::{Entries, Rule};
 use std::alloc::Global;
 use toml::{Table, Value};
-
-/// The keys of a rule.
-pub const KEYS: [Key; 5] = [
-    Key::To,
-    Key::Direction,
-    Key::Subaddresses,
-    Key::Counts,
-    Key::Legal,
-];
 
 /// The rules that are the items of an array.
 pub fn rules_of(alloc: Global, values: &[Value]) -> Result<Entries<Rule>, ProfileFault>
@@ -56,7 +48,7 @@ fn rule_from(table: &Table, number: u16) -> Result<Rule, ProfileFault>
         table,
         part: Part::Rule(number),
     };
-    if section.has_unknown_key(&KEYS) {
+    if section.has_unknown_key(&RULE_KEYS) {
         return Err(ProfileFault::UnknownKey(section.part));
     }
     let addressee = section.addressee()?;

@@ -6,10 +6,10 @@ use Rattle.terminal_rules.specs.declared.event.Event.{Event}
 use Rattle.bus_script.specs.declared.fault.RunFault.{RunFault}
 use Rattle.bus_script.specs.declared.fault.RunFault.TheVariants.{Line, LongLine, TooLong, Read, Write}
 use Rattle.bus_script.specs.Reading.{Meaning, ByFault, then_reads}
-use Rattle.bus_script.specs.inner.Lines.{Reads, Faults, Means, IsRefused, StartsLine, StandsFirst, LinesFirst}
+use Rattle.bus_script.specs.inner.Lines.{ReadsLines, Faults, Means, IsRefused, StartsLine, StandsFirst, LinesFirst}
 use Rattle.bus_script.specs.Playing.{Plays, PlaysPart}
 use Rattle.bus_script.specs.inner.Feeding.{Feeding}
-use Rattle.bus_script.proofs.ReadingLaws.{Reads-nil, Reads-trans, Reads-Faults, Reads-line, Faults-line}
+use Rattle.bus_script.proofs.ReadingLaws.{ReadsLines-nil, ReadsLines-trans, ReadsLines-Faults, ReadsLines-line, Faults-line}
 use Rattle.bus_script.proofs.PlayLaws.{Plays-nil, Plays-trans, Plays-part}
 
 pub ByFault-weaker : {S R W S' R' W' : Type 0} (f : RunFault) → (S → S') → (R → R') → (W → W') → ByFault f S R W → ByFault f S' R' W'
@@ -19,11 +19,11 @@ ByFault-weaker TooLong s r w x = s x
 ByFault-weaker Read s r w x = r x
 ByFault-weaker Write s r w x = w x
 
-pub Reads-first : (meaning : Meaning) (n : ℕ) (rest : List ℕ) (i : ℕ) (es : List Event) → StartsLine n rest i → Means meaning (take i rest) n es
-    → Reads meaning n (take (i + 1) rest) es (n + 1)
-Reads-first meaning n rest i es s means =
+pub ReadsLines-first : (meaning : Meaning) (n : ℕ) (rest : List ℕ) (i : ℕ) (es : List Event) → StartsLine n rest i → Means meaning (take i rest) n es
+    → ReadsLines meaning n (take (i + 1) rest) es (n + 1)
+ReadsLines-first meaning n rest i es s means =
     let short : length (take i rest) ≤ 64 = grind (arith, common_steps, s.short) in
-    subst (λ xs. Reads meaning n xs es (n + 1)) (sym s.front) (Reads-line meaning n (take i rest) es s.room short s.none means)
+    subst (λ xs. ReadsLines meaning n xs es (n + 1)) (sym s.front) (ReadsLines-line meaning n (take i rest) es s.room short s.none means)
 
 pub Faults-first : (meaning : Meaning) (n : ℕ) (rest : List ℕ) (i : ℕ) (f : RunFault) → StartsLine n rest i → IsRefused meaning (take i rest) n f
     → Faults meaning n rest [] f
@@ -38,7 +38,7 @@ LinesFirst-nil meaning bytes = record {
   within = omega arith;
   short = omega arith;
   count = refl;
-  reads = λ lines room. let same : lines ≡ lines + 0 = omega arith in subst (λ n. Reads meaning lines [] [] n) same (Reads-nil meaning lines);
+  reads = λ lines room. let same : lines ≡ lines + 0 = omega arith in subst (λ n. ReadsLines meaning lines [] [] n) same (ReadsLines-nil meaning lines);
 }
 
 -- one more line
@@ -50,10 +50,10 @@ LinesFirst-more {meaning = meaning} {bytes = bytes} {i = i} {k = k} {es = es} j 
   count = let c = p.count in omega (arith, length-append es (e ∷ []));
   reads = λ lines room.
       let done : lines + k + 1 ≡ lines + (k + 1) = omega arith in
-      subst (λ n. Reads meaning lines (take (i + (j + 1)) bytes) (es ++ e ∷ []) n) done
-      (subst (λ xs. Reads meaning lines xs (es ++ e ∷ []) (lines + k + 1)) (sym (take-add i (j + 1) bytes))
-      (Reads-trans (p.reads lines (omega arith))
-      (Reads-first meaning (lines + k) (drop i bytes) j (e ∷ []) (next.starts (lines + k) (omega arith)) (λ r. ap (λ x. then_reads x (lines + k) r) next.says))));
+      subst (λ n. ReadsLines meaning lines (take (i + (j + 1)) bytes) (es ++ e ∷ []) n) done
+      (subst (λ xs. ReadsLines meaning lines xs (es ++ e ∷ []) (lines + k + 1)) (sym (take-add i (j + 1) bytes))
+      (ReadsLines-trans (p.reads lines (omega arith))
+      (ReadsLines-first meaning (lines + k) (drop i bytes) j (e ∷ []) (next.starts (lines + k) (omega arith)) (λ r. ap (λ x. then_reads x (lines + k) r) next.says))));
 }
 
 pub Feeding-nil : {D M W : Type 0} (meaning : Meaning) (stands : D → List Event → M → Type 0) (out : D → List Event → Event → List ℕ)
@@ -61,7 +61,7 @@ pub Feeding-nil : {D M W : Type 0} (meaning : Meaning) (stands : D → List Even
     → Feeding meaning stands out written m m w w lines events lines events chunk 0 []
 Feeding-nil meaning stands out written m w lines events chunk most few = record {
   within = omega arith;
-  reads = Reads-nil meaning lines;
+  reads = ReadsLines-nil meaning lines;
   count = omega arith;
   long = omega arith;
   most = most;
@@ -79,8 +79,8 @@ pub Feeding-line : {D M W : Type 0} {meaning : Meaning} {stands : D → List Eve
 Feeding-line {meaning = meaning} {lines = lines} {events = events} {lines' = lines'} {events' = events'} {chunk = chunk} {at = at} {es = es} i fs n p s len one means q =
     let room = s.room in let short = s.short in let within = s.within in let count = p.count in let long = p.long in let few = p.few in let inside = p.within in record {
       within = grind (arith, common_steps);
-      reads = subst (λ xs. Reads meaning lines xs (es ++ fs) (lines' + 1)) (sym (take-add at (i + 1) chunk))
-          (Reads-trans p.reads (Reads-first meaning lines' (drop at chunk) i fs s means));
+      reads = subst (λ xs. ReadsLines meaning lines xs (es ++ fs) (lines' + 1)) (sym (take-add at (i + 1) chunk))
+          (ReadsLines-trans p.reads (ReadsLines-first meaning lines' (drop at chunk) i fs s means));
       count = omega (arith, length-append es fs);
       long = omega arith;
       most = omega arith;
@@ -97,7 +97,7 @@ pub Feeding-lines : {D M W : Type 0} {meaning : Meaning} {stands : D → List Ev
 Feeding-lines {meaning = meaning} {lines = lines} {events = events} {lines' = lines'} {events' = events'} {chunk = chunk} {at = at} {es = es} i n fs p s room q =
     let count = p.count in let long = p.long in let few = p.few in let inside = p.within in let within = s.within in let short = s.short in let each = s.count in record {
       within = grind (arith, common_steps);
-      reads = subst (λ xs. Reads meaning lines xs (es ++ fs) (lines' + n)) (sym (take-add at i chunk)) (Reads-trans p.reads (s.reads lines' room));
+      reads = subst (λ xs. ReadsLines meaning lines xs (es ++ fs) (lines' + n)) (sym (take-add at i chunk)) (ReadsLines-trans p.reads (s.reads lines' room));
       count = omega (arith, length-append es fs);
       long = omega arith;
       most = room;
@@ -114,7 +114,7 @@ pub Feeding-fault : {D M W : Type 0} {meaning : Meaning} {stands : D → List Ev
 Feeding-fault {meaning = meaning} {lines = lines} {events = events} {chunk = chunk} {at = at} {es = es} f p q r = (
   es ++ [],
   p.count ∙ ap (λ gs. events + length gs) (sym (append-nil es)),
-  subst (λ xs. Faults meaning lines xs (es ++ []) f) (take-append-drop at chunk) (Reads-Faults p.reads q),
+  subst (λ xs. Faults meaning lines xs (es ++ []) f) (take-append-drop at chunk) (ReadsLines-Faults p.reads q),
   Plays-trans p.plays r,
 )
 
@@ -124,7 +124,7 @@ pub Feeding-part : {D M W : Type 0} {meaning : Meaning} {stands : D → List Eve
     → Feeding meaning stands out written m m' w w' lines events lines' events' chunk at es
     → StartsLine lines' (drop at chunk) i → Means meaning (take i (drop at chunk)) lines' (e ∷ []) → F → PlaysPart stands out written m' m'' w' w'' [] e
     → (gs : List Event) × (e : Event) × (whole : List ℕ) × (rest : List ℕ) × (n : ℕ) × (chunk ≡ whole ++ rest)
-    × Reads meaning lines whole (gs ++ e ∷ []) n × F
+    × ReadsLines meaning lines whole (gs ++ e ∷ []) n × F
     × PlaysPart stands out written m m'' w w'' gs e
 Feeding-part {meaning = meaning} {lines = lines} {lines' = lines'} {chunk = chunk} {at = at} {es = es} i e F p s means f q = (
   es ++ [],
@@ -133,9 +133,9 @@ Feeding-part {meaning = meaning} {lines = lines} {lines' = lines'} {chunk = chun
   drop (at + (i + 1)) chunk,
   lines' + 1,
   sym (take-append-drop (at + (i + 1)) chunk),
-  subst (λ xs. Reads meaning lines (take (at + (i + 1)) chunk) (xs ++ e ∷ []) (lines' + 1)) (sym (append-nil es))
-      (subst (λ xs. Reads meaning lines xs (es ++ e ∷ []) (lines' + 1)) (sym (take-add at (i + 1) chunk))
-      (Reads-trans p.reads (Reads-first meaning lines' (drop at chunk) i (e ∷ []) s means))),
+  subst (λ xs. ReadsLines meaning lines (take (at + (i + 1)) chunk) (xs ++ e ∷ []) (lines' + 1)) (sym (append-nil es))
+      (subst (λ xs. ReadsLines meaning lines xs (es ++ e ∷ []) (lines' + 1)) (sym (take-add at (i + 1) chunk))
+      (ReadsLines-trans p.reads (ReadsLines-first meaning lines' (drop at chunk) i (e ∷ []) s means))),
   f,
   Plays-part p.plays q,
 )

@@ -7,26 +7,26 @@ use Rattle.bus_script.specs.declared.fault.RunFault.{RunFault}
 use Rattle.bus_script.specs.declared.fault.RunFault.TheVariants.{LongLine, TooLong}
 use Rattle.bus_script.specs.Text.{lines_of, NoLineFeed}
 use Rattle.bus_script.specs.Reading.{Meaning, Reading, adds, stops, then_reads, reading}
-use Rattle.bus_script.specs.inner.Lines.{Reads, Faults, IsRefused}
+use Rattle.bus_script.specs.inner.Lines.{ReadsLines, Faults, IsRefused}
 use Rattle.bus_script.proofs.LineLaws.{EndsLine-append, EndsLine-line, lines-line, lines-some, lines-front}
 
 pub adds-adds : (es fs : List Event) (r : Reading) → adds es (adds fs r) ≡ adds (es ++ fs) r
 adds-adds es fs r = ap (λ xs. record { events = xs; fault = r.fault }) (sym (append_assoc es fs r.events))
 
-pub Reads-nil : (meaning : Meaning) (n : ℕ) → Reads meaning n [] [] n
-Reads-nil meaning n = record { ends = tt; each = λ rest. refl }
+pub ReadsLines-nil : (meaning : Meaning) (n : ℕ) → ReadsLines meaning n [] [] n
+ReadsLines-nil meaning n = record { ends = tt; each = λ rest. refl }
 
-pub Reads-trans : {meaning : Meaning} {n m k : ℕ} {whole more : List ℕ} {es fs : List Event}
-    → Reads meaning n whole es m → Reads meaning m more fs k → Reads meaning n (whole ++ more) (es ++ fs) k
-Reads-trans {meaning = meaning} {n = n} {m = m} {k = k} {whole = whole} {more = more} {es = es} {fs = fs} p q = record {
+pub ReadsLines-trans : {meaning : Meaning} {n m k : ℕ} {whole more : List ℕ} {es fs : List Event}
+    → ReadsLines meaning n whole es m → ReadsLines meaning m more fs k → ReadsLines meaning n (whole ++ more) (es ++ fs) k
+ReadsLines-trans {meaning = meaning} {n = n} {m = m} {k = k} {whole = whole} {more = more} {es = es} {fs = fs} p q = record {
   ends = EndsLine-append whole more p.ends q.ends;
   each = λ rest. ap (λ xs. reading meaning n (lines_of xs)) (append_assoc whole more rest)
       ∙ p.each (more ++ rest) ∙ ap (adds es) (q.each rest) ∙ adds-adds es fs (reading meaning k (lines_of rest));
 }
 
-pub Reads-Faults : {meaning : Meaning} {n m : ℕ} {whole more : List ℕ} {es fs : List Event} {f : RunFault}
-    → Reads meaning n whole es m → Faults meaning m more fs f → Faults meaning n (whole ++ more) (es ++ fs) f
-Reads-Faults {meaning = meaning} {n = n} {whole = whole} {more = more} {es = es} {fs = fs} {f = f} p q = record {
+pub ReadsLines-Faults : {meaning : Meaning} {n m : ℕ} {whole more : List ℕ} {es fs : List Event} {f : RunFault}
+    → ReadsLines meaning n whole es m → Faults meaning m more fs f → Faults meaning n (whole ++ more) (es ++ fs) f
+ReadsLines-Faults {meaning = meaning} {n = n} {whole = whole} {more = more} {es = es} {fs = fs} {f = f} p q = record {
   each = λ rest. ap (λ xs. reading meaning n (lines_of xs)) (append_assoc whole more rest)
       ∙ p.each (more ++ rest) ∙ ap (adds es) (q.each rest) ∙ adds-adds es fs (stops f);
 }
@@ -48,9 +48,9 @@ unfolding reading
 reading-long_line meaning n line lines a b = grind (arith, nat_tests)
 
 -- one whole line
-pub Reads-line : (meaning : Meaning) (n : ℕ) (line : List ℕ) (es : List Event) → n < 1048576 → length line ≤ 64 → NoLineFeed line
-    → ((r : Reading) → then_reads (meaning line) n r ≡ adds es r) → Reads meaning n (line ++ 10 ∷ []) es (n + 1)
-Reads-line meaning n line es a b c means = record {
+pub ReadsLines-line : (meaning : Meaning) (n : ℕ) (line : List ℕ) (es : List Event) → n < 1048576 → length line ≤ 64 → NoLineFeed line
+    → ((r : Reading) → then_reads (meaning line) n r ≡ adds es r) → ReadsLines meaning n (line ++ 10 ∷ []) es (n + 1)
+ReadsLines-line meaning n line es a b c means = record {
   ends = EndsLine-line line;
   each = λ rest. ap (λ xs. reading meaning n (lines_of xs)) (append_assoc line (10 ∷ []) rest)
       ∙ ap (reading meaning n) (lines-line line rest c) ∙ reading-line meaning n line (lines_of rest) a b

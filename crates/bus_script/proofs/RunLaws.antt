@@ -15,11 +15,11 @@ use Rattle.bus_script.specs.declared.fault.RunFault.TheVariants.{Line, LongLine,
 use Rattle.bus_script.specs.Fault.{is_of_script}
 use Rattle.bus_script.specs.Text.{lines_of, NoLineFeed, EndsLine}
 use Rattle.bus_script.specs.Reading.{Meaning, Reading, adds, stops, nothing, reading, ByFault}
-use Rattle.bus_script.specs.inner.Lines.{Reads, Faults, Means, IsRefused, IsRest}
+use Rattle.bus_script.specs.inner.Lines.{ReadsLines, Faults, Means, IsRefused, IsRest}
 use Rattle.bus_script.specs.Playing.{Plays, PlaysPart, RunsTo, BreaksAt}
 use Rattle.bus_script.specs.inner.Feeding.{Feeds}
 use Rattle.bus_script.proofs.LineLaws.{lines-last}
-use Rattle.bus_script.proofs.ReadingLaws.{adds-adds, reading-line, Reads-nil, Reads-trans, Reads-Faults}
+use Rattle.bus_script.proofs.ReadingLaws.{adds-adds, reading-line, ReadsLines-nil, ReadsLines-trans, ReadsLines-Faults}
 use Rattle.bus_script.proofs.PlayLaws.{Plays-nil, Plays-trans, Plays-part, Plays-last, Plays-kept, PlaysPart-kept}
 
 -- what `copy_within` leaves at the front
@@ -55,7 +55,7 @@ reading-last_refused meaning n (b ∷ line) f some rest refused =
 pub record Running {D M R W : Type 0} (meaning : Meaning) (stands : D → List Event → M → Type 0) (out : D → List Event → Event → List ℕ)
     (left : R → Option (List ℕ)) (written : W → Option (List ℕ)) (m m' : M) (r r' : R) (w w' : W) (lines events : ℕ) (pending whole : List ℕ) (es : List Event) : Type 0 where
   pub taken : Consumes (left r) (left r') (whole ++ pending)
-  pub reads : Reads meaning 0 whole es lines
+  pub reads : ReadsLines meaning 0 whole es lines
   pub rest : IsRest lines pending
   pub count : events ≡ length es
   pub most : lines ≤ 1048576
@@ -67,7 +67,7 @@ pub Running-nil : {D M R W : Type 0} (meaning : Meaning) (stands : D → List Ev
     → Running meaning stands out left written m m r r w w lines events [] [] []
 Running-nil meaning stands out left written m r w lines events no_line no_event = record {
   taken = Consumes-nil (left r);
-  reads = subst (Reads meaning 0 [] []) (sym no_line) (Reads-nil meaning 0);
+  reads = subst (ReadsLines meaning 0 [] []) (sym no_line) (ReadsLines-nil meaning 0);
   rest = record { none = tt; short = omega arith; room = λ h. omega arith };
   count = no_event;
   most = omega arith;
@@ -121,7 +121,7 @@ Running-fed {left = left} {r = r} {r' = r'} {r'' = r''} {done = done} {pending =
       taken = subst (Consumes (left r) (left r''))
           (append_assoc whole pending bytes ∙ ap (λ x. whole ++ x) (sym is ∙ sym (take-append-drop done chunk)) ∙ sym (append_assoc whole (take done chunk) (drop done chunk)))
           (Consumes-trans (left r) (left r') (left r'') (whole ++ pending) bytes p.taken took);
-      reads = Reads-trans p.reads fed.feeding.reads;
+      reads = ReadsLines-trans p.reads fed.feeding.reads;
       rest = fed.rest;
       count = omega (arith, length-append es fs);
       most = fed.feeding.most;
@@ -130,7 +130,7 @@ Running-fed {left = left} {r = r} {r' = r'} {r'' = r''} {done = done} {pending =
     }
 
 -- the script is what was taken, and more
-says-more : (meaning : Meaning) (whole pending more : List ℕ) (es : List Event) (lines : ℕ) → Reads meaning 0 whole es lines
+says-more : (meaning : Meaning) (whole pending more : List ℕ) (es : List Event) (lines : ℕ) → ReadsLines meaning 0 whole es lines
     → reading meaning 0 (lines_of (whole ++ pending ++ more)) ≡ adds es (reading meaning lines (lines_of (pending ++ more)))
 says-more meaning whole pending more es lines p = ap (λ xs. reading meaning 0 (lines_of xs)) (append_assoc whole pending more) ∙ p.each (pending ++ more)
 
@@ -184,7 +184,7 @@ Running-refused {meaning = meaning} {left = left} {r = r} {r' = r'} {pending = p
     let counted = p.count in
     IfSome-script (left r) (left r'') (whole ++ chunk) _
     (subst (Consumes (left r) (left r'')) (append_assoc whole pending bytes ∙ ap (λ x. whole ++ x) (sym is)) (Consumes-trans (left r) (left r') (left r'') (whole ++ pending) bytes p.taken took))
-    (λ more. (es ++ fs, omega (arith, length-append es fs), record { says = (Reads-Faults p.reads faults).each more; plays = Plays-trans (Plays-kept p.plays kept) plays }))
+    (λ more. (es ++ fs, omega (arith, length-append es fs), record { says = (ReadsLines-Faults p.reads faults).each more; plays = Plays-trans (Plays-kept p.plays kept) plays }))
 
 -- a write fails
 pub Running-broken : {D M R W : Type 0} {meaning : Meaning} {stands : D → List Event → M → Type 0} {out : D → List Event → Event → List ℕ}
@@ -193,7 +193,7 @@ pub Running-broken : {D M R W : Type 0} {meaning : Meaning} {stands : D → List
     (bytes chunk front rest : List ℕ)
     → Running meaning stands out left written m m' r r' w w' lines events pending whole es
     → Keeps (written w') (written w'') → Consumes (left r') (left r'') bytes → chunk ≡ pending ++ bytes
-    → chunk ≡ front ++ rest → Reads meaning lines front (gs ++ e ∷ []) n → PlaysPart stands out written m' m'' w'' w3 gs e
+    → chunk ≡ front ++ rest → ReadsLines meaning lines front (gs ++ e ∷ []) n → PlaysPart stands out written m' m'' w'' w3 gs e
     → IfSome (left r) (λ script. (es : List Event) × (e : Event) × (others : Reading) × BreaksAt meaning stands out written m m'' w w3 script es e others)
 Running-broken {meaning = meaning} {left = left} {r = r} {r' = r'} {n = n} {pending = pending} {whole = whole} {es = es} {gs = gs} {e = e} r'' bytes chunk front rest p kept took is split reads plays =
     IfSome-script (left r) (left r'') (whole ++ front ++ rest) _
@@ -204,7 +204,7 @@ Running-broken {meaning = meaning} {left = left} {r = r} {r' = r'} {n = n} {pend
       e,
       reading meaning n (lines_of (rest ++ more)),
       record {
-        says = says-more meaning (whole ++ front) rest more (es ++ (gs ++ e ∷ [])) n (Reads-trans p.reads reads)
+        says = says-more meaning (whole ++ front) rest more (es ++ (gs ++ e ∷ [])) n (ReadsLines-trans p.reads reads)
             ∙ ap (λ x. adds x (reading meaning n (lines_of (rest ++ more)))) (sym (append_assoc es gs (e ∷ [])));
         plays = Plays-part (Plays-kept p.plays kept) plays;
       },

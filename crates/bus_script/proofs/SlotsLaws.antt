@@ -20,8 +20,8 @@ use Rattle.bus_script.specs.Reading.{Meaning}
 use Rattle.bus_script.specs.Device.{IsCutShort}
 use Rattle.bus_script.specs.Transcript.{answer_text, text_at, data_text, transcript}
 use Rattle.bus_script.specs.Playing.{Plays, PlaysPart}
-use Rattle.bus_script.specs.inner.Lines.{Reads, StandsFirst, LinesFirst, SlotsFirst}
-use Rattle.bus_script.proofs.ReadingLaws.{Reads-trans}
+use Rattle.bus_script.specs.inner.Lines.{ReadsLines, StandsFirst, LinesFirst, SlotsFirst}
+use Rattle.bus_script.proofs.ReadingLaws.{ReadsLines-trans}
 use Rattle.bus_script.specs.inner.Feeding.{Feeding}
 use Rattle.bus_script.proofs.PlayLaws.{Plays-part}
 use Rattle.bus_script.proofs.FeedLaws.{LinesFirst-nil, LinesFirst-more}
@@ -116,7 +116,7 @@ pub Feeding-slots-part : {D M W : Type 0} {meaning : Meaning} {stands : D → Li
     → Feeding meaning stands out written m m' w w' lines events lines' events' chunk at es
     → SlotsFirst meaning (drop at chunk) (n + 1) → lines' + (n + 1) ≤ 1048576 → F → PlaysPart stands out written m' m'' w' w'' (slots n) Slot
     → (gs : List Event) × (e : Event) × (whole : List ℕ) × (rest : List ℕ) × (k : ℕ) × (chunk ≡ whole ++ rest)
-    × Reads meaning lines whole (gs ++ e ∷ []) k × F × PlaysPart stands out written m m'' w w'' gs e
+    × ReadsLines meaning lines whole (gs ++ e ∷ []) k × F × PlaysPart stands out written m m'' w w'' gs e
 Feeding-slots-part {meaning = meaning} {lines = lines} {lines' = lines'} {chunk = chunk} {at = at} {es = es} n F p s room f q =
     let done = at + 5 * (n + 1) in
     let last : es ++ slots (n + 1) ≡ (es ++ slots n) ++ Slot ∷ [] = ap (λ gs. es ++ gs) (sym (slots-append n 1)) ∙ sym (append_assoc es (slots n) (Slot ∷ [])) in (
@@ -126,8 +126,8 @@ Feeding-slots-part {meaning = meaning} {lines = lines} {lines' = lines'} {chunk 
       drop done chunk,
       lines' + (n + 1),
       sym (take-append-drop done chunk),
-      subst (λ gs. Reads meaning lines (take done chunk) gs (lines' + (n + 1))) last
-          (subst (λ xs. Reads meaning lines xs (es ++ slots (n + 1)) (lines' + (n + 1))) (sym (take-add at (5 * (n + 1)) chunk)) (Reads-trans p.reads (s.reads lines' room))),
+      subst (λ gs. ReadsLines meaning lines (take done chunk) gs (lines' + (n + 1))) last
+          (subst (λ xs. ReadsLines meaning lines xs (es ++ slots (n + 1)) (lines' + (n + 1))) (sym (take-add at (5 * (n + 1)) chunk)) (ReadsLines-trans p.reads (s.reads lines' room))),
       f,
       Plays-part p.plays q,
     )

@@ -5,7 +5,7 @@ ghost use Rattle.bus_script.specs.Line.{meaning};
 ghost use Rattle.bus_script.specs.Reading.{ByFault};
 ghost use Rattle.bus_terminal.specs.Stands.{StandsAt};
 ghost use Rattle.bus_script.specs.Transcript.{text_at};
-ghost use Rattle.bus_script.specs.inner.Lines.{Faults, Reads};
+ghost use Rattle.bus_script.specs.inner.Lines.{Faults, ReadsLines};
 ghost use Rattle.bus_script.specs.inner.Feeding.{Feeds};
 ghost use Rattle.bus_script.specs.Played.{Played, PlayedPart};
 
@@ -44,7 +44,7 @@ pub fn feed_lines<L: Legality, W: Sink>(
         ((es : List Event) × (counts.new.events ≡ counts.old.events + length es) × Faults meaning counts.old.lines chunk.now es f × Played L.is_legal W.written terminal.old terminal.new writer.old writer.new es)
         ⊥
         ((es : List Event) × (e : Event) × (whole : List ℕ) × (rest : List ℕ) × (m : ℕ) × (chunk.now ≡ whole ++ rest)
-        × Reads meaning counts.old.lines whole (es ++ e ∷ []) m × (W.has_failed writer.new ≡ true)
+        × ReadsLines meaning counts.old.lines whole (es ++ e ∷ []) m × (W.has_failed writer.new ≡ true)
         × PlayedPart L.is_legal W.written terminal.old terminal.new writer.old writer.new es e)) }
 {
     let mut now = *counts;
@@ -69,7 +69,7 @@ fn feed_counting<L: Legality, W: Sink>(
         ((es : List Event) × (counts.new.events ≡ counts.old.events + length es) × Faults meaning counts.old.lines chunk.now es f × Played L.is_legal W.written terminal.old terminal.new writer.old writer.new es)
         ⊥
         ((es : List Event) × (e : Event) × (whole : List ℕ) × (rest : List ℕ) × (m : ℕ) × (chunk.now ≡ whole ++ rest)
-        × Reads meaning counts.old.lines whole (es ++ e ∷ []) m × (W.has_failed writer.new ≡ true)
+        × ReadsLines meaning counts.old.lines whole (es ++ e ∷ []) m × (W.has_failed writer.new ≡ true)
         × PlayedPart L.is_legal W.written terminal.old terminal.new writer.old writer.new es e)) }
 {
     let mut at = 0;

@@ -4,3 +4,4 @@ pub mod Masks
 pub mod WordLaws
 pub mod CellLaws
 pub mod ModeLaws
+pub mod Places

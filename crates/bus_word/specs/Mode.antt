@@ -1,5 +1,6 @@
 -- Mode codes (MIL-STD-1553B, 4.3.3.5.1.7).
-use Rattle.std.specs.Prelude.{ℕ, Bool, true, false, ◌||◌, ◌==◌, if◌then◌else◌, Option, Some, None, List, [], ◌∷◌, codes}
+use Rattle.std.specs.Prelude.{ℕ, Bool, true, false, ◌==◌, if◌then◌else◌, Option, Some, None, List, [], ◌∷◌, codes}
+use Rattle.std.specs.List.{list_any}
 use Rattle.bus_word.specs.declared.mode.ModeRow.{ModeRow}
 
 -- The mode codes by their names.
@@ -81,8 +82,11 @@ mode_row code = row_in mode_table code
 
 -- The own mode codes that every profile must leave legal, those that Notice 2 has each terminal implement (30.4.2.1):
 -- transmit status word, transmitter shutdown and its override, and reset remote terminal.
+abbrev pub required_codes : List ℕ
+required_codes = transmit_status ∷ shutdown ∷ override_shutdown ∷ reset ∷ []
+
 abbrev pub is_required_code : ℕ → Bool
-is_required_code code = (code == transmit_status) || ((code == shutdown) || ((code == override_shutdown) || (code == reset)))
+is_required_code code = list_any (λ c. c == code) required_codes
 
 -- What a mode code is called. Those of selected transmitter shutdown, 20 and 21, are called so without the word transmitter.
 abbrev pub mode_name : ℕ → List ℕ

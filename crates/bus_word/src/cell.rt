@@ -19,7 +19,7 @@ pub enum Cell {
     BroadMode(u8),
 }
 
-ghost use Rattle.bus_word.specs.Cell.{data_cell, mode_cell, cell_of};
+ghost use Rattle.bus_word.specs.Cell.{data_cell, mode_cell, cell_of, is_data_place, is_allowed};
 
 /// Gives the cell of a command to a subaddress of data.
 fn data_cell(command: Command) -> Option<Cell>
@@ -64,5 +64,28 @@ pub fn cell_of(command: Command) -> Option<Cell>
         }
     } else {
         data_cell(command)
+    }
+}
+
+/// Whether this is a subaddress of data, 1 to 30, and a word count or the number of a word, 1 to 32.
+pub fn is_data_place(subaddress: u8, count: u8) -> bool
+    ensures { result ≡ is_data_place subaddress count }
+{
+    (1..=30).contains(&subaddress) && (1..=32).contains(&count)
+}
+
+/// Whether some command has the cell: only such a cell can be legal.
+#[inline(always)]
+pub fn is_allowed(cell: Cell) -> bool
+    ensures { result ≡ is_allowed cell }
+{
+    match cell {
+        Cell::OwnReceive(s, n) | Cell::OwnTransmit(s, n) | Cell::BroadReceive(s, n) =>
+            is_data_place(s, n),
+        Cell::OwnMode(code) => mode_row(code).is_some(),
+        Cell::BroadMode(code) => match mode_row(code) {
+            Some(row) => row.broadcast,
+            None => false,
+        },
     }
 }

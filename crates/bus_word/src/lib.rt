@@ -10,7 +10,7 @@ pub mod mode;
 mod status;
 mod word;
 
-pub use cell::{Cell, cell_of};
+pub use cell::{Cell, cell_of, is_allowed, is_data_place};
 pub use command::{Command, WRAPAROUND_SUBADDRESS};
 pub use mask::has_bit;
 pub use mode::{ModeRow, is_required_code, mode_name, mode_row};

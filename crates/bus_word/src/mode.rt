@@ -28,6 +28,9 @@ pub const LAST_COMMAND: u8 = 18;
 /// Transmit BIT word (4.3.3.5.1.7.14).
 pub const BIT_WORD: u8 = 19;
 
+/// The mode codes that every profile must leave legal to the own address (Notice 2, 30.4.2.1), the lowest first.
+pub const REQUIRED: [u8; 4] = [TRANSMIT_STATUS, SHUTDOWN, OVERRIDE_SHUTDOWN, RESET];
+
 /// What the table of mode codes says of one code.
 #[derive(Clone, Copy, PartialEq, Eq, Debug)]
 pub struct ModeRow {
@@ -71,12 +74,11 @@ pub fn mode_row(code: u8) -> Option<ModeRow>
     }
 }
 
-/// Whether every profile must leave the mode code legal to the own address: transmit status word,
-/// transmitter shutdown and its override, and reset remote terminal (Notice 2, 30.4.2.1).
+/// Whether every profile must leave the mode code legal to the own address: whether it is one of `REQUIRED`.
 pub fn is_required_code(code: u8) -> bool
     ensures { result ≡ is_required_code code }
 {
-    matches!(code, TRANSMIT_STATUS | SHUTDOWN | OVERRIDE_SHUTDOWN | RESET)
+    REQUIRED.contains(&code)
 }
 
 /// What a mode code, 0 to 31, is called (MIL-STD-1553B, 4.3.3.5.1.7); those of selected transmitter shutdown, 20 and 21,

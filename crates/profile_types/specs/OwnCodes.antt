@@ -1,7 +1,8 @@
 -- Which own mode codes a profile makes legal.
 use Rattle.std.specs.Prelude.{ℕ, Bool, ◌&&◌, List, Option, Some, None, is_some}
+use Rattle.std.specs.List.{list_all}
 use Rattle.bus_word.specs.Mask.{has_bit}
-use Rattle.bus_word.specs.Mode.{transmit_status, shutdown, override_shutdown, reset, mode_row, is_required_code}
+use Rattle.bus_word.specs.Mode.{required_codes, mode_row, is_required_code}
 use Rattle.profile_types.specs.declared.entries.ModeRule.{ModeRule}
 use Rattle.profile_types.specs.Last.{last_of}
 
@@ -19,6 +20,6 @@ mode_says default (Some m) = m.legal
 abbrev pub is_own_code_legal : List ModeRule → ℕ → Bool
 is_own_code_legal modes code = is_some (mode_row code) && mode_says (is_required_code code) (last_of (contains_own code) modes)
 
--- the four own codes that every profile must leave legal are
+-- the own codes that every profile must leave legal are
 abbrev pub has_required_codes : List ModeRule → Bool
-has_required_codes modes = is_own_code_legal modes transmit_status && (is_own_code_legal modes shutdown && (is_own_code_legal modes override_shutdown && is_own_code_legal modes reset))
+has_required_codes modes = list_all (is_own_code_legal modes) required_codes

@@ -9,9 +9,9 @@ use Rattle.bus_profile.specs.declared.fault.Part.{Part}
 use Rattle.bus_profile.specs.declared.fault.Part.TheVariants as part
 use Rattle.bus_profile.specs.declared.fault.ProfileFault.{ProfileFault}
 use Rattle.profile_types.specs.declared.profile.Profile.{Profile}
-use Rattle.bus_profile.specs.Checks.{Check, HasNoFault, in_order, first_fault}
-use Rattle.bus_profile.specs.Faults.{key_checks, head_checks, each_item, entry_checks, rule_checks, mode_checks, initial_checks, word_checks, goes_beyond, faults}
-use Rattle.bus_profile.specs.Keys.{KeyRow, key_row, whole, optional, address_row, broadcast_row, wraparound_row, accept_row, vector_row, bit_row, rules_key, modes_key, initials_key, root_rows, subaddress_row, at_row, words_row, initial_rows}
+use Rattle.bus_profile.specs.Checks.{in_order, first_fault}
+use Rattle.bus_profile.specs.Faults.{key_checks, head_checks, each_item, entry_checks, initial_checks, word_checks, goes_beyond, faults}
+use Rattle.bus_profile.specs.Keys.{KeyRow, key_row, whole, optional, vector_row, bit_row, initials_key, subaddress_row, at_row, words_row, initial_rows}
 use Rattle.bus_profile.specs.Kinds.{found, value, whole_in, or_default, items, is_too_long}
 use Rattle.profile_types.specs.Last.{or_last, last_of}
 use Rattle.profile_types.specs.Plain.{PlainInitial, plain_initial}
@@ -20,39 +20,14 @@ use Rattle.bus_profile.specs.Read.{Accepts}
 use Rattle.bus_profile.specs.inner.FirstFault.{fault_of_parts}
 use Rattle.bus_profile.proofs.Arrays.{range_of}
 use Rattle.bus_profile.proofs.Sections.{unknown_fault, row_fault, initial_fault}
-use Rattle.bus_profile.proofs.Tree.{entries_fault, settings_fault, key_fault, code_fault, tree_fault}
+use Rattle.bus_profile.proofs.NoFault.{first_fault-none, no_first, no_second, each_none}
+use Rattle.bus_profile.proofs.Tree.{root_faults, key_fault, code_fault, tree_fault}
 use Rattle.bus_legal.specs.Initial.{gives_number, gives, word_given, initial_word}
 use Rattle.bus_legal.specs.Meaning.{description_of}
 use Rattle.bus_legal.proofs.Bools.{right_of}
 use Rattle.bus_legal.proofs.LegalLaws.{legal_allowed, required_codes}
 use Rattle.bus_legal.proofs.Made.{IsInRange}
-
--- ---- no fault among several
-
-none_first : (cs : List Check) → HasNoFault cs → first_fault cs ≡ None
-none_first [] h = refl
-none_first (c ∷ cs) h = rw (h c (inl refl)) (none_first cs (λ d among. h d (inr among)))
-
-no_first : (a b : Option ProfileFault) → option_or a b ≡ None → a ≡ None
-no_first None b e = refl
-no_first (Some f) b e = e
-
-no_second : (a b : Option ProfileFault) → option_or a b ≡ None → b ≡ None
-no_second None b e = e
-no_second (Some f) b e = absurd (cc)
-
--- faults that are asked for in turn
-abbrev in_turn : List (Option ProfileFault) → Option ProfileFault
-in_turn [] = None
-in_turn (o ∷ os) = option_or o (in_turn os)
-
-abbrev AreNone : List (Option ProfileFault) → Type 0
-AreNone [] = Unit {0}
-AreNone (o ∷ os) = (o ≡ None) × AreNone os
-
-each_none : (os : List (Option ProfileFault)) → in_turn os ≡ None → AreNone os
-each_none [] e = tt
-each_none (o ∷ os) e = (no_first o (in_turn os) e, each_none os (no_second o (in_turn os) e))
+use Rattle.bus_legal.proofs.PlainLaws.{number_within}
 
 -- ---- words
 
@@ -65,25 +40,13 @@ key_word : (p : Part) (key : Key) (d : Option Data) → first_fault (key_checks 
 unfolding in_order
 key_word p key None e = omega arith
 key_word p key (Some (integer (pos n))) e = word_below n (range_of (nat_le 0 n && nat_le n 65535) n _ e)
-key_word p key (Some (integer (negsuc n))) e = absurd (cc)
-key_word p key (Some (string s)) e = absurd (cc)
-key_word p key (Some (float s)) e = absurd (cc)
-key_word p key (Some (boolean s)) e = absurd (cc)
-key_word p key (Some (datetime s)) e = absurd (cc)
-key_word p key (Some (array s)) e = absurd (cc)
-key_word p key (Some (table s)) e = absurd (cc)
+key_word p key _ e = absurd (cc)
 
 -- an item of an array of words
 item_word : (p : Part) (d : Data) → first_fault (word_checks p d) ≡ None → initial_word_in d < 2 ^ 16
 unfolding in_order
 item_word p (integer (pos n)) e = word_below n (range_of (nat_le 0 n && nat_le n 65535) n _ e)
-item_word p (integer (negsuc n)) e = absurd (cc)
-item_word p (string s) e = absurd (cc)
-item_word p (float s) e = absurd (cc)
-item_word p (boolean s) e = absurd (cc)
-item_word p (datetime s) e = absurd (cc)
-item_word p (array s) e = absurd (cc)
-item_word p (table s) e = absurd (cc)
+item_word p _ e = absurd (cc)
 
 -- all are words
 abbrev AreBelow : List ℕ → Type 0
@@ -104,12 +67,7 @@ entry_words n (table ms) e =
     let words_fault : Option ProfileFault = fault_of_parts (each_item (λ _. word_checks (part.Initial n)) 1 (items (value words_row ms))) in
     let none = each_none (unknown_fault (part.Initial n) initial_rows ms ∷ fault subaddress_row ∷ fault at_row ∷ option_or head_fault words_fault ∷ []) (sym (initial_fault n ms) ∙ e) in
     each_word (part.Initial n) 1 (items (value words_row ms)) (no_second head_fault words_fault none.1.1.1.0)
-entry_words n (string s) e = absurd (cc)
-entry_words n (integer s) e = absurd (cc)
-entry_words n (float s) e = absurd (cc)
-entry_words n (boolean s) e = absurd (cc)
-entry_words n (datetime s) e = absurd (cc)
-entry_words n (array s) e = absurd (cc)
+entry_words n _ e = absurd (cc)
 
 abbrev HoldWords : List PlainInitial → Type 0
 HoldWords [] = Unit {0}
@@ -121,10 +79,6 @@ entries_words n (item d ds) e = (
   entry_words n d (no_first (first_fault (initial_checks n d)) (fault_of_parts (each_item initial_checks (suc n) ds)) e),
   entries_words (suc n) ds (no_second (first_fault (initial_checks n d)) (fault_of_parts (each_item initial_checks (suc n) ds)) e),
 )
-
--- a number that is given is among the words that count
-number_within : (first len n : ℕ) → (nat_le first n && nat_lt n (first + len)) ≡ true → n - first < len
-number_within first len n e = grind (arith, nat_tests)
 
 given_word : (entries : List InitialWords) (s n : ℕ) → HoldWords (map plain_initial entries) → initial_word entries s n < 2 ^ 16
 given_word [] s n hold = omega arith
@@ -141,14 +95,12 @@ given_word (e ∷ entries) s n hold = pick (last_of (gives s n) entries) (given_
 pub accepted_in_range : (text : List ℕ) (p : Profile) → Accepts text p → IsInRange (description_of p)
 accepted_in_range text p accepts =
     let ms = accepts.tree in
-    let faultless = sym (tree_fault ms) ∙ none_first (faults ms) accepts.faultless in
-    let fault : (r : KeyRow) → Option ProfileFault = λ r. row_fault part.Root ms r in
-    let root = each_none (unknown_fault part.Root root_rows ms ∷ settings_fault ms ∷ entries_fault rules_key rule_checks ms ∷ entries_fault modes_key mode_checks ms
-    ∷ entries_fault initials_key initial_checks ms ∷ []) (no_first (key_fault ms) (code_fault ms) faultless) in
-    let settings = each_none (fault address_row ∷ fault broadcast_row ∷ fault wraparound_row ∷ fault accept_row ∷ fault vector_row ∷ fault bit_row ∷ []) root.1.0 in
+    let faultless = sym (tree_fault ms) ∙ first_fault-none (faults ms) accepts.faultless in
+    let settings = (each_none (root_faults ms) (no_first (key_fault ms) (code_fault ms) faultless)).1 in
+    let arrays = settings.1.1.1.1.1.1 in
     let head_fault : Option ProfileFault = first_fault (head_checks part.Root initials_key (is_too_long initials_key.kind) ms) in
     let items_fault : Option ProfileFault = fault_of_parts (each_item initial_checks 1 (items (value initials_key ms))) in
-    let hold : HoldWords (each_of initial_in (items (value initials_key ms))) = entries_words 1 (items (value initials_key ms)) (no_second head_fault items_fault root.1.1.1.1.0) in
+    let hold : HoldWords (each_of initial_in (items (value initials_key ms))) = entries_words 1 (items (value initials_key ms)) (no_second head_fault items_fault arrays.1.1.0) in
     record {
       address = p.own_address;
       wrap = p.own_wrap;

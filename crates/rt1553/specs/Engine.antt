@@ -1,6 +1,6 @@
 -- What a run of a terminal over a script does, from power-up. `old` and `new` are the bytes that the sink tells
--- before and after it.
-use Rattle.std.specs.Prelude.{◌≡◌, ℕ, List, [], ◌∷◌, ◌++◌, length, Option}
+-- before and after it, `left` and `left'` those that the reader had.
+use Rattle.std.specs.Prelude.{◌≡◌, ℕ, List, [], ◌∷◌, ◌++◌, length, Option, IfSome}
 use Rattle.std.specs.Io.KnownBytes.{Appends, Consumes}
 use Rattle.bus_legal.specs.Description.{Description}
 use Rattle.terminal_rules.specs.Past.{history_after}
@@ -10,6 +10,7 @@ use Rattle.bus_script.specs.Line.{meaning}
 use Rattle.bus_script.specs.Text.{lines_of, NoLineFeed, EndsLine}
 use Rattle.bus_script.specs.Reading.{Reading, reading, adds, stops, nothing, ByFault}
 use Rattle.bus_script.specs.Transcript.{transcript, text_at}
+use Rattle.rt1553.specs.Load.{Of}
 use Rattle.rt1553.specs.declared.fault.LoadFault.{LoadFault}
 use Rattle.rt1553.specs.declared.fault.EngineFault.{EngineFault}
 use Rattle.rt1553.specs.declared.fault.EngineFault.TheVariants.{Load, Script}
@@ -54,6 +55,16 @@ pub record StopsWriting (P : Description) (script : List ℕ) (old new : Option 
 abbrev pub StopsBy : Description → List ℕ → Option (List ℕ) → Option (List ℕ) → Option (List ℕ) → Option (List ℕ) → RunFault → Type 0
 StopsBy P script left left' old new f =
     ByFault f (StopsAt P script old new f) (StopsReading P left left' old new) (StopsWriting P script old new)
+
+-- the profile text is accepted, and where the reader told the script it was run to its end: it has n events
+abbrev pub RunCompletes : List ℕ → Option (List ℕ) → Option (List ℕ) → Option (List ℕ) → ℕ → Type 0
+RunCompletes profile left old new n =
+    (P : Description) × Of profile P × IfSome left (λ script. Completes P script old new n)
+
+-- the profile text is accepted, and where the reader told the script it was not run to its end, for this fault
+abbrev pub RunStops : List ℕ → Option (List ℕ) → Option (List ℕ) → Option (List ℕ) → Option (List ℕ) → RunFault → Type 0
+RunStops profile left left' old new f =
+    (P : Description) × Of profile P × IfSome left (λ script. StopsBy P script left left' old new f)
 
 -- a fact where the profile was not loaded
 abbrev pub OnLoad : EngineFault → (LoadFault → Type 0) → Type 0

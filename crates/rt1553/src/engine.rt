@@ -3,8 +3,8 @@ ghost use Rattle.std.specs.Prelude.{◌≡◌, ◌≤◌, true, false, IfOk, IfE
 ghost use Rattle.bus_legal.specs.Description.{Description};
 ghost use Rattle.bus_legal.specs.Reach.{reach};
 ghost use Rattle.bus_legal.specs.Parts.{description_in};
-ghost use Rattle.rt1553.specs.Load.{Of, IsNotLoaded};
-ghost use Rattle.rt1553.specs.Engine.{Completes, StopsBy, OnLoad, OnScript};
+ghost use Rattle.rt1553.specs.Load.{IsNotLoaded};
+ghost use Rattle.rt1553.specs.Engine.{Completes, StopsBy, RunCompletes, RunStops, OnLoad, OnScript};
 
 use crate::{EngineFault, load};
 use bus_legal::Normal;
@@ -20,8 +20,10 @@ fn run_normal<R: Source, W: Sink>(
 ) -> Result<u64, RunFault>
     requires reader { R.has_failed reader.old ≡ false }
     requires writer { W.has_failed writer.old ≡ false }
-    ensures ok { (P : Description) → description_in normal ≡ reach P → IfOk result (λ n. IfSome (R.left reader.old) (λ script. Completes P script (W.written writer.old) (W.written writer.new) n)) }
-    ensures stopped { (P : Description) → description_in normal ≡ reach P → IfErr result (λ f. IfSome (R.left reader.old) (λ script. StopsBy P script (R.left reader.old) (R.left reader.new) (W.written writer.old) (W.written writer.new) f)) }
+    ensures ok { (P : Description) → description_in normal ≡ reach P → IfOk result (λ n. IfSome (R.left reader.old) (λ script.
+        Completes P script (W.written writer.old) (W.written writer.new) n)) }
+    ensures stopped { (P : Description) → description_in normal ≡ reach P → IfErr result (λ f. IfSome (R.left reader.old) (λ script.
+        StopsBy P script (R.left reader.old) (R.left reader.new) (W.written writer.old) (W.written writer.new) f)) }
     ensures read_failed { IsErrOf result RunFault.Read → R.has_failed reader.new ≡ true }
     ensures write_failed { IsErrOf result RunFault.Write → W.has_failed writer.new ≡ true }
 {
@@ -46,14 +48,11 @@ pub fn run<R: Source, W: Sink>(
     requires reader { R.has_failed reader.old ≡ false }
     requires writer { W.has_failed writer.old ≡ false }
 
-    ensures ok { IfOk result (λ n. (P : Description) × Of profile.now P
-        × IfSome (R.left reader.old) (λ script. Completes P script (W.written writer.old) (W.written writer.new) n)) }
-
-    ensures not_loaded { IfErr result (λ fault. OnLoad fault (λ f. IsNotLoaded profile.now f × (reader.new ≡ reader.old) × (writer.new ≡ writer.old))) }
-
-    ensures stopped { IfErr result (λ fault. OnScript fault (λ f. (P : Description) × Of profile.now P
-        × IfSome (R.left reader.old) (λ script. StopsBy P script (R.left reader.old) (R.left reader.new) (W.written writer.old) (W.written writer.new) f))) }
-
+    ensures ok { IfOk result (RunCompletes profile.now (R.left reader.old) (W.written writer.old) (W.written writer.new)) }
+    ensures not_loaded { IfErr result (λ fault. OnLoad fault (λ f.
+        IsNotLoaded profile.now f × (reader.new ≡ reader.old) × (writer.new ≡ writer.old))) }
+    ensures stopped { IfErr result (λ fault. OnScript fault
+        (RunStops profile.now (R.left reader.old) (R.left reader.new) (W.written writer.old) (W.written writer.new))) }
     ensures read_failed { IsErrOf result (EngineFault.Script RunFault.Read) → R.has_failed reader.new ≡ true }
     ensures write_failed { IsErrOf result (EngineFault.Script RunFault.Write) → W.has_failed writer.new ≡ true }
 {

@@ -1,15 +1,14 @@
 -- What a call tells with its status.
 use Rattle.std.specs.Prelude.{◌≡◌, ◌<◌, ◌⊎◌, ℕ, List, [], Some, Option, length}
-use Rattle.bus_legal.specs.Description.{Description}
 use Rattle.terminal_rules.specs.declared.event.Event.{Event}
 use Rattle.rt1553.specs.declared.fault.LoadFault.{LoadFault}
 use Rattle.rt1553.specs.declared.fault.LoadFault.TheVariants as load
 use Rattle.rt1553.specs.declared.fault.EngineFault.{EngineFault}
 use Rattle.rt1553.specs.declared.fault.EngineFault.TheVariants.{Load}
-use Rattle.rt1553.specs.Load.{Of, IsNotLoaded}
+use Rattle.rt1553.specs.Load.{IsNotLoaded}
 use Rattle.rt1553.specs.Canon.{IsCanon}
 use Rattle.rt1553.specs.Compare.{AreDifferent}
-use Rattle.rt1553.specs.Engine.{Completes, StopsBy, OnLoad, OnScript}
+use Rattle.rt1553.specs.Engine.{RunCompletes, RunStops, OnLoad, OnScript}
 use Rattle.rt1553.specs.Report.{exit_status_of}
 use Rattle.rt1553_live.specs.PlainFault.{TellsFault}
 use Rattle.rt1553_live.specs.declared.fault.PlainFault.{PlainFault}
@@ -39,7 +38,7 @@ Differ first second = (script : List Event) × AreDifferent first second script
 
 -- the text is accepted, and this is the transcript of the whole script
 abbrev pub RunsThrough : List ℕ → List ℕ → List ℕ → Type 0
-RunsThrough profile script transcript = (P : Description) × Of profile P × (n : ℕ) × Completes P script (Some []) (Some transcript) n
+RunsThrough profile script transcript = (n : ℕ) × RunCompletes profile (Some script) (Some []) (Some transcript) n
 
 -- Where a run was stopped: by the profile, of which this is the first fault; or by the script, or out of memory, behind
 -- the events whose transcript this is.
@@ -47,6 +46,6 @@ pub record IsStopped (profile script transcript : List ℕ) (to : PlainFault) (s
   pub fault : EngineFault
   pub left : Option (List ℕ)
   pub not_loaded : OnLoad fault (λ f. IsNotLoaded profile f × (transcript ≡ []))
-  pub stopped : OnScript fault (λ f. (P : Description) × Of profile P × StopsBy P script (Some script) left (Some []) (Some transcript) f)
+  pub stopped : OnScript fault (RunStops profile (Some script) left (Some []) (Some transcript))
   pub tells : TellsFault to fault
   pub answers : status ≡ exit_status_of fault

@@ -7,8 +7,7 @@ ghost use Rattle.rt1553_lint.specs.Without.{without, without_rule, without_mode,
 
 use bus_legal::{Legality, RuleList, normalise};
 use bus_profile::{Entries, InitialWords, ModeRule, Profile};
-use bus_word::mode::{OVERRIDE_SHUTDOWN, RESET, SHUTDOWN, TRANSMIT_STATUS};
-use bus_word::{Cell, WRAPAROUND_SUBADDRESS};
+use bus_word::{Cell, WRAPAROUND_SUBADDRESS, mode};
 use std::alloc::{AllocError, Global};
 
 /// A key of the root that has a default, and holds one value.
@@ -119,10 +118,9 @@ fn is_code_legal(modes: &[ModeRule], code: u8) -> bool
 fn has_required(modes: &[ModeRule]) -> bool
     ensures { result ≡ has_required_codes modes.now }
 {
-    is_code_legal(modes, TRANSMIT_STATUS)
-        && is_code_legal(modes, SHUTDOWN)
-        && is_code_legal(modes, OVERRIDE_SHUTDOWN)
-        && is_code_legal(modes, RESET)
+    mode::REQUIRED
+        .iter()
+        .all(|code| is_code_legal(modes, *code))
 }
 
 /// Tells whether the mode entry of this index has no effect: without it the profile is accepted, and the terminal is the

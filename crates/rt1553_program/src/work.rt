@@ -1,12 +1,11 @@
 //! What the program does.
-ghost use Rattle.std.specs.Prelude.{◌≡◌, ◌≤◌, ◌⊎◌, ℕ, List, Option, false, codes, Ok, OnOk, IfOk, IfErr, IsErrAnd, IfSome};
+ghost use Rattle.std.specs.Prelude.{◌≡◌, ◌≤◌, ◌⊎◌, ℕ, List, Option, false, codes, Ok, OnOk, IfOk, IfErr, IsErrAnd};
 ghost use Rattle.std.specs.IoError.{error_kind};
 ghost use Rattle.std.specs.Io.KnownBytes.{Appends, Keeps};
-ghost use Rattle.bus_legal.specs.Description.{Description};
-ghost use Rattle.rt1553.specs.Load.{Of, IsNotLoaded};
+ghost use Rattle.rt1553.specs.Load.{IsNotLoaded};
 ghost use Rattle.rt1553.specs.Canon.{IsCanon};
 ghost use Rattle.rt1553.specs.Compare.{IsNotCompared};
-ghost use Rattle.rt1553.specs.Engine.{Completes, StopsBy, OnLoad, OnScript};
+ghost use Rattle.rt1553.specs.Engine.{RunCompletes, RunStops, OnLoad, OnScript};
 ghost use Rattle.rt1553_program.specs.Causes.{IsWithoutArgs, RefusesUntouched, IsOfRun, IsOfJob};
 ghost use Rattle.bus_script.specs.EventLine.{event_line, script_text};
 ghost use Rattle.rt1553_program.specs.Work.{Accepted, TellsVerdict, IsComparison, Does};
@@ -126,11 +125,12 @@ fn run_over<R: AllocGlobal, I: Read + Drop, W: Sink>(
     writer: &mut W,
 ) -> Result<(), Fault>
     requires { W.has_failed writer.old ≡ false }
-    ensures ok { OnOk result ((P : Description) × Of profile.now P × (n : ℕ)
-        × IfSome (I.remaining input) (λ script. Completes P script (W.written writer.old) (W.written writer.new) n)) }
-    ensures not_loaded { IfErr result (IsOfRun (λ fault. OnLoad fault (λ f. IsNotLoaded profile.now f × (writer.new ≡ writer.old)))) }
-    ensures stopped { IfErr result (IsOfRun (λ fault. OnScript fault (λ f. (P : Description) × Of profile.now P × (left : Option (List ℕ))
-        × IfSome (I.remaining input) (λ script. StopsBy P script (I.remaining input) left (W.written writer.old) (W.written writer.new) f)))) }
+    ensures ok { OnOk result ((n : ℕ)
+        × RunCompletes profile.now (I.remaining input) (W.written writer.old) (W.written writer.new) n) }
+    ensures not_loaded { IfErr result (IsOfRun (λ fault. OnLoad fault (λ f.
+        IsNotLoaded profile.now f × (writer.new ≡ writer.old)))) }
+    ensures stopped { IfErr result (IsOfRun (λ fault. OnScript fault (λ f. (left : Option (List ℕ))
+        × RunStops profile.now (I.remaining input) left (W.written writer.old) (W.written writer.new) f))) }
 {
     let mut reader = FromRead::new(input);
     match run(rt.alloc(), profile, &mut reader, writer) {

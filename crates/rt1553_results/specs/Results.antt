@@ -35,8 +35,8 @@ abbrev pub reply_said : List ℕ → Option (List ℕ)
 reply_said field = if bytes_eq field (codes "none") then Some [] else at_most_33 (words_said field)
 
 -- a number: decimal digits, from 1 on, below 2 ^ 32
-abbrev pub IsNumber : List ℕ → Type 0
-IsNumber field = IsNumeral 10 field × (1 ≤ digits_value 10 field) × (digits_value 10 field < 2 ^ 32)
+abbrev pub IsExchangeNumber : List ℕ → Type 0
+IsExchangeNumber field = IsNumeral 10 field × (1 ≤ digits_value 10 field) × (digits_value 10 field < 2 ^ 32)
 
 -- the column of this name: there is one, and no other of the name
 pub record IsColumn (name : List ℕ) (header : List (List ℕ)) (place : ℕ) : Type 0 where
@@ -58,7 +58,7 @@ pub record IsRead (columns : Columns) (row : List (List ℕ)) (pair : ℕ × Lis
   pub even : length row ≡ columns.width
   pub number : List ℕ
   pub number_there : field_at row columns.number ≡ Some number
-  pub is_number : IsNumber number
+  pub is_number : IsExchangeNumber number
   pub number_is : digits_value 10 number ≡ pair.0
   pub reply : List ℕ
   pub reply_there : field_at row columns.reply ≡ Some reply

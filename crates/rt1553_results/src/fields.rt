@@ -3,14 +3,14 @@ ghost use Rattle.std.specs.Prelude.{◌≡◌, option_map};
 ghost use Rattle.std.specs.Option.{SomeIff};
 ghost use Rattle.std.specs.Str.Parse.{digits_value};
 ghost use Rattle.bus_script.specs.Digits.{word_of};
-ghost use Rattle.rt1553_results.specs.Results.{words_said, at_most_33, reply_said, IsNumber};
+ghost use Rattle.rt1553_results.specs.Results.{words_said, at_most_33, reply_said, IsExchangeNumber};
 
 use arrayvec::ArrayVec;
 use std::str;
 
 /// The number in a field: decimal digits and nothing else, from 1 on.
 pub fn read_exchange_number(field: &[u8]) -> Option<u32>
-    ensures { SomeIff result (IsNumber field.now) (digits_value 10 field.now) }
+    ensures { SomeIff result (IsExchangeNumber field.now) (digits_value 10 field.now) }
 {
     if field.first() == Some(&b'+') {
         return None;

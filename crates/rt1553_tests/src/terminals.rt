@@ -1,10 +1,10 @@
 //! The terminal by its calls: where nothing is legal, which no profile says, and slots at once.
-mod random;
 mod slots;
 
 ghost use Rattle.std.specs.Prelude.{◌<◌};
 
-use bus_legal::{Legality, Setup};
+use bus_legal::{Legality, RuleList, Setup, setup_of};
+use bus_profile::read_profile;
 use bus_terminal::{Answer, Event, Flag, Terminal};
 use bus_word::{Bus, Cell, Kind, Raw};
 
@@ -64,9 +64,31 @@ fn required_mode_codes_where_they_are_illegal(rt: HostRuntime) {
     }
 }
 
-/// The digest is that of `tests/model/random_scripts.py`, over rules that are written apart from the program.
+/// Transmit commands for two words of subaddress 1 are legal, and two words are held there at power-up.
+const PROFILE: &[u8] = b"address = 5
+[[rule]]
+direction = \"transmit\"
+subaddresses = \"1\"
+counts = \"2\"
+[[initial]]
+subaddress = 1
+words = [0x1234, 0xabcd]
+";
+
+/// The words that a terminal over the rules of `PROFILE` sends at its next slots.
 #[test]
-fn random_messages_where_nothing_is_legal(rt: HostRuntime) {
-    let terminal = Terminal::power_up(equipped(), Every(false));
-    assert_eq!(rt; random::digest_of(terminal), 0xdb57_89d6);
+fn a_terminal_that_asks_the_rules_of_a_profile(rt: HostRuntime) {
+    let Ok(profile) = read_profile(rt.alloc(), PROFILE) else {
+        panic!(rt; "the profile is refused");
+    };
+    let mut terminal = Terminal::power_up(setup_of(&profile), RuleList::of(&profile));
+    terminal.take(command(Bus::A, 0x2c22));
+    terminal.take(Event::Gap(Bus::A));
+    for bits in [0x2800u16, 0x1234, 0xabcd] {
+        let is_sent = match terminal.step(Event::Slot) {
+            Answer::Sends(sent) => sent.bits == bits,
+            _ => false,
+        };
+        assert!(rt; is_sent, "{bits:04x}");
+    }
 }

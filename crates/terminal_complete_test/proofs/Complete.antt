@@ -15,7 +15,7 @@ use Rattle.terminal_rules.specs.History.{Done}
 use Rattle.terminal_rules.specs.Status.{accepts, reports_kept}
 use Rattle.terminal_rules.specs.Same.{AreProper, Same}
 use Rattle.terminal_rules.specs.Out.{outs}
-use Rattle.terminal_rules.proofs.PlaceLaw.{place_some}
+use Rattle.bus_word.proofs.Places.{place_from}
 use Rattle.terminal_exchanges.specs.Exchanges.{Exchange}
 use Rattle.terminal_exchanges.specs.ExchangeLaws.{AreAnswered, ending_of_exchange}
 use Rattle.terminal_exchanges.specs.Sent.{sent_in, sent}
@@ -329,7 +329,7 @@ module _ (P Q : Description) (p : IsReached P) (q : IsReached Q) (e : sent P (co
   back_alike x s m cell ds sound received p_ends q_ends place sends t =
       let y : Exchange = transmit P.address s m (m + 1) in
       let to : IsTo P.address (Some (OwnTransmit s m)) y = transmit_to P s m p.low place in
-      let some : 1 ≤ m = place_some s m place in
+      let some : 1 ≤ m = place_from s m place in
       wrap_told (s == P.wrap) (s == Q.wrap) (P.initial s 1)
       (sym (word_back P t.before x y s cell m (65535 - P.initial s 1) ds p.low (answered_more P t.before x sound t.first) p_ends received to some sends)
       ∙ (ap bits_in (t.alike.1.0 1 (omega arith))

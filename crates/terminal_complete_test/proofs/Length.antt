@@ -6,7 +6,7 @@ use Rattle.bus_word.specs.Mode.{mode_row}
 use Rattle.bus_word.specs.Cell.{is_data_place, allows_broadcast}
 use Rattle.bus_legal.specs.Description.{Description}
 use Rattle.bus_legal.specs.Reach.{any_count, transmits_at, can_wrap}
-use Rattle.terminal_rules.proofs.PlaceLaw.{place_count}
+use Rattle.bus_word.proofs.Places.{place_count}
 use Rattle.terminal_exchanges.specs.Exchanges.{Exchange, script_of}
 use Rattle.terminal_exchanges.specs.Distinguish.{all_terminals, slots_for, command_of, receive_zeros, mode_code, mode_code_with, ask, least_count, transmit, receives_own, receives_broadcast, receive_complement, shortest_transmit, sent_back}
 use Rattle.terminal_exchanges.proofs.Distinguish.Last.{exchange_length}

@@ -10,7 +10,7 @@ use Rattle.bus_word.specs.Cell.{is_data_place, cell_of, allows_broadcast}
 use Rattle.bus_legal.specs.Description.{Description}
 use Rattle.bus_legal.specs.Reach.{any_count, transmits_at, can_wrap}
 use Rattle.terminal_rules.specs.Reply.{has_word, words_after_status}
-use Rattle.terminal_rules.proofs.PlaceLaw.{place_count}
+use Rattle.bus_word.proofs.Places.{place_count}
 use Rattle.terminal_exchanges.specs.Exchanges.{Exchange}
 use Rattle.terminal_exchanges.specs.Distinguish.{all_terminals, slots_for, command_of, receive_zeros, transmit, mode_code, mode_code_with, ask, least_count, receives_own, receives_broadcast, receive_complement, shortest_transmit, sent_back}
 use Rattle.terminal_exchanges.proofs.Distinguish.Commands.{IsTo, zeros_small, slots_for-own, receive_to_own, receive_to_all, transmit_from_own, code_to_own, code_to_own_with, code_to_all, ask_to_all, own_no_broadcast, scripted, small_code, row_of}

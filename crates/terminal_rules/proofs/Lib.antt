@@ -1,4 +1,3 @@
-pub mod PlaceLaw
 pub mod OpenLaw
 pub mod ReplyLaw
 pub mod ModeReplyLaw

@@ -1,7 +1,7 @@
 //! What comes to a remote terminal: over the two buses, and from its subsystem.
 ghost use Rattle.std.specs.Prelude.{◌≡◌, ◌≤◌};
 
-use bus_word::{Bus, Raw};
+use bus_word::{Bus, Raw, is_data_place};
 use std::marker::Model;
 
 /// One of the four conditions that the subsystem reports, and that the status word shows as they
@@ -46,7 +46,7 @@ impl WordPlace {
     pub fn of(subaddress: u8, number: u8) -> Option<WordPlace>
         ensures { result ≡ (if is_data_place subaddress number then Some (record { subaddress = subaddress; number = number }) else None) }
     {
-        if (1..=30).contains(&subaddress) && (1..=32).contains(&number) {
+        if is_data_place(subaddress, number) {
             Some(WordPlace { subaddress, number })
         } else {
             None

@@ -1,8 +1,8 @@
 -- What the readers of all faults tell, table by table.
-use Rattle.std.specs.Prelude.{ℕ, Bool, not, List, [], ◌∷◌, ◌++◌, Option, Some, None, is_some, map, if◌then◌else◌}
+use Rattle.std.specs.Prelude.{ℕ, Bool, not, List, [], ◌∷◌, ◌++◌, Option, Some, None, is_some, map, flat_map, if◌then◌else◌}
 use Rattle.toml.specs.Data.{Data, Members, as_array}
-use Rattle.bus_profile.specs.declared.told.EntryKind.{EntryKind}
-use Rattle.bus_profile.specs.declared.told.EntryKind.TheVariants as kind
+use Rattle.bus_profile.specs.declared.entry_faults.EntryKind.{EntryKind}
+use Rattle.bus_profile.specs.declared.entry_faults.EntryKind.TheVariants as kind
 use Rattle.profile_types.specs.declared.entries.ModeRule.{ModeRule}
 use Rattle.bus_profile.specs.declared.fault.Key.{Key}
 use Rattle.bus_profile.specs.declared.fault.Key.TheVariants as key
@@ -10,7 +10,7 @@ use Rattle.bus_profile.specs.declared.fault.Part.{Part}
 use Rattle.bus_profile.specs.declared.fault.Part.TheVariants as part
 use Rattle.bus_profile.specs.declared.fault.ProfileFault.{ProfileFault}
 use Rattle.bus_profile.specs.declared.fault.ProfileFault.TheVariants.{UnknownKey, Missing, WrongKind, RequiredCode}
-use Rattle.bus_word.specs.Mode.{transmit_status, shutdown, override_shutdown, reset}
+use Rattle.bus_word.specs.Mode.{required_codes}
 use Rattle.bus_profile.specs.Checks.{Check, first_fault}
 use Rattle.bus_profile.specs.Keys.{KeyRow, keys_of, address_row, broadcast_row, wraparound_row, accept_row, vector_row, bit_row, rules_key, modes_key, initials_key, to_row, direction_row, subaddresses_row, counts_row, legal_row, codes_row, subaddress_row, at_row, words_row, rule_rows, mode_rows, initial_rows}
 use Rattle.bus_profile.specs.Kinds.{has_unknown}
@@ -99,4 +99,4 @@ abbrev pub code_told : List ModeRule → ℕ → List ProfileFault
 code_told modes code = if not (is_own_code_legal modes code) then RequiredCode code ∷ [] else []
 
 abbrev pub codes_told : List ModeRule → List ProfileFault
-codes_told modes = code_told modes transmit_status ++ (code_told modes shutdown ++ (code_told modes override_shutdown ++ code_told modes reset))
+codes_told modes = flat_map (code_told modes) required_codes

@@ -3,13 +3,13 @@ use Rattle.std.specs.Prelude.{ℕ, ◌+◌, ◌*◌, ◌≡◌, ◌≤◌, List,
 use Rattle.terminal_rules.specs.declared.event.Event.{Event}
 use Rattle.bus_script.specs.Reading.{Meaning}
 use Rattle.bus_script.specs.Playing.{Plays}
-use Rattle.bus_script.specs.inner.Lines.{Reads, IsRest}
+use Rattle.bus_script.specs.inner.Lines.{ReadsLines, IsRest}
 
 -- whole lines at the front of a chunk were played, `done` bytes of it
 pub record Feeding {D M W : Type 0} (meaning : Meaning) (stands : D → List Event → M → Type 0) (out : D → List Event → Event → List ℕ)
     (written : W → Option (List ℕ)) (m m' : M) (w w' : W) (lines events lines' events' : ℕ) (chunk : List ℕ) (done : ℕ) (es : List Event) : Type 0 where
   pub within : done ≤ length chunk
-  pub reads : Reads meaning lines (take done chunk) es lines'
+  pub reads : ReadsLines meaning lines (take done chunk) es lines'
   pub count : events' ≡ events + length es
   pub long : done + 65 * lines ≤ 65 * lines'
   pub most : lines' ≤ 1048576

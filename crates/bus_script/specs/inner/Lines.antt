@@ -7,7 +7,7 @@ use Rattle.bus_terminal.specs.Slots.{slots}
 use Rattle.bus_script.specs.Reading.{Meaning, Reading, adds, stops, then_reads, reading}
 
 -- these whole lines, which follow n lines, say these events; m lines are done after them
-pub record Reads (meaning : Meaning) (n : ℕ) (whole : List ℕ) (es : List Event) (m : ℕ) : Type 0 where
+pub record ReadsLines (meaning : Meaning) (n : ℕ) (whole : List ℕ) (es : List Event) (m : ℕ) : Type 0 where
   pub ends : EndsLine whole
   pub each : (rest : List ℕ) → reading meaning n (lines_of (whole ++ rest)) ≡ adds es (reading meaning m (lines_of rest))
 
@@ -42,7 +42,7 @@ pub record LinesFirst (meaning : Meaning) (bytes : List ℕ) (i k : ℕ) (es : L
   pub within : i ≤ length bytes
   pub short : i ≤ 65 * k
   pub count : length es ≡ k
-  pub reads : (lines : ℕ) → lines + k ≤ 1048576 → Reads meaning lines (take i bytes) es (lines + k)
+  pub reads : (lines : ℕ) → lines + k ≤ 1048576 → ReadsLines meaning lines (take i bytes) es (lines + k)
 
 -- the lines of k slots stand first
 abbrev pub SlotsFirst : Meaning → List ℕ → ℕ → Type 0

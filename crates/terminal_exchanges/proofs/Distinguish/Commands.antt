@@ -14,7 +14,7 @@ use Rattle.bus_word.proofs.CellLaws.{data_by, mode_by}
 use Rattle.terminal_exchanges.specs.Exchanges.{Exchange}
 use Rattle.terminal_exchanges.specs.ExchangeLaws.{IsWhole}
 use Rattle.terminal_exchanges.specs.Distinguish.{all_terminals, slots_for, command_of, receive, transmit, mode_code_with, mode_code}
-use Rattle.terminal_rules.proofs.PlaceLaw.{place_count}
+use Rattle.bus_word.proofs.Places.{place_count}
 
 -- words of 16 bits
 abbrev pub AreSmall : List ℕ → Type 0

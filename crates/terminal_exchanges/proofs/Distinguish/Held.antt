@@ -24,7 +24,7 @@ use Rattle.terminal_exchanges.proofs.Notes.{gap_note, slot_notes, notes_at_gap, 
 use Rattle.terminal_exchanges.specs.Distinguish.{TellsApart, all_terminals, transmit, receive_complement}
 use Rattle.terminal_rules.specs.inner.Steps.{unless_reset, begun_if}
 use Rattle.terminal_rules.proofs.BackLaw.{held_step}
-use Rattle.terminal_rules.proofs.PlaceLaw.{place_count, place_some}
+use Rattle.bus_word.proofs.Places.{place_count, place_from}
 use Rattle.terminal_rules.proofs.ResetLaw.{gap_as, gap_resets}
 use Rattle.terminal_exchanges.proofs.ExchangeLaw.{idle_law, at_gap_reply}
 use Rattle.terminal_exchanges.proofs.Distinguish.Commands.{IsTo, slots_for-own, zeros_small, receive_to_own, receive_to_all, transmit_from_own, moved}
@@ -224,7 +224,7 @@ wrap_apart P Q x to s cell m ds low same first received one pa qa p_ends q_ends 
     let w : ℕ = P.initial s 1 in
     let y : Exchange = transmit P.address s m (m + 1) in
     let high : m ≤ 32 = place_count s m place in
-    let some : 1 ≤ m = place_some s m place in
+    let some : 1 ≤ m = place_from s m place in
     let second : IsTo P.address (Some (OwnTransmit s m)) y = transmit_from_own P.address s m (m + 1) low place (omega arith) (omega arith) in
     let low_q : Q.address ≤ 30 = omega arith in
     apart_by_two bits_in 1 P Q to P.address (Some cell) (Some (OwnTransmit s m)) x y (held_first (s == P.wrap) (65535 - w) w) (held_first (s == Q.wrap) (65535 - w) w) first second refl
@@ -237,7 +237,7 @@ wrap_apart P Q x to s cell m ds low same first received one pa qa p_ends q_ends 
 -- so many data words, the first of them this one
 pub words_length : (s n d : ℕ) → is_data_place s n ≡ true → length (d ∷ replicate (n - 1) 0) ≡ n
 words_length s n d place =
-    let some : 1 ≤ n = place_some s n place in
+    let some : 1 ≤ n = place_from s n place in
     let again : suc (n - 1) ≡ n = omega arith in
     ap suc (length-replicate (n - 1) 0) ∙ again
 

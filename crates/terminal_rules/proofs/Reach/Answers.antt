@@ -1,4 +1,4 @@
--- A rest that agrees where it can be asked for answers alike, whatever comes.
+-- A description that agrees where it can be asked for answers alike, whatever comes.
 use Rattle.std.proofs.Common.{◌≡◌, ℕ, ◌≤◌, Bool, true, false, ◌==◌, nat_le, if◌then◌else◌, Option, Some, None, List, [], ◌∷◌, refl, ap, ◌∙◌, arith}
 use Rattle.std.proofs.lemmas.Bool.Decides.{nat_tests}
 use Rattle.bus_word.specs.declared.word.Bus.{Bus}
@@ -7,7 +7,6 @@ use Rattle.bus_word.specs.declared.cell.Cell.{Cell}
 use Rattle.bus_word.specs.declared.cell.Cell.TheVariants.{OwnReceive, OwnTransmit, BroadReceive, OwnMode, BroadMode}
 use Rattle.bus_word.specs.Status.{status_word}
 use Rattle.bus_legal.specs.Description.{Description}
-use Rattle.bus_legal.specs.Reach.{Rest, with_rest}
 use Rattle.terminal_rules.specs.declared.event.Event.{Event}
 use Rattle.terminal_rules.specs.declared.event.Event.TheVariants.{Word, Noise, Gap, Write, Vector, Bit, Flag as FlagIs, Slot}
 use Rattle.terminal_rules.specs.declared.event.Flag.TheVariants.{Busy}
@@ -23,7 +22,7 @@ use Rattle.terminal_rules.specs.Turn.{is_answered, done_cell, turn_of_gap, turn_
 use Rattle.terminal_rules.specs.Past.{note, past}
 use Rattle.terminal_rules.specs.Out.{code_word, reply_word, sending, sends, Handing, HandsSynchronize, HandsSynchronizeWith, HandsSelfTest, HandsBusControl, first_word, code_hands, hands, handing_over, sending_out, out_now, out}
 use Rattle.terminal_rules.proofs.Reach.Heard.{CanBeDone, DoesWhatItCan, AllDoWhatTheyCan, IsMeant, open_meant, event_can, past_can}
-use Rattle.terminal_rules.proofs.Reach.Agrees.{Agrees}
+use Rattle.terminal_rules.proofs.Reach.Agrees.{Agrees, addressed}
 use Rattle.terminal_rules.proofs.Reach.Past.{at_gap_alike, past_alike}
 use Rattle.terminal_rules.proofs.Reach.Kept.{legal_at, kept_alike}
 use Rattle.terminal_rules.proofs.Reach.Held.{held_alike}
@@ -37,9 +36,9 @@ chosen_word false true is_19 v w last b d f g = refl
 chosen_word false false true v w last b d f g = g refl
 chosen_word false false false v w last b d f g = refl
 
-code_word_alike : (P : Description) (R : Rest) → Agrees P R → (h : List Noted) (code : ℕ) → P.legal (OwnMode code) ≡ true → code_word (with_rest P R) h code ≡ code_word P h code
+code_word_alike : (P R : Description) → Agrees P R → (h : List Noted) (code : ℕ) → P.legal (OwnMode code) ≡ true → code_word (addressed P R) h code ≡ code_word P h code
 code_word_alike P R a h code l =
-    chosen_word (code == 16) (code == 18) (code == 19) (vector_now (with_rest P R) h) (vector_now P h) (last_now h) (bit_now (with_rest P R) h) (bit_now P h)
+    chosen_word (code == 16) (code == 18) (code == 19) (vector_now (addressed P R) h) (vector_now P h) (last_now h) (bit_now (addressed P R) h) (bit_now P h)
     (λ e. ap (or_else (latest (λ p. vector_word_set p.event) (since_reset h))) (a.vector (legal_at P code 16 l e)))
     (λ e. ap (or_else (latest (λ p. bit_word_set p.event) (since_reset h))) (a.bit (legal_at P code 19 l e)))
 
@@ -121,8 +120,8 @@ first_number m e = grind (arith, nat_tests)
 last_number : (m n : ℕ) → nat_le m n ≡ true → m ≤ n
 last_number m n e = grind (arith, nat_tests)
 
-word_alike : (P : Description) (R : Rest) → Agrees P R → (h : List Noted) → AllDoWhatTheyCan P h → (cell : Option Cell) (m : ℕ) → CellCan P cell → nat_le m (words_after_status cell) ≡ true → (m == 0) ≡ false →
-    reply_word (with_rest P R) h cell m ≡ reply_word P h cell m
+word_alike : (P R : Description) → Agrees P R → (h : List Noted) → AllDoWhatTheyCan P h → (cell : Option Cell) (m : ℕ) → CellCan P cell → nat_le m (words_after_status cell) ≡ true → (m == 0) ≡ false →
+    reply_word (addressed P R) h cell m ≡ reply_word P h cell m
 word_alike P R a h all None m can e f = refl
 word_alike P R a h all (Some (OwnReceive s n)) m can e f = refl
 word_alike P R a h all (Some (OwnTransmit s n)) m can e f = held_alike P R a s n m can.legal can.allowed (first_number m f) (last_number m n e) h all
@@ -130,12 +129,12 @@ word_alike P R a h all (Some (BroadReceive s n)) m can e f = refl
 word_alike P R a h all (Some (OwnMode code)) m can e f = code_word_alike P R a h code can.legal
 word_alike P R a h all (Some (BroadMode code)) m can e f = refl
 
-sends_alike : (P : Description) (R : Rest) → Agrees P R → (h : List Noted) → AllDoWhatTheyCan P h → (r : Option Replying) → NextCan P r → sends (with_rest P R) h r ≡ sends P h r
+sends_alike : (P R : Description) → Agrees P R → (h : List Noted) → AllDoWhatTheyCan P h → (r : Option Replying) → NextCan P r → sends (addressed P R) h r ≡ sends P h r
 sends_alike P R a h all None can = refl
 sends_alike P R a h all (Some r) can = by_status (r.number == 0) refl
   where
     by_status : (t : Bool) → (r.number == 0) ≡ t →
-        Some (if t then sending r.bus Com (status_word P.address (kept_now (with_rest P R) h)) else sending r.bus Dat (reply_word (with_rest P R) h r.cell r.number))
+        Some (if t then sending r.bus Com (status_word P.address (kept_now (addressed P R) h)) else sending r.bus Dat (reply_word (addressed P R) h r.cell r.number))
         ≡ Some (if t then sending r.bus Com (status_word P.address (kept_now P h)) else sending r.bus Dat (reply_word P h r.cell r.number))
     by_status true e = ap (λ k. Some (sending r.bus Com (status_word P.address k))) (kept_alike P R a h all)
     by_status false e = ap (λ w. Some (sending r.bus Dat w)) (word_alike P R a h all r.cell r.number can.cell can.number e)
@@ -156,7 +155,7 @@ code_hands_alike code x y ds f = by_test (code == 0) f
     by_test true f = ap (λ b. if b then Some HandsBusControl else None) (f refl)
     by_test false f = refl
 
-hands_alike : (P : Description) (R : Rest) → Agrees P R → (x : Ending) → DoesWhatItCan P x → hands (with_rest P R) x ≡ hands P x
+hands_alike : (P R : Description) → Agrees P R → (x : Ending) → DoesWhatItCan P x → hands (addressed P R) x ≡ hands P x
 hands_alike P R a Nothing can = refl
 hands_alike P R a (Badly c) can = refl
 hands_alike P R a (Illegal c) can = refl
@@ -167,12 +166,12 @@ hands_alike P R a (Done c (BroadReceive s n) ds) can = refl
 hands_alike P R a (Done c (OwnMode code) ds) can = code_hands_alike code R.accept P.accept ds (λ e. a.accept (legal_at P code 0 can.legal e))
 hands_alike P R a (Done c (BroadMode code) ds) can = refl
 
-out_now_alike : (P : Description) (R : Rest) → Agrees P R → P.address ≤ 30 → (h : List Noted) → AllDoWhatTheyCan P h → ((b : Bus) → IsMeant P (open_now P h b)) → NextCan P (reply_now h) → (e : Event) →
-    out_now (with_rest P R) h e ≡ out_now P h e
+out_now_alike : (P R : Description) → Agrees P R → P.address ≤ 30 → (h : List Noted) → AllDoWhatTheyCan P h → ((b : Bus) → IsMeant P (open_now P h b)) → NextCan P (reply_now h) → (e : Event) →
+    out_now (addressed P R) h e ≡ out_now P h e
 out_now_alike P R a low h all m n (Word b w) = refl
 out_now_alike P R a low h all m n (Noise b) = refl
 out_now_alike P R a low h all m n (Gap b) =
-    ap (λ x. handing_over (hands (with_rest P R) (unless_ignored (replies_on h b) x))) (at_gap_alike P R a low (flag_now h Busy) (open_now P h b) (m b))
+    ap (λ x. handing_over (hands (addressed P R) (unless_ignored (replies_on h b) x))) (at_gap_alike P R a low (flag_now h Busy) (open_now P h b) (m b))
     ∙ ap handing_over (hands_alike P R a (ends_now P h (Gap b)) (event_can P low h (Gap b) m))
 out_now_alike P R a low h all m n (Write q v) = refl
 out_now_alike P R a low h all m n (Vector v) = refl
@@ -180,7 +179,7 @@ out_now_alike P R a low h all m n (Bit v) = refl
 out_now_alike P R a low h all m n (FlagIs f v) = refl
 out_now_alike P R a low h all m n Slot = ap sending_out (sends_alike P R a h all (reply_now h) n)
 
-pub out_alike : (P : Description) (R : Rest) → Agrees P R → P.address ≤ 30 → (h : List Event) (e : Event) → out (with_rest P R) h e ≡ out P h e
+pub out_alike : (P R : Description) → Agrees P R → P.address ≤ 30 → (h : List Event) (e : Event) → out (addressed P R) h e ≡ out P h e
 out_alike P R a low h e =
-    ap (λ k. out_now (with_rest P R) k e) (past_alike P R a low h)
+    ap (λ k. out_now (addressed P R) k e) (past_alike P R a low h)
     ∙ out_now_alike P R a low (past P h) (past_can P low h) (open_meant P h) (reply_can P low h) e

@@ -91,13 +91,7 @@ start_meant P (e ∷ h) b c i = by_start e (starts_now P (past P h) e) refl i (s
     by_start (Word d w) true s i before =
         let at : w.bits ≡ c = ap bits i in
         ap (is_meant P) (sym at) ∙ started_meant P w (heard_now P (past P h) d) (is_free (open_now P (past P h) d)) (is_fresh_broadcast (open_now P (past P h) d)) (and_parts (not (replies_on (past P h) d)) _ s).1
-    by_start (Noise d) true s i before = before i
-    by_start (Gap d) true s i before = before i
-    by_start (Write q v) true s i before = before i
-    by_start (Vector v) true s i before = before i
-    by_start (Bit v) true s i before = before i
-    by_start (FlagIs f v) true s i before = before i
-    by_start Slot true s i before = before i
+    by_start _ true s i before = before i
 
 -- the command of a message in progress is meant for the terminal
 abbrev pub IsMeant : Description → Open → Type 0
@@ -150,11 +144,7 @@ pub event_can : (P : Description) → P.address ≤ 30 → (h : List Noted) (e :
 event_can P low h (Word b w) m = unless_can P (replies_on h b) (at_entry (Some w) (open_now P h b)) (entry_can P (Some w) (open_now P h b))
 event_can P low h (Noise b) m = unless_can P (replies_on h b) (at_entry None (open_now P h b)) (entry_can P None (open_now P h b))
 event_can P low h (Gap b) m = unless_can P (replies_on h b) (at_gap P (flag_now h Busy) (open_now P h b)) (gap_can P low (flag_now h Busy) (open_now P h b) (m b))
-event_can P low h (Write q v) m = tt
-event_can P low h (Vector v) m = tt
-event_can P low h (Bit v) m = tt
-event_can P low h (FlagIs f v) m = tt
-event_can P low h Slot m = tt
+event_can P low h _ m = tt
 
 abbrev pub AllDoWhatTheyCan : Description → List Noted → Type 0
 AllDoWhatTheyCan P [] = Unit {0}

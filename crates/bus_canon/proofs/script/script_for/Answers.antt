@@ -1,7 +1,7 @@
 use Rattle.std.proofs.Common.{◌≡◌, ◌-◌, true, [], ◌∷◌, replicate, subst, sym, ap, ◌∙◌}
 use Rattle.bus_word.specs.Cell.{is_data_place}
 use Rattle.bus_legal.specs.Parts.{description_in}
-use Rattle.bus_legal.proofs.Places.{place_from}
+use Rattle.bus_word.proofs.Places.{place_from}
 use Rattle.terminal_exchanges.specs.Exchanges.{script_of}
 use Rattle.terminal_exchanges.specs.Distinguish.{all_terminals, receive, mode_code, ask}
 use Rattle.bus_canon.specs.Difference.{IsInRange, script_for}

@@ -1,7 +1,7 @@
 use Rattle.std.proofs.Common.{◌≡◌, ◌==◌, length, OnOk, subst, ap, ◌∙◌}
 use Rattle.toml.specs.View.{table_view}
 use Rattle.bus_profile.specs.Gives.{each_of, mode_in}
-use Rattle.bus_profile.proofs.AllFaults.{with_codes, without_codes}
+use Rattle.bus_profile.proofs.PushedFaults.{with_codes, without_codes}
 use Rattle.bus_profile.proofs.told.push_required.Goals as goal
 
 pub returns-then-not-is_empty : goal.returns-then-not-is_empty

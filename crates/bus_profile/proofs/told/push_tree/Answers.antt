@@ -1,6 +1,6 @@
 use Rattle.std.proofs.Common.{◌≡◌, OnOk, subst}
 use Rattle.toml.specs.View.{table_view}
-use Rattle.bus_profile.proofs.AllFaults.{next, grown, tree_told}
+use Rattle.bus_profile.proofs.PushedFaults.{next, grown, tree_told}
 use Rattle.bus_profile.proofs.told.push_tree.Goals as goal
 
 pub returns : goal.returns

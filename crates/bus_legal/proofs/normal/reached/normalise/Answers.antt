@@ -5,7 +5,7 @@ use Rattle.bus_legal.specs.Meaning.{description_of}
 use Rattle.bus_legal.specs.Tables.{largest_in}
 use Rattle.bus_legal.proofs.InitialSteps.{initial_word-table}
 use Rattle.bus_legal.proofs.PartsReach.{description_in-made}
-use Rattle.bus_legal.proofs.Places.{place_low, place_high}
+use Rattle.bus_word.proofs.Places.{place_low, place_high}
 use Rattle.bus_legal.proofs.Words.{AreWords-zeros}
 use Rattle.bus_legal.proofs.normal.reached.normalise.Goals as goal
 

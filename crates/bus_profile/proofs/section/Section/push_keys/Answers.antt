@@ -1,5 +1,5 @@
 use Rattle.toml.specs.View.{table_view}
-use Rattle.bus_profile.proofs.AllFaults.{told_step, key_step}
+use Rattle.bus_profile.proofs.PushedFaults.{told_step, key_step}
 use Rattle.bus_profile.proofs.section.Section.push_keys.Goals as goal
 
 pub loop-key-preserved : goal.loop-key-preserved

@@ -1,6 +1,6 @@
 use Rattle.std.proofs.Common.{◌≡◌, OnOk, subst}
 use Rattle.toml.specs.View.{table_view}
-use Rattle.bus_profile.proofs.AllFaults.{next, grown, words_told}
+use Rattle.bus_profile.proofs.PushedFaults.{next, grown, words_told}
 use Rattle.bus_profile.proofs.section.Section.push_words.Goals as goal
 
 pub returns : goal.returns

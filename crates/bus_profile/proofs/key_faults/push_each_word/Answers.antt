@@ -1,5 +1,5 @@
-use Rattle.bus_profile.proofs.AllFaults.{told_step, word_step}
-use Rattle.bus_profile.proofs.told.push_each_word.Goals as goal
+use Rattle.bus_profile.proofs.PushedFaults.{told_step, word_step}
+use Rattle.bus_profile.proofs.key_faults.push_each_word.Goals as goal
 
 pub loop-value-preserved : goal.loop-value-preserved
 loop-value-preserved c =

@@ -2,7 +2,7 @@ use Rattle.std.proofs.Common.{◌≡◌, ◌+◌, ◌++◌, drop}
 use Rattle.toml.specs.View.{items_view}
 use Rattle.bus_profile.specs.Faults.{each_item}
 use Rattle.bus_profile.specs.inner.AllFaults.{failing_parts, checks_of}
-use Rattle.bus_profile.proofs.told.push_items.Given as goal
+use Rattle.bus_profile.proofs.entry_faults.push_items.Given as goal
 
 abbrev pub invariant-loop-index : goal.invariant-loop-index
 invariant-loop-index l =

@@ -2,7 +2,7 @@ use Rattle.std.proofs.Common.{◌≡◌, ◌+◌, ◌++◌, drop}
 use Rattle.toml.specs.View.{items_view}
 use Rattle.bus_profile.specs.Faults.{word_checks, each_item}
 use Rattle.bus_profile.specs.inner.AllFaults.{failing_parts}
-use Rattle.bus_profile.proofs.told.push_each_word.Given as goal
+use Rattle.bus_profile.proofs.key_faults.push_each_word.Given as goal
 
 abbrev pub invariant-loop-value : goal.invariant-loop-value
 invariant-loop-value l =

@@ -1,7 +1,7 @@
 use Rattle.std.proofs.Common.{◌≡◌, OnOk, subst, ◌∙◌}
 use Rattle.toml.specs.View.{table_view}
-use Rattle.bus_profile.proofs.AllFaults.{grown, long_told, short_told}
-use Rattle.bus_profile.proofs.told.push_array.Goals as goal
+use Rattle.bus_profile.proofs.PushedFaults.{grown, long_told, short_told}
+use Rattle.bus_profile.proofs.entry_faults.push_array.Goals as goal
 
 pub returns-then-values-gt256 : goal.returns-then-values-gt256
 returns-then-values-gt256 c =

@@ -1,7 +1,7 @@
 use Rattle.std.proofs.Common.{◌≡◌, OnOk, subst}
 use Rattle.toml.specs.View.{table_view}
-use Rattle.bus_profile.proofs.AllFaults.{next, grown, rule_told, mode_told, initial_told}
-use Rattle.bus_profile.proofs.told.push_table.Goals as goal
+use Rattle.bus_profile.proofs.PushedFaults.{next, grown, rule_told, mode_told, initial_told}
+use Rattle.bus_profile.proofs.entry_faults.push_table.Goals as goal
 
 pub returns-in-Rule : goal.returns-in-Rule
 returns-in-Rule c =
