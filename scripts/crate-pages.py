@@ -90,7 +90,7 @@ def rows(text):
 def lines_in(repository, folder, name):
     path = repository.root / "crates" / folder / f"{name}.antt"
     files = [path, *sorted((path.parent / name).glob("*.antt"))]
-    return sum(len(file.read_text().splitlines()) for file in files)
+    return sum(len(file.read_text().splitlines()) for file in files if file.exists())
 
 
 def counted(repository, text):

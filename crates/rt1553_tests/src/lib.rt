@@ -4,8 +4,6 @@
 #![tactic(auto)]
 
 #[cfg(test)]
-mod bus_words;
-#[cfg(test)]
 mod by_hand;
 #[cfg(test)]
 mod faults;
