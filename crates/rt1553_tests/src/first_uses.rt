@@ -1,19 +1,17 @@
-//! The first use of each crate, as its README.md has it.
+//! First uses of crates, as their README.md has them.
 use bus_canon::{distinguish, read_canon, write_canon};
 use bus_complete_test::Exchanges;
 use bus_legal::{Legality, RuleList, normalise, setup_of};
 use bus_profile::read_profile;
-use bus_script::{read_event, write_event};
 use bus_terminal::{Answer, Event, Terminal, WordPlace};
 use bus_word::{Bus, Cell, Command, Kind, Raw, cell_of};
 use line_format::{FieldKind, Lines, bit_line, put_number_line};
 use profile_types::{Entries, Numbers, Rule};
-use rt1553::{Verdict, canonical, compare, load};
+use rt1553::load;
 use rt1553_acceptance::label_of;
 use rt1553_differ::{differences, explain};
 use rt1553_draw::draw;
 use rt1553_lint::lint;
-use rt1553_live::{new_live, step_live};
 use rt1553_results::{Rows, csv_header};
 use rt1553_tool::{read_word_line, toml_of};
 use rt1553_verify::verify;
@@ -130,14 +128,6 @@ fn a_terminal(rt: HostRuntime) -> Result<(), Fail> {
 }
 
 #[test]
-fn lines_of_a_script(rt: HostRuntime) {
-    let event = read_event(b"A c 2c02");
-    let line = write_event(&Event::Gap(Bus::A));
-    assert!(rt; matches!(event, Ok(Some(Event::Word(Bus::A, _)))));
-    assert_eq!(rt; line.as_str(), "A gap");
-}
-
-#[test]
 fn a_canonical_text(rt: HostRuntime) -> Result<(), Fail> {
     let normal = load(rt.alloc(), b"address = 5")?;
     let other = load(rt.alloc(), b"address = 6")?;
@@ -155,25 +145,6 @@ fn the_acceptance_test(rt: HostRuntime) -> Result<(), Fail> {
     let mut exchanges = Exchanges::new(&normal);
     let first = exchanges.next();
     assert!(rt; first.is_some());
-    Ok(())
-}
-
-#[test]
-fn the_public_calls(rt: HostRuntime) -> Result<(), Fail> {
-    let text = canonical(rt.alloc(), b"address = 5")?;
-    let verdict = compare(rt.alloc(), b"address = 5", b"address = 6")?;
-    assert!(rt; text.len() > 1000);
-    assert!(rt; matches!(verdict, Verdict::Differ(_)));
-    Ok(())
-}
-
-#[test]
-fn a_terminal_by_numbers(rt: HostRuntime) -> Result<(), Fail> {
-    let mut live = new_live(rt.alloc(), b"address = 5\n")?;
-    // a gap on bus A
-    live.event.what = 2;
-    let status = step_live(&mut live);
-    assert_eq!(rt; status, 0);
     Ok(())
 }
 
