@@ -1,11 +1,7 @@
 -- Laws of hexadecimal digits: they are ASCII, and a word is read by pairs or by the values that are kept of each byte.
-use Rattle.std.proofs.Common.{◌≡◌, ◌≢◌, ℕ, zero, suc, ◌<◌, ◌≤◌, ◌+◌, ◌*◌, ◌/◌, ◌%◌, ◌^◌, nat_lt, List, [], ◌∷◌, Bool, true, false, Option, Some, None, Ok, length, slice_index, slice_set, w16, lit<, refl, sym, ap, ◌∙◌, arith}
-use Rattle.std.specs.Int.{from_le_bytes, to_le_bytes}
-use Rattle.std.proofs.lemmas.Nat.{le_bytes_2}
+use Rattle.std.proofs.Common.{◌≡◌, ◌≢◌, ℕ, zero, suc, ◌<◌, ◌≤◌, ◌+◌, ◌*◌, ◌/◌, ◌%◌, ◌^◌, nat_lt, List, [], ◌∷◌, Bool, true, Option, Some, None, Ok, slice_index, lit<, refl, sym, ap, ◌∙◌, arith}
 use Rattle.std.specs.List.{list_all}
 use Rattle.std.proofs.lemmas.Bool.{and_parts}
-use Rattle.std.proofs.lemmas.List.{get_or-set_other}
-use Rattle.std.proofs.lemmas.Grind.{get_or-set_at}
 use Rattle.std.proofs.lemmas.Bool.Decides.{nat_tests}
 use Rattle.hex.specs.Hex.{◌>>=◌, digit_or_error, hex_digit_value, decode_pairs, lower_digits, encode_with, encode_lower}
 use Rattle.bus_script.specs.Digits.{word_of_bytes, word_of, digits_of}
@@ -150,15 +146,6 @@ digit_small b v is = grind (arith, nat_tests, is)
 pub digit_kept : (b v : ℕ) → hex_digit_value b ≡ Some v → digit_in v ≡ hex_digit_value b
 digit_kept b v is = is_digit v (digit_small b v is) ∙ sym is
 
--- one entry more stands for what is read in its byte
-pub one_entry_more : (entries : List ℕ) (i v : ℕ) → i < length entries → ((b : ℕ) → b < i → digit_in (slice_index entries b) ≡ hex_digit_value b) → digit_in v ≡ hex_digit_value i
-    → (b : ℕ) → b < i + 1 → digit_in (slice_index (slice_set entries i v) b) ≡ hex_digit_value b
-one_entry_more entries i v within before here b below = case (nat_lt b i) refl
-  where
-    case : (t : Bool) → nat_lt b i ≡ t → digit_in (slice_index (slice_set entries i v) b) ≡ hex_digit_value b
-    case true e = let less : b < i = grind (arith, nat_tests, e) in ap digit_in (get_or-set_other entries i b v 0 (λ same. omega (arith, less, same))) ∙ before b less
-    case false e = let same : b ≡ i = grind (arith, nat_tests, e, below) in ap digit_in (get_or-set_at entries i b v 0 same within) ∙ here ∙ ap hex_digit_value (sym same)
-
 -- a word is written by the digits of its two bytes
 pub word_by_parts : (first second : List ℕ) (word high low : ℕ) → word < 2 ^ 16 → high ≡ word / 256 % 256 → low ≡ word % 256 → first ≡ pair_of high → second ≡ pair_of low
     → slice_index first 0 ∷ slice_index first 1 ∷ slice_index second 0 ∷ slice_index second 1 ∷ [] ≡ digits_of word
@@ -169,21 +156,3 @@ word_by_parts first second word high low fits h l one two =
   where
     small : word / 256 % 256 ≡ word / 256
     small = omega (arith, fits)
-
-pair_length : (byte : ℕ) → length (pair_of byte) ≡ 2
-unfolding encode_with
-pair_length byte = refl
-
--- the two digits of a byte, taken as one number, are its bytes
-pub pair_kept : (pair : List ℕ) (byte n : ℕ) → pair ≡ pair_of byte → n ≡ from_le_bytes w16 pair → to_le_bytes w16 n ≡ pair_of byte
-pair_kept pair byte n is read =
-    le_bytes_2 pair n (ap length is ∙ pair_length byte) (λ i. omega (arith, ap (λ p. slice_index p i) is, encoded_ascii lower_digits (byte ∷ []) refl i)) read ∙ is
-
--- one pair more is what is written for its byte
-pub one_pair_more : (entries : List ℕ) (i n : ℕ) → i < length entries → ((b : ℕ) → b < i → to_le_bytes w16 (slice_index entries b) ≡ pair_of b) → to_le_bytes w16 n ≡ pair_of i
-    → (b : ℕ) → b < i + 1 → to_le_bytes w16 (slice_index (slice_set entries i n) b) ≡ pair_of b
-one_pair_more entries i n within before here b below = case (nat_lt b i) refl
-  where
-    case : (t : Bool) → nat_lt b i ≡ t → to_le_bytes w16 (slice_index (slice_set entries i n) b) ≡ pair_of b
-    case true e = let less : b < i = grind (arith, nat_tests, e) in ap (to_le_bytes w16) (get_or-set_other entries i b n 0 (λ same. omega (arith, less, same))) ∙ before b less
-    case false e = let same : b ≡ i = grind (arith, nat_tests, e, below) in ap (to_le_bytes w16) (get_or-set_at entries i b n 0 same within) ∙ here ∙ ap pair_of (sym same)
