@@ -21,7 +21,7 @@ mod writing;
 
 pub use chunk::find_line_feed;
 pub use device::{IoFailed, Sink, Source};
-pub use digits::{push_number, push_word};
+pub use digits::{digits_of, push_number, push_word, read_word};
 pub use event_line::{flag_name, write_event};
 pub use fault::RunFault;
 pub use line::{LineFault, read_event};

@@ -6,10 +6,9 @@ ghost use Rattle.rt1553_results.specs.Results.{answer, line_in};
 ghost use Rattle.rt1553_results.specs.Compare.{told_reply, replies_told, missing_at, counted, numbers_in, TellsResults, Compares, AreNotCompared};
 
 use crate::comparison::{Comparison, NumberRange, WrongReply};
-use crate::playing::TestRow;
+use crate::playing::{TestRow, copied};
 use crate::results::Results;
 use crate::rows::Rows;
-use arrayvec::ArrayVec;
 use bus_legal::Normal;
 use rt1553_acceptance::label_of;
 use std::alloc::{AllocError, Global};
@@ -24,16 +23,6 @@ pub enum CompareFault {
     /// A growth of memory was refused.
     #[error("out of memory")]
     Memory,
-}
-
-/// Copies the words of a reply.
-fn copied(words: &[u16]) -> ArrayVec<u16, 33>
-    requires { length words.now ≤ 33 }
-    ensures { result.items ≡ words.now }
-{
-    let mut copy = ArrayVec::new();
-    let _ = copy.try_extend_from_slice(words);
-    copy
 }
 
 /// Numbers with one number more, if it is the next.

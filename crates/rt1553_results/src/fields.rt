@@ -2,10 +2,10 @@
 ghost use Rattle.std.specs.Prelude.{◌≡◌, option_map};
 ghost use Rattle.std.specs.Option.{SomeIff};
 ghost use Rattle.std.specs.Str.Parse.{digits_value};
-ghost use Rattle.bus_script.specs.Digits.{word_of};
 ghost use Rattle.rt1553_results.specs.Results.{words_said, at_most_33, reply_said, IsExchangeNumber};
 
 use arrayvec::ArrayVec;
+use bus_script::read_word;
 use std::str;
 
 /// The number in a field: decimal digits and nothing else, from 1 on.
@@ -25,17 +25,6 @@ pub fn read_exchange_number(field: &[u8]) -> Option<u32>
     }
 }
 
-/// The word of four hexadecimal digits, small or capital.
-fn read_word(digits: [u8; 4]) -> Option<u16>
-    ensures { result ≡ word_of digits }
-{
-    let mut bytes = [0; 2];
-    match hex::decode_to_slice(&digits, &mut bytes) {
-        Ok(()) => Some(u16::from_be_bytes(bytes)),
-        Err(_) => None,
-    }
-}
-
 /// Words of four hexadecimal digits with a space between two: at most 33.
 fn read_words(field: &[u8]) -> Option<ArrayVec<u16, 33>>
     ensures { option_map (λ words. words.items) result ≡ at_most_33 (words_said field.now) }
@@ -43,7 +32,7 @@ fn read_words(field: &[u8]) -> Option<ArrayVec<u16, 33>>
     let mut words = ArrayVec::new();
     let mut rest = field;
     while rest.len() >= 4 && words.len() < 33 {
-        let Some(word) = read_word([rest[0], rest[1], rest[2], rest[3]]) else {
+        let Some(word) = read_word(rest[0], rest[1], rest[2], rest[3]) else {
             return None;
         };
         words.push(word);

@@ -1,6 +1,6 @@
 //! Rows of the acceptance test as JSON.
 use crate::playing::TestRow;
-use crate::texts::{data_words, digits, handed_text};
+use crate::texts::{data_words, handed_text};
 use bus_legal::Normal;
 use rt1553_acceptance::label_of;
 use serde::Serialize;

@@ -54,9 +54,9 @@ pub struct TestRow {
     pub handed: Option<Handed>,
 }
 
-/// Copies data words.
-fn copied(words: &[u16]) -> ArrayVec<u16, 32>
-    requires { length words.now ≤ 32 }
+/// Copies words, for which there is room.
+pub fn copied<const N: usize>(words: &[u16]) -> ArrayVec<u16, N>
+    requires { length words.now ≤ N }
     ensures { result.items ≡ words.now }
 {
     let mut copy = ArrayVec::new();

@@ -6,8 +6,9 @@ ghost use Rattle.rt1553_results.specs.Handed.{answered_in};
 ghost use Rattle.rt1553_results.specs.Table.{table_writer, csv_header, csv_row};
 
 use crate::playing::TestRow;
-use crate::texts::{data_words, digits, handed_text, reply_text, words_text};
+use crate::texts::{data_words, handed_text, reply_text, words_text};
 use bus_legal::Normal;
+use bus_script::digits_of;
 use csv::{Terminator, WriterBuilder};
 use itoa::Buffer;
 use rt1553_acceptance::label_of;
@@ -60,7 +61,7 @@ pub fn csv_row(alloc: Global, normal: &Normal, row: &TestRow) -> Result<Vec<u8>,
         &[
             number.format(row.number).as_bytes(),
             label.as_str().as_bytes(),
-            &digits(row.exchange.command),
+            &digits_of(row.exchange.command),
             data.as_slice(),
             reply.as_slice(),
             handed.as_slice(),

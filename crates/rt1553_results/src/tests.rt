@@ -158,89 +158,91 @@ fn number_beyond_the_last(rt: HostRuntime) -> Result<(), Fail> {
     Ok(())
 }
 
+/// Tables that are refused, and by which fault.
+const REFUSED: [(&[u8], &str); 20] = [
+    (
+        b"\xef\xbb\xbfnumber,reply\r\n1,none\r\n0,none\r\n",
+        "results: row 3, column 1: not the number of an exchange",
+    ),
+    (
+        b"number,reply\r\n1,none\r\n0,none\r\n",
+        "results: row 3, column 1: not the number of an exchange",
+    ),
+    (
+        b"\nnote,number,reply\n\n\"a\nb\",1,none\n,0,none\n",
+        "results: row 6, column 2: not the number of an exchange",
+    ),
+    (b"", "results: row 1, column 1: no header"),
+    (
+        b"number\n",
+        "results: row 1, column 2: no column is named reply",
+    ),
+    (
+        b"a,reply\n",
+        "results: row 1, column 3: no column is named number",
+    ),
+    (
+        b"number,reply,number\n",
+        "results: row 1, column 3: a second column is named number",
+    ),
+    (
+        b"number,reply\n1\n",
+        "results: row 2, column 2: not as many fields as the header",
+    ),
+    (
+        b"number,reply\n1,none,\n",
+        "results: row 2, column 3: not as many fields as the header",
+    ),
+    (
+        b"number,reply\n1,none\n0,none\n",
+        "results: row 3, column 1: not the number of an exchange",
+    ),
+    (
+        b"number,reply\n+1,none\n",
+        "results: row 2, column 1: not the number of an exchange",
+    ),
+    (
+        b"number,reply\n,none\n",
+        "results: row 2, column 1: not the number of an exchange",
+    ),
+    (
+        b"number,reply\n4294967296,none\n",
+        "results: row 2, column 1: not the number of an exchange",
+    ),
+    (
+        b"number,reply\n\xff,none\n",
+        "results: row 2, column 1: not the number of an exchange",
+    ),
+    (
+        b"reply,number\nnone,1\nnone,01\n",
+        "results: row 3, column 2: the number of an earlier row",
+    ),
+    (
+        b"number,reply\n1,\n",
+        "results: row 2, column 2: not `none`, or 1 to 33 words of four hexadecimal digits",
+    ),
+    (
+        b"number,reply\n1,280\n",
+        "results: row 2, column 2: not `none`, or 1 to 33 words of four hexadecimal digits",
+    ),
+    (
+        b"number,reply\n1,2800 \n",
+        "results: row 2, column 2: not `none`, or 1 to 33 words of four hexadecimal digits",
+    ),
+    (
+        b"number,reply\n1,2800  2800\n",
+        "results: row 2, column 2: not `none`, or 1 to 33 words of four hexadecimal digits",
+    ),
+    (
+        b"number,reply\n1,28x0\n",
+        "results: row 2, column 2: not `none`, or 1 to 33 words of four hexadecimal digits",
+    ),
+];
+
 #[test]
 fn refused_tables(rt: HostRuntime) -> Result<(), Fail> {
     let alloc = rt.alloc();
-    let cases: [(&[u8], &str); 20] = [
-        (
-            b"\xef\xbb\xbfnumber,reply\r\n1,none\r\n0,none\r\n",
-            "results: row 3, column 1: not the number of an exchange",
-        ),
-        (
-            b"number,reply\r\n1,none\r\n0,none\r\n",
-            "results: row 3, column 1: not the number of an exchange",
-        ),
-        (
-            b"\nnote,number,reply\n\n\"a\nb\",1,none\n,0,none\n",
-            "results: row 6, column 2: not the number of an exchange",
-        ),
-        (b"", "results: row 1, column 1: no header"),
-        (
-            b"number\n",
-            "results: row 1, column 2: no column is named reply",
-        ),
-        (
-            b"a,reply\n",
-            "results: row 1, column 3: no column is named number",
-        ),
-        (
-            b"number,reply,number\n",
-            "results: row 1, column 3: a second column is named number",
-        ),
-        (
-            b"number,reply\n1\n",
-            "results: row 2, column 2: not as many fields as the header",
-        ),
-        (
-            b"number,reply\n1,none,\n",
-            "results: row 2, column 3: not as many fields as the header",
-        ),
-        (
-            b"number,reply\n1,none\n0,none\n",
-            "results: row 3, column 1: not the number of an exchange",
-        ),
-        (
-            b"number,reply\n+1,none\n",
-            "results: row 2, column 1: not the number of an exchange",
-        ),
-        (
-            b"number,reply\n,none\n",
-            "results: row 2, column 1: not the number of an exchange",
-        ),
-        (
-            b"number,reply\n4294967296,none\n",
-            "results: row 2, column 1: not the number of an exchange",
-        ),
-        (
-            b"number,reply\n\xff,none\n",
-            "results: row 2, column 1: not the number of an exchange",
-        ),
-        (
-            b"reply,number\nnone,1\nnone,01\n",
-            "results: row 3, column 2: the number of an earlier row",
-        ),
-        (
-            b"number,reply\n1,\n",
-            "results: row 2, column 2: not `none`, or 1 to 33 words of four hexadecimal digits",
-        ),
-        (
-            b"number,reply\n1,280\n",
-            "results: row 2, column 2: not `none`, or 1 to 33 words of four hexadecimal digits",
-        ),
-        (
-            b"number,reply\n1,2800 \n",
-            "results: row 2, column 2: not `none`, or 1 to 33 words of four hexadecimal digits",
-        ),
-        (
-            b"number,reply\n1,2800  2800\n",
-            "results: row 2, column 2: not `none`, or 1 to 33 words of four hexadecimal digits",
-        ),
-        (
-            b"number,reply\n1,28x0\n",
-            "results: row 2, column 2: not `none`, or 1 to 33 words of four hexadecimal digits",
-        ),
-    ];
-    for (text, wanted) in cases {
+    for (text, wanted) in REFUSED {
         let Err(fault) = read_results(alloc, text) else {
             return Err("read")?;
         };

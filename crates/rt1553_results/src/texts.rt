@@ -3,32 +3,22 @@ ghost use Rattle.std.specs.Prelude.{◌≡◌, ◌≤◌, ◌<◌, ◌++◌, len
 ghost use Rattle.std.specs.List.{flat_map};
 ghost use Rattle.terminal_exchanges.specs.Values.{exchange_in};
 ghost use Rattle.bus_terminal.specs.Answer.{shown_handing, words_handed};
-ghost use Rattle.bus_script.specs.Digits.{digits_of};
 ghost use Rattle.bus_script.specs.Transcript.{word_field};
 ghost use Rattle.rt1553_results.specs.Handed.{handing_in};
 ghost use Rattle.rt1553_results.specs.Table.{words_text, reply_text, handed_text};
 
 use crate::playing::Handed;
 use bus_complete_test::Exchange;
-use bus_script::write_answer;
+use bus_script::{digits_of, write_answer};
 use bus_terminal::{Answer, Hand};
 use std::alloc::{AllocError, Global};
-
-/// The four hexadecimal digits of a word, small.
-pub fn digits(word: u16) -> [u8; 4]
-    ensures { result ≡ digits_of word }
-{
-    let mut digits = [0; 4];
-    let _ = hex::encode_to_slice(word.to_be_bytes(), &mut digits);
-    digits
-}
 
 /// Writes a word behind a space.
 fn push_field(text: &mut Vec<u8>, word: u16) -> Result<(), AllocError>
     ensures { OnOk result (text.new.items ≡ text.old.items ++ word_field word) }
 {
     text.push(b' ')?;
-    text.extend_from_slice(&digits(word))?;
+    text.extend_from_slice(&digits_of(word))?;
     Ok(())
 }
 
@@ -50,7 +40,7 @@ pub fn words_text(alloc: Global, words: &[u16]) -> Result<Vec<u8>, AllocError>
     if words.is_empty() {
         return Ok(text);
     }
-    text.extend_from_slice(&digits(words[0]))?;
+    text.extend_from_slice(&digits_of(words[0]))?;
     push_fields(&mut text, &words[1..])?;
     Ok(text)
 }

@@ -1,5 +1,6 @@
 -- The complete test of a terminal: one script, played once from power-up, that tells it from every other terminal. It goes
--- through all that can differ, one exchange or two for each, with no reset and no power cycle in between.
+-- through all that can differ, one exchange or two for each. No reset and no power cycle is needed before any of them: the
+-- test is played from power-up, and reset remote terminal (mode code 8) is among the commands tried.
 use Rattle.std.specs.Prelude.{◌≡◌, ℕ, zero, suc, ◌+◌, ◌≤◌, ◌↔◌, if◌then◌else◌, Some, List, [], ◌∷◌, ◌++◌, length, is_some}
 use Rattle.bus_word.specs.declared.cell.Cell.TheVariants.{OwnMode}
 use Rattle.bus_word.specs.Mode as mode
