@@ -63,14 +63,15 @@ def spans(text):
 
 def faults_of(repository, path):
     """What a page names that isn't there."""
-    base = path.parent
-    for span in spans(path.read_text()):
+    base, text = path.parent, path.read_text()
+    own = {word for block in re.findall(r"^```.*?^```", text, re.M | re.S) for word in WORD.findall(block)}
+    for span in spans(text):
         if re.search(r"NAME|\*|\s|\.\.", span) or ANY.fullmatch(span):
             continue
         if "/" in span:
             if not repository.has_path(base, span.rstrip("/")) and re.fullmatch(r"[\w./\-]+", span):
                 yield f"no file {span}"
-        elif NAME.fullmatch(span) and not repository.has_name(span) and not repository.has_path(base, span):
+        elif span not in own and NAME.fullmatch(span) and not repository.has_name(span) and not repository.has_path(base, span):
             yield f"no name {span}"
 
 
@@ -89,7 +90,7 @@ def rows(text):
 def lines_in(repository, folder, name):
     path = repository.root / "crates" / folder / f"{name}.antt"
     files = [path, *sorted((path.parent / name).glob("*.antt"))]
-    return sum(len(file.read_text().splitlines()) for file in files)
+    return sum(len(file.read_text().splitlines()) for file in files if file.exists())
 
 
 def counted(repository, text):

@@ -53,7 +53,8 @@ pub fn feed_lines<L: Legality, W: Sink>(
     result
 }
 
-/// Plays the whole lines of a chunk, and gives the number of their bytes.
+/// Plays the whole lines of a chunk, and gives the number of their bytes. The loop is one function: the counts and the place
+/// in the chunk stay in registers over all kinds of lines.
 fn feed_counting<L: Legality, W: Sink>(
     terminal: &mut Terminal<L>,
     writer: &mut W,

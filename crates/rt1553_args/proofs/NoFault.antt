@@ -1,4 +1,4 @@
--- Words that clap finds no fault with name a job.
+-- Arguments that clap finds no fault with name a job.
 use Rattle.std.proofs.Common.{◌≡◌, ℕ, Bool, true, false, List, [], ◌∷◌, Option, Some, None, true≢false, refl, sym, ap, is_some, cond, ◌&&◌, ◌||◌, not, codes, option_map, IfErr, IfNone, Result, subst}
 use Rattle.std.specs.Prelude.{⊤, ok_or, if◌then◌else◌, fold, find}
 use Rattle.std.specs.Option.{option_map_or}

@@ -65,7 +65,7 @@ pub extern "C" fn rt1553_version(version: &mut Version)
     };
 }
 
-/// TellsFault why a text is not loaded, and gives the status for it.
+/// Tells why a text is not loaded, and gives the status for it.
 fn told(fault: &mut PlainFault, why: LoadFault) -> u8
     ensures told { TellsFault fault.new (EngineFault.Load why) }
     ensures status { result ≡ exit_status_of (EngineFault.Load why) }

@@ -1,4 +1,4 @@
-//! Bytes are put_bytes into the room that a caller gives.
+//! Bytes are put into the room that a caller gives.
 ghost use Rattle.std.specs.Prelude.{◌≡◌, ◌≤◌, ◌<◌, ◌+◌, ◌++◌, true, false, length, take};
 ghost use Rattle.bus_script.specs.EventLine.{event_line, script_text};
 

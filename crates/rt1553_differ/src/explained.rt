@@ -28,19 +28,6 @@ pub struct Codes {
     pub broadcast: u32,
 }
 
-/// What is so of a terminal beside its legal cells and the words that it holds.
-#[derive(Clone, Copy, PartialEq, Eq)]
-pub struct Settings {
-    pub address: u8,
-    pub broadcast: bool,
-    /// The wraparound subaddress; 0 where words can't come back anywhere.
-    pub wraparound: u8,
-    /// Whether dynamic bus control is accepted.
-    pub accept: bool,
-    pub vector: u16,
-    pub bit: u16,
-}
-
 /// The row of a subaddress, 1 to 30, by what can be reached.
 pub fn row_of(normal: &Normal, subaddress: u8) -> SubaddressRow
     requires low { 1 ≤ subaddress }
@@ -73,24 +60,5 @@ pub fn codes_of(normal: &Normal) -> Codes
     Codes {
         own: tables.own_mode,
         broadcast: tables.broadcast_mode,
-    }
-}
-
-/// What is so beside, by what can be reached.
-pub fn settings_of(normal: &Normal) -> Settings
-    ensures address { result.address ≡ (description_in normal.now).address }
-    ensures option { result.broadcast ≡ (description_in normal.now).broadcast }
-    ensures wraparound { result.wraparound ≡ (description_in normal.now).wrap }
-    ensures accept { result.accept ≡ (description_in normal.now).accept }
-    ensures vector { result.vector ≡ (description_in normal.now).vector }
-    ensures bit { result.bit ≡ (description_in normal.now).bit }
-{
-    Settings {
-        address: normal.address(),
-        broadcast: normal.broadcast(),
-        wraparound: normal.wrap(),
-        accept: normal.accept(),
-        vector: normal.vector(),
-        bit: normal.bit(),
     }
 }

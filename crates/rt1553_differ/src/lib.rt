@@ -9,7 +9,7 @@ mod table;
 mod told;
 
 pub use differing::{DifferFault, differences};
-pub use explained::{Codes, Settings, SubaddressRow, codes_of, row_of, settings_of};
+pub use explained::{Codes, SubaddressRow, codes_of, row_of};
 pub use groups::{Group, groups_of};
 pub use scripts::script_of;
 pub use table::{explain, explain_json};

@@ -1,7 +1,7 @@
 //! A profile explained, as text and as JSON.
 ghost use Rattle.std.specs.Prelude.{◌≤◌};
 
-use crate::explained::{Codes, Settings, SubaddressRow, codes_of, row_of, settings_of};
+use crate::explained::{Codes, SubaddressRow, codes_of, row_of};
 use bus_legal::Normal;
 use bus_word::mode::{BIT_WORD, DYNAMIC_BUS_CONTROL, VECTOR_WORD};
 use bus_word::mode_name;
@@ -144,20 +144,20 @@ fn push_codes(text: &mut String, title: &str, codes: u32) -> Result<(), AllocErr
 }
 
 /// Writes what is so beside the tables. What no mode code asks for is left out.
-fn push_settings(text: &mut String, settings: Settings, codes: Codes) -> Result<(), AllocError> {
-    writeln!(text, "remote terminal {}", settings.address)?;
-    let option = if settings.broadcast {
+fn push_settings(text: &mut String, normal: &Normal, codes: Codes) -> Result<(), AllocError> {
+    writeln!(text, "remote terminal {}", normal.address())?;
+    let option = if normal.broadcast() {
         "heard"
     } else {
         "not heard"
     };
     writeln!(text, "broadcast: {option}")?;
-    match settings.wraparound {
+    match normal.wrap() {
         0 => writeln!(text, "wraparound: none")?,
         s => writeln!(text, "wraparound: at subaddress {s}")?,
     }
     if has_code(codes.own, DYNAMIC_BUS_CONTROL) {
-        let accept = if settings.accept {
+        let accept = if normal.accept() {
             "accepted"
         } else {
             "not accepted"
@@ -165,10 +165,10 @@ fn push_settings(text: &mut String, settings: Settings, codes: Codes) -> Result<
         writeln!(text, "bus control: {accept}")?;
     }
     if has_code(codes.own, VECTOR_WORD) {
-        writeln!(text, "vector word: {:04x}", settings.vector)?;
+        writeln!(text, "vector word: {:04x}", normal.vector())?;
     }
     if has_code(codes.own, BIT_WORD) {
-        writeln!(text, "BIT word: {:04x}", settings.bit)?;
+        writeln!(text, "BIT word: {:04x}", normal.bit())?;
     }
     Ok(())
 }
@@ -177,7 +177,7 @@ fn push_settings(text: &mut String, settings: Settings, codes: Codes) -> Result<
 pub fn explain(alloc: Global, normal: &Normal) -> Result<String, AllocError> {
     let mut text = String::new(alloc);
     let codes = codes_of(normal);
-    push_settings(&mut text, settings_of(normal), codes)?;
+    push_settings(&mut text, normal, codes)?;
     push_counts(alloc, &mut text, normal)?;
     push_words(&mut text, normal)?;
     push_codes(&mut text, "mode codes", codes.own)?;
@@ -263,17 +263,16 @@ where
 /// What a terminal does, as JSON; None where memory runs out.
 pub fn explain_json(alloc: Global, normal: &Normal) -> Option<String> {
     let codes = codes_of(normal);
-    let settings = settings_of(normal);
     let explanation = Explanation {
-        address: settings.address,
-        broadcast: settings.broadcast,
-        wraparound: match settings.wraparound {
+        address: normal.address(),
+        broadcast: normal.broadcast(),
+        wraparound: match normal.wrap() {
             0 => None,
             s => Some(s),
         },
-        accept_bus_control: if_asked(codes, DYNAMIC_BUS_CONTROL, settings.accept),
-        vector: if_asked(codes, VECTOR_WORD, settings.vector),
-        bit: if_asked(codes, BIT_WORD, settings.bit),
+        accept_bus_control: if_asked(codes, DYNAMIC_BUS_CONTROL, normal.accept()),
+        vector: if_asked(codes, VECTOR_WORD, normal.vector()),
+        bit: if_asked(codes, BIT_WORD, normal.bit()),
         subaddresses: rows_list(alloc, normal).ok()?,
         mode_codes: codes_list(alloc, codes.own).ok()?,
         broadcast_mode_codes: codes_list(alloc, codes.broadcast).ok()?,

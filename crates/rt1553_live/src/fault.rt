@@ -56,8 +56,8 @@ fn plain_fault_line(fault: &EngineFault) -> u64
     }
 }
 
-/// TellsFault a fault, and gives the status of the program `rt1553` for it: 2 where a text is refused, 4 where memory or room was
-/// wanting.
+/// Tells a fault, and gives the status of the program `rt1553` for it: 2 where a text is refused, 4 where memory runs out or
+/// a read or a write fails.
 pub fn tell_fault(to: &mut PlainFault, fault: &EngineFault) -> u8
     ensures status { result ≡ exit_status_of fault.now }
     ensures told { TellsFault to.new fault.now }

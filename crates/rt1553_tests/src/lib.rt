@@ -4,11 +4,11 @@
 #![tactic(auto)]
 
 #[cfg(test)]
-mod bus_words;
-#[cfg(test)]
 mod by_hand;
 #[cfg(test)]
 mod faults;
+#[cfg(test)]
+mod first_uses;
 #[cfg(test)]
 mod formats;
 #[cfg(test)]

@@ -1,0 +1,214 @@
+//! First uses of crates, as their README.md has them.
+use bus_canon::{distinguish, read_canon, write_canon};
+use bus_complete_test::Exchanges;
+use bus_legal::{Legality, RuleList, normalise, setup_of};
+use bus_profile::read_profile;
+use bus_terminal::{Answer, Event, Terminal, WordPlace};
+use bus_word::{Bus, Cell, Command, Kind, Raw, cell_of};
+use line_format::{FieldKind, Lines, bit_line, put_number_line};
+use profile_types::{Entries, Numbers, Rule};
+use rt1553::load;
+use rt1553_acceptance::label_of;
+use rt1553_differ::{differences, explain};
+use rt1553_draw::draw;
+use rt1553_lint::lint;
+use rt1553_results::{Rows, csv_header};
+use rt1553_tool::{read_word_line, toml_of};
+use rt1553_verify::verify;
+use std::test::Fail;
+use terminal_exchanges::{events_of, transmit};
+use terminal_state::{GapEnd, InProgress};
+
+#[test]
+fn words_of_the_bus(rt: HostRuntime) {
+    let word = Raw::of(Kind::Com, 0x2c22);
+    let command = Command::of(word.bits);
+    let is_ours = word.is_for(5, true);
+    // the terminal is to transmit two words of subaddress 1
+    let cell = cell_of(command);
+    assert!(rt; is_ours);
+    assert_eq!(rt; cell, Some(Cell::OwnTransmit(1, 2)));
+    assert!(rt; command.transmit());
+}
+
+#[test]
+fn texts_of_lines(rt: HostRuntime) -> Result<(), Fail> {
+    let read = bit_line(Lines::of(b"bit 1\nword beef\n"), b"bit");
+    let bit = read.map(|r| r.0).ok();
+    let mut text = Vec::new(rt.alloc());
+    put_number_line(&mut text, b"word", FieldKind::Word, 0xbeef)?;
+    assert_eq!(rt; bit, Some(true));
+    assert_eq!(rt; text.as_slice(), b"word beef\n".as_slice());
+    Ok(())
+}
+
+#[test]
+fn entries_of_a_profile(rt: HostRuntime) -> Result<(), Fail> {
+    let rule = Rule {
+        own: true,
+        broadcast: false,
+        receive: true,
+        transmit: false,
+        subaddresses: 1,
+        counts: 1,
+        legal: true,
+    };
+    let rules = Entries::of(vec![in rt.alloc(); rule]?);
+    let first = rules.as_slice().first();
+    let subaddresses = Numbers {
+        bits: 0b111,
+        first: 1,
+    };
+    assert!(rt; first.is_some());
+    assert_eq!(rt; subaddresses.bits, 7);
+    Ok(())
+}
+
+#[test]
+fn a_profile_text(rt: HostRuntime) {
+    let address = match read_profile(rt.alloc(), b"address = 5") {
+        Ok(profile) => Some(profile.address),
+        Err(_) => None,
+    };
+    assert_eq!(rt; address, Some(5));
+}
+
+#[test]
+fn what_a_profile_means(rt: HostRuntime) {
+    let Ok(profile) = read_profile(rt.alloc(), b"address = 5") else {
+        panic!(rt; "the profile is refused");
+    };
+    let normal = normalise(&profile);
+    let is_legal = normal.legal(Cell::OwnTransmit(1, 2));
+    let mut terminal = Terminal::power_up(normal.setup(), normal);
+    // the same terminal over the profile's own entries, asked one by one
+    let mut by_rules = Terminal::power_up(setup_of(&profile), RuleList::of(&profile));
+    assert!(rt; !is_legal);
+    terminal.take(Event::Gap(Bus::A));
+    by_rules.take(Event::Gap(Bus::A));
+}
+
+#[test]
+fn events_and_places(rt: HostRuntime) {
+    let gap = Event::Gap(Bus::B);
+    let place = WordPlace::of(3, 32);
+    assert!(rt; matches!(gap, Event::Gap(Bus::B)));
+    assert!(rt; place.is_some());
+}
+
+#[test]
+fn an_exchange(rt: HostRuntime) {
+    // the terminal of address 5 transmits two words of subaddress 1, in three slots
+    let exchange = transmit(5, 1, 2, 3);
+    let events = events_of(exchange);
+    assert_eq!(rt; events.as_slice().len(), 5);
+}
+
+#[test]
+fn a_message_in_progress(rt: HostRuntime) {
+    let mut message = InProgress::none();
+    message.start(Bus::A, Command::of(0x0821));
+    message.follow(Bus::A, 1, Some(Raw::of(Kind::Dat, 0x1234)));
+    let end = message.end_at_gap(Bus::A);
+    assert!(rt; matches!(end, GapEnd::Complete(_)));
+}
+
+#[test]
+fn a_terminal(rt: HostRuntime) -> Result<(), Fail> {
+    let normal = load(rt.alloc(), b"address = 5")?;
+    let mut terminal = Terminal::power_up(normal.setup(), normal);
+    terminal.take(Event::Word(Bus::A, Raw::of(Kind::Com, 0x2c02)));
+    terminal.take(Event::Gap(Bus::A));
+    let status = match terminal.step(Event::Slot) {
+        Answer::Sends(sent) => Some(sent.bits),
+        _ => None,
+    };
+    assert_eq!(rt; status, Some(0x2800));
+    Ok(())
+}
+
+#[test]
+fn a_canonical_text(rt: HostRuntime) -> Result<(), Fail> {
+    let normal = load(rt.alloc(), b"address = 5")?;
+    let other = load(rt.alloc(), b"address = 6")?;
+    let text = write_canon(rt.alloc(), &normal)?;
+    let read = read_canon(text.as_slice());
+    let script = distinguish(&normal, &other);
+    assert!(rt; read.is_ok());
+    assert!(rt; script.is_some());
+    Ok(())
+}
+
+#[test]
+fn the_acceptance_test(rt: HostRuntime) -> Result<(), Fail> {
+    let normal = load(rt.alloc(), b"address = 5")?;
+    let mut exchanges = Exchanges::new(&normal);
+    let first = exchanges.next();
+    assert!(rt; first.is_some());
+    Ok(())
+}
+
+#[test]
+fn two_profiles(rt: HostRuntime) -> Result<(), Fail> {
+    let normal = load(rt.alloc(), b"address = 5")?;
+    let other = load(rt.alloc(), b"address = 6")?;
+    let table = explain(rt.alloc(), &normal)?;
+    let found = differences(rt.alloc(), &normal, &other)?;
+    assert!(rt; !table.as_str().is_empty());
+    assert_eq!(rt; found.len(), 1);
+    Ok(())
+}
+
+#[test]
+fn a_script_that_states_its_answers(rt: HostRuntime) -> Result<(), Fail> {
+    let normal = load(rt.alloc(), b"address = 5")?;
+    let script = b"A c 2c02\nA gap\nslot\n#> A s 2800\n";
+    let wrong = verify(rt.alloc(), &normal, script)?;
+    assert!(rt; wrong.is_empty());
+    Ok(())
+}
+
+#[test]
+fn what_an_exchange_tries(rt: HostRuntime) -> Result<(), Fail> {
+    let normal = load(rt.alloc(), b"address = 5")?;
+    // what the transmit command 2c22 of address 5 tries
+    let label = label_of(&normal, 0x2c22);
+    assert!(rt; !label.as_str().is_empty());
+    Ok(())
+}
+
+#[test]
+fn the_test_as_a_table(rt: HostRuntime) -> Result<(), Fail> {
+    let normal = load(rt.alloc(), b"address = 5")?;
+    let mut rows = Rows::new(&normal);
+    let row = rows.next();
+    let header = csv_header(rt.alloc())?;
+    assert!(rt; row.is_some());
+    assert!(rt; !header.is_empty());
+    Ok(())
+}
+
+#[test]
+fn a_profile_in_toml(rt: HostRuntime) -> Result<(), Fail> {
+    let normal = load(rt.alloc(), b"address = 5")?;
+    let text = toml_of(rt.alloc(), &normal)?;
+    let line = read_word_line(b"c 2c22");
+    assert!(rt; !text.as_str().is_empty());
+    assert!(rt; line.is_ok());
+    Ok(())
+}
+
+#[test]
+fn what_is_wrong(rt: HostRuntime) -> Result<(), Fail> {
+    let findings = lint(rt.alloc(), b"adress = 5\n")?;
+    assert!(rt; !findings.is_empty());
+    Ok(())
+}
+
+#[test]
+fn a_drawing(rt: HostRuntime) -> Result<(), Fail> {
+    let normal = load(rt.alloc(), b"address = 5")?;
+    let svg = draw(rt.alloc(), &normal, b"A c 2c02\nA gap\nslot\n")?;
+    assert!(rt; !svg.as_str().is_empty());
+    Ok(())
+}
