@@ -7,12 +7,12 @@ use bus_terminal::{Answer, Event, Terminal, WordPlace};
 use bus_word::{Bus, Cell, Command, Kind, Raw, cell_of};
 use line_format::{FieldKind, Lines, bit_line, put_number_line};
 use profile_types::{Entries, Numbers, Rule};
-use rt1553::load;
+use rt1553::{canonical, load};
 use rt1553_acceptance::label_of;
 use rt1553_differ::{differences, explain};
 use rt1553_draw::draw;
 use rt1553_lint::lint;
-use rt1553_results::{Rows, csv_header};
+use rt1553_results::{compare_results, read_results};
 use rt1553_tool::{read_word_line, toml_of};
 use rt1553_verify::verify;
 use std::test::Fail;
@@ -129,13 +129,15 @@ fn a_terminal(rt: HostRuntime) -> Result<(), Fail> {
 
 #[test]
 fn a_canonical_text(rt: HostRuntime) -> Result<(), Fail> {
-    let normal = load(rt.alloc(), b"address = 5")?;
-    let other = load(rt.alloc(), b"address = 6")?;
-    let text = write_canon(rt.alloc(), &normal)?;
-    let read = read_canon(text.as_slice());
-    let script = distinguish(&normal, &other);
-    assert!(rt; read.is_ok());
+    let first = canonical(rt.alloc(), b"address = 5")?;
+    let second = canonical(rt.alloc(), b"address = 6")?;
+    let (text, other) = (first.as_slice(), second.as_slice());
+    let ours = read_canon(text)?;
+    let theirs = read_canon(other)?;
+    let script = distinguish(&ours, &theirs);
+    let written = write_canon(rt.alloc(), &ours)?;
     assert!(rt; script.is_some());
+    assert_eq!(rt; written.as_slice(), text);
     Ok(())
 }
 
@@ -180,11 +182,10 @@ fn what_an_exchange_tries(rt: HostRuntime) -> Result<(), Fail> {
 #[test]
 fn the_test_as_a_table(rt: HostRuntime) -> Result<(), Fail> {
     let normal = load(rt.alloc(), b"address = 5")?;
-    let mut rows = Rows::new(&normal);
-    let row = rows.next();
-    let header = csv_header(rt.alloc())?;
-    assert!(rt; row.is_some());
-    assert!(rt; !header.is_empty());
+    let results = read_results(rt.alloc(), b"number,reply\n1,2800\n")?;
+    let comparison = compare_results(rt.alloc(), &normal, &results)?;
+    let is_same = comparison.passes();
+    assert!(rt; !is_same);
     Ok(())
 }
 

@@ -5,6 +5,7 @@
 mod fields;
 mod profile_text;
 mod session;
+mod word_answers;
 mod word_lines;
 mod written;
 
@@ -14,4 +15,5 @@ pub use fields::{
 };
 pub use profile_text::{TomlFault, toml_of};
 pub use session::{play_live_line, serve};
-pub use word_lines::{WordLine, WordLineFault, answer_words, read_word_line};
+pub use word_answers::answer_words;
+pub use word_lines::{WordLine, WordLineFault, read_word_line};
