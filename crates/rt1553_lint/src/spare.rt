@@ -138,8 +138,8 @@ pub fn is_spare_mode(alloc: Global, profile: &Profile, index: usize) -> Result<b
     Ok(are_same(profile, &less))
 }
 
-/// Tells whether the initial entry of this index has no effect: without it the terminal is the same. The error is that
-/// out of memory.
+/// Tells whether the initial entry of this index has no effect: without it the terminal is the same. The only
+/// error is out of memory.
 pub fn is_spare_initial(alloc: Global, profile: &Profile, index: usize) -> Result<bool, AllocError>
     requires { index < length profile.now.initials }
     ensures { IfOk result (λ spare. IsTrue spare ↔ Same (description_of profile.now) (without_initial profile.now index)) }
@@ -167,8 +167,8 @@ pub fn is_spare_word(
     Ok(are_same(profile, &less))
 }
 
-/// Tells whether a key of the root has no effect: with its default the terminal is the same. The error is that memory was
-/// wanting.
+/// Tells whether a key of the root has no effect: with its default the terminal is the same. The only error is
+/// out of memory.
 pub fn is_spare_setting(
     alloc: Global,
     profile: &Profile,
