@@ -3,10 +3,10 @@ use Rattle.std.proofs.Common.{ℕ, ◌≡◌, List, [], ◌∷◌, ◌++◌, ref
 use Rattle.std.specs.Io.KnownBytes.{Appends, Keeps}
 use Rattle.std.proofs.KnownBytes.{Appends-nil, Appends-trans, Appends-kept}
 use Rattle.terminal_rules.specs.declared.event.Event.{Event}
-use Rattle.bus_script.specs.Transcript.{transcript}
+use Rattle.script_lines.specs.Transcript.{transcript}
 use Rattle.terminal_rules.specs.Past.{history_after}
 use Rattle.bus_script.specs.Playing.{Plays, Takes, PlaysPart}
-use Rattle.bus_script.specs.Device.{IsPartWritten}
+use Rattle.byte_streams.specs.Device.{IsPartWritten}
 
 pub after_append : (h es fs : List Event) → history_after (es ++ fs) h ≡ history_after fs (history_after es h)
 after_append h [] fs = refl

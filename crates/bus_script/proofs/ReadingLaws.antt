@@ -5,10 +5,10 @@ use Rattle.std.proofs.lemmas.Bool.Decides.{nat_tests}
 use Rattle.terminal_rules.specs.declared.event.Event.{Event}
 use Rattle.bus_script.specs.declared.fault.RunFault.{RunFault}
 use Rattle.bus_script.specs.declared.fault.RunFault.TheVariants.{LongLine, TooLong}
-use Rattle.bus_script.specs.Text.{lines_of, NoLineFeed}
+use Rattle.script_lines.specs.Text.{lines_of, NoLineFeed}
 use Rattle.bus_script.specs.Reading.{Meaning, Reading, adds, stops, then_reads, reading}
 use Rattle.bus_script.specs.inner.Lines.{ReadsLines, Faults, IsRefused}
-use Rattle.bus_script.proofs.LineLaws.{EndsLine-append, EndsLine-line, lines-line, lines-some, lines-front}
+use Rattle.script_lines.proofs.LineLaws.{EndsLine-append, EndsLine-line, lines-line, lines-some, lines-front}
 
 pub adds-adds : (es fs : List Event) (r : Reading) → adds es (adds fs r) ≡ adds (es ++ fs) r
 adds-adds es fs r = ap (λ xs. record { events = xs; fault = r.fault }) (sym (append_assoc es fs r.events))

@@ -13,12 +13,12 @@ use Rattle.terminal_rules.specs.declared.event.Event.{Event}
 use Rattle.bus_script.specs.declared.fault.RunFault.{RunFault}
 use Rattle.bus_script.specs.declared.fault.RunFault.TheVariants.{Line, LongLine, TooLong, Read, Write}
 use Rattle.bus_script.specs.Fault.{is_of_script}
-use Rattle.bus_script.specs.Text.{lines_of, NoLineFeed, EndsLine}
+use Rattle.script_lines.specs.Text.{lines_of, NoLineFeed, EndsLine}
 use Rattle.bus_script.specs.Reading.{Meaning, Reading, adds, stops, nothing, reading, ByFault}
 use Rattle.bus_script.specs.inner.Lines.{ReadsLines, Faults, Means, IsRefused, IsRest}
 use Rattle.bus_script.specs.Playing.{Plays, PlaysPart, RunsTo, BreaksAt}
 use Rattle.bus_script.specs.inner.Feeding.{Feeds}
-use Rattle.bus_script.proofs.LineLaws.{lines-last}
+use Rattle.script_lines.proofs.LineLaws.{lines-last}
 use Rattle.bus_script.proofs.ReadingLaws.{adds-adds, reading-line, ReadsLines-nil, ReadsLines-trans, ReadsLines-Faults}
 use Rattle.bus_script.proofs.PlayLaws.{Plays-nil, Plays-trans, Plays-part, Plays-last, Plays-kept, PlaysPart-kept}
 

@@ -17,8 +17,8 @@ use Rattle.bus_terminal.specs.declared.terminal.Terminal.{Terminal}
 use Rattle.bus_terminal.specs.Stands.{StandsAt}
 use Rattle.bus_terminal.specs.Slots.{slots, AreSent}
 use Rattle.bus_script.specs.Reading.{Meaning}
-use Rattle.bus_script.specs.Device.{IsCutShort}
-use Rattle.bus_script.specs.Transcript.{answer_text, text_at, data_text, transcript}
+use Rattle.byte_streams.specs.Device.{IsCutShort}
+use Rattle.script_lines.specs.Transcript.{answer_text, text_at, data_text, transcript}
 use Rattle.bus_script.specs.Playing.{Plays, PlaysPart}
 use Rattle.bus_script.specs.inner.Lines.{ReadsLines, StandsFirst, LinesFirst, SlotsFirst}
 use Rattle.bus_script.proofs.ReadingLaws.{ReadsLines-trans}

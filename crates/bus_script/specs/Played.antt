@@ -7,9 +7,9 @@ use Rattle.bus_terminal.specs.declared.terminal.Terminal.{Terminal}
 use Rattle.bus_terminal.specs.Stands.{StandsAt}
 use Rattle.bus_script.specs.declared.fault.RunFault.{RunFault}
 use Rattle.bus_script.specs.Reading.{Reading, stops, nothing, ByFault}
-use Rattle.bus_script.specs.Line.{meaning}
-use Rattle.bus_script.specs.Text.{NoLineFeed, EndsLine}
-use Rattle.bus_script.specs.Transcript.{text_at}
+use Rattle.script_lines.specs.Line.{meaning}
+use Rattle.script_lines.specs.Text.{NoLineFeed, EndsLine}
+use Rattle.script_lines.specs.Transcript.{text_at}
 use Rattle.bus_script.specs.Playing.{Plays, Takes, PlaysPart, RunsTo, BreaksAt}
 
 -- the terminal took these events, and just their transcript was written

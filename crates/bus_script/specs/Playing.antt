@@ -5,9 +5,9 @@
 use Rattle.std.specs.Prelude.{ℕ, ◌≡◌, List, [], ◌∷◌, ◌++◌, Option}
 use Rattle.std.specs.Io.KnownBytes.{Appends}
 use Rattle.terminal_rules.specs.declared.event.Event.{Event}
-use Rattle.bus_script.specs.Text.{lines_of}
+use Rattle.script_lines.specs.Text.{lines_of}
 use Rattle.bus_script.specs.Reading.{Meaning, Reading, adds, reading}
-use Rattle.bus_script.specs.Transcript.{transcript}
+use Rattle.script_lines.specs.Transcript.{transcript}
 use Rattle.terminal_rules.specs.Past.{history_after}
 
 -- the terminal took these events, and just their transcript was written

@@ -1,7 +1,7 @@
 -- What a script says.
 use Rattle.std.specs.Prelude.{ℕ, ◌+◌, nat_le, nat_lt, if◌then◌else◌, List, [], ◌∷◌, ◌++◌, length, Option, Some, None, Result, Ok, Err}
 use Rattle.terminal_rules.specs.declared.event.Event.{Event}
-use Rattle.bus_script.specs.declared.line.LineFault.{LineFault}
+use Rattle.script_lines.specs.declared.line.LineFault.{LineFault}
 use Rattle.bus_script.specs.declared.fault.RunFault.{RunFault}
 use Rattle.bus_script.specs.declared.fault.RunFault.TheVariants.{Line, LongLine, TooLong, Read, Write}
 

@@ -1,10 +1,10 @@
 //! The whole lines of a piece of a script are played.
 ghost use Rattle.std.specs.Prelude.{◌≡◌, ◌≤◌, ◌+◌, length, ◌∷◌, ◌++◌, [], List, ℕ, true, IfOk, IfErr};
 ghost use Rattle.terminal_rules.specs.declared.event.Event.{Event};
-ghost use Rattle.bus_script.specs.Line.{meaning};
+ghost use Rattle.script_lines.specs.Line.{meaning};
 ghost use Rattle.bus_script.specs.Reading.{ByFault};
 ghost use Rattle.bus_terminal.specs.Stands.{StandsAt};
-ghost use Rattle.bus_script.specs.Transcript.{text_at};
+ghost use Rattle.script_lines.specs.Transcript.{text_at};
 ghost use Rattle.bus_script.specs.inner.Lines.{Faults, ReadsLines};
 ghost use Rattle.bus_script.specs.inner.Feeding.{Feeds};
 ghost use Rattle.bus_script.specs.Played.{Played, PlayedPart};

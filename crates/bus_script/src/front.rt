@@ -2,8 +2,8 @@
 ghost use Rattle.std.specs.Prelude.{◌≡◌, true, Ok, Some, IfSome};
 ghost use Rattle.terminal_rules.specs.declared.event.Event.TheVariants.{Word as WordEvent, Slot};
 ghost use Rattle.bus_word.specs.Word.{valid_word};
-ghost use Rattle.bus_script.specs.Line.{bus_of, meaning};
-ghost use Rattle.bus_script.specs.Text.{NoLineFeed};
+ghost use Rattle.script_lines.specs.Line.{bus_of, meaning};
+ghost use Rattle.script_lines.specs.Text.{NoLineFeed};
 ghost use Rattle.bus_script.specs.inner.Lines.{StandsFirst};
 
 use crate::digits::HexDigits;

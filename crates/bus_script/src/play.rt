@@ -1,10 +1,10 @@
 //! Events are played, and what the terminal answers is written.
 ghost use Rattle.std.specs.Prelude.{◌≡◌, ◌≤◌, ◌<◌, ◌∷◌, [], List, ℕ, true, length, IfOk, IfErr, OnOk, OnErr};
 ghost use Rattle.terminal_rules.specs.declared.event.Event.{Event};
-ghost use Rattle.bus_script.specs.Line.{meaning};
+ghost use Rattle.script_lines.specs.Line.{meaning};
 ghost use Rattle.bus_script.specs.Reading.{ByFault};
 ghost use Rattle.bus_terminal.specs.Answer.{shown_answer};
-ghost use Rattle.bus_script.specs.Transcript.{answer_text, may_be_answered};
+ghost use Rattle.script_lines.specs.Transcript.{answer_text, may_be_answered};
 ghost use Rattle.bus_script.specs.inner.Lines.{Means, IsRefused};
 ghost use Rattle.bus_script.specs.Played.{Played, PlayedPart};
 

@@ -2,8 +2,8 @@
 ghost use Rattle.std.specs.Prelude.{◌≡◌, ◌≤◌, ◌<◌, ◌+◌, ◌-◌, ◌∷◌, ◌++◌, [], List, ℕ, true, false, length, take, drop, IfOk, IfErr, IfSome, OnOk, OnErr, IsErrOf};
 ghost use Rattle.std.specs.Io.KnownBytes.{Keeps, Consumes, IsAtEnd};
 ghost use Rattle.terminal_rules.specs.declared.event.Event.{Event};
-ghost use Rattle.bus_script.specs.Line.{meaning};
-ghost use Rattle.bus_script.specs.Text.{lines_of, NoLineFeed, EndsLine};
+ghost use Rattle.script_lines.specs.Line.{meaning};
+ghost use Rattle.script_lines.specs.Text.{lines_of, NoLineFeed, EndsLine};
 ghost use Rattle.bus_script.specs.Reading.{Reading, reading, adds, stops, nothing, ByFault};
 ghost use Rattle.bus_script.specs.inner.Lines.{IsRest};
 ghost use Rattle.bus_script.specs.Fault.{is_of_script};

@@ -3,8 +3,8 @@ ghost use Rattle.std.specs.Prelude.{◌≡◌, true, IfErr, OnOk, OnErr};
 ghost use Rattle.std.specs.List.{flat_map};
 ghost use Rattle.std.specs.Io.KnownBytes.{Appends};
 ghost use Rattle.bus_terminal.specs.Answer.{shown_answer, shown_word, IsSmall};
-ghost use Rattle.bus_script.specs.Device.{IsPartWritten, IsCutShort};
-ghost use Rattle.bus_script.specs.Transcript.{sent_text, data_text, word_field, received_by, received_text, answer_text};
+ghost use Rattle.byte_streams.specs.Device.{IsPartWritten, IsCutShort};
+ghost use Rattle.script_lines.specs.Transcript.{sent_text, data_text, word_field, received_by, received_text, answer_text};
 
 use crate::digits::{HexDigits, decimal_digits};
 use crate::transcript::{push_answer, sent_lead};

@@ -2,7 +2,7 @@
 ghost use Rattle.std.specs.Prelude.{◌≡◌, ◌≤◌, ◌<◌, ◌+◌, ℕ, true, IfOk, OnErr};
 ghost use Rattle.terminal_rules.specs.declared.event.Event.TheVariants.{Slot};
 ghost use Rattle.bus_terminal.specs.Slots.{slots};
-ghost use Rattle.bus_script.specs.Line.{meaning};
+ghost use Rattle.script_lines.specs.Line.{meaning};
 ghost use Rattle.bus_script.specs.inner.Lines.{StandsFirst, SlotsFirst};
 ghost use Rattle.bus_script.specs.Played.{Played, PlayedPart};
 

@@ -1,7 +1,7 @@
 //! Words, of which messages are made: as many are taken at once as stand one after another.
 ghost use Rattle.std.specs.Prelude.{◌≤◌, ◌*◌, List};
 ghost use Rattle.terminal_rules.specs.declared.event.Event.{Event};
-ghost use Rattle.bus_script.specs.Line.{meaning};
+ghost use Rattle.script_lines.specs.Line.{meaning};
 ghost use Rattle.bus_script.specs.inner.Lines.{LinesFirst};
 ghost use Rattle.bus_script.specs.Played.{Taken};
 

@@ -15,9 +15,9 @@ use Rattle.bus_terminal.specs.Stands.{StandsAt}
 use Rattle.terminal_rules.specs.Past.{history_after}
 use Rattle.terminal_rules.proofs.Reach.Same.{out-reach}
 use Rattle.bus_script.specs.declared.fault.RunFault.{RunFault}
-use Rattle.bus_script.specs.Text.{NoLineFeed, EndsLine}
+use Rattle.script_lines.specs.Text.{NoLineFeed, EndsLine}
 use Rattle.bus_script.specs.Reading.{Reading, stops, nothing, ByFault}
-use Rattle.bus_script.specs.Transcript.{answer_text, text_at, transcript}
+use Rattle.script_lines.specs.Transcript.{answer_text, text_at, transcript}
 use Rattle.bus_script.specs.Played.{Ran, Broke}
 use Rattle.bus_script.proofs.FeedLaws.{ByFault-weaker}
 use Rattle.rt1553.specs.Engine.{Writes, StopsBy}

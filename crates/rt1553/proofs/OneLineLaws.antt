@@ -2,7 +2,7 @@
 use Rattle.std.proofs.Common.{ℕ, ◌≡◌, ◌==◌, false, List, [], ◌∷◌, arith}
 use Rattle.std.proofs.lemmas.Bool.{or_parts}
 use Rattle.std.proofs.lemmas.Bool.Decides.{nat_tests}
-use Rattle.bus_script.specs.Text.{NoLineFeed}
+use Rattle.script_lines.specs.Text.{NoLineFeed}
 use Rattle.rt1553.specs.OneLine.{has_line_feed}
 
 pub no_line_feed : (bytes : List ℕ) → has_line_feed bytes ≡ false → NoLineFeed bytes

@@ -6,10 +6,10 @@ use Rattle.bus_legal.specs.Description.{Description}
 use Rattle.terminal_rules.specs.Past.{history_after}
 use Rattle.terminal_rules.specs.declared.event.Event.{Event}
 use Rattle.bus_script.specs.declared.fault.RunFault.{RunFault}
-use Rattle.bus_script.specs.Line.{meaning}
-use Rattle.bus_script.specs.Text.{lines_of, NoLineFeed, EndsLine}
+use Rattle.script_lines.specs.Line.{meaning}
+use Rattle.script_lines.specs.Text.{lines_of, NoLineFeed, EndsLine}
 use Rattle.bus_script.specs.Reading.{Reading, reading, adds, stops, nothing, ByFault}
-use Rattle.bus_script.specs.Transcript.{transcript, text_at}
+use Rattle.script_lines.specs.Transcript.{transcript, text_at}
 use Rattle.rt1553.specs.Load.{Of}
 use Rattle.rt1553.specs.declared.fault.LoadFault.{LoadFault}
 use Rattle.rt1553.specs.declared.fault.EngineFault.{EngineFault}

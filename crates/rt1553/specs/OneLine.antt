@@ -1,7 +1,7 @@
 -- A text of one line.
 use Rattle.std.specs.Prelude.{ℕ, ◌≡◌, ◌==◌, Bool, List, [], ◌∷◌, ◌++◌}
 use Rattle.std.specs.List.{list_any}
-use Rattle.bus_script.specs.Text.{NoLineFeed}
+use Rattle.script_lines.specs.Text.{NoLineFeed}
 
 -- the bytes are one line: they end in a line feed and hold no other
 pub record IsOneLine (bytes : List ℕ) : Type 0 where

@@ -15,11 +15,11 @@ use Rattle.terminal_rules.specs.Same.{IsProper, AreProper}
 use Rattle.terminal_rules.specs.Out.{Sending, Handing, HandsReceived, HandsSynchronize, HandsSynchronizeWith, HandsSelfTest, HandsBusControl, Out, Silence, SendsWord, HandsOver, sends, hands, handing_over, sending_out, out}
 use Rattle.terminal_exchanges.specs.Exchanges.{Exchange, script_of}
 use Rattle.terminal_exchanges.proofs.EventLaws.{exchange-append}
-use Rattle.bus_script.specs.Digits.{digits_of, decimal_digits}
-use Rattle.bus_script.specs.Line.{meaning}
-use Rattle.bus_script.specs.EventLine.{event_text}
-use Rattle.bus_script.specs.Transcript.{bus_letter, sent_kind, sent_text, word_field, received_by, answer_text, transcript}
-use Rattle.bus_script.proofs.RoundTrip.{event_read}
+use Rattle.script_lines.specs.Digits.{digits_of, decimal_digits}
+use Rattle.script_lines.specs.Line.{meaning}
+use Rattle.script_lines.specs.EventLine.{event_text}
+use Rattle.script_lines.specs.Transcript.{bus_letter, sent_kind, sent_text, word_field, received_by, answer_text, transcript}
+use Rattle.script_lines.proofs.RoundTrip.{event_read}
 use Rattle.line_format.specs.Front.{after}
 use Rattle.rt1553_verify.specs.declared.stated.StatedFault.{StatedFault}
 use Rattle.rt1553_verify.specs.Stated.{StatedEvent, Latest, After, can_answer, ended, stays, or_misplaced, unstated_line, by_going_on, by_answer, with_line_feed, is_empty, line_says}

@@ -3,8 +3,8 @@ use Rattle.std.proofs.Common.{ℕ, zero, suc, ◌≡◌, ◌≢◌, ◌∙◌, �
 use Rattle.std.proofs.lemmas.Bool.{cases_lt}
 use Rattle.hex.specs.Hex.{lower_digits, encode_with, hex_digit_value}
 use Rattle.hex.proofs.HexLemmas.{IsDigits-lower_digits}
-use Rattle.bus_script.specs.Digits.{digits_of, decimal_digits}
-use Rattle.bus_script.specs.Text.{NoLineFeed}
+use Rattle.script_lines.specs.Digits.{digits_of, decimal_digits}
+use Rattle.script_lines.specs.Text.{NoLineFeed}
 
 -- beyond the table there is no digit
 beyond : (xs : List ℕ) (i : ℕ) → length xs ≤ i → get_or xs i 0 ≡ 0

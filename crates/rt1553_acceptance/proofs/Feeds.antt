@@ -14,11 +14,11 @@ use Rattle.terminal_rules.specs.declared.event.Event.{Event}
 use Rattle.terminal_rules.specs.declared.event.Event.TheVariants as event
 use Rattle.terminal_rules.specs.declared.event.Flag.{Flag}
 use Rattle.terminal_rules.specs.declared.event.Flag.TheVariants.{Service, Busy, Subsystem, Terminal}
-use Rattle.bus_script.specs.Digits.{digits_of, decimal_digits}
-use Rattle.bus_script.specs.Text.{NoLineFeed}
-use Rattle.bus_script.specs.Transcript.{bus_letter, sent_kind}
-use Rattle.bus_script.specs.EventLine.{kind_text, truth_field, place_text, flag_name, event_text}
-use Rattle.bus_script.proofs.TranscriptLaws.{four_digits}
+use Rattle.script_lines.specs.Digits.{digits_of, decimal_digits}
+use Rattle.script_lines.specs.Text.{NoLineFeed}
+use Rattle.script_lines.specs.Transcript.{bus_letter, sent_kind}
+use Rattle.script_lines.specs.EventLine.{kind_text, truth_field, place_text, flag_name, event_text}
+use Rattle.script_lines.proofs.TranscriptLaws.{four_digits}
 use Rattle.rt1553_acceptance.specs.Label.{small_decimal, data_asked, asked, is_legal_by, label_of}
 use Rattle.rt1553_acceptance.proofs.Pieces.{feeds-append}
 use Rattle.rt1553_acceptance.proofs.Digits.{feeds-digits, feeds-decimal}

@@ -1,6 +1,6 @@
 -- Words that an answer states, written one after the other.
 use Rattle.std.proofs.Common.{ℕ, zero, suc, ◌≡◌, ◌∙◌, ◌-◌, ◌<◌, List, [], ◌∷◌, ◌++◌, codes, sym, ap, arith, append_assoc}
-use Rattle.bus_script.specs.Digits.{digits_of}
+use Rattle.script_lines.specs.Digits.{digits_of}
 use Rattle.rt1553_acceptance.specs.Text.{fields_stated}
 
 -- the first word of a line that goes on

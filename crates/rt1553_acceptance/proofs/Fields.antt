@@ -1,9 +1,9 @@
 -- Words that an answer states, read: however they stand on lines, they follow one another.
 use Rattle.std.proofs.Common.{ℕ, zero, suc, ◌≡◌, ◌∙◌, ◌+◌, ◌*◌, ◌-◌, ◌≤◌, false, not, List, [], ◌∷◌, ◌++◌, Some, None, Ok, length, flat_map, refl, sym, ap, subst, arith, append_assoc, append-nil, length-append, codes, if◌then◌else◌}
-use Rattle.bus_script.specs.Digits.{digits_of}
-use Rattle.bus_script.specs.Text.{NoLineFeed}
-use Rattle.bus_script.specs.Transcript.{word_field}
-use Rattle.bus_script.proofs.TranscriptLaws.{four_digits}
+use Rattle.script_lines.specs.Digits.{digits_of}
+use Rattle.script_lines.specs.Text.{NoLineFeed}
+use Rattle.script_lines.specs.Transcript.{word_field}
+use Rattle.script_lines.proofs.TranscriptLaws.{four_digits}
 use Rattle.rt1553_verify.specs.Stated.{StatedEvent, Latest, stays, or_misplaced, is_empty, line_says}
 use Rattle.rt1553_acceptance.specs.Text.{fields_stated}
 use Rattle.rt1553_acceptance.proofs.Pieces.{Tells, Tells-line, Tells-trans, Tells-same, feeds-append}

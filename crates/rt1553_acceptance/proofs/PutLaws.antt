@@ -11,7 +11,7 @@ use Rattle.terminal_exchanges.specs.Exchanges.{Exchange, exchange_then, script_o
 use Rattle.terminal_exchanges.proofs.EventLaws.{exchange-append}
 use Rattle.bus_terminal.specs.declared.terminal.Terminal.{Terminal}
 use Rattle.bus_terminal.specs.Stands.{StandsAt}
-use Rattle.bus_script.specs.Transcript.{transcript}
+use Rattle.script_lines.specs.Transcript.{transcript}
 use Rattle.bus_script.specs.Playing.{Plays}
 use Rattle.bus_script.proofs.PlayLaws.{after_append}
 use Rattle.rt1553_acceptance.specs.Text.{event_stated, comment_of, exchanges_stated}

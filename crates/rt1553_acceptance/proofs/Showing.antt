@@ -13,8 +13,8 @@ use Rattle.terminal_rules.specs.declared.event.Event.{Event}
 use Rattle.terminal_rules.specs.Out.{Sending, Handing, HandsReceived, HandsSynchronize, HandsSynchronizeWith, HandsSelfTest, HandsBusControl, Out, Silence, SendsWord, HandsOver, out, outs_from}
 use Rattle.terminal_exchanges.specs.Sent.{sent_in}
 use Rattle.terminal_complete_test.specs.CompleteTest.{complete_test, tried}
-use Rattle.bus_script.specs.Digits.{digits_of}
-use Rattle.bus_script.specs.Transcript.{sent_text, hand_text, answer_text, text_at}
+use Rattle.script_lines.specs.Digits.{digits_of}
+use Rattle.script_lines.specs.Transcript.{sent_text, hand_text, answer_text, text_at}
 use Rattle.terminal_complete_test.proofs.Complete.{complete_test_law}
 use Rattle.rt1553_verify.specs.Stated.{StatedEvent, stated_in}
 use Rattle.rt1553_verify.specs.Verify.{ToldAnswer, answers_told, wrong_answers_from, by_script, verified}

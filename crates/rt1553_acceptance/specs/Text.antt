@@ -6,9 +6,9 @@ use Rattle.terminal_rules.specs.Past.{history_after}
 use Rattle.terminal_rules.specs.Out.{Handing, HandsReceived, HandsSynchronize, HandsSynchronizeWith, HandsSelfTest, HandsBusControl, Out, Silence, SendsWord, HandsOver, out}
 use Rattle.terminal_exchanges.specs.Exchanges.{Exchange, script_of}
 use Rattle.terminal_complete_test.specs.CompleteTest.{tried}
-use Rattle.bus_script.specs.Digits.{digits_of, decimal_digits}
-use Rattle.bus_script.specs.EventLine.{event_text}
-use Rattle.bus_script.specs.Transcript.{sent_text, word_field, received_by, hand_text, transcript}
+use Rattle.script_lines.specs.Digits.{digits_of, decimal_digits}
+use Rattle.script_lines.specs.EventLine.{event_text}
+use Rattle.script_lines.specs.Transcript.{sent_text, word_field, received_by, hand_text, transcript}
 use Rattle.rt1553_acceptance.specs.Label.{label_of}
 
 -- the last words of an answer: so many have room on its line, and the others go on, twelve on a line

@@ -3,7 +3,7 @@ ghost use Rattle.std.specs.Prelude.{◌≡◌, ◌≤◌, ◌<◌, ◌^◌, ◌+
 ghost use Rattle.arrayvec.specs.ArrayString.{array_string_len};
 ghost use Rattle.terminal_rules.specs.Out.{HandsReceived, HandsOver};
 ghost use Rattle.bus_terminal.specs.Answer.{shown_answer, IsSmall};
-ghost use Rattle.bus_script.specs.EventLine.{event_text};
+ghost use Rattle.script_lines.specs.EventLine.{event_text};
 ghost use Rattle.rt1553_acceptance.specs.Text.{fields_stated, answer_stated};
 ghost use Rattle.rt1553_acceptance.specs.inner.Fits.{Fits};
 

@@ -17,7 +17,7 @@ ghost use Rattle.rt1553_live.specs.PlainFault.{TellsFault};
 ghost use Rattle.rt1553_live.specs.declared.live.Live.{Live};
 ghost use Rattle.rt1553_live.specs.contracts.live.Live.{the_row};
 ghost use Rattle.rt1553_live.specs.Live.{Steps};
-ghost use Rattle.bus_script.specs.EventLine.{script_text};
+ghost use Rattle.script_lines.specs.EventLine.{script_text};
 ghost use Rattle.rt1553_c.specs.Told.{IsTold, IsNotWritten, IsTooLong, Differ, RunsThrough, IsStopped};
 
 mod bounded_sink;

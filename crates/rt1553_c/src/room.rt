@@ -1,6 +1,6 @@
 //! Bytes are put into the room that a caller gives.
 ghost use Rattle.std.specs.Prelude.{◌≡◌, ◌≤◌, ◌<◌, ◌+◌, ◌++◌, true, false, length, take};
-ghost use Rattle.bus_script.specs.EventLine.{event_line, script_text};
+ghost use Rattle.script_lines.specs.EventLine.{event_line, script_text};
 
 use bus_script::write_event;
 use bus_terminal::Event;

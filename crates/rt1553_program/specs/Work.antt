@@ -3,7 +3,7 @@ use Rattle.std.specs.Prelude.{ℕ, ◌≡◌, ◌⊎◌, List, Option, codes}
 use Rattle.std.specs.Io.KnownBytes.{Appends}
 use Rattle.bus_legal.specs.Description.{Description}
 use Rattle.terminal_rules.specs.declared.event.Event.{Event}
-use Rattle.bus_script.specs.EventLine.{script_text}
+use Rattle.script_lines.specs.EventLine.{script_text}
 use Rattle.rt1553.specs.Load.{Of}
 use Rattle.rt1553.specs.Canon.{IsCanon}
 use Rattle.rt1553.specs.Compare.{AreSame, AreDifferent}

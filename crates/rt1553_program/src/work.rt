@@ -7,7 +7,7 @@ ghost use Rattle.rt1553.specs.Canon.{IsCanon};
 ghost use Rattle.rt1553.specs.Compare.{IsNotCompared};
 ghost use Rattle.rt1553.specs.Engine.{RunCompletes, RunStops, OnLoad, OnScript};
 ghost use Rattle.rt1553_program.specs.Causes.{IsWithoutArgs, RefusesUntouched, IsOfRun, IsOfJob};
-ghost use Rattle.bus_script.specs.EventLine.{event_line, script_text};
+ghost use Rattle.script_lines.specs.EventLine.{event_line, script_text};
 ghost use Rattle.rt1553_program.specs.Work.{Accepted, TellsVerdict, IsComparison, Does};
 
 use crate::fault::Fault;

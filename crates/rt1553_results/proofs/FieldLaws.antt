@@ -10,7 +10,7 @@ use Rattle.std.proofs.lemmas.Bool.Decides.{nat_tests}
 use Rattle.std.proofs.lemmas.List.{length-append, length-drop, take_all}
 use Rattle.csv.specs.Records.{field_at}
 use Rattle.csv.proofs.RecordFacts.{field-none}
-use Rattle.bus_script.specs.Digits.{word_of}
+use Rattle.script_lines.specs.Digits.{word_of}
 use Rattle.rt1553_results.specs.Results.{word_then, words_said, at_most_33, IsColumn}
 
 pub numeral_is_text : (bs : List ℕ) → IsNumeral 10 bs → IsUtf8 bs

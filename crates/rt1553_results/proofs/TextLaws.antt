@@ -2,8 +2,8 @@
 use Rattle.std.proofs.Common.{◌≡◌, ℕ, ◌≤◌, List, ◌-◌, ◌∙◌, sym, Option, Some, take, length, drop, ap, arith}
 use Rattle.terminal_rules.specs.Out.{Handing, HandsOver}
 use Rattle.bus_terminal.specs.Answer.{words_handed}
-use Rattle.bus_script.specs.Transcript.{hand_text}
-use Rattle.bus_script.proofs.TranscriptLaws.{small_text}
+use Rattle.script_lines.specs.Transcript.{hand_text}
+use Rattle.script_lines.proofs.TranscriptLaws.{small_text}
 use Rattle.rt1553_results.specs.Table.{inner_text, handed_text}
 
 -- the line of what is handed over has room, and something behind `hand `

@@ -9,7 +9,7 @@ use Rattle.std.specs.Str.Parse.{IsNumeral, digits_value}
 use Rattle.csv.specs.declared.parser.State.TheVariants.{StartRecord}
 use Rattle.csv.specs.Reading.{AreRecords, default_config, strip_bom}
 use Rattle.csv.specs.Records.{field_at}
-use Rattle.bus_script.specs.Digits.{word_of}
+use Rattle.script_lines.specs.Digits.{word_of}
 use Rattle.rt1553_results.specs.declared.results.Results.{Results}
 use Rattle.rt1553_results.specs.declared.results.NumberedReply.{NumberedReply}
 use Rattle.rt1553_results.specs.declared.results.Columns.{Columns}

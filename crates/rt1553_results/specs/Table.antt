@@ -6,8 +6,8 @@ use Rattle.csv.specs.declared.writer.WriterBuilder.{WriterBuilder}
 use Rattle.csv.specs.Writing.{default_writer, with_terminator, row_text}
 use Rattle.bus_legal.specs.Description.{Description}
 use Rattle.terminal_rules.specs.Out.{Handing}
-use Rattle.bus_script.specs.Digits.{digits_of}
-use Rattle.bus_script.specs.Transcript.{word_field, hand_text}
+use Rattle.script_lines.specs.Digits.{digits_of}
+use Rattle.script_lines.specs.Transcript.{word_field, hand_text}
 use Rattle.rt1553_acceptance.specs.Label.{label_of}
 use Rattle.rt1553_results.specs.Rows.{Answered}
 

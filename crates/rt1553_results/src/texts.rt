@@ -3,7 +3,7 @@ ghost use Rattle.std.specs.Prelude.{◌≡◌, ◌≤◌, ◌<◌, ◌++◌, len
 ghost use Rattle.std.specs.List.{flat_map};
 ghost use Rattle.terminal_exchanges.specs.Values.{exchange_in};
 ghost use Rattle.bus_terminal.specs.Answer.{shown_handing, words_handed};
-ghost use Rattle.bus_script.specs.Transcript.{word_field};
+ghost use Rattle.script_lines.specs.Transcript.{word_field};
 ghost use Rattle.rt1553_results.specs.Handed.{handing_in};
 ghost use Rattle.rt1553_results.specs.Table.{words_text, reply_text, handed_text};
 

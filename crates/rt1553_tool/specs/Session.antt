@@ -2,8 +2,8 @@
 use Rattle.std.specs.Prelude.{ℕ, List, [], ◌∷◌, codes, Option, Some, None, Result, Ok, Err}
 use Rattle.bus_legal.specs.Description.{Description}
 use Rattle.terminal_rules.specs.declared.event.Event.{Event}
-use Rattle.bus_script.specs.declared.line.LineFault.{LineFault}
-use Rattle.bus_script.specs.Transcript.{text_at}
+use Rattle.script_lines.specs.declared.line.LineFault.{LineFault}
+use Rattle.script_lines.specs.Transcript.{text_at}
 
 -- the history after a line that means this
 abbrev pub history_after_line : Result (Option Event) LineFault → List Event → List Event

@@ -3,7 +3,7 @@ ghost use Rattle.std.specs.Prelude.{◌≡◌, List};
 ghost use Rattle.bus_legal.specs.Description.{Description};
 ghost use Rattle.terminal_rules.specs.declared.event.Event.{Event};
 ghost use Rattle.bus_terminal.specs.Stands.{StandsAt};
-ghost use Rattle.bus_script.specs.Line.{meaning};
+ghost use Rattle.script_lines.specs.Line.{meaning};
 ghost use Rattle.rt1553_tool.specs.Session.{history_after_line, line_answer};
 
 use arrayvec::ArrayString;

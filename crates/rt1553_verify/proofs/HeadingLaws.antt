@@ -1,7 +1,7 @@
 -- Laws of what the comments at the front of a script name.
 use Rattle.std.proofs.Common.{ℕ, ◌≡◌, List, [], ◌∷◌, Some, None, length, is_some, if◌then◌else◌, refl, ap, ap₂, arith}
 use Rattle.line_format.specs.Front.{after}
-use Rattle.bus_script.specs.Text.{lines_of}
+use Rattle.script_lines.specs.Text.{lines_of}
 use Rattle.rt1553_verify.specs.Heading.{or_first, named}
 
 pub named-here : (key line : List ℕ) (lines : List (List ℕ)) (name : List ℕ) → after key line ≡ Some name → named key (line ∷ lines) ≡ Some name

@@ -6,11 +6,11 @@ use Rattle.std.proofs.lemmas.List.{take_all, drop_all, length-drop, map-append}
 use Rattle.terminal_rules.specs.declared.event.Event.{Event}
 use Rattle.line_format.specs.Front.{after}
 use Rattle.line_format.proofs.Digits.{after-is}
-use Rattle.bus_script.specs.declared.line.LineFault.{LineFault}
-use Rattle.bus_script.specs.Line.{meaning}
-use Rattle.bus_script.specs.Text.{lines_of}
+use Rattle.script_lines.specs.declared.line.LineFault.{LineFault}
+use Rattle.script_lines.specs.Line.{meaning}
+use Rattle.script_lines.specs.Text.{lines_of}
 use Rattle.bus_script.specs.Reading.{Reading, reading, adds, nothing, then_reads}
-use Rattle.bus_script.proofs.LineLaws.{line_at, lines-line, lines-last, no_line_feed}
+use Rattle.script_lines.proofs.LineLaws.{line_at, lines-line, lines-last, no_line_feed}
 use Rattle.bus_script.proofs.ReadingLaws.{reading-line, adds-adds}
 use Rattle.rt1553_verify.specs.declared.stated.StatedFault.{StatedFault}
 use Rattle.rt1553_verify.specs.declared.stated.StatedFault.TheVariants.{LongLine, TooLong}

@@ -2,7 +2,7 @@
 use Rattle.std.proofs.Common.{ℕ, map, ◌≡◌, ◌∙◌, ◌+◌, List, [], ◌∷◌, ◌++◌, drop, refl, sym, ap, ap₂, append_assoc, append-nil}
 use Rattle.bus_legal.specs.Description.{Description}
 use Rattle.terminal_rules.specs.declared.event.Event.{Event}
-use Rattle.bus_script.specs.Transcript.{answer_text}
+use Rattle.script_lines.specs.Transcript.{answer_text}
 use Rattle.rt1553.proofs.EngineLaws.{AnswersAlike}
 use Rattle.rt1553_verify.specs.Stated.{StatedEvent, shown}
 use Rattle.rt1553_verify.specs.declared.stated.Stated.{Stated}

@@ -3,7 +3,7 @@ use Rattle.std.specs.Prelude.{ℕ, if◌then◌else◌, List, [], ◌∷◌, ◌
 use Rattle.std.specs.Str.{bytes_eq}
 use Rattle.bus_legal.specs.Description.{Description}
 use Rattle.terminal_rules.specs.declared.event.Event.{Event}
-use Rattle.bus_script.specs.Transcript.{text_at}
+use Rattle.script_lines.specs.Transcript.{text_at}
 use Rattle.rt1553_verify.specs.Stated.{StatedEvent, stated_in}
 use Rattle.rt1553_verify.specs.declared.stated.StatedFault.{StatedFault}
 use Rattle.rt1553_verify.specs.declared.verifying.WrongAnswer.{WrongAnswer}

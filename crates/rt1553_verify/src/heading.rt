@@ -1,6 +1,6 @@
 //! What the comments at the front of a script name.
 ghost use Rattle.std.specs.Prelude.{◌≡◌, option_map};
-ghost use Rattle.bus_script.specs.Text.{lines_of};
+ghost use Rattle.script_lines.specs.Text.{lines_of};
 ghost use Rattle.rt1553_verify.specs.Heading.{named};
 
 use crate::stated::first_line;

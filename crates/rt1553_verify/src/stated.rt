@@ -1,7 +1,7 @@
 //! Scripts that state their answers.
 ghost use Rattle.std.specs.Prelude.{◌≡◌, ◌≢◌, ◌<◌, ◌&&◌, ◌∷◌, ◌++◌, ℕ, length, map, option_map, filter, Ok, Err, IfOk, IfErr, IfSome, OnOk};
-ghost use Rattle.bus_script.specs.Line.{meaning};
-ghost use Rattle.bus_script.specs.Text.{lines_of};
+ghost use Rattle.script_lines.specs.Line.{meaning};
+ghost use Rattle.script_lines.specs.Text.{lines_of};
 ghost use Rattle.bus_script.specs.Reading.{reading, adds, nothing};
 ghost use Rattle.rt1553_verify.specs.Stated.{shown, is_empty, states_answer, can_answer, states, goes_on, ended, stays, or_misplaced, unstated_line, line_says, stated_in};
 ghost use Rattle.rt1553_verify.specs.declared.stated.StatedFault.TheVariants.{Memory};

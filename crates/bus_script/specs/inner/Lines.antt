@@ -2,7 +2,7 @@
 use Rattle.std.specs.Prelude.{ℕ, ◌+◌, ◌*◌, ◌≡◌, ◌<◌, ◌≤◌, List, [], ◌∷◌, ◌++◌, length, take, drop, Some, Ok}
 use Rattle.terminal_rules.specs.declared.event.Event.{Event}
 use Rattle.bus_script.specs.declared.fault.RunFault.{RunFault}
-use Rattle.bus_script.specs.Text.{lines_of, NoLineFeed, EndsLine}
+use Rattle.script_lines.specs.Text.{lines_of, NoLineFeed, EndsLine}
 use Rattle.bus_terminal.specs.Slots.{slots}
 use Rattle.bus_script.specs.Reading.{Meaning, Reading, adds, stops, then_reads, reading}
 

@@ -2,7 +2,7 @@ use Rattle.std.proofs.Common.{◌<◌, ◌+◌, ℕ, [], length, take, drop, ari
 use Rattle.std.proofs.lemmas.Grind.{common_steps}
 use Rattle.bus_script.specs.inner.Lines.{Faults}
 use Rattle.bus_script.specs.declared.fault.RunFault.TheVariants.{LongLine}
-use Rattle.bus_script.proofs.LineLaws.{found_line, no_line_feed}
+use Rattle.script_lines.proofs.LineLaws.{found_line, no_line_feed}
 use Rattle.bus_script.proofs.ReadingLaws.{Faults-too_long_at, Faults-long_line, Faults-long_front}
 use Rattle.bus_script.proofs.chunk.next_line.Goals as goal
 

@@ -1,18 +1,18 @@
 use Rattle.std.proofs.Common.{[], ◌∷◌, ◌++◌, ◌≡◌, ◌+◌, ◌*◌, take, drop, subst, true, refl, ap, arith}
 use Rattle.bus_word.specs.Word.{valid_word}
-use Rattle.bus_script.specs.Line.{meaning}
+use Rattle.script_lines.specs.Line.{meaning}
 use Rattle.bus_terminal.specs.Stands.{StandsAt}
-use Rattle.bus_script.specs.Transcript.{text_at}
+use Rattle.script_lines.specs.Transcript.{text_at}
 use Rattle.bus_script.specs.Reading.{then_reads}
 use Rattle.bus_script.specs.inner.Lines.{Faults, StartsLine, StandsFirst, SlotsFirst, LinesFirst, IsRest, Means, IsRefused}
 use Rattle.std.proofs.KnownBytes.{Appends-nil}
 use Rattle.terminal_rules.specs.declared.event.Event.TheVariants.{Word}
-use Rattle.bus_script.proofs.TranscriptLaws.{unanswered}
+use Rattle.script_lines.proofs.TranscriptLaws.{unanswered}
 use Rattle.bus_script.proofs.PlayLaws.{Plays-nil, Plays-one, Takes-plays}
 use Rattle.bus_script.proofs.FeedLaws.{ByFault-weaker, Faults-first, Feeding-nil, Feeding-line, Feeding-lines, Feeding-fault, Feeding-part}
 use Rattle.bus_script.proofs.SlotsLaws.{Feeding-slots-part}
 use Rattle.bus_terminal.specs.Slots.{slots}
-use Rattle.bus_script.proofs.SinkLaws.{from_there}
+use Rattle.byte_streams.proofs.SinkLaws.{from_there}
 use Rattle.bus_script.proofs.feed.feed_counting.Goals as goal
 
 pub lines-init : goal.lines-init

@@ -1,8 +1,8 @@
 use Rattle.std.proofs.Common.{List, ◌-◌, length}
 use Rattle.terminal_rules.specs.declared.event.Event.{Event}
 use Rattle.bus_terminal.specs.Stands.{StandsAt}
-use Rattle.bus_script.specs.Transcript.{text_at}
-use Rattle.bus_script.specs.Line.{meaning}
+use Rattle.script_lines.specs.Transcript.{text_at}
+use Rattle.script_lines.specs.Line.{meaning}
 use Rattle.bus_script.specs.inner.Feeding.{Feeding}
 use Rattle.bus_script.proofs.feed.feed_counting.Given as goal
 

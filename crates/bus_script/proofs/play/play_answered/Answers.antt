@@ -2,7 +2,7 @@ use Rattle.std.proofs.Common.{[], ap, sym, ◌∙◌}
 use Rattle.std.proofs.lemmas.Result.{on_ok_weaker, on_err_weaker}
 use Rattle.std.proofs.KnownBytes.{Appends-nil}
 use Rattle.bus_terminal.specs.Stands.{StandsAt}
-use Rattle.bus_script.specs.Transcript.{answer_text, text_at}
+use Rattle.script_lines.specs.Transcript.{answer_text, text_at}
 use Rattle.bus_script.proofs.PlayLaws.{Plays-one, PlaysPart-one}
 use Rattle.bus_script.proofs.play.play_answered.Goals as goal
 

@@ -1,8 +1,8 @@
 use Rattle.std.proofs.Common.{[], sym, ◌∙◌}
 use Rattle.std.proofs.KnownBytes.{Appends-nil}
 use Rattle.bus_terminal.specs.Stands.{StandsAt}
-use Rattle.bus_script.specs.Transcript.{text_at}
-use Rattle.bus_script.proofs.TranscriptLaws.{unanswered}
+use Rattle.script_lines.specs.Transcript.{text_at}
+use Rattle.script_lines.proofs.TranscriptLaws.{unanswered}
 use Rattle.bus_script.proofs.PlayLaws.{Plays-one}
 use Rattle.bus_script.proofs.play.play_event.Goals as goal
 

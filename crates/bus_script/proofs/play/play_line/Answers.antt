@@ -2,7 +2,7 @@ use Rattle.std.proofs.Common.{[], refl, sym, ap}
 use Rattle.bus_script.specs.Reading.{then_reads}
 use Rattle.bus_script.proofs.PlayLaws.{Plays-nil}
 use Rattle.bus_terminal.specs.Stands.{StandsAt}
-use Rattle.bus_script.specs.Transcript.{text_at}
+use Rattle.script_lines.specs.Transcript.{text_at}
 use Rattle.bus_script.proofs.play.play_line.Goals as goal
 
 pub returns-in-Ok-None-clause-ok : goal.returns-in-Ok-None-clause-ok

@@ -1,9 +1,9 @@
 use Rattle.std.proofs.Common.{[], ◌∷◌, ◌≡◌, ◌+◌, ◌<◌, length, arith, ◌∙◌, ap, sym, refl}
 use Rattle.std.proofs.lemmas.Grind.{common_steps}
 use Rattle.bus_terminal.specs.Stands.{StandsAt}
-use Rattle.bus_script.specs.Transcript.{text_at}
-use Rattle.bus_script.specs.Line.{meaning}
-use Rattle.bus_script.specs.Text.{lines_of}
+use Rattle.script_lines.specs.Transcript.{text_at}
+use Rattle.script_lines.specs.Line.{meaning}
+use Rattle.script_lines.specs.Text.{lines_of}
 use Rattle.bus_script.specs.Reading.{reading}
 use Rattle.bus_script.proofs.PlayLaws.{Plays-nil}
 use Rattle.bus_script.proofs.FeedLaws.{ByFault-weaker}

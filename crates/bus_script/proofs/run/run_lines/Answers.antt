@@ -1,8 +1,8 @@
 use Rattle.std.proofs.Common.{[], ◌++◌, ◌≡◌, ◌≤◌, ◌+◌, length, take, subst, refl, sym, ap, arith}
 use Rattle.std.proofs.lemmas.Result.{on_ok_weaker, IfErr-weaker}
-use Rattle.bus_script.specs.Line.{meaning}
+use Rattle.script_lines.specs.Line.{meaning}
 use Rattle.bus_terminal.specs.Stands.{StandsAt}
-use Rattle.bus_script.specs.Transcript.{text_at}
+use Rattle.script_lines.specs.Transcript.{text_at}
 use Rattle.bus_script.proofs.FeedLaws.{ByFault-weaker}
 use Rattle.bus_script.proofs.RunLaws.{Running, Running-nil, Running-fed, Running-unsent, Running-unread, Running-refused, Running-broken, Running-end, Running-done, Running-last_refused, Running-last_broken, ByFault-IfSome, rest_len, no_bytes, same_front}
 use Rattle.bus_script.proofs.run.run_lines.Goals as goal

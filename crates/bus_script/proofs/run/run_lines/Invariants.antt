@@ -1,8 +1,8 @@
 use Rattle.std.proofs.Common.{ℕ, List, ◌≡◌, ◌≤◌, ◌+◌, ◌*◌, ◌-◌, length, take}
 use Rattle.terminal_rules.specs.declared.event.Event.{Event}
 use Rattle.bus_terminal.specs.Stands.{StandsAt}
-use Rattle.bus_script.specs.Transcript.{text_at}
-use Rattle.bus_script.specs.Line.{meaning}
+use Rattle.script_lines.specs.Transcript.{text_at}
+use Rattle.script_lines.specs.Line.{meaning}
 use Rattle.bus_script.proofs.RunLaws.{Running}
 use Rattle.bus_script.proofs.run.run_lines.Given as goal
 

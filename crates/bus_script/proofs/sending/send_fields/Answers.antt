@@ -1,7 +1,7 @@
 use Rattle.std.proofs.Common.{subst}
-use Rattle.bus_script.specs.Device.{IsPartWritten}
-use Rattle.bus_script.specs.Transcript.{word_field}
-use Rattle.bus_script.proofs.SinkLaws.{part-among, on_err}
+use Rattle.byte_streams.specs.Device.{IsPartWritten}
+use Rattle.script_lines.specs.Transcript.{word_field}
+use Rattle.byte_streams.proofs.SinkLaws.{part-among, on_err}
 use Rattle.bus_script.proofs.sending.send_fields.Goals as goal
 
 pub returns-in_err-write_all-clause-err : goal.returns-in_err-write_all-clause-err

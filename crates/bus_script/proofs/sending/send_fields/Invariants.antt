@@ -1,6 +1,6 @@
 use Rattle.std.proofs.Common.{take, flat_map}
 use Rattle.std.specs.Io.KnownBytes.{Appends}
-use Rattle.bus_script.specs.Transcript.{word_field}
+use Rattle.script_lines.specs.Transcript.{word_field}
 use Rattle.bus_script.proofs.sending.send_fields.Given as goal
 
 abbrev pub invariant-loop-word : goal.invariant-loop-word

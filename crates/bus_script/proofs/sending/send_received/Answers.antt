@@ -1,9 +1,9 @@
 use Rattle.std.proofs.Common.{subst}
 use Rattle.std.proofs.lemmas.Result.{on_err_weaker}
 use Rattle.std.specs.Io.KnownBytes.{Appends}
-use Rattle.bus_script.specs.Device.{IsPartWritten}
-use Rattle.bus_script.specs.Transcript.{received_by}
-use Rattle.bus_script.proofs.SinkLaws.{part-of-first, part-of-rest, on_err}
+use Rattle.byte_streams.specs.Device.{IsPartWritten}
+use Rattle.script_lines.specs.Transcript.{received_by}
+use Rattle.byte_streams.proofs.SinkLaws.{part-of-first, part-of-rest, on_err}
 use Rattle.bus_script.proofs.sending.send_received.Goals as goal
 
 pub returns-in_err-send_received_by-clause-err : goal.returns-in_err-send_received_by-clause-err

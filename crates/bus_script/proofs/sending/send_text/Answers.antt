@@ -1,6 +1,6 @@
 use Rattle.std.proofs.Common.{◌≡◌, ap, length, arith}
 use Rattle.bus_terminal.specs.Answer.{shown_answer}
-use Rattle.bus_script.proofs.TranscriptLaws.{small_text}
+use Rattle.script_lines.proofs.TranscriptLaws.{small_text}
 use Rattle.bus_script.proofs.sending.send_text.Goals as goal
 
 pub push_answer-requires : goal.push_answer-requires

@@ -1,7 +1,7 @@
 use Rattle.std.proofs.Common.{take, flat_map, subst}
 use Rattle.std.proofs.KnownBytes.{Appends-trans}
-use Rattle.bus_script.specs.Device.{IsPartWritten}
-use Rattle.bus_script.specs.Transcript.{data_text}
+use Rattle.byte_streams.specs.Device.{IsPartWritten}
+use Rattle.script_lines.specs.Transcript.{data_text}
 use Rattle.bus_script.proofs.sending.send_words.Goals as goal
 
 pub returns-in-Err-clause-err : goal.returns-in-Err-clause-err

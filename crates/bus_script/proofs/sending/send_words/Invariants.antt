@@ -1,6 +1,6 @@
 use Rattle.std.proofs.Common.{take, flat_map}
 use Rattle.std.specs.Io.KnownBytes.{Appends}
-use Rattle.bus_script.specs.Transcript.{data_text}
+use Rattle.script_lines.specs.Transcript.{data_text}
 use Rattle.bus_script.proofs.sending.send_words.Given as goal
 
 abbrev pub invariant-loop-whole : goal.invariant-loop-whole

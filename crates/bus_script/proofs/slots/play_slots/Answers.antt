@@ -1,7 +1,7 @@
 use Rattle.std.proofs.Common.{◌<◌, ◌≤◌, ◌+◌, length, arith}
 use Rattle.std.proofs.lemmas.Grind.{common_steps}
 use Rattle.std.proofs.lemmas.Bool.Decides.{nat_tests}
-use Rattle.bus_script.specs.Line.{meaning}
+use Rattle.script_lines.specs.Line.{meaning}
 use Rattle.bus_script.proofs.SlotsLaws.{SlotsFirst-first, slots-play, slots-play-part}
 use Rattle.bus_script.proofs.slots.play_slots.Goals as goal
 

@@ -1,8 +1,8 @@
 use Rattle.std.proofs.Common.{drop, subst, ap, ◌∙◌, arith}
 use Rattle.terminal_rules.specs.declared.event.Event.TheVariants.{Slot}
-use Rattle.bus_script.specs.Line.{meaning}
+use Rattle.script_lines.specs.Line.{meaning}
 use Rattle.bus_script.specs.inner.Lines.{StandsFirst}
-use Rattle.bus_script.proofs.SinkLaws.{from_there}
+use Rattle.byte_streams.proofs.SinkLaws.{from_there}
 use Rattle.bus_script.proofs.SlotsLaws.{SlotsFirst-more, behind-slot}
 use Rattle.bus_script.proofs.slots.slot_lines.Goals as goal
 

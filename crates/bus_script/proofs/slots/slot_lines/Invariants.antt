@@ -1,5 +1,5 @@
 use Rattle.std.proofs.Common.{ℕ, ◌≡◌, ◌≤◌, ◌*◌, ◌-◌, drop}
-use Rattle.bus_script.specs.Line.{meaning}
+use Rattle.script_lines.specs.Line.{meaning}
 use Rattle.bus_script.specs.inner.Lines.{SlotsFirst}
 use Rattle.bus_script.proofs.slots.slot_lines.Given as goal
 

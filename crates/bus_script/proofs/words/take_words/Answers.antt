@@ -3,11 +3,11 @@ use Rattle.std.proofs.lemmas.List.{drop-drop}
 use Rattle.bus_word.specs.Word.{valid_word}
 use Rattle.terminal_rules.specs.declared.event.Event.TheVariants.{Word}
 use Rattle.bus_terminal.specs.Stands.{StandsAt}
-use Rattle.bus_script.specs.Line.{meaning}
-use Rattle.bus_script.specs.Transcript.{text_at}
+use Rattle.script_lines.specs.Line.{meaning}
+use Rattle.script_lines.specs.Transcript.{text_at}
 use Rattle.bus_script.specs.inner.Lines.{StandsFirst, LinesFirst}
-use Rattle.bus_script.proofs.SinkLaws.{from_there}
-use Rattle.bus_script.proofs.TranscriptLaws.{unanswered}
+use Rattle.byte_streams.proofs.SinkLaws.{from_there}
+use Rattle.script_lines.proofs.TranscriptLaws.{unanswered}
 use Rattle.bus_script.proofs.PlayLaws.{Takes-nil, Takes-more}
 use Rattle.bus_script.proofs.FeedLaws.{LinesFirst-nil, LinesFirst-more}
 use Rattle.bus_script.proofs.words.take_words.Goals as goal

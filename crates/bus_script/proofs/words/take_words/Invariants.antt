@@ -1,6 +1,6 @@
 use Rattle.std.proofs.Common.{◌≡◌, ◌≤◌, ◌*◌, ◌-◌, drop, List}
 use Rattle.terminal_rules.specs.declared.event.Event.{Event}
-use Rattle.bus_script.specs.Line.{meaning}
+use Rattle.script_lines.specs.Line.{meaning}
 use Rattle.bus_script.specs.inner.Lines.{LinesFirst}
 use Rattle.bus_script.specs.Played.{Taken}
 use Rattle.bus_script.proofs.words.take_words.Given as goal

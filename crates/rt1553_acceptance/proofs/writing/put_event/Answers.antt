@@ -1,7 +1,7 @@
 use Rattle.std.proofs.Common.{◌∷◌, ◌++◌, ap, ◌∙◌}
 use Rattle.std.proofs.lemmas.Result.{on_ok_weaker}
 use Rattle.bus_terminal.specs.Stands.{StandsAt}
-use Rattle.bus_script.specs.EventLine.{event_text}
+use Rattle.script_lines.specs.EventLine.{event_text}
 use Rattle.bus_script.proofs.PlayLaws.{Plays-one}
 use Rattle.rt1553_acceptance.specs.Text.{answer_stated, event_stated}
 use Rattle.rt1553_acceptance.proofs.writing.put_event.Goals as goal

@@ -1,5 +1,5 @@
 use Rattle.std.proofs.Common.{◌≡◌, take, flat_map}
-use Rattle.bus_script.specs.EventLine.{event_line}
+use Rattle.script_lines.specs.EventLine.{event_line}
 use Rattle.rt1553_c.proofs.room.put_script.Given as goal
 
 abbrev pub invariant-loop-event : goal.invariant-loop-event

@@ -1,7 +1,7 @@
 use Rattle.std.proofs.Common.{[], ◌∷◌, ◌∙◌, subst}
 use Rattle.std.proofs.KnownBytes.{Appends-trans}
 use Rattle.std.specs.Io.KnownBytes.{Appends}
-use Rattle.bus_script.specs.EventLine.{event_text}
+use Rattle.script_lines.specs.EventLine.{event_text}
 use Rattle.rt1553_program.proofs.work.write_event_line.Goals as goal
 
 pub returns-clause-ok : goal.returns-clause-ok

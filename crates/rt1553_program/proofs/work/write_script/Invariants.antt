@@ -1,6 +1,6 @@
 use Rattle.std.proofs.Common.{take}
 use Rattle.std.specs.Io.KnownBytes.{Appends}
-use Rattle.bus_script.specs.EventLine.{script_text}
+use Rattle.script_lines.specs.EventLine.{script_text}
 use Rattle.rt1553_program.proofs.work.write_script.Given as goal
 
 abbrev pub invariant-loop-event : goal.invariant-loop-event

@@ -1,5 +1,5 @@
 use Rattle.std.proofs.Common.{◌≡◌, ℕ, List, ◌∙◌, ap, subst, option_map, IfOk}
-use Rattle.bus_script.specs.Transcript.{hand_text}
+use Rattle.script_lines.specs.Transcript.{hand_text}
 use Rattle.rt1553_results.specs.Handed.{handing_in}
 use Rattle.bus_terminal.specs.Answer.{shown_handing}
 use Rattle.rt1553_results.proofs.TextLaws.{hand_fits, cut_out}

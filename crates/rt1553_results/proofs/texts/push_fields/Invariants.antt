@@ -1,5 +1,5 @@
 use Rattle.std.proofs.Common.{◌≡◌, ◌++◌, take, flat_map}
-use Rattle.bus_script.specs.Transcript.{word_field}
+use Rattle.script_lines.specs.Transcript.{word_field}
 use Rattle.rt1553_results.proofs.texts.push_fields.Given as goal
 
 abbrev pub invariant-loop-word : goal.invariant-loop-word

@@ -1,5 +1,5 @@
 use Rattle.std.proofs.Common.{arith}
-use Rattle.bus_script.proofs.TranscriptLaws.{small_text}
+use Rattle.script_lines.proofs.TranscriptLaws.{small_text}
 use Rattle.rt1553_tool.proofs.session.play_live_line.Goals as goal
 
 pub write_answer-requires : goal.write_answer-requires

@@ -1,5 +1,5 @@
 use Rattle.std.proofs.Common.{◌≡◌, length}
-use Rattle.bus_script.specs.Text.{lines_of}
+use Rattle.script_lines.specs.Text.{lines_of}
 use Rattle.rt1553_verify.specs.Heading.{named}
 use Rattle.rt1553_verify.proofs.heading.named.Given as goal
 

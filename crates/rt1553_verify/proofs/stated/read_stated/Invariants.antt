@@ -1,5 +1,5 @@
 use Rattle.std.proofs.Common.{◌≡◌, ◌≤◌, length, map, option_map}
-use Rattle.bus_script.specs.Text.{lines_of}
+use Rattle.script_lines.specs.Text.{lines_of}
 use Rattle.rt1553_verify.specs.Stated.{shown, then_events, stated_by, stated_in}
 use Rattle.rt1553_verify.proofs.stated.read_stated.Given as goal
 

@@ -1,6 +1,6 @@
 use Rattle.std.proofs.Common.{arith}
 use Rattle.bus_terminal.specs.Answer.{shown_answer}
-use Rattle.bus_script.proofs.TranscriptLaws.{small_text}
+use Rattle.script_lines.proofs.TranscriptLaws.{small_text}
 use Rattle.rt1553_verify.proofs.verifying.compare_answer.Goals as goal
 
 pub write_answer-came-requires : goal.write_answer-came-requires

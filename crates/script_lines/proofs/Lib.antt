@@ -1,0 +1,5 @@
+pub mod DigitLaws
+pub mod LineLaws
+pub mod RoundTrip
+pub mod TranscriptLaws
+mod LineFeedLaws

@@ -1,0 +1,161 @@
+-- Laws of lines: the first line of a text, and the rest.
+use Rattle.std.proofs.Common.{ℕ, zero, suc, ◌≡◌, ◌≢◌, ◌<◌, ◌≤◌, ◌+◌, Some, None, Ok, codes, if◌then◌else◌, subst, List, [], ◌∷◌, ◌++◌, length, get_or, take, drop, drop-cons, length-take, take-append-drop, get_or-take, refl, sym, ap, ◌∙◌, arith, Bool, true, false, ◌==◌}
+use Rattle.std.proofs.lemmas.Grind.{common_steps}
+use Rattle.std.proofs.lemmas.Bool.Decides.{nat_tests}
+use Rattle.std.proofs.lemmas.List.{take_more}
+use Rattle.script_lines.specs.Text.{lines_of, onto_first, NoLineFeed, EndsLine}
+use Rattle.bus_word.specs.declared.word.Kind.{Kind}
+use Rattle.script_lines.specs.Digits.{word_of}
+use Rattle.std.specs.Str.{bytes_eq}
+use Rattle.std.proofs.lemmas.Slice.Eq.{bytes_eq-Decides}
+use Rattle.bus_word.specs.declared.word.Bus.{Bus}
+use Rattle.terminal_rules.specs.declared.event.Event.{Event}
+use Rattle.terminal_rules.specs.declared.event.Event.TheVariants.{Gap, Noise, Slot}
+use Rattle.script_lines.specs.Line.{bus_of, bus_first, by_bus, kind_of, word_on, event_on, event_of, subsystem_event, or_refused, meaning}
+use Rattle.script_lines.specs.Begins.{BeginsWith}
+use Rattle.script_lines.proofs.DigitLaws.{no_feed_in_digits}
+
+-- a byte that is no line feed
+pub lines-other : (b : ℕ) (bytes : List ℕ) → b ≢ 10 → lines_of (b ∷ bytes) ≡ onto_first b (lines_of bytes)
+unfolding lines_of
+lines-other b bytes h = grind (arith, nat_tests)
+
+pub lines-line : (line rest : List ℕ) → NoLineFeed line → lines_of (line ++ 10 ∷ rest) ≡ line ∷ lines_of rest
+unfolding lines_of
+lines-line [] rest h = refl
+lines-line (b ∷ line) rest h = lines-other b (line ++ 10 ∷ rest) h.0 ∙ ap (onto_first b) (lines-line line rest h.1)
+
+pub lines-last : (b : ℕ) (line : List ℕ) → NoLineFeed (b ∷ line) → lines_of (b ∷ line) ≡ (b ∷ line) ∷ []
+unfolding lines_of
+lines-last b [] h = lines-other b [] h.0
+lines-last b (c ∷ line) h = lines-other b (c ∷ line) h.0 ∙ ap (onto_first b) (lines-last c line h.1)
+
+-- a first line is there
+pub lines-some : (b : ℕ) (bytes : List ℕ) → (line : List ℕ) × (lines : List (List ℕ)) × (lines_of (b ∷ bytes) ≡ line ∷ lines)
+unfolding lines_of
+lines-some b bytes = case (b == 10) refl (lines_of bytes) refl
+  where
+    case : (t : Bool) → (b == 10) ≡ t → (ls : List (List ℕ)) → lines_of bytes ≡ ls → (line : List ℕ) × (lines : List (List ℕ)) × (lines_of (b ∷ bytes) ≡ line ∷ lines)
+    case true e ls is = ([], lines_of bytes, grind arith)
+    case false e [] is = (b ∷ [], [], grind arith)
+    case false e (l ∷ ls) is = (b ∷ l, ls, grind arith)
+
+onto-front : (b : ℕ) (lines : List (List ℕ)) → (more : List ℕ) × (others : List (List ℕ)) × (onto_first b lines ≡ (b ∷ more) ∷ others)
+onto-front b [] = ([], [], refl)
+onto-front b (l ∷ ls) = (l, ls, refl)
+
+-- a text that begins without a line feed has a first line that begins so
+pub lines-front : (b : ℕ) (front rest : List ℕ) → NoLineFeed (b ∷ front)
+    → (more : List ℕ) × (lines : List (List ℕ)) × (lines_of (b ∷ front ++ rest) ≡ (b ∷ front ++ more) ∷ lines)
+unfolding lines_of
+lines-front b [] rest h = let o = onto-front b (lines_of rest) in (o.0, o.1, lines-other b rest h.0 ∙ o.2)
+lines-front b (c ∷ front) rest h = let i = lines-front c front rest h.1 in
+    (i.0, i.1, lines-other b (c ∷ front ++ rest) h.0 ∙ ap (onto_first b) i.2)
+
+pub no_line_feed : (bytes : List ℕ) → ((k : ℕ) → k < length bytes → get_or bytes k 0 ≢ 10) → NoLineFeed bytes
+no_line_feed [] h = tt
+no_line_feed (b ∷ bytes) h = (h 0 (omega arith), no_line_feed bytes (λ k l. h (suc k) (omega arith)))
+
+-- up to the first line feed, at i
+pub line_at : (bytes : List ℕ) (i : ℕ) → i < length bytes → ((k : ℕ) → k < i → get_or bytes k 0 ≢ 10) → get_or bytes i 0 ≡ 10
+    → NoLineFeed (take i bytes) × (bytes ≡ take i bytes ++ 10 ∷ drop (i + 1) bytes)
+line_at bytes i within before here = (
+  no_line_feed (take i bytes) (λ k l. let below : k < i = omega (arith, length-take {A = ℕ}) in rw (get_or-take i bytes k 0 below) (before k below)),
+  sym (take-append-drop i bytes) ∙ ap (λ xs. take i bytes ++ xs) (drop-cons bytes i 0 within ∙ ap (λ b. b ∷ drop (suc i) bytes) here ∙ grind (arith, common_steps)),
+)
+
+-- where the first line feed stands at i
+pub found_line : (bytes : List ℕ) (i : ℕ) → i < length bytes → get_or bytes i 0 ≡ 10 → ((k : ℕ) → k < i → get_or bytes k 0 ≢ 10)
+    → NoLineFeed (take i bytes) × (bytes ≡ take i bytes ++ 10 ∷ drop (i + 1) bytes) × (take (i + 1) bytes ≡ take i bytes ++ 10 ∷ [])
+found_line bytes i within here before =
+    let l = line_at bytes i within before here in
+    (l.0, l.1, take_more bytes i 0 within ∙ ap (λ b. take i bytes ++ b ∷ []) here)
+
+-- `K XXXX` has no line feed in it
+pub no_feed_in_valid : (rest : List ℕ) (kind : Kind) (bits : ℕ) → length rest ≡ 6 → kind_of (get_or rest 0 0) ≡ Some kind → get_or rest 1 0 ≡ 32
+    → word_of (get_or rest 2 0 ∷ get_or rest 3 0 ∷ get_or rest 4 0 ∷ get_or rest 5 0 ∷ []) ≡ Some bits → NoLineFeed rest
+no_feed_in_valid rest kind bits long k s digits =
+    let none = no_feed_in_digits (get_or rest 2 0) (get_or rest 3 0) (get_or rest 4 0) (get_or rest 5 0) bits digits in
+    no_line_feed rest (λ j l. at j (omega (arith, long)) none)
+  where
+    at : (j : ℕ) → j < 6 → (get_or rest 2 0 ≢ 10) × (get_or rest 3 0 ≢ 10) × (get_or rest 4 0 ≢ 10) × (get_or rest 5 0 ≢ 10) → get_or rest j 0 ≢ 10
+    at zero l none = λ e. cc (sym k ∙ ap kind_of e)
+    at (suc zero) l none = λ e. cc (sym s ∙ e)
+    at (suc (suc zero)) l none = none.0
+    at (suc (suc (suc zero))) l none = none.1
+    at (suc (suc (suc (suc zero)))) l none = none.2
+    at (suc (suc (suc (suc (suc zero))))) l none = none.3
+    at (suc (suc (suc (suc (suc (suc j)))))) l none = absurd (omega (arith, l))
+
+pub EndsLine-append : (xs ys : List ℕ) → EndsLine xs → EndsLine ys → EndsLine (xs ++ ys)
+EndsLine-append [] ys p q = q
+EndsLine-append (b ∷ []) [] p q = p
+EndsLine-append (b ∷ []) (c ∷ ys) p q = q
+EndsLine-append (b ∷ c ∷ xs) ys p q = EndsLine-append (c ∷ xs) ys p q
+
+pub EndsLine-line : (line : List ℕ) → EndsLine (line ++ 10 ∷ [])
+EndsLine-line [] = refl
+EndsLine-line (b ∷ []) = refl
+EndsLine-line (b ∷ c ∷ line) = EndsLine-line (c ∷ line)
+
+other_length : (xs ys : List ℕ) → length xs ≢ length ys → bytes_eq xs ys ≡ false
+other_length xs ys differs = by_test (bytes_eq xs ys) refl
+  where
+    by_test : (t : Bool) → bytes_eq xs ys ≡ t → bytes_eq xs ys ≡ false
+    by_test true e = absurd (differs (ap length ((bytes_eq-Decides xs ys).0 e)))
+    by_test false e = e
+
+-- ---- a line that begins with a bus
+
+-- its letter and its space are no line feeds, and what follows says what happens
+bus_line : (b s : ℕ) (rest : List ℕ) (bus : Bus) (e : Event) → bus_first (b ∷ s ∷ rest) ≡ Some bus → event_on bus rest ≡ Some e
+    → (b ≢ 10) × (s ≢ 10) × (meaning (b ∷ s ∷ rest) ≡ Ok (Some e))
+unfolding meaning
+bus_line b s rest bus e is says = (λ x. cc (sym is ∙ ap (λ y. bus_first (y ∷ s ∷ rest)) x ∙ none_of 10 s refl), λ x. cc (sym is ∙ ap (λ y. bus_first (b ∷ y ∷ rest)) x), by_test (b == 35) refl)
+  where
+    none_of : (b s : ℕ) → bus_of b ≡ None → bus_first (b ∷ s ∷ rest) ≡ None
+    none_of b s none = by_space (s == 32)
+      where
+        by_space : (t : Bool) → (if t then bus_of b else None) ≡ None
+        by_space true = none
+        by_space false = refl
+    by_test : (t : Bool) → (b == 35) ≡ t → meaning (b ∷ s ∷ rest) ≡ Ok (Some e)
+    by_test true x = let hash : b ≡ 35 = grind (arith, nat_tests, x) in cc (sym is ∙ ap (λ y. bus_first (y ∷ s ∷ rest)) hash ∙ none_of 35 s refl)
+    by_test false x =
+        ap (λ t. if t then Ok None else or_refused (event_of (b ∷ s ∷ rest))) x
+        ∙ ap (λ o. or_refused (by_bus o (b ∷ s ∷ rest) (if bytes_eq (b ∷ s ∷ rest) (codes "slot") then Some Slot else subsystem_event (b ∷ s ∷ rest)))) is
+        ∙ ap or_refused says
+
+-- a line of i bytes that begins with a bus, and behind it a line feed
+begins_on_bus : (bytes : List ℕ) (i : ℕ) (bus : Bus) (e : Event) → i + 2 < length bytes → get_or bytes (i + 2) 0 ≡ 10 → bus_first bytes ≡ Some bus
+    → event_on bus (take i (drop 2 bytes)) ≡ Some e → NoLineFeed (take i (drop 2 bytes)) → BeginsWith bytes (i + 2) e
+begins_on_bus [] i bus e within feed is says none = cc is
+begins_on_bus (b ∷ []) i bus e within feed is says none = cc is
+begins_on_bus (b ∷ s ∷ rest) i bus e within feed is says none =
+    let line = bus_line b s (take i rest) bus e is says in
+    let two : i + 2 ≡ suc (suc i) = omega arith in
+    record { within = within; line_feed = feed; one_line = subst (λ n. NoLineFeed (take n (b ∷ s ∷ rest))) (sym two) (line.0, (line.1, none)); says = ap (λ n. meaning (take n (b ∷ s ∷ rest))) two ∙ line.2 }
+
+pub begins_with_word : (bytes : List ℕ) (bus : Bus) (e : Event) → 8 < length bytes → get_or bytes 8 0 ≡ 10 → bus_first bytes ≡ Some bus
+    → word_on bus (take 6 (drop 2 bytes)) ≡ Some e → NoLineFeed (take 6 (drop 2 bytes)) → BeginsWith bytes 8 e
+begins_with_word bytes bus e within feed is says none =
+    let long : length (take 6 (drop 2 bytes)) ≡ 6 = grind (arith, common_steps) in
+    begins_on_bus bytes 6 bus e within feed is
+    (ap (λ t. if t then Some (Gap bus) else if bytes_eq (take 6 (drop 2 bytes)) (codes "noise") then Some (Noise bus) else word_on bus (take 6 (drop 2 bytes)))
+        (other_length (take 6 (drop 2 bytes)) (codes "gap") (λ x. cc (sym long ∙ x)))
+    ∙ ap (λ t. if t then Some (Noise bus) else word_on bus (take 6 (drop 2 bytes))) (other_length (take 6 (drop 2 bytes)) (codes "noise") (λ x. cc (sym long ∙ x)))
+    ∙ says)
+    none
+
+pub begins_with_gap : (bytes : List ℕ) (bus : Bus) → 5 < length bytes → get_or bytes 5 0 ≡ 10 → bytes_eq (take 3 (drop 2 bytes)) (codes "gap") ≡ true → bus_first bytes ≡ Some bus
+    → BeginsWith bytes 5 (Gap bus)
+begins_with_gap bytes bus within feed gap is =
+    let same : take 3 (drop 2 bytes) ≡ codes "gap" = (bytes_eq-Decides (take 3 (drop 2 bytes)) (codes "gap")).0 gap in
+    begins_on_bus bytes 3 bus (Gap bus) within feed is (ap (λ t. if t then Some (Gap bus) else if bytes_eq (take 3 (drop 2 bytes)) (codes "noise") then Some (Noise bus) else word_on bus (take 3 (drop 2 bytes))) gap)
+    (subst NoLineFeed (sym same) (λ x. cc x, (λ x. cc x, (λ x. cc x, tt))))
+
+pub begins_with_slot : (bytes : List ℕ) → 4 < length bytes → get_or bytes 4 0 ≡ 10 → bytes_eq (take 4 bytes) (codes "slot") ≡ true → BeginsWith bytes 4 Slot
+unfolding meaning
+begins_with_slot bytes within feed slot =
+    let same : take 4 bytes ≡ codes "slot" = (bytes_eq-Decides (take 4 bytes) (codes "slot")).0 slot in
+    record { within = within; line_feed = feed; one_line = subst NoLineFeed (sym same) (λ x. cc x, (λ x. cc x, (λ x. cc x, (λ x. cc x, tt)))); says = ap meaning same }
