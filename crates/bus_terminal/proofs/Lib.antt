@@ -2,3 +2,4 @@ pub mod TakesLaw
 pub mod StandsLaw
 pub mod AnswerLaw
 pub mod SlotsLaw
+pub mod ReceivedLaw

@@ -1,5 +1,5 @@
 -- Slots one after another: what they leave as it was, and the data words that are sent in them.
-use Rattle.std.proofs.Common.{◌≡◌, ℕ, zero, suc, ◌<◌, ◌≤◌, ◌+◌, ◌-◌, Bool, true, false, ◌&&◌, ◌||◌, ◌==◌, nat_le, if◌then◌else◌, Option, Some, None, List, [], ◌∷◌, length, take, drop, get_or, get_or-take, get_or-drop, refl, ap, sym, subst, ◌∙◌, arith}
+use Rattle.std.proofs.Common.{◌≡◌, ℕ, zero, suc, ◌<◌, ◌≤◌, ◌+◌, ◌-◌, Bool, true, false, ◌&&◌, ◌||◌, ◌==◌, nat_le, if◌then◌else◌, Option, Some, None, is_some, List, [], ◌∷◌, length, take, drop, get_or, get_or-take, get_or-drop, refl, ap, sym, subst, ◌∙◌, arith}
 use Rattle.std.proofs.lemmas.Grind.{common_steps}
 use Rattle.std.proofs.lemmas.Bool.Decides.{nat_tests}
 use Rattle.bus_word.specs.declared.word.Bus.{Bus}
@@ -27,10 +27,10 @@ use Rattle.terminal_state.specs.inner.Registers.{registers_now, reset_if}
 use Rattle.terminal_state.specs.inner.Held.{block_in}
 use Rattle.terminal_state.specs.inner.Replies.{shown_reply, can_send, sent_many}
 use Rattle.terminal_state.proofs.CanSendLaw.{can_send_law}
-use Rattle.terminal_state.proofs.SentLaw.{sent_law}
+use Rattle.terminal_state.proofs.SentLaw.{sent_none, sent_law}
 use Rattle.bus_terminal.specs.declared.terminal.Terminal.{Terminal}
 use Rattle.bus_terminal.specs.Stands.{StandsAt, heard_on_buses}
-use Rattle.bus_terminal.specs.Slots.{slots, words_left, AreSent}
+use Rattle.bus_terminal.specs.Slots.{slots, SlotsAreSilent, words_left, AreSent}
 use Rattle.bus_terminal.specs.inner.Terminal.{TakesSlot}
 use Rattle.bus_terminal.proofs.StandsLaw.{heard_slot, registers_slot, held_slot_law, slot_stands}
 
@@ -183,3 +183,14 @@ of_reply t r s n e cell some =
     let count : n ≡ r.count = sym (r.counted ∙ ap words_after_status cell) in
     let next : r.next ≡ suc (r.next - 1) = omega arith in
     ap shown_reply e ∙ (λ j. Some (record { bus = r.bus; cell = (cell ∙ ap (λ n. Some (OwnTransmit s n)) count) j; number = next j }))
+
+-- where no reply is in progress, nothing is sent
+no_reply : (r : Option Replying) → is_some r ≡ false → (let none : Option Replying = None in r ≡ none)
+no_reply None e = refl
+no_reply (Some r) e = cc
+
+pub slots_are_silent : SlotsAreSilent
+slots_are_silent P h e k =
+    let none = no_reply (reply_now (past P h)) e in
+    let q = passed P k h (ap resets_next none) in
+    ap (λ r. sending_out (sends P (past P (history_after (slots k) h)) r)) (q.reply ∙ (ap (sent_many k) none ∙ sent_none k))

@@ -35,7 +35,7 @@ use Rattle.terminal_state.specs.inner.Held.{word_in}
 use Rattle.bus_terminal.specs.Stands.{StandsAt, heard_on_buses}
 use Rattle.bus_terminal.specs.inner.Terminal.{heard_after_word, ends_at_gap, begins_at_gap, TakesWord, TakesNoise, TakesGap, TakesSlot}
 use Rattle.terminal_rules.proofs.OpenLaw.{word_law, noise_law, gap_law, slot_law, after_word, after_gap, after_entry, unheard}
-use Rattle.terminal_state.proofs.CollectedLaw.{gap_ends_law, gap_leaves_law, entry_leaves_law, entry_ends_law, free_law, fresh_law}
+use Rattle.terminal_state.proofs.CollectedLaw.{gap_ends_law, gap_leaves_law, entry_leaves_law, entry_ends_law, free_law, fresh_broadcast_law}
 use Rattle.terminal_rules.proofs.BackLaw.{held_step}
 use Rattle.terminal_rules.proofs.ResetLaw.{gap_as, gap_resets, slot_resets}
 use Rattle.terminal_state.proofs.RegistersLaw.{registers_law, noise_law as registers_noise_law, word_law as registers_word_law, gap_law as registers_gap_law, slot_law as registers_slot_law}
@@ -88,7 +88,7 @@ heard_word_by : (P : Description) (h : List Noted) (b : Bus) (w : Raw) → heard
 heard_word_by P h A w = heard_choice (is_for_terminal P w) (heard_now P h A) (heard_now P h B)
 heard_word_by P h B w = heard_choice_b (is_for_terminal P w) (heard_now P h A) (heard_now P h B)
 
-heard_word_law : (P : Description) (h : List Noted) (b : Bus) (w : Raw) → replies_on h b ≡ false → heard_on_buses P (note P h (Word b w) ∷ h) ≡ heard_after_word P b w (heard_on_buses P h)
+pub heard_word_law : (P : Description) (h : List Noted) (b : Bus) (w : Raw) → replies_on h b ≡ false → heard_on_buses P (note P h (Word b w) ∷ h) ≡ heard_after_word P b w (heard_on_buses P h)
 heard_word_law P h b w e = ap (λ n. heard_on_buses P (n ∷ h)) (word_is P h b w e) ∙ heard_word_by P h b w
 
 heard_noise_by : (P : Description) (h : List Noted) (b : Bus) → heard_on_buses P (noise_noted P h b ∷ h) ≡ heard_on_buses P h
@@ -116,7 +116,7 @@ starts_law : (P : Description) (h : List Noted) (b : Bus) (w : Raw) → word_sta
 starts_law P h b w =
     ap (λ k. starts_message P w k (is_free (open_now P h b)) (is_fresh_broadcast (open_now P h b))) (sym (on_heard P h b))
     ∙ (ap (λ f. starts_message P w (on_bus b (heard_on_buses P h)) f (is_fresh_broadcast (open_now P h b))) (free_law P (open_now P h b))
-    ∙ ap (starts_message P w (on_bus b (heard_on_buses P h)) (is_free (standing_of P (open_now P h b)))) (fresh_law P (open_now P h b)))
+    ∙ ap (starts_message P w (on_bus b (heard_on_buses P h)) (is_free (standing_of P (open_now P h b)))) (fresh_broadcast_law P (open_now P h b)))
 
 -- how the message in progress stands after a word, after noise and after a gap
 choice_standing : (P : Description) (x : Bool) (o o' : Open) (s : Standing) → standing_of P o ≡ s → standing_of P (if x then o else o') ≡ (if x then s else standing_of P o')
@@ -131,7 +131,7 @@ word_standing : (P : Description) (c b : Bus) (w : Raw) (s : Bool) (o : Open) �
 word_standing P c b w true o = started_standing P (same_bus c b) w.bits
 word_standing P c b w false o = choice_standing P (same_bus c b) (after_entry (unheard (Some w)) o) o _ (entry_leaves_law P (unheard (Some w)) o)
 
-standing_word_law : (P : Description) (h : List Noted) (c b : Bus) (w : Raw) → replies_on h b ≡ false →
+pub standing_word_law : (P : Description) (h : List Noted) (c b : Bus) (w : Raw) → replies_on h b ≡ false →
     standing_of P (open_now P (note P h (Word b w) ∷ h) c)
     ≡ word_leaves P.address (starts_by P w (on_bus b (heard_on_buses P h)) (standing_of P (open_now P h b))) (same_bus c b) w (standing_of P (open_now P h c))
 standing_word_law P h c b w e =
@@ -157,7 +157,7 @@ standing_gap_law P h c b e =
     ∙ choice_standing P (same_bus c b) (after_gap P (open_now P h c)) (open_now P h c) _ (gap_leaves_law P (open_now P h c)))
 
 -- the registers after a word, after noise and after a gap
-registers_word : (P : Description) (h : List Noted) (b : Bus) (w : Raw) → replies_on h b ≡ false →
+pub registers_word : (P : Description) (h : List Noted) (b : Bus) (w : Raw) → replies_on h b ≡ false →
     registers_now P (note P h (Word b w) ∷ h)
     ≡ started_if (starts_by P w (on_bus b (heard_on_buses P h)) (standing_of P (open_now P h b))) (spares P w.bits) w.bits (failed_by P (entry_fails (Some w) (standing_of P (open_now P h b))) (registers_now P h))
 registers_word P h b w e =
@@ -187,7 +187,7 @@ registers_gap P h b e =
     ∙ registers_gap_law P (gap_by P h b) b (begins_by P h b) (registers_now P h)))
 
 -- the reply after a word, after noise and after a gap
-reply_word : (P : Description) (h : List Noted) (b : Bus) (w : Raw) → replies_on h b ≡ false →
+pub reply_word : (P : Description) (h : List Noted) (b : Bus) (w : Raw) → replies_on h b ≡ false →
     reply_now (note P h (Word b w) ∷ h) ≡ dropped_if (starts_by P w (on_bus b (heard_on_buses P h)) (standing_of P (open_now P h b))) (reply_now h)
 reply_word P h b w e =
     ap (λ n. reply_now (n ∷ h)) (word_is P h b w e)
@@ -209,7 +209,7 @@ held_failed : (P : Description) (s i : ℕ) (e : Event) (f : Option ℕ) (old : 
 held_failed P s i e None old n = ap (λ o. or_else (either_word o None) old) n
 held_failed P s i e (Some c) old n = ap (λ o. or_else (either_word o None) old) n
 
-held_word_law : (P : Description) (h : List Noted) (b : Bus) (w : Raw) (s i : ℕ) → replies_on h b ≡ false → held_now P (note P h (Word b w) ∷ h) s i ≡ held_now P h s i
+pub held_word_law : (P : Description) (h : List Noted) (b : Bus) (w : Raw) (s i : ℕ) → replies_on h b ≡ false → held_now P (note P h (Word b w) ∷ h) s i ≡ held_now P h s i
 held_word_law P h b w s i e =
     ap (λ n. held_now P (n ∷ h) s i) (word_is P h b w e)
     ∙ (held_step P s i (word_noted P h b w) h

@@ -3,4 +3,5 @@ pub use Rattle.terminal_rules.specs.Out
 pub mod Answer
 pub mod Stands
 pub mod Slots
+pub mod Received
 pub mod inner

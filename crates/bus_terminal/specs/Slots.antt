@@ -1,5 +1,5 @@
 -- Slots one after another, and the data words that are sent in them.
-use Rattle.std.specs.Prelude.{◌≡◌, ℕ, suc, ◌<◌, ◌-◌, Option, Some, None, List, length, replicate, get_or}
+use Rattle.std.specs.Prelude.{◌≡◌, ℕ, suc, ◌<◌, ◌-◌, false, is_some, Option, Some, None, List, length, replicate, get_or}
 use Rattle.bus_word.specs.declared.word.Bus.{Bus}
 use Rattle.bus_word.specs.declared.word.Kind.TheVariants.{Dat}
 use Rattle.bus_word.specs.declared.cell.Cell.{Cell}
@@ -8,12 +8,18 @@ use Rattle.bus_legal.specs.Description.{Description}
 use Rattle.terminal_rules.specs.declared.event.Event.{Event}
 use Rattle.terminal_rules.specs.declared.event.Event.TheVariants.{Slot}
 use Rattle.terminal_rules.specs.History.{Replying}
-use Rattle.terminal_rules.specs.Past.{history_after}
-use Rattle.terminal_rules.specs.Out.{sending, SendsWord, out}
+use Rattle.terminal_rules.specs.Reply.{reply_now}
+use Rattle.terminal_rules.specs.Past.{past, history_after}
+use Rattle.terminal_rules.specs.Out.{sending, Silence, SendsWord, out}
 
 -- so many slots
 abbrev pub slots : ℕ → List Event
 slots k = replicate k Slot
+
+-- where no reply is in progress, nothing is sent in the slots to come
+abbrev pub SlotsAreSilent : Type 0
+SlotsAreSilent =
+    (P : Description) (h : List Event) → is_some (reply_now (past P h)) ≡ false → (k : ℕ) → out P (history_after (slots k) h) Slot ≡ Silence
 
 -- the words of a subaddress that a reply is still to send, by its cell and the number of the next word: none before its status
 abbrev pub words_left_of : Option Cell → ℕ → ℕ

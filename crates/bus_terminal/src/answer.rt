@@ -22,6 +22,17 @@ pub struct WordsToSend<'a> {
     pub words: &'a [u16],
 }
 
+/// What a message is to receive that has just started.
+#[derive(Clone, Copy)]
+pub struct Receiving {
+    /// Whether it comes by broadcast.
+    pub broadcast: bool,
+    /// The subaddress, 1 to 30.
+    pub subaddress: u8,
+    /// How many data words, 1 to 32.
+    pub count: u8,
+}
+
 /// What a terminal hands over to its subsystem.
 #[derive(Clone, Copy, Debug, PartialEq, Eq)]
 pub enum Hand<'a> {

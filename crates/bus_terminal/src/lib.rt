@@ -3,9 +3,10 @@
 #![tactic(auto)]
 
 mod answer;
+pub mod laws;
 mod settings;
 mod terminal;
 
-pub use answer::{Answer, Hand, Sent, WordsToSend};
+pub use answer::{Answer, Hand, Receiving, Sent, WordsToSend};
 pub use terminal::Terminal;
 pub use terminal_rules::{Event, Flag, WordPlace};

@@ -3,6 +3,7 @@ ghost use Rattle.std.specs.Borrow.{sem};
 ghost use Rattle.std.specs.Io.BufRead.{Rests};
 
 mod answers;
+mod received;
 mod slots;
 
 use crate::answer::{Answer, Sent};

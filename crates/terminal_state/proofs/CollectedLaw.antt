@@ -13,7 +13,7 @@ use Rattle.terminal_rules.specs.History.{Entry}
 use Rattle.terminal_rules.specs.Open.{Open, Idle, Collects, Waits, Resumes, transmitter, is_status_of, transfer}
 use Rattle.terminal_rules.specs.Starts.{is_free, is_fresh_broadcast}
 use Rattle.terminal_rules.specs.Ends.{data_words, with_word, data_of, if_expected, complete, at_gap, at_entry, ends_with}
-use Rattle.terminal_state.specs.inner.Standing.{Collected, Words, Transmitter, Spoilt, lone_transmitter, transmitter_or_spoilt, few, collected_by, collected_of, standing_of, next, whole_of, transfer_of, gap_ends, gap_end_of, ending_at, waits_for, gap_leaves, entry_leaves, entry_fails, fails, stands_fresh}
+use Rattle.terminal_state.specs.inner.Standing.{Collected, Words, Transmitter, Spoilt, lone_transmitter, transmitter_or_spoilt, few, collected_by, collected_of, standing_of, next, whole_of, transfer_of, gap_ends, gap_end_of, ending_at, waits_for, gap_leaves, entry_leaves, entry_fails, fails, fresh_in, is_broadcast_receive, stands_fresh}
 use Rattle.terminal_rules.proofs.OpenLaw.{after_gap, after_entry, waits}
 
 few_more : (ds : List ℕ) (d : ℕ) (a : Option ℕ) → few (ds ++ d ∷ []) ≡ next (few ds) (Some d) a
@@ -174,12 +174,17 @@ free_law P (Collects c after) = refl
 free_law P (Waits c a) = refl
 free_law P (Resumes c after) = refl
 
-more_not_fresh : (c : ℕ) (b : Bool) (ds : List ℕ) (d : ℕ) → false ≡ stands_fresh (Collects c (if b then Words (ds ++ d ∷ []) else Spoilt))
+-- the command that nothing has followed
+abbrev pub fresh_open : Open → Option ℕ
+fresh_open (Collects c []) = Some c
+fresh_open _ = None
+
+more_not_fresh : (c : ℕ) (b : Bool) (ds : List ℕ) (d : ℕ) → fresh_in (Collects c (if b then Words (ds ++ d ∷ []) else Spoilt)) ≡ None
 more_not_fresh c false ds d = refl
 more_not_fresh c true [] d = refl
 more_not_fresh c true (e ∷ ds) d = refl
 
-not_fresh : (c : ℕ) (f : Collected) (k a : Option ℕ) → false ≡ stands_fresh (Collects c (next f k a))
+not_fresh : (c : ℕ) (f : Collected) (k a : Option ℕ) → fresh_in (Collects c (next f k a)) ≡ None
 not_fresh c (Words ds) (Some d) a = more_not_fresh c (nat_lt (length ds) 32) ds d
 not_fresh c (Words []) None None = refl
 not_fresh c (Words []) None (Some b) = refl
@@ -187,9 +192,19 @@ not_fresh c (Words (d ∷ ds)) None a = refl
 not_fresh c (Transmitter b) k a = refl
 not_fresh c Spoilt k a = refl
 
-pub fresh_law : (P : Description) (o : Open) → is_fresh_broadcast o ≡ stands_fresh (standing_of P o)
+pub fresh_law : (P : Description) (o : Open) → fresh_in (standing_of P o) ≡ fresh_open o
 fresh_law P Idle = refl
 fresh_law P (Collects c []) = refl
-fresh_law P (Collects c (x ∷ xs)) = not_fresh c (collected_of P xs) (data_of x.word) (transmitter P x) ∙ ap (λ f. stands_fresh (Collects c f)) (sym (collected_step P x xs))
+fresh_law P (Collects c (x ∷ xs)) = ap (λ f. fresh_in (Collects c f)) (collected_step P x xs) ∙ not_fresh c (collected_of P xs) (data_of x.word) (transmitter P x)
 fresh_law P (Waits c a) = refl
 fresh_law P (Resumes c after) = refl
+
+fresh_broadcast : (o : Open) → is_fresh_broadcast o ≡ is_broadcast_receive (fresh_open o)
+fresh_broadcast Idle = refl
+fresh_broadcast (Collects c []) = refl
+fresh_broadcast (Collects c (x ∷ xs)) = refl
+fresh_broadcast (Waits c a) = refl
+fresh_broadcast (Resumes c after) = refl
+
+pub fresh_broadcast_law : (P : Description) (o : Open) → is_fresh_broadcast o ≡ stands_fresh (standing_of P o)
+fresh_broadcast_law P o = fresh_broadcast o ∙ ap is_broadcast_receive (sym (fresh_law P o))

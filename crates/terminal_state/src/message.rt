@@ -6,7 +6,7 @@ ghost use Rattle.terminal_rules.specs.Buses.{same_bus};
 ghost use Rattle.terminal_rules.specs.Open.{Idle, Collects, transmitter_at, status_at};
 ghost use Rattle.terminal_rules.specs.Starts.{is_free};
 ghost use Rattle.terminal_rules.specs.Ends.{data_of};
-ghost use Rattle.terminal_state.specs.inner.Standing.{Words, next, entry_leaves, entry_fails, gap_leaves, gap_end, stands_fresh};
+ghost use Rattle.terminal_state.specs.inner.Standing.{Words, next, entry_leaves, entry_fails, gap_leaves, gap_end, fresh_in, stands_fresh};
 ghost use Rattle.terminal_rules.specs.Out.{first_word};
 ghost use Rattle.terminal_state.specs.inner.Message.{collected_in, standing_on, gap_end_with, in_phase};
 
@@ -138,19 +138,28 @@ impl InProgress {
         }
     }
 
+    /// Gives the command of the message on this bus, if nothing has followed it.
+    #[inline(always)]
+    pub fn fresh(&self, bus: Bus) -> Option<Command>
+        ensures { result ≡ fresh_in (standing_on bus self.now) }
+    {
+        match &self.message {
+            Some(message) => match message.phase {
+                Phase::Collects(Collected::Words)
+                    if same_bus(bus, message.bus) && self.words.is_empty() => Some(message.command),
+                _ => None,
+            },
+            None => None,
+        }
+    }
+
     /// Tells whether the message on this bus is a broadcast receive command that nothing has followed.
     #[inline(always)]
     pub fn is_fresh_broadcast(&self, bus: Bus) -> bool
         ensures { result ≡ stands_fresh (standing_on bus self.now) }
     {
-        match &self.message {
-            Some(message) => {
-                same_bus(bus, message.bus)
-                    && matches!(message.phase, Phase::Collects(Collected::Words))
-                    && self.words.is_empty()
-                    && message.command.is_receive()
-                    && message.command.is_broadcast()
-            }
+        match self.fresh(bus) {
+            Some(command) => command.is_receive() && command.is_broadcast(),
             None => false,
         }
     }

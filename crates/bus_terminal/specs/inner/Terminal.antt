@@ -1,5 +1,5 @@
 -- What an event makes of a terminal, and what is answered from what it keeps.
-use Rattle.std.specs.Prelude.{◌≡◌, ℕ, ◌≤◌, Bool, true, false, ◌&&◌, ◌==◌, if◌then◌else◌, Option, Some, None, []}
+use Rattle.std.specs.Prelude.{◌≡◌, ℕ, ◌≤◌, Bool, true, false, ◌&&◌, ◌||◌, ◌==◌, if◌then◌else◌, Option, Some, None, []}
 use Rattle.bus_word.specs.declared.word.Bus.{Bus}
 use Rattle.bus_word.specs.declared.word.Kind.TheVariants.{Com, Dat}
 use Rattle.bus_word.specs.declared.word.Raw.{Raw}
@@ -7,19 +7,22 @@ use Rattle.bus_word.specs.declared.cell.Cell.{Cell}
 use Rattle.bus_word.specs.declared.cell.Cell.TheVariants.{OwnTransmit, OwnMode}
 use Rattle.bus_word.specs.Status.{status_word}
 use Rattle.bus_word.specs.Mode as mode
+use Rattle.bus_word.specs.Cell.{cell_of}
 use Rattle.bus_legal.specs.Description.{Description, word_at}
 use Rattle.terminal_rules.specs.Place.{Place}
 use Rattle.terminal_state.specs.declared.buses.OnBuses.{OnBuses}
 use Rattle.terminal_state.specs.declared.registers.Registers.{Registers}
+use Rattle.bus_terminal.specs.declared.answer.Receiving.{Receiving}
 use Rattle.bus_terminal.specs.declared.terminal.Terminal.{Terminal}
 use Rattle.terminal_rules.specs.History.{Replying, Ending}
 use Rattle.terminal_rules.specs.Buses.{same_bus}
-use Rattle.terminal_rules.specs.Open.{Idle, Collects}
+use Rattle.terminal_rules.specs.Open.{Idle, Collects, is_on}
 use Rattle.terminal_rules.specs.Starts.{is_for_terminal}
+use Rattle.terminal_rules.specs.Reply.{reply_bus}
 use Rattle.terminal_rules.specs.Status.{spares, adds_error}
 use Rattle.terminal_rules.specs.Turn.{is_answered, done_cell}
 use Rattle.terminal_rules.specs.Out.{Sending, sending}
-use Rattle.terminal_state.specs.inner.Standing.{Words, word_leaves, entry_leaves, entry_fails, gap_leaves, gap_ends, starts_by}
+use Rattle.terminal_state.specs.inner.Standing.{Words, word_leaves, entry_leaves, entry_fails, gap_leaves, gap_ends, fresh_in, starts_by}
 use Rattle.terminal_state.specs.inner.Message.{standing_on}
 use Rattle.terminal_state.specs.inner.Registers.{failed_by, started, started_if, settled, reset_if}
 use Rattle.terminal_rules.specs.inner.Steps.{resets_at_gap, dropped_if, begun_if, sent_one, resets_next}
@@ -27,6 +30,7 @@ use Rattle.terminal_state.specs.inner.Buses.{on_bus, with_bus}
 use Rattle.terminal_state.specs.inner.Held.{held_after}
 use Rattle.terminal_state.specs.inner.Replies.{shown_reply}
 use Rattle.bus_terminal.specs.Stands.{own_description, held_word}
+use Rattle.bus_terminal.specs.Received.{received_by}
 
 -- the data word of an own mode code, from the registers
 abbrev pub code_word_from : Registers → ℕ → ℕ
@@ -68,6 +72,16 @@ ends_at_gap is_legal t b = gap_ends (own_description is_legal t) t.registers.fla
 -- whether a reply to it begins
 abbrev pub begins_at_gap : {L : Type 0} → (L → Cell → Bool) → Terminal L → Bus → Bool
 begins_at_gap is_legal t b = is_answered (on_bus b t.registers.off) (ends_at_gap is_legal t b)
+
+-- what the message on this bus is to receive
+abbrev pub receives_from : Description → Option ℕ → Option Receiving
+receives_from P None = None
+receives_from P (Some c) = received_by P (cell_of c)
+
+abbrev pub receives_in : {L : Type 0} → (L → Cell → Bool) → Terminal L → Bus → Option Receiving
+receives_in is_legal t b =
+    if is_on b (reply_bus (shown_reply t.reply)) || t.registers.flags.busy then None
+    else receives_from (own_description is_legal t) (fresh_in (standing_on b t.in_progress))
 
 -- the same set-up and legality
 pub record IsSameSetup {L : Type 0} (is_legal : L → Cell → Bool) (t u : Terminal L) : Type 0 where

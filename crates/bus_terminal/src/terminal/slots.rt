@@ -7,12 +7,20 @@ use terminal_rules::Event;
 use terminal_state::advance_by;
 
 impl<L: Legality> Terminal<L> {
-    ghost use Rattle.std.specs.Prelude.{◌≡◌, List, IfSome, IfNone, length};
+    ghost use Rattle.std.specs.Prelude.{◌≡◌, is_some, List, IfSome, IfNone, length};
     ghost use Rattle.bus_legal.specs.Description.{Description};
     ghost use Rattle.terminal_rules.specs.Past.{past, history_after};
     ghost use Rattle.terminal_rules.specs.Reply.{reply_now};
     ghost use Rattle.bus_terminal.specs.Stands.{StandsAt};
     ghost use Rattle.bus_terminal.specs.Slots.{slots, words_left, AreSent};
+
+    /// Tells whether a reply is in progress. Where none is, nothing is sent in the slots to come.
+    #[inline(always)]
+    pub fn is_replying(&self) -> bool
+        ensures { (P : Description) (h : List Event) → StandsAt L.is_legal P h self.now → result ≡ is_some (reply_now (past P h)) }
+    {
+        self.reply.is_some()
+    }
 
     /// Lends the words of a subaddress that the reply in progress is still to send, all of them. None where the next slot sends no such
     /// word.

@@ -125,9 +125,17 @@ abbrev pub fails : Option ℕ → Ending
 fails None = Nothing
 fails (Some c) = Badly c
 
+-- the command that nothing has followed
+abbrev pub fresh_in : Standing → Option ℕ
+fresh_in (Collects c (Words [])) = Some c
+fresh_in _ = None
+
+abbrev pub is_broadcast_receive : Option ℕ → Bool
+is_broadcast_receive None = false
+is_broadcast_receive (Some c) = is_receive c && is_broadcast c
+
 abbrev pub stands_fresh : Standing → Bool
-stands_fresh (Collects c (Words [])) = is_receive c && is_broadcast c
-stands_fresh _ = false
+stands_fresh s = is_broadcast_receive (fresh_in s)
 
 -- whether a word starts a message, from what is kept
 abbrev pub starts_by : Description → Raw → Bool → Standing → Bool
