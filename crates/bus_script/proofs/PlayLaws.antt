@@ -1,12 +1,17 @@
 -- Laws of what is played: nothing, one event, one after another, and in part.
-use Rattle.std.proofs.Common.{ℕ, ◌≡◌, List, [], ◌∷◌, ◌++◌, refl, sym, ap, ◌∙◌, append_assoc, append-nil, subst, Option}
+use Rattle.std.proofs.Common.{ℕ, Bool, ◌≡◌, List, [], ◌∷◌, ◌++◌, refl, sym, ap, ◌∙◌, append_assoc, append-nil, subst, Option}
 use Rattle.std.specs.Io.KnownBytes.{Appends, Keeps}
 use Rattle.std.proofs.KnownBytes.{Appends-nil, Appends-trans, Appends-kept}
-use Rattle.terminal_rules.specs.declared.event.Event.{Event}
-use Rattle.script_lines.specs.Transcript.{transcript}
+use Rattle.bus_word.specs.declared.cell.Cell.{Cell}
+use Rattle.bus_legal.specs.Description.{Description}
 use Rattle.terminal_rules.specs.Past.{history_after}
-use Rattle.bus_script.specs.Playing.{Plays, Takes, PlaysPart}
+use Rattle.terminal_rules.specs.declared.event.Event.{Event}
+use Rattle.bus_terminal.specs.declared.terminal.Terminal.{Terminal}
+use Rattle.bus_terminal.specs.Stands.{StandsAt, TakesEvent}
 use Rattle.byte_streams.specs.Device.{IsPartWritten}
+use Rattle.script_lines.specs.Transcript.{transcript, text_at}
+use Rattle.bus_script.specs.Played.{Text, Played, PlayedPart}
+use Rattle.bus_script.specs.inner.Pieces.{Taken}
 
 pub after_append : (h es fs : List Event) → history_after (es ++ fs) h ≡ history_after fs (history_after es h)
 after_append h [] fs = refl
@@ -23,99 +28,80 @@ pub transcript-one : (text : List Event → Event → List ℕ) (h : List Event)
 unfolding transcript
 transcript-one text h e = append-nil (text h e)
 
-pub Plays-nil : {D M W : Type 0} (stands : D → List Event → M → Type 0) (out : D → List Event → Event → List ℕ) (written : W → Option (List ℕ)) (m : M) (w : W)
-    → Plays stands out written m m w w []
-unfolding transcript
-Plays-nil stands out written m w = record { at = λ P h s. s; text = λ P h s. Appends-nil (written w) }
+module _ {L W : Type 0} {is_legal : L → Cell → Bool} {text : Text} {written : W → Option (List ℕ)} where
+  pub Played-nil : (a : Terminal L × W) → Played is_legal text written a a []
+  unfolding transcript
+  Played-nil a = record { at = λ P h s. s; wrote = λ P h s. Appends-nil (written a.1) }
 
-pub Plays-trans : {D M W : Type 0} {stands : D → List Event → M → Type 0} {out : D → List Event → Event → List ℕ} {written : W → Option (List ℕ)}
-    {m m' m'' : M} {w w' w'' : W} {es fs : List Event}
-    → Plays stands out written m m' w w' es → Plays stands out written m' m'' w' w'' fs → Plays stands out written m m'' w w'' (es ++ fs)
-Plays-trans {stands = stands} {out = out} {written = written} {m'' = m''} {w = w} {w' = w'} {w'' = w''} {es = es} {fs = fs} p q = record {
-  at = λ P h s. subst (λ g. stands P g m'') (sym (after_append h es fs)) (q.at P (history_after es h) (p.at P h s));
-  text = λ P h s. subst (Appends (written w) (written w'')) (sym (transcript-append (out P) h es fs))
-      (Appends-trans (written w) (written w') (written w'') (transcript (out P) h es) (transcript (out P) (history_after es h) fs) (p.text P h s) (q.text P (history_after es h) (p.at P h s)));
-}
+  pub Played-trans : {a b c : Terminal L × W} {es fs : List Event} → Played is_legal text written a b es → Played is_legal text written b c fs → Played is_legal text written a c (es ++ fs)
+  Played-trans {a = a} {b = b} {c = c} {es = es} {fs = fs} p q = record {
+    at = λ P h s. subst (λ g. StandsAt is_legal P g c.0) (sym (after_append h es fs)) (q.at P (history_after es h) (p.at P h s));
+    wrote = λ P h s. subst (Appends (written a.1) (written c.1)) (sym (transcript-append (text P) h es fs))
+        (Appends-trans (written a.1) (written b.1) (written c.1) (transcript (text P) h es) (transcript (text P) (history_after es h) fs) (p.wrote P h s) (q.wrote P (history_after es h) (p.at P h s)));
+  }
 
-pub Plays-part : {D M W : Type 0} {stands : D → List Event → M → Type 0} {out : D → List Event → Event → List ℕ} {written : W → Option (List ℕ)}
-    {m m' m'' : M} {w w' w'' : W} {es fs : List Event} {e : Event}
-    → Plays stands out written m m' w w' es → PlaysPart stands out written m' m'' w' w'' fs e → PlaysPart stands out written m m'' w w'' (es ++ fs) e
-Plays-part {stands = stands} {out = out} {written = written} {m'' = m''} {w = w} {w' = w'} {w'' = w''} {es = es} {fs = fs} {e = e} p q = record {
-  at = λ P h s. subst (λ g. stands P (e ∷ g) m'') (sym (after_append h es fs)) (q.at P (history_after es h) (p.at P h s));
-  text = λ P h s. let t = q.text P (history_after es h) (p.at P h s) in (
-    t.0,
-    t.1,
-    t.2 ∙ ap (λ g. out P g e) (sym (after_append h es fs)),
-    subst (Appends (written w) (written w''))
-        (sym (append_assoc (transcript (out P) h es) (transcript (out P) (history_after es h) fs) t.0) ∙ ap (λ x. x ++ t.0) (sym (transcript-append (out P) h es fs)))
-        (Appends-trans (written w) (written w') (written w'') (transcript (out P) h es) (transcript (out P) (history_after es h) fs ++ t.0) (p.text P h s) t.3),
-  );
-}
+  -- one event, whose text is this
+  pub Played-one : (a b : Terminal L × W) (e : Event) (bytes : List ℕ) → TakesEvent is_legal e a.0 b.0
+      → ((P : Description) (h : List Event) → StandsAt is_legal P h a.0 → bytes ≡ text P h e)
+      → Appends (written a.1) (written b.1) bytes → Played is_legal text written a b (e ∷ [])
+  Played-one a b e bytes step is wrote = record {
+    at = step;
+    wrote = λ P h s. subst (Appends (written a.1) (written b.1)) (is P h s ∙ sym (transcript-one (text P) h e)) wrote;
+  }
 
--- one event, whose answer has this text
-pub Plays-one : {D M W : Type 0} (stands : D → List Event → M → Type 0) (out : D → List Event → Event → List ℕ) (written : W → Option (List ℕ))
-    (m m' : M) (w w' : W) (e : Event) (text : List ℕ)
-    → ((P : D) (h : List Event) → stands P h m → stands P (e ∷ h) m') → ((P : D) (h : List Event) → stands P h m → text ≡ out P h e)
-    → Appends (written w) (written w') text → Plays stands out written m m' w w' (e ∷ [])
-Plays-one stands out written m m' w w' e text step is wrote = record {
-  at = step;
-  text = λ P h s. subst (Appends (written w) (written w')) (is P h s ∙ sym (transcript-one (out P) h e)) wrote;
-}
+  -- what the sink keeps stays played
+  pub Played-kept : {a b : Terminal L × W} {w : W} {es : List Event} → Played is_legal text written a b es → Keeps (written b.1) (written w) → Played is_legal text written a (b.0, w) es
+  Played-kept {a = a} {b = b} {w = w} p k = record { at = p.at; wrote = λ P h s. Appends-kept (written a.1) (written b.1) (written w) _ (p.wrote P h s) k }
 
 -- ---- events that are not answered
 
-pub Takes-nil : {D M : Type 0} (stands : D → List Event → M → Type 0) (out : D → List Event → Event → List ℕ) (m : M) → Takes stands out m m []
-unfolding transcript
-Takes-nil stands out m = record { at = λ P h s. s; silent = λ P h. refl }
+module _ {L : Type 0} {is_legal : L → Cell → Bool} where
+  pub Taken-nil : (t : Terminal L) → Taken is_legal t t []
+  unfolding transcript
+  Taken-nil t = record { at = λ P h s. s; silent = λ P h s. refl }
 
-pub Takes-more : {D M : Type 0} {stands : D → List Event → M → Type 0} {out : D → List Event → Event → List ℕ} {m m' m'' : M} {es : List Event} (e : Event)
-    → Takes stands out m m' es → ((P : D) (h : List Event) → stands P h m' → stands P (e ∷ h) m'') → ((P : D) (h : List Event) → out P h e ≡ [])
-    → Takes stands out m m'' (es ++ e ∷ [])
-Takes-more {stands = stands} {out = out} {m'' = m''} {es = es} e p step silent = record {
-  at = λ P h s. subst (λ g. stands P g m'') (sym (after_append h es (e ∷ []))) (step P (history_after es h) (p.at P h s));
-  silent = λ P h.
-      transcript-append (out P) h es (e ∷ [])
-      ∙ (ap (λ x. x ++ transcript (out P) (history_after es h) (e ∷ [])) (p.silent P h)
-      ∙ (transcript-one (out P) (history_after es h) e ∙ silent P (history_after es h)));
-}
+  pub Taken-one : (t t' : Terminal L) (e : Event) → TakesEvent is_legal e t t' → ((P : Description) (h : List Event) → [] ≡ text_at P h e) → Taken is_legal t t' (e ∷ [])
+  Taken-one t t' e step silent = record { at = step; silent = λ P h s. transcript-one (text_at P) h e ∙ sym (silent P h) }
 
-pub Takes-plays : {D M W : Type 0} {stands : D → List Event → M → Type 0} {out : D → List Event → Event → List ℕ} {m m' : M} {es : List Event} (written : W → Option (List ℕ)) (w : W)
-    → Takes stands out m m' es → Plays stands out written m m' w w es
-Takes-plays written w p = record { at = p.at; text = λ P h s. subst (Appends (written w) (written w)) (sym (p.silent P h)) (Appends-nil (written w)) }
+  pub Taken-plays : {W : Type 0} {written : W → Option (List ℕ)} {t t' : Terminal L} {es : List Event} (w : W) → Taken is_legal t t' es → Played is_legal text_at written (t, w) (t', w) es
+  Taken-plays {written = written} w p = record { at = p.at; wrote = λ P h s. subst (Appends (written w) (written w)) (sym (p.silent P h s)) (Appends-nil (written w)) }
 
-pub PlaysPart-one : {D M W : Type 0} (stands : D → List Event → M → Type 0) (out : D → List Event → Event → List ℕ) (written : W → Option (List ℕ))
-    (m m' : M) (w w' : W) (e : Event) (text : List ℕ)
-    → ((P : D) (h : List Event) → stands P h m → stands P (e ∷ h) m') → ((P : D) (h : List Event) → stands P h m → text ≡ out P h e)
-    → IsPartWritten (written w) (written w') text → PlaysPart stands out written m m' w w' [] e
-unfolding transcript
-PlaysPart-one stands out written m m' w w' e text step is wrote = record {
-  at = step;
-  text = λ P h s. (wrote.0, wrote.1, wrote.2 ∙ is P h s, wrote.3);
-}
+-- ---- one event more, of whose text a part was written
 
--- a last whole text is a part of it
-pub Plays-last : {D M W : Type 0} {stands : D → List Event → M → Type 0} {out : D → List Event → Event → List ℕ} {written : W → Option (List ℕ)}
-    {m m' : M} {w w' : W} (es : List Event) (e : Event)
-    → Plays stands out written m m' w w' (es ++ e ∷ []) → PlaysPart stands out written m m' w w' es e
-Plays-last {stands = stands} {out = out} {written = written} {m' = m'} {w = w} {w' = w'} es e p = record {
-  at = λ P h s. subst (λ g. stands P g m') (after_append h es (e ∷ [])) (p.at P h s);
-  text = λ P h s. (
-    out P (history_after es h) e,
-    [],
-    append-nil (out P (history_after es h) e),
-    subst (Appends (written w) (written w')) (transcript-append (out P) h es (e ∷ []) ∙ ap (λ x. transcript (out P) h es ++ x) (transcript-one (out P) (history_after es h) e)) (p.text P h s),
-  );
-}
+module _ {L W : Type 0} {is_legal : L → Cell → Bool} {written : W → Option (List ℕ)} where
+  pub Played-part : {a b c : Terminal L × W} {es fs : List Event} {e : Event} → Played is_legal text_at written a b es → PlayedPart is_legal written b c fs e → PlayedPart is_legal written a c (es ++ fs) e
+  Played-part {a = a} {b = b} {c = c} {es = es} {fs = fs} {e = e} p q = record {
+    at = λ P h s. subst (λ g. StandsAt is_legal P (e ∷ g) c.0) (sym (after_append h es fs)) (q.at P (history_after es h) (p.at P h s));
+    wrote = λ P h s. let t = q.wrote P (history_after es h) (p.at P h s) in (
+      t.0,
+      t.1,
+      t.2 ∙ ap (λ g. text_at P g e) (sym (after_append h es fs)),
+      subst (Appends (written a.1) (written c.1))
+          (sym (append_assoc (transcript (text_at P) h es) (transcript (text_at P) (history_after es h) fs) t.0) ∙ ap (λ x. x ++ t.0) (sym (transcript-append (text_at P) h es fs)))
+          (Appends-trans (written a.1) (written b.1) (written c.1) (transcript (text_at P) h es) (transcript (text_at P) (history_after es h) fs ++ t.0) (p.wrote P h s) t.3),
+    );
+  }
 
--- ---- what the sink keeps stays played
+  pub PlayedPart-one : (a b : Terminal L × W) (e : Event) (bytes : List ℕ) → TakesEvent is_legal e a.0 b.0
+      → ((P : Description) (h : List Event) → StandsAt is_legal P h a.0 → bytes ≡ text_at P h e)
+      → IsPartWritten (written a.1) (written b.1) bytes → PlayedPart is_legal written a b [] e
+  unfolding transcript
+  PlayedPart-one a b e bytes step is wrote = record { at = step; wrote = λ P h s. (wrote.0, wrote.1, wrote.2 ∙ is P h s, wrote.3) }
 
-pub Plays-kept : {D M W : Type 0} {stands : D → List Event → M → Type 0} {out : D → List Event → Event → List ℕ} {written : W → Option (List ℕ)}
-    {m m' : M} {w w' w'' : W} {es : List Event} → Plays stands out written m m' w w' es → Keeps (written w') (written w'') → Plays stands out written m m' w w'' es
-Plays-kept {written = written} {w = w} {w' = w'} {w'' = w''} p k = record { at = p.at; text = λ P h s. Appends-kept (written w) (written w') (written w'') _ (p.text P h s) k }
+  -- a last whole text is a part of it
+  pub Played-last : {a b : Terminal L × W} (es : List Event) (e : Event) → Played is_legal text_at written a b (es ++ e ∷ []) → PlayedPart is_legal written a b es e
+  Played-last {a = a} {b = b} es e p = record {
+    at = λ P h s. subst (λ g. StandsAt is_legal P g b.0) (after_append h es (e ∷ [])) (p.at P h s);
+    wrote = λ P h s. (
+      text_at P (history_after es h) e,
+      [],
+      append-nil (text_at P (history_after es h) e),
+      subst (Appends (written a.1) (written b.1)) (transcript-append (text_at P) h es (e ∷ []) ∙ ap (λ x. transcript (text_at P) h es ++ x) (transcript-one (text_at P) (history_after es h) e)) (p.wrote P h s),
+    );
+  }
 
-pub PlaysPart-kept : {D M W : Type 0} {stands : D → List Event → M → Type 0} {out : D → List Event → Event → List ℕ} {written : W → Option (List ℕ)}
-    {m m' : M} {w w' w'' : W} {es : List Event} {e : Event} → PlaysPart stands out written m m' w w' es e → Keeps (written w') (written w'') → PlaysPart stands out written m m' w w'' es e
-PlaysPart-kept {written = written} {w = w} {w' = w'} {w'' = w''} p k = record {
-  at = p.at;
-  text = λ P h s. let t = p.text P h s in (t.0, t.1, t.2, Appends-kept (written w) (written w') (written w'') _ t.3 k);
-}
+  pub PlayedPart-kept : {a b : Terminal L × W} {w : W} {es : List Event} {e : Event} → PlayedPart is_legal written a b es e → Keeps (written b.1) (written w) → PlayedPart is_legal written a (b.0, w) es e
+  PlayedPart-kept {a = a} {b = b} {w = w} p k = record {
+    at = p.at;
+    wrote = λ P h s. let t = p.wrote P h s in (t.0, t.1, t.2, Appends-kept (written a.1) (written b.1) (written w) _ t.3 k);
+  }

@@ -1,13 +1,4 @@
-pub mod Device
-pub mod Pace
-pub mod Memory
-pub mod Digits
-pub mod Line
-pub mod Text
 pub mod Fault
 pub mod Reading
-pub mod Transcript
-pub mod EventLine
-pub mod Playing
 pub mod Played
 pub mod inner

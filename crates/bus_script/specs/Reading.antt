@@ -2,12 +2,9 @@
 use Rattle.std.specs.Prelude.{ℕ, ◌+◌, nat_le, nat_lt, if◌then◌else◌, List, [], ◌∷◌, ◌++◌, length, Option, Some, None, Result, Ok, Err}
 use Rattle.terminal_rules.specs.declared.event.Event.{Event}
 use Rattle.script_lines.specs.declared.line.LineFault.{LineFault}
+use Rattle.script_lines.specs.Line.{meaning}
 use Rattle.bus_script.specs.declared.fault.RunFault.{RunFault}
 use Rattle.bus_script.specs.declared.fault.RunFault.TheVariants.{Line, LongLine, TooLong, Read, Write}
-
--- what each line means: an event, none, or that it is refused
-abbrev pub Meaning : Type 0
-Meaning = List ℕ → Result (Option Event) LineFault
 
 -- the events before the first fault, and that fault
 pub record Reading : Type 0 where
@@ -33,12 +30,12 @@ then_reads (Ok (Some e)) n r = adds (e ∷ []) r
 
 -- What lines say that follow n lines: of line 1,048,577 that there are too many; of a line of over 64
 -- bytes that it is too long; of any other what it means.
-unfoldable pub reading : Meaning → ℕ → List (List ℕ) → Reading
-reading meaning n [] = nothing
-reading meaning n (line ∷ lines) =
+unfoldable pub reading : ℕ → List (List ℕ) → Reading
+reading n [] = nothing
+reading n (line ∷ lines) =
     if nat_le 1048576 n then stops TooLong
     else if nat_lt 64 (length line) then stops (LongLine (n + 1))
-    else then_reads (meaning line) n (reading meaning (n + 1) lines)
+    else then_reads (meaning line) n (reading (n + 1) lines)
 
 -- a fact for a fault of the script, one for a failed read, and one for a failed write
 abbrev pub ByFault : RunFault → Type 0 → Type 0 → Type 0 → Type 0

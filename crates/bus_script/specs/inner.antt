@@ -1,5 +1,4 @@
 -- What the contracts of private functions and of loops speak of, and no promise to a caller needs.
 pub mod Lines
-pub mod Feeding
-pub mod Counted
-pub mod Digits
+pub mod Pieces
+pub mod Fed

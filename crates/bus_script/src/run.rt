@@ -1,21 +1,24 @@
 //! The run loop: reads a piece, plays the whole lines that came, and leaves the rest in the buffer for the next read.
-ghost use Rattle.std.specs.Prelude.{◌≡◌, ◌≤◌, ◌<◌, ◌+◌, ◌-◌, ◌∷◌, ◌++◌, [], List, ℕ, true, false, length, take, drop, IfOk, IfErr, IfSome, OnOk, OnErr, IsErrOf};
+ghost use Rattle.std.specs.Prelude.{◌≡◌, ◌≤◌, ◌<◌, ◌+◌, ◌-◌, ◌∷◌, ◌++◌, [], List, ℕ, true, false, length, take, drop, IfOk, IfErr, OnOk, OnErr, IsErrOf};
 ghost use Rattle.std.specs.Io.KnownBytes.{Keeps, Consumes, IsAtEnd};
 ghost use Rattle.terminal_rules.specs.declared.event.Event.{Event};
-ghost use Rattle.script_lines.specs.Line.{meaning};
-ghost use Rattle.script_lines.specs.Text.{lines_of, NoLineFeed, EndsLine};
-ghost use Rattle.bus_script.specs.Reading.{Reading, reading, adds, stops, nothing, ByFault};
-ghost use Rattle.bus_script.specs.inner.Lines.{IsRest};
+ghost use Rattle.script_lines.specs.Text.{lines_of};
+ghost use Rattle.script_lines.specs.Transcript.{text_at};
+ghost use Rattle.bus_script.specs.Reading.{reading, adds, stops, nothing, ByFault};
 ghost use Rattle.bus_script.specs.Fault.{is_of_script};
-ghost use Rattle.bus_script.specs.inner.Counted.{StoppedAfter};
 ghost use Rattle.bus_script.specs.Played.{Played, PlayedPart, Completed, Stopped};
+ghost use Rattle.bus_script.specs.inner.Lines.{IsRest};
+ghost use Rattle.bus_script.specs.inner.Fed.{AreCounts, StoppedAfter};
 
-use crate::digits::HexDigits;
-use crate::feed::{Counts, feed_lines};
-use crate::play::play_line;
-use crate::{IoFailed, RunFault, Sink, Source};
+use crate::RunFault;
+use crate::answering::play_line;
+use crate::feed::feed_lines;
+use crate::piece::Counts;
+use arrayvec::ArrayString;
 use bus_legal::Legality;
 use bus_terminal::Terminal;
+use byte_streams::{IoFailed, Sink, Source};
+use script_lines::LineReader;
 
 /// How many bytes are read at most at once.
 const BLOCK: usize = 65_536;
@@ -60,24 +63,25 @@ fn flush_after_events<W: Sink>(writer: &mut W, events: u64) -> Result<(), IoFail
 fn finish<L: Legality, W: Sink>(
     terminal: &mut Terminal<L>,
     writer: &mut W,
+    reader: &mut LineReader,
+    text: &mut ArrayString<320>,
     counts: &mut Counts,
-    digits: &HexDigits,
     rest: &[u8],
 ) -> Result<(), RunFault>
     requires rest { IsRest counts.old.lines rest.now }
-    requires few { counts.old.events ≤ 1048576 }
-    ensures ok { OnOk result ((es : List Event) × (reading meaning counts.old.lines (lines_of rest.now) ≡ adds es nothing) × (counts.new.events ≡ counts.old.events + length es)
-        × Played L.is_legal W.written terminal.old terminal.new writer.old writer.new es) }
+    requires counts { AreCounts counts.old }
+    ensures ok { OnOk result ((es : List Event) × (reading counts.old.lines (lines_of rest.now) ≡ adds es nothing) × (counts.new.events ≡ counts.old.events + length es)
+        × Played L.is_legal text_at W.written (terminal.old, writer.old) (terminal.new, writer.new) es) }
     ensures fault { IfErr result (λ f. ByFault f
-        ((reading meaning counts.old.lines (lines_of rest.now) ≡ stops f) × (counts.new ≡ counts.old) × Played L.is_legal W.written terminal.old terminal.new writer.old writer.new [])
+        ((reading counts.old.lines (lines_of rest.now) ≡ stops f) × (counts.new ≡ counts.old) × Played L.is_legal text_at W.written (terminal.old, writer.old) (terminal.new, writer.new) [])
         ⊥
-        ((e : Event) × (reading meaning counts.old.lines (lines_of rest.now) ≡ adds (e ∷ []) nothing) × (W.has_failed writer.new ≡ true)
-        × PlayedPart L.is_legal W.written terminal.old terminal.new writer.old writer.new [] e)) }
+        ((e : Event) × (reading counts.old.lines (lines_of rest.now) ≡ adds (e ∷ []) nothing) × (W.has_failed writer.new ≡ true)
+        × PlayedPart L.is_legal W.written (terminal.old, writer.old) (terminal.new, writer.new) [] e)) }
 {
     if rest.is_empty() {
         return Ok(());
     }
-    match play_line(terminal, writer, digits, counts.lines as u64, rest) {
+    match play_line(terminal, writer, reader, text, counts.lines, rest) {
         Ok(events) => {
             counts.events += events;
             Ok(())
@@ -100,10 +104,11 @@ fn run_lines<L: Legality, R: Source, W: Sink>(
 
     ensures read_failed { IsErrOf result RunFault.Read → R.has_failed reader.new ≡ true }
     ensures write_failed { IsErrOf result RunFault.Write → W.has_failed writer.new ≡ true }
-    ensures ok { OnOk result (Completed L.is_legal W.written terminal.old terminal.new writer.old writer.new (R.left reader.old) counts.new.events) }
-    ensures fault { IfErr result (StoppedAfter L.is_legal W.written terminal.old terminal.new writer.old writer.new (R.left reader.old) (R.left reader.new) counts.new.events) }
+    ensures ok { OnOk result (Completed L.is_legal W.written (R.left reader.old) (terminal.old, writer.old) (terminal.new, writer.new) counts.new.events) }
+    ensures fault { IfErr result (StoppedAfter L.is_legal W.written (R.left reader.old) (R.left reader.new) (terminal.old, writer.old) (terminal.new, writer.new) counts.new.events) }
 {
-    let digits = HexDigits::asked();
+    let mut lines = LineReader::new();
+    let mut text = ArrayString::new();
     let mut buffer = [0u8; BLOCK];
     let mut buffered = 0;
     'reads: loop {
@@ -119,14 +124,14 @@ fn run_lines<L: Legality, R: Source, W: Sink>(
             break 'reads;
         }
         let total = buffered + count;
-        let done = match feed_lines(terminal, writer, counts, &digits, &buffer[..total]) {
+        let done = match feed_lines(terminal, writer, &mut lines, &mut text, counts, &buffer[..total]) {
             Ok(done) => done,
             Err(fault) => return Err(fault),
         };
         move_to_front(&mut buffer, done, total);
         buffered = total - done;
     }
-    finish(terminal, writer, counts, &digits, &buffer[..buffered])
+    finish(terminal, writer, &mut lines, &mut text, counts, &buffer[..buffered])
 }
 
 /// Says whether the script has the fault, and no device.
@@ -153,8 +158,8 @@ pub fn run_script<L: Legality, R: Source, W: Sink>(
 
     ensures read_failed { IsErrOf result RunFault.Read → R.has_failed reader.new ≡ true }
     ensures write_failed { IsErrOf result RunFault.Write → W.has_failed writer.new ≡ true }
-    ensures ok { IfOk result (Completed L.is_legal W.written terminal.old terminal.new writer.old writer.new (R.left reader.old)) }
-    ensures fault { IfErr result (Stopped L.is_legal W.written terminal.old terminal.new writer.old writer.new (R.left reader.old) (R.left reader.new)) }
+    ensures ok { IfOk result (Completed L.is_legal W.written (R.left reader.old) (terminal.old, writer.old) (terminal.new, writer.new)) }
+    ensures fault { IfErr result (Stopped L.is_legal W.written (R.left reader.old) (R.left reader.new) (terminal.old, writer.old) (terminal.new, writer.new)) }
 {
     let mut counts = Counts {
         lines: 0,

@@ -1,146 +1,157 @@
-//! Answers are written as lines, piece by piece: each piece is of a length that the compiler knows.
-ghost use Rattle.std.specs.Prelude.{◌≡◌, true, IfErr, OnOk, OnErr};
+//! Slots: as many are played at once as there are lines, where the terminal stays silent in them or sends words of a
+//! subaddress, of which long replies are made.
+ghost use Rattle.std.specs.Prelude.{◌≡◌, ◌≤◌, ◌<◌, ◌*◌, List, ℕ, true, false, length, take, is_some, IfOk, OnErr};
 ghost use Rattle.std.specs.List.{flat_map};
-ghost use Rattle.std.specs.Io.KnownBytes.{Appends};
-ghost use Rattle.bus_terminal.specs.Answer.{shown_answer, shown_word, IsSmall};
-ghost use Rattle.byte_streams.specs.Device.{IsPartWritten, IsCutShort};
-ghost use Rattle.script_lines.specs.Transcript.{sent_text, data_text, word_field, received_by, received_text, answer_text};
+ghost use Rattle.bus_word.specs.declared.word.Bus.{Bus};
+ghost use Rattle.script_lines.specs.Transcript.{data_text};
+ghost use Rattle.bus_legal.specs.Description.{Description};
+ghost use Rattle.terminal_rules.specs.declared.event.Event.{Event};
+ghost use Rattle.terminal_rules.specs.Past.{past};
+ghost use Rattle.terminal_rules.specs.Reply.{reply_now};
+ghost use Rattle.bus_terminal.specs.Stands.{StandsAt};
+ghost use Rattle.bus_terminal.specs.Slots.{slots, AreSent};
+ghost use Rattle.bus_script.specs.inner.Lines.{LinesFirst};
+ghost use Rattle.bus_script.specs.inner.Pieces.{TakesPiece, PlaysPiece, BreaksPiece};
 
-use crate::digits::{HexDigits, decimal_digits};
-use crate::transcript::{push_answer, sent_lead};
-use crate::writing::write_all;
-use crate::{IoFailed, Sink};
+use crate::answering::play_answered;
+use crate::piece::Piece;
 use arrayvec::ArrayString;
-use bus_terminal::{Answer, Hand, Sent};
-use bus_word::{Bus, Kind};
+use bus_legal::Legality;
+use bus_terminal::{Event, Terminal};
+use byte_streams::{IoFailed, Sink, write_front};
+use script_lines::{SLOT_LINE, is_slot_first, push_data_words};
 
-/// The line of a word that was sent, in one piece.
+/// How many lines of words that are sent have room in a text.
+const ROOM: usize = 32;
+
+/// How long the line of a word that is sent is, with its line feed.
+const SENT_LINE: usize = 9;
+
+/// How many lines of slots stand first, at most so many.
 #[inline(always)]
-fn sent_line(digits: &HexDigits, sent: &Sent) -> [u8; 9]
-    ensures { result ≡ sent_text (shown_word sent.now) }
+fn slot_lines(bytes: &[u8], most: usize) -> usize
+    ensures most { result ≤ most }
+    ensures lines { (k : ℕ) → k ≤ result → LinesFirst bytes.now (5 * k) k (slots k) }
 {
-    let [a, b, c, d] = digits.written(sent.bits);
-    let mut line = [0, 0, 0, 0, a, b, c, d, b'\n'];
-    line[..4].copy_from_slice(sent_lead(sent.bus, sent.kind).as_bytes());
-    line
+    let mut count = 0;
+    let mut rest = bytes;
+    while count < most && is_slot_first(rest) {
+        count += 1;
+        rest = &rest[SLOT_LINE + 1..];
+    }
+    count
 }
 
-/// Writes the lines of data words that are sent on a bus. Where a write fails, it tells how many of them were written whole.
+/// Takes slots that stand first, in which nothing is sent, as many as there are lines.
 #[inline(always)]
-pub fn send_words<W: Sink>(
+fn pass_slots<L: Legality>(terminal: &mut Terminal<L>, bytes: &[u8], most: u32) -> Piece
+    requires few { most ≤ 1048576 }
+    requires silent { (P : Description) (h : List Event) → StandsAt L.is_legal P h terminal.old → is_some (reply_now (past P h)) ≡ false }
+    ensures { TakesPiece L.is_legal terminal.old terminal.new bytes.now most result }
+{
+    let count = slot_lines(bytes, most as usize);
+    terminal.take_slots(count);
+    Piece::of(count, SLOT_LINE)
+}
+
+/// Writes the lines of the words of a subaddress that are sent in the slots that stand first, and gives how many they are: all such,
+/// or as many as there are lines.
+#[inline(always)]
+fn push_words<L: Legality>(
+    terminal: &Terminal<L>,
+    text: &mut ArrayString<320>,
+    bytes: &[u8],
+    most: u32,
+) -> usize
+    ensures most { result ≤ most }
+    ensures lines { (k : ℕ) → k ≤ result → LinesFirst bytes.now (5 * k) k (slots k) }
+    ensures sent { 0 < result → (b : Bus) × (words : List ℕ) × (result ≤ length words) × (text.new.bytes ≡ flat_map (data_text b) (take result words))
+        × ((P : Description) (h : List Event) → StandsAt L.is_legal P h terminal.now → AreSent P h b words) }
+{
+    let next = match terminal.words_to_send() {
+        Some(next) => next,
+        None => return 0,
+    };
+    let count = slot_lines(bytes, next.words.len().min(most as usize).min(ROOM));
+    text.clear();
+    push_data_words(text, next.bus, &next.words[..count]);
+    count
+}
+
+/// Plays slots that stand first, in which words of a subaddress are sent.
+#[inline(always)]
+#[tactic(auto, using(crate::proofs::FeedLaws::none_played))]
+fn send_words<L: Legality, W: Sink>(
+    terminal: &mut Terminal<L>,
     writer: &mut W,
-    digits: &HexDigits,
-    bus: Bus,
-    words: &[u16],
-) -> Result<(), usize>
-    ensures ok { OnOk result (Appends (W.written writer.old) (W.written writer.new) (flat_map (data_text bus) words.now)) }
-    ensures err { IfErr result (λ whole. IsCutShort (data_text bus) (W.written writer.old) (W.written writer.new) words.now whole) }
+    text: &mut ArrayString<320>,
+    bytes: &[u8],
+    most: u32,
+) -> Result<Piece, IoFailed>
+    requires { most ≤ 1048576 }
+    ensures ok { IfOk result (λ piece. PlaysPiece L.is_legal W.written (terminal.old, writer.old) (terminal.new, writer.new) bytes.now most piece) }
+    ensures err { OnErr result (BreaksPiece L.is_legal W.written (terminal.old, writer.old) (terminal.new, writer.new) bytes.now most) }
     ensures failed { OnErr result (W.has_failed writer.new ≡ true) }
 {
-    for (whole, word) in words.iter().enumerate() {
-        let sent = Sent {
-            bus,
-            kind: Kind::Dat,
-            bits: *word,
-        };
-        match write_all(writer, &sent_line(digits, &sent)) {
-            Ok(()) => {}
-            Err(_) => return Err(whole),
-        }
+    let count = push_words(terminal, text, bytes, most);
+    if count == 0 {
+        return Ok(Piece::NONE);
     }
-    Ok(())
-}
-
-/// A word as a field of a line.
-#[inline(always)]
-fn word_field(digits: &HexDigits, word: u16) -> [u8; 5]
-    ensures { result ≡ word_field word }
-{
-    let [a, b, c, d] = digits.written(word);
-    [b' ', a, b, c, d]
-}
-
-/// Writes words as fields of a line.
-#[inline(always)]
-fn send_fields<W: Sink>(writer: &mut W, digits: &HexDigits, words: &[u16]) -> Result<(), IoFailed>
-    ensures ok { OnOk result (Appends (W.written writer.old) (W.written writer.new) (flat_map word_field words.now)) }
-    ensures err { OnErr result (IsPartWritten (W.written writer.old) (W.written writer.new) (flat_map word_field words.now)) }
-    ensures failed { OnErr result (W.has_failed writer.new ≡ true) }
-{
-    for word in words {
-        write_all(writer, &word_field(digits, *word))?;
+    let lines = text.as_str().as_bytes();
+    let written = write_front(writer, lines);
+    if written < lines.len() {
+        terminal.take_slots(written / SENT_LINE + 1);
+        return Err(IoFailed);
     }
-    Ok(())
+    terminal.take_slots(count);
+    Ok(Piece::of(count, SLOT_LINE))
 }
 
-/// Writes what the line of data words that were received begins with.
+/// Plays a slot that stands first, if one does.
 #[inline(always)]
-fn send_received_by<W: Sink>(writer: &mut W, broadcast: bool) -> Result<(), IoFailed>
-    ensures ok { OnOk result (Appends (W.written writer.old) (W.written writer.new) (received_by broadcast)) }
-    ensures err { OnErr result (IsPartWritten (W.written writer.old) (W.written writer.new) (received_by broadcast)) }
-    ensures failed { OnErr result (W.has_failed writer.new ≡ true) }
-{
-    if broadcast {
-        write_all(writer, b"hand receive broadcast ")
-    } else {
-        write_all(writer, b"hand receive own ")
-    }
-}
-
-/// Writes the line of data words that were received. It stands apart, lest what takes events grow too large to be
-/// inlined.
-#[inline(never)]
-fn send_received<W: Sink>(
+#[tactic(auto, using(crate::proofs::FeedLaws::none_played))]
+fn play_slot<L: Legality, W: Sink>(
+    terminal: &mut Terminal<L>,
     writer: &mut W,
-    digits: &HexDigits,
-    broadcast: bool,
-    subaddress: u8,
-    words: &[u16],
-) -> Result<(), IoFailed>
-    ensures ok { OnOk result (Appends (W.written writer.old) (W.written writer.new) (received_text broadcast subaddress words.now)) }
-    ensures err { OnErr result (IsPartWritten (W.written writer.old) (W.written writer.new) (received_text broadcast subaddress words.now)) }
+    text: &mut ArrayString<320>,
+    bytes: &[u8],
+    most: u32,
+) -> Result<Piece, IoFailed>
+    requires { 0 < most }
+    ensures ok { IfOk result (λ piece. PlaysPiece L.is_legal W.written (terminal.old, writer.old) (terminal.new, writer.new) bytes.now most piece) }
+    ensures err { OnErr result (BreaksPiece L.is_legal W.written (terminal.old, writer.old) (terminal.new, writer.new) bytes.now most) }
     ensures failed { OnErr result (W.has_failed writer.new ≡ true) }
 {
-    send_received_by(writer, broadcast)?;
-    write_all(writer, &decimal_digits(subaddress))?;
-    send_fields(writer, digits, words)?;
-    write_all(writer, b"\n")
+    if !is_slot_first(bytes) {
+        return Ok(Piece::NONE);
+    }
+    match play_answered(terminal, writer, text, Event::Slot) {
+        Ok(()) => Ok(Piece::of(1, SLOT_LINE)),
+        Err(_) => Err(IoFailed),
+    }
 }
 
-/// Writes the line of an answer by way of a text. It stands apart since a call pays for the text that it holds.
-#[inline(never)]
-fn send_text<W: Sink>(writer: &mut W, answer: &Answer) -> Result<(), IoFailed>
-    requires { IsSmall (shown_answer answer.now) }
-    ensures ok { OnOk result (Appends (W.written writer.old) (W.written writer.new) (answer_text (shown_answer answer.now))) }
-    ensures err { OnErr result (IsPartWritten (W.written writer.old) (W.written writer.new) (answer_text (shown_answer answer.now))) }
-    ensures failed { OnErr result (W.has_failed writer.new ≡ true) }
-{
-    let mut text = ArrayString::new();
-    push_answer(&mut text, answer);
-    write_all(writer, text.as_str().as_bytes())
-}
-
-/// Writes the line of an answer: what most answers are, words that are sent or that were received, without a text in between.
+/// Plays slots that stand first: those in which nothing is sent, or those in which words of a subaddress are, or else one.
 #[inline(always)]
-pub fn send<W: Sink>(writer: &mut W, digits: &HexDigits, answer: &Answer) -> Result<(), IoFailed>
-    requires { IsSmall (shown_answer answer.now) }
-    ensures ok { OnOk result (Appends (W.written writer.old) (W.written writer.new) (answer_text (shown_answer answer.now))) }
-    ensures err { OnErr result (IsPartWritten (W.written writer.old) (W.written writer.new) (answer_text (shown_answer answer.now))) }
+#[tactic(auto, using(crate::proofs::FeedLaws::taken_played, crate::proofs::FeedLaws::then_played, crate::proofs::FeedLaws::then_broken))]
+pub fn play_slots<L: Legality, W: Sink>(
+    terminal: &mut Terminal<L>,
+    writer: &mut W,
+    text: &mut ArrayString<320>,
+    bytes: &[u8],
+    most: u32,
+) -> Result<Piece, IoFailed>
+    requires some { 0 < most }
+    requires few { most ≤ 1048576 }
+    ensures ok { IfOk result (λ piece. PlaysPiece L.is_legal W.written (terminal.old, writer.old) (terminal.new, writer.new) bytes.now most piece) }
+    ensures err { OnErr result (BreaksPiece L.is_legal W.written (terminal.old, writer.old) (terminal.new, writer.new) bytes.now most) }
     ensures failed { OnErr result (W.has_failed writer.new ≡ true) }
 {
-    match answer {
-        Answer::Sends(sent) => write_all(writer, &sent_line(digits, sent)),
-        Answer::Hands(
-            Hand::Received {
-                broadcast,
-                subaddress,
-                words,
-            },
-        ) => send_received(writer, digits, *broadcast, *subaddress, words),
-        _ => {
-            // a copy, so that the others need not stand in memory
-            let rare = *answer;
-            send_text(writer, &rare)
-        }
+    if !terminal.is_replying() {
+        return Ok(pass_slots(terminal, bytes, most));
+    }
+    match send_words(terminal, writer, text, bytes, most) {
+        Ok(piece) if piece.lines == 0 => play_slot(terminal, writer, text, bytes, most),
+        sent => sent,
     }
 }

@@ -1,16 +1,22 @@
 -- Laws of lines: the first line of a text, and the rest.
-use Rattle.std.proofs.Common.{ℕ, zero, suc, ◌≡◌, ◌≢◌, ◌<◌, ◌≤◌, ◌+◌, Some, None, Ok, codes, if◌then◌else◌, subst, List, [], ◌∷◌, ◌++◌, length, get_or, take, drop, drop-cons, length-take, take-append-drop, get_or-take, refl, sym, ap, ◌∙◌, arith, Bool, true, false, ◌==◌}
+use Rattle.std.proofs.Common.{ℕ, zero, suc, ◌≡◌, ◌≢◌, ◌<◌, ◌≤◌, ◌+◌, Option, Some, None, IfSome, option_map, Ok, codes, if◌then◌else◌, subst, List, [], ◌∷◌, ◌++◌, length, get_or, take, drop, drop-cons, length-take, take-append-drop, get_or-take, refl, sym, ap, ◌∙◌, arith, Bool, true, false, ◌==◌}
 use Rattle.std.proofs.lemmas.Grind.{common_steps}
 use Rattle.std.proofs.lemmas.Bool.Decides.{nat_tests}
 use Rattle.std.proofs.lemmas.List.{take_more}
 use Rattle.script_lines.specs.Text.{lines_of, onto_first, NoLineFeed, EndsLine}
 use Rattle.bus_word.specs.declared.word.Kind.{Kind}
-use Rattle.script_lines.specs.Digits.{word_of}
+use Rattle.script_lines.specs.Digits.{word_of, digits_of}
 use Rattle.std.specs.Str.{bytes_eq}
 use Rattle.std.proofs.lemmas.Slice.Eq.{bytes_eq-Decides}
 use Rattle.bus_word.specs.declared.word.Bus.{Bus}
+use Rattle.bus_word.specs.declared.word.Bus.TheVariants.{A, B}
+use Rattle.bus_word.specs.declared.word.Kind.TheVariants.{Dat}
+use Rattle.bus_word.specs.Word.{valid_word}
+use Rattle.line_format.specs.Front.{◌>>=◌}
+use Rattle.script_lines.specs.Transcript.{bus_letter}
+use Rattle.script_lines.specs.EventLine.{kind_text}
 use Rattle.terminal_rules.specs.declared.event.Event.{Event}
-use Rattle.terminal_rules.specs.declared.event.Event.TheVariants.{Gap, Noise, Slot}
+use Rattle.terminal_rules.specs.declared.event.Event.TheVariants.{Word, Gap, Noise, Slot}
 use Rattle.script_lines.specs.Line.{bus_of, bus_first, by_bus, kind_of, word_on, event_on, event_of, subsystem_event, or_refused, meaning}
 use Rattle.script_lines.specs.Begins.{BeginsWith}
 use Rattle.script_lines.proofs.DigitLaws.{no_feed_in_digits}
@@ -159,3 +165,50 @@ unfolding meaning
 begins_with_slot bytes within feed slot =
     let same : take 4 bytes ≡ codes "slot" = (bytes_eq-Decides (take 4 bytes) (codes "slot")).0 slot in
     record { within = within; line_feed = feed; one_line = subst NoLineFeed (sym same) (λ x. cc x, (λ x. cc x, (λ x. cc x, (λ x. cc x, tt)))); says = ap meaning same }
+
+-- a data word on this bus, by the four bytes before its digits
+pub begins_with_data : (bytes : List ℕ) (bus : Bus) (w : ℕ) → 8 < length bytes → get_or bytes 8 0 ≡ 10
+    → get_or bytes 0 0 ∷ get_or bytes 1 0 ∷ get_or bytes 2 0 ∷ get_or bytes 3 0 ∷ [] ≡ bus_letter bus ++ kind_text Dat
+    → word_of (get_or bytes 4 0 ∷ get_or bytes 5 0 ∷ get_or bytes 6 0 ∷ get_or bytes 7 0 ∷ []) ≡ Some w → BeginsWith bytes 8 (Word bus (valid_word Dat w))
+begins_with_data [] bus w within feed lead digits = absurd (omega (arith, within))
+begins_with_data (a ∷ []) bus w within feed lead digits = absurd (omega (arith, within))
+begins_with_data (a ∷ b ∷ []) bus w within feed lead digits = absurd (omega (arith, within))
+begins_with_data (a ∷ b ∷ c ∷ []) bus w within feed lead digits = absurd (omega (arith, within))
+begins_with_data (a ∷ b ∷ c ∷ d ∷ []) bus w within feed lead digits = absurd (omega (arith, within))
+begins_with_data (a ∷ b ∷ c ∷ d ∷ e ∷ []) bus w within feed lead digits = absurd (omega (arith, within))
+begins_with_data (a ∷ b ∷ c ∷ d ∷ e ∷ f ∷ []) bus w within feed lead digits = absurd (omega (arith, within))
+begins_with_data (a ∷ b ∷ c ∷ d ∷ e ∷ f ∷ g ∷ []) bus w within feed lead digits = absurd (omega (arith, within))
+begins_with_data (a ∷ b ∷ c ∷ d ∷ e ∷ f ∷ g ∷ h ∷ rest) bus w within feed lead digits =
+    begins_with_word bytes bus (Word bus (valid_word Dat w)) within feed (on_bus bus lead)
+    (word bus lead ∙ ap (λ o. o >>= λ bits. Some (Word bus (valid_word Dat bits))) digits)
+    (no_feed_in_valid (c ∷ d ∷ e ∷ f ∷ g ∷ h ∷ []) Dat w refl (kind bus lead) (space bus lead) digits)
+  where
+    bytes : List ℕ
+    bytes = a ∷ b ∷ c ∷ d ∷ e ∷ f ∷ g ∷ h ∷ rest
+    Leads : Bus → Type 0
+    Leads bus = a ∷ b ∷ c ∷ d ∷ [] ≡ bus_letter bus ++ kind_text Dat
+    on_bus : (bus : Bus) → Leads bus → bus_first bytes ≡ Some bus
+    on_bus A lead = ap (λ xs. bus_first (take 2 xs)) lead
+    on_bus B lead = ap (λ xs. bus_first (take 2 xs)) lead
+    kind : (bus : Bus) → Leads bus → kind_of c ≡ Some Dat
+    kind A lead = ap (λ xs. kind_of (get_or xs 2 0)) lead
+    kind B lead = ap (λ xs. kind_of (get_or xs 2 0)) lead
+    space : (bus : Bus) → Leads bus → d ≡ 32
+    space A lead = ap (λ xs. get_or xs 3 0) lead
+    space B lead = ap (λ xs. get_or xs 3 0) lead
+    word : (bus : Bus) → Leads bus → word_on bus (c ∷ d ∷ e ∷ f ∷ g ∷ h ∷ []) ≡ (word_of (e ∷ f ∷ g ∷ h ∷ []) >>= λ bits. Some (Word bus (valid_word Dat bits)))
+    word A lead = ap (λ xs. word_on A (get_or xs 2 0 ∷ get_or xs 3 0 ∷ e ∷ f ∷ g ∷ h ∷ [])) lead
+    word B lead = ap (λ xs. word_on B (get_or xs 2 0 ∷ get_or xs 3 0 ∷ e ∷ f ∷ g ∷ h ∷ [])) lead
+
+-- and by its digits, small
+pub first_data_word : (bytes : List ℕ) (bus : Bus) (found : Option (List ℕ)) → 8 < length bytes → get_or bytes 8 0 ≡ 10
+    → get_or bytes 0 0 ∷ get_or bytes 1 0 ∷ get_or bytes 2 0 ∷ get_or bytes 3 0 ∷ [] ≡ bus_letter bus ++ kind_text Dat
+    → found ≡ option_map digits_of (word_of (get_or bytes 4 0 ∷ get_or bytes 5 0 ∷ get_or bytes 6 0 ∷ get_or bytes 7 0 ∷ []))
+    → IfSome found (λ digits. (w : ℕ) × (digits ≡ digits_of w) × BeginsWith bytes 8 (Word bus (valid_word Dat w)))
+first_data_word bytes bus found within feed lead is = by_word (word_of (get_or bytes 4 0 ∷ get_or bytes 5 0 ∷ get_or bytes 6 0 ∷ get_or bytes 7 0 ∷ [])) refl
+  where
+    by_word : (o : Option ℕ) → word_of (get_or bytes 4 0 ∷ get_or bytes 5 0 ∷ get_or bytes 6 0 ∷ get_or bytes 7 0 ∷ []) ≡ o
+        → IfSome found (λ digits. (w : ℕ) × (digits ≡ digits_of w) × BeginsWith bytes 8 (Word bus (valid_word Dat w)))
+    by_word None none = subst (λ x. IfSome x (λ digits. (w : ℕ) × (digits ≡ digits_of w) × BeginsWith bytes 8 (Word bus (valid_word Dat w)))) (sym (is ∙ ap (option_map digits_of) none)) tt
+    by_word (Some w) some = subst (λ x. IfSome x (λ digits. (w : ℕ) × (digits ≡ digits_of w) × BeginsWith bytes 8 (Word bus (valid_word Dat w)))) (sym (is ∙ ap (option_map digits_of) some))
+        (w, refl, begins_with_data bytes bus w within feed lead some)

@@ -25,15 +25,12 @@ pub(crate) fn is_gap(rest: &[u8]) -> bool
     matches!(rest, b"gap")
 }
 
-/// Whether this is the line of a slot. Its four bytes are compared as one number.
+/// Whether this is the line of a slot.
 #[inline(always)]
 pub(crate) fn is_slot(line: &[u8]) -> bool
     ensures { result ≡ bytes_eq line.now (codes "slot") }
 {
-    match line {
-        [a, b, c, d] => u32::from_le_bytes([*a, *b, *c, *d]) == u32::from_le_bytes(*b"slot"),
-        _ => false,
-    }
+    matches!(line, b"slot")
 }
 
 /// A word with the right parity.
@@ -45,7 +42,7 @@ pub struct ValidWord {
 
 /// The bus with which a line begins: its letter and a space.
 #[inline(always)]
-pub(crate) fn read_bus(line: &[u8]) -> Option<Bus>
+pub fn read_bus(line: &[u8]) -> Option<Bus>
     ensures { result ≡ bus_first line.now }
 {
     match line {

@@ -1,8 +1,5 @@
 use Rattle.std.proofs.Common.{[], ◌++◌, ◌≡◌, ◌≤◌, ◌+◌, length, take, subst, refl, sym, ap, arith}
 use Rattle.std.proofs.lemmas.Result.{on_ok_weaker, IfErr-weaker}
-use Rattle.script_lines.specs.Line.{meaning}
-use Rattle.bus_terminal.specs.Stands.{StandsAt}
-use Rattle.script_lines.specs.Transcript.{text_at}
 use Rattle.bus_script.proofs.FeedLaws.{ByFault-weaker}
 use Rattle.bus_script.proofs.RunLaws.{Running, Running-nil, Running-fed, Running-unsent, Running-unread, Running-refused, Running-broken, Running-end, Running-done, Running-last_refused, Running-last_broken, ByFault-IfSome, rest_len, no_bytes, same_front}
 use Rattle.bus_script.proofs.run.run_lines.Goals as goal
@@ -11,14 +8,14 @@ pub reads-init : goal.reads-init
 reads-init g c = record {
   buffered = omega arith;
   fits = refl;
-  running = ([], [], Running-nil meaning (StandsAt g.L.Legality.is_legal) text_at g.R.Source.left g.W.Sink.written c.args.terminal.now c.args.reader.now c.args.writer.now _ _ c.requires.lines c.requires.events);
+  running = ([], [], Running-nil (g.R.Source.left c.args.reader.now) (c.args.terminal.now, c.args.writer.now) c.args.counts.now c.requires.lines c.requires.events);
 }
 
 pub returns-in-Err-clause-fault : goal.returns-in-Err-clause-fault
 returns-in-Err-clause-fault g c = Running-unsent c.flush_after_events.new.writer c.reads.invariant.running.2 c.flush_after_events.ensures.bytes c.in-Err.ensures.some
 
 pub returns-in-Err-fill-clause-fault : goal.returns-in-Err-fill-clause-fault
-returns-in-Err-fill-clause-fault g c = Running-unread c.fill.new.reader c.flush_after_events.new.writer c.reads.invariant.running.2 c.flush_after_events.ensures.bytes c.in-Err-fill.ensures.err
+returns-in-Err-fill-clause-fault g c = Running-unread _ c.flush_after_events.new.writer c.reads.invariant.running.2 c.flush_after_events.ensures.bytes c.in-Err-fill.ensures.err
 
 pub returns-in-Err-feed_lines-clause-fault : goal.returns-in-Err-feed_lines-clause-fault
 returns-in-Err-feed_lines-clause-fault g c =
@@ -27,9 +24,9 @@ returns-in-Err-feed_lines-clause-fault g c =
     let r = c.reads.invariant.running.2 in
     ByFault-IfSome c.in-Err-feed_lines.fault (g.R.Source.left c.args.reader.now) _ _ _
     (ByFault-weaker c.in-Err-feed_lines.fault
-    (λ s. Running-refused c.fill.new.reader f.0 chunk r c.flush_after_events.ensures.bytes f.3 f.2 s.1 s.2 s.3)
+    (λ s. Running-refused _ c.feed_lines.new.counts f.0 chunk r c.flush_after_events.ensures.bytes f.3 f.2 s)
     (λ x. x)
-    (λ w. Running-broken c.fill.new.reader f.0 chunk w.2 w.3 r c.flush_after_events.ensures.bytes f.3 f.2 w.5 w.6 w.8)
+    (λ w. Running-broken _ f.0 chunk r c.flush_after_events.ensures.bytes f.3 f.2 w.1)
     c.in-Err-feed_lines.ensures.fault)
 
 pub reads-preserved : goal.reads-preserved
@@ -37,8 +34,8 @@ reads-preserved g c =
     let chunk = take (c.reads.buffered + c.in-Ok-fill.count) c.fill.new.buffer in
     let f = c.in-Ok-fill.ensures.ok in
     let p = c.in-Ok-feed_lines.ensures.ok in
-    let within = p.1.feeding.within in
-    let short = p.1.rest.short in
+    let within = p.1.within in
+    let short = p.2.short in
     let fits : c.reads.buffered + c.in-Ok-fill.count ≤ length c.fill.new.buffer = c.in-Ok-fill.ensures.fits in
     record {
       buffered = rest_len c.in-Ok-feed_lines.done (c.reads.buffered + c.in-Ok-fill.count) c.fill.new.buffer fits short;
@@ -46,11 +43,10 @@ reads-preserved g c =
       running = (
         c.reads.invariant.running.0 ++ take c.in-Ok-feed_lines.done chunk,
         c.reads.invariant.running.1 ++ p.0,
-        subst (λ xs. Running meaning (StandsAt g.L.Legality.is_legal) text_at g.R.Source.left g.W.Sink.written c.args.terminal.now c.feed_lines.new.terminal
-            c.args.reader.now c.fill.new.reader c.args.writer.now c.feed_lines.new.writer c.feed_lines.new.counts.lines c.feed_lines.new.counts.events xs
-            (c.reads.invariant.running.0 ++ take c.in-Ok-feed_lines.done chunk) (c.reads.invariant.running.1 ++ p.0))
+        subst (λ xs. Running g.L.Legality.is_legal g.W.Sink.written (g.R.Source.left c.args.reader.now) (g.R.Source.left c.fill.new.reader) (c.args.terminal.now, c.args.writer.now)
+            (c.feed_lines.new.terminal, c.feed_lines.new.writer) c.feed_lines.new.counts xs (c.reads.invariant.running.0 ++ take c.in-Ok-feed_lines.done chunk) (c.reads.invariant.running.1 ++ p.0))
             (sym c.move_to_front.ensures)
-            (Running-fed f.0 chunk c.reads.invariant.running.2 c.flush_after_events.ensures.bytes f.3 f.2 p.1),
+            (Running-fed f.0 chunk c.reads.invariant.running.2 c.flush_after_events.ensures.bytes f.3 f.2 p.1 p.2),
       );
     }
 

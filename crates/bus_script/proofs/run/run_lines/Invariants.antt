@@ -1,8 +1,5 @@
 use Rattle.std.proofs.Common.{ℕ, List, ◌≡◌, ◌≤◌, ◌+◌, ◌*◌, ◌-◌, length, take}
 use Rattle.terminal_rules.specs.declared.event.Event.{Event}
-use Rattle.bus_terminal.specs.Stands.{StandsAt}
-use Rattle.script_lines.specs.Transcript.{text_at}
-use Rattle.script_lines.specs.Line.{meaning}
 use Rattle.bus_script.proofs.RunLaws.{Running}
 use Rattle.bus_script.proofs.run.run_lines.Given as goal
 
@@ -11,8 +8,7 @@ invariant-reads g l = record {
   buffered : l.buffered ≤ 64;
   fits : length l.buffer ≡ 65536;
   running : (whole : List ℕ) × (es : List Event)
-      × Running meaning (StandsAt g.L.Legality.is_legal) text_at g.R.Source.left g.W.Sink.written l.fn.terminal l.terminal l.fn.reader l.reader l.fn.writer l.writer
-      l.counts.lines l.counts.events (take l.buffered l.buffer) whole es;
+      × Running g.L.Legality.is_legal g.W.Sink.written (g.R.Source.left l.fn.reader) (g.R.Source.left l.reader) (l.fn.terminal, l.fn.writer) (l.terminal, l.writer) l.counts (take l.buffered l.buffer) whole es;
 }
 
 abbrev pub decreases-reads : goal.decreases-reads
