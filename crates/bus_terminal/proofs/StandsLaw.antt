@@ -33,7 +33,7 @@ use Rattle.terminal_state.specs.inner.Buses.{on_bus, with_bus}
 use Rattle.terminal_state.specs.inner.Message.{standing_on}
 use Rattle.terminal_state.specs.inner.Held.{word_in}
 use Rattle.bus_terminal.specs.Stands.{StandsAt, heard_on_buses}
-use Rattle.bus_terminal.specs.inner.Terminal.{heard_after_word, ends_at_gap, begins_at_gap, TakesWord, TakesNoise, TakesGap, TakesSlot}
+use Rattle.bus_terminal.specs.inner.Terminal.{heard_after_word, ends_at_gap, begins_in, TakesWord, TakesNoise, TakesGap, TakesSlot}
 use Rattle.terminal_rules.proofs.OpenLaw.{word_law, noise_law, gap_law, slot_law, after_word, after_gap, after_entry, unheard}
 use Rattle.terminal_state.proofs.CollectedLaw.{gap_ends_law, gap_leaves_law, entry_leaves_law, entry_ends_law, free_law, fresh_broadcast_law}
 use Rattle.terminal_rules.proofs.BackLaw.{held_step}
@@ -176,7 +176,7 @@ registers_noise P h b e =
     ∙ registers_noise_law P (entry_fails None (standing_of P (open_now P h b))) b (registers_now P h)))
 
 abbrev settled_for : Description → Bus → Bool → Ending → Registers → Registers
-settled_for P b begins x r = settled P.accept (adds_error P x) b begins x r
+settled_for P b begins x r = settled P.accept (adds_error P x) b (resets_at_gap begins x) x r
 
 registers_gap : (P : Description) (h : List Noted) (b : Bus) → replies_on h b ≡ false →
     registers_now P (note P h (Gap b) ∷ h) ≡ settled_for P b (begins_by P h b) (gap_by P h b) (registers_now P h)
@@ -291,28 +291,28 @@ noise_stands is_legal P h b t u i s k =
     }
 
 pub gap_stands : {L : Type 0} (is_legal : L → Cell → Bool) (P : Description) (h : List Event) (b : Bus) (t u : Terminal L) → ignores (shown_reply t.reply) (Gap b) ≡ false →
-    StandsAt is_legal P h t → TakesGap is_legal b (begins_at_gap is_legal t b) (ends_at_gap is_legal t b) t u → StandsAt is_legal P (Gap b ∷ h) u
+    StandsAt is_legal P h t → TakesGap is_legal b t u → StandsAt is_legal P (Gap b ∷ h) u
 gap_stands is_legal P h b t u i s k =
     let e : replies_on (past P h) b ≡ false = hears is_legal P h (Gap b) t s i in
     let ends : ends_at_gap is_legal t b ≡ gap_by P (past P h) b = (λ j. gap_ends (s.description j) (s.registers j).flags.busy (s.standing b j)) in
-    let begins : begins_at_gap is_legal t b ≡ begins_by P (past P h) b = (λ j. is_answered (on_bus b (s.registers j).off) (ends j)) in
+    let begins : begins_in t b (ends_at_gap is_legal t b) ≡ begins_by P (past P h) b = (λ j. is_answered (on_bus b (s.registers j).off) (ends j)) in
     record {
-      description = k.setup.description ∙ s.description;
-      heard = k.heard ∙ (ap (with_bus b false) s.heard ∙ sym (heard_gap_law P (past P h) b e));
+      description = k.settles.setup.description ∙ s.description;
+      heard = k.settles.heard ∙ (ap (with_bus b false) s.heard ∙ sym (heard_gap_law P (past P h) b e));
       standing = λ c.
           k.standing c
           ∙ ((λ j. if same_bus c b then gap_leaves (s.standing c j) else s.standing c j)
           ∙ sym (standing_gap_law P (past P h) c b e));
       registers =
-          k.registers
+          k.settles.registers
           ∙ ((λ j. settled_for (s.description j) b (begins j) (ends j) (s.registers j))
           ∙ sym (registers_gap P (past P h) b e));
       reply =
-          k.reply
+          k.settles.reply
           ∙ ((λ j. begun_if (begins j) b (done_cell (ends j)) (s.reply j))
           ∙ sym (reply_gap P (past P h) b e));
       held = λ m i low high first last.
-          k.held m i low high first last
+          k.settles.held m i low high first last
           ∙ ((λ j. unless_reset (resets_at_gap (begins j) (ends j)) ((sym (at_place t.held.initial m i low high first last) ∙ ap (λ D. D.initial m i) s.description) j) (wrapped (s.description j).wrap m i (ends j)) (s.held m i low high first last j))
           ∙ sym (held_gap_law P (past P h) b m i e));
     }

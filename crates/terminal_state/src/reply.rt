@@ -5,7 +5,7 @@ ghost use Rattle.terminal_rules.specs.Reply.{words_after_status};
 mod steps;
 
 use bus_word::{Bus, Cell, mode};
-pub use steps::{advance, advance_by};
+pub use steps::{advance, advance_by, begin};
 
 /// A reply of which words are still to be sent.
 #[derive(Clone, Copy)]

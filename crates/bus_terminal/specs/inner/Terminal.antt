@@ -70,13 +70,13 @@ abbrev pub ends_at_gap : {L : Type 0} → (L → Cell → Bool) → Terminal L �
 ends_at_gap is_legal t b = gap_ends (own_description is_legal t) t.registers.flags.busy (standing_on b t.in_progress)
 
 -- whether a reply to it begins
-abbrev pub begins_at_gap : {L : Type 0} → (L → Cell → Bool) → Terminal L → Bus → Bool
-begins_at_gap is_legal t b = is_answered (on_bus b t.registers.off) (ends_at_gap is_legal t b)
+abbrev pub begins_in : {L : Type 0} → Terminal L → Bus → Ending → Bool
+begins_in t b x = is_answered (on_bus b t.registers.off) x
 
 -- what the message on this bus is to receive
 abbrev pub receives_from : Description → Option ℕ → Option Receiving
 receives_from P None = None
-receives_from P (Some c) = received_by P (cell_of c)
+receives_from P (Some c) = received_by P c (cell_of c)
 
 abbrev pub receives_in : {L : Type 0} → (L → Cell → Bool) → Terminal L → Bus → Option Receiving
 receives_in is_legal t b =
@@ -114,14 +114,18 @@ pub record TakesNoise {L : Type 0} (is_legal : L → Cell → Bool) (b : Bus) (t
   pub reply : u.reply ≡ t.reply
   pub held : u.held ≡ t.held
 
--- what a gap makes of it that ends a message so, or none
-pub record TakesGap {L : Type 0} (is_legal : L → Cell → Bool) (b : Bus) (begins : Bool) (x : Ending) (t u : Terminal L) : Type 0 where
+-- what a gap that ends a message so, or none, makes of all of it but the message in progress
+pub record Settles {L : Type 0} (is_legal : L → Cell → Bool) (b : Bus) (x : Ending) (t u : Terminal L) : Type 0 where
   pub setup : IsSameSetup is_legal t u
   pub heard : u.heard ≡ with_bus b false t.heard
+  pub registers : u.registers ≡ settled t.settings.accept (adds_error (own_description is_legal t) x) b (resets_at_gap (begins_in t b x) x) x t.registers
+  pub reply : shown_reply u.reply ≡ begun_if (begins_in t b x) b (done_cell x) (shown_reply t.reply)
+  pub held : (s i : ℕ) → 1 ≤ s → s ≤ 30 → 1 ≤ i → i ≤ 32 → held_word u s i ≡ held_after t.held t.settings.wrap s i (resets_at_gap (begins_in t b x) x) x
+
+-- what a gap makes of it
+pub record TakesGap {L : Type 0} (is_legal : L → Cell → Bool) (b : Bus) (t u : Terminal L) : Type 0 where
   pub standing : (c : Bus) → standing_on c u.in_progress ≡ (if same_bus c b then gap_leaves (standing_on c t.in_progress) else standing_on c t.in_progress)
-  pub registers : u.registers ≡ settled t.settings.accept (adds_error (own_description is_legal t) x) b begins x t.registers
-  pub reply : shown_reply u.reply ≡ begun_if begins b (done_cell x) (shown_reply t.reply)
-  pub held : (s i : ℕ) → 1 ≤ s → s ≤ 30 → 1 ≤ i → i ≤ 32 → held_word u s i ≡ held_after t.held t.settings.wrap s i (resets_at_gap begins x) x
+  pub settles : Settles is_legal b (ends_at_gap is_legal t b) t u
 
 -- what a write of the subsystem makes of it
 pub record TakesWrite {L : Type 0} (is_legal : L → Cell → Bool) (place : Place) (v : ℕ) (t u : Terminal L) : Type 0 where

@@ -12,7 +12,7 @@ returns-else-replies_on g c =
     let heard = sym c.replies_on.ensures ∙ c.if-replies_on.false in (
       (refl, λ _. tt, λ P h s. rw c.in-Gap.is (gap_stands is_legal P h c.in-Gap.bus t u heard s c.take_gap-ended.ensures.takes)),
       record {
-        answer = λ P h s. rw c.in-Gap.is (gap_answers is_legal P h c.in-Gap.bus t u _ _ heard s c.take_gap-ended.ensures.takes.setup c.take_gap-ended.ensures.ending c.handed.ensures.answer);
+        answer = λ P h s. rw c.in-Gap.is (gap_answers is_legal P h c.in-Gap.bus t u _ _ heard s c.take_gap-ended.ensures.takes.settles.setup c.take_gap-ended.ensures.ending c.handed.ensures.answer);
         stands = tt;
         small = c.handed.ensures.small;
       },
