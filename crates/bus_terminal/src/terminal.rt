@@ -42,6 +42,8 @@ impl<L: Legality> Terminal<L> {
     ghost use Rattle.terminal_rules.specs.Reply.{reply_bus};
     ghost use Rattle.terminal_rules.specs.Open.{is_on};
     ghost use Rattle.terminal_rules.specs.SinceReset.{wrapped};
+    ghost use Rattle.terminal_rules.specs.Turn.{done_cell};
+    ghost use Rattle.terminal_state.specs.inner.Places.{can_reply};
     ghost use Rattle.terminal_rules.specs.Out.{out};
     ghost use Rattle.terminal_state.specs.declared.message.InProgress.{InProgress};
     ghost use Rattle.terminal_state.specs.inner.Replies.{shown_reply, can_send};
@@ -195,7 +197,8 @@ impl<L: Legality> Terminal<L> {
     /// Tells how a message ends that a gap ends so.
     #[inline(always)]
     fn judge(&self, end: GapEnd) -> Ended
-        ensures { (ds : List ℕ) → ending_of result ds ≡ ending_at (own_description L.is_legal self.now) self.now.registers.flags.busy (gap_end_with end ds) }
+        ensures ending { (ds : List ℕ) → ending_of result ds ≡ ending_at (own_description L.is_legal self.now) self.now.registers.flags.busy (gap_end_with end ds) }
+        ensures cell { can_reply (done_cell (ending_of result [])) ≡ true }
     {
         match end {
             GapEnd::Complete(decoded) => match decoded.cell {
@@ -241,6 +244,7 @@ impl<L: Legality> Terminal<L> {
     /// any where none are held.
     #[inline(always)]
     fn settle(&mut self, bus: Bus, ended: &Ended)
+        requires { can_reply (done_cell (ending_of ended.now [])) ≡ true }
         ensures settles { (ds : List ℕ) (i : InProgress) → ((s n : ℕ) → wrapped self.old.settings.wrap s n (ending_of ended.now self.old.in_progress.words.items) ≡ wrapped self.old.settings.wrap s n (ending_of ended.now ds)) → Settles L.is_legal bus (ending_of ended.now ds) (record self.old { in_progress = i }) self.new }
         ensures in_progress { self.new.in_progress ≡ self.old.in_progress }
     {

@@ -1,6 +1,7 @@
 //! The reply in progress.
-ghost use Rattle.std.specs.Prelude.{◌≡◌};
+ghost use Rattle.std.specs.Prelude.{◌≡◌, ◌≤◌, true};
 ghost use Rattle.terminal_rules.specs.Reply.{words_after_status};
+ghost use Rattle.terminal_state.specs.inner.Places.{has_place};
 
 mod steps;
 
@@ -18,6 +19,8 @@ pub struct Reply {
     /// How many data words follow the status. It is asked at each slot, and found once.
     pub count: u8,
     ghost counted: { count ≡ words_after_status cell },
+    ghost there: { has_place cell count ≡ true },
+    ghost within: { next ≤ count },
 }
 
 /// Tells how many data words follow the status.

@@ -1,5 +1,6 @@
 //! How a reply begins and goes on.
-ghost use Rattle.std.specs.Prelude.{◌≡◌, Some};
+ghost use Rattle.std.specs.Prelude.{◌≡◌, true, Some};
+ghost use Rattle.terminal_state.specs.inner.Places.{can_reply};
 ghost use Rattle.terminal_state.specs.inner.Replies.{shown_reply, sent_many};
 ghost use Rattle.terminal_rules.specs.inner.Steps.{begun_if, sent_one, resets_next};
 
@@ -19,6 +20,7 @@ impl Reply {
 /// Begins the reply on this bus to a message of this cell, where that was done, if one begins. Its status is sent next.
 #[inline(always)]
 pub fn begin(reply: &mut Option<Reply>, begins: bool, bus: Bus, cell: Option<Cell>)
+    requires { can_reply cell ≡ true }
     ensures { shown_reply reply.new ≡ begun_if begins bus cell (shown_reply reply.old) }
 {
     if begins {

@@ -15,6 +15,6 @@ returns-clause-takes g c =
     record {
       standing = λ b. ap (standing_on b) c.settle.ensures.in_progress ∙ c.end_at_gap-end.ensures.standing b;
       settles = subst (λ x. Settles is_legal c.args.bus x t c.settle.new.self)
-          (c.judge-ended.ensures ds ∙ ap (ending_at (own_description is_legal t) t.registers.flags.busy) c.end_at_gap-end.ensures.end)
+          (c.judge-ended.ensures.ending ds ∙ ap (ending_at (own_description is_legal t) t.registers.flags.busy) c.end_at_gap-end.ensures.end)
           (c.settle.ensures.settles ds t.in_progress (λ s n. ap (λ ws. wrapped t.settings.wrap s n (ending_of c.judge-ended.result ws.items)) c.end_at_gap-end.ensures.words));
     }
