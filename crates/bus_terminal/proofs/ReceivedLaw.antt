@@ -86,18 +86,18 @@ gathered P b c (d ∷ ds) xs h e here room =
     let w = valid_word Dat d in
     let one : length (xs ++ d ∷ []) ≡ length xs + 1 = simp length-append in
     let more = one_more xs d _ (omega (arith, room)) in
-    let there = standing_word_law P n b b w e ∙ ((λ j. if same_self b j then entry_leaves P.address (Some w) (here j) else here j) ∙ ap (Collects c) more) in
-    let reply = reply_word P n b w e in
+    let there = standing_word_law P n b b (Some w) e ∙ ((λ j. if same_self b j then entry_leaves P.address (Some w) (here j) else here j) ∙ ap (Collects c) more) in
+    let reply = reply_word P n b (Some w) e in
     let i = gathered P b c ds (xs ++ d ∷ []) (Word b w ∷ h) (ap (λ r. is_on b (reply_bus r)) reply ∙ e) there (omega (arith, one, room)) in
     record {
-      heard = i.heard ∙ heard_word_law P n b w e;
+      heard = i.heard ∙ heard_word_law P n b (Some w) e;
       standing = λ q.
           i.standing q
-          ∙ (ap (λ s. if same_bus q b then Collects c (Words ((xs ++ d ∷ []) ++ ds)) else s) (standing_word_law P n q b w e)
+          ∙ (ap (λ s. if same_bus q b then Collects c (Words ((xs ++ d ∷ []) ++ ds)) else s) (standing_word_law P n q b (Some w) e)
           ∙ (outside (same_bus q b) _ _ _ ∙ ap (λ l. if same_bus q b then Collects c (Words l) else standing_of P (open_now P n q)) (append_assoc xs (d ∷ []) ds)));
-      registers = i.registers ∙ (registers_word P n b w e ∙ ap (λ s. failed_by P (entry_fails (Some w) s) (registers_now P n)) here);
+      registers = i.registers ∙ (registers_word P n b (Some w) e ∙ ap (λ s. failed_by P (entry_fails (Some w) s) (registers_now P n)) here);
       reply = i.reply ∙ reply;
-      held = λ s k. i.held s k ∙ held_word_law P n b w s k e;
+      held = λ s k. i.held s k ∙ held_word_law P n b (Some w) s k e;
     }
 
 -- what is known where a message is to receive words

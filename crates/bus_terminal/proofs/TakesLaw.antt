@@ -35,17 +35,17 @@ same_setup is_legal t u settings legality power_up initial = record {
 -- the terminal with which a word starts a message: a transfer that waited has failed, and the word is noted
 abbrev pub before_start : {L : Type 0} → (L → Cell → Bool) → Bus → Raw → Terminal L → Terminal L
 before_start is_legal b w t = record t {
-  heard = heard_after_word (own_description is_legal t) b w t.heard;
+  heard = heard_after_word (own_description is_legal t) b (Some w) t.heard;
   registers = failed_by (own_description is_legal t) (entry_fails (Some w) (standing_on b t.in_progress)) t.registers;
 }
 
 -- a word that starts a message
-pub starting_word : {L : Type 0} (is_legal : L → Cell → Bool) (b : Bus) (w : Raw) (t u : Terminal L) → starts_in is_legal t b w ≡ true →
-    TakesStart is_legal b w.bits (before_start is_legal b w t) u → TakesWord is_legal b w t u
+pub starting_word : {L : Type 0} (is_legal : L → Cell → Bool) (b : Bus) (w : Raw) (t u : Terminal L) → starts_in is_legal t b (Some w) ≡ true →
+    TakesStart is_legal b w.bits (before_start is_legal b w t) u → TakesWord is_legal b (Some w) t u
 starting_word is_legal b w t u e k = record {
   setup = record { description = k.setup.description };
   heard = k.heard;
-  standing = λ c. k.standing c ∙ ap (λ s. word_leaves t.settings.address s (same_bus c b) w (standing_on c t.in_progress)) (sym e);
+  standing = λ c. k.standing c ∙ ap (λ s. word_leaves t.settings.address s (same_bus c b) (Some w) (standing_on c t.in_progress)) (sym e);
   registers = k.registers ∙ ap (λ s. started_if s (spares (own_description is_legal t) w.bits) w.bits (before_start is_legal b w t).registers) (sym e);
   reply = ap shown_reply k.reply ∙ ap (λ s. dropped_if s (shown_reply t.reply)) (sym e);
   held = k.held;

@@ -31,7 +31,7 @@ pub struct Terminal<L> {
 }
 
 impl<L: Legality> Terminal<L> {
-    ghost use Rattle.std.specs.Prelude.{◌≡◌, true, false, if◌then◌else◌, ℕ, List, [], ◌∷◌};
+    ghost use Rattle.std.specs.Prelude.{◌≡◌, true, false, if◌then◌else◌, Some, None, ℕ, List, [], ◌∷◌};
     ghost use Rattle.bus_legal.specs.Description.{Description, described};
     ghost use Rattle.terminal_rules.specs.declared.event.Event.{Event};
     ghost use Rattle.terminal_rules.specs.declared.event.Event.TheVariants.{Word as WordEvent};
@@ -56,7 +56,7 @@ impl<L: Legality> Terminal<L> {
     ghost use Rattle.bus_terminal.specs.inner.Answer.{shown_sent};
     ghost use Rattle.bus_terminal.specs.Stands.{StandsAt, TakesEvent, AnswersEvent, own_description, held_word};
     ghost use Rattle.bus_terminal.specs.contracts.terminal.Terminal.{the_row};
-    ghost use Rattle.bus_terminal.specs.inner.Terminal.{sends_from, ends_at_gap, TakesStart, TakesWord, TakesNoise, Settles, TakesGap, TakesSlot, TakesWrite};
+    ghost use Rattle.bus_terminal.specs.inner.Terminal.{sends_from, ends_at_gap, TakesStart, TakesWord, Settles, TakesGap, TakesSlot, TakesWrite};
 
     /// Gives the terminal at power-up.
     pub fn power_up(setup: Setup, legality: L) -> Terminal<L>
@@ -217,7 +217,7 @@ impl<L: Legality> Terminal<L> {
     #[inline(always)]
     fn starts(&self, bus: Bus, word: Raw, ours: bool) -> bool
         requires { ours ≡ is_for_terminal (own_description L.is_legal self.now) word }
-        ensures { result ≡ starts_by (own_description L.is_legal self.now) word (on_bus bus self.now.heard) (standing_on bus self.now.in_progress) }
+        ensures { result ≡ starts_by (own_description L.is_legal self.now) (Some word) (on_bus bus self.now.heard) (standing_on bus self.now.in_progress) }
     {
         let command = Command::of(word.bits);
         ours && ((!self.heard.on(bus) && self.in_progress.is_free(bus))
@@ -309,7 +309,7 @@ impl<L: Legality> Terminal<L> {
     /// Takes noise on this bus, which has no reply in progress.
     #[inline(never)]
     fn take_noise(&mut self, bus: Bus)
-        ensures { TakesNoise L.is_legal bus self.old self.new }
+        ensures { TakesWord L.is_legal bus None self.old self.new }
     {
         let failed = self.in_progress.failed_by(bus, None);
         self.fail(failed);
@@ -320,7 +320,7 @@ impl<L: Legality> Terminal<L> {
     #[inline(always)]
     fn take_word(&mut self, bus: Bus, word: Raw, ours: bool)
         requires { ours ≡ is_for_terminal (own_description L.is_legal self.old) word }
-        ensures { TakesWord L.is_legal bus word self.old self.new }
+        ensures { TakesWord L.is_legal bus (Some word) self.old self.new }
     {
         let starts = self.starts(bus, word, ours);
         let failed = self.in_progress.failed_by(bus, Some(word));
@@ -347,7 +347,7 @@ impl<L: Legality> Terminal<L> {
     /// Takes a valid word of command sync on this bus, which has no reply in progress.
     #[inline(always)]
     fn take_command(&mut self, bus: Bus, bits: u16)
-        ensures { TakesWord L.is_legal bus (valid_word Com bits) self.old self.new }
+        ensures { TakesWord L.is_legal bus (Some (valid_word Com bits)) self.old self.new }
     {
         let ours = Command::of(bits).is_addressed_to(
             self.settings.address,
@@ -360,7 +360,7 @@ impl<L: Legality> Terminal<L> {
     /// them, and change nothing else.
     #[inline(always)]
     fn take_data(&mut self, bus: Bus, bits: u16)
-        ensures { TakesWord L.is_legal bus (valid_word Dat bits) self.old self.new }
+        ensures { TakesWord L.is_legal bus (Some (valid_word Dat bits)) self.old self.new }
     {
         if !self.in_progress.collect(bus, bits) {
             self.take_other_data(bus, bits);
@@ -370,7 +370,7 @@ impl<L: Legality> Terminal<L> {
     /// Takes a valid data word on this bus, which has no reply in progress.
     #[inline(never)]
     fn take_other_data(&mut self, bus: Bus, bits: u16)
-        ensures { TakesWord L.is_legal bus (valid_word Dat bits) self.old self.new }
+        ensures { TakesWord L.is_legal bus (Some (valid_word Dat bits)) self.old self.new }
     {
         self.take_word(bus, Raw::of(Kind::Dat, bits), false);
     }
