@@ -1,9 +1,10 @@
 -- Data words that a message receives, and the gap that ends it.
-use Rattle.std.proofs.Common.{◌≡◌, ℕ, ◌<◌, ◌≤◌, ◌+◌, Bool, true, false, not, ◌&&◌, ◌||◌, ◌==◌, nat_lt, if◌then◌else◌, Option, Some, None, List, [], ◌∷◌, ◌++◌, length, refl, ap, sym, subst, ◌∙◌, arith, append_assoc, append-nil, length-append}
+use Rattle.std.proofs.Common.{◌≡◌, ℕ, ◌<◌, ◌≤◌, ◌+◌, Bool, true, false, not, ◌&&◌, ◌||◌, ◌==◌, nat_lt, if◌then◌else◌, Option, Some, None, List, [], ◌∷◌, ◌++◌, length, refl, ap, sym, subst, inl, inr, ◌∙◌, arith, append_assoc, append-nil, length-append}
 use Rattle.std.proofs.lemmas.Bool.Decides.{nat_tests}
 use Rattle.bus_word.specs.declared.word.Bus.{Bus}
 use Rattle.bus_word.specs.declared.word.Bus.TheVariants.{A, B}
 use Rattle.bus_word.specs.declared.word.Kind.TheVariants.{Dat}
+use Rattle.bus_word.specs.declared.word.Raw.{Raw}
 use Rattle.bus_word.specs.declared.cell.Cell.{Cell}
 use Rattle.bus_word.specs.declared.cell.Cell.TheVariants.{OwnReceive, OwnTransmit, BroadReceive, OwnMode, BroadMode}
 use Rattle.bus_word.specs.Word.{valid_word, low_bits, ones, is_data}
@@ -12,7 +13,7 @@ use Rattle.bus_word.specs.Cell.{cell_of}
 use Rattle.bus_word.proofs.Parity.{odd_with_parity}
 use Rattle.bus_legal.specs.Description.{Description}
 use Rattle.terminal_rules.specs.declared.event.Event.{Event}
-use Rattle.terminal_rules.specs.declared.event.Event.TheVariants.{Word, Gap}
+use Rattle.terminal_rules.specs.declared.event.Event.TheVariants.{Gap}
 use Rattle.terminal_rules.specs.declared.event.Flag.TheVariants.{Busy}
 use Rattle.terminal_rules.specs.Buses.{same_bus}
 use Rattle.terminal_rules.specs.History.{Noted, Illegal, Done}
@@ -21,16 +22,15 @@ use Rattle.terminal_rules.specs.Reply.{reply_now, reply_bus}
 use Rattle.terminal_rules.specs.Flags.{flag_now}
 use Rattle.terminal_rules.specs.Ends.{data_of, at_gap, verdict, unless_ignored}
 use Rattle.terminal_rules.specs.SinceReset.{nth_word, wrapped, held_now}
-use Rattle.terminal_rules.specs.Past.{past, history_after}
+use Rattle.terminal_rules.specs.Past.{past, open_at, history_after}
 use Rattle.terminal_rules.specs.Out.{handing_over, hands, HandsReceived}
 use Rattle.terminal_rules.specs.inner.Steps.{replies_on}
 use Rattle.terminal_state.specs.declared.message.Collected.TheVariants as buffer
 use Rattle.terminal_state.specs.declared.message.Phase.TheVariants as phase
 use Rattle.terminal_state.specs.declared.decoded.Decoded.{Decoded}
-use Rattle.terminal_state.specs.declared.message.Message.{Message}
 use Rattle.terminal_state.specs.declared.message.InProgress.{InProgress}
 use Rattle.terminal_state.specs.inner.Standing.{Standing, Words, Spoilt, standing_of, next, next_word, gap_end_of, ending_at, gap_ends, gap_leaves, entry_leaves, entry_fails, fresh_in}
-use Rattle.terminal_state.specs.inner.Message.{standing_by, standing_on, command_in}
+use Rattle.terminal_state.specs.inner.Message.{standing_on, command_in}
 use Rattle.terminal_state.specs.inner.Registers.{registers_now, failed_by}
 use Rattle.terminal_state.proofs.CollectedLaw.{expected-le, gap_ends_law, fresh_open, fresh_law}
 use Rattle.bus_terminal.specs.declared.answer.Receiving.{Receiving}
@@ -38,7 +38,8 @@ use Rattle.bus_terminal.specs.declared.terminal.Terminal.{Terminal}
 use Rattle.bus_terminal.specs.Stands.{StandsAt, heard_on_buses}
 use Rattle.bus_terminal.specs.Received.{data_words_on, received_by, received_in, receiving, ReceivedIsHanded}
 use Rattle.bus_terminal.specs.inner.Terminal.{receives_from, receives_in, ends_at_gap, Settles}
-use Rattle.bus_terminal.proofs.StandsLaw.{heard_word_law, standing_word_law, registers_word, reply_word, held_word_law, gap_stands}
+use Rattle.terminal_rules.proofs.LatestLaw.{one_message_law}
+use Rattle.bus_terminal.proofs.StandsLaw.{entry_event, heard_word_law, standing_word_law, registers_word, reply_word, held_word_law, gap_stands}
 
 same_self : (b : Bus) → same_bus b b ≡ true
 same_self A = refl
@@ -53,52 +54,52 @@ one_more xs d a room =
     let there : nat_lt (length xs) 32 ≡ true = grind (arith, nat_tests) in
     ap (λ t. next_word xs (if t then Some d else None) a) (valid_data d) ∙ ap (λ t. if t then Words (xs ++ d ∷ []) else Spoilt) there
 
--- one bus stands so
-on_one : (b d : Bus) (f : Bus → Standing) (s : Standing) → f b ≡ s → f d ≡ (if same_bus d b then s else f d)
-on_one A A f s e = e
-on_one B B f s e = e
-on_one A B f s e = refl
-on_one B A f s e = refl
-
-outside : (t : Bool) (x y s : Standing) → (if t then x else (if t then y else s)) ≡ (if t then x else s)
-outside true x y s = refl
-outside false x y s = refl
+-- where a message is in progress on a bus, none is on the other
+alone : (P : Description) (h : List Event) (b d : Bus) (c : ℕ) → standing_of P (open_at P h b) ≡ Collects c (Words []) → standing_of P (open_at P h d) ≡ (if same_bus d b then Collects c (Words []) else Idle)
+alone P h A A c e = e
+alone P h B B c e = e
+alone P h A B c e = elim (one_message_law P h) [ inl i ↦ cc (ap (standing_of P) i, e) | inr i ↦ ap (standing_of P) i ]
+alone P h B A c e = elim (one_message_law P h) [ inl i ↦ ap (standing_of P) i | inr i ↦ cc (ap (standing_of P) i, e) ]
 
 -- what looking back gives at g is that at h, but for the message on bus b, which has these words
 record Gathered (P : Description) (b : Bus) (c : ℕ) (ds : List ℕ) (h g : List Noted) : Type 0 where
   heard : heard_on_buses P g ≡ heard_on_buses P h
-  standing : (d : Bus) → standing_of P (open_now P g d) ≡ (if same_bus d b then Collects c (Words ds) else standing_of P (open_now P h d))
+  standing : (d : Bus) → standing_of P (open_now P g d) ≡ (if same_bus d b then Collects c (Words ds) else Idle)
   registers : registers_now P g ≡ registers_now P h
   reply : reply_now g ≡ reply_now h
   held : (s i : ℕ) → held_now P g s i ≡ held_now P h s i
 
-gathered : (P : Description) (b : Bus) (c : ℕ) (ds xs : List ℕ) (h : List Event) → replies_on (past P h) b ≡ false → standing_of P (open_now P (past P h) b) ≡ Collects c (Words xs) →
+gathered : (P : Description) (b : Bus) (c : ℕ) (ds xs : List ℕ) (h : List Event) → replies_on (past P h) b ≡ false →
+    ((q : Bus) → standing_of P (open_now P (past P h) q) ≡ (if same_bus q b then Collects c (Words xs) else Idle)) →
     length xs + length ds ≤ 32 → Gathered P b c (xs ++ ds) (past P h) (past P (history_after (data_words_on b ds) h))
 gathered P b c [] xs h e here room = record {
   heard = refl;
-  standing = λ d. on_one b d (λ d. standing_of P (open_now P (past P h) d)) _ (here ∙ ap (λ l. Collects c (Words l)) (simp append-nil));
+  standing = λ q. here q ∙ ap (λ l. if same_bus q b then Collects c (Words l) else Idle) (simp append-nil);
   registers = refl;
   reply = refl;
   held = λ s i. refl;
 }
 gathered P b c (d ∷ ds) xs h e here room =
     let n : List Noted = past P h in
-    let w = valid_word Dat d in
+    let w : Option Raw = Some (valid_word Dat d) in
     let one : length (xs ++ d ∷ []) ≡ length xs + 1 = simp length-append in
-    let more = one_more xs d _ (omega (arith, room)) in
-    let there = standing_word_law P n b b (Some w) e ∙ ((λ j. if same_self b j then entry_leaves P.address (Some w) (here j) else here j) ∙ ap (Collects c) more) in
-    let reply = reply_word P n b (Some w) e in
-    let i = gathered P b c ds (xs ++ d ∷ []) (Word b w ∷ h) (ap (λ r. is_on b (reply_bus r)) reply ∙ e) there (omega (arith, one, room)) in
+    let reply = reply_word P n b w e in
+    let i = gathered P b c ds (xs ++ d ∷ []) (entry_event b w ∷ h) (ap (λ r. is_on b (reply_bus r)) reply ∙ e)
+    (λ q. standing_word_law P n q b w e ∙ (ap (λ s. if same_bus q b then entry_leaves P.address w s else s) (here q) ∙ more_on (same_bus q b) (omega (arith, room)))) (omega (arith, one, room)) in
     record {
-      heard = i.heard ∙ heard_word_law P n b (Some w) e;
-      standing = λ q.
-          i.standing q
-          ∙ (ap (λ s. if same_bus q b then Collects c (Words ((xs ++ d ∷ []) ++ ds)) else s) (standing_word_law P n q b (Some w) e)
-          ∙ (outside (same_bus q b) _ _ _ ∙ ap (λ l. if same_bus q b then Collects c (Words l) else standing_of P (open_now P n q)) (append_assoc xs (d ∷ []) ds)));
-      registers = i.registers ∙ (registers_word P n b (Some w) e ∙ ap (λ s. failed_by P (entry_fails (Some w) s) (registers_now P n)) here);
+      heard = i.heard ∙ heard_word_law P n b w e;
+      standing = λ q. i.standing q ∙ ap (λ l. if same_bus q b then Collects c (Words l) else Idle) (append_assoc xs (d ∷ []) ds);
+      registers =
+          i.registers
+          ∙ (registers_word P n b w e ∙ ap (λ s. failed_by P (entry_fails w s) (registers_now P n)) (here b ∙ ap (λ t. if t then Collects c (Words xs) else Idle) (same_self b)));
       reply = i.reply ∙ reply;
-      held = λ s k. i.held s k ∙ held_word_law P n b (Some w) s k e;
+      held = λ s k. i.held s k ∙ held_word_law P n b w s k e;
     }
+  where
+    more_on : (k : Bool) → length xs < 32 → (let s : Standing = if k then Collects c (Words xs) else Idle in if k then entry_leaves P.address (Some (valid_word Dat d)) s else s)
+        ≡ (if k then Collects c (Words (xs ++ d ∷ [])) else Idle)
+    more_on true few = ap (Collects c) (one_more xs d _ few)
+    more_on false few = refl
 
 -- what is known where a message is to receive words
 record Begun (P : Description) (h : List Event) (b : Bus) (it : Receiving) : Type 0 where
@@ -190,7 +191,7 @@ ends_done P busy c cell ds e f l count =
 -- what is kept behind those words
 begun_gathers : (P : Description) (h : List Event) (b : Bus) (it : Receiving) (ds : List ℕ) (s : Begun P h b it) → length ds ≡ it.count →
     Gathered P b s.command ds (past P h) (past P (history_after (data_words_on b ds) h))
-begun_gathers P h b it ds s count = gathered P b s.command ds [] h s.silent s.standing (let few = expected-le s.command in omega (arith, s.count))
+begun_gathers P h b it ds s count = gathered P b s.command ds [] h s.silent (λ q. alone P h b q s.command s.standing) (let few = expected-le s.command in omega (arith, s.count))
 
 pub received_is_handed : ReceivedIsHanded
 received_is_handed P h b it ds e count =
@@ -198,7 +199,7 @@ received_is_handed P h b it ds e count =
     let g : List Noted = past P (history_after (data_words_on b ds) h) in
     let q = begun_gathers P h b it ds s count in
     let here : standing_of P (open_now P g b) ≡ Collects s.command (Words ds) =
-    q.standing b ∙ ap (λ t. if t then Collects s.command (Words ds) else standing_of P (open_now P (past P h) b)) (same_self b) in
+    q.standing b ∙ ap (λ t. if t then Collects s.command (Words ds) else Idle) (same_self b) in
     ap (λ i. handing_over (hands P (unless_ignored i (at_gap P (flag_now g Busy) (open_now P g b))))) (ap (λ r. is_on b (reply_bus r)) q.reply ∙ s.silent)
     ∙ (ap (λ x. handing_over (hands P x))
     (gap_ends_law P (flag_now g Busy) (open_now P g b)
@@ -231,35 +232,16 @@ collecting b c ds = record {
   words = record { items = ds };
 }
 
--- where a message is in progress on a bus, none is on the other
-idle_beside : (b d e : Bus) (s : Standing) (c : ℕ) → (if same_bus b e then s else Idle) ≡ Collects c (Words []) →
-    (if same_bus d e then s else Idle) ≡ (if same_bus d b then Collects c (Words []) else Idle)
-idle_beside A A e s c f = f
-idle_beside B B e s c f = f
-idle_beside A B A s c f = refl
-idle_beside A B B s c f = cc
-idle_beside B A A s c f = cc
-idle_beside B A B s c f = refl
-
-alone : (b d : Bus) (m : Option Message) (ds : List ℕ) (c : ℕ) → standing_by b m ds ≡ Collects c (Words []) → standing_by d m ds ≡ (if same_bus d b then Collects c (Words []) else Idle)
-alone b d None ds c f = cc
-alone b d (Some m) ds c f = idle_beside b d m.bus _ c f
-
 gathered_stands : {L : Type 0} (is_legal : L → Cell → Bool) (P : Description) (h g : List Event) (b : Bus) (c : ℕ) (ds : List ℕ) (t : Terminal L) → StandsAt is_legal P h t →
-    standing_on b t.in_progress ≡ Collects c (Words []) → Gathered P b c ds (past P h) (past P g) → StandsAt is_legal P g (record t { in_progress = collecting b c ds })
-gathered_stands is_legal P h g b c ds t s here q = record {
+    Gathered P b c ds (past P h) (past P g) → StandsAt is_legal P g (record t { in_progress = collecting b c ds })
+gathered_stands is_legal P h g b c ds t s q = record {
   description = s.description;
   heard = s.heard ∙ sym q.heard;
-  standing = λ d.
-      beside (same_bus d b) _ _ (sym (s.standing d) ∙ alone b d t.in_progress.message t.in_progress.words.items c here) ∙ sym (q.standing d);
+  standing = λ d. sym (q.standing d);
   registers = s.registers ∙ sym q.registers;
   reply = s.reply ∙ sym q.reply;
   held = λ m i low high first last. s.held m i low high first last ∙ sym (q.held m i);
 }
-  where
-    beside : (k : Bool) (x y : Standing) → y ≡ (if k then Collects c (Words []) else Idle) → (if k then x else Idle) ≡ (if k then x else y)
-    beside true x y e = refl
-    beside false x y e = sym e
 
 leaves_none : (k : Bool) (c : ℕ) (ds : List ℕ) → Idle ≡ (if k then gap_leaves (if k then Collects c (Words ds) else Idle) else (if k then Collects c (Words ds) else Idle))
 leaves_none true c ds = refl
@@ -299,7 +281,7 @@ received_stands is_legal P h b it ds ws d cell t u e count stands fresh is k non
     let command : d.command ≡ s.command = cc (ap fresh_in here, fresh) in
     let cells : cell ≡ s.cell = cc (ap cell_of command, d.of_command, is, s.is) in
     let done : Done d.command cell ds ≡ Done s.command s.cell ds = (λ j. Done (command j) (cells j) ds) in
-    let there = gathered_stands is_legal P h (history_after (data_words_on b ds) h) b s.command ds t stands here (begun_gathers P h b it ds s count) in
+    let there = gathered_stands is_legal P h (history_after (data_words_on b ds) h) b s.command ds t stands (begun_gathers P h b it ds s count) in
     let v = record t { in_progress = collecting b s.command ds } in
     let ends : ends_at_gap is_legal v b ≡ Done s.command s.cell ds =
     (λ j. gap_ends (stands.description j) (stands.registers j).flags.busy (if same_self b j then Collects s.command (Words ds) else Idle))
