@@ -21,7 +21,7 @@ use Rattle.terminal_rules.specs.Open.{Open, Idle, Collects, Waits, Resumes, open
 use Rattle.terminal_rules.specs.Reply.{reply_now, reply_bus}
 use Rattle.terminal_rules.specs.Flags.{flag_now}
 use Rattle.terminal_rules.specs.Ends.{data_of, at_gap, verdict, unless_ignored}
-use Rattle.terminal_rules.specs.SinceReset.{nth_word, wrapped, held_now}
+use Rattle.terminal_rules.specs.SinceReset.{nth_word, wrapped_at, wrapped, held_now}
 use Rattle.terminal_rules.specs.Past.{past, open_at, history_after}
 use Rattle.terminal_rules.specs.Out.{handing_over, hands, HandsReceived}
 use Rattle.terminal_rules.specs.inner.Steps.{replies_on}
@@ -36,7 +36,7 @@ use Rattle.terminal_state.proofs.CollectedLaw.{expected-le, gap_ends_law, fresh_
 use Rattle.bus_terminal.specs.declared.answer.Receiving.{Receiving}
 use Rattle.bus_terminal.specs.declared.terminal.Terminal.{Terminal}
 use Rattle.bus_terminal.specs.Stands.{StandsAt, heard_on_buses}
-use Rattle.bus_terminal.specs.Received.{data_words_on, received_by, received_in, receiving, ReceivedIsHanded}
+use Rattle.bus_terminal.specs.Received.{data_words_on, unless_wrapped, received_by, received_in, receiving, ReceivedIsHanded}
 use Rattle.bus_terminal.specs.inner.Terminal.{receives_from, receives_in, ends_at_gap, Settles}
 use Rattle.terminal_rules.proofs.LatestLaw.{one_message_law}
 use Rattle.bus_terminal.proofs.StandsLaw.{entry_event, heard_word_law, standing_word_law, registers_word, reply_word, held_word_law, gap_stands}
@@ -130,38 +130,31 @@ none_wrapped true true o e = cc
 none_wrapped true false o e = refl
 none_wrapped false y o e = refl
 
+begun_at : (P : Description) (h : List Event) (b : Bus) (it : Receiving) (c : ℕ) (cell : Cell) (k : Bool) (s : ℕ) →
+    replies_on (past P h) b ≡ false → flag_now (past P h) Busy ≡ false → standing_of P (open_now P (past P h) b) ≡ Collects c (Words []) → cell_of c ≡ Some cell →
+    received_by P c (Some cell) ≡ Some it → unless_wrapped P cell (record { broadcast = k; subaddress = s; count = expected c }) ≡ Some it →
+    ((ds : List ℕ) → hands P (Done c cell ds) ≡ Some (HandsReceived k s ds)) →
+    ((m i : ℕ) (ds : List ℕ) → wrapped P.wrap m i (Done c cell ds) ≡ wrapped_at P.wrap m i s ds) → Begun P h b it
+begun_at P h b it c cell k s silent free standing is receives e hand wrap =
+    let p = passes (P.legal cell) (s == P.wrap) _ it e in
+    record {
+      command = c;
+      cell = cell;
+      silent = silent;
+      free = free;
+      standing = standing;
+      is = is;
+      receives = receives;
+      legal = p.1;
+      count = ap (λ x. x.count) p.0;
+      hands = λ ds. hand ds ∙ ap (λ x. Some (HandsReceived x.broadcast x.subaddress ds)) p.0;
+      unwrapped = λ m i ds. wrap m i ds ∙ none_wrapped (m == s) (s == P.wrap) (nth_word i ds) p.2;
+    }
+
 begun_cell : (P : Description) (h : List Event) (b : Bus) (it : Receiving) (c : ℕ) (o : Option Cell) → replies_on (past P h) b ≡ false → flag_now (past P h) Busy ≡ false →
     standing_of P (open_now P (past P h) b) ≡ Collects c (Words []) → cell_of c ≡ o → received_by P c o ≡ Some it → Begun P h b it
-begun_cell P h b it c (Some (OwnReceive s n)) silent free standing is e =
-    let p = passes (P.legal (OwnReceive s n)) (s == P.wrap) _ it e in
-    record {
-      command = c;
-      cell = OwnReceive s n;
-      silent = silent;
-      free = free;
-      standing = standing;
-      is = is;
-      receives = e;
-      legal = p.1;
-      count = ap (λ x. x.count) p.0;
-      hands = λ ds. ap (λ x. Some (HandsReceived x.broadcast x.subaddress ds)) p.0;
-      unwrapped = λ m i ds. none_wrapped (m == s) (s == P.wrap) (nth_word i ds) p.2;
-    }
-begun_cell P h b it c (Some (BroadReceive s n)) silent free standing is e =
-    let p = passes (P.legal (BroadReceive s n)) (s == P.wrap) _ it e in
-    record {
-      command = c;
-      cell = BroadReceive s n;
-      silent = silent;
-      free = free;
-      standing = standing;
-      is = is;
-      receives = e;
-      legal = p.1;
-      count = ap (λ x. x.count) p.0;
-      hands = λ ds. ap (λ x. Some (HandsReceived x.broadcast x.subaddress ds)) p.0;
-      unwrapped = λ m i ds. none_wrapped (m == s) (s == P.wrap) (nth_word i ds) p.2;
-    }
+begun_cell P h b it c (Some (OwnReceive s n)) silent free standing is e = begun_at P h b it c (OwnReceive s n) false s silent free standing is e e (λ ds. refl) (λ m i ds. refl)
+begun_cell P h b it c (Some (BroadReceive s n)) silent free standing is e = begun_at P h b it c (BroadReceive s n) true s silent free standing is e e (λ ds. refl) (λ m i ds. refl)
 begun_cell P h b it c None silent free standing is e = cc
 begun_cell P h b it c (Some (OwnTransmit s n)) silent free standing is e = cc
 begun_cell P h b it c (Some (OwnMode code)) silent free standing is e = cc
