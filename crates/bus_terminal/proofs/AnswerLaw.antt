@@ -23,7 +23,8 @@ use Rattle.terminal_rules.specs.Past.{past}
 use Rattle.terminal_rules.specs.Out.{Out, handing_over, sending_out, sending, hands, reply_word, sends, out}
 use Rattle.terminal_state.specs.inner.Standing.{gap_ends}
 use Rattle.terminal_state.specs.inner.Registers.{registers_now}
-use Rattle.terminal_state.specs.inner.Replies.{shown_reply, has_place, can_send}
+use Rattle.terminal_state.specs.inner.Places.{has_place}
+use Rattle.terminal_state.specs.inner.Replies.{shown_reply, can_send}
 use Rattle.bus_terminal.specs.Stands.{StandsAt, held_word, own_description}
 use Rattle.bus_terminal.specs.inner.Terminal.{reply_word_from, sends_from, ends_at_gap, IsSameSetup}
 use Rattle.terminal_state.proofs.CollectedLaw.{gap_ends_law}
@@ -89,15 +90,11 @@ sends_alike address r f g (Some reply) p e = by_status (reply.number == 0) p
     by_status true p = refl
     by_status false p = ap (λ w. Some (sending reply.bus Dat w)) (word_alike r f g reply.cell reply.number p e)
 
--- the word that it sends next is there
-pub slot_can : {L : Type 0} (is_legal : L → Cell → Bool) (P : Description) (h : List Event) (t : Terminal L) → StandsAt is_legal P h t → can_send (shown_reply t.reply) ≡ true
-slot_can is_legal P h t s = ap can_send s.reply ∙ can_send_law P h
-
 -- and it answers a slot so
 pub slot_answers : {L : Type 0} (is_legal : L → Cell → Bool) (P : Description) (h : List Event) (t : Terminal L) → StandsAt is_legal P h t →
     sending_out (sends_from t.settings.address t.registers (held_word t) (shown_reply t.reply)) ≡ out P h Slot
 slot_answers is_legal P h t s =
     ap sending_out
-    (sends_alike t.settings.address t.registers (held_word t) (held_now P (past P h)) (shown_reply t.reply) (slot_can is_legal P h t s) s.held
+    (sends_alike t.settings.address t.registers (held_word t) (held_now P (past P h)) (shown_reply t.reply) (can_send_law t.reply) s.held
     ∙ ((λ j. sends_from (s.description j).address (s.registers j) (held_now P (past P h)) (s.reply j))
     ∙ sends_is P (past P h) (reply_now (past P h))))

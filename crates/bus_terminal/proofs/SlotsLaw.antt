@@ -1,5 +1,5 @@
 -- Slots one after another: what they leave as it was, and the data words that are sent in them.
-use Rattle.std.proofs.Common.{◌≡◌, ℕ, zero, suc, ◌<◌, ◌≤◌, ◌+◌, ◌-◌, Bool, true, false, ◌&&◌, ◌||◌, ◌==◌, nat_le, if◌then◌else◌, Option, Some, None, is_some, List, [], ◌∷◌, length, take, drop, get_or, get_or-take, get_or-drop, refl, ap, sym, subst, ◌∙◌, arith}
+use Rattle.std.proofs.Common.{◌≡◌, ℕ, zero, suc, ◌<◌, ◌≤◌, ◌+◌, ◌-◌, Bool, true, false, ◌&&◌, ◌==◌, nat_le, if◌then◌else◌, Option, Some, None, is_some, List, [], ◌∷◌, length, take, drop, get_or, get_or-take, get_or-drop, refl, ap, sym, ◌∙◌, arith}
 use Rattle.std.proofs.lemmas.Grind.{common_steps}
 use Rattle.std.proofs.lemmas.Bool.Decides.{nat_tests}
 use Rattle.bus_word.specs.declared.word.Bus.{Bus}
@@ -25,8 +25,7 @@ use Rattle.terminal_state.specs.declared.reply.Reply.{Reply}
 use Rattle.terminal_state.specs.inner.Standing.{standing_of}
 use Rattle.terminal_state.specs.inner.Registers.{registers_now, reset_if}
 use Rattle.terminal_state.specs.inner.Held.{block_in}
-use Rattle.terminal_state.specs.inner.Replies.{shown_reply, can_send, sent_many}
-use Rattle.terminal_state.proofs.CanSendLaw.{can_send_law}
+use Rattle.terminal_state.specs.inner.Replies.{shown_reply, sent_many}
 use Rattle.terminal_state.proofs.SentLaw.{sent_none, sent_law}
 use Rattle.bus_terminal.specs.declared.terminal.Terminal.{Terminal}
 use Rattle.bus_terminal.specs.Stands.{StandsAt, heard_on_buses}
@@ -117,25 +116,14 @@ left_after P h b s n m k e within =
     ∙ (ap (λ t. if t then Some (record (words_of b s n m) { number = suc m + k }) else None) left
     ∙ ap (λ j. Some (record (words_of b s n m) { number = j })) number)))
 
--- the last of them is there
-pub last_place : {L : Type 0} (is_legal : L → Cell → Bool) (P : Description) (h : List Event) (t : Terminal L) (b : Bus) (s n m : ℕ) → shown_reply t.reply ≡ Some (words_of b s n m) →
-    suc m ≤ n → StandsAt is_legal P h t → is_data_place s n ≡ true
-last_place is_legal P h t b s n m e some stands =
-    let k : ℕ = n - suc m in
-    let last : suc (m + k) ≡ n = omega arith in
-    let at = left_after P h b s n m k (sym stands.reply ∙ e) (omega arith) in
-    let can : is_data_place s (suc (m + k)) ≡ true =
-    sym (ap (λ t. t || is_data_place s (suc (m + k))) (not_first (m + k))) ∙ (ap can_send (sym at) ∙ can_send_law P (history_after (slots k) h)) in
-    subst (λ j. is_data_place s j ≡ true) last can
-
 place_before : (s n m : ℕ) → is_data_place s n ≡ true → suc m ≤ n → (1 ≤ s) × (s ≤ 30) × (suc m ≤ 32)
 place_before s n m e f = (grind (arith, nat_tests), grind (arith, nat_tests), grind (arith, nat_tests))
 
 -- each of the words that are left is sent in a slot
 pub words_sent : {L : Type 0} (is_legal : L → Cell → Bool) (P : Description) (h : List Event) (t : Terminal L) (b : Bus) (s n m : ℕ) (words : List ℕ) →
-    shown_reply t.reply ≡ Some (words_of b s n m) → StandsAt is_legal P h t →
+    shown_reply t.reply ≡ Some (words_of b s n m) → is_data_place s n ≡ true → StandsAt is_legal P h t →
     (suc m ≤ n → words ≡ take (n - m) (drop m (block_in t.held s))) → (n < suc m → words ≡ []) → AreSent P h b words
-words_sent is_legal P h t b s n m words e stands some none k within = by_test (nat_le (suc m) n) refl
+words_sent is_legal P h t b s n m words e last stands some none k within = by_test (nat_le (suc m) n) refl
   where
     before : reply_now (past P h) ≡ Some (words_of b s n m)
     before = sym stands.reply ∙ e
@@ -145,7 +133,7 @@ words_sent is_legal P h t b s n m words e stands some none k within = by_test (n
         let few : length words ≤ n - m = grind (arith, common_steps) in
         let there : k < n - m = omega arith in
         let q = passed P k h (ap resets_next before ∙ no_status (Some (OwnTransmit s n)) m) in
-        let place = place_before s n (m + k) (last_place is_legal P h t b s n m e left stands) (omega arith) in
+        let place = place_before s n (m + k) last (omega arith) in
         let index : suc (m + k) - 1 ≡ m + k = omega arith in
         let held : get_or (block_in t.held s) (m + k) 0 ≡ get_or words k 0 =
         sym (get_or-drop m (block_in t.held s) k 0) ∙ (sym (get_or-take (n - m) (drop m (block_in t.held s)) k 0 there) ∙ ap (λ l. get_or l k 0) (sym are)) in

@@ -16,16 +16,16 @@ use Rattle.terminal_rules.specs.Buses.{same_bus}
 use Rattle.terminal_rules.specs.declared.event.Flag.TheVariants.{Busy}
 use Rattle.terminal_rules.specs.LookBack.{or_else}
 use Rattle.terminal_rules.specs.History.{Replying, NoTurn, Noted, noted_as, Ending, Nothing}
-use Rattle.terminal_rules.specs.Reply.{reply_now, ignores}
+use Rattle.terminal_rules.specs.Reply.{reply_now, reply_bus}
 use Rattle.terminal_rules.specs.Flags.{flag_now}
 use Rattle.terminal_rules.specs.Turn.{is_answered, done_cell, turn_of_gap, turn_of_slot, unless_ignored_turn}
-use Rattle.terminal_rules.specs.Open.{Open, Idle, Collects, open_now}
+use Rattle.terminal_rules.specs.Open.{Open, Idle, Collects, open_now, is_on}
 use Rattle.terminal_rules.specs.Starts.{is_for_terminal, is_free, is_fresh_broadcast, starts_message, heard_now}
 use Rattle.terminal_rules.specs.Ends.{at_gap, at_entry, unless_ignored}
 use Rattle.terminal_rules.specs.SinceReset.{resets, is_reset, off_now, wrapped, written, either_word, held_now}
 use Rattle.terminal_rules.specs.Status.{spares, adds_error}
 use Rattle.terminal_rules.specs.Past.{note, past}
-use Rattle.terminal_state.specs.inner.Standing.{Standing, Words, standing_of, word_leaves, entry_leaves, entry_fails, fails, gap_leaves, gap_ends, starts_by}
+use Rattle.terminal_state.specs.inner.Standing.{Standing, Words, standing_of, word_bits, word_leaves, entry_fails, fails, gap_leaves, gap_ends, starts_by}
 use Rattle.terminal_state.specs.inner.Registers.{registers_now, registers_after, failed_by, started_if, settled, reset_if}
 use Rattle.terminal_rules.specs.inner.Steps.{replies_on, unless_reset, resets_at_gap, sent_one, resets_next, begun_if, dropped_if}
 use Rattle.terminal_state.specs.inner.Replies.{shown_reply}
@@ -33,7 +33,7 @@ use Rattle.terminal_state.specs.inner.Buses.{on_bus, with_bus}
 use Rattle.terminal_state.specs.inner.Message.{standing_on}
 use Rattle.terminal_state.specs.inner.Held.{word_in}
 use Rattle.bus_terminal.specs.Stands.{StandsAt, heard_on_buses}
-use Rattle.bus_terminal.specs.inner.Terminal.{heard_after_word, ends_at_gap, begins_at_gap, TakesWord, TakesNoise, TakesGap, TakesSlot}
+use Rattle.bus_terminal.specs.inner.Terminal.{heard_after_word, ends_at_gap, begins_in, TakesWord, TakesGap, TakesSlot}
 use Rattle.terminal_rules.proofs.OpenLaw.{word_law, noise_law, gap_law, slot_law, after_word, after_gap, after_entry, unheard}
 use Rattle.terminal_state.proofs.CollectedLaw.{gap_ends_law, gap_leaves_law, entry_leaves_law, entry_ends_law, free_law, fresh_broadcast_law}
 use Rattle.terminal_rules.proofs.BackLaw.{held_step}
@@ -50,22 +50,21 @@ heard_choice_b : (f x y : Bool) → (let t : OnBuses = record { a = x; b = f || 
 heard_choice_b true x y = refl
 heard_choice_b false x y = refl
 
--- A word that isn't ignored, by what it starts and ends.
-abbrev word_starts : Description → List Noted → Bus → Raw → Bool
-word_starts P h b w = starts_message P w (heard_now P h b) (is_free (open_now P h b)) (is_fresh_broadcast (open_now P h b))
+-- A word or noise that isn't ignored, by what it starts and ends.
+abbrev pub entry_event : Bus → Option Raw → Event
+entry_event b None = Noise b
+entry_event b (Some w) = Word b w
 
-abbrev word_noted : Description → List Noted → Bus → Raw → Noted
-word_noted P h b w = noted_as (Word b w) NoTurn (word_starts P h b w) (at_entry (Some w) (open_now P h b))
+abbrev word_starts : Description → List Noted → Bus → Option Raw → Bool
+word_starts P h b None = false
+word_starts P h b (Some w) = starts_message P w (heard_now P h b) (is_free (open_now P h b)) (is_fresh_broadcast (open_now P h b))
 
-word_is : (P : Description) (h : List Noted) (b : Bus) (w : Raw) → replies_on h b ≡ false → note P h (Word b w) ≡ word_noted P h b w
-word_is P h b w e = ap (λ i. noted_as (Word b w) (unless_ignored_turn i NoTurn) (not i && word_starts P h b w) (unless_ignored i (at_entry (Some w) (open_now P h b)))) e
+abbrev word_noted : Description → List Noted → Bus → Option Raw → Noted
+word_noted P h b w = noted_as (entry_event b w) NoTurn (word_starts P h b w) (at_entry w (open_now P h b))
 
--- noise that isn't ignored
-abbrev noise_noted : Description → List Noted → Bus → Noted
-noise_noted P h b = noted_as (Noise b) NoTurn false (at_entry None (open_now P h b))
-
-noise_is : (P : Description) (h : List Noted) (b : Bus) → replies_on h b ≡ false → note P h (Noise b) ≡ noise_noted P h b
-noise_is P h b e = ap (λ i. noted_as (Noise b) (unless_ignored_turn i NoTurn) false (unless_ignored i (at_entry None (open_now P h b)))) e
+word_is : (P : Description) (h : List Noted) (b : Bus) (w : Option Raw) → replies_on h b ≡ false → note P h (entry_event b w) ≡ word_noted P h b w
+word_is P h b None e = ap (λ i. noted_as (Noise b) (unless_ignored_turn i NoTurn) false (unless_ignored i (at_entry None (open_now P h b)))) e
+word_is P h b (Some w) e = ap (λ i. noted_as (Word b w) (unless_ignored_turn i NoTurn) (not i && word_starts P h b (Some w)) (unless_ignored i (at_entry (Some w) (open_now P h b)))) e
 
 off_law : (P : Description) (h : List Noted) (b : Bus) → off_now h b ≡ on_bus b (registers_now P h).off
 off_law P h A = refl
@@ -84,19 +83,14 @@ gap_is P h b e =
     ap (λ i. noted_as (Gap b) (unless_ignored_turn i (turn_of_gap b (is_answered (off_now h b) (unless_ignored i x)) (done_cell (unless_ignored i x)))) false (unless_ignored i x)) e
     ∙ (λ j. gap_as b (is_answered (off_law P h b j) (gap_ends_law P (flag_now h Busy) (open_now P h b) j)) (gap_ends_law P (flag_now h Busy) (open_now P h b) j))
 
-heard_word_by : (P : Description) (h : List Noted) (b : Bus) (w : Raw) → heard_on_buses P (word_noted P h b w ∷ h) ≡ heard_after_word P b w (heard_on_buses P h)
-heard_word_by P h A w = heard_choice (is_for_terminal P w) (heard_now P h A) (heard_now P h B)
-heard_word_by P h B w = heard_choice_b (is_for_terminal P w) (heard_now P h A) (heard_now P h B)
+heard_word_by : (P : Description) (h : List Noted) (b : Bus) (w : Option Raw) → heard_on_buses P (word_noted P h b w ∷ h) ≡ heard_after_word P b w (heard_on_buses P h)
+heard_word_by P h A None = refl
+heard_word_by P h B None = refl
+heard_word_by P h A (Some w) = heard_choice (is_for_terminal P w) (heard_now P h A) (heard_now P h B)
+heard_word_by P h B (Some w) = heard_choice_b (is_for_terminal P w) (heard_now P h A) (heard_now P h B)
 
-pub heard_word_law : (P : Description) (h : List Noted) (b : Bus) (w : Raw) → replies_on h b ≡ false → heard_on_buses P (note P h (Word b w) ∷ h) ≡ heard_after_word P b w (heard_on_buses P h)
+pub heard_word_law : (P : Description) (h : List Noted) (b : Bus) (w : Option Raw) → replies_on h b ≡ false → heard_on_buses P (note P h (entry_event b w) ∷ h) ≡ heard_after_word P b w (heard_on_buses P h)
 heard_word_law P h b w e = ap (λ n. heard_on_buses P (n ∷ h)) (word_is P h b w e) ∙ heard_word_by P h b w
-
-heard_noise_by : (P : Description) (h : List Noted) (b : Bus) → heard_on_buses P (noise_noted P h b ∷ h) ≡ heard_on_buses P h
-heard_noise_by P h A = refl
-heard_noise_by P h B = refl
-
-heard_noise_law : (P : Description) (h : List Noted) (b : Bus) → replies_on h b ≡ false → heard_on_buses P (note P h (Noise b) ∷ h) ≡ heard_on_buses P h
-heard_noise_law P h b e = ap (λ n. heard_on_buses P (n ∷ h)) (noise_is P h b e) ∙ heard_noise_by P h b
 
 heard_gap_by : (P : Description) (h : List Noted) (b : Bus) (begins : Bool) (x : Ending) → heard_on_buses P (gap_as b begins x ∷ h) ≡ with_bus b false (heard_on_buses P h)
 heard_gap_by P h A true x = refl
@@ -111,9 +105,10 @@ on_heard : (P : Description) (h : List Noted) (b : Bus) → on_bus b (heard_on_b
 on_heard P h A = refl
 on_heard P h B = refl
 
--- whether a word starts a message, from what is kept
-starts_law : (P : Description) (h : List Noted) (b : Bus) (w : Raw) → word_starts P h b w ≡ starts_by P w (on_bus b (heard_on_buses P h)) (standing_of P (open_now P h b))
-starts_law P h b w =
+-- whether it starts a message, from what is kept
+starts_law : (P : Description) (h : List Noted) (b : Bus) (w : Option Raw) → word_starts P h b w ≡ starts_by P w (on_bus b (heard_on_buses P h)) (standing_of P (open_now P h b))
+starts_law P h b None = refl
+starts_law P h b (Some w) =
     ap (λ k. starts_message P w k (is_free (open_now P h b)) (is_fresh_broadcast (open_now P h b))) (sym (on_heard P h b))
     ∙ (ap (λ f. starts_message P w (on_bus b (heard_on_buses P h)) f (is_fresh_broadcast (open_now P h b))) (free_law P (open_now P h b))
     ∙ ap (starts_message P w (on_bus b (heard_on_buses P h)) (is_free (standing_of P (open_now P h b)))) (fresh_broadcast_law P (open_now P h b)))
@@ -127,26 +122,23 @@ started_standing : (P : Description) (x : Bool) (c : ℕ) → standing_of P (if 
 started_standing P true c = refl
 started_standing P false c = refl
 
-word_standing : (P : Description) (c b : Bus) (w : Raw) (s : Bool) (o : Open) → standing_of P (after_word c b w s o) ≡ word_leaves P.address s (same_bus c b) w (standing_of P o)
+word_standing : (P : Description) (c b : Bus) (w : Raw) (s : Bool) (o : Open) → standing_of P (after_word c b w s o) ≡ word_leaves P.address s (same_bus c b) (Some w) (standing_of P o)
 word_standing P c b w true o = started_standing P (same_bus c b) w.bits
 word_standing P c b w false o = choice_standing P (same_bus c b) (after_entry (unheard (Some w)) o) o _ (entry_leaves_law P (unheard (Some w)) o)
 
-pub standing_word_law : (P : Description) (h : List Noted) (c b : Bus) (w : Raw) → replies_on h b ≡ false →
-    standing_of P (open_now P (note P h (Word b w) ∷ h) c)
+standing_by : (P : Description) (h : List Noted) (c b : Bus) (w : Option Raw) (x : Ending) →
+    standing_of P (open_now P (noted_as (entry_event b w) NoTurn (word_starts P h b w) x ∷ h) c) ≡ word_leaves P.address (word_starts P h b w) (same_bus c b) w (standing_of P (open_now P h c))
+standing_by P h c b None x =
+    ap (standing_of P) (noise_law P h c b x) ∙ choice_standing P (same_bus c b) (after_entry (unheard None) (open_now P h c)) (open_now P h c) _ (entry_leaves_law P (unheard None) (open_now P h c))
+standing_by P h c b (Some w) x = ap (standing_of P) (word_law P h c b w (word_starts P h b (Some w)) x) ∙ word_standing P c b w (word_starts P h b (Some w)) (open_now P h c)
+
+pub standing_word_law : (P : Description) (h : List Noted) (c b : Bus) (w : Option Raw) → replies_on h b ≡ false →
+    standing_of P (open_now P (note P h (entry_event b w) ∷ h) c)
     ≡ word_leaves P.address (starts_by P w (on_bus b (heard_on_buses P h)) (standing_of P (open_now P h b))) (same_bus c b) w (standing_of P (open_now P h c))
 standing_word_law P h c b w e =
     ap (λ n. standing_of P (open_now P (n ∷ h) c)) (word_is P h b w e)
-    ∙ (ap (standing_of P) (word_law P h c b w (word_starts P h b w) (at_entry (Some w) (open_now P h b)))
-    ∙ (word_standing P c b w (word_starts P h b w) (open_now P h c)
-    ∙ ap (λ s. word_leaves P.address s (same_bus c b) w (standing_of P (open_now P h c))) (starts_law P h b w)))
-
-standing_noise_law : (P : Description) (h : List Noted) (c b : Bus) → replies_on h b ≡ false →
-    standing_of P (open_now P (note P h (Noise b) ∷ h) c)
-    ≡ (if same_bus c b then entry_leaves P.address None (standing_of P (open_now P h c)) else standing_of P (open_now P h c))
-standing_noise_law P h c b e =
-    ap (λ n. standing_of P (open_now P (n ∷ h) c)) (noise_is P h b e)
-    ∙ (ap (standing_of P) (noise_law P h c b (at_entry None (open_now P h b)))
-    ∙ choice_standing P (same_bus c b) (after_entry (unheard None) (open_now P h c)) (open_now P h c) _ (entry_leaves_law P (unheard None) (open_now P h c)))
+    ∙ (standing_by P h c b w (at_entry w (open_now P h b))
+    ∙ ap (λ s. word_leaves P.address s (same_bus c b) w (standing_of P (open_now P h c))) (starts_law P h b w))
 
 standing_gap_law : (P : Description) (h : List Noted) (c b : Bus) → replies_on h b ≡ false →
     standing_of P (open_now P (note P h (Gap b) ∷ h) c)
@@ -156,27 +148,24 @@ standing_gap_law P h c b e =
     ∙ (ap (standing_of P) (gap_law P h c b (begins_by P h b) (done_cell (gap_by P h b)) (gap_by P h b))
     ∙ choice_standing P (same_bus c b) (after_gap P (open_now P h c)) (open_now P h c) _ (gap_leaves_law P (open_now P h c)))
 
--- the registers after a word, after noise and after a gap
-pub registers_word : (P : Description) (h : List Noted) (b : Bus) (w : Raw) → replies_on h b ≡ false →
-    registers_now P (note P h (Word b w) ∷ h)
-    ≡ started_if (starts_by P w (on_bus b (heard_on_buses P h)) (standing_of P (open_now P h b))) (spares P w.bits) w.bits (failed_by P (entry_fails (Some w) (standing_of P (open_now P h b))) (registers_now P h))
+-- the registers after a word or noise, and after a gap
+registers_by : (P : Description) (h : List Noted) (f : Option ℕ) (b : Bus) (w : Option Raw) (r : Registers) →
+    registers_after P (entry_event b w) (resets NoTurn (fails f)) (word_starts P h b w) (fails f) r ≡ started_if (word_starts P h b w) (spares P (word_bits w)) (word_bits w) (failed_by P f r)
+registers_by P h f b None r = registers_noise_law P f b r
+registers_by P h f b (Some w) r = registers_word_law P f b w (word_starts P h b (Some w)) r
+
+pub registers_word : (P : Description) (h : List Noted) (b : Bus) (w : Option Raw) → replies_on h b ≡ false →
+    registers_now P (note P h (entry_event b w) ∷ h)
+    ≡ started_if (starts_by P w (on_bus b (heard_on_buses P h)) (standing_of P (open_now P h b))) (spares P (word_bits w)) (word_bits w) (failed_by P (entry_fails w (standing_of P (open_now P h b))) (registers_now P h))
 registers_word P h b w e =
     ap (λ n. registers_now P (n ∷ h)) (word_is P h b w e)
     ∙ (registers_law P (word_noted P h b w) h
-    ∙ (ap (λ x. registers_after P (Word b w) (resets NoTurn x) (word_starts P h b w) x (registers_now P h)) (entry_ends_law P (Some w) (open_now P h b))
-    ∙ (registers_word_law P (entry_fails (Some w) (standing_of P (open_now P h b))) b w (word_starts P h b w) (registers_now P h)
-    ∙ ap (λ s. started_if s (spares P w.bits) w.bits (failed_by P (entry_fails (Some w) (standing_of P (open_now P h b))) (registers_now P h))) (starts_law P h b w))))
-
-registers_noise : (P : Description) (h : List Noted) (b : Bus) → replies_on h b ≡ false →
-    registers_now P (note P h (Noise b) ∷ h) ≡ failed_by P (entry_fails None (standing_of P (open_now P h b))) (registers_now P h)
-registers_noise P h b e =
-    ap (λ n. registers_now P (n ∷ h)) (noise_is P h b e)
-    ∙ (registers_law P (noise_noted P h b) h
-    ∙ (ap (λ x. registers_after P (Noise b) (resets NoTurn x) false x (registers_now P h)) (entry_ends_law P None (open_now P h b))
-    ∙ registers_noise_law P (entry_fails None (standing_of P (open_now P h b))) b (registers_now P h)))
+    ∙ (ap (λ x. registers_after P (entry_event b w) (resets NoTurn x) (word_starts P h b w) x (registers_now P h)) (entry_ends_law P w (open_now P h b))
+    ∙ (registers_by P h (entry_fails w (standing_of P (open_now P h b))) b w (registers_now P h)
+    ∙ ap (λ s. started_if s (spares P (word_bits w)) (word_bits w) (failed_by P (entry_fails w (standing_of P (open_now P h b))) (registers_now P h))) (starts_law P h b w))))
 
 abbrev settled_for : Description → Bus → Bool → Ending → Registers → Registers
-settled_for P b begins x r = settled P.accept (adds_error P x) b begins x r
+settled_for P b begins x r = settled P.accept (adds_error P x) b (resets_at_gap begins x) x r
 
 registers_gap : (P : Description) (h : List Noted) (b : Bus) → replies_on h b ≡ false →
     registers_now P (note P h (Gap b) ∷ h) ≡ settled_for P b (begins_by P h b) (gap_by P h b) (registers_now P h)
@@ -186,16 +175,18 @@ registers_gap P h b e =
     ∙ (ap (λ k. registers_after P (Gap b) k false (gap_by P h b) (registers_now P h)) (gap_resets b (begins_by P h b) (gap_by P h b))
     ∙ registers_gap_law P (gap_by P h b) b (begins_by P h b) (registers_now P h)))
 
--- the reply after a word, after noise and after a gap
-pub reply_word : (P : Description) (h : List Noted) (b : Bus) (w : Raw) → replies_on h b ≡ false →
-    reply_now (note P h (Word b w) ∷ h) ≡ dropped_if (starts_by P w (on_bus b (heard_on_buses P h)) (standing_of P (open_now P h b))) (reply_now h)
+-- the reply after a word or noise, and after a gap
+reply_by : (P : Description) (h : List Noted) (b : Bus) (w : Option Raw) (x : Ending) → replies_on h b ≡ false →
+    reply_now (noted_as (entry_event b w) NoTurn (word_starts P h b w) x ∷ h) ≡ dropped_if (word_starts P h b w) (reply_now h)
+reply_by P h b None x e = reply_noise_law h b x
+reply_by P h b (Some w) x e = reply_word_law h b w (word_starts P h b (Some w)) x e
+
+pub reply_word : (P : Description) (h : List Noted) (b : Bus) (w : Option Raw) → replies_on h b ≡ false →
+    reply_now (note P h (entry_event b w) ∷ h) ≡ dropped_if (starts_by P w (on_bus b (heard_on_buses P h)) (standing_of P (open_now P h b))) (reply_now h)
 reply_word P h b w e =
     ap (λ n. reply_now (n ∷ h)) (word_is P h b w e)
-    ∙ (reply_word_law h b w (word_starts P h b w) (at_entry (Some w) (open_now P h b)) e
+    ∙ (reply_by P h b w (at_entry w (open_now P h b)) e
     ∙ ap (λ s. dropped_if s (reply_now h)) (starts_law P h b w))
-
-reply_noise : (P : Description) (h : List Noted) (b : Bus) → replies_on h b ≡ false → reply_now (note P h (Noise b) ∷ h) ≡ reply_now h
-reply_noise P h b e = ap (λ n. reply_now (n ∷ h)) (noise_is P h b e) ∙ reply_noise_law h b (at_entry None (open_now P h b))
 
 reply_gap : (P : Description) (h : List Noted) (b : Bus) → replies_on h b ≡ false →
     reply_now (note P h (Gap b) ∷ h) ≡ begun_if (begins_by P h b) b (done_cell (gap_by P h b)) (reply_now h)
@@ -209,19 +200,16 @@ held_failed : (P : Description) (s i : ℕ) (e : Event) (f : Option ℕ) (old : 
 held_failed P s i e None old n = ap (λ o. or_else (either_word o None) old) n
 held_failed P s i e (Some c) old n = ap (λ o. or_else (either_word o None) old) n
 
-pub held_word_law : (P : Description) (h : List Noted) (b : Bus) (w : Raw) (s i : ℕ) → replies_on h b ≡ false → held_now P (note P h (Word b w) ∷ h) s i ≡ held_now P h s i
+nothing_written : (s i : ℕ) (b : Bus) (w : Option Raw) → written s i (entry_event b w) ≡ None
+nothing_written s i b None = refl
+nothing_written s i b (Some w) = refl
+
+pub held_word_law : (P : Description) (h : List Noted) (b : Bus) (w : Option Raw) (s i : ℕ) → replies_on h b ≡ false → held_now P (note P h (entry_event b w) ∷ h) s i ≡ held_now P h s i
 held_word_law P h b w s i e =
     ap (λ n. held_now P (n ∷ h) s i) (word_is P h b w e)
     ∙ (held_step P s i (word_noted P h b w) h
-    ∙ (ap (λ x. held_by P s i (Word b w) (resets NoTurn x) x (held_now P h s i)) (entry_ends_law P (Some w) (open_now P h b))
-    ∙ held_failed P s i (Word b w) (entry_fails (Some w) (standing_of P (open_now P h b))) (held_now P h s i) refl))
-
-held_noise_law : (P : Description) (h : List Noted) (b : Bus) (s i : ℕ) → replies_on h b ≡ false → held_now P (note P h (Noise b) ∷ h) s i ≡ held_now P h s i
-held_noise_law P h b s i e =
-    ap (λ n. held_now P (n ∷ h) s i) (noise_is P h b e)
-    ∙ (held_step P s i (noise_noted P h b) h
-    ∙ (ap (λ x. held_by P s i (Noise b) (resets NoTurn x) x (held_now P h s i)) (entry_ends_law P None (open_now P h b))
-    ∙ held_failed P s i (Noise b) (entry_fails None (standing_of P (open_now P h b))) (held_now P h s i) refl))
+    ∙ (ap (λ x. held_by P s i (entry_event b w) (resets NoTurn x) x (held_now P h s i)) (entry_ends_law P w (open_now P h b))
+    ∙ held_failed P s i (entry_event b w) (entry_fails w (standing_of P (open_now P h b))) (held_now P h s i) (nothing_written s i b w)))
 
 held_gap_law : (P : Description) (h : List Noted) (b : Bus) (s i : ℕ) → replies_on h b ≡ false →
     held_now P (note P h (Gap b) ∷ h) s i ≡ held_by P s i (Gap b) (resets_at_gap (begins_by P h b) (gap_by P h b)) (gap_by P h b) (held_now P h s i)
@@ -233,10 +221,10 @@ held_gap_law P h b s i e =
 same₄ : {X Y Z W R : Type 0} (f : X → Y → Z → W → R) {x x' : X} {y y' : Y} {z z' : Z} {w w' : W} → x ≡ x' → y ≡ y' → z ≡ z' → w ≡ w' → f x y z w ≡ f x' y' z' w'
 same₄ f {x} {x'} {y} {y'} {z} {z'} {w} {w'} p q r s = λ j. f (p j) (q j) (r j) (s j)
 
--- a terminal that doesn't ignore an event doesn't reply on its bus
-hears : {L : Type 0} (is_legal : L → Cell → Bool) (P : Description) (h : List Event) (e : Event) (t : Terminal L) → StandsAt is_legal P h t →
-    ignores (shown_reply t.reply) e ≡ false → ignores (reply_now (past P h)) e ≡ false
-hears is_legal P h e t s i = ap (λ r. ignores r e) (sym s.reply) ∙ i
+-- a terminal that doesn't reply on a bus hears it
+hears : {L : Type 0} (is_legal : L → Cell → Bool) (P : Description) (h : List Event) (b : Bus) (t : Terminal L) → StandsAt is_legal P h t →
+    is_on b (reply_bus (shown_reply t.reply)) ≡ false → replies_on (past P h) b ≡ false
+hears is_legal P h b t s i = ap (λ r. is_on b (reply_bus r)) (sym s.reply) ∙ i
 
 -- the word at a place of data
 pub at_place : (words : List (List ℕ)) (s i : ℕ) → 1 ≤ s → s ≤ 30 → 1 ≤ i → i ≤ 32 → words_at_places words s i ≡ word_at words s i
@@ -245,10 +233,10 @@ at_place words s i low high first last = ap (λ t. if t then word_at words s i e
     is_place : (s i : ℕ) → 1 ≤ s → s ≤ 30 → 1 ≤ i → i ≤ 32 → is_data_place s i ≡ true
     is_place s i low high first last = grind (arith, nat_tests)
 
-pub word_stands : {L : Type 0} (is_legal : L → Cell → Bool) (P : Description) (h : List Event) (b : Bus) (w : Raw) (t u : Terminal L) → ignores (shown_reply t.reply) (Word b w) ≡ false →
-    StandsAt is_legal P h t → TakesWord is_legal b w t u → StandsAt is_legal P (Word b w ∷ h) u
+pub word_stands : {L : Type 0} (is_legal : L → Cell → Bool) (P : Description) (h : List Event) (b : Bus) (w : Option Raw) (t u : Terminal L) → is_on b (reply_bus (shown_reply t.reply)) ≡ false →
+    StandsAt is_legal P h t → TakesWord is_legal b w t u → StandsAt is_legal P (entry_event b w ∷ h) u
 word_stands is_legal P h b w t u i s k =
-    let e : replies_on (past P h) b ≡ false = hears is_legal P h (Word b w) t s i in
+    let e : replies_on (past P h) b ≡ false = hears is_legal P h b t s i in
     record {
       description = k.setup.description ∙ s.description;
       heard = k.heard ∙ ((λ j. heard_after_word (s.description j) b w (s.heard j)) ∙ sym (heard_word_law P (past P h) b w e));
@@ -258,7 +246,7 @@ word_stands is_legal P h b w t u i s k =
           ∙ sym (standing_word_law P (past P h) c b w e));
       registers =
           k.registers
-          ∙ (same₄ (λ D k l r. started_if (starts_by D w (on_bus b k) l) (spares D w.bits) w.bits (failed_by D (entry_fails (Some w) l) r)) s.description s.heard (s.standing b) s.registers
+          ∙ (same₄ (λ D k l r. started_if (starts_by D w (on_bus b k) l) (spares D (word_bits w)) (word_bits w) (failed_by D (entry_fails w l) r)) s.description s.heard (s.standing b) s.registers
           ∙ sym (registers_word P (past P h) b w e));
       reply =
           k.reply
@@ -269,50 +257,29 @@ word_stands is_legal P h b w t u i s k =
           ∙ (s.held m i low high first last ∙ sym (held_word_law P (past P h) b w m i e));
     }
 
-pub noise_stands : {L : Type 0} (is_legal : L → Cell → Bool) (P : Description) (h : List Event) (b : Bus) (t u : Terminal L) → ignores (shown_reply t.reply) (Noise b) ≡ false →
-    StandsAt is_legal P h t → TakesNoise is_legal b t u → StandsAt is_legal P (Noise b ∷ h) u
-noise_stands is_legal P h b t u i s k =
-    let e : replies_on (past P h) b ≡ false = hears is_legal P h (Noise b) t s i in
-    record {
-      description = k.setup.description ∙ s.description;
-      heard = k.heard ∙ (s.heard ∙ sym (heard_noise_law P (past P h) b e));
-      standing = λ c.
-          k.standing c
-          ∙ ((λ j. if same_bus c b then entry_leaves (s.description j).address None (s.standing c j) else s.standing c j)
-          ∙ sym (standing_noise_law P (past P h) c b e));
-      registers =
-          k.registers
-          ∙ ((λ j. failed_by (s.description j) (entry_fails None (s.standing b j)) (s.registers j))
-          ∙ sym (registers_noise P (past P h) b e));
-      reply = ap shown_reply k.reply ∙ (s.reply ∙ sym (reply_noise P (past P h) b e));
-      held = λ m i low high first last.
-          (λ j. word_in (k.held j) m i)
-          ∙ (s.held m i low high first last ∙ sym (held_noise_law P (past P h) b m i e));
-    }
-
-pub gap_stands : {L : Type 0} (is_legal : L → Cell → Bool) (P : Description) (h : List Event) (b : Bus) (t u : Terminal L) → ignores (shown_reply t.reply) (Gap b) ≡ false →
-    StandsAt is_legal P h t → TakesGap is_legal b (begins_at_gap is_legal t b) (ends_at_gap is_legal t b) t u → StandsAt is_legal P (Gap b ∷ h) u
+pub gap_stands : {L : Type 0} (is_legal : L → Cell → Bool) (P : Description) (h : List Event) (b : Bus) (t u : Terminal L) → is_on b (reply_bus (shown_reply t.reply)) ≡ false →
+    StandsAt is_legal P h t → TakesGap is_legal b t u → StandsAt is_legal P (Gap b ∷ h) u
 gap_stands is_legal P h b t u i s k =
-    let e : replies_on (past P h) b ≡ false = hears is_legal P h (Gap b) t s i in
+    let e : replies_on (past P h) b ≡ false = hears is_legal P h b t s i in
     let ends : ends_at_gap is_legal t b ≡ gap_by P (past P h) b = (λ j. gap_ends (s.description j) (s.registers j).flags.busy (s.standing b j)) in
-    let begins : begins_at_gap is_legal t b ≡ begins_by P (past P h) b = (λ j. is_answered (on_bus b (s.registers j).off) (ends j)) in
+    let begins : begins_in t b (ends_at_gap is_legal t b) ≡ begins_by P (past P h) b = (λ j. is_answered (on_bus b (s.registers j).off) (ends j)) in
     record {
-      description = k.setup.description ∙ s.description;
-      heard = k.heard ∙ (ap (with_bus b false) s.heard ∙ sym (heard_gap_law P (past P h) b e));
+      description = k.settles.setup.description ∙ s.description;
+      heard = k.settles.heard ∙ (ap (with_bus b false) s.heard ∙ sym (heard_gap_law P (past P h) b e));
       standing = λ c.
           k.standing c
           ∙ ((λ j. if same_bus c b then gap_leaves (s.standing c j) else s.standing c j)
           ∙ sym (standing_gap_law P (past P h) c b e));
       registers =
-          k.registers
+          k.settles.registers
           ∙ ((λ j. settled_for (s.description j) b (begins j) (ends j) (s.registers j))
           ∙ sym (registers_gap P (past P h) b e));
       reply =
-          k.reply
+          k.settles.reply
           ∙ ((λ j. begun_if (begins j) b (done_cell (ends j)) (s.reply j))
           ∙ sym (reply_gap P (past P h) b e));
       held = λ m i low high first last.
-          k.held m i low high first last
+          k.settles.held m i low high first last
           ∙ ((λ j. unless_reset (resets_at_gap (begins j) (ends j)) ((sym (at_place t.held.initial m i low high first last) ∙ ap (λ D. D.initial m i) s.description) j) (wrapped (s.description j).wrap m i (ends j)) (s.held m i low high first last j))
           ∙ sym (held_gap_law P (past P h) b m i e));
     }

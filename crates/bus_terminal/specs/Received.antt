@@ -5,6 +5,7 @@ use Rattle.bus_word.specs.declared.word.Kind.TheVariants.{Dat}
 use Rattle.bus_word.specs.declared.cell.Cell.{Cell}
 use Rattle.bus_word.specs.declared.cell.Cell.TheVariants.{OwnReceive, BroadReceive}
 use Rattle.bus_word.specs.Word.{valid_word}
+use Rattle.bus_word.specs.Command.{expected}
 use Rattle.bus_word.specs.Cell.{cell_of}
 use Rattle.bus_legal.specs.Description.{Description}
 use Rattle.terminal_rules.specs.declared.event.Event.{Event}
@@ -25,15 +26,15 @@ data_words_on b ds = map (λ d. Word b (valid_word Dat d)) ds
 abbrev pub unless_wrapped : Description → Cell → Receiving → Option Receiving
 unless_wrapped P cell it = if P.legal cell && not (it.subaddress == P.wrap) then Some it else None
 
--- what a command of this cell is to receive
-abbrev pub received_by : Description → Option Cell → Option Receiving
-received_by P (Some (OwnReceive s n)) = unless_wrapped P (OwnReceive s n) (record { broadcast = false; subaddress = s; count = n })
-received_by P (Some (BroadReceive s n)) = unless_wrapped P (BroadReceive s n) (record { broadcast = true; subaddress = s; count = n })
-received_by P _ = None
+-- what command c is to receive, by its cell
+abbrev pub received_by : Description → ℕ → Option Cell → Option Receiving
+received_by P c (Some (OwnReceive s n)) = unless_wrapped P (OwnReceive s n) (record { broadcast = false; subaddress = s; count = expected c })
+received_by P c (Some (BroadReceive s n)) = unless_wrapped P (BroadReceive s n) (record { broadcast = true; subaddress = s; count = expected c })
+received_by P c _ = None
 
 -- what a message is to receive whose command nothing has followed
 abbrev pub received_in : Description → Open → Option Receiving
-received_in P (Collects c []) = received_by P (cell_of c)
+received_in P (Collects c []) = received_by P c (cell_of c)
 received_in P _ = None
 
 -- What a terminal is to receive on a bus, where it hears that bus and the busy flag is not set: by a message whose command nothing

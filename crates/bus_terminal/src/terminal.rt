@@ -9,11 +9,11 @@ mod slots;
 use crate::answer::{Answer, Sent};
 use crate::settings::Settings;
 use bus_legal::{Legality, Setup};
-use bus_word::{Bus, Command, Kind, Raw, cell_of};
+use bus_word::{Bus, Cell, Command, Kind, Raw, cell_of};
 use terminal_rules::{Event, WordPlace};
 use terminal_state::{
-    Ended, GapEnd, HeldWords, InProgress, OnBuses, Registers, Reply, advance, reports_kept,
-    same_bus, verdict_of,
+    Decoded, Ended, GapEnd, HeldWords, InProgress, OnBuses, Registers, Reply, advance, begin,
+    reports_kept, same_bus, verdict_of,
 };
 
 /// A remote terminal, with what answers whether a cell is legal. It stores no history: it keeps what of its
@@ -31,22 +31,24 @@ pub struct Terminal<L> {
 }
 
 impl<L: Legality> Terminal<L> {
-    ghost use Rattle.std.specs.Prelude.{◌≡◌, true, false, if◌then◌else◌, ℕ, List, [], ◌∷◌};
+    ghost use Rattle.std.specs.Prelude.{◌≡◌, true, false, if◌then◌else◌, Some, None, ℕ, List, [], ◌∷◌};
     ghost use Rattle.bus_legal.specs.Description.{Description, described};
     ghost use Rattle.terminal_rules.specs.declared.event.Event.{Event};
     ghost use Rattle.terminal_rules.specs.declared.event.Event.TheVariants.{Word as WordEvent};
     ghost use Rattle.bus_word.specs.Word.{valid_word};
     ghost use Rattle.bus_word.specs.declared.word.Kind.TheVariants.{Com, Dat};
     ghost use Rattle.terminal_rules.specs.Starts.{is_for_terminal};
-    ghost use Rattle.terminal_rules.specs.Ends.{well};
-    ghost use Rattle.terminal_rules.specs.Status.{spares, adds_error};
+    ghost use Rattle.terminal_rules.specs.Status.{spares_kept, adds_error};
     ghost use Rattle.terminal_rules.specs.Reply.{reply_bus};
     ghost use Rattle.terminal_rules.specs.Open.{is_on};
-    ghost use Rattle.terminal_rules.specs.Turn.{is_answered};
+    ghost use Rattle.terminal_rules.specs.SinceReset.{wrapped};
+    ghost use Rattle.terminal_rules.specs.Turn.{done_cell};
+    ghost use Rattle.terminal_state.specs.inner.Places.{can_reply};
     ghost use Rattle.terminal_rules.specs.Out.{out};
+    ghost use Rattle.terminal_state.specs.declared.message.InProgress.{InProgress};
     ghost use Rattle.terminal_state.specs.inner.Replies.{shown_reply, can_send};
-    ghost use Rattle.terminal_state.specs.inner.Standing.{gap_ends, starts_by};
-    ghost use Rattle.terminal_state.specs.inner.Message.{standing_on};
+    ghost use Rattle.terminal_state.specs.inner.Standing.{ending_at, starts_by};
+    ghost use Rattle.terminal_state.specs.inner.Message.{standing_on, gap_end_with};
     ghost use Rattle.terminal_state.specs.inner.Ended.{ending_of};
     ghost use Rattle.terminal_state.specs.inner.Registers.{failed_by};
     ghost use Rattle.terminal_state.specs.inner.Buses.{on_bus, with_bus};
@@ -54,7 +56,7 @@ impl<L: Legality> Terminal<L> {
     ghost use Rattle.bus_terminal.specs.inner.Answer.{shown_sent};
     ghost use Rattle.bus_terminal.specs.Stands.{StandsAt, TakesEvent, AnswersEvent, own_description, held_word};
     ghost use Rattle.bus_terminal.specs.contracts.terminal.Terminal.{the_row};
-    ghost use Rattle.bus_terminal.specs.inner.Terminal.{sends_from, ends_at_gap, begins_at_gap, TakesStart, TakesWord, TakesNoise, TakesGap, TakesSlot, TakesWrite};
+    ghost use Rattle.bus_terminal.specs.inner.Terminal.{sends_from, ends_at_gap, TakesStart, TakesWord, Settles, TakesGap, TakesSlot, TakesWrite};
 
     /// Gives the terminal at power-up.
     pub fn power_up(setup: Setup, legality: L) -> Terminal<L>
@@ -181,38 +183,31 @@ impl<L: Legality> Terminal<L> {
         self.held.write(place.subaddress(), place.number(), value);
     }
 
-    /// Tells whether a command is a legal own mode code 2 or 18, which spares the kept status.
+    /// Tells whether a command of this cell is a legal own mode code 2 or 18, which spares the kept status.
     #[inline(always)]
-    fn spares(&self, command: Command) -> bool
-        ensures { result ≡ spares (own_description L.is_legal self.now) command }
+    fn spares(&self, cell: Option<Cell>) -> bool
+        ensures { result ≡ spares_kept (own_description L.is_legal self.now) cell }
     {
-        match cell_of(command) {
+        match cell {
             Some(cell) => reports_kept(cell) && self.legality.legal(cell),
             None => false,
         }
     }
 
-    /// Tells how a message ends that has the words that its command expects.
+    /// Tells how a message ends that a gap ends so.
     #[inline(always)]
-    fn verdict(&self, command: Command) -> Ended
-        ensures { (ds : List ℕ) → ending_of result ds ≡ well (own_description L.is_legal self.now) self.now.registers.flags.busy command ds }
+    fn judge(&self, end: GapEnd) -> Ended
+        ensures ending { (ds : List ℕ) → ending_of result ds ≡ ending_at (own_description L.is_legal self.now) self.now.registers.flags.busy (gap_end_with end ds) }
+        ensures cell { can_reply (done_cell (ending_of result [])) ≡ true }
     {
-        match cell_of(command) {
-            Some(cell) => {
-                let is_legal = self.legality.legal(cell);
-                verdict_of(command, cell, is_legal, self.registers.flags.busy)
-            }
-            None => Ended::Illegal(command),
-        }
-    }
-
-    /// Tells how a gap on this bus ends the message in progress.
-    #[inline(always)]
-    fn end_at_gap(&self, bus: Bus) -> Ended
-        ensures { ending_of result self.now.in_progress.words.items ≡ gap_ends (own_description L.is_legal self.now) self.now.registers.flags.busy (standing_on bus self.now.in_progress) }
-    {
-        match self.in_progress.end_at_gap(bus) {
-            GapEnd::Complete(command) => self.verdict(command),
+        match end {
+            GapEnd::Complete(decoded) => match decoded.cell {
+                Some(cell) => {
+                    let is_legal = self.legality.legal(cell);
+                    verdict_of(decoded.command, cell, is_legal, self.registers.flags.busy)
+                }
+                None => Ended::Illegal(decoded.command),
+            },
             GapEnd::InError(command) => Ended::Badly(command),
             GapEnd::NoEnd => Ended::Nothing,
         }
@@ -222,7 +217,7 @@ impl<L: Legality> Terminal<L> {
     #[inline(always)]
     fn starts(&self, bus: Bus, word: Raw, ours: bool) -> bool
         requires { ours ≡ is_for_terminal (own_description L.is_legal self.now) word }
-        ensures { result ≡ starts_by (own_description L.is_legal self.now) word (on_bus bus self.now.heard) (standing_on bus self.now.in_progress) }
+        ensures { result ≡ starts_by (own_description L.is_legal self.now) (Some word) (on_bus bus self.now.heard) (standing_on bus self.now.in_progress) }
     {
         let command = Command::of(word.bits);
         ours && ((!self.heard.on(bus) && self.in_progress.is_free(bus))
@@ -237,7 +232,7 @@ impl<L: Legality> Terminal<L> {
         ensures { (ds : List ℕ) → result ≡ adds_error (own_description L.is_legal self.now) (ending_of ended.now ds) }
     {
         match ended {
-            Ended::Badly(command) => self.spares(*command),
+            Ended::Badly(command) => self.spares(cell_of(*command)),
             Ended::Nothing => false,
             Ended::Illegal(_) => false,
             Ended::Blocked(_, _) => false,
@@ -245,36 +240,37 @@ impl<L: Legality> Terminal<L> {
         }
     }
 
-    /// Takes the end of a message at a gap on this bus, or of none, and begins its reply.
+    /// Takes the end of a message at a gap on this bus, or of none, and begins its reply. The words in the buffer are its words, or
+    /// any where none are held.
     #[inline(always)]
     fn settle(&mut self, bus: Bus, ended: &Ended)
-        ensures takes { TakesGap L.is_legal bus (is_answered (on_bus bus self.old.registers.off) (ending_of ended.now self.old.in_progress.words.items)) (ending_of ended.now self.old.in_progress.words.items) self.old self.new }
-        ensures words { self.new.in_progress.words ≡ self.old.in_progress.words }
+        requires { can_reply (done_cell (ending_of ended.now [])) ≡ true }
+        ensures settles { (ds : List ℕ) (i : InProgress) → ((s n : ℕ) → wrapped self.old.settings.wrap s n (ending_of ended.now self.old.in_progress.words.items) ≡ wrapped self.old.settings.wrap s n (ending_of ended.now ds)) → Settles L.is_legal bus (ending_of ended.now ds) (record self.old { in_progress = i }) self.new }
+        ensures in_progress { self.new.in_progress ≡ self.old.in_progress }
     {
         let begins = ended.is_answered(self.registers.off.on(bus));
+        let resets = ended.resets_at_gap(begins);
         let spares = self.fails_sparing(ended);
         self.registers
-            .settle(bus, ended, self.settings.accept, spares, begins);
+            .settle(bus, ended, self.settings.accept, spares, resets);
         self.held.settle(
             self.settings.wrap,
-            ended.resets_at_gap(begins),
+            resets,
             ended,
             self.in_progress.words.as_slice(),
         );
         self.heard.set(bus, false);
-        self.in_progress.gap(bus);
-        if begins {
-            self.reply = Some(Reply::begun(bus, ended.done_cell()));
-        }
+        begin(&mut self.reply, begins, bus, ended.done_cell());
     }
 
     /// Takes a gap on this bus, which has no reply in progress, and says what it ended.
     #[inline(always)]
     fn take_gap(&mut self, bus: Bus) -> Ended
         ensures ending { ending_of result self.new.in_progress.words.items ≡ ends_at_gap L.is_legal self.old bus }
-        ensures takes { TakesGap L.is_legal bus (begins_at_gap L.is_legal self.old bus) (ends_at_gap L.is_legal self.old bus) self.old self.new }
+        ensures takes { TakesGap L.is_legal bus self.old self.new }
     {
-        let ended = self.end_at_gap(bus);
+        let end = self.in_progress.end_at_gap(bus);
+        let ended = self.judge(end);
         self.settle(bus, &ended);
         ended
     }
@@ -305,7 +301,7 @@ impl<L: Legality> Terminal<L> {
         ensures { self.new ≡ record self.old { registers = failed_by (own_description L.is_legal self.old) failed self.old.registers } }
     {
         if let Some(command) = failed {
-            let spares = self.spares(command);
+            let spares = self.spares(cell_of(command));
             self.registers.fail(command, spares);
         }
     }
@@ -313,7 +309,7 @@ impl<L: Legality> Terminal<L> {
     /// Takes noise on this bus, which has no reply in progress.
     #[inline(never)]
     fn take_noise(&mut self, bus: Bus)
-        ensures { TakesNoise L.is_legal bus self.old self.new }
+        ensures { TakesWord L.is_legal bus None self.old self.new }
     {
         let failed = self.in_progress.failed_by(bus, None);
         self.fail(failed);
@@ -324,7 +320,7 @@ impl<L: Legality> Terminal<L> {
     #[inline(always)]
     fn take_word(&mut self, bus: Bus, word: Raw, ours: bool)
         requires { ours ≡ is_for_terminal (own_description L.is_legal self.old) word }
-        ensures { TakesWord L.is_legal bus word self.old self.new }
+        ensures { TakesWord L.is_legal bus (Some word) self.old self.new }
     {
         let starts = self.starts(bus, word, ours);
         let failed = self.in_progress.failed_by(bus, Some(word));
@@ -351,7 +347,7 @@ impl<L: Legality> Terminal<L> {
     /// Takes a valid word of command sync on this bus, which has no reply in progress.
     #[inline(always)]
     fn take_command(&mut self, bus: Bus, bits: u16)
-        ensures { TakesWord L.is_legal bus (valid_word Com bits) self.old self.new }
+        ensures { TakesWord L.is_legal bus (Some (valid_word Com bits)) self.old self.new }
     {
         let ours = Command::of(bits).is_addressed_to(
             self.settings.address,
@@ -364,7 +360,7 @@ impl<L: Legality> Terminal<L> {
     /// them, and change nothing else.
     #[inline(always)]
     fn take_data(&mut self, bus: Bus, bits: u16)
-        ensures { TakesWord L.is_legal bus (valid_word Dat bits) self.old self.new }
+        ensures { TakesWord L.is_legal bus (Some (valid_word Dat bits)) self.old self.new }
     {
         if !self.in_progress.collect(bus, bits) {
             self.take_other_data(bus, bits);
@@ -374,7 +370,7 @@ impl<L: Legality> Terminal<L> {
     /// Takes a valid data word on this bus, which has no reply in progress.
     #[inline(never)]
     fn take_other_data(&mut self, bus: Bus, bits: u16)
-        ensures { TakesWord L.is_legal bus (valid_word Dat bits) self.old self.new }
+        ensures { TakesWord L.is_legal bus (Some (valid_word Dat bits)) self.old self.new }
     {
         self.take_word(bus, Raw::of(Kind::Dat, bits), false);
     }
@@ -385,8 +381,9 @@ impl<L: Legality> Terminal<L> {
         ensures { TakesStart L.is_legal bus command self.old self.new }
     {
         self.reply = None;
-        self.in_progress.start(bus, command);
-        let spares = self.spares(command);
-        self.registers.start(command, spares);
+        let decoded = Decoded::of(command);
+        let spares = self.spares(decoded.cell);
+        self.registers.start(&decoded, spares);
+        self.in_progress.start(bus, decoded);
     }
 }

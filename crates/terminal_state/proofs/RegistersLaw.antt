@@ -90,20 +90,20 @@ bad_law P c A r = noise_law P (Some c) A r
 bad_law P c B r = noise_law P (Some c) B r
 
 own_law : (P : Description) (c code : ℕ) (ds : List ℕ) (b : Bus) (begins : Bool) (r : Registers) →
-    registers_after P (Gap b) (resets_at_gap begins (Done c (OwnMode code) ds)) false (Done c (OwnMode code) ds) r ≡ settled P.accept false b begins (Done c (OwnMode code) ds) r
+    registers_after P (Gap b) (resets_at_gap begins (Done c (OwnMode code) ds)) false (Done c (OwnMode code) ds) r ≡ settled P.accept false b (resets_at_gap begins (Done c (OwnMode code) ds)) (Done c (OwnMode code) ds) r
 own_law P c code ds b begins r =
-    ap (with_kept (settled P.accept false b begins (Done c (OwnMode code) ds) r))
+    ap (with_kept (settled P.accept false b (resets_at_gap begins (Done c (OwnMode code) ds)) (Done c (OwnMode code) ds) r))
     (done_kept r.kept (done_from P.accept r c (OwnMode code)) (reports_kept (OwnMode code)) (resets_at_gap begins (Done c (OwnMode code) ds)))
 
 all_law : (P : Description) (c code : ℕ) (ds : List ℕ) (b : Bus) (begins : Bool) (r : Registers) →
-    registers_after P (Gap b) (resets_at_gap begins (Done c (BroadMode code) ds)) false (Done c (BroadMode code) ds) r ≡ settled P.accept false b begins (Done c (BroadMode code) ds) r
+    registers_after P (Gap b) (resets_at_gap begins (Done c (BroadMode code) ds)) false (Done c (BroadMode code) ds) r ≡ settled P.accept false b (resets_at_gap begins (Done c (BroadMode code) ds)) (Done c (BroadMode code) ds) r
 all_law P c code ds b begins r =
-    ap (with_kept (settled P.accept false b begins (Done c (BroadMode code) ds) r))
+    ap (with_kept (settled P.accept false b (resets_at_gap begins (Done c (BroadMode code) ds)) (Done c (BroadMode code) ds) r))
     (done_kept r.kept (done_from P.accept r c (BroadMode code)) false (resets_at_gap begins (Done c (BroadMode code) ds)))
 
 -- a gap: it ends a message, or none
 pub gap_law : (P : Description) (x : Ending) (b : Bus) (begins : Bool) (r : Registers) →
-    registers_after P (Gap b) (resets_at_gap begins x) false x r ≡ settled P.accept (adds_error P x) b begins x r
+    registers_after P (Gap b) (resets_at_gap begins x) false x r ≡ settled P.accept (adds_error P x) b (resets_at_gap begins x) x r
 gap_law P Nothing b begins r = refl
 gap_law P (Badly c) b begins r = bad_law P c b r
 gap_law P (Illegal c) b begins r = refl
@@ -120,11 +120,11 @@ slot_law P true r = refl
 slot_law P false r = refl
 
 -- a gap that ended no message in error
-pub settled_well : (accept spares : Bool) (b : Bus) (begins : Bool) (ended : Ended) (ds : List ℕ) (r u : Registers) → ((c : ℕ) → ended ≡ EndedBadly c → ⊥) →
-    u ≡ carried b (resets_at_gap begins (ending_of ended ds)) (done_code (ending_of ended ds)) (keeping (status_from accept r (ending_of ended ds)) r) →
-    u ≡ settled accept spares b begins (ending_of ended ds) r
-settled_well accept spares b begins EndedNothing ds r u n e = e
-settled_well accept spares b begins (EndedBadly c) ds r u n e = absurd (n c refl)
-settled_well accept spares b begins (EndedIllegal c) ds r u n e = e
-settled_well accept spares b begins (EndedBlocked c cell) ds r u n e = e
-settled_well accept spares b begins (EndedDone c cell) ds r u n e = e
+pub settled_well : (accept spares : Bool) (b : Bus) (resets : Bool) (ended : Ended) (ds : List ℕ) (r u : Registers) → ((c : ℕ) → ended ≡ EndedBadly c → ⊥) →
+    u ≡ carried b resets (done_code (ending_of ended ds)) (keeping (status_from accept r (ending_of ended ds)) r) →
+    u ≡ settled accept spares b resets (ending_of ended ds) r
+settled_well accept spares b resets EndedNothing ds r u n e = e
+settled_well accept spares b resets (EndedBadly c) ds r u n e = absurd (n c refl)
+settled_well accept spares b resets (EndedIllegal c) ds r u n e = e
+settled_well accept spares b resets (EndedBlocked c cell) ds r u n e = e
+settled_well accept spares b resets (EndedDone c cell) ds r u n e = e

@@ -6,3 +6,4 @@ pub mod Ended
 pub mod Registers
 pub mod Held
 pub mod Replies
+pub mod Places

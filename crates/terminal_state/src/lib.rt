@@ -2,6 +2,7 @@
 #![tactic(auto)]
 
 mod buses;
+mod decoded;
 mod ended;
 mod held;
 mod message;
@@ -9,8 +10,9 @@ mod registers;
 mod reply;
 
 pub use buses::{OnBuses, same_bus};
+pub use decoded::Decoded;
 pub use ended::{Ended, code_in, reports_kept, verdict_of};
 pub use held::{Blocks, HeldWords};
 pub use message::{Collected, GapEnd, InProgress, Message, Phase};
 pub use registers::{Flags, Registers};
-pub use reply::{Reply, advance, advance_by};
+pub use reply::{Reply, advance, advance_by, begin};

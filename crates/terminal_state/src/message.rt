@@ -8,9 +8,10 @@ ghost use Rattle.terminal_rules.specs.Starts.{is_free};
 ghost use Rattle.terminal_rules.specs.Ends.{data_of};
 ghost use Rattle.terminal_state.specs.inner.Standing.{Words, next, entry_leaves, entry_fails, gap_leaves, gap_end, fresh_in, stands_fresh};
 ghost use Rattle.terminal_rules.specs.Out.{first_word};
-ghost use Rattle.terminal_state.specs.inner.Message.{collected_in, standing_on, gap_end_with, in_phase};
+ghost use Rattle.terminal_state.specs.inner.Message.{collected_in, standing_on, command_in, gap_end_with, in_phase};
 
 use crate::buses::same_bus;
+use crate::decoded::Decoded;
 use arrayvec::ArrayVec;
 use bus_word::{Bus, Command, Raw};
 
@@ -38,7 +39,7 @@ pub enum Phase {
 #[derive(Clone, Copy)]
 pub struct Message {
     pub bus: Bus,
-    pub command: Command,
+    pub decoded: Decoded,
     pub phase: Phase,
 }
 
@@ -50,7 +51,7 @@ pub enum GapEnd {
     /// In error.
     InError(Command),
     /// Well, with the words of the buffer.
-    Complete(Command),
+    Complete(Decoded),
 }
 
 /// The message in progress, on whichever bus, and the buffer of its data words.
@@ -115,13 +116,13 @@ impl InProgress {
     }
 
     /// Begins the message of this command, and drops what was in progress.
-    pub fn start(&mut self, bus: Bus, command: Command)
-        ensures { (b : Bus) → standing_on b self.new ≡ (if same_bus b bus then Collects command (Words []) else Idle) }
+    pub fn start(&mut self, bus: Bus, decoded: Decoded)
+        ensures { (b : Bus) → standing_on b self.new ≡ (if same_bus b bus then Collects decoded.command (Words []) else Idle) }
     {
         self.words = ArrayVec::new();
         self.message = Some(Message {
             bus,
-            command,
+            decoded,
             phase: Phase::Collects(Collected::Words),
         });
     }
@@ -140,13 +141,13 @@ impl InProgress {
 
     /// Gives the command of the message on this bus, if nothing has followed it.
     #[inline(always)]
-    pub fn fresh(&self, bus: Bus) -> Option<Command>
-        ensures { result ≡ fresh_in (standing_on bus self.now) }
+    pub fn fresh(&self, bus: Bus) -> Option<Decoded>
+        ensures { command_in result ≡ fresh_in (standing_on bus self.now) }
     {
         match &self.message {
             Some(message) => match message.phase {
                 Phase::Collects(Collected::Words)
-                    if same_bus(bus, message.bus) && self.words.is_empty() => Some(message.command),
+                    if same_bus(bus, message.bus) && self.words.is_empty() => Some(message.decoded),
                 _ => None,
             },
             None => None,
@@ -159,7 +160,7 @@ impl InProgress {
         ensures { result ≡ stands_fresh (standing_on bus self.now) }
     {
         match self.fresh(bus) {
-            Some(command) => command.is_receive() && command.is_broadcast(),
+            Some(decoded) => decoded.command.is_receive() && decoded.command.is_broadcast(),
             None => false,
         }
     }
@@ -186,15 +187,15 @@ impl InProgress {
         }
     }
 
-    /// Gives the command of a message on this bus that has had nothing but data words and has room for one more.
+    /// Gives what the command of a message on this bus means that has had nothing but data words and has room for one more.
     #[inline(always)]
-    fn collects(&self, bus: Bus) -> Option<Command>
-        ensures { IfSome result (λ c. (standing_on bus self.now ≡ Collects c (Words self.now.words.items)) × (length self.now.words.items < 32)) }
+    fn collects(&self, bus: Bus) -> Option<Decoded>
+        ensures { IfSome result (λ d. (standing_on bus self.now ≡ Collects d.command (Words self.now.words.items)) × (length self.now.words.items < 32)) }
     {
         match &self.message {
             Some(message) => match message.phase {
                 Phase::Collects(Collected::Words)
-                    if same_bus(bus, message.bus) && self.words.len() < 32 => Some(message.command),
+                    if same_bus(bus, message.bus) && self.words.len() < 32 => Some(message.decoded),
                 _ => None,
             },
             None => None,
@@ -269,7 +270,7 @@ impl InProgress {
             Some(message) => match message.phase {
                 Phase::Waits(address)
                     if same_bus(bus, message.bus) && !is_status_of(address, word) => Some(
-                    message.command,
+                    message.decoded.command,
                 ),
                 _ => None,
             },
@@ -288,43 +289,27 @@ impl InProgress {
         }
     }
 
-    /// Tells how a gap on this bus ends the message.
+    /// Takes a gap on this bus and says how it ends the message, which is over then, or comes to wait. The buffer stays.
     #[inline(always)]
-    pub fn end_at_gap(&self, bus: Bus) -> GapEnd
-        ensures { gap_end_with result self.now.words.items ≡ gap_end (standing_on bus self.now) }
-    {
-        match &self.message {
-            Some(message) if same_bus(bus, message.bus) => match message.phase {
-                Phase::Collects(Collected::Words) | Phase::Resumes(Collected::Words) => {
-                    if self.words.len() == usize::from(message.command.expected()) {
-                        GapEnd::Complete(message.command)
-                    } else {
-                        GapEnd::InError(message.command)
-                    }
-                }
-                Phase::Collects(Collected::Transmitter(_)) if message.command.is_receive() =>
-                    GapEnd::NoEnd,
-                _ => GapEnd::InError(message.command),
-            },
-            _ => GapEnd::NoEnd,
-        }
-    }
-
-    /// Takes a gap on this bus: its message is over, or comes to wait. The buffer stays.
-    #[inline(always)]
-    pub fn gap(&mut self, bus: Bus)
+    pub fn end_at_gap(&mut self, bus: Bus) -> GapEnd
+        ensures end { gap_end_with result self.old.words.items ≡ gap_end (standing_on bus self.old) }
         ensures standing { (b : Bus) → standing_on b self.new ≡ (if same_bus b bus then gap_leaves (standing_on b self.old) else standing_on b self.old) }
         ensures words { self.new.words ≡ self.old.words }
     {
-        if let Some(message) = self.message {
-            if same_bus(bus, message.bus) {
-                let phase = match message.phase {
-                    Phase::Collects(Collected::Transmitter(address))
-                        if message.command.is_receive() => Some(Phase::Waits(address)),
-                    _ => None,
-                };
-                self.message = message.in_phase(phase);
+        let message = match self.message {
+            Some(message) if same_bus(bus, message.bus) => message,
+            _ => return GapEnd::NoEnd,
+        };
+        let decoded = message.decoded;
+        self.message = None;
+        match message.phase {
+            Phase::Collects(Collected::Words) | Phase::Resumes(Collected::Words)
+                if self.words.len() == usize::from(decoded.count) => GapEnd::Complete(decoded),
+            Phase::Collects(Collected::Transmitter(address)) if decoded.command.is_receive() => {
+                self.message = message.in_phase(Some(Phase::Waits(address)));
+                GapEnd::NoEnd
             }
+            _ => GapEnd::InError(decoded.command),
         }
     }
 }
@@ -337,7 +322,7 @@ impl Message {
         match phase {
             Some(phase) => Some(Message {
                 bus: self.bus,
-                command: self.command,
+                decoded: self.decoded,
                 phase,
             }),
             None => None,

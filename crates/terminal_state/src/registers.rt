@@ -5,8 +5,9 @@ ghost use Rattle.terminal_state.specs.inner.Ended.{ending_of};
 ghost use Rattle.terminal_state.specs.inner.Registers.{power_up_registers, formed_from, error_from, done_from, status_from, flags_after, failed, started, keeping, carried, settled, reset_if};
 
 use crate::buses::OnBuses;
+use crate::decoded::Decoded;
 use crate::ended::{Ended, code_in, reports_kept};
-use bus_word::{Bus, Cell, Command, StatusParts, cell_of, mode};
+use bus_word::{Bus, Cell, Command, StatusParts, mode};
 use terminal_rules::Flag;
 
 /// A status word with no bit set but the address.
@@ -142,31 +143,30 @@ impl Registers {
 
     /// Takes a command that starts a message. `spares` says whether it spares the kept status.
     #[inline(always)]
-    pub fn start(&mut self, command: Command, spares: bool)
-        ensures registers { self.new ≡ started spares command self.old }
+    pub fn start(&mut self, decoded: &Decoded, spares: bool)
+        ensures registers { self.new ≡ started spares decoded.now.command self.old }
         ensures power_up { self.new.power_up ≡ self.old.power_up }
     {
-        if !matches!(cell_of(command), Some(Cell::OwnMode(mode::LAST_COMMAND))) {
-            self.last = command;
+        if !matches!(decoded.cell, Some(Cell::OwnMode(mode::LAST_COMMAND))) {
+            self.last = decoded.command;
         }
         if !spares {
             self.kept = NO_PARTS;
-            self.kept.broadcast = command.is_broadcast();
+            self.kept.broadcast = decoded.command.is_broadcast();
         }
     }
 
     /// Takes a gap on this bus that ended a message so, or ended none. `accept` says whether dynamic bus control is accepted,
-    /// `spares` whether the command of one that ended in error spares the kept status, and `begins` whether a reply begins.
+    /// `spares` whether the command of one that ended in error spares the kept status, and `resets` whether a reset acts.
     #[inline(always)]
-    pub fn settle(&mut self, bus: Bus, ended: &Ended, accept: bool, spares: bool, begins: bool)
-        ensures registers { (ds : List ℕ) → self.new ≡ settled accept spares bus begins (ending_of ended.now ds) self.old }
+    pub fn settle(&mut self, bus: Bus, ended: &Ended, accept: bool, spares: bool, resets: bool)
+        ensures registers { (ds : List ℕ) → self.new ≡ settled accept spares bus resets (ending_of ended.now ds) self.old }
         ensures power_up { self.new.power_up ≡ self.old.power_up }
     {
         match ended {
             Ended::Badly(command) => self.fail(*command, spares),
             _ => {
                 self.keep(ended, accept);
-                let resets = ended.resets_at_gap(begins);
                 self.carry_out(bus, resets, ended.done_code());
             }
         }

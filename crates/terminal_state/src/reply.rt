@@ -1,11 +1,12 @@
 //! The reply in progress.
-ghost use Rattle.std.specs.Prelude.{◌≡◌};
+ghost use Rattle.std.specs.Prelude.{◌≡◌, ◌≤◌, true};
 ghost use Rattle.terminal_rules.specs.Reply.{words_after_status};
+ghost use Rattle.terminal_state.specs.inner.Places.{has_place};
 
 mod steps;
 
 use bus_word::{Bus, Cell, mode};
-pub use steps::{advance, advance_by};
+pub use steps::{advance, advance_by, begin};
 
 /// A reply of which words are still to be sent.
 #[derive(Clone, Copy)]
@@ -18,6 +19,8 @@ pub struct Reply {
     /// How many data words follow the status. It is asked at each slot, and found once.
     pub count: u8,
     ghost counted: { count ≡ words_after_status cell },
+    ghost there: { has_place cell count ≡ true },
+    ghost within: { next ≤ count },
 }
 
 /// Tells how many data words follow the status.

@@ -17,12 +17,12 @@ use Rattle.bus_terminal.specs.declared.terminal.Terminal.{Terminal}
 use Rattle.terminal_rules.specs.History.{Replying, Ending}
 use Rattle.terminal_rules.specs.Buses.{same_bus}
 use Rattle.terminal_rules.specs.Open.{Idle, Collects, is_on}
-use Rattle.terminal_rules.specs.Starts.{is_for_terminal}
+use Rattle.terminal_rules.specs.Starts.{is_word_for}
 use Rattle.terminal_rules.specs.Reply.{reply_bus}
 use Rattle.terminal_rules.specs.Status.{spares, adds_error}
 use Rattle.terminal_rules.specs.Turn.{is_answered, done_cell}
 use Rattle.terminal_rules.specs.Out.{Sending, sending}
-use Rattle.terminal_state.specs.inner.Standing.{Words, word_leaves, entry_leaves, entry_fails, gap_leaves, gap_ends, fresh_in, starts_by}
+use Rattle.terminal_state.specs.inner.Standing.{Words, word_bits, word_leaves, entry_fails, gap_leaves, gap_ends, fresh_in, starts_by}
 use Rattle.terminal_state.specs.inner.Message.{standing_on}
 use Rattle.terminal_state.specs.inner.Registers.{failed_by, started, started_if, settled, reset_if}
 use Rattle.terminal_rules.specs.inner.Steps.{resets_at_gap, dropped_if, begun_if, sent_one, resets_next}
@@ -57,12 +57,12 @@ abbrev pub sends_from : ℕ → Registers → (ℕ → ℕ → ℕ) → Option R
 sends_from address r held None = None
 sends_from address r held (Some reply) = Some (next_sent_from address r held reply)
 
--- on which buses the run holds a word for the terminal, after a word
-abbrev pub heard_after_word : Description → Bus → Raw → OnBuses → OnBuses
-heard_after_word P b w heard = if is_for_terminal P w then with_bus b true heard else heard
+-- on which buses the run holds a word for the terminal, after a word or noise
+abbrev pub heard_after_word : Description → Bus → Option Raw → OnBuses → OnBuses
+heard_after_word P b w heard = if is_word_for P w then with_bus b true heard else heard
 
--- whether a word starts a message
-abbrev pub starts_in : {L : Type 0} → (L → Cell → Bool) → Terminal L → Bus → Raw → Bool
+-- whether a word or noise starts a message
+abbrev pub starts_in : {L : Type 0} → (L → Cell → Bool) → Terminal L → Bus → Option Raw → Bool
 starts_in is_legal t b w = starts_by (own_description is_legal t) w (on_bus b t.heard) (standing_on b t.in_progress)
 
 -- how a gap on this bus ends the message in progress
@@ -70,13 +70,13 @@ abbrev pub ends_at_gap : {L : Type 0} → (L → Cell → Bool) → Terminal L �
 ends_at_gap is_legal t b = gap_ends (own_description is_legal t) t.registers.flags.busy (standing_on b t.in_progress)
 
 -- whether a reply to it begins
-abbrev pub begins_at_gap : {L : Type 0} → (L → Cell → Bool) → Terminal L → Bus → Bool
-begins_at_gap is_legal t b = is_answered (on_bus b t.registers.off) (ends_at_gap is_legal t b)
+abbrev pub begins_in : {L : Type 0} → Terminal L → Bus → Ending → Bool
+begins_in t b x = is_answered (on_bus b t.registers.off) x
 
 -- what the message on this bus is to receive
 abbrev pub receives_from : Description → Option ℕ → Option Receiving
 receives_from P None = None
-receives_from P (Some c) = received_by P (cell_of c)
+receives_from P (Some c) = received_by P c (cell_of c)
 
 abbrev pub receives_in : {L : Type 0} → (L → Cell → Bool) → Terminal L → Bus → Option Receiving
 receives_in is_legal t b =
@@ -96,32 +96,27 @@ pub record TakesStart {L : Type 0} (is_legal : L → Cell → Bool) (b : Bus) (c
   pub reply : u.reply ≡ None
   pub held : u.held ≡ t.held
 
--- what a word that isn't ignored makes of a terminal t
-pub record TakesWord {L : Type 0} (is_legal : L → Cell → Bool) (b : Bus) (w : Raw) (t u : Terminal L) : Type 0 where
+-- what a word or noise that isn't ignored makes of a terminal t
+pub record TakesWord {L : Type 0} (is_legal : L → Cell → Bool) (b : Bus) (w : Option Raw) (t u : Terminal L) : Type 0 where
   pub setup : IsSameSetup is_legal t u
   pub heard : u.heard ≡ heard_after_word (own_description is_legal t) b w t.heard
   pub standing : (c : Bus) → standing_on c u.in_progress ≡ word_leaves t.settings.address (starts_in is_legal t b w) (same_bus c b) w (standing_on c t.in_progress)
-  pub registers : u.registers ≡ started_if (starts_in is_legal t b w) (spares (own_description is_legal t) w.bits) w.bits (failed_by (own_description is_legal t) (entry_fails (Some w) (standing_on b t.in_progress)) t.registers)
+  pub registers : u.registers ≡ started_if (starts_in is_legal t b w) (spares (own_description is_legal t) (word_bits w)) (word_bits w) (failed_by (own_description is_legal t) (entry_fails w (standing_on b t.in_progress)) t.registers)
   pub reply : shown_reply u.reply ≡ dropped_if (starts_in is_legal t b w) (shown_reply t.reply)
   pub held : u.held ≡ t.held
 
--- what noise makes of it
-pub record TakesNoise {L : Type 0} (is_legal : L → Cell → Bool) (b : Bus) (t u : Terminal L) : Type 0 where
-  pub setup : IsSameSetup is_legal t u
-  pub heard : u.heard ≡ t.heard
-  pub standing : (c : Bus) → standing_on c u.in_progress ≡ (if same_bus c b then entry_leaves t.settings.address None (standing_on c t.in_progress) else standing_on c t.in_progress)
-  pub registers : u.registers ≡ failed_by (own_description is_legal t) (entry_fails None (standing_on b t.in_progress)) t.registers
-  pub reply : u.reply ≡ t.reply
-  pub held : u.held ≡ t.held
-
--- what a gap makes of it that ends a message so, or none
-pub record TakesGap {L : Type 0} (is_legal : L → Cell → Bool) (b : Bus) (begins : Bool) (x : Ending) (t u : Terminal L) : Type 0 where
+-- what a gap that ends a message so, or none, makes of all of it but the message in progress
+pub record Settles {L : Type 0} (is_legal : L → Cell → Bool) (b : Bus) (x : Ending) (t u : Terminal L) : Type 0 where
   pub setup : IsSameSetup is_legal t u
   pub heard : u.heard ≡ with_bus b false t.heard
+  pub registers : u.registers ≡ settled t.settings.accept (adds_error (own_description is_legal t) x) b (resets_at_gap (begins_in t b x) x) x t.registers
+  pub reply : shown_reply u.reply ≡ begun_if (begins_in t b x) b (done_cell x) (shown_reply t.reply)
+  pub held : (s i : ℕ) → 1 ≤ s → s ≤ 30 → 1 ≤ i → i ≤ 32 → held_word u s i ≡ held_after t.held t.settings.wrap s i (resets_at_gap (begins_in t b x) x) x
+
+-- what a gap makes of it
+pub record TakesGap {L : Type 0} (is_legal : L → Cell → Bool) (b : Bus) (t u : Terminal L) : Type 0 where
   pub standing : (c : Bus) → standing_on c u.in_progress ≡ (if same_bus c b then gap_leaves (standing_on c t.in_progress) else standing_on c t.in_progress)
-  pub registers : u.registers ≡ settled t.settings.accept (adds_error (own_description is_legal t) x) b begins x t.registers
-  pub reply : shown_reply u.reply ≡ begun_if begins b (done_cell x) (shown_reply t.reply)
-  pub held : (s i : ℕ) → 1 ≤ s → s ≤ 30 → 1 ≤ i → i ≤ 32 → held_word u s i ≡ held_after t.held t.settings.wrap s i (resets_at_gap begins x) x
+  pub settles : Settles is_legal b (ends_at_gap is_legal t b) t u
 
 -- what a write of the subsystem makes of it
 pub record TakesWrite {L : Type 0} (is_legal : L → Cell → Bool) (place : Place) (v : ℕ) (t u : Terminal L) : Type 0 where

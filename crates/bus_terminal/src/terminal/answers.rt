@@ -9,7 +9,8 @@ impl<L: Legality> Terminal<L> {
     ghost use Rattle.std.specs.Prelude.{◌≡◌, true, Some};
     ghost use Rattle.terminal_rules.specs.Out.{hands, code_hands, handing_over, HandsReceived};
     ghost use Rattle.terminal_state.specs.inner.Ended.{ending_of};
-    ghost use Rattle.terminal_state.specs.inner.Replies.{shown_reply, has_place, can_send};
+    ghost use Rattle.terminal_state.specs.inner.Places.{has_place};
+    ghost use Rattle.terminal_state.specs.inner.Replies.{shown_reply, can_send};
     ghost use Rattle.bus_terminal.specs.inner.Terminal.{reply_word_from, sends_from};
     ghost use Rattle.bus_terminal.specs.Answer.{shown_answer, AreFew, IsSmall};
     ghost use Rattle.bus_terminal.specs.inner.Answer.{shown_sent, shown_hand};

@@ -2,12 +2,12 @@
 use super::Terminal;
 use crate::answer::Receiving;
 use bus_legal::Legality;
-use bus_word::{Bus, Cell, cell_of, is_allowed};
-use terminal_state::Ended;
+use bus_word::{Bus, Cell};
+use terminal_state::{Decoded, Ended};
 
 impl<L: Legality> Terminal<L> {
-    ghost use Rattle.std.specs.Prelude.{◌≡◌, ℕ, Some, None, ◌||◌, if◌then◌else◌, List, ◌∷◌, length};
-    ghost use Rattle.bus_word.specs.Cell.{cell_of};
+    ghost use Rattle.std.specs.Prelude.{◌≡◌, true, ℕ, Some, None, ◌||◌, if◌then◌else◌, List, ◌∷◌, length};
+    ghost use Rattle.bus_word.specs.Cell.{cell_of, is_allowed};
     ghost use Rattle.bus_legal.specs.Description.{Description};
     ghost use Rattle.terminal_rules.specs.declared.event.Event.{Event};
     ghost use Rattle.terminal_rules.specs.declared.event.Event.TheVariants.{Gap};
@@ -31,13 +31,13 @@ impl<L: Legality> Terminal<L> {
     pub fn take_received(&mut self, bus: Bus)
         ensures { (P : Description) (h : List Event) (it : Receiving) (ds : List ℕ) → receiving P h bus ≡ Some it → length ds ≡ it.count → StandsAt L.is_legal P h self.old → StandsAt L.is_legal P (Gap bus ∷ history_after (data_words_on bus ds) h) self.new }
     {
-        if let Some(command) = self.in_progress.fresh(bus) {
-            if let Some(cell) = cell_of(command) {
+        if let Some(decoded) = self.in_progress.fresh(bus) {
+            if let Some(cell) = decoded.cell {
                 match cell {
-                    Cell::OwnReceive(_, _) | Cell::BroadReceive(_, _) => self.settle(
-                        bus,
-                        &Ended::Done(command, cell),
-                    ),
+                    Cell::OwnReceive(_, _) | Cell::BroadReceive(_, _) => {
+                        self.in_progress.message = None;
+                        self.settle(bus, &Ended::Done(decoded.command, cell));
+                    }
                     _ => {}
                 }
             }
@@ -53,43 +53,44 @@ impl<L: Legality> Terminal<L> {
             return None;
         }
         match self.in_progress.fresh(bus) {
-            Some(command) => self.received_by(cell_of(command)),
+            Some(decoded) => self.received_by(decoded),
             None => None,
         }
     }
 
-    /// Tells what a command of this cell is to receive.
+    /// Tells what a command is to receive.
     #[inline(always)]
-    fn received_by(&self, cell: Option<Cell>) -> Option<Receiving>
-        ensures { result ≡ received_by (own_description L.is_legal self.now) cell }
+    fn received_by(&self, decoded: Decoded) -> Option<Receiving>
+        ensures { result ≡ received_by (own_description L.is_legal self.now) decoded.command (cell_of decoded.command) }
     {
-        match cell {
-            Some(Cell::OwnReceive(subaddress, count)) => self.unless_wrapped(
-                Cell::OwnReceive(subaddress, count),
+        match decoded.cell {
+            Some(Cell::OwnReceive(subaddress, n)) => self.unless_wrapped(
+                Cell::OwnReceive(subaddress, n),
                 Receiving {
                     broadcast: false,
                     subaddress,
-                    count,
+                    count: decoded.count,
                 },
             ),
-            Some(Cell::BroadReceive(subaddress, count)) => self.unless_wrapped(
-                Cell::BroadReceive(subaddress, count),
+            Some(Cell::BroadReceive(subaddress, n)) => self.unless_wrapped(
+                Cell::BroadReceive(subaddress, n),
                 Receiving {
                     broadcast: true,
                     subaddress,
-                    count,
+                    count: decoded.count,
                 },
             ),
             _ => None,
         }
     }
 
-    /// Gives what is received, if its cell is legal and its subaddress not that of wraparound.
+    /// Gives what is received, if its cell, which some command has, is legal and its subaddress not that of wraparound.
     #[inline(always)]
     fn unless_wrapped(&self, cell: Cell, it: Receiving) -> Option<Receiving>
+        requires { is_allowed cell ≡ true }
         ensures { result ≡ unless_wrapped (own_description L.is_legal self.now) cell it }
     {
-        if is_allowed(cell) && self.legality.legal(cell) && it.subaddress != self.settings.wrap {
+        if it.subaddress != self.settings.wrap && self.legality.legal(cell) {
             Some(it)
         } else {
             None

@@ -5,6 +5,7 @@ use Rattle.terminal_state.specs.declared.message.Collected.{Collected as InBuffe
 use Rattle.terminal_state.specs.declared.message.Collected.TheVariants as buffer
 use Rattle.terminal_state.specs.declared.message.Phase.{Phase}
 use Rattle.terminal_state.specs.declared.message.Phase.TheVariants as phase
+use Rattle.terminal_state.specs.declared.decoded.Decoded.{Decoded}
 use Rattle.terminal_state.specs.declared.message.Message.{Message}
 use Rattle.terminal_state.specs.declared.message.InProgress.{InProgress}
 use Rattle.terminal_state.specs.declared.message.GapEnd.{GapEnd as EndInBuffer}
@@ -25,7 +26,7 @@ standing_in c (phase.Resumes f) ds = Resumes c (collected_in f ds)
 
 abbrev pub standing_by : Bus → Option Message → List ℕ → Standing
 standing_by b None ds = Idle
-standing_by b (Some m) ds = if same_bus b m.bus then standing_in m.command m.phase ds else Idle
+standing_by b (Some m) ds = if same_bus b m.bus then standing_in m.decoded.command m.phase ds else Idle
 
 -- how the message on a bus stands
 abbrev pub standing_on : Bus → InProgress → Standing
@@ -34,10 +35,14 @@ standing_on b m = standing_by b m.message m.words.items
 -- the message in another phase, or none
 abbrev pub in_phase : Message → Option Phase → Option Message
 in_phase m None = None
-in_phase m (Some p) = Some (record { bus = m.bus; command = m.command; phase = p })
+in_phase m (Some p) = Some (record m { phase = p })
 
 -- the end that a gap makes, with the words that were collected
 abbrev pub gap_end_with : EndInBuffer → List ℕ → GapEnd
 gap_end_with end.NoEnd ds = NoEnd
 gap_end_with (end.InError c) ds = InError c
-gap_end_with (end.Complete c) ds = Complete c ds
+gap_end_with (end.Complete d) ds = Complete d.command ds
+
+abbrev pub command_in : Option Decoded → Option ℕ
+command_in None = None
+command_in (Some d) = Some d.command

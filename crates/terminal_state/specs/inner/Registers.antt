@@ -17,7 +17,7 @@ use Rattle.terminal_rules.specs.History.{Noted, Ending, Nothing, Badly, Illegal,
 use Rattle.terminal_rules.specs.Flags.{flag_set, flag_now}
 use Rattle.terminal_rules.specs.SinceReset.{switched, done_code, inhibited_now, off_now, vector_word_set, vector_now, bit_word_set, bit_now, recorded_by, last_now}
 use Rattle.terminal_rules.specs.Status.{no_parts, with_error_if, accepts, inhibited_after, reports_kept, spares, kept_by_start, later_or, adds_error, kept_now}
-use Rattle.terminal_rules.specs.inner.Steps.{reset_first, kept_after, unless_reset, resets_at_gap}
+use Rattle.terminal_rules.specs.inner.Steps.{reset_first, kept_after, unless_reset}
 
 -- what looking back over a noted history gives
 abbrev pub registers_now : Description → List Noted → Registers
@@ -149,10 +149,10 @@ carried c reset code r =
       kept = if reset then no_parts else r.kept;
     }
 
--- after a gap on bus b ended a message so, or none, by whether a reply begins
+-- after a gap on bus b ended a message so, or none, with a reset or without
 abbrev pub settled : Bool → Bool → Bus → Bool → Ending → Registers → Registers
-settled accept spares b begins (Badly c) r = failed spares c r
-settled accept spares b begins x r = carried b (resets_at_gap begins x) (done_code x) (keeping (status_from accept r x) r)
+settled accept spares b resets (Badly c) r = failed spares c r
+settled accept spares b resets x r = carried b resets (done_code x) (keeping (status_from accept r x) r)
 
 -- those of power-up with these flags, where there is a reset
 abbrev pub reset_if : Bool → Registers → Registers

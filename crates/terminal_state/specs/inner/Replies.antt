@@ -1,21 +1,15 @@
 -- The reply in progress, as the terminal holds it.
 use Rattle.std.specs.Prelude.{ℕ, zero, suc, Bool, true, ◌||◌, ◌==◌, Option, Some, None}
-use Rattle.bus_word.specs.declared.cell.Cell.{Cell}
-use Rattle.bus_word.specs.declared.cell.Cell.TheVariants.{OwnTransmit}
-use Rattle.bus_word.specs.Cell.{is_data_place}
 use Rattle.terminal_state.specs.declared.reply.Reply.{Reply}
 use Rattle.terminal_rules.specs.History.{Replying}
 use Rattle.terminal_rules.specs.inner.Steps.{sent_one}
+use Rattle.terminal_state.specs.inner.Places.{has_place}
 
 abbrev pub shown_reply : Option Reply → Option Replying
 shown_reply None = None
 shown_reply (Some r) = Some (record { bus = r.bus; cell = r.cell; number = r.next })
 
 -- the next word is there: the status, or a word of a place that can be read
-abbrev pub has_place : Option Cell → ℕ → Bool
-has_place (Some (OwnTransmit s n)) m = is_data_place s m
-has_place _ m = true
-
 abbrev pub can_send : Option Replying → Bool
 can_send None = true
 can_send (Some r) = (r.number == 0) || has_place r.cell r.number

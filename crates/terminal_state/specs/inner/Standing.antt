@@ -1,5 +1,5 @@
 -- What a terminal keeps of the message in progress on a bus: not its run, but what can still become of it.
-use Rattle.std.specs.Prelude.{ℕ, Bool, true, false, ◌&&◌, ◌==◌, nat_le, nat_lt, if◌then◌else◌, Option, Some, None, List, [], ◌∷◌, ◌++◌, length}
+use Rattle.std.specs.Prelude.{ℕ, Bool, false, ◌&&◌, ◌==◌, nat_le, nat_lt, if◌then◌else◌, Option, Some, None, List, [], ◌∷◌, ◌++◌, length}
 use Rattle.bus_word.specs.declared.word.Raw.{Raw}
 use Rattle.bus_word.specs.Command.{is_receive, is_broadcast, expected}
 use Rattle.bus_legal.specs.Description.{Description}
@@ -137,12 +137,17 @@ is_broadcast_receive (Some c) = is_receive c && is_broadcast c
 abbrev pub stands_fresh : Standing → Bool
 stands_fresh s = is_broadcast_receive (fresh_in s)
 
--- whether a word starts a message, from what is kept
-abbrev pub starts_by : Description → Raw → Bool → Standing → Bool
-starts_by P w heard s = starts_message P w heard (is_free s) (stands_fresh s)
+-- whether a word or noise starts a message, from what is kept
+abbrev pub starts_by : Description → Option Raw → Bool → Standing → Bool
+starts_by P None heard s = false
+starts_by P (Some w) heard s = starts_message P w heard (is_free s) (stands_fresh s)
 
--- what a word leaves, by whether it starts a message and whether it is on this bus
-abbrev pub word_leaves : ℕ → Bool → Bool → Raw → Standing → Standing
+abbrev pub word_bits : Option Raw → ℕ
+word_bits None = 0
+word_bits (Some w) = w.bits
+
+-- what a word or noise leaves, by whether it starts a message and whether it is on this bus
+abbrev pub word_leaves : ℕ → Bool → Bool → Option Raw → Standing → Standing
 word_leaves own starts here w s =
-    if starts then (if here then Collects w.bits (Words []) else Idle)
-    else (if here then entry_leaves own (Some w) s else s)
+    if starts then (if here then Collects (word_bits w) (Words []) else Idle)
+    else (if here then entry_leaves own w s else s)

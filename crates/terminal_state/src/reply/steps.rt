@@ -1,31 +1,35 @@
 //! How a reply begins and goes on.
-ghost use Rattle.std.specs.Prelude.{◌≡◌, Some};
+ghost use Rattle.std.specs.Prelude.{◌≡◌, true, Some};
+ghost use Rattle.terminal_state.specs.inner.Places.{can_reply};
 ghost use Rattle.terminal_state.specs.inner.Replies.{shown_reply, sent_many};
-ghost use Rattle.terminal_rules.specs.inner.Steps.{sent_one, resets_next};
+ghost use Rattle.terminal_rules.specs.inner.Steps.{begun_if, sent_one, resets_next};
 
 use super::{Reply, words_after_status};
 use bus_word::{Bus, Cell, mode};
 
 impl Reply {
-    /// Gives the reply on this bus to a message of this cell, where that was done. Its status is sent next.
-    #[inline(always)]
-    pub fn begun(bus: Bus, cell: Option<Cell>) -> Reply
-        ensures { shown_reply (Some result) ≡ Some (record { bus = bus; cell = cell; number = 0 }) }
-    {
-        Reply {
-            bus,
-            cell,
-            next: 0,
-            count: words_after_status(cell),
-        }
-    }
-
     /// Tells whether the next word is the status of a reset.
     #[inline(always)]
     pub fn resets(&self) -> bool
         ensures { result ≡ resets_next (shown_reply (Some self.now)) }
     {
         self.next == 0 && matches!(self.cell, Some(Cell::OwnMode(mode::RESET)))
+    }
+}
+
+/// Begins the reply on this bus to a message of this cell, where that was done, if one begins. Its status is sent next.
+#[inline(always)]
+pub fn begin(reply: &mut Option<Reply>, begins: bool, bus: Bus, cell: Option<Cell>)
+    requires { can_reply cell ≡ true }
+    ensures { shown_reply reply.new ≡ begun_if begins bus cell (shown_reply reply.old) }
+{
+    if begins {
+        *reply = Some(Reply {
+            bus,
+            cell,
+            next: 0,
+            count: words_after_status(cell),
+        });
     }
 }
 

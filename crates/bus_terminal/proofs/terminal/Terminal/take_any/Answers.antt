@@ -1,10 +1,10 @@
-use Rattle.std.proofs.Common.{sym, ◌∙◌}
-use Rattle.bus_terminal.proofs.StandsLaw.{noise_stands, gap_stands, slot_stands}
+use Rattle.std.proofs.Common.{None, sym, ◌∙◌}
+use Rattle.bus_terminal.proofs.StandsLaw.{word_stands, gap_stands, slot_stands}
 use Rattle.bus_terminal.proofs.terminal.Terminal.take_any.Goals as goal
 
 pub returns-then-not-replies_on : goal.returns-then-not-replies_on
 returns-then-not-replies_on g c P h s =
-    rw c.in-Noise.is (noise_stands g.L.Legality.is_legal P h c.in-Noise.bus c.args.self.now c.take_noise.new.self (sym c.replies_on.ensures ∙ c.if-not-replies_on.true) s c.take_noise.ensures)
+    rw c.in-Noise.is (word_stands g.L.Legality.is_legal P h c.in-Noise.bus None c.args.self.now c.take_noise.new.self (sym c.replies_on.ensures ∙ c.if-not-replies_on.true) s c.take_noise.ensures)
 
 pub returns-then-not-replies_on-2 : goal.returns-then-not-replies_on-2
 returns-then-not-replies_on-2 g c P h s =

@@ -1,4 +1,4 @@
-use Rattle.std.proofs.Common.{sym, ◌∙◌}
+use Rattle.std.proofs.Common.{Some, sym, ◌∙◌}
 use Rattle.bus_word.specs.declared.word.Kind.TheVariants.{Com, Dat}
 use Rattle.bus_word.specs.Word.{valid_word}
 use Rattle.bus_terminal.proofs.StandsLaw.{word_stands}
@@ -6,8 +6,8 @@ use Rattle.bus_terminal.proofs.terminal.Terminal.take_valid.Goals as goal
 
 pub returns-in-Com : goal.returns-in-Com
 returns-in-Com g c P h s = rw c.in-Com.is
-    (word_stands g.L.Legality.is_legal P h c.args.bus (valid_word Com c.args.bits) c.args.self.now c.take_command.new.self (sym c.replies_on.ensures ∙ c.if-replies_on.false) s c.take_command.ensures)
+    (word_stands g.L.Legality.is_legal P h c.args.bus (Some (valid_word Com c.args.bits)) c.args.self.now c.take_command.new.self (sym c.replies_on.ensures ∙ c.if-replies_on.false) s c.take_command.ensures)
 
 pub returns-in-Dat : goal.returns-in-Dat
 returns-in-Dat g c P h s = rw c.in-Dat.is
-    (word_stands g.L.Legality.is_legal P h c.args.bus (valid_word Dat c.args.bits) c.args.self.now c.take_data.new.self (sym c.replies_on.ensures ∙ c.if-replies_on.false) s c.take_data.ensures)
+    (word_stands g.L.Legality.is_legal P h c.args.bus (Some (valid_word Dat c.args.bits)) c.args.self.now c.take_data.new.self (sym c.replies_on.ensures ∙ c.if-replies_on.false) s c.take_data.ensures)

@@ -1,6 +1,7 @@
-use Rattle.std.proofs.Common.{◌≡◌, ◌-◌, Some, ap, ◌∙◌, arith}
+use Rattle.std.proofs.Common.{◌≡◌, ◌-◌, Some, ap, sym, ◌∙◌, arith}
 use Rattle.bus_word.specs.declared.cell.Cell.TheVariants.{OwnTransmit}
-use Rattle.bus_terminal.proofs.SlotsLaw.{of_reply, last_place, words_sent, words_counted}
+use Rattle.terminal_state.specs.inner.Places.{has_place}
+use Rattle.bus_terminal.proofs.SlotsLaw.{of_reply, words_sent, words_counted}
 use Rattle.bus_terminal.proofs.terminal.Terminal.words_to_send.Goals as goal
 
 pub returns-in-Some-OwnTransmit-clause-words : goal.returns-in-Some-OwnTransmit-clause-words
@@ -12,8 +13,9 @@ returns-in-Some-OwnTransmit-clause-words g c P h stands =
     let m = r.next - 1 in
     let cell : r.cell ≡ Some (OwnTransmit s c.in-Some-OwnTransmit.field-0-1) = c.in-Some-OwnTransmit.is ∙ ap Some (rw c.in-Some-OwnTransmit.is at c.in-Some-OwnTransmit.field-0-is) in
     let reply = of_reply t r s c.in-Some-OwnTransmit.field-0-1 c.in-Some.is cell c.if-reply-gt0.true in
-    words_sent is_legal P h t r.bus s r.count m c.words.result.now reply stands
-    (λ some. c.words.ensures.words (last_place is_legal P h t r.bus s r.count m reply some stands) (omega arith) (omega arith))
+    let last = sym (ap (λ cell. has_place cell r.count) cell) ∙ r.there in
+    words_sent is_legal P h t r.bus s r.count m c.words.result.now reply last stands
+    (λ some. c.words.ensures.words last (omega arith) (omega arith))
     (λ over. c.words.ensures.none (omega arith))
 
 pub returns-in-Some-OwnTransmit-clause-all : goal.returns-in-Some-OwnTransmit-clause-all
@@ -26,5 +28,5 @@ returns-in-Some-OwnTransmit-clause-all g c P h stands =
     let cell : r.cell ≡ Some (OwnTransmit s c.in-Some-OwnTransmit.field-0-1) = c.in-Some-OwnTransmit.is ∙ ap Some (rw c.in-Some-OwnTransmit.is at c.in-Some-OwnTransmit.field-0-is) in
     let reply = of_reply t r s c.in-Some-OwnTransmit.field-0-1 c.in-Some.is cell c.if-reply-gt0.true in
     words_counted is_legal P h t r.bus s r.count m c.words.result.now reply stands
-    (λ some. c.words.ensures.len (last_place is_legal P h t r.bus s r.count m reply some stands) (omega arith) (omega arith))
+    (λ some. c.words.ensures.len (sym (ap (λ cell. has_place cell r.count) cell) ∙ r.there) (omega arith) (omega arith))
     (λ over. c.words.ensures.none (omega arith))
