@@ -18,7 +18,7 @@ use Rattle.bus_script.specs.declared.fault.RunFault.{RunFault}
 use Rattle.script_lines.specs.Text.{NoLineFeed, EndsLine}
 use Rattle.bus_script.specs.Reading.{Reading, stops, nothing, ByFault}
 use Rattle.script_lines.specs.Transcript.{answer_text, text_at, transcript}
-use Rattle.bus_script.specs.Played.{Ran, Broke}
+use Rattle.bus_script.specs.Played.{Ran, StoppedReading, StoppedWriting}
 use Rattle.bus_script.proofs.FeedLaws.{ByFault-weaker}
 use Rattle.rt1553.specs.Engine.{Writes, StopsBy}
 
@@ -41,27 +41,26 @@ set_up_alike v setup P normal parts own reached h e =
     ∙ ap (λ D. out D h e) (reach-set_up_normal v setup normal parts ∙ reached)
     ∙ out-reach P h e small
 
-pub ran_writes : {L W : Type 0} (is_legal : L → Cell → Bool) (written : W → Option (List ℕ)) (P Q : Description) (t t' : Terminal L) (w w' : W) (text : List ℕ) (es : List Event) (r : Reading)
-    → StandsAt is_legal Q [] t → AnswersAlike Q P → Ran is_legal written t t' w w' text es r → Writes P text r (written w) (written w') es
-ran_writes is_legal written P Q t t' w w' text es r s alike ran = record {
+pub ran_writes : {L W : Type 0} (is_legal : L → Cell → Bool) (written : W → Option (List ℕ)) (P Q : Description) (a b : Terminal L × W) (text : List ℕ) (es : List Event) (r : Reading)
+    → StandsAt is_legal Q [] a.0 → AnswersAlike Q P → Ran is_legal written a b text es r → Writes P text r (written a.1) (written b.1) es
+ran_writes is_legal written P Q a b text es r s alike ran = record {
   says = ran.says;
-  wrote = subst (Appends (written w) (written w')) (transcripts_alike Q P alike [] es) (ran.plays.text Q [] s);
+  wrote = subst (Appends (written a.1) (written b.1)) (transcripts_alike Q P alike [] es) (ran.plays.wrote Q [] s);
 }
 
 -- what is known of a script that is not run to its end
-pub stopped : {L W : Type 0} (is_legal : L → Cell → Bool) (written : W → Option (List ℕ)) (P Q : Description) (t t' : Terminal L) (w w' : W) (left left' : Option (List ℕ)) (script : List ℕ) (f : RunFault)
-    → StandsAt is_legal Q [] t → AnswersAlike Q P
+pub stopped : {L W : Type 0} (is_legal : L → Cell → Bool) (written : W → Option (List ℕ)) (P Q : Description) (a b : Terminal L × W) (left left' : Option (List ℕ)) (script : List ℕ) (f : RunFault)
+    → StandsAt is_legal Q [] a.0 → AnswersAlike Q P
     → ByFault f
-    ((es : List Event) × Ran is_legal written t t' w w' script es (stops f))
-    ((es : List Event) × (whole : List ℕ) × (part : List ℕ) × Consumes left left' (whole ++ part) × EndsLine whole × NoLineFeed part
-    × Ran is_legal written t t' w w' whole es nothing)
-    ((es : List Event) × (e : Event) × (others : Reading) × Broke is_legal written t t' w w' script es e others)
-    → StopsBy P script left left' (written w) (written w') f
-stopped is_legal written P Q t t' w w' left left' script f s alike known =
+    ((es : List Event) × Ran is_legal written a b script es (stops f))
+    (StoppedReading is_legal written left left' a b)
+    (StoppedWriting is_legal written script a b)
+    → StopsBy P script left left' (written a.1) (written b.1) f
+stopped is_legal written P Q a b left left' script f s alike known =
     ByFault-weaker f
-    (λ k. (k.0, ran_writes is_legal written P Q t t' w w' script k.0 (stops f) s alike k.1))
-    (λ k. record { events = k.0; whole = k.1; part = k.2; read = k.3; ends = k.4; unfinished = k.5; writes = ran_writes is_legal written P Q t t' w w' k.1 k.0 nothing s alike k.6 })
-    (λ k. let text = k.3.plays.text Q [] s in record {
+    (λ k. (k.0, ran_writes is_legal written P Q a b script k.0 (stops f) s alike k.1))
+    (λ k. record { events = k.0; whole = k.1; part = k.2; read = k.3; ends = k.4; unfinished = k.5; writes = ran_writes is_legal written P Q a b k.1 k.0 nothing s alike k.6 })
+    (λ k. let text = k.3.plays.wrote Q [] s in record {
       events = k.0;
       event = k.1;
       others = k.2;
@@ -69,6 +68,6 @@ stopped is_legal written P Q t t' w w' left left' script f s alike known =
       more = text.1;
       says = k.3.says;
       splits = text.2 ∙ ap answer_text (alike (history_after k.0 []) k.1);
-      wrote = subst (λ x. Appends (written w) (written w') (x ++ text.0)) (transcripts_alike Q P alike [] k.0) text.3;
+      wrote = subst (λ x. Appends (written a.1) (written b.1) (x ++ text.0)) (transcripts_alike Q P alike [] k.0) text.3;
     })
     known

@@ -6,7 +6,6 @@ use Rattle.bus_legal.specs.Description.{Description}
 use Rattle.terminal_rules.specs.Past.{history_after}
 use Rattle.terminal_rules.specs.declared.event.Event.{Event}
 use Rattle.bus_script.specs.declared.fault.RunFault.{RunFault}
-use Rattle.script_lines.specs.Line.{meaning}
 use Rattle.script_lines.specs.Text.{lines_of, NoLineFeed, EndsLine}
 use Rattle.bus_script.specs.Reading.{Reading, reading, adds, stops, nothing, ByFault}
 use Rattle.script_lines.specs.Transcript.{transcript, text_at}
@@ -17,7 +16,7 @@ use Rattle.rt1553.specs.declared.fault.EngineFault.TheVariants.{Load, Script}
 
 -- the text says these events and then r, and just their transcript was written
 pub record Writes (P : Description) (text : List ℕ) (r : Reading) (old new : Option (List ℕ)) (es : List Event) : Type 0 where
-  pub says : reading meaning 0 (lines_of text) ≡ adds es r
+  pub says : reading 0 (lines_of text) ≡ adds es r
   pub wrote : Appends old new (transcript (text_at P) [] es)
 
 -- the script has no fault and n events, and just their transcript was written
@@ -47,7 +46,7 @@ pub record StopsWriting (P : Description) (script : List ℕ) (old new : Option 
   pub others : Reading
   pub part : List ℕ
   pub more : List ℕ
-  pub says : reading meaning 0 (lines_of script) ≡ adds (events ++ event ∷ []) others
+  pub says : reading 0 (lines_of script) ≡ adds (events ++ event ∷ []) others
   pub splits : part ++ more ≡ text_at P (history_after events []) event
   pub wrote : Appends old new (transcript (text_at P) [] events ++ part)
 

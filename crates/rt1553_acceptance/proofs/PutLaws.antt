@@ -12,7 +12,7 @@ use Rattle.terminal_exchanges.proofs.EventLaws.{exchange-append}
 use Rattle.bus_terminal.specs.declared.terminal.Terminal.{Terminal}
 use Rattle.bus_terminal.specs.Stands.{StandsAt}
 use Rattle.script_lines.specs.Transcript.{transcript}
-use Rattle.bus_script.specs.Playing.{Plays}
+use Rattle.bus_script.specs.Played.{Played}
 use Rattle.bus_script.proofs.PlayLaws.{after_append}
 use Rattle.rt1553_acceptance.specs.Text.{event_stated, comment_of, exchanges_stated}
 use Rattle.rt1553_acceptance.specs.inner.Fits.{AllFit}
@@ -62,22 +62,22 @@ Puts-trans {is_legal = is_legal} {written = written} {P = P} {t'' = t''} {w = w}
 
 -- a comment, and the events of its exchange
 pub Puts-one : {L W : Type 0} (is_legal : L → Cell → Bool) (written : W → Option (List ℕ)) (P : Description) (t t' : Terminal L) (w w' w'' : W) (x : Exchange)
-    → Appends (written w) (written w') (comment_of P x) → Plays (StandsAt is_legal) event_stated written t t' w' w'' (script_of (x ∷ []))
+    → Appends (written w) (written w') (comment_of P x) → Played is_legal event_stated written (t, w') (t', w'') (script_of (x ∷ []))
     → ((Q : Description) (h : List Event) → StandsAt is_legal Q h t → AllFit Q h (script_of (x ∷ []))) → Puts is_legal written P t t' w w'' (x ∷ [])
 unfolding exchanges_stated
 Puts-one is_legal written P t t' w w' w'' x comment plays fits = record {
   at = plays.at P;
   text = λ h s. subst (Appends (written w) (written w'')) (ap (λ text. comment_of P x ++ text) (sym (append-nil (transcript (event_stated P) h (script_of (x ∷ []))))))
-      (Appends-trans (written w) (written w') (written w'') (comment_of P x) (transcript (event_stated P) h (script_of (x ∷ []))) comment (plays.text P h s));
+      (Appends-trans (written w) (written w') (written w'') (comment_of P x) (transcript (event_stated P) h (script_of (x ∷ []))) comment (plays.wrote P h s));
   fit = fits P;
 }
 
 -- the same, where the exchange was played to its end
 pub Puts-events : {L W E : Type 0} (is_legal : L → Cell → Bool) (written : W → Option (List ℕ)) (P : Description) (t t' : Terminal L) (w w' w'' : W) (x : Exchange) (events : List Event) (r : Result Unit E)
-    → events ≡ script_of (x ∷ []) → Appends (written w) (written w') (comment_of P x) → OnOk r (Plays (StandsAt is_legal) event_stated written t t' w' w'' events)
+    → events ≡ script_of (x ∷ []) → Appends (written w) (written w') (comment_of P x) → OnOk r (Played is_legal event_stated written (t, w') (t', w'') events)
     → OnOk r ((Q : Description) (h : List Event) → StandsAt is_legal Q h t → AllFit Q h events) → OnOk r (Puts is_legal written P t t' w w'' (x ∷ []))
 Puts-events is_legal written P t t' w w' w'' x events (Ok u) is comment plays fits =
-    Puts-one is_legal written P t t' w w' w'' x comment (subst (Plays (StandsAt is_legal) event_stated written t t' w' w'') is plays)
+    Puts-one is_legal written P t t' w w' w'' x comment (subst (Played is_legal event_stated written (t, w') (t', w'')) is plays)
     (λ Q h s. subst (AllFit Q h) is (fits Q h s))
 Puts-events is_legal written P t t' w w' w'' x events (Err e) is comment plays fits = tt
 

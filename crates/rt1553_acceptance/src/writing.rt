@@ -8,7 +8,7 @@ ghost use Rattle.terminal_rules.specs.Out.{out};
 ghost use Rattle.terminal_exchanges.specs.Values.{exchange_in, IsShort};
 ghost use Rattle.terminal_complete_test.specs.CompleteTest.{tried};
 ghost use Rattle.bus_terminal.specs.Stands.{StandsAt};
-ghost use Rattle.bus_script.specs.Playing.{Plays};
+ghost use Rattle.bus_script.specs.Played.{Played};
 ghost use Rattle.rt1553_acceptance.specs.Text.{event_stated, comment_of, acceptance_text};
 ghost use Rattle.rt1553_acceptance.specs.Law.{IsAcceptanceTest};
 ghost use Rattle.rt1553_acceptance.specs.inner.Fits.{Fits, AllFit};
@@ -34,7 +34,7 @@ fn put_event<L: Legality, W: Sink>(
     terminal: &mut Terminal<L>,
     event: Event,
 ) -> Result<(), IoFailed>
-    ensures wrote { OnOk result (Plays (StandsAt L.is_legal) event_stated W.written terminal.old terminal.new sink.old sink.new (event ∷ [])) }
+    ensures wrote { OnOk result (Played L.is_legal event_stated W.written (terminal.old, sink.old) (terminal.new, sink.new) (event ∷ [])) }
     ensures fits { (P : Description) (h : List Event) → StandsAt L.is_legal P h terminal.old → Fits (out P h event) }
     ensures failed { W.has_failed sink.new ≡ (W.has_failed sink.old || not (is_ok result)) }
 {
@@ -50,7 +50,7 @@ fn put_events<L: Legality, W: Sink>(
     terminal: &mut Terminal<L>,
     events: &[Event],
 ) -> Result<(), IoFailed>
-    ensures wrote { OnOk result (Plays (StandsAt L.is_legal) event_stated W.written terminal.old terminal.new sink.old sink.new events.now) }
+    ensures wrote { OnOk result (Played L.is_legal event_stated W.written (terminal.old, sink.old) (terminal.new, sink.new) events.now) }
     ensures fits { OnOk result ((P : Description) (h : List Event) → StandsAt L.is_legal P h terminal.old → AllFit P h events.now) }
     ensures failed { W.has_failed sink.new ≡ (W.has_failed sink.old || not (is_ok result)) }
 {

@@ -17,7 +17,7 @@ use rt1553_tool::{read_word_line, toml_of};
 use rt1553_verify::verify;
 use std::test::Fail;
 use terminal_exchanges::{events_of, transmit};
-use terminal_state::{GapEnd, InProgress};
+use terminal_state::{Decoded, GapEnd, InProgress};
 
 #[test]
 fn words_of_the_bus(rt: HostRuntime) {
@@ -107,7 +107,7 @@ fn an_exchange(rt: HostRuntime) {
 #[test]
 fn a_message_in_progress(rt: HostRuntime) {
     let mut message = InProgress::none();
-    message.start(Bus::A, Command::of(0x0821));
+    message.start(Bus::A, Decoded::of(Command::of(0x0821)));
     message.follow(Bus::A, 1, Some(Raw::of(Kind::Dat, 0x1234)));
     let end = message.end_at_gap(Bus::A);
     assert!(rt; matches!(end, GapEnd::Complete(_)));

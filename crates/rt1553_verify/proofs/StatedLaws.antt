@@ -173,7 +173,7 @@ says-line n m latest line result e = first (after (codes "#> ") line) refl e
 
 -- the events of lines, behind the latest, are those that a run reads
 abbrev AreRead : ℕ → Latest → List (List ℕ) → List StatedEvent → Type 0
-AreRead n latest lines ss = (events : List Event) × (map (λ s. s.event) ss ≡ map (λ s. s.event) (ended latest) ++ events) × (reading meaning n lines ≡ adds events nothing)
+AreRead n latest lines ss = (events : List Event) × (map (λ s. s.event) ss ≡ map (λ s. s.event) (ended latest) ++ events) × (reading n lines ≡ adds events nothing)
 
 are_read : (n : ℕ) (latest : Latest) (lines : List (List ℕ)) (ss : List StatedEvent) → stated_by n latest lines ≡ Ok ss → AreRead n latest lines ss
 unfolding stated_by reading
@@ -193,7 +193,7 @@ are_read n latest (line ∷ lines) ss e = ⊎_elim (few (λ latest ss is. are_re
           ap (map (λ s. s.event)) all ∙ map-append (λ s. s.event) after.events others ∙ ap (λ xs. map (λ s. s.event) after.events ++ xs) p.1
               ∙ sym (append_assoc (map (λ s. s.event) after.events) (map (λ s. s.event) (ended after.latest)) p.0)
               ∙ ap (λ xs. xs ++ p.0) l.are ∙ append_assoc (map (λ s. s.event) (ended latest)) l.events p.0,
-          reading-line meaning n line lines few short ∙ l.means (reading meaning (n + 1) lines) ∙ ap (adds l.events) p.2 ∙ adds-adds l.events p.0 nothing,
+          reading-line n line lines few short ∙ l.means (reading (n + 1) lines) ∙ ap (adds l.events) p.2 ∙ adds-adds l.events p.0 nothing,
         )
 
     by_line : Later → (says : Result After StatedFault) → line_says (n + 1) latest line ≡ says → then_lines says (λ l. stated_by (n + 1) l lines) ≡ Ok ss
@@ -210,5 +210,5 @@ are_read n latest (line ∷ lines) ss e = ⊎_elim (few (λ latest ss is. are_re
     many : 1048576 ≤ n → AreRead n latest (line ∷ lines) ss
     many high = let no = sym (stated-too_long n latest line lines high) ∙ e in absurd (cc)
 
-pub stated-read : (script : List ℕ) (ss : List StatedEvent) → stated_by 0 None (lines_of script) ≡ Ok ss → reading meaning 0 (lines_of script) ≡ adds (map (λ s. s.event) ss) nothing
+pub stated-read : (script : List ℕ) (ss : List StatedEvent) → stated_by 0 None (lines_of script) ≡ Ok ss → reading 0 (lines_of script) ≡ adds (map (λ s. s.event) ss) nothing
 stated-read script ss e = let p = are_read 0 None (lines_of script) ss e in p.2 ∙ ap (λ es. adds es nothing) (sym p.1)

@@ -193,7 +193,7 @@ pub fn first_line(bytes: &[u8]) -> (&[u8], &[u8])
 pub fn read_stated(alloc: Global, script: &[u8]) -> Result<Vec<Stated>, StatedFault>
     ensures accepted { IfOk result (λ read. stated_in script.now ≡ Ok (map shown read.items)) }
     ensures refused { IfErr result (λ fault. fault ≢ StatedFault.Memory → stated_in script.now ≡ Err fault) }
-    ensures events { IfOk result (λ read. reading meaning 0 (lines_of script.now) ≡ adds (map (λ s. s.event) (map shown read.items)) nothing) }
+    ensures events { IfOk result (λ read. reading 0 (lines_of script.now) ≡ adds (map (λ s. s.event) (map shown read.items)) nothing) }
 {
     let mut read = Vec::new(alloc);
     let mut latest = None;
