@@ -1,7 +1,7 @@
 -- Laws of lines that stand first in some bytes, and of a chunk: they are played, one after another.
-use Rattle.std.proofs.Common.{ℕ, zero, Bool, ◌≡◌, ◌≢◌, ◌<◌, ◌≤◌, ◌+◌, ◌*◌, ◌-◌, List, [], ◌∷◌, ◌++◌, length, take, drop, get_or, drop-cons, length-append, refl, sym, ap, ◌∙◌, arith, append-nil, append_assoc, take-append-drop, suc, subst, zero-add, Option, Some, None, Ok}
+use Rattle.std.proofs.Common.{ℕ, zero, Bool, ◌≡◌, ◌≢◌, ◌<◌, ◌≤◌, ◌+◌, ◌*◌, List, [], ◌∷◌, ◌++◌, length, take, drop, get_or, drop-cons, length-append, refl, sym, ap, ◌∙◌, arith, append-nil, append_assoc, take-append-drop, suc, subst, zero-add, Option}
 use Rattle.std.proofs.lemmas.Grind.{common_steps}
-use Rattle.std.proofs.lemmas.List.{take_more, drop-drop}
+use Rattle.std.proofs.lemmas.List.{take_more}
 use Rattle.std.proofs.Math.Seq.{take-add}
 use Rattle.bus_word.specs.declared.cell.Cell.{Cell}
 use Rattle.terminal_rules.specs.declared.event.Event.{Event}

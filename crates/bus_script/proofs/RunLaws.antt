@@ -13,7 +13,7 @@ use Rattle.terminal_rules.specs.declared.event.Event.{Event}
 use Rattle.bus_script.specs.declared.fault.RunFault.{RunFault}
 use Rattle.bus_script.specs.declared.fault.RunFault.TheVariants.{Line, LongLine, TooLong, Read, Write}
 use Rattle.bus_script.specs.Fault.{is_of_script}
-use Rattle.script_lines.specs.Text.{lines_of, NoLineFeed, EndsLine}
+use Rattle.script_lines.specs.Text.{lines_of}
 use Rattle.bus_script.specs.Reading.{Reading, adds, stops, nothing, reading, ByFault}
 use Rattle.bus_word.specs.declared.cell.Cell.{Cell}
 use Rattle.bus_terminal.specs.declared.terminal.Terminal.{Terminal}

@@ -5,15 +5,13 @@ use Rattle.std.proofs.lemmas.Bool.Decides.{nat_tests}
 use Rattle.std.proofs.lemmas.List.{drop-drop, take-append-le}
 use Rattle.std.proofs.Math.Seq.{take-append-add}
 use Rattle.std.specs.Io.KnownBytes.{Appends}
-use Rattle.std.proofs.KnownBytes.{Appends-nil}
 use Rattle.bus_word.specs.declared.word.Bus.{Bus}
 use Rattle.bus_word.specs.declared.word.Kind.TheVariants.{Dat}
 use Rattle.bus_word.specs.declared.cell.Cell.{Cell}
 use Rattle.bus_legal.specs.Description.{Description}
 use Rattle.terminal_rules.specs.declared.event.Event.{Event}
 use Rattle.terminal_rules.specs.declared.event.Event.TheVariants.{Slot}
-use Rattle.terminal_rules.specs.Past.{past, history_after}
-use Rattle.terminal_rules.specs.Reply.{reply_now}
+use Rattle.terminal_rules.specs.Past.{history_after}
 use Rattle.terminal_rules.specs.Out.{Silence, sending, SendsWord, out}
 use Rattle.bus_terminal.specs.declared.terminal.Terminal.{Terminal}
 use Rattle.bus_terminal.specs.Stands.{StandsAt}
@@ -55,6 +53,7 @@ SlotsFirst-more bytes n fewer next k within = by_test (nat_le k n) refl
         let more : 5 * n + 5 ≡ 5 * (n + 1) = omega arith in
         subst (λ es. LinesFirst bytes (5 * (n + 1)) (n + 1) es) (slots-append n 1)
         (subst (λ i. LinesFirst bytes i (n + 1) (slots n ++ Slot ∷ [])) more (LinesFirst-more 4 Slot (omega arith) (fewer n (omega arith)) next))
+
     by_test : (t : Bool) → nat_le k n ≡ t → LinesFirst bytes (5 * k) k (slots k)
     by_test true e = fewer k (grind (arith, nat_tests, e))
     by_test false e = let same : n + 1 ≡ k = grind (arith, nat_tests, e) in subst (λ j. LinesFirst bytes (5 * j) j (slots j)) same last
@@ -119,26 +118,38 @@ cut-lines b (w ∷ words) n short = by_test (λ m within. cut-lines b words m wi
   where
     line : List ℕ
     line = data_text b w
+
     nine : length line ≡ 9
     nine = sent_length (sending b Dat w)
+
     later : (m : ℕ) → n ≡ 9 + m → Cut b words m → Cut b (w ∷ words) n
     later m is c =
         let next : n / 9 ≡ suc (m / 9) = omega (arith, is) in (
           omega (arith, next, c.0),
-          (c.1.0, c.1.1, c.1.2 ∙ ap (λ k. get_text k) (sym next), (ap (λ k. take k (line ++ flat_map (data_text b) words)) (is ∙ ap (λ k. k + m) (sym nine)) ∙ take-append-add line (flat_map (data_text b) words) m
-              ∙ ap (λ x. line ++ x) c.1.3 ∙ sym (append_assoc line (flat_map (data_text b) (take (m / 9) words)) c.1.0) ∙ ap (λ k. flat_map (data_text b) (take k (w ∷ words)) ++ c.1.0) (sym next))),
+          (
+            c.1.0,
+            c.1.1,
+            c.1.2 ∙ ap (λ k. get_text k) (sym next),
+            (ap (λ k. take k (line ++ flat_map (data_text b) words)) (is ∙ ap (λ k. k + m) (sym nine)) ∙ take-append-add line (flat_map (data_text b) words) m
+                ∙ ap (λ x. line ++ x) c.1.3 ∙ sym (append_assoc line (flat_map (data_text b) (take (m / 9) words)) c.1.0) ∙ ap (λ k. flat_map (data_text b) (take k (w ∷ words)) ++ c.1.0) (sym next)),
+          ),
         )
       where
         get_text : ℕ → List ℕ
         get_text k = data_text b (get_or (w ∷ words) k 0)
+
     by_test : ((m : ℕ) → m < length (flat_map (data_text b) words) → Cut b words m) → (t : Bool) → nat_lt n 9 ≡ t → Cut b (w ∷ words) n
     by_test others true e =
         let few : n < 9 = grind (arith, nat_tests, e) in
         let none : n / 9 ≡ 0 = omega (arith, few) in
         let within : n ≤ length line = omega (arith, few, nine) in (
           omega (arith, none),
-          (take n line, drop n line, take-append-drop n line ∙ ap (λ k. data_text b (get_or (w ∷ words) k 0)) (sym none),
-              (take-append-le n line (flat_map (data_text b) words) within ∙ ap (λ k. flat_map (data_text b) (take k (w ∷ words)) ++ take n line) (sym none))),
+          (
+            take n line,
+            drop n line,
+            take-append-drop n line ∙ ap (λ k. data_text b (get_or (w ∷ words) k 0)) (sym none),
+            (take-append-le n line (flat_map (data_text b) words) within ∙ ap (λ k. flat_map (data_text b) (take k (w ∷ words)) ++ take n line) (sym none)),
+          ),
         )
     by_test others false e =
         let many : 9 ≤ n = grind (arith, nat_tests, e) in

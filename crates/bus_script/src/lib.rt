@@ -11,7 +11,9 @@ mod receiving;
 mod run;
 mod sending;
 
-pub use byte_streams::{FromRead, FromWrite, IoFailed, MemorySink, MemorySource, Sink, Source, write_all};
+pub use byte_streams::{
+    FromRead, FromWrite, IoFailed, MemorySink, MemorySource, Sink, Source, write_all,
+};
 pub use fault::RunFault;
 pub use run::run_script;
 pub use script_lines::{

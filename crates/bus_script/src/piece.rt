@@ -19,7 +19,11 @@ pub struct Piece {
 
 impl Piece {
     /// No line.
-    pub const NONE: Piece = Piece { bytes: 0, lines: 0, events: 0 };
+    pub const NONE: Piece = Piece {
+        bytes: 0,
+        lines: 0,
+        events: 0,
+    };
 
     /// So many lines of this length, their line feeds not counted, each with an event.
     #[inline(always)]

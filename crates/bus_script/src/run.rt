@@ -124,14 +124,28 @@ fn run_lines<L: Legality, R: Source, W: Sink>(
             break 'reads;
         }
         let total = buffered + count;
-        let done = match feed_lines(terminal, writer, &mut lines, &mut text, counts, &buffer[..total]) {
+        let done = match feed_lines(
+            terminal,
+            writer,
+            &mut lines,
+            &mut text,
+            counts,
+            &buffer[..total],
+        ) {
             Ok(done) => done,
             Err(fault) => return Err(fault),
         };
         move_to_front(&mut buffer, done, total);
         buffered = total - done;
     }
-    finish(terminal, writer, &mut lines, &mut text, counts, &buffer[..buffered])
+    finish(
+        terminal,
+        writer,
+        &mut lines,
+        &mut text,
+        counts,
+        &buffer[..buffered],
+    )
 }
 
 /// Says whether the script has the fault, and no device.

@@ -1,6 +1,5 @@
 -- What a sink does with bytes.
-use Rattle.std.specs.Prelude.{ℕ, Bool, true, ◌==◌, ◌&&◌, ◌≡◌, ◌<◌, nat_lt, List, ◌++◌, length, take, get_or, Option, Result, Ok, Err}
-use Rattle.std.specs.List.{flat_map}
+use Rattle.std.specs.Prelude.{ℕ, Bool, true, ◌==◌, ◌&&◌, ◌≡◌, nat_lt, List, ◌++◌, Option, Result, Ok, Err}
 use Rattle.std.specs.Io.KnownBytes.{Appends}
 
 -- a write fails: it answers an error, or takes none of a piece that has some

@@ -1,5 +1,5 @@
 -- Laws of hexadecimal digits: they are ASCII, and a word is read by pairs or by the values of its digits.
-use Rattle.std.proofs.Common.{◌≡◌, ◌≢◌, ℕ, zero, suc, ◌<◌, ◌≤◌, ◌+◌, ◌*◌, ◌/◌, ◌%◌, ◌^◌, nat_lt, List, [], ◌∷◌, Bool, true, false, ◌==◌, Option, Some, None, Ok, option_map, slice_index, replicate, lit<, refl, sym, ap, ◌∙◌, arith, zero-add, length, get_or, set, subst}
+use Rattle.std.proofs.Common.{◌≡◌, ◌≢◌, ℕ, zero, suc, ◌<◌, ◌+◌, ◌*◌, ◌/◌, ◌%◌, ◌^◌, nat_lt, List, [], ◌∷◌, Bool, true, false, ◌==◌, Option, Some, None, Ok, option_map, slice_index, replicate, lit<, refl, sym, ap, ◌∙◌, arith, zero-add, length, get_or, set, subst}
 use Rattle.std.specs.List.{list_all, range_with_len}
 use Rattle.std.specs.Int.Bits.{bit_or}
 use Rattle.std.proofs.lemmas.List.{get_or-replicate, get_or-set_same, get_or-set_other}
@@ -156,12 +156,16 @@ small_digits a b c d p q r s ka kb kc kd e f g h =
   where
     word : ℕ
     word = p * 4096 + q * 256 + r * 16 + s
+
     first : word / 256 / 16 ≡ p
     first = omega (arith, digit_small a p e, digit_small b q f, digit_small c r g, digit_small d s h)
+
     second : word / 256 % 16 ≡ q
     second = omega (arith, digit_small a p e, digit_small b q f, digit_small c r g, digit_small d s h)
+
     third : word % 256 / 16 ≡ r
     third = omega (arith, digit_small a p e, digit_small b q f, digit_small c r g, digit_small d s h)
+
     fourth : word % 256 % 16 ≡ s
     fourth = omega (arith, digit_small a p e, digit_small b q f, digit_small c r g, digit_small d s h)
 
@@ -173,6 +177,7 @@ small_ascii a b c d p q r s ka kb kc kd e f g h i = at i
   where
     below : (b v : ℕ) → b < 256 → hex_digit_value b ≡ Some v → bit_or b 32 < 128
     below b v k is = subst (λ n. n < 128) (small_digit b v k is) (ascii_at lower_digits refl v)
+
     at : (i : ℕ) → slice_index (bit_or a 32 ∷ bit_or b 32 ∷ bit_or c 32 ∷ bit_or d 32 ∷ []) i < 128
     at zero = below a p ka e
     at (suc zero) = below b q kb f

@@ -1,5 +1,5 @@
 -- Laws of lines: the first line of a text, and the rest.
-use Rattle.std.proofs.Common.{ℕ, zero, suc, ◌≡◌, ◌≢◌, ◌<◌, ◌≤◌, ◌+◌, Option, Some, None, IfSome, option_map, Ok, codes, if◌then◌else◌, subst, List, [], ◌∷◌, ◌++◌, length, get_or, take, drop, drop-cons, length-take, take-append-drop, get_or-take, refl, sym, ap, ◌∙◌, arith, Bool, true, false, ◌==◌}
+use Rattle.std.proofs.Common.{ℕ, zero, suc, ◌≡◌, ◌≢◌, ◌<◌, ◌+◌, Option, Some, None, IfSome, option_map, Ok, codes, if◌then◌else◌, subst, List, [], ◌∷◌, ◌++◌, length, get_or, take, drop, drop-cons, length-take, take-append-drop, get_or-take, refl, sym, ap, ◌∙◌, arith, Bool, true, false, ◌==◌}
 use Rattle.std.proofs.lemmas.Grind.{common_steps}
 use Rattle.std.proofs.lemmas.Bool.Decides.{nat_tests}
 use Rattle.std.proofs.lemmas.List.{take_more}
@@ -125,6 +125,7 @@ bus_line b s rest bus e is says = (λ x. cc (sym is ∙ ap (λ y. bus_first (y �
         by_space : (t : Bool) → (if t then bus_of b else None) ≡ None
         by_space true = none
         by_space false = refl
+
     by_test : (t : Bool) → (b == 35) ≡ t → meaning (b ∷ s ∷ rest) ≡ Ok (Some e)
     by_test true x = let hash : b ≡ 35 = grind (arith, nat_tests, x) in cc (sym is ∙ ap (λ y. bus_first (y ∷ s ∷ rest)) hash ∙ none_of 35 s refl)
     by_test false x =
@@ -148,7 +149,7 @@ begins_with_word bytes bus e within feed is says none =
     let long : length (take 6 (drop 2 bytes)) ≡ 6 = grind (arith, common_steps) in
     begins_on_bus bytes 6 bus e within feed is
     (ap (λ t. if t then Some (Gap bus) else if bytes_eq (take 6 (drop 2 bytes)) (codes "noise") then Some (Noise bus) else word_on bus (take 6 (drop 2 bytes)))
-        (other_length (take 6 (drop 2 bytes)) (codes "gap") (λ x. cc (sym long ∙ x)))
+    (other_length (take 6 (drop 2 bytes)) (codes "gap") (λ x. cc (sym long ∙ x)))
     ∙ ap (λ t. if t then Some (Noise bus) else word_on bus (take 6 (drop 2 bytes))) (other_length (take 6 (drop 2 bytes)) (codes "noise") (λ x. cc (sym long ∙ x)))
     ∙ says)
     none
@@ -160,10 +161,14 @@ begins_with_gap bytes bus within feed gap is =
     begins_on_bus bytes 3 bus (Gap bus) within feed is (ap (λ t. if t then Some (Gap bus) else if bytes_eq (take 3 (drop 2 bytes)) (codes "noise") then Some (Noise bus) else word_on bus (take 3 (drop 2 bytes))) gap)
     (subst NoLineFeed (sym same) (λ x. cc x, (λ x. cc x, (λ x. cc x, tt))))
 
-pub begins_with_slot : (bytes : List ℕ) → 4 < length bytes → get_or bytes 4 0 ≡ 10 → bytes_eq (take 4 bytes) (codes "slot") ≡ true → BeginsWith bytes 4 Slot
+pub begins_with_slot : (bytes : List ℕ) → 4 < length bytes → get_or bytes 4 0 ≡ 10
+    → get_or bytes 0 0 ∷ get_or bytes 1 0 ∷ get_or bytes 2 0 ∷ get_or bytes 3 0 ∷ [] ≡ codes "slot" → BeginsWith bytes 4 Slot
 unfolding meaning
-begins_with_slot bytes within feed slot =
-    let same : take 4 bytes ≡ codes "slot" = (bytes_eq-Decides (take 4 bytes) (codes "slot")).0 slot in
+begins_with_slot [] within feed same = absurd (omega (arith, within))
+begins_with_slot (a ∷ []) within feed same = absurd (omega (arith, within))
+begins_with_slot (a ∷ b ∷ []) within feed same = absurd (omega (arith, within))
+begins_with_slot (a ∷ b ∷ c ∷ []) within feed same = absurd (omega (arith, within))
+begins_with_slot (a ∷ b ∷ c ∷ d ∷ rest) within feed same =
     record { within = within; line_feed = feed; one_line = subst NoLineFeed (sym same) (λ x. cc x, (λ x. cc x, (λ x. cc x, (λ x. cc x, tt)))); says = ap meaning same }
 
 -- a data word on this bus, by the four bytes before its digits
@@ -185,17 +190,22 @@ begins_with_data (a ∷ b ∷ c ∷ d ∷ e ∷ f ∷ g ∷ h ∷ rest) bus w wi
   where
     bytes : List ℕ
     bytes = a ∷ b ∷ c ∷ d ∷ e ∷ f ∷ g ∷ h ∷ rest
+
     Leads : Bus → Type 0
     Leads bus = a ∷ b ∷ c ∷ d ∷ [] ≡ bus_letter bus ++ kind_text Dat
+
     on_bus : (bus : Bus) → Leads bus → bus_first bytes ≡ Some bus
     on_bus A lead = ap (λ xs. bus_first (take 2 xs)) lead
     on_bus B lead = ap (λ xs. bus_first (take 2 xs)) lead
+
     kind : (bus : Bus) → Leads bus → kind_of c ≡ Some Dat
     kind A lead = ap (λ xs. kind_of (get_or xs 2 0)) lead
     kind B lead = ap (λ xs. kind_of (get_or xs 2 0)) lead
+
     space : (bus : Bus) → Leads bus → d ≡ 32
     space A lead = ap (λ xs. get_or xs 3 0) lead
     space B lead = ap (λ xs. get_or xs 3 0) lead
+
     word : (bus : Bus) → Leads bus → word_on bus (c ∷ d ∷ e ∷ f ∷ g ∷ h ∷ []) ≡ (word_of (e ∷ f ∷ g ∷ h ∷ []) >>= λ bits. Some (Word bus (valid_word Dat bits)))
     word A lead = ap (λ xs. word_on A (get_or xs 2 0 ∷ get_or xs 3 0 ∷ e ∷ f ∷ g ∷ h ∷ [])) lead
     word B lead = ap (λ xs. word_on B (get_or xs 2 0 ∷ get_or xs 3 0 ∷ e ∷ f ∷ g ∷ h ∷ [])) lead

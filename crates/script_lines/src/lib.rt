@@ -3,8 +3,8 @@
 
 mod digits;
 mod event_line;
-mod line;
 mod known_digits;
+mod line;
 mod line_feed;
 mod transcript;
 mod usual;
@@ -13,5 +13,7 @@ pub use digits::{digits_of, push_number, push_word, read_word};
 pub use event_line::{flag_name, write_event};
 pub use line::{LineFault, LineReader, ValidWord, read_bus, read_event};
 pub use line_feed::find_line_feed;
-pub use transcript::{push_answer, push_data_words, push_field, push_received_by, received_by, write_answer};
+pub use transcript::{
+    push_answer, push_data_words, push_field, push_received_by, received_by, write_answer,
+};
 pub use usual::{GAP_LINE, SLOT_LINE, WORD_LINE, first_gap, is_slot_first};

@@ -25,14 +25,6 @@ pub(crate) fn is_gap(rest: &[u8]) -> bool
     matches!(rest, b"gap")
 }
 
-/// Whether this is the line of a slot.
-#[inline(always)]
-pub(crate) fn is_slot(line: &[u8]) -> bool
-    ensures { result ≡ bytes_eq line.now (codes "slot") }
-{
-    matches!(line, b"slot")
-}
-
 /// A word with the right parity.
 #[derive(Clone, Copy)]
 pub struct ValidWord {
@@ -217,7 +209,7 @@ impl LineReader {
         if let Some(bus) = read_bus(line) {
             return self.read_on_bus(bus, &line[2..]);
         }
-        if is_slot(line) {
+        if line == b"slot".as_slice() {
             return Some(Event::Slot);
         }
         self.read_subsystem(line)

@@ -103,7 +103,6 @@ pub fn push_received_by(text: &mut ArrayString<320>, broadcast: bool, subaddress
 }
 
 /// Writes the line of data words that were received.
-#[inline(always)]
 fn push_received(text: &mut ArrayString<320>, broadcast: bool, subaddress: u8, words: &[u16])
     requires { array_string_len text.old + (length (received_by broadcast) + (3 + 5 * length words.now)) ≤ 320 }
     ensures { text.new.bytes ≡ text.old.bytes ++ received_text broadcast subaddress words.now }
@@ -123,7 +122,8 @@ fn push_synchronize_with(text: &mut ArrayString<320>, word: u16)
     text.push_str("\n");
 }
 
-/// Writes the line of what was handed over.
+/// Writes the line of what was handed over. It stands apart, lest what takes events grow too large to be inlined.
+#[inline(never)]
 fn push_hand(text: &mut ArrayString<320>, hand: &Hand)
     requires { array_string_len text.old + length (hand_text (shown_handing hand.now)) ≤ 320 }
     ensures { text.new.bytes ≡ text.old.bytes ++ hand_text (shown_handing hand.now) }
@@ -141,7 +141,8 @@ fn push_hand(text: &mut ArrayString<320>, hand: &Hand)
     }
 }
 
-/// Writes the line of an answer behind what the text holds.
+/// Writes the line of an answer behind what the text holds. It is inlined: an answer that is handed on stands in memory.
+#[inline(always)]
 pub fn push_answer(text: &mut ArrayString<320>, answer: &Answer)
     requires { array_string_len text.old + length (answer_text (shown_answer answer.now)) ≤ 320 }
     ensures { text.new.bytes ≡ text.old.bytes ++ answer_text (shown_answer answer.now) }

@@ -9,7 +9,7 @@ ghost use Rattle.script_lines.specs.Transcript.{bus_letter};
 ghost use Rattle.script_lines.specs.EventLine.{kind_text};
 ghost use Rattle.script_lines.specs.Begins.{BeginsWith};
 
-use crate::line::{LineReader, ValidWord, is_gap, is_slot, read_bus};
+use crate::line::{LineReader, ValidWord, is_gap, read_bus};
 use bus_word::Bus;
 
 /// How long the line of a word with the right parity is, its line feed not counted.
@@ -90,7 +90,7 @@ pub fn is_slot_first(bytes: &[u8]) -> bool
     ensures { result ≡ true → BeginsWith bytes.now 4 Slot }
 {
     if bytes.len() > SLOT_LINE && bytes[SLOT_LINE] == b'\n' {
-        return is_slot(&bytes[..SLOT_LINE]);
+        return are([bytes[0], bytes[1], bytes[2], bytes[3]], *b"slot");
     }
     false
 }

@@ -19,18 +19,22 @@ lines-preserved g c =
     let starts = subst (λ xs. StartsLine c.lines.now.lines xs c.in-Ok-Some.len) same (rw c.in-Ok-Some.field-0-is at c.in-Ok-Some.ensures.ok) in
     let p = c.in-Ok-play_line.ensures.ok in
     let n = c.in-Ok-play_line.events in
-    let room = starts.room in
-    (c.lines.invariant.0 ++ p.0, Fed-piece 1 (record { bytes = c.in-Ok-Some.len + 1; lines = 1; events = n }) p.0 i
-        (LinePiece (drop c.lines.at c.args.chunk.now) c.lines.now.lines c.in-Ok-Some.len n p.0 starts p.1 c.in-Ok-play_line.ensures.few (subst (λ xs. Means (take c.in-Ok-Some.len xs) p.0) same p.2))
-        (omega (arith, room)) p.3)
+    let room = starts.room in (
+      c.lines.invariant.0 ++ p.0,
+      Fed-piece 1 (record { bytes = c.in-Ok-Some.len + 1; lines = 1; events = n }) p.0 i
+          (LinePiece (drop c.lines.at c.args.chunk.now) c.lines.now.lines c.in-Ok-Some.len n p.0 starts p.1 c.in-Ok-play_line.ensures.few (subst (λ xs. Means (take c.in-Ok-Some.len xs) p.0) same p.2))
+          (omega (arith, room)) p.3,
+    )
 
 pub returns-in-Err-clause-fault : goal.returns-in-Err-clause-fault
 returns-in-Err-clause-fault g c =
     let i = c.lines.invariant in
-    let most = 1048576 - c.lines.now.lines in
-    (c.in-Err.ensures.failed, Fed-part most i.1
-        (subst (λ xs. BreaksPiece g.L.Legality.is_legal g.W.Sink.written (c.lines.terminal, c.lines.writer) (c.play_usual.new.terminal, c.play_usual.new.writer) xs most) (from_there c.lines.at c.args.chunk.now) c.in-Err.ensures.err)
-        (omega (arith, i.1.counts.most)))
+    let most = 1048576 - c.lines.now.lines in (
+      c.in-Err.ensures.failed,
+      Fed-part most i.1
+          (subst (λ xs. BreaksPiece g.L.Legality.is_legal g.W.Sink.written (c.lines.terminal, c.lines.writer) (c.play_usual.new.terminal, c.play_usual.new.writer) xs most) (from_there c.lines.at c.args.chunk.now) c.in-Err.ensures.err)
+          (omega (arith, i.1.counts.most)),
+    )
 
 pub returns-in-Ok-None-clause-ok : goal.returns-in-Ok-None-clause-ok
 returns-in-Ok-None-clause-ok g c =
@@ -56,10 +60,17 @@ returns-in-Err-play_line-clause-fault g c =
     ByFault-weaker f
     (λ s. Fed-fault f i (Faults-first c.lines.now.lines (drop c.lines.at c.args.chunk.now) len f starts (subst (λ xs. IsRefused (take len xs) c.lines.now.lines f) same s.0)) s.1)
     (λ x. x)
-    (λ s. (s.2, Fed-part 1 i
-        ([], s.0, record { bytes = len + 1; lines = 1; events = 1 },
-        LinePiece (drop c.lines.at c.args.chunk.now) c.lines.now.lines len 1 (s.0 ∷ []) starts refl (omega arith) (subst (λ xs. Means (take len xs) (s.0 ∷ [])) same s.1), s.3)
-        (omega (arith, room))))
+    (λ s. (
+      s.2,
+      Fed-part 1 i (
+        [],
+        s.0,
+        record { bytes = len + 1; lines = 1; events = 1 },
+        LinePiece (drop c.lines.at c.args.chunk.now) c.lines.now.lines len 1 (s.0 ∷ []) starts refl (omega arith) (subst (λ xs. Means (take len xs) (s.0 ∷ [])) same s.1),
+        s.3,
+      )
+          (omega (arith, room)),
+    ))
     c.in-Err-play_line.ensures.fault
 
 pub lines-preserved-in-Ok : goal.lines-preserved-in-Ok

@@ -1,5 +1,4 @@
 use Rattle.std.proofs.Common.{◌<◌, ◌+◌, ℕ, [], length, take, drop, arith, sym, subst, length-take}
-use Rattle.std.proofs.lemmas.Grind.{common_steps}
 use Rattle.bus_script.specs.inner.Lines.{Faults}
 use Rattle.bus_script.specs.declared.fault.RunFault.TheVariants.{LongLine}
 use Rattle.script_lines.proofs.LineLaws.{found_line, no_line_feed}

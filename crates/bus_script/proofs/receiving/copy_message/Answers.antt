@@ -1,4 +1,4 @@
-use Rattle.std.proofs.Common.{◌+◌, ◌*◌, [], ◌∷◌, ◌++◌, drop, flat_map, ap, ◌∙◌, subst, arith}
+use Rattle.std.proofs.Common.{◌*◌, [], ◌∷◌, ◌++◌, flat_map, ap, ◌∙◌, subst, arith}
 use Rattle.terminal_rules.specs.declared.event.Event.TheVariants.{Gap}
 use Rattle.byte_streams.proofs.SinkLaws.{from_there}
 use Rattle.script_lines.specs.Begins.{BeginsWith}
@@ -17,6 +17,6 @@ returns c is =
       omega arith,
       LinesFirst-more 5 (Gap c.args.bus) (omega arith) w.2 gap,
       c.push_str.ensures.bytes
-      ∙ ap (λ x. x ++ 10 ∷ []) (w.3 ∙ ap (λ x. x ++ flat_map word_field w.0) (c.push_received_by.ensures.bytes ∙ ap (λ x. x ++ (received_by c.args.it.now.broadcast ++ decimal_digits c.args.it.now.subaddress)) c.clear.ensures))
-      ∙ message-text c.args.it.now.broadcast c.args.it.now.subaddress w.0,
+          ∙ ap (λ x. x ++ 10 ∷ []) (w.3 ∙ ap (λ x. x ++ flat_map word_field w.0) (c.push_received_by.ensures.bytes ∙ ap (λ x. x ++ (received_by c.args.it.now.broadcast ++ decimal_digits c.args.it.now.subaddress)) c.clear.ensures))
+          ∙ message-text c.args.it.now.broadcast c.args.it.now.subaddress w.0,
     )

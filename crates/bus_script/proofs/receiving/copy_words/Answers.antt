@@ -1,4 +1,4 @@
-use Rattle.std.proofs.Common.{[], ◌∷◌, ◌++◌, ◌+◌, drop, ap, ◌∙◌, subst, length-append, arith}
+use Rattle.std.proofs.Common.{[], ◌∷◌, ◌++◌, drop, ap, ◌∙◌, subst, length-append, arith}
 use Rattle.bus_word.specs.declared.word.Kind.TheVariants.{Dat}
 use Rattle.bus_word.specs.Word.{valid_word}
 use Rattle.terminal_rules.specs.declared.event.Event.TheVariants.{Word}

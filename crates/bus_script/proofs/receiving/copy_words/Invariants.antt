@@ -1,4 +1,4 @@
-use Rattle.std.proofs.Common.{ℕ, List, ◌≡◌, ◌≤◌, ◌+◌, ◌*◌, ◌++◌, length, drop, flat_map}
+use Rattle.std.proofs.Common.{ℕ, List, ◌≡◌, ◌+◌, ◌*◌, ◌++◌, length, drop, flat_map}
 use Rattle.arrayvec.specs.ArrayString.{array_string_len}
 use Rattle.bus_terminal.specs.Received.{data_words_on}
 use Rattle.script_lines.specs.Transcript.{word_field}

@@ -1,4 +1,4 @@
-use Rattle.std.proofs.Common.{sym, ◌∙◌, subst, arith}
+use Rattle.std.proofs.Common.{sym, subst, arith}
 use Rattle.bus_terminal.specs.Slots.{slots}
 use Rattle.bus_terminal.proofs.SlotsLaw.{slots_are_silent}
 use Rattle.bus_script.specs.inner.Pieces.{IsPiece}

@@ -1,4 +1,4 @@
-use Rattle.std.proofs.Common.{◌≡◌, ◌<◌, ◌≤◌, ◌+◌, ◌/◌, ◌∙◌, [], ◌∷◌, ◌++◌, length, take, flat_map, sym, ap, subst, arith}
+use Rattle.std.proofs.Common.{◌≡◌, ◌+◌, ◌/◌, ◌∙◌, length, take, sym, ap, subst, arith}
 use Rattle.std.proofs.lemmas.Grind.{common_steps}
 use Rattle.std.specs.Io.KnownBytes.{Appends}
 use Rattle.terminal_rules.specs.declared.event.Event.TheVariants.{Slot}
@@ -15,8 +15,8 @@ returns-then-written-lines-clause-err g c =
     let k = c.write_front-written.result in
     let lines = c.as_bytes-lines.ensures.value ∙ c.as_str.ensures.value ∙ s.3 in
     let cut = slots-break c.args.terminal.now c.take_slots.new.self c.args.writer.now c.write_front-written.new.writer s.0 s.1 n k s.2
-        (omega (arith, ap length lines)) s.4 c.take_slots.ensures
-        (subst (λ xs. Appends (g.W.Sink.written c.args.writer.now) (g.W.Sink.written c.write_front-written.new.writer) (take k xs)) lines c.write_front-written.ensures.bytes) in
+    (omega (arith, ap length lines)) s.4 c.take_slots.ensures
+    (subst (λ xs. Appends (g.W.Sink.written c.args.writer.now) (g.W.Sink.written c.write_front-written.new.writer) (take k xs)) lines c.write_front-written.ensures.bytes) in
     (slots (k / 9), Slot, _, SlotsPiece-last c.args.bytes.now c.args.most (k / 9) (omega (arith, cut.0, p.most)) (p.lines (k / 9 + 1) (omega (arith, cut.0))), cut.1)
 
 pub returns-clause-ok : goal.returns-clause-ok

@@ -1,4 +1,4 @@
-use Rattle.std.proofs.Common.{Some, None, Option, IfSome, ◌≡◌, sym, ◌∙◌, subst}
+use Rattle.std.proofs.Common.{Some, None, Option, IfSome, ◌≡◌, sym, ◌∙◌}
 use Rattle.bus_word.specs.declared.word.Bus.{Bus}
 use Rattle.terminal_rules.specs.declared.event.Event.TheVariants.{Gap}
 use Rattle.script_lines.specs.Begins.{BeginsWith}
