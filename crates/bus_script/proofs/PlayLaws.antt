@@ -10,7 +10,7 @@ use Rattle.bus_terminal.specs.declared.terminal.Terminal.{Terminal}
 use Rattle.bus_terminal.specs.Stands.{StandsAt, TakesEvent}
 use Rattle.byte_streams.specs.Device.{IsPartWritten}
 use Rattle.script_lines.specs.Transcript.{transcript, text_at}
-use Rattle.bus_script.specs.Played.{Text, Played, PlayedPart}
+use Rattle.bus_script.specs.Played.{TextAt, Played, PlayedPart}
 use Rattle.bus_script.specs.inner.Pieces.{Taken}
 
 pub after_append : (h es fs : List Event) → history_after (es ++ fs) h ≡ history_after fs (history_after es h)
@@ -28,7 +28,7 @@ pub transcript-one : (text : List Event → Event → List ℕ) (h : List Event)
 unfolding transcript
 transcript-one text h e = append-nil (text h e)
 
-module _ {L W : Type 0} {is_legal : L → Cell → Bool} {text : Text} {written : W → Option (List ℕ)} where
+module _ {L W : Type 0} {is_legal : L → Cell → Bool} {text : TextAt} {written : W → Option (List ℕ)} where
   pub Played-nil : (a : Terminal L × W) → Played is_legal text written a a []
   unfolding transcript
   Played-nil a = record { at = λ P h s. s; wrote = λ P h s. Appends-nil (written a.1) }

@@ -22,7 +22,7 @@ use Rattle.script_lines.proofs.TranscriptLaws.{sent_length}
 use Rattle.bus_script.specs.Played.{Played, PlayedPart}
 use Rattle.bus_script.specs.inner.Lines.{LinesFirst}
 use Rattle.bus_script.specs.inner.Pieces.{IsPiece, Taken}
-use Rattle.bus_script.proofs.FeedLaws.{LinesFirst-nil, LinesFirst-more}
+use Rattle.bus_script.proofs.FeedLaws.{LinesFirst-more}
 
 pub slots-append : (j k : ℕ) → slots j ++ slots k ≡ slots (j + k)
 slots-append zero k = grind (arith, common_steps)
@@ -38,10 +38,6 @@ slots-length zero = refl
 slots-length (suc k) = ap suc (slots-length k)
 
 -- ---- their lines
-
-pub SlotsFirst-nil : (bytes : List ℕ) (k : ℕ) → k ≤ 0 → LinesFirst bytes (5 * k) k (slots k)
-SlotsFirst-nil bytes zero none = LinesFirst-nil bytes
-SlotsFirst-nil bytes (suc k) none = absurd (omega arith)
 
 -- one slot more, and all fewer
 pub SlotsFirst-more : (bytes : List ℕ) (n : ℕ) → ((k : ℕ) → k ≤ n → LinesFirst bytes (5 * k) k (slots k)) → BeginsWith (drop (5 * n) bytes) 4 Slot

@@ -14,11 +14,11 @@ use Rattle.bus_script.specs.declared.fault.RunFault.{RunFault}
 use Rattle.bus_script.specs.Reading.{Reading, reading, adds, stops, nothing, ByFault}
 
 -- what is written at each event
-abbrev pub Text : Type 0
-Text = Description → List Event → Event → List ℕ
+abbrev pub TextAt : Type 0
+TextAt = Description → List Event → Event → List ℕ
 
 -- the terminal took these events, and just their texts were written
-pub record Played {L W : Type 0} (is_legal : L → Cell → Bool) (text : Text) (written : W → Option (List ℕ)) (a b : Terminal L × W) (es : List Event) : Type 0 where
+pub record Played {L W : Type 0} (is_legal : L → Cell → Bool) (text : TextAt) (written : W → Option (List ℕ)) (a b : Terminal L × W) (es : List Event) : Type 0 where
   pub at : (P : Description) (h : List Event) → StandsAt is_legal P h a.0 → StandsAt is_legal P (history_after es h) b.0
   pub wrote : (P : Description) (h : List Event) → StandsAt is_legal P h a.0 → Appends (written a.1) (written b.1) (transcript (text P) h es)
 

@@ -36,7 +36,7 @@ use Rattle.terminal_state.proofs.CollectedLaw.{expected-le, gap_ends_law, fresh_
 use Rattle.bus_terminal.specs.declared.answer.Receiving.{Receiving}
 use Rattle.bus_terminal.specs.declared.terminal.Terminal.{Terminal}
 use Rattle.bus_terminal.specs.Stands.{StandsAt, heard_on_buses}
-use Rattle.bus_terminal.specs.Received.{data_words_on, unless_wrapped, received_by, received_in, receiving, ReceivedIsHanded}
+use Rattle.bus_terminal.specs.Received.{data_words_on, unless_wrapped, receiving_by, receiving_in, receiving, ReceivedIsHanded}
 use Rattle.bus_terminal.specs.inner.Terminal.{receives_from, receives_in, ends_at_gap, Settles}
 use Rattle.terminal_rules.proofs.LatestLaw.{one_message_law}
 use Rattle.bus_terminal.proofs.StandsLaw.{entry_event, heard_word_law, standing_word_law, registers_word, reply_word, held_word_law, gap_stands}
@@ -109,7 +109,7 @@ record Begun (P : Description) (h : List Event) (b : Bus) (it : Receiving) : Typ
   free : flag_now (past P h) Busy ≡ false
   standing : standing_of P (open_now P (past P h) b) ≡ Collects command (Words [])
   is : cell_of command ≡ Some cell
-  receives : received_by P command (Some cell) ≡ Some it
+  receives : receiving_by P command (Some cell) ≡ Some it
   legal : P.legal cell ≡ true
   count : expected command ≡ it.count
   hands : (ds : List ℕ) → hands P (Done command cell ds) ≡ Some (HandsReceived it.broadcast it.subaddress ds)
@@ -132,7 +132,7 @@ none_wrapped false y o e = refl
 
 begun_at : (P : Description) (h : List Event) (b : Bus) (it : Receiving) (c : ℕ) (cell : Cell) (k : Bool) (s : ℕ) →
     replies_on (past P h) b ≡ false → flag_now (past P h) Busy ≡ false → standing_of P (open_now P (past P h) b) ≡ Collects c (Words []) → cell_of c ≡ Some cell →
-    received_by P c (Some cell) ≡ Some it → unless_wrapped P cell (record { broadcast = k; subaddress = s; count = expected c }) ≡ Some it →
+    receiving_by P c (Some cell) ≡ Some it → unless_wrapped P cell (record { broadcast = k; subaddress = s; count = expected c }) ≡ Some it →
     ((ds : List ℕ) → hands P (Done c cell ds) ≡ Some (HandsReceived k s ds)) →
     ((m i : ℕ) (ds : List ℕ) → wrapped P.wrap m i (Done c cell ds) ≡ wrapped_at P.wrap m i s ds) → Begun P h b it
 begun_at P h b it c cell k s silent free standing is receives e hand wrap =
@@ -152,7 +152,7 @@ begun_at P h b it c cell k s silent free standing is receives e hand wrap =
     }
 
 begun_cell : (P : Description) (h : List Event) (b : Bus) (it : Receiving) (c : ℕ) (o : Option Cell) → replies_on (past P h) b ≡ false → flag_now (past P h) Busy ≡ false →
-    standing_of P (open_now P (past P h) b) ≡ Collects c (Words []) → cell_of c ≡ o → received_by P c o ≡ Some it → Begun P h b it
+    standing_of P (open_now P (past P h) b) ≡ Collects c (Words []) → cell_of c ≡ o → receiving_by P c o ≡ Some it → Begun P h b it
 begun_cell P h b it c (Some (OwnReceive s n)) silent free standing is e = begun_at P h b it c (OwnReceive s n) false s silent free standing is e e (λ ds. refl) (λ m i ds. refl)
 begun_cell P h b it c (Some (BroadReceive s n)) silent free standing is e = begun_at P h b it c (BroadReceive s n) true s silent free standing is e e (λ ds. refl) (λ m i ds. refl)
 begun_cell P h b it c None silent free standing is e = cc
@@ -160,7 +160,7 @@ begun_cell P h b it c (Some (OwnTransmit s n)) silent free standing is e = cc
 begun_cell P h b it c (Some (OwnMode code)) silent free standing is e = cc
 begun_cell P h b it c (Some (BroadMode code)) silent free standing is e = cc
 
-begun_open : (P : Description) (o : Open) (it : Receiving) → received_in P o ≡ Some it → (c : ℕ) × (standing_of P o ≡ Collects c (Words [])) × (received_by P c (cell_of c) ≡ Some it)
+begun_open : (P : Description) (o : Open) (it : Receiving) → receiving_in P o ≡ Some it → (c : ℕ) × (standing_of P o ≡ Collects c (Words [])) × (receiving_by P c (cell_of c) ≡ Some it)
 begun_open P Idle it e = cc
 begun_open P (Collects c []) it e = (c, refl, e)
 begun_open P (Collects c (x ∷ xs)) it e = cc
@@ -201,7 +201,7 @@ received_is_handed P h b it ds e count =
     ∙ ap handing_over (s.hands ds))
 
 -- what a terminal tells from what it keeps
-received_opens : (P : Description) (o : Open) → receives_from P (fresh_open o) ≡ received_in P o
+received_opens : (P : Description) (o : Open) → receives_from P (fresh_open o) ≡ receiving_in P o
 received_opens P Idle = refl
 received_opens P (Collects c []) = refl
 received_opens P (Collects c (x ∷ xs)) = refl
@@ -242,18 +242,18 @@ leaves_none false c ds = refl
 
 -- a terminal that is to receive words keeps their command
 pub received_begins : {L : Type 0} (is_legal : L → Cell → Bool) (P : Description) (h : List Event) (b : Bus) (it : Receiving) (t : Terminal L) (r : Option Decoded) →
-    receiving P h b ≡ Some it → StandsAt is_legal P h t → command_in r ≡ fresh_in (standing_on b t.in_progress) → (d : Decoded) × (cell : Cell) × (r ≡ Some d) × (d.cell ≡ Some cell) × (received_by P d.command (Some cell) ≡ Some it)
+    receiving P h b ≡ Some it → StandsAt is_legal P h t → command_in r ≡ fresh_in (standing_on b t.in_progress) → (d : Decoded) × (cell : Cell) × (r ≡ Some d) × (d.cell ≡ Some cell) × (receiving_by P d.command (Some cell) ≡ Some it)
 received_begins is_legal P h b it t r e stands fresh =
     let s = begun P h b it e in by_command r s (fresh ∙ ap fresh_in (stands.standing b ∙ s.standing))
   where
     by_command : (r : Option Decoded) (s : Begun P h b it) → command_in r ≡ Some s.command →
-        (d : Decoded) × (cell : Cell) × (r ≡ Some d) × (d.cell ≡ Some cell) × (received_by P d.command (Some cell) ≡ Some it)
+        (d : Decoded) × (cell : Cell) × (r ≡ Some d) × (d.cell ≡ Some cell) × (receiving_by P d.command (Some cell) ≡ Some it)
     by_command None s f = cc
     by_command (Some d) s f =
         let same : d.command ≡ s.command = cc in
-        (d, s.cell, refl, d.of_command ∙ (ap cell_of same ∙ s.is), ap (λ c. received_by P c (Some s.cell)) same ∙ s.receives)
+        (d, s.cell, refl, d.of_command ∙ (ap cell_of same ∙ s.is), ap (λ c. receiving_by P c (Some s.cell)) same ∙ s.receives)
 
-pub receives_words : (P : Description) (c : ℕ) (it : Receiving) (cell : Cell) → received_by P c (Some cell) ≡ Some it →
+pub receives_words : (P : Description) (c : ℕ) (it : Receiving) (cell : Cell) → receiving_by P c (Some cell) ≡ Some it →
     ((x y : ℕ) → cell ≡ OwnReceive x y → ⊥) → ((x y : ℕ) → cell ≡ BroadReceive x y → ⊥) → ⊥
 receives_words P c it (OwnReceive s n) e own broad = own s n refl
 receives_words P c it (BroadReceive s n) e own broad = broad s n refl

@@ -27,22 +27,22 @@ abbrev pub unless_wrapped : Description → Cell → Receiving → Option Receiv
 unless_wrapped P cell it = if P.legal cell && not (it.subaddress == P.wrap) then Some it else None
 
 -- what command c is to receive, by its cell
-abbrev pub received_by : Description → ℕ → Option Cell → Option Receiving
-received_by P c (Some (OwnReceive s n)) = unless_wrapped P (OwnReceive s n) (record { broadcast = false; subaddress = s; count = expected c })
-received_by P c (Some (BroadReceive s n)) = unless_wrapped P (BroadReceive s n) (record { broadcast = true; subaddress = s; count = expected c })
-received_by P c _ = None
+abbrev pub receiving_by : Description → ℕ → Option Cell → Option Receiving
+receiving_by P c (Some (OwnReceive s n)) = unless_wrapped P (OwnReceive s n) (record { broadcast = false; subaddress = s; count = expected c })
+receiving_by P c (Some (BroadReceive s n)) = unless_wrapped P (BroadReceive s n) (record { broadcast = true; subaddress = s; count = expected c })
+receiving_by P c _ = None
 
 -- what a message is to receive whose command nothing has followed
-abbrev pub received_in : Description → Open → Option Receiving
-received_in P (Collects c []) = received_by P c (cell_of c)
-received_in P _ = None
+abbrev pub receiving_in : Description → Open → Option Receiving
+receiving_in P (Collects c []) = receiving_by P c (cell_of c)
+receiving_in P _ = None
 
 -- What a terminal is to receive on a bus, where it hears that bus and the busy flag is not set: by a message whose command nothing
 -- has followed.
 abbrev pub receiving : Description → List Event → Bus → Option Receiving
 receiving P h b =
     if is_on b (reply_bus (reply_now (past P h))) || flag_now (past P h) Busy then None
-    else received_in P (open_now P (past P h) b)
+    else receiving_in P (open_now P (past P h) b)
 
 -- with so many data words behind it the gap hands them over
 abbrev pub ReceivedIsHanded : Type 0

@@ -1,9 +1,8 @@
 -- Known bytes, over calls that are tried again and bytes that are buffered.
-use Rattle.std.proofs.Common.{ℕ, ◌≡◌, ◌+◌, ◌-◌, List, [], ◌∷◌, ◌++◌, length, take, drop, Option, Result, Ok, Err, sym, ap, ◌∙◌, arith, subst, append-nil, append_assoc, take-append-drop, drop-cons, flat_map, get_or, ◌<◌, OnErr}
-use Rattle.std.proofs.lemmas.Grind.{common_steps, flat_map-append}
+use Rattle.std.proofs.Common.{ℕ, ◌≡◌, ◌+◌, ◌-◌, List, [], ◌++◌, length, take, drop, Option, Result, Ok, Err, sym, ap, ◌∙◌, arith, subst, append-nil, take-append-drop}
+use Rattle.std.proofs.lemmas.Grind.{common_steps}
 use Rattle.std.proofs.Math.Seq.{take-add}
 use Rattle.std.proofs.KnownBytes.{Appends-trans, Keeps-trans, append_known-kept, append_known-moved, append_known-passed}
-use Rattle.byte_streams.specs.Device.{IsPartWritten}
 use Rattle.std.specs.Io.KnownBytes.{Keeps, Appends, WriteAppends, append_known}
 
 -- the value of `&bytes[at..]`
@@ -36,29 +35,3 @@ buffered-passed a b c buffered bytes (Err e) p none q = Keeps-trans a (append_kn
 
 pub drop-none : (n : ℕ) (xs : List ℕ) → xs ≡ [] → drop n xs ≡ []
 drop-none n xs none = grind (arith, common_steps)
-
--- a part of what comes first is a part of all
-pub part-of-first : (a b : Option (List ℕ)) (first rest : List ℕ) → IsPartWritten a b first → IsPartWritten a b (first ++ rest)
-part-of-first a b first rest p = (p.0, p.1 ++ rest, sym (append_assoc p.0 p.1 rest) ∙ ap (λ xs. xs ++ rest) p.2, p.3)
-
--- where all of what comes first was written, and a part of the rest
-pub part-of-rest : (a b c : Option (List ℕ)) (first rest : List ℕ) → Appends a b first → IsPartWritten b c rest → IsPartWritten a c (first ++ rest)
-part-of-rest a b c first rest p q = (first ++ q.0, q.1, append_assoc first q.0 q.1 ∙ ap (λ xs. first ++ xs) q.2, Appends-trans a b c first q.0 p q.3)
-
--- where those before were written whole, and a part of the text of one, as is said of a call that failed
-pub part-among : {A : Type 0} (text : A → List ℕ) (a b c : Option (List ℕ)) (xs : List A) (i : ℕ) (d : A) → i < length xs
-    → Appends a b (flat_map text (take i xs)) → IsPartWritten b c (text (get_or xs i d)) → IsPartWritten a c (flat_map text xs)
-part-among text a b c xs i d within p q =
-    subst (IsPartWritten a c) (among text xs i d within)
-    (part-of-rest a b c (flat_map text (take i xs)) (text (get_or xs i d) ++ flat_map text (drop (i + 1) xs)) p
-    (part-of-first b c (text (get_or xs i d)) (flat_map text (drop (i + 1) xs)) q))
-  where
-    among : {A : Type 0} (text : A → List ℕ) (xs : List A) (i : ℕ) (d : A) → i < length xs
-        → flat_map text (take i xs) ++ (text (get_or xs i d) ++ flat_map text (drop (i + 1) xs)) ≡ flat_map text xs
-    among text xs i d within =
-        sym (ap (flat_map text) (sym (take-append-drop i xs) ∙ ap (λ ys. take i xs ++ ys) (drop-cons xs i d within ∙ grind (arith, common_steps)))
-        ∙ flat_map-append text (take i xs) (get_or xs i d ∷ drop (i + 1) xs))
-
-pub on_err : {T E : Type 0} (r : Result T E) {P : Type 0} → P → OnErr r P
-on_err (Ok x) p = tt
-on_err (Err e) p = p

@@ -30,7 +30,7 @@ use Rattle.terminal_state.specs.inner.Buses.{on_bus, with_bus}
 use Rattle.terminal_state.specs.inner.Held.{held_after}
 use Rattle.terminal_state.specs.inner.Replies.{shown_reply}
 use Rattle.bus_terminal.specs.Stands.{own_description, held_word}
-use Rattle.bus_terminal.specs.Received.{received_by}
+use Rattle.bus_terminal.specs.Received.{receiving_by}
 
 -- the data word of an own mode code, from the registers
 abbrev pub code_word_from : Registers → ℕ → ℕ
@@ -76,7 +76,7 @@ begins_in t b x = is_answered (on_bus b t.registers.off) x
 -- what the message on this bus is to receive
 abbrev pub receives_from : Description → Option ℕ → Option Receiving
 receives_from P None = None
-receives_from P (Some c) = received_by P c (cell_of c)
+receives_from P (Some c) = receiving_by P c (cell_of c)
 
 abbrev pub receives_in : {L : Type 0} → (L → Cell → Bool) → Terminal L → Bus → Option Receiving
 receives_in is_legal t b =

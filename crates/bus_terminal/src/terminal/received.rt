@@ -14,7 +14,7 @@ impl<L: Legality> Terminal<L> {
     ghost use Rattle.terminal_rules.specs.Past.{history_after};
     ghost use Rattle.bus_terminal.specs.declared.answer.Receiving.{Receiving};
     ghost use Rattle.bus_terminal.specs.Stands.{StandsAt, own_description};
-    ghost use Rattle.bus_terminal.specs.Received.{data_words_on, unless_wrapped, received_by, receiving};
+    ghost use Rattle.bus_terminal.specs.Received.{data_words_on, unless_wrapped, receiving_by, receiving};
     ghost use Rattle.bus_terminal.specs.inner.Terminal.{receives_in};
 
     /// Tells what the message on this bus is to receive, if it has just started, is legal and its words are to be handed over
@@ -53,15 +53,15 @@ impl<L: Legality> Terminal<L> {
             return None;
         }
         match self.in_progress.fresh(bus) {
-            Some(decoded) => self.received_by(decoded),
+            Some(decoded) => self.receiving_by(decoded),
             None => None,
         }
     }
 
     /// Tells what a command is to receive.
     #[inline(always)]
-    fn received_by(&self, decoded: Decoded) -> Option<Receiving>
-        ensures { result ≡ received_by (own_description L.is_legal self.now) decoded.command (cell_of decoded.command) }
+    fn receiving_by(&self, decoded: Decoded) -> Option<Receiving>
+        ensures { result ≡ receiving_by (own_description L.is_legal self.now) decoded.command (cell_of decoded.command) }
     {
         match decoded.cell {
             Some(Cell::OwnReceive(subaddress, n)) => self.unless_wrapped(

@@ -1,5 +1,5 @@
 use Rattle.std.proofs.Common.{◌≡◌, Some, ap, sym, ◌∙◌}
-use Rattle.bus_terminal.specs.Received.{received_by}
+use Rattle.bus_terminal.specs.Received.{receiving_by}
 use Rattle.terminal_state.specs.inner.Message.{standing_on, command_in}
 use Rattle.bus_terminal.proofs.ReceivedLaw.{received_begins, receives_words, received_stands}
 use Rattle.bus_terminal.proofs.terminal.Terminal.take_received.Goals as goal
@@ -14,7 +14,7 @@ returns-in_default-cell-2 g c P h it ds e count s =
     let n = received_begins g.L.Legality.is_legal P h c.args.bus it c.args.self.now c.fresh.result e s c.fresh.ensures in
     let same : n.0 ≡ c.in-Some.decoded = cc (n.2, c.in-Some.is) in
     let cell : n.1 ≡ c.in-Some-cell.cell = cc (n.3, ap (λ d. d.cell) same, c.in-Some-cell.is) in
-    absurd (receives_words P c.in-Some.decoded.command it c.in-Some-cell.cell (sym (λ j. received_by P (same j).command (Some (cell j))) ∙ n.4) c.in_default-cell-2.not-OwnReceive c.in_default-cell-2.not-BroadReceive)
+    absurd (receives_words P c.in-Some.decoded.command it c.in-Some-cell.cell (sym (λ j. receiving_by P (same j).command (Some (cell j))) ∙ n.4) c.in_default-cell-2.not-OwnReceive c.in_default-cell-2.not-BroadReceive)
 
 pub returns-in_default-cell : goal.returns-in_default-cell
 returns-in_default-cell g c P h it ds e count s =

@@ -1,7 +1,7 @@
 use Rattle.std.proofs.Common.{ap, sym, ◌∙◌}
 use Rattle.bus_word.specs.Cell.{is_allowed}
 use Rattle.terminal_rules.proofs.CellLaw.{is_allowed-cell}
-use Rattle.bus_terminal.proofs.terminal.Terminal.received_by.Goals as goal
+use Rattle.bus_terminal.proofs.terminal.Terminal.receiving_by.Goals as goal
 
 pub unless_wrapped-requires : goal.unless_wrapped-requires
 unless_wrapped-requires g c =
