@@ -7,35 +7,27 @@ mod job;
 mod profile;
 mod terminal;
 mod toml;
+mod vectors;
 
 use fault::Fault;
 use job::{LONGEST_LINE, MOST_LINES};
-use std::arch::x86_64::*;
 use std::io::{Read, Write};
 use std::process::ExitCode;
-use terminal::whole::{place, Entry, Expects, Next, COMMANDS};
+use terminal::whole::{expected, place, Entry, Kind, Next, COMMANDS};
 use terminal::{Answer, Bus, Event, Flag, Hand, Terminal, Word};
+use vectors::{
+    are_slots, comments, copy_fields, copy_lines, count_slots, is_gap, is_slot, is_word,
+    length_of_line, Here, Room, FIELD, GAP_LINE, LETTERS, LONGEST_ANSWER, SLOT_LINE, WORD_LINE,
+};
 
 /// How many bytes are read and written at a time.
 const BLOCK: usize = 65_536;
 
-/// How many bytes of a script are looked at from a line on, at most: a message of 32 words, and a vector.
-const REACH: usize = 384;
-
-/// How many bytes are written at once, at most: a reply of 33 words, and a vector.
-const LONGEST_ANSWER: usize = 384;
-
-/// How many bytes a line of a word has, in a script and in a transcript.
-const WORD_LINE: usize = 9;
-
-/// How many bytes `slot` has, with its line feed.
-const SLOT_LINE: usize = 5;
-
-/// How many bytes the line of a gap has, with its line feed.
-const GAP_LINE: usize = 6;
-
 /// How many words a subaddress holds.
 const WORDS: usize = 32;
+
+/// How many lines are played at once, at most, but for runs of slots and comments: a message of 32 words with its slot.
+const MOST_AT_ONCE: u32 = WORDS as u32 + 3;
 
 fn main() -> ExitCode {
     job::work(play)
@@ -49,27 +41,39 @@ fn play(
     let mut player = Player {
         commands: terminal.commands(),
         printed: Printed::new(),
+        shown: terminal.shown(),
         terminal,
         transcript: Transcript {
             writer: transcript,
-            block: [0; BLOCK],
+            block: [0; BLOCK + LONGEST_ANSWER],
             length: 0,
         },
         lines: 0,
     };
     let result = player.play_blocks(script);
-    // what was answered before a fault stands
-    result.and(player.transcript.hand_on())
+    // what was answered before a fault stands, and where it can't be written, that is told
+    player.transcript.hand_on().and(result)
 }
 
 struct Player<'a> {
     terminal: Terminal,
     commands: Box<[Entry; COMMANDS]>,
     printed: Printed,
+    /// The status of a message to the own address that ends well, as the flags stand.
+    shown: u16,
     transcript: Transcript<'a>,
     /// How many lines were played.
     lines: u32,
 }
+
+/// The first four bytes of a line.
+const fn head(line: &[u8; 4]) -> u32 {
+    u32::from_le_bytes(*line)
+}
+
+const COMMANDS_BEGIN: [u32; 2] = [head(b"A c "), head(b"B c ")];
+const DATA_BEGIN: [u32; 2] = [head(b"A d "), head(b"B d ")];
+const SLOT_BEGINS: u32 = head(b"slot");
 
 impl Player<'_> {
     fn play_blocks(&mut self, script: &mut dyn Read) -> Result<(), Fault> {
@@ -96,160 +100,259 @@ impl Player<'_> {
     fn play_block(&mut self, block: &[u8], is_end: bool) -> Result<usize, Fault> {
         let mut at = 0;
         loop {
-            if block.len() - at >= REACH && MOST_LINES - self.lines > WORDS as u32 + 2 {
-                // a block is long enough here for all that is looked at
-                let here = block[at..].first_chunk().unwrap();
-                if let Some(length) = self.play_usual(here)? {
+            self.transcript.make_room()?;
+            let rest = &block[at..];
+            // what is looked at without asking where the block ends
+            if let Some(here) = rest.first_chunk() {
+                let length = self.play_usual(here, rest);
+                if length > 0 {
                     at += length;
                     continue;
                 }
             }
-            match self.play_line(&block[at..], is_end)? {
+            match self.play_line(rest, is_end)? {
                 Some(length) => at += length,
                 None => return Ok(at),
             }
         }
     }
 
-    /// Plays what stands here, if it is a comment, a run of slots, a whole message or a word, and says how many
-    /// bytes that has.
+    /// Plays what stands here, if it is a line of a word, a gap, slots or comments, and says how many bytes that has. A
+    /// command is played with its whole message and the slots of its reply.
     #[inline]
-    fn play_usual(&mut self, here: &[u8; REACH]) -> Result<Option<usize>, Fault> {
-        Ok(match here[0] {
-            b'#' => self.pass_comment(here),
-            b's' => self.play_slots(here)?,
-            b'A' => self.play_on_bus(here, Bus::A)?,
-            b'B' => self.play_on_bus(here, Bus::B)?,
-            _ => None,
-        })
-    }
-
-    fn pass_comment(&mut self, here: &[u8; REACH]) -> Option<usize> {
-        let feeds = (0..4).fold(0, |feeds, part| {
-            let equal = unsafe { _mm_cmpeq_epi8(vector(here, part * 16), _mm_set1_epi8(10)) };
-            feeds | u64::from(mask(equal)) << (part * 16)
-        });
-        let length = match feeds {
-            0 if here[LONGEST_LINE] == b'\n' => LONGEST_LINE,
-            0 => return None,
-            _ => feeds.trailing_zeros() as usize,
+    fn play_usual(&mut self, here: &Here, rest: &[u8]) -> usize {
+        if MOST_LINES - self.lines < MOST_AT_ONCE {
+            return 0;
+        }
+        let bus = match here[0] {
+            b'A' => Bus::A,
+            b'B' => Bus::B,
+            b's' => return self.play_slots(here, rest),
+            b'#' => return self.pass_comments(here, rest),
+            _ => return 0,
         };
-        self.lines += 1;
-        Some(length + 1)
-    }
-
-    fn play_on_bus(&mut self, here: &[u8; REACH], bus: Bus) -> Result<Option<usize>, Fault> {
-        let forms = &FORMS[bus as usize];
-        let is_command = forms.command.fits(here, 0);
-        if is_command || forms.data.fits(here, 0) {
-            let bits = bits_of([here[4], here[5], here[6], here[7]]);
-            if is_command && self.terminal.hears(bits) && self.terminal.is_free(bus) {
-                if let Some(length) = self.play_message(here, bus, bits)? {
-                    return Ok(Some(length));
-                }
-            }
-            let word = Word {
-                is_command,
-                bits,
-                is_valid: true,
-            };
-            self.terminal.step(Event::Word(bus, word));
+        let begin = head(here.first_chunk().unwrap());
+        if begin == COMMANDS_BEGIN[bus as usize] {
+            self.play_command(here, bus)
+        } else if begin == DATA_BEGIN[bus as usize] {
+            self.play_data(here, bus)
+        } else if is_gap(here, 0, bus) {
             self.lines += 1;
-            return Ok(Some(WORD_LINE));
+            self.play_event(Event::Gap(bus));
+            GAP_LINE
+        } else {
+            0
         }
-        Ok(None)
     }
 
-    /// Plays a whole message: a command, its data words and a gap.
     #[inline]
-    fn play_message(
-        &mut self,
-        here: &[u8; REACH],
-        bus: Bus,
-        bits: u16,
-    ) -> Result<Option<usize>, Fault> {
-        let entry = self.commands[place(bits)];
-        let count = match entry.expects {
-            Expects::Unknown => return Ok(None),
-            Expects::Nothing => 0,
-            Expects::Words(count) => usize::from(count),
-        };
-        let end = WORD_LINE * (1 + count);
-        if !is_gap(here, end, bus) {
-            return Ok(None);
+    fn play_command(&mut self, here: &Here, bus: Bus) -> usize {
+        if !is_word(here) {
+            return 0;
         }
-        let text = self.transcript.room()?;
-        let mut length = 0;
-        if count > 0 {
-            let head: &[u8] = if bits >> 11 == 31 {
-                b"hand receive broadcast "
+        let bits = word_of(here);
+        if self.terminal.is_free(bus) {
+            let length = if self.terminal.hears(bits) {
+                self.play_message(here, WORD_LINE, bus, bits)
             } else {
-                b"hand receive own "
+                self.pass_message(here, bus, bits)
             };
-            text[..head.len()].copy_from_slice(head);
-            length = head.len() + 2;
-            let subaddress = (bits >> 5 & 31) as u8;
-            text[length - 2] = b'0' + subaddress / 10;
-            text[length - 1] = b'0' + subaddress % 10;
-            let form = &FORMS[bus as usize].data;
-            let mut are_all = true;
-            for number in 0..count {
-                let at = WORD_LINE * (1 + number);
-                are_all &= form.fits(here, at);
-                copy_field(here, at, text, length);
-                length += 5;
+            if length > 0 {
+                return length;
             }
-            if !are_all {
-                return Ok(None);
-            }
-            text[length] = b'\n';
-            length += 1;
         }
-        match self.terminal.take_whole(bus, bits, entry) {
-            Answer::Silent => {}
-            Answer::Hands(Hand::Received { .. }) => self.transcript.length += length,
-            answer => self.transcript.put_answer(&answer)?,
+        self.play_word(bus, true, bits)
+    }
+
+    fn play_data(&mut self, here: &Here, bus: Bus) -> usize {
+        if !is_word(here) {
+            return 0;
+        }
+        if self.terminal.passes_data(bus) {
+            self.lines += 1;
+            return WORD_LINE;
+        }
+        if let Some(command) = self.terminal.collects(bus) {
+            let length = self.play_message(here, 0, bus, command);
+            if length > 0 {
+                return length;
+            }
+        }
+        self.play_word(bus, false, word_of(here))
+    }
+
+    /// Plays a valid word by itself.
+    fn play_word(&mut self, bus: Bus, is_command: bool, bits: u16) -> usize {
+        let word = Word {
+            is_command,
+            bits,
+            is_valid: true,
+        };
+        self.terminal.step(Event::Word(bus, word));
+        self.lines += 1;
+        WORD_LINE
+    }
+
+    /// Passes a whole message to another terminal, and says how many bytes it has, if one stands here.
+    fn pass_message(&mut self, here: &Here, bus: Bus, bits: u16) -> usize {
+        let count = expected(bits);
+        let gap = WORD_LINE * (1 + count);
+        if !is_gap(here, gap, bus) {
+            return 0;
+        }
+        if count > 0 && !copy_fields(here, WORD_LINE, count, bus, self.transcript.room(), 0) {
+            return 0;
         }
         self.lines += count as u32 + 2;
-        Ok(Some(end + GAP_LINE))
+        gap + GAP_LINE
     }
 
-    /// Plays slots, as far as the reply goes or as far as one looks.
-    fn play_slots(&mut self, here: &[u8; REACH]) -> Result<Option<usize>, Fault> {
-        let most = match self.terminal.next_words() {
-            Next::Event => return Ok(None),
-            Next::Nothing => WORDS,
-            Next::Held(_, _, next, count) => count + 1 - next,
-        };
-        let slots = count_slots(here, most);
-        if slots == 0 {
-            return Ok(None);
+    /// Plays the data words of a message from a place on, the gap after them and the slots of its reply, and says how many
+    /// bytes were played to their end, if they all stand here.
+    #[inline(always)]
+    fn play_message(&mut self, here: &Here, from: usize, bus: Bus, bits: u16) -> usize {
+        let entry = self.commands[place(bits)];
+        let count = usize::from(entry.expected);
+        let gap = from + WORD_LINE * count;
+        if !is_gap(here, gap, bus) || entry.kind == Kind::Events {
+            return 0;
         }
-        if let Next::Held(bus, subaddress, next, count) = self.terminal.next_words() {
-            let text = self.transcript.room()?;
-            let mut length = 0;
-            let mut first = next;
-            if next == 0 {
-                text[..WORD_LINE].copy_from_slice(&word_line(bus, b's', self.terminal.status()));
-                length = WORD_LINE;
-                first = 1;
+        let is_broadcast = bits >> 11 == 31;
+        let mut fields = 0;
+        if count > 0 {
+            let room = self.transcript.room();
+            fields = put_beginning(room, bits, is_broadcast);
+            if !copy_fields(here, from, count, bus, room, fields) {
+                return 0;
             }
-            let words = next + slots - first;
-            if words > 0 {
-                let lines = self.printed.lines(&self.terminal, bus, subaddress);
-                // whole vectors are copied: what comes behind the words is written over later
-                for start in (0..words * WORD_LINE).step_by(16) {
-                    let from = (first - 1) * WORD_LINE + start;
-                    let piece: [u8; 16] = *lines[from..].first_chunk().unwrap();
-                    text[length + start..length + start + 16].copy_from_slice(&piece);
+        }
+        let slots = gap + GAP_LINE;
+        self.lines += (from / WORD_LINE + count + 1) as u32;
+        let mut sent = 0;
+        match entry.kind {
+            Kind::Events | Kind::Mode => {
+                self.play_mode_code(bus, bits, fields);
+                return slots;
+            }
+            Kind::Status => self.terminal.take_message(bus, bits),
+            Kind::Illegal => {
+                self.terminal.take_message(bus, bits);
+                self.terminal.keep_error(self.shown, is_broadcast);
+            }
+            Kind::Transmit => {
+                self.terminal.take_message(bus, bits);
+                self.terminal.keep(self.shown, false);
+                if !self.terminal.is_busy() {
+                    sent = usize::from(entry.asked);
                 }
-                length += words * WORD_LINE;
             }
-            self.transcript.length += length;
-            self.terminal.go_on(next + slots, count);
+            Kind::Receive => {
+                self.terminal.take_message(bus, bits);
+                self.terminal.keep(self.shown, is_broadcast);
+                if !self.terminal.is_busy() {
+                    if entry.turns_round {
+                        self.turn_round(bits, fields, count);
+                    }
+                    let end = fields + count * FIELD;
+                    self.transcript.room()[end] = b'\n';
+                    self.transcript.length += end + 1;
+                }
+            }
         }
+        if is_broadcast || !self.terminal.can_send(bus) {
+            return slots;
+        }
+        if sent == 0 && is_slot(here, slots) {
+            self.put_status(bus);
+            self.lines += 1;
+            return slots + SLOT_LINE;
+        }
+        let subaddress = usize::from(bits >> 5 & 31);
+        if sent == 0 || !are_slots(here, slots, 1 + sent) {
+            self.terminal.begin_reply_of(bus, subaddress, sent);
+            return slots;
+        }
+        self.put_status(bus);
+        self.put_held(bus, subaddress, 0, sent);
+        self.lines += 1 + sent as u32;
+        slots + (1 + sent) * SLOT_LINE
+    }
+
+    /// Takes the whole message of a mode code, whose data word stands in the transcript's room if it has one.
+    fn play_mode_code(&mut self, bus: Bus, bits: u16, field: usize) {
+        let word = bits_of(*self.transcript.room()[field + 1..].first_chunk().unwrap());
+        let answer = self.terminal.take_mode_code(bus, bits, word);
+        self.transcript.put_answer(&answer);
+        self.shown = self.terminal.shown();
+    }
+
+    /// Holds the words of fields that stand in the transcript's room, to be sent.
+    fn turn_round(&mut self, bits: u16, fields: usize, count: usize) {
+        let subaddress = usize::from(bits >> 5 & 31);
+        for index in 0..count {
+            let digits = &self.transcript.room()[fields + index * FIELD + 1..];
+            let word = bits_of(*digits.first_chunk().unwrap());
+            self.terminal.hold(subaddress, index, word);
+        }
+        self.printed.is_known[subaddress] = false;
+    }
+
+    /// Writes the kept status.
+    #[inline]
+    fn put_status(&mut self, bus: Bus) {
+        let line = self.printed.status_line(bus, self.terminal.status());
+        self.transcript.room()[..WORD_LINE].copy_from_slice(line);
+        self.transcript.length += WORD_LINE;
+    }
+
+    /// Writes so many words that are held.
+    #[inline]
+    fn put_held(&mut self, bus: Bus, subaddress: usize, first: usize, count: usize) {
+        let lines = self.printed.lines(&self.terminal, bus, subaddress);
+        copy_lines(lines, first, count, self.transcript.room());
+        self.transcript.length += count * WORD_LINE;
+    }
+
+    /// Plays a slot, and those that follow: as far as the reply goes, or all that stay silent.
+    fn play_slots(&mut self, here: &Here, rest: &[u8]) -> usize {
+        if !is_slot(here, 0) {
+            return 0;
+        }
+        let slots = match self.terminal.next_words() {
+            Next::Nothing => count_slots(rest, (MOST_LINES - self.lines) as usize),
+            Next::Event => {
+                self.play_event(Event::Slot);
+                1
+            }
+            Next::Held(bus, subaddress, first, last) => {
+                let slots = count_slots(here, last + 1 - first);
+                if first == 0 {
+                    self.put_status(bus);
+                }
+                let (from, to) = (first.max(1), first + slots);
+                if from < to {
+                    self.put_held(bus, subaddress, from - 1, to - from);
+                }
+                self.terminal.go_on(to, last);
+                slots
+            }
+        };
         self.lines += slots as u32;
-        Ok(Some(slots * SLOT_LINE))
+        slots * SLOT_LINE
+    }
+
+    /// Passes a comment, and those that follow.
+    fn pass_comments(&mut self, here: &Here, rest: &[u8]) -> usize {
+        let Some(first) = length_of_line(here) else {
+            return 0;
+        };
+        self.lines += 1;
+        let (length, lines) = comments(&rest[first + 1..]);
+        if lines > MOST_LINES - self.lines {
+            return first + 1;
+        }
+        self.lines += lines;
+        first + 1 + length
     }
 
     /// Plays the next line, whatever it is, and says how many bytes it has; None where its end isn't there yet.
@@ -272,11 +375,11 @@ impl Player<'_> {
         if let [] | [b'#', ..] = line {
             return Ok(Some(length));
         }
-        self.play_event(read_event(line).ok_or(Fault::Line(number))?)?;
+        self.play_event(read_event(line).ok_or(Fault::Line(number))?);
         Ok(Some(length))
     }
 
-    fn play_event(&mut self, event: Event) -> Result<(), Fault> {
+    fn play_event(&mut self, event: Event) {
         match event {
             Event::Gap(_) | Event::Slot if self.terminal.may_change_held() => self.printed.forget(),
             Event::Write(subaddress, number, word) => {
@@ -285,15 +388,51 @@ impl Player<'_> {
             }
             _ => {}
         }
-        self.transcript.put_answer(&self.terminal.step(event))
+        self.transcript.put_answer(&self.terminal.step(event));
+        self.shown = self.terminal.shown();
     }
 }
 
-/// The words that are held, as lines of a transcript for each bus.
+/// The word of a line.
+#[inline]
+fn word_of(here: &Here) -> u16 {
+    bits_of(*here[4..].first_chunk().unwrap())
+}
+
+/// Two decimal digits of each subaddress.
+const DECIMALS: [[u8; 2]; 32] = {
+    let mut decimals = [[0; 2]; 32];
+    let mut number = 0;
+    while number < 32 {
+        decimals[number] = [b'0' + number as u8 / 10, b'0' + number as u8 % 10];
+        number += 1;
+    }
+    decimals
+};
+
+/// Writes how the line begins that hands words over, and says how many bytes that has.
+#[inline]
+fn put_beginning(room: &mut Room, bits: u16, is_broadcast: bool) -> usize {
+    // more is copied than is needed: pieces of one length are copied at once
+    let (text, length) = if is_broadcast {
+        (b"hand receive broadcast          ", 23)
+    } else {
+        (b"hand receive own                ", 17)
+    };
+    room[..32].copy_from_slice(text);
+    room[length..length + 2].copy_from_slice(&DECIMALS[usize::from(bits >> 5 & 31)]);
+    length + 2
+}
+
+/// Words as lines of a transcript.
 struct Printed {
+    /// The words that are held, for each bus.
     lines: Box<[[Lines; WORDS]; 2]>,
     /// Of which subaddresses the lines are those of the words.
     is_known: [bool; WORDS],
+    /// The line of a status word, for each bus.
+    status: [[u8; WORD_LINE]; 2],
+    status_word: u16,
 }
 
 /// The lines of a subaddress, and room for a vector behind them.
@@ -304,6 +443,8 @@ impl Printed {
         Printed {
             lines: Box::new([[[0; WORD_LINE * WORDS + 16]; WORDS]; 2]),
             is_known: [false; WORDS],
+            status: [Bus::A, Bus::B].map(|bus| word_line(bus, b's', 0)),
+            status_word: 0,
         }
     }
 
@@ -328,102 +469,15 @@ impl Printed {
         }
         &self.lines[bus as usize][subaddress]
     }
-}
 
-/// The form of a line of a word: what it has besides its digits.
-struct Form([u8; 16]);
-
-struct Forms {
-    command: Form,
-    data: Form,
-}
-
-const FORMS: [Forms; 2] = [Forms::of(b'A'), Forms::of(b'B')];
-
-impl Forms {
-    const fn of(bus: u8) -> Forms {
-        Forms {
-            command: Form::of(bus, b'c'),
-            data: Form::of(bus, b'd'),
-        }
-    }
-}
-
-impl Form {
-    const fn of(bus: u8, kind: u8) -> Form {
-        Form([
-            bus, b' ', kind, b' ', 0, 0, 0, 0, b'\n', 0, 0, 0, 0, 0, 0, 0,
-        ])
-    }
-
-    /// Whether a line of this form stands here.
     #[inline]
-    fn fits(&self, here: &[u8; REACH], at: usize) -> bool {
-        unsafe {
-            let line = vector(here, at);
-            let equal = _mm_cmpeq_epi8(line, vector(&self.0, 0));
-            let small = _mm_or_si128(line, _mm_set1_epi8(0x20));
-            let digits = _mm_or_si128(is_below(line, b'0', 10), is_below(small, b'a', 6));
-            mask(equal) & 0x10f | mask(digits) & 0x0f0 == 0x1ff
+    fn status_line(&mut self, bus: Bus, word: u16) -> &[u8; WORD_LINE] {
+        if word != self.status_word {
+            self.status = [Bus::A, Bus::B].map(|bus| word_line(bus, b's', word));
+            self.status_word = word;
         }
+        &self.status[bus as usize]
     }
-}
-
-/// In which bytes of a vector one of `count` bytes from `first` on stands.
-#[inline]
-unsafe fn is_below(bytes: __m128i, first: u8, count: u8) -> __m128i {
-    unsafe {
-        // bytes are compared as signed: `first` is moved to the least
-        let moved = _mm_add_epi8(bytes, _mm_set1_epi8(0x80u8.wrapping_sub(first) as i8));
-        _mm_cmplt_epi8(moved, _mm_set1_epi8(-128 + count as i8))
-    }
-}
-
-#[inline]
-fn vector(bytes: &[u8], at: usize) -> __m128i {
-    let bytes: &[u8; 16] = bytes[at..].first_chunk().unwrap();
-    unsafe { _mm_loadu_si128(bytes.as_ptr().cast()) }
-}
-
-#[inline]
-fn mask(bytes: __m128i) -> u32 {
-    unsafe { _mm_movemask_epi8(bytes) as u32 }
-}
-
-/// Copies the space and the digits of the line of a word, the digits small, and writes 3 bytes more.
-#[inline]
-fn copy_field(here: &[u8; REACH], at: usize, text: &mut [u8; LONGEST_ANSWER], to: usize) {
-    let field = u64::from_le_bytes(*here[at + 3..].first_chunk().unwrap());
-    text[to..to + 8].copy_from_slice(&(field | 0x2020_2020_2020_2020).to_le_bytes());
-}
-
-#[inline]
-fn is_gap(here: &[u8; REACH], at: usize, bus: Bus) -> bool {
-    let line: &[u8; GAP_LINE] = here[at..].first_chunk().unwrap();
-    match bus {
-        Bus::A => line == b"A gap\n",
-        Bus::B => line == b"B gap\n",
-    }
-}
-
-/// How many lines `slot` stand here, at most so many.
-#[inline]
-fn count_slots(here: &[u8; REACH], most: usize) -> usize {
-    let mut slots = 0;
-    while slots < most {
-        let equal = unsafe {
-            _mm_cmpeq_epi8(
-                vector(here, slots * SLOT_LINE),
-                vector(b"slot\nslot\nslot\n#", 0),
-            )
-        };
-        let in_vector = (!mask(equal)).trailing_zeros() as usize / SLOT_LINE;
-        slots += in_vector;
-        if in_vector < 3 {
-            break;
-        }
-    }
-    slots.min(most)
 }
 
 /// The event of a whole line of any form.
@@ -544,18 +598,14 @@ fn digits_of(word: u16) -> [u8; 4] {
 /// A line `A s XXXX` or `A d XXXX`.
 #[inline]
 fn word_line(bus: Bus, kind: u8, word: u16) -> [u8; WORD_LINE] {
-    let bus = match bus {
-        Bus::A => b'A',
-        Bus::B => b'B',
-    };
     let [a, b, c, d] = digits_of(word);
-    [bus, b' ', kind, b' ', a, b, c, d, b'\n']
+    [LETTERS[bus as usize], b' ', kind, b' ', a, b, c, d, b'\n']
 }
 
 /// The transcript, which is written in blocks.
 struct Transcript<'a> {
     writer: &'a mut dyn Write,
-    block: [u8; BLOCK],
+    block: [u8; BLOCK + LONGEST_ANSWER],
     length: usize,
 }
 
@@ -572,17 +622,22 @@ impl Transcript<'_> {
         self.writer.flush().map_err(|_| Fault::Output)
     }
 
-    /// Room for an answer.
+    /// Sees to it that there is room for an answer.
     #[inline]
-    fn room(&mut self) -> Result<&mut [u8; LONGEST_ANSWER], Fault> {
+    fn make_room(&mut self) -> Result<(), Fault> {
         if BLOCK - self.length < LONGEST_ANSWER {
             self.hand_on()?;
         }
-        Ok(self.block[self.length..].first_chunk_mut().unwrap())
+        Ok(())
     }
 
-    fn put_answer(&mut self, answer: &Answer) -> Result<(), Fault> {
-        self.room()?;
+    /// Where the next answer is written.
+    #[inline]
+    fn room(&mut self) -> &mut Room {
+        self.block[self.length..].first_chunk_mut().unwrap()
+    }
+
+    fn put_answer(&mut self, answer: &Answer) {
         match answer {
             Answer::Silent => {}
             Answer::Sends(sent) => {
@@ -591,7 +646,6 @@ impl Transcript<'_> {
             }
             Answer::Hands(hand) => self.put_hand(hand),
         }
-        Ok(())
     }
 
     fn put_hand(&mut self, hand: &Hand) {

@@ -1,29 +1,37 @@
 //! Whole messages at once, for the program `best`: what a command, its data words and the gap after them do to a
 //! terminal together. Each call does what the events do one by one.
 use super::{
-    code, AfterStatus, Answer, Bus, Command, Followed, Message, Phase, Reply, Terminal, BROADCAST,
-    WORDS,
+    code, status, AfterStatus, Answer, Bus, Command, Flag, Followed, Message, Phase, Reply,
+    Terminal, BROADCAST, WORDS,
 };
 
 /// How many commands are heard: 2,048 to the own address and as many to all.
 pub const COMMANDS: usize = 4096;
 
-/// What is to follow a command of a message that is taken at once.
+/// What a whole message is.
 #[derive(Clone, Copy, PartialEq, Eq)]
-pub enum Expects {
-    /// The command isn't heard, or its message is taken event by event: words are to be kept as numbers.
-    Unknown,
-    /// So many data words, which are handed over.
-    Words(u8),
-    /// Nothing.
-    Nothing,
+pub enum Kind {
+    /// One that is taken event by event.
+    Events,
+    Illegal,
+    Receive,
+    Transmit,
+    /// Transmit status word.
+    Status,
+    /// Any other mode code.
+    Mode,
 }
 
 /// What of a command doesn't change.
 #[derive(Clone, Copy)]
 pub struct Entry {
-    pub expects: Expects,
-    is_legal: bool,
+    pub kind: Kind,
+    /// How many data words are to follow it.
+    pub expected: u8,
+    /// How many it asks for.
+    pub asked: u8,
+    /// Whether its data words are held to be sent.
+    pub turns_round: bool,
 }
 
 /// What the next slots are answered with.
@@ -41,42 +49,44 @@ pub fn place(bits: u16) -> usize {
     usize::from(bits & 0x07ff) | usize::from(bits >> 11 == BROADCAST) << 11
 }
 
+/// How many data words are to follow a command, to whatever terminal.
+#[inline]
+pub fn expected(bits: u16) -> usize {
+    Command(bits).expected()
+}
+
 impl Terminal {
     /// The table of commands: of those to the own address first.
     pub fn commands(&self) -> Box<[Entry; COMMANDS]> {
-        let mut table = Box::new(
-            [Entry {
-                expects: Expects::Unknown,
-                is_legal: false,
-            }; COMMANDS],
-        );
+        let own = self.profile.address << 11;
+        let mut table = Box::new([self.entry(Command(own)); COMMANDS]);
         for low in 0..0x0800 {
-            let own = Command(self.profile.address << 11 | low);
-            table[usize::from(low)] = self.entry(own);
-            if self.profile.broadcast {
-                table[usize::from(low) | 0x0800] = self.entry(Command(BROADCAST << 11 | low));
-            }
+            table[usize::from(low)] = self.entry(Command(own | low));
+            table[usize::from(low) | 0x0800] = self.entry(Command(BROADCAST << 11 | low));
         }
         table
     }
 
     fn entry(&self, command: Command) -> Entry {
-        let is_legal = self.is_legal(command);
-        let expects = match command.expected() {
-            // a reset may act at once
-            0 if command.is_mode() && command.code() == code::RESET => Expects::Unknown,
-            0 => Expects::Nothing,
-            count if is_legal && command.receives_data() => {
-                // words that are turned round are held as numbers
-                if command.subaddress() == self.profile.wraparound {
-                    Expects::Unknown
-                } else {
-                    Expects::Words(count as u8)
-                }
-            }
-            _ => Expects::Unknown,
+        let kind = match (self.is_legal(command), command.is_mode()) {
+            // illegal or not, this one isn't kept as the last command
+            _ if self.is_own_code(command, code::TRANSMIT_LAST_COMMAND) => Kind::Events,
+            (false, _) => Kind::Illegal,
+            (true, true) => match command.code() {
+                // a reset may act at once
+                code::RESET => Kind::Events,
+                code::TRANSMIT_STATUS => Kind::Status,
+                _ => Kind::Mode,
+            },
+            (true, false) if command.is_transmit() => Kind::Transmit,
+            (true, false) => Kind::Receive,
         };
-        Entry { expects, is_legal }
+        Entry {
+            kind,
+            expected: command.expected() as u8,
+            asked: command.count() as u8,
+            turns_round: command.subaddress() == self.profile.wraparound,
+        }
     }
 
     /// Whether a command is heard by its address.
@@ -85,36 +95,115 @@ impl Terminal {
         self.is_address_heard(Command(bits))
     }
 
-    /// Whether a command on this bus starts a message, if it is heard.
+    /// Whether a command on this bus starts a message, if it is heard. If it isn't, nothing changes.
     #[inline]
     pub fn is_free(&self, bus: Bus) -> bool {
-        !self.heard[bus as usize]
-            && !self.replies_on(bus)
-            && !matches!(self.message, Some(message) if message.bus == bus)
+        !self.heard[bus as usize] && !self.replies_on(bus) && !self.has_message(bus)
     }
 
-    /// Takes a command that starts a message, what it expects, and the gap after it. The words that are handed over
-    /// are not in the answer: they are those of the script.
     #[inline]
-    pub fn take_whole(&mut self, bus: Bus, bits: u16, entry: Entry) -> Answer<'_> {
-        let command = Command(bits);
-        let message = Message {
-            bus,
-            command,
-            expected: 0,
-            is_legal: entry.is_legal,
-            phase: Phase::Command,
-            followed: Followed::Data(0),
-        };
-        if !self.is_own_code(command, code::TRANSMIT_LAST_COMMAND) {
-            self.last_command = bits;
+    fn has_message(&self, bus: Bus) -> bool {
+        matches!(self.message, Some(message) if message.bus == bus)
+    }
+
+    /// Whether data words on this bus change nothing.
+    #[inline]
+    pub fn passes_data(&self, bus: Bus) -> bool {
+        self.replies_on(bus) || !self.has_message(bus)
+    }
+
+    /// The command of the message on this bus that waits for the first of its data words.
+    #[inline]
+    pub fn collects(&self, bus: Bus) -> Option<u16> {
+        match self.message {
+            Some(Message {
+                bus: its_bus,
+                command,
+                phase: Phase::Command | Phase::Status,
+                followed: Followed::Data(0),
+                expected: 1..,
+                ..
+            }) if its_bus == bus => Some(command.0),
+            _ => None,
         }
-        if !message.reports_kept() {
-            self.kept = self.address_and_broadcast(command);
-        }
+    }
+
+    /// Whether the transmitter of this bus is on.
+    #[inline]
+    pub fn can_send(&self, bus: Bus) -> bool {
+        !self.shut_down[bus as usize]
+    }
+
+    #[inline]
+    pub fn is_busy(&self) -> bool {
+        self.flags[Flag::Busy as usize]
+    }
+
+    /// Takes a command that starts a message, or is that of the message in progress, and all up to the gap after it. What
+    /// is handed over, held and answered is left to the caller, and so is the kept status.
+    #[inline]
+    pub fn take_message(&mut self, bus: Bus, bits: u16) {
+        self.last_command = bits;
+        self.heard[bus as usize] = false;
         self.message = None;
         self.reply = None;
-        self.complete(message)
+    }
+
+    /// The status of a message to the own address that ends well, as the flags stand.
+    #[inline]
+    pub fn shown(&self) -> u16 {
+        let flags = self.flags.map(u16::from);
+        self.profile.address << 11
+            | flags[Flag::Service as usize] * status::SERVICE_REQUEST
+            | flags[Flag::Busy as usize] * status::BUSY
+            | flags[Flag::Subsystem as usize] * status::SUBSYSTEM_FLAG
+            | flags[Flag::Terminal as usize] * u16::from(!self.flag_is_inhibited)
+    }
+
+    /// Keeps the status of a whole message that ends well.
+    #[inline]
+    pub fn keep(&mut self, shown: u16, is_broadcast: bool) {
+        self.kept = shown | u16::from(is_broadcast) * status::BROADCAST_RECEIVED;
+    }
+
+    /// Keeps the status of a whole message that is illegal.
+    #[inline]
+    pub fn keep_error(&mut self, shown: u16, is_broadcast: bool) {
+        self.keep(shown | status::MESSAGE_ERROR, is_broadcast);
+    }
+
+    /// Takes a whole message of another mode code, and begins its reply. Of what is handed over a word is that of the
+    /// script.
+    pub fn take_mode_code(&mut self, bus: Bus, bits: u16, word: u16) -> Answer<'_> {
+        self.take_message(bus, bits);
+        self.received[0] = word;
+        self.complete(Message {
+            bus,
+            command: Command(bits),
+            expected: 0,
+            is_legal: true,
+            phase: Phase::Command,
+            followed: Followed::Data(0),
+        })
+    }
+
+    /// Holds a word.
+    pub fn hold(&mut self, subaddress: usize, index: usize, word: u16) {
+        self.held[subaddress][index] = word;
+    }
+
+    /// Begins a reply of the status and so many words that are held.
+    #[inline]
+    pub fn begin_reply_of(&mut self, bus: Bus, subaddress: usize, count: usize) {
+        let after = match count {
+            0 => AfterStatus::Nothing,
+            _ => AfterStatus::Held(subaddress, count),
+        };
+        self.reply = Some(Reply {
+            bus,
+            after,
+            next: 0,
+        });
     }
 
     /// What the slots that come next are answered with.
