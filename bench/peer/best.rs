@@ -13,11 +13,12 @@ use fault::Fault;
 use job::{LONGEST_LINE, MOST_LINES};
 use std::io::{Read, Write};
 use std::process::ExitCode;
-use terminal::whole::{expected, place, Entry, Kind, Next, COMMANDS};
+use terminal::whole::{Commands, Entry, Kind, Next};
 use terminal::{Answer, Bus, Event, Flag, Hand, Terminal, Word};
 use vectors::{
-    are_slots, comments, copy_fields, copy_lines, count_slots, is_gap, is_slot, is_word,
-    length_of_line, Here, Room, FIELD, GAP_LINE, LETTERS, LONGEST_ANSWER, SLOT_LINE, WORD_LINE,
+    are_slots, comments, copy_field, copy_fields, copy_lines, count_slots, is_data, is_gap,
+    is_slot, length_of_line, word_in, Here, Room, FIELD, GAP_LINE, LETTERS, LONGEST_ANSWER,
+    SLOT_LINE, WORD_LINE,
 };
 
 /// How many bytes are read and written at a time.
@@ -42,6 +43,7 @@ fn play(
         commands: terminal.commands(),
         printed: Printed::new(),
         shown: terminal.shown(),
+        is_quiet: true,
         terminal,
         transcript: Transcript {
             writer: transcript,
@@ -57,10 +59,12 @@ fn play(
 
 struct Player<'a> {
     terminal: Terminal,
-    commands: Box<[Entry; COMMANDS]>,
+    commands: Commands,
     printed: Printed,
     /// The status of a message to the own address that ends well, as the flags stand.
     shown: u16,
+    /// Whether nothing is in progress on either bus.
+    is_quiet: bool,
     transcript: Transcript<'a>,
     /// How many lines were played.
     lines: u32,
@@ -72,8 +76,6 @@ const fn head(line: &[u8; 4]) -> u32 {
 }
 
 const COMMANDS_BEGIN: [u32; 2] = [head(b"A c "), head(b"B c ")];
-const DATA_BEGIN: [u32; 2] = [head(b"A d "), head(b"B d ")];
-const SLOT_BEGINS: u32 = head(b"slot");
 
 impl Player<'_> {
     fn play_blocks(&mut self, script: &mut dyn Read) -> Result<(), Fault> {
@@ -119,7 +121,7 @@ impl Player<'_> {
 
     /// Plays what stands here, if it is a line of a word, a gap, slots or comments, and says how many bytes that has. A
     /// command is played with its whole message and the slots of its reply.
-    #[inline]
+    #[inline(always)]
     fn play_usual(&mut self, here: &Here, rest: &[u8]) -> usize {
         if MOST_LINES - self.lines < MOST_AT_ONCE {
             return 0;
@@ -131,32 +133,20 @@ impl Player<'_> {
             b'#' => return self.pass_comments(here, rest),
             _ => return 0,
         };
-        let begin = head(here.first_chunk().unwrap());
-        if begin == COMMANDS_BEGIN[bus as usize] {
+        if head(here.first_chunk().unwrap()) == COMMANDS_BEGIN[bus as usize] {
             self.play_command(here, bus)
-        } else if begin == DATA_BEGIN[bus as usize] {
-            self.play_data(here, bus)
-        } else if is_gap(here, 0, bus) {
-            self.lines += 1;
-            self.play_event(Event::Gap(bus));
-            GAP_LINE
         } else {
-            0
+            self.play_on_bus(here, bus)
         }
     }
 
-    #[inline]
+    #[inline(always)]
     fn play_command(&mut self, here: &Here, bus: Bus) -> usize {
-        if !is_word(here) {
+        let Some(bits) = word_in(here, 0) else {
             return 0;
-        }
-        let bits = word_of(here);
-        if self.terminal.is_free(bus) {
-            let length = if self.terminal.hears(bits) {
-                self.play_message(here, WORD_LINE, bus, bits)
-            } else {
-                self.pass_message(here, bus, bits)
-            };
+        };
+        if self.is_quiet || self.terminal.is_free(bus) {
+            let length = self.play_message(here, WORD_LINE, bus, bits);
             if length > 0 {
                 return length;
             }
@@ -164,11 +154,21 @@ impl Player<'_> {
         self.play_word(bus, true, bits)
     }
 
-    fn play_data(&mut self, here: &Here, bus: Bus) -> usize {
-        if !is_word(here) {
+    /// Plays the line of a data word, with its whole message where it is the first one, or that of a gap.
+    #[inline(never)]
+    fn play_on_bus(&mut self, here: &Here, bus: Bus) -> usize {
+        if is_gap(here, 0, bus) {
+            self.lines += 1;
+            self.play_event(Event::Gap(bus));
+            return GAP_LINE;
+        }
+        if !is_data(here, 0, bus) {
             return 0;
         }
-        if self.terminal.passes_data(bus) {
+        let Some(bits) = word_in(here, 0) else {
+            return 0;
+        };
+        if self.is_quiet || self.terminal.passes_data(bus) {
             self.lines += 1;
             return WORD_LINE;
         }
@@ -178,10 +178,11 @@ impl Player<'_> {
                 return length;
             }
         }
-        self.play_word(bus, false, word_of(here))
+        self.play_word(bus, false, bits)
     }
 
     /// Plays a valid word by itself.
+    #[inline(never)]
     fn play_word(&mut self, bus: Bus, is_command: bool, bits: u16) -> usize {
         let word = Word {
             is_command,
@@ -189,109 +190,117 @@ impl Player<'_> {
             is_valid: true,
         };
         self.terminal.step(Event::Word(bus, word));
+        self.is_quiet = self.terminal.is_quiet();
         self.lines += 1;
         WORD_LINE
-    }
-
-    /// Passes a whole message to another terminal, and says how many bytes it has, if one stands here.
-    fn pass_message(&mut self, here: &Here, bus: Bus, bits: u16) -> usize {
-        let count = expected(bits);
-        let gap = WORD_LINE * (1 + count);
-        if !is_gap(here, gap, bus) {
-            return 0;
-        }
-        if count > 0 && !copy_fields(here, WORD_LINE, count, bus, self.transcript.room(), 0) {
-            return 0;
-        }
-        self.lines += count as u32 + 2;
-        gap + GAP_LINE
     }
 
     /// Plays the data words of a message from a place on, the gap after them and the slots of its reply, and says how many
     /// bytes were played to their end, if they all stand here.
     #[inline(always)]
     fn play_message(&mut self, here: &Here, from: usize, bus: Bus, bits: u16) -> usize {
-        let entry = self.commands[place(bits)];
+        let entry = self.commands.entry(bits);
         let count = usize::from(entry.expected);
         let gap = from + WORD_LINE * count;
         if !is_gap(here, gap, bus) || entry.kind == Kind::Events {
             return 0;
         }
-        let is_broadcast = bits >> 11 == 31;
-        let mut fields = 0;
-        if count > 0 {
-            let room = self.transcript.room();
-            fields = put_beginning(room, bits, is_broadcast);
-            if !copy_fields(here, from, count, bus, room, fields) {
-                return 0;
-            }
+        let room = self.transcript.room();
+        let beginning = &self.printed.beginnings[usize::from(entry.beginning)];
+        room[..32].copy_from_slice(&beginning.text);
+        let fields = usize::from(beginning.length);
+        let are_data = match count {
+            0 => true,
+            1 => copy_field(here, from, bus, room, fields),
+            _ => copy_fields(here, from, count, bus, room, fields),
+        };
+        if !are_data {
+            return 0;
         }
         let slots = gap + GAP_LINE;
-        self.lines += (from / WORD_LINE + count + 1) as u32;
-        let mut sent = 0;
-        match entry.kind {
-            Kind::Events | Kind::Mode => {
-                self.play_mode_code(bus, bits, fields);
-                return slots;
-            }
-            Kind::Status => self.terminal.take_message(bus, bits),
-            Kind::Illegal => {
-                self.terminal.take_message(bus, bits);
-                self.terminal.keep_error(self.shown, is_broadcast);
-            }
-            Kind::Transmit => {
-                self.terminal.take_message(bus, bits);
-                self.terminal.keep(self.shown, false);
-                if !self.terminal.is_busy() {
-                    sent = usize::from(entry.asked);
-                }
-            }
-            Kind::Receive => {
-                self.terminal.take_message(bus, bits);
-                self.terminal.keep(self.shown, is_broadcast);
-                if !self.terminal.is_busy() {
-                    if entry.turns_round {
-                        self.turn_round(bits, fields, count);
-                    }
-                    let end = fields + count * FIELD;
-                    self.transcript.room()[end] = b'\n';
-                    self.transcript.length += end + 1;
-                }
-            }
-        }
-        if is_broadcast || !self.terminal.can_send(bus) {
+        self.lines += (count + from / WORD_LINE) as u32 + 1;
+        if entry.kind == Kind::Other {
             return slots;
         }
-        if sent == 0 && is_slot(here, slots) {
-            self.put_status(bus);
-            self.lines += 1;
-            return slots + SLOT_LINE;
+        if !self.is_quiet {
+            self.terminal.drop_all(bus);
+            self.is_quiet = self.terminal.is_quiet();
         }
-        let subaddress = usize::from(bits >> 5 & 31);
-        if sent == 0 || !are_slots(here, slots, 1 + sent) {
-            self.terminal.begin_reply_of(bus, subaddress, sent);
+        match entry.kind {
+            Kind::Receive | Kind::Heard => {
+                let is_broadcast = entry.kind == Kind::Heard;
+                self.terminal.take(bits, self.shown, is_broadcast);
+                if !self.terminal.is_busy() {
+                    let end = fields + count * FIELD;
+                    room[end] = b'\n';
+                    self.transcript.length += end + 1;
+                    if entry.turns_round {
+                        self.turn_round(bits, count);
+                    }
+                }
+                if is_broadcast {
+                    return slots;
+                }
+            }
+            Kind::Transmit => {
+                self.terminal.take(bits, self.shown, false);
+                if !self.terminal.is_busy() && self.terminal.can_send(bus) {
+                    return self.play_reply(here, slots, bus, bits, usize::from(entry.asked));
+                }
+            }
+            Kind::Status => self.terminal.take_status_asked(bits),
+            _ => return self.play_rare(bus, bits, entry, fields, slots),
+        }
+        if !self.terminal.can_send(bus) {
+            return slots;
+        }
+        if !is_slot(here, slots) {
+            self.begin_reply(bus, 0, 0);
             return slots;
         }
         self.put_status(bus);
-        self.put_held(bus, subaddress, 0, sent);
-        self.lines += 1 + sent as u32;
-        slots + (1 + sent) * SLOT_LINE
+        self.lines += 1;
+        slots + SLOT_LINE
     }
 
-    /// Takes the whole message of a mode code, whose data word stands in the transcript's room if it has one.
-    fn play_mode_code(&mut self, bus: Bus, bits: u16, field: usize) {
+    /// Plays the slots of a reply of held words if they all stand here, and says where they end.
+    #[inline(always)]
+    fn play_reply(&mut self, here: &Here, at: usize, bus: Bus, bits: u16, words: usize) -> usize {
+        let subaddress = usize::from(bits >> 5 & 31);
+        if !are_slots(here, at, 1 + words) {
+            self.begin_reply(bus, subaddress, words);
+            return at;
+        }
+        self.put_status(bus);
+        self.put_held(bus, subaddress, 0, words);
+        self.lines += 1 + words as u32;
+        at + (1 + words) * SLOT_LINE
+    }
+
+    fn begin_reply(&mut self, bus: Bus, subaddress: usize, words: usize) {
+        self.terminal.begin_reply_of(bus, subaddress, words);
+        self.is_quiet = false;
+    }
+
+    /// Takes the whole message of an illegal command or a mode code, whose data word stands in the transcript's room if
+    /// it has one.
+    #[inline(never)]
+    fn play_rare(&mut self, bus: Bus, bits: u16, entry: Entry, field: usize, length: usize) -> usize {
         let word = bits_of(*self.transcript.room()[field + 1..].first_chunk().unwrap());
-        let answer = self.terminal.take_mode_code(bus, bits, word);
+        let answer = self.terminal.take_rare(bus, bits, entry, word);
         self.transcript.put_answer(&answer);
         self.shown = self.terminal.shown();
+        self.is_quiet = self.terminal.is_quiet();
+        length
     }
 
-    /// Holds the words of fields that stand in the transcript's room, to be sent.
-    fn turn_round(&mut self, bits: u16, fields: usize, count: usize) {
+    /// Holds the words that were handed over last, to be sent.
+    #[inline(never)]
+    fn turn_round(&mut self, bits: u16, count: usize) {
         let subaddress = usize::from(bits >> 5 & 31);
-        for index in 0..count {
-            let digits = &self.transcript.room()[fields + index * FIELD + 1..];
-            let word = bits_of(*digits.first_chunk().unwrap());
+        let line = &self.transcript.block[..self.transcript.length - 1];
+        for (index, field) in line[line.len() - count * FIELD..].chunks(FIELD).enumerate() {
+            let word = bits_of(*field[1..].first_chunk().unwrap());
             self.terminal.hold(subaddress, index, word);
         }
         self.printed.is_known[subaddress] = false;
@@ -301,7 +310,7 @@ impl Player<'_> {
     #[inline]
     fn put_status(&mut self, bus: Bus) {
         let line = self.printed.status_line(bus, self.terminal.status());
-        self.transcript.room()[..WORD_LINE].copy_from_slice(line);
+        self.transcript.room()[..16].copy_from_slice(line);
         self.transcript.length += WORD_LINE;
     }
 
@@ -314,6 +323,7 @@ impl Player<'_> {
     }
 
     /// Plays a slot, and those that follow: as far as the reply goes, or all that stay silent.
+    #[inline(never)]
     fn play_slots(&mut self, here: &Here, rest: &[u8]) -> usize {
         if !is_slot(here, 0) {
             return 0;
@@ -334,6 +344,7 @@ impl Player<'_> {
                     self.put_held(bus, subaddress, from - 1, to - from);
                 }
                 self.terminal.go_on(to, last);
+                self.is_quiet = self.terminal.is_quiet();
                 slots
             }
         };
@@ -342,6 +353,7 @@ impl Player<'_> {
     }
 
     /// Passes a comment, and those that follow.
+    #[inline(never)]
     fn pass_comments(&mut self, here: &Here, rest: &[u8]) -> usize {
         let Some(first) = length_of_line(here) else {
             return 0;
@@ -356,6 +368,7 @@ impl Player<'_> {
     }
 
     /// Plays the next line, whatever it is, and says how many bytes it has; None where its end isn't there yet.
+    #[inline(never)]
     fn play_line(&mut self, rest: &[u8], is_end: bool) -> Result<Option<usize>, Fault> {
         if rest.is_empty() {
             return Ok(None);
@@ -379,6 +392,7 @@ impl Player<'_> {
         Ok(Some(length))
     }
 
+    #[inline(never)]
     fn play_event(&mut self, event: Event) {
         match event {
             Event::Gap(_) | Event::Slot if self.terminal.may_change_held() => self.printed.forget(),
@@ -390,38 +404,28 @@ impl Player<'_> {
         }
         self.transcript.put_answer(&self.terminal.step(event));
         self.shown = self.terminal.shown();
+        self.is_quiet = self.terminal.is_quiet();
     }
 }
 
-/// The word of a line.
-#[inline]
-fn word_of(here: &Here) -> u16 {
-    bits_of(*here[4..].first_chunk().unwrap())
+/// How the line begins that hands words over.
+struct Beginning {
+    text: [u8; 32],
+    length: u8,
 }
 
-/// Two decimal digits of each subaddress.
-const DECIMALS: [[u8; 2]; 32] = {
-    let mut decimals = [[0; 2]; 32];
-    let mut number = 0;
-    while number < 32 {
-        decimals[number] = [b'0' + number as u8 / 10, b'0' + number as u8 % 10];
-        number += 1;
-    }
-    decimals
-};
-
-/// Writes how the line begins that hands words over, and says how many bytes that has.
-#[inline]
-fn put_beginning(room: &mut Room, bits: u16, is_broadcast: bool) -> usize {
-    // more is copied than is needed: pieces of one length are copied at once
-    let (text, length) = if is_broadcast {
-        (b"hand receive broadcast          ", 23)
-    } else {
-        (b"hand receive own                ", 17)
-    };
-    room[..32].copy_from_slice(text);
-    room[length..length + 2].copy_from_slice(&DECIMALS[usize::from(bits >> 5 & 31)]);
-    length + 2
+/// These beginnings by subaddress: those of words to the own address, then those of words that came by broadcast.
+fn beginnings() -> Box<[Beginning; 64]> {
+    Box::new(std::array::from_fn(|place| {
+        let to = ["own", "broadcast"][place / 32];
+        let line = format!("hand receive {to} {:02}", place % 32);
+        let mut text = [0; 32];
+        text[..line.len()].copy_from_slice(line.as_bytes());
+        Beginning {
+            text,
+            length: line.len() as u8,
+        }
+    }))
 }
 
 /// Words as lines of a transcript.
@@ -430,9 +434,10 @@ struct Printed {
     lines: Box<[[Lines; WORDS]; 2]>,
     /// Of which subaddresses the lines are those of the words.
     is_known: [bool; WORDS],
-    /// The line of a status word, for each bus.
-    status: [[u8; WORD_LINE]; 2],
+    /// The line of a status word, for each bus, in a vector.
+    status: [[u8; 16]; 2],
     status_word: u16,
+    beginnings: Box<[Beginning; 64]>,
 }
 
 /// The lines of a subaddress, and room for a vector behind them.
@@ -443,8 +448,9 @@ impl Printed {
         Printed {
             lines: Box::new([[[0; WORD_LINE * WORDS + 16]; WORDS]; 2]),
             is_known: [false; WORDS],
-            status: [Bus::A, Bus::B].map(|bus| word_line(bus, b's', 0)),
+            status: status_lines(0),
             status_word: 0,
+            beginnings: beginnings(),
         }
     }
 
@@ -471,13 +477,21 @@ impl Printed {
     }
 
     #[inline]
-    fn status_line(&mut self, bus: Bus, word: u16) -> &[u8; WORD_LINE] {
+    fn status_line(&mut self, bus: Bus, word: u16) -> &[u8; 16] {
         if word != self.status_word {
-            self.status = [Bus::A, Bus::B].map(|bus| word_line(bus, b's', word));
+            self.status = status_lines(word);
             self.status_word = word;
         }
         &self.status[bus as usize]
     }
+}
+
+fn status_lines(word: u16) -> [[u8; 16]; 2] {
+    [Bus::A, Bus::B].map(|bus| {
+        let mut line = [0; 16];
+        line[..WORD_LINE].copy_from_slice(&word_line(bus, b's', word));
+        line
+    })
 }
 
 /// The event of a whole line of any form.
@@ -634,7 +648,9 @@ impl Transcript<'_> {
     /// Where the next answer is written.
     #[inline]
     fn room(&mut self) -> &mut Room {
-        self.block[self.length..].first_chunk_mut().unwrap()
+        self.block[self.length.min(BLOCK)..]
+            .first_chunk_mut()
+            .unwrap()
     }
 
     fn put_answer(&mut self, answer: &Answer) {

@@ -95,10 +95,48 @@ fn are_digits(bytes: __m128i) -> __m128i {
     )
 }
 
-/// Whether a line that begins as `A c ` goes on as the line of a valid word.
+/// What two bytes are that aren't both digits.
+const NO_DIGITS: u16 = 0x0100;
+
+/// The value of each two bytes as digits, the first byte lowest in the place.
+static PAIRS: [u16; 65_536] = {
+    let mut pairs = [NO_DIGITS; 65_536];
+    let digits = b"0123456789abcdefABCDEF";
+    let mut place = 0;
+    while place < digits.len() * digits.len() {
+        let (high, low) = (place / digits.len(), place % digits.len());
+        // from the 16th on they are the capital letters
+        let (high_value, low_value) = (high - high / 16 * 6, low - low / 16 * 6);
+        pairs[digits[high] as usize | (digits[low] as usize) << 8] =
+            (high_value << 4 | low_value) as u16;
+        place += 1;
+    }
+    pairs
+};
+
+/// The word of the line that stands at a place, if the line of a word does whose first four bytes do.
+#[inline(always)]
+pub fn word_in(here: &Here, at: usize) -> Option<u16> {
+    let pair = |at: usize| PAIRS[usize::from(u16::from_le_bytes([here[at], here[at + 1]]))];
+    let (high, low) = (pair(at + 4), pair(at + 6));
+    let is_word = (high | low) & NO_DIGITS == 0 && here[at + WORD_LINE - 1] == b'\n';
+    is_word.then_some(high << 8 | low)
+}
+
+/// Whether a line that stands here begins as that of a data word.
 #[inline]
-pub fn is_word(here: &Here) -> bool {
-    mask(are_digits(vector(here, 0))) & 0x0f0 == 0x0f0 && here[WORD_LINE - 1] == b'\n'
+pub fn is_data(here: &Here, at: usize, bus: Bus) -> bool {
+    let begin: &[u8; 4] = here[at..].first_chunk().unwrap();
+    u32::from_le_bytes(*begin) == u32::from_le_bytes([LETTERS[bus as usize], b' ', b'd', b' '])
+}
+
+/// Whether the line of a data word stands here at a place. Its field and the line feed are written to the room, with 2
+/// bytes more.
+#[inline(always)]
+pub fn copy_field(here: &Here, at: usize, bus: Bus, room: &mut Room, to: usize) -> bool {
+    let field = u64::from_le_bytes(*here[at + 3..].first_chunk().unwrap());
+    room[to..to + 8].copy_from_slice(&(field | 0x0020_2020_2020).to_le_bytes());
+    is_data(here, at, bus) && word_in(here, at).is_some()
 }
 
 #[inline]
@@ -264,7 +302,8 @@ pub fn comments(rest: &[u8]) -> (usize, u32) {
 /// Copies so many lines of words, with 15 bytes more at most.
 #[inline]
 pub fn copy_lines(lines: &[u8], first: usize, count: usize, room: &mut Room) {
+    let lines = &lines[first * WORD_LINE..];
     for start in (0..count * WORD_LINE).step_by(16) {
-        put_vector(room, start, vector(lines, first * WORD_LINE + start));
+        put_vector(room, start, vector(lines, start));
     }
 }

@@ -5,16 +5,21 @@ use super::{
     Terminal, BROADCAST, WORDS,
 };
 
-/// How many commands are heard: 2,048 to the own address and as many to all.
-pub const COMMANDS: usize = 4096;
+/// How many commands there are to an address.
+const COMMANDS: usize = 2048;
 
 /// What a whole message is.
 #[derive(Clone, Copy, PartialEq, Eq)]
 pub enum Kind {
     /// One that is taken event by event.
     Events,
+    /// One that isn't for this terminal.
+    Other,
     Illegal,
+    /// Words to the own address.
     Receive,
+    /// Words by broadcast.
+    Heard,
     Transmit,
     /// Transmit status word.
     Status,
@@ -28,6 +33,8 @@ pub struct Entry {
     pub kind: Kind,
     /// How many data words are to follow it.
     pub expected: u8,
+    /// How the line begins that hands its words over: the subaddress, and 32 more for broadcast.
+    pub beginning: u8,
     /// How many it asks for.
     pub asked: u8,
     /// Whether its data words are held to be sent.
@@ -43,32 +50,41 @@ pub enum Next {
     Event,
 }
 
-/// Where a command stands in the table of commands.
-#[inline]
-pub fn place(bits: u16) -> usize {
-    usize::from(bits & 0x07ff) | usize::from(bits >> 11 == BROADCAST) << 11
+/// What all commands are: those to the own address, to all and to another terminal.
+pub struct Commands {
+    entries: Box<[Entry; 3 * COMMANDS]>,
+    /// Where the commands to each address begin.
+    begins: [u16; 32],
 }
 
-/// How many data words are to follow a command, to whatever terminal.
-#[inline]
-pub fn expected(bits: u16) -> usize {
-    Command(bits).expected()
+impl Commands {
+    #[inline(always)]
+    pub fn entry(&self, bits: u16) -> Entry {
+        self.entries[usize::from(self.begins[usize::from(bits >> 11)]) + usize::from(bits & 0x07ff)]
+    }
 }
 
 impl Terminal {
-    /// The table of commands: of those to the own address first.
-    pub fn commands(&self) -> Box<[Entry; COMMANDS]> {
-        let own = self.profile.address << 11;
-        let mut table = Box::new([self.entry(Command(own)); COMMANDS]);
-        for low in 0..0x0800 {
-            table[usize::from(low)] = self.entry(Command(own | low));
-            table[usize::from(low) | 0x0800] = self.entry(Command(BROADCAST << 11 | low));
+    pub fn commands(&self) -> Commands {
+        let (own, other) = (self.profile.address, (self.profile.address + 1) % BROADCAST);
+        let heard = if self.profile.broadcast { BROADCAST } else { other };
+        let mut begins = [2 * COMMANDS as u16; 32];
+        begins[usize::from(own)] = 0;
+        begins[usize::from(BROADCAST)] = COMMANDS as u16;
+        let entries: Vec<Entry> = [own, heard, other]
+            .iter()
+            .flat_map(|address| (0..COMMANDS as u16).map(move |low| Command(address << 11 | low)))
+            .map(|command| self.entry(command))
+            .collect();
+        Commands {
+            entries: entries.into_boxed_slice().try_into().unwrap_or_else(|_| unreachable!()),
+            begins,
         }
-        table
     }
 
     fn entry(&self, command: Command) -> Entry {
         let kind = match (self.is_legal(command), command.is_mode()) {
+            _ if !self.is_address_heard(command) => Kind::Other,
             // illegal or not, this one isn't kept as the last command
             _ if self.is_own_code(command, code::TRANSMIT_LAST_COMMAND) => Kind::Events,
             (false, _) => Kind::Illegal,
@@ -79,20 +95,22 @@ impl Terminal {
                 _ => Kind::Mode,
             },
             (true, false) if command.is_transmit() => Kind::Transmit,
+            (true, false) if command.is_broadcast() => Kind::Heard,
             (true, false) => Kind::Receive,
         };
         Entry {
             kind,
             expected: command.expected() as u8,
+            beginning: command.subaddress() as u8 + 32 * u8::from(command.is_broadcast()),
             asked: command.count() as u8,
             turns_round: command.subaddress() == self.profile.wraparound,
         }
     }
 
-    /// Whether a command is heard by its address.
+    /// Whether nothing is in progress on either bus.
     #[inline]
-    pub fn hears(&self, bits: u16) -> bool {
-        self.is_address_heard(Command(bits))
+    pub fn is_quiet(&self) -> bool {
+        self.heard == [false; 2] && self.message.is_none() && self.reply.is_none()
     }
 
     /// Whether a command on this bus starts a message, if it is heard. If it isn't, nothing changes.
@@ -139,14 +157,38 @@ impl Terminal {
         self.flags[Flag::Busy as usize]
     }
 
-    /// Takes a command that starts a message, or is that of the message in progress, and all up to the gap after it. What
-    /// is handed over, held and answered is left to the caller, and so is the kept status.
-    #[inline]
-    pub fn take_message(&mut self, bus: Bus, bits: u16) {
-        self.last_command = bits;
+    /// Drops what is in progress on either bus: a message begins on this one, and is over with its gap.
+    pub fn drop_all(&mut self, bus: Bus) {
         self.heard[bus as usize] = false;
         self.message = None;
         self.reply = None;
+    }
+
+    /// Takes a whole message of data. What is handed over, held and answered is left to the caller.
+    #[inline]
+    pub fn take(&mut self, bits: u16, shown: u16, is_broadcast: bool) {
+        self.last_command = bits;
+        self.kept = shown | u16::from(is_broadcast) * status::BROADCAST_RECEIVED;
+    }
+
+    /// Takes a whole message that asks for the kept status. The reply is left to the caller.
+    #[inline]
+    pub fn take_status_asked(&mut self, bits: u16) {
+        self.last_command = bits;
+    }
+
+    /// Takes a whole message of an illegal command or a mode code, and begins its reply.
+    pub fn take_rare(&mut self, bus: Bus, bits: u16, entry: Entry, word: u16) -> Answer<'_> {
+        self.last_command = bits;
+        self.received[0] = word;
+        self.complete(Message {
+            bus,
+            command: Command(bits),
+            expected: 0,
+            is_legal: entry.kind != Kind::Illegal,
+            phase: Phase::Command,
+            followed: Followed::Data(0),
+        })
     }
 
     /// The status of a message to the own address that ends well, as the flags stand.
@@ -158,33 +200,6 @@ impl Terminal {
             | flags[Flag::Busy as usize] * status::BUSY
             | flags[Flag::Subsystem as usize] * status::SUBSYSTEM_FLAG
             | flags[Flag::Terminal as usize] * u16::from(!self.flag_is_inhibited)
-    }
-
-    /// Keeps the status of a whole message that ends well.
-    #[inline]
-    pub fn keep(&mut self, shown: u16, is_broadcast: bool) {
-        self.kept = shown | u16::from(is_broadcast) * status::BROADCAST_RECEIVED;
-    }
-
-    /// Keeps the status of a whole message that is illegal.
-    #[inline]
-    pub fn keep_error(&mut self, shown: u16, is_broadcast: bool) {
-        self.keep(shown | status::MESSAGE_ERROR, is_broadcast);
-    }
-
-    /// Takes a whole message of another mode code, and begins its reply. Of what is handed over a word is that of the
-    /// script.
-    pub fn take_mode_code(&mut self, bus: Bus, bits: u16, word: u16) -> Answer<'_> {
-        self.take_message(bus, bits);
-        self.received[0] = word;
-        self.complete(Message {
-            bus,
-            command: Command(bits),
-            expected: 0,
-            is_legal: true,
-            phase: Phase::Command,
-            followed: Followed::Data(0),
-        })
     }
 
     /// Holds a word.
