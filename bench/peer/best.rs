@@ -17,7 +17,7 @@ use terminal::whole::{Commands, Entry, Kind, Next};
 use terminal::{Answer, Bus, Event, Flag, Hand, Terminal, Word};
 use vectors::{
     are_slots, comments, copy_field, copy_fields, copy_lines, count_slots, is_data, is_gap,
-    is_slot, length_of_line, word_in, Here, Room, FIELD, GAP_LINE, LETTERS, LONGEST_ANSWER,
+    is_slot, length_of_line, word_in, Here, Room, FIELD, GAP_LINE, LETTERS, LONGEST_ANSWER, REACH,
     SLOT_LINE, WORD_LINE,
 };
 
@@ -79,16 +79,18 @@ const COMMANDS_BEGIN: [u32; 2] = [head(b"A c "), head(b"B c ")];
 
 impl Player<'_> {
     fn play_blocks(&mut self, script: &mut dyn Read) -> Result<(), Fault> {
-        let mut block = [0; BLOCK];
+        let mut block = [0; BLOCK + REACH];
         let mut length = 0;
         loop {
             // the transcript is handed on before a read that may have to wait
             self.transcript.hand_on()?;
             let count = script
-                .read(&mut block[length..])
+                .read(&mut block[length..BLOCK])
                 .map_err(|_| Fault::Input)?;
             length += count;
-            let done = self.play_block(&block[..length], count == 0)?;
+            // no line but a comment has this byte: no other one goes on behind what was read
+            block[length] = 0;
+            let done = self.play_block(&block, length, count == 0)?;
             if count == 0 {
                 return Ok(());
             }
@@ -97,23 +99,26 @@ impl Player<'_> {
         }
     }
 
-    /// Plays the lines of a block, and says how many bytes they have. Where the script ends with the block, so does
-    /// its last line.
-    fn play_block(&mut self, block: &[u8], is_end: bool) -> Result<usize, Fault> {
+    /// Plays the lines of a block of this length, and says how many bytes they have. Where the script ends with the
+    /// block, so does its last line.
+    fn play_block(
+        &mut self,
+        block: &[u8; BLOCK + REACH],
+        length: usize,
+        is_end: bool,
+    ) -> Result<usize, Fault> {
         let mut at = 0;
         loop {
             self.transcript.make_room()?;
-            let rest = &block[at..];
-            // what is looked at without asking where the block ends
-            if let Some(here) = rest.first_chunk() {
-                let length = self.play_usual(here, rest);
-                if length > 0 {
-                    at += length;
-                    continue;
-                }
+            let here = block[at..].first_chunk().unwrap();
+            let rest = &block[at..length];
+            let played = self.play_usual(here, rest);
+            if played > 0 {
+                at += played;
+                continue;
             }
             match self.play_line(rest, is_end)? {
-                Some(length) => at += length,
+                Some(played) => at += played,
                 None => return Ok(at),
             }
         }
@@ -200,15 +205,14 @@ impl Player<'_> {
     #[inline(always)]
     fn play_message(&mut self, here: &Here, from: usize, bus: Bus, bits: u16) -> usize {
         let entry = self.commands.entry(bits);
-        let count = usize::from(entry.expected);
+        let count = entry.expected();
         let gap = from + WORD_LINE * count;
         if !is_gap(here, gap, bus) || entry.kind == Kind::Events {
             return 0;
         }
         let room = self.transcript.room();
-        let beginning = &self.printed.beginnings[usize::from(entry.beginning)];
-        room[..32].copy_from_slice(&beginning.text);
-        let fields = usize::from(beginning.length);
+        let (beginning, fields) = self.printed.beginning(entry);
+        room[..32].copy_from_slice(beginning);
         let are_data = match count {
             0 => true,
             1 => copy_field(here, from, bus, room, fields),
@@ -307,7 +311,7 @@ impl Player<'_> {
     }
 
     /// Writes the kept status.
-    #[inline]
+    #[inline(always)]
     fn put_status(&mut self, bus: Bus) {
         let line = self.printed.status_line(bus, self.terminal.status());
         self.transcript.room()[..16].copy_from_slice(line);
@@ -355,8 +359,9 @@ impl Player<'_> {
     /// Passes a comment, and those that follow.
     #[inline(never)]
     fn pass_comments(&mut self, here: &Here, rest: &[u8]) -> usize {
-        let Some(first) = length_of_line(here) else {
-            return 0;
+        let first = match length_of_line(here) {
+            Some(first) if first < rest.len() => first,
+            _ => return 0,
         };
         self.lines += 1;
         let (length, lines) = comments(&rest[first + 1..]);
@@ -408,23 +413,14 @@ impl Player<'_> {
     }
 }
 
-/// How the line begins that hands words over.
-struct Beginning {
-    text: [u8; 32],
-    length: u8,
-}
-
-/// These beginnings by subaddress: those of words to the own address, then those of words that came by broadcast.
-fn beginnings() -> Box<[Beginning; 64]> {
+/// How the lines begin that hand words over, by subaddress: words to the own address, then words that came by broadcast.
+fn beginnings() -> Box<[[u8; 32]; 64]> {
     Box::new(std::array::from_fn(|place| {
         let to = ["own", "broadcast"][place / 32];
         let line = format!("hand receive {to} {:02}", place % 32);
         let mut text = [0; 32];
         text[..line.len()].copy_from_slice(line.as_bytes());
-        Beginning {
-            text,
-            length: line.len() as u8,
-        }
+        text
     }))
 }
 
@@ -437,7 +433,7 @@ struct Printed {
     /// The line of a status word, for each bus, in a vector.
     status: [[u8; 16]; 2],
     status_word: u16,
-    beginnings: Box<[Beginning; 64]>,
+    beginnings: Box<[[u8; 32]; 64]>,
 }
 
 /// The lines of a subaddress, and room for a vector behind them.
@@ -452,6 +448,14 @@ impl Printed {
             status_word: 0,
             beginnings: beginnings(),
         }
+    }
+
+    /// How the line begins that hands the words of this command over, and how many bytes of that are needed.
+    #[inline(always)]
+    fn beginning(&self, entry: Entry) -> (&[u8; 32], usize) {
+        let place = usize::from(entry.subaddress % 32) + 32 * usize::from(entry.is_broadcast);
+        let length = if entry.is_broadcast { 25 } else { 19 };
+        (&self.beginnings[place], length)
     }
 
     fn forget(&mut self) {

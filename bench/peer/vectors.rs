@@ -4,8 +4,9 @@ use crate::job::LONGEST_LINE;
 use crate::terminal::Bus;
 use std::arch::x86_64::*;
 
-/// How many bytes of a script are looked at from a line on, at most: a message of 32 words, and a vector.
-pub const REACH: usize = 384;
+/// How many bytes of a script are looked at from a line on, at most: a message of as many words as six bits can count,
+/// and a vector.
+pub const REACH: usize = 640;
 /// What is looked at.
 pub type Here = [u8; REACH];
 
@@ -117,7 +118,9 @@ static PAIRS: [u16; 65_536] = {
 /// The word of the line that stands at a place, if the line of a word does whose first four bytes do.
 #[inline(always)]
 pub fn word_in(here: &Here, at: usize) -> Option<u16> {
-    let pair = |at: usize| PAIRS[usize::from(u16::from_le_bytes([here[at], here[at + 1]]))];
+    let pair = |at: usize| {
+        PAIRS[usize::from(u16::from_le_bytes(*here[at..].first_chunk().unwrap()))]
+    };
     let (high, low) = (pair(at + 4), pair(at + 6));
     let is_word = (high | low) & NO_DIGITS == 0 && here[at + WORD_LINE - 1] == b'\n';
     is_word.then_some(high << 8 | low)
@@ -126,8 +129,8 @@ pub fn word_in(here: &Here, at: usize) -> Option<u16> {
 /// Whether a line that stands here begins as that of a data word.
 #[inline]
 pub fn is_data(here: &Here, at: usize, bus: Bus) -> bool {
-    let begin: &[u8; 4] = here[at..].first_chunk().unwrap();
-    u32::from_le_bytes(*begin) == u32::from_le_bytes([LETTERS[bus as usize], b' ', b'd', b' '])
+    let begin = u32::from_le_bytes(*here[at..].first_chunk().unwrap());
+    begin == u32::from_le_bytes([LETTERS[bus as usize], b' ', b'd', b' '])
 }
 
 /// Whether the line of a data word stands here at a place. Its field and the line feed are written to the room, with 2

@@ -32,13 +32,22 @@ pub enum Kind {
 pub struct Entry {
     pub kind: Kind,
     /// How many data words are to follow it.
-    pub expected: u8,
-    /// How the line begins that hands its words over: the subaddress, and 32 more for broadcast.
-    pub beginning: u8,
+    expected: u8,
+    pub subaddress: u8,
+    pub is_broadcast: bool,
     /// How many it asks for.
     pub asked: u8,
     /// Whether its data words are held to be sent.
     pub turns_round: bool,
+}
+
+impl Entry {
+    /// How many data words are to follow the command.
+    #[inline(always)]
+    pub fn expected(self) -> usize {
+        // so the compiler knows how far a message reaches
+        usize::from(self.expected & 63)
+    }
 }
 
 /// What the next slots are answered with.
@@ -101,7 +110,8 @@ impl Terminal {
         Entry {
             kind,
             expected: command.expected() as u8,
-            beginning: command.subaddress() as u8 + 32 * u8::from(command.is_broadcast()),
+            subaddress: command.subaddress() as u8,
+            is_broadcast: command.is_broadcast(),
             asked: command.count() as u8,
             turns_round: command.subaddress() == self.profile.wraparound,
         }
