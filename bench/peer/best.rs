@@ -16,7 +16,7 @@ use std::process::ExitCode;
 use terminal::whole::{Commands, Entry, Kind, Next};
 use terminal::{Answer, Bus, Event, Flag, Hand, Terminal, Word};
 use vectors::{
-    are_slots, comments, copy_field, copy_fields, copy_lines, count_slots, is_data, is_gap,
+    are_slots, comments, copy_field, copy_fields, copy_lines, count_slots, data_in, is_gap,
     is_slot, length_of_line, word_in, Here, Room, FIELD, GAP_LINE, LETTERS, LONGEST_ANSWER, REACH,
     SLOT_LINE, WORD_LINE,
 };
@@ -117,7 +117,7 @@ impl Player<'_> {
                 at += played;
                 continue;
             }
-            match self.play_line(rest, is_end)? {
+            match self.play_line(here, rest, is_end)? {
                 Some(played) => at += played,
                 None => return Ok(at),
             }
@@ -156,10 +156,10 @@ impl Player<'_> {
                 return length;
             }
         }
-        self.play_word(bus, true, bits)
+        self.play_single_command(bus, bits)
     }
 
-    /// Plays the line of a data word, with its whole message where it is the first one, or that of a gap.
+    /// Plays a gap, or lines of data words, with the whole message where they are all of its words.
     #[inline(never)]
     fn play_on_bus(&mut self, here: &Here, bus: Bus) -> usize {
         if is_gap(here, 0, bus) {
@@ -167,30 +167,29 @@ impl Player<'_> {
             self.play_event(Event::Gap(bus));
             return GAP_LINE;
         }
-        if !is_data(here, 0, bus) {
-            return 0;
-        }
-        let Some(bits) = word_in(here, 0) else {
-            return 0;
-        };
-        if self.is_quiet || self.terminal.passes_data(bus) {
-            self.lines += 1;
-            return WORD_LINE;
-        }
         if let Some(command) = self.terminal.collects(bus) {
             let length = self.play_message(here, 0, bus, command);
             if length > 0 {
                 return length;
             }
         }
-        self.play_word(bus, false, bits)
+        let mut words = 0;
+        while words < WORDS {
+            let Some(bits) = data_in(here, words * WORD_LINE, bus) else {
+                break;
+            };
+            self.terminal.take_data(bus, bits);
+            words += 1;
+        }
+        self.is_quiet = self.terminal.is_quiet();
+        self.lines += words as u32;
+        words * WORD_LINE
     }
 
-    /// Plays a valid word by itself.
     #[inline(never)]
-    fn play_word(&mut self, bus: Bus, is_command: bool, bits: u16) -> usize {
+    fn play_single_command(&mut self, bus: Bus, bits: u16) -> usize {
         let word = Word {
-            is_command,
+            is_command: true,
             bits,
             is_valid: true,
         };
@@ -374,7 +373,12 @@ impl Player<'_> {
 
     /// Plays the next line, whatever it is, and says how many bytes it has; None where its end isn't there yet.
     #[inline(never)]
-    fn play_line(&mut self, rest: &[u8], is_end: bool) -> Result<Option<usize>, Fault> {
+    fn play_line(
+        &mut self,
+        here: &Here,
+        rest: &[u8],
+        is_end: bool,
+    ) -> Result<Option<usize>, Fault> {
         if rest.is_empty() {
             return Ok(None);
         }
@@ -382,12 +386,11 @@ impl Player<'_> {
             return Err(Fault::TooManyLines);
         }
         let number = self.lines + 1;
-        let reach = rest.len().min(LONGEST_LINE + 1);
-        let (line, length) = match rest[..reach].iter().position(|byte| *byte == b'\n') {
-            Some(end) => (&rest[..end], end + 1),
-            None if rest.len() > LONGEST_LINE => return Err(Fault::LongLine(number)),
-            None if is_end => (rest, rest.len()),
-            None => return Ok(None),
+        let (line, length) = match length_of_line(here) {
+            Some(end) if end < rest.len() => (&rest[..end], end + 1),
+            _ if rest.len() > LONGEST_LINE => return Err(Fault::LongLine(number)),
+            _ if is_end => (rest, rest.len()),
+            _ => return Ok(None),
         };
         self.lines = number;
         if let [] | [b'#', ..] = line {
@@ -436,13 +439,13 @@ struct Printed {
     beginnings: Box<[[u8; 32]; 64]>,
 }
 
-/// The lines of a subaddress, and room for a vector behind them.
-type Lines = [u8; WORD_LINE * WORDS + 16];
+/// The lines of a subaddress, and room for two vectors behind them.
+type Lines = [u8; WORD_LINE * WORDS + 32];
 
 impl Printed {
     fn new() -> Printed {
         Printed {
-            lines: Box::new([[[0; WORD_LINE * WORDS + 16]; WORDS]; 2]),
+            lines: Box::new([[[0; WORD_LINE * WORDS + 32]; WORDS]; 2]),
             is_known: [false; WORDS],
             status: status_lines(0),
             status_word: 0,

@@ -126,11 +126,12 @@ pub fn word_in(here: &Here, at: usize) -> Option<u16> {
     is_word.then_some(high << 8 | low)
 }
 
-/// Whether a line that stands here begins as that of a data word.
-#[inline]
-pub fn is_data(here: &Here, at: usize, bus: Bus) -> bool {
+/// The word of the line of a data word that stands at a place.
+#[inline(always)]
+pub fn data_in(here: &Here, at: usize, bus: Bus) -> Option<u16> {
     let begin = u32::from_le_bytes(*here[at..].first_chunk().unwrap());
-    begin == u32::from_le_bytes([LETTERS[bus as usize], b' ', b'd', b' '])
+    let is_data = begin == u32::from_le_bytes([LETTERS[bus as usize], b' ', b'd', b' ']);
+    word_in(here, at).filter(|_| is_data)
 }
 
 /// Whether the line of a data word stands here at a place. Its field and the line feed are written to the room, with 2
@@ -139,7 +140,7 @@ pub fn is_data(here: &Here, at: usize, bus: Bus) -> bool {
 pub fn copy_field(here: &Here, at: usize, bus: Bus, room: &mut Room, to: usize) -> bool {
     let field = u64::from_le_bytes(*here[at + 3..].first_chunk().unwrap());
     room[to..to + 8].copy_from_slice(&(field | 0x0020_2020_2020).to_le_bytes());
-    is_data(here, at, bus) && word_in(here, at).is_some()
+    data_in(here, at, bus).is_some()
 }
 
 #[inline]
@@ -238,9 +239,10 @@ pub fn are_slots(here: &Here, at: usize, count: usize) -> bool {
     // the last vector ends with the last slot
     let last = length - 16;
     let mut equal = are_equal(vector(here, at + last), vector(&SLOTS, last));
-    for start in (0..last).step_by(16) {
-        let slots = are_equal(vector(here, at + start), vector(&SLOTS, start));
-        equal = and(equal, slots);
+    let (lines, _) = here[at..].as_chunks::<16>();
+    let (slots, _) = SLOTS.as_chunks::<16>();
+    for (lines, slots) in lines.iter().zip(slots).take(last.div_ceil(16)) {
+        equal = and(equal, are_equal(vector(lines, 0), vector(slots, 0)));
     }
     mask(equal) == 0xffff
 }
@@ -302,11 +304,13 @@ pub fn comments(rest: &[u8]) -> (usize, u32) {
     (length, lines)
 }
 
-/// Copies so many lines of words, with 15 bytes more at most.
+/// Copies so many lines of words, with 31 bytes more at most.
 #[inline]
 pub fn copy_lines(lines: &[u8], first: usize, count: usize, room: &mut Room) {
-    let lines = &lines[first * WORD_LINE..];
-    for start in (0..count * WORD_LINE).step_by(16) {
-        put_vector(room, start, vector(lines, start));
+    let (from, _) = lines[first * WORD_LINE..].as_chunks::<32>();
+    let (to, _) = room.as_chunks_mut::<32>();
+    let pieces = (count * WORD_LINE).div_ceil(32);
+    for (to, from) in to.iter_mut().zip(from).take(pieces) {
+        *to = *from;
     }
 }

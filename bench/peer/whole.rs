@@ -126,18 +126,17 @@ impl Terminal {
     /// Whether a command on this bus starts a message, if it is heard. If it isn't, nothing changes.
     #[inline]
     pub fn is_free(&self, bus: Bus) -> bool {
-        !self.heard[bus as usize] && !self.replies_on(bus) && !self.has_message(bus)
+        !self.heard[bus as usize]
+            && !self.replies_on(bus)
+            && !matches!(self.message, Some(message) if message.bus == bus)
     }
 
+    /// Takes a data word by itself.
     #[inline]
-    fn has_message(&self, bus: Bus) -> bool {
-        matches!(self.message, Some(message) if message.bus == bus)
-    }
-
-    /// Whether data words on this bus change nothing.
-    #[inline]
-    pub fn passes_data(&self, bus: Bus) -> bool {
-        self.replies_on(bus) || !self.has_message(bus)
+    pub fn take_data(&mut self, bus: Bus, bits: u16) {
+        if !self.replies_on(bus) {
+            self.take_other(bus, Some(bits));
+        }
     }
 
     /// The command of the message on this bus that waits for the first of its data words.
