@@ -13,7 +13,7 @@ use fault::Fault;
 use job::{LONGEST_LINE, MOST_LINES};
 use std::io::{Read, Write};
 use std::process::ExitCode;
-use terminal::whole::{Commands, Entry, Kind, Next};
+use terminal::whole::{kind, Commands, Entry, Next};
 use terminal::{Answer, Bus, Event, Flag, Hand, Terminal, Word};
 use vectors::{
     are_slots, comments, copy_field, copy_fields, copy_lines, count_slots, data_in, is_gap,
@@ -34,20 +34,25 @@ fn main() -> ExitCode {
     job::work(play)
 }
 
+/// Zeros that are no pages of memory before something is written there.
+fn zeros<const COUNT: usize>() -> Box<[u8; COUNT]> {
+    vec![0; COUNT].into_boxed_slice().try_into().unwrap()
+}
+
 fn play(
     terminal: Terminal,
     script: &mut dyn Read,
     transcript: &mut dyn Write,
 ) -> Result<(), Fault> {
     let mut player = Player {
-        commands: terminal.commands(),
+        commands: Commands::new(),
         printed: Printed::new(),
         shown: terminal.shown(),
         is_quiet: true,
         terminal,
         transcript: Transcript {
             writer: transcript,
-            block: [0; BLOCK + LONGEST_ANSWER],
+            block: zeros(),
             length: 0,
         },
         lines: 0,
@@ -79,7 +84,7 @@ const COMMANDS_BEGIN: [u32; 2] = [head(b"A c "), head(b"B c ")];
 
 impl Player<'_> {
     fn play_blocks(&mut self, script: &mut dyn Read) -> Result<(), Fault> {
-        let mut block = [0; BLOCK + REACH];
+        let mut block = zeros();
         let mut length = 0;
         loop {
             // the transcript is handed on before a read that may have to wait
@@ -203,15 +208,21 @@ impl Player<'_> {
     /// bytes were played to their end, if they all stand here.
     #[inline(always)]
     fn play_message(&mut self, here: &Here, from: usize, bus: Bus, bits: u16) -> usize {
-        let entry = self.commands.entry(bits);
+        let entry = self.commands.entry(bits, &self.terminal);
         let count = entry.expected();
         let gap = from + WORD_LINE * count;
-        if !is_gap(here, gap, bus) || entry.kind == Kind::Events {
+        if !is_gap(here, gap, bus) || entry.kind == kind::EVENTS {
             return 0;
         }
         let room = self.transcript.room();
-        let (beginning, fields) = self.printed.beginning(entry);
-        room[..32].copy_from_slice(beginning);
+        let subaddress = usize::from(bits >> 5 & 31);
+        let fields = if bits >> 11 == 31 {
+            room[..32].copy_from_slice(&HEARD[subaddress]);
+            HEARD_LENGTH
+        } else {
+            room[..32].copy_from_slice(&RECEIVED[subaddress]);
+            RECEIVED_LENGTH
+        };
         let are_data = match count {
             0 => true,
             1 => copy_field(here, from, bus, room, fields),
@@ -222,7 +233,7 @@ impl Player<'_> {
         }
         let slots = gap + GAP_LINE;
         self.lines += (count + from / WORD_LINE) as u32 + 1;
-        if entry.kind == Kind::Other {
+        if entry.kind == kind::OTHER {
             return slots;
         }
         if !self.is_quiet {
@@ -230,28 +241,28 @@ impl Player<'_> {
             self.is_quiet = self.terminal.is_quiet();
         }
         match entry.kind {
-            Kind::Receive | Kind::Heard => {
-                let is_broadcast = entry.kind == Kind::Heard;
+            kind::RECEIVE | kind::HEARD => {
+                let is_broadcast = entry.kind == kind::HEARD;
                 self.terminal.take(bits, self.shown, is_broadcast);
                 if !self.terminal.is_busy() {
                     let end = fields + count * FIELD;
                     room[end] = b'\n';
                     self.transcript.length += end + 1;
                     if entry.turns_round {
-                        self.turn_round(bits, count);
+                        self.turn_round(subaddress, count);
                     }
                 }
                 if is_broadcast {
                     return slots;
                 }
             }
-            Kind::Transmit => {
+            kind::TRANSMIT => {
                 self.terminal.take(bits, self.shown, false);
                 if !self.terminal.is_busy() && self.terminal.can_send(bus) {
-                    return self.play_reply(here, slots, bus, bits, usize::from(entry.asked));
+                    return self.play_reply(here, slots, bus, subaddress, entry.asked());
                 }
             }
-            Kind::Status => self.terminal.take_status_asked(bits),
+            kind::STATUS => self.terminal.take_status_asked(bits),
             _ => return self.play_rare(bus, bits, entry, fields, slots),
         }
         if !self.terminal.can_send(bus) {
@@ -268,8 +279,14 @@ impl Player<'_> {
 
     /// Plays the slots of a reply of held words if they all stand here, and says where they end.
     #[inline(always)]
-    fn play_reply(&mut self, here: &Here, at: usize, bus: Bus, bits: u16, words: usize) -> usize {
-        let subaddress = usize::from(bits >> 5 & 31);
+    fn play_reply(
+        &mut self,
+        here: &Here,
+        at: usize,
+        bus: Bus,
+        subaddress: usize,
+        words: usize,
+    ) -> usize {
         if !are_slots(here, at, 1 + words) {
             self.begin_reply(bus, subaddress, words);
             return at;
@@ -299,8 +316,7 @@ impl Player<'_> {
 
     /// Holds the words that were handed over last, to be sent.
     #[inline(never)]
-    fn turn_round(&mut self, bits: u16, count: usize) {
-        let subaddress = usize::from(bits >> 5 & 31);
+    fn turn_round(&mut self, subaddress: usize, count: usize) {
         let line = &self.transcript.block[..self.transcript.length - 1];
         for (index, field) in line[line.len() - count * FIELD..].chunks(FIELD).enumerate() {
             let word = bits_of(*field[1..].first_chunk().unwrap());
@@ -416,27 +432,38 @@ impl Player<'_> {
     }
 }
 
-/// How the lines begin that hand words over, by subaddress: words to the own address, then words that came by broadcast.
-fn beginnings() -> Box<[[u8; 32]; 64]> {
-    Box::new(std::array::from_fn(|place| {
-        let to = ["own", "broadcast"][place / 32];
-        let line = format!("hand receive {to} {:02}", place % 32);
-        let mut text = [0; 32];
-        text[..line.len()].copy_from_slice(line.as_bytes());
-        text
-    }))
+/// How lines begin that hand words over, by subaddress. Behind it is room, so that all are copied in pieces of one length.
+type Beginnings = [[u8; 32]; 32];
+const RECEIVED: Beginnings = beginnings(b"hand receive own ");
+const RECEIVED_LENGTH: usize = 19;
+const HEARD: Beginnings = beginnings(b"hand receive broadcast ");
+const HEARD_LENGTH: usize = 25;
+
+const fn beginnings(text: &[u8]) -> Beginnings {
+    let mut lines = [[0; 32]; 32];
+    let mut subaddress = 0;
+    while subaddress < 32 {
+        let mut at = 0;
+        while at < text.len() {
+            lines[subaddress][at] = text[at];
+            at += 1;
+        }
+        lines[subaddress][at] = b'0' + subaddress as u8 / 10;
+        lines[subaddress][at + 1] = b'0' + subaddress as u8 % 10;
+        subaddress += 1;
+    }
+    lines
 }
 
 /// Words as lines of a transcript.
 struct Printed {
     /// The words that are held, for each bus.
-    lines: Box<[[Lines; WORDS]; 2]>,
+    lines: Vec<[Lines; WORDS]>,
     /// Of which subaddresses the lines are those of the words.
     is_known: [bool; WORDS],
     /// The line of a status word, for each bus, in a vector.
     status: [[u8; 16]; 2],
     status_word: u16,
-    beginnings: Box<[[u8; 32]; 64]>,
 }
 
 /// The lines of a subaddress, and room for two vectors behind them.
@@ -445,20 +472,11 @@ type Lines = [u8; WORD_LINE * WORDS + 32];
 impl Printed {
     fn new() -> Printed {
         Printed {
-            lines: Box::new([[[0; WORD_LINE * WORDS + 32]; WORDS]; 2]),
+            lines: vec![[[0; WORD_LINE * WORDS + 32]; WORDS]; 2],
             is_known: [false; WORDS],
             status: status_lines(0),
             status_word: 0,
-            beginnings: beginnings(),
         }
-    }
-
-    /// How the line begins that hands the words of this command over, and how many bytes of that are needed.
-    #[inline(always)]
-    fn beginning(&self, entry: Entry) -> (&[u8; 32], usize) {
-        let place = usize::from(entry.subaddress % 32) + 32 * usize::from(entry.is_broadcast);
-        let length = if entry.is_broadcast { 25 } else { 19 };
-        (&self.beginnings[place], length)
     }
 
     fn forget(&mut self) {
@@ -626,7 +644,7 @@ fn word_line(bus: Bus, kind: u8, word: u16) -> [u8; WORD_LINE] {
 /// The transcript, which is written in blocks.
 struct Transcript<'a> {
     writer: &'a mut dyn Write,
-    block: [u8; BLOCK + LONGEST_ANSWER],
+    block: Box<[u8; BLOCK + LONGEST_ANSWER]>,
     length: usize,
 }
 

@@ -2,41 +2,35 @@
 //! terminal together. Each call does what the events do one by one.
 use super::{
     code, status, AfterStatus, Answer, Bus, Command, Flag, Followed, Message, Phase, Reply,
-    Terminal, BROADCAST, WORDS,
+    Terminal, WORDS,
 };
 
-/// How many commands there are to an address.
-const COMMANDS: usize = 2048;
-
 /// What a whole message is.
-#[derive(Clone, Copy, PartialEq, Eq)]
-pub enum Kind {
+pub mod kind {
+    /// Not found out yet.
+    pub const UNKNOWN: u8 = 0;
     /// One that is taken event by event.
-    Events,
+    pub const EVENTS: u8 = 1;
     /// One that isn't for this terminal.
-    Other,
-    Illegal,
+    pub const OTHER: u8 = 2;
+    pub const ILLEGAL: u8 = 3;
     /// Words to the own address.
-    Receive,
+    pub const RECEIVE: u8 = 4;
     /// Words by broadcast.
-    Heard,
-    Transmit,
+    pub const HEARD: u8 = 5;
+    pub const TRANSMIT: u8 = 6;
     /// Transmit status word.
-    Status,
+    pub const STATUS: u8 = 7;
     /// Any other mode code.
-    Mode,
+    pub const MODE: u8 = 8;
 }
 
 /// What of a command doesn't change.
 #[derive(Clone, Copy)]
 pub struct Entry {
-    pub kind: Kind,
-    /// How many data words are to follow it.
+    pub kind: u8,
     expected: u8,
-    pub subaddress: u8,
-    pub is_broadcast: bool,
-    /// How many it asks for.
-    pub asked: u8,
+    asked: u8,
     /// Whether its data words are held to be sent.
     pub turns_round: bool,
 }
@@ -47,6 +41,36 @@ impl Entry {
     pub fn expected(self) -> usize {
         // so the compiler knows how far a message reaches
         usize::from(self.expected & 63)
+    }
+
+    /// How many data words it asks for.
+    #[inline(always)]
+    pub fn asked(self) -> usize {
+        usize::from(self.asked & 63)
+    }
+}
+
+/// What all commands are. Each is found out when it comes first, so memory is taken for those alone that come.
+pub struct Commands(Box<[[u8; 4]; 65_536]>);
+
+impl Commands {
+    pub fn new() -> Commands {
+        Commands(vec![[0; 4]; 65_536].into_boxed_slice().try_into().unwrap())
+    }
+
+    #[inline(always)]
+    pub fn entry(&mut self, bits: u16, terminal: &Terminal) -> Entry {
+        let entry = &mut self.0[usize::from(bits)];
+        if entry[0] == kind::UNKNOWN {
+            *entry = terminal.find_out(Command(bits));
+        }
+        let [kind, expected, asked, turns_round] = *entry;
+        Entry {
+            kind,
+            expected,
+            asked,
+            turns_round: turns_round != 0,
+        }
     }
 }
 
@@ -59,62 +83,27 @@ pub enum Next {
     Event,
 }
 
-/// What all commands are: those to the own address, to all and to another terminal.
-pub struct Commands {
-    entries: Box<[Entry; 3 * COMMANDS]>,
-    /// Where the commands to each address begin.
-    begins: [u16; 32],
-}
-
-impl Commands {
-    #[inline(always)]
-    pub fn entry(&self, bits: u16) -> Entry {
-        self.entries[usize::from(self.begins[usize::from(bits >> 11)]) + usize::from(bits & 0x07ff)]
-    }
-}
-
 impl Terminal {
-    pub fn commands(&self) -> Commands {
-        let (own, other) = (self.profile.address, (self.profile.address + 1) % BROADCAST);
-        let heard = if self.profile.broadcast { BROADCAST } else { other };
-        let mut begins = [2 * COMMANDS as u16; 32];
-        begins[usize::from(own)] = 0;
-        begins[usize::from(BROADCAST)] = COMMANDS as u16;
-        let entries: Vec<Entry> = [own, heard, other]
-            .iter()
-            .flat_map(|address| (0..COMMANDS as u16).map(move |low| Command(address << 11 | low)))
-            .map(|command| self.entry(command))
-            .collect();
-        Commands {
-            entries: entries.into_boxed_slice().try_into().unwrap_or_else(|_| unreachable!()),
-            begins,
-        }
-    }
-
-    fn entry(&self, command: Command) -> Entry {
+    #[cold]
+    fn find_out(&self, command: Command) -> [u8; 4] {
         let kind = match (self.is_legal(command), command.is_mode()) {
-            _ if !self.is_address_heard(command) => Kind::Other,
+            _ if !self.is_address_heard(command) => kind::OTHER,
             // illegal or not, this one isn't kept as the last command
-            _ if self.is_own_code(command, code::TRANSMIT_LAST_COMMAND) => Kind::Events,
-            (false, _) => Kind::Illegal,
+            _ if self.is_own_code(command, code::TRANSMIT_LAST_COMMAND) => kind::EVENTS,
+            (false, _) => kind::ILLEGAL,
             (true, true) => match command.code() {
                 // a reset may act at once
-                code::RESET => Kind::Events,
-                code::TRANSMIT_STATUS => Kind::Status,
-                _ => Kind::Mode,
+                code::RESET => kind::EVENTS,
+                code::TRANSMIT_STATUS => kind::STATUS,
+                _ => kind::MODE,
             },
-            (true, false) if command.is_transmit() => Kind::Transmit,
-            (true, false) if command.is_broadcast() => Kind::Heard,
-            (true, false) => Kind::Receive,
+            (true, false) if command.is_transmit() => kind::TRANSMIT,
+            (true, false) if command.is_broadcast() => kind::HEARD,
+            (true, false) => kind::RECEIVE,
         };
-        Entry {
-            kind,
-            expected: command.expected() as u8,
-            subaddress: command.subaddress() as u8,
-            is_broadcast: command.is_broadcast(),
-            asked: command.count() as u8,
-            turns_round: command.subaddress() == self.profile.wraparound,
-        }
+        let turns_round = command.subaddress() == self.profile.wraparound;
+        let (expected, asked) = (command.expected(), command.count());
+        [kind, expected as u8, asked as u8, u8::from(turns_round)]
     }
 
     /// Whether nothing is in progress on either bus.
@@ -194,7 +183,7 @@ impl Terminal {
             bus,
             command: Command(bits),
             expected: 0,
-            is_legal: entry.kind != Kind::Illegal,
+            is_legal: entry.kind != kind::ILLEGAL,
             phase: Phase::Command,
             followed: Followed::Data(0),
         })
