@@ -13,11 +13,11 @@ use fault::Fault;
 use job::{LONGEST_LINE, MOST_LINES};
 use std::io::{Read, Write};
 use std::process::ExitCode;
-use terminal::whole::{kind, Commands, Entry, Next};
+use terminal::whole::{kind, Commands, Held, Next};
 use terminal::{Answer, Bus, Event, Flag, Hand, Terminal, Word};
 use vectors::{
     are_slots, comments, copy_field, copy_fields, copy_lines, count_slots, data_in, is_gap,
-    is_slot, length_of_line, word_in, Here, Room, FIELD, GAP_LINE, LETTERS, LONGEST_ANSWER, REACH,
+    is_slot, length_of_line, word_at, word_in, Here, Room, FIELD, GAP_LINE, LETTERS, LONGEST_ANSWER, REACH,
     SLOT_LINE, WORD_LINE,
 };
 
@@ -169,7 +169,12 @@ impl Player<'_> {
     fn play_on_bus(&mut self, here: &Here, bus: Bus) -> usize {
         if is_gap(here, 0, bus) {
             self.lines += 1;
-            self.play_event(Event::Gap(bus));
+            if !self.is_quiet {
+                self.forget_changed();
+                let answer = self.terminal.take_gap_on(bus);
+                self.transcript.put_answer(&answer);
+                self.look_again();
+            }
             return GAP_LINE;
         }
         if let Some(command) = self.terminal.collects(bus) {
@@ -193,12 +198,7 @@ impl Player<'_> {
 
     #[inline(never)]
     fn play_single_command(&mut self, bus: Bus, bits: u16) -> usize {
-        let word = Word {
-            is_command: true,
-            bits,
-            is_valid: true,
-        };
-        self.terminal.step(Event::Word(bus, word));
+        self.terminal.take_command_on(bus, bits);
         self.is_quiet = self.terminal.is_quiet();
         self.lines += 1;
         WORD_LINE
@@ -262,8 +262,15 @@ impl Player<'_> {
                     return self.play_reply(here, slots, bus, subaddress, entry.asked());
                 }
             }
+            kind::ILLEGAL => {
+                let is_broadcast = bits >> 11 == 31;
+                self.terminal.take_illegal(bits, self.shown, is_broadcast);
+                if is_broadcast {
+                    return slots;
+                }
+            }
             kind::STATUS => self.terminal.take_status_asked(bits),
-            _ => return self.play_rare(bus, bits, entry, fields, slots),
+            _ => return self.play_mode_code(bus, bits, fields, slots),
         }
         if !self.terminal.can_send(bus) {
             return slots;
@@ -302,15 +309,13 @@ impl Player<'_> {
         self.is_quiet = false;
     }
 
-    /// Takes the whole message of an illegal command or a mode code, whose data word stands in the transcript's room if
-    /// it has one.
+    /// Takes the whole message of a mode code, whose data word stands in the transcript's room if it has one.
     #[inline(never)]
-    fn play_rare(&mut self, bus: Bus, bits: u16, entry: Entry, field: usize, length: usize) -> usize {
-        let word = bits_of(*self.transcript.room()[field + 1..].first_chunk().unwrap());
-        let answer = self.terminal.take_rare(bus, bits, entry, word);
+    fn play_mode_code(&mut self, bus: Bus, bits: u16, field: usize, length: usize) -> usize {
+        let word = word_at(self.transcript.room(), field + 1).unwrap_or(0);
+        let answer = self.terminal.take_mode_code(bus, bits, word);
         self.transcript.put_answer(&answer);
-        self.shown = self.terminal.shown();
-        self.is_quiet = self.terminal.is_quiet();
+        self.look_again();
         length
     }
 
@@ -319,8 +324,8 @@ impl Player<'_> {
     fn turn_round(&mut self, subaddress: usize, count: usize) {
         let line = &self.transcript.block[..self.transcript.length - 1];
         for (index, field) in line[line.len() - count * FIELD..].chunks(FIELD).enumerate() {
-            let word = bits_of(*field[1..].first_chunk().unwrap());
-            self.terminal.hold(subaddress, index, word);
+            self.terminal
+                .hold(subaddress, index, word_at(field, 1).unwrap());
         }
         self.printed.is_known[subaddress] = false;
     }
@@ -350,7 +355,10 @@ impl Player<'_> {
         let slots = match self.terminal.next_words() {
             Next::Nothing => count_slots(rest, (MOST_LINES - self.lines) as usize),
             Next::Event => {
-                self.play_event(Event::Slot);
+                self.forget_changed();
+                let answer = self.terminal.take_next_slot();
+                self.transcript.put_answer(&answer);
+                self.look_again();
                 1
             }
             Next::Held(bus, subaddress, first, last) => {
@@ -419,7 +427,7 @@ impl Player<'_> {
     #[inline(never)]
     fn play_event(&mut self, event: Event) {
         match event {
-            Event::Gap(_) | Event::Slot if self.terminal.may_change_held() => self.printed.forget(),
+            Event::Gap(_) | Event::Slot => self.forget_changed(),
             Event::Write(subaddress, number, word) => {
                 self.printed
                     .put(usize::from(subaddress), usize::from(number) - 1, word)
@@ -427,6 +435,20 @@ impl Player<'_> {
             _ => {}
         }
         self.transcript.put_answer(&self.terminal.step(event));
+        self.look_again();
+    }
+
+    /// Forgets the printed lines of words that a gap or a slot may change.
+    fn forget_changed(&mut self) {
+        match self.terminal.changes_held() {
+            Held::Nothing => {}
+            Held::One(subaddress) => self.printed.is_known[subaddress] = false,
+            Held::All => self.printed.is_known = [false; WORDS],
+        }
+    }
+
+    /// Looks at the terminal again after an event.
+    fn look_again(&mut self) {
         self.shown = self.terminal.shown();
         self.is_quiet = self.terminal.is_quiet();
     }
@@ -479,10 +501,6 @@ impl Printed {
         }
     }
 
-    fn forget(&mut self) {
-        self.is_known = [false; WORDS];
-    }
-
     fn put(&mut self, subaddress: usize, index: usize, word: u16) {
         for bus in [Bus::A, Bus::B] {
             let lines = &mut self.lines[bus as usize][subaddress];
@@ -528,13 +546,13 @@ fn read_event(line: &[u8]) -> Option<Event> {
         [bus, b' ', kind, b' ', a, b, c, d] => {
             let word = Word {
                 is_command: read_kind(kind)?,
-                bits: read_bits([a, b, c, d])?,
+                bits: word_at(&[a, b, c, d], 0)?,
                 is_valid: true,
             };
             Some(Event::Word(read_bus(bus)?, word))
         }
         [bus, b' ', kind, b' ', a, b, c, d, b' ', parity @ (b'0' | b'1')] => {
-            let bits = read_bits([a, b, c, d])?;
+            let bits = word_at(&[a, b, c, d], 0)?;
             let word = Word {
                 is_command: read_kind(kind)?,
                 bits,
@@ -546,13 +564,13 @@ fn read_event(line: &[u8]) -> Option<Event> {
             Some(Event::Write(
                 read_number(s, t, 30)?,
                 read_number(i, j, 32)?,
-                read_bits([a, b, c, d])?,
+                word_at(&[a, b, c, d], 0)?,
             ))
         }
         [b'v', b'e', b'c', b't', b'o', b'r', b' ', a, b, c, d] => {
-            Some(Event::Vector(read_bits([a, b, c, d])?))
+            Some(Event::Vector(word_at(&[a, b, c, d], 0)?))
         }
-        [b'b', b'i', b't', b' ', a, b, c, d] => Some(Event::Bit(read_bits([a, b, c, d])?)),
+        [b'b', b'i', b't', b' ', a, b, c, d] => Some(Event::Bit(word_at(&[a, b, c, d], 0)?)),
         [b'f', b'l', b'a', b'g', b' ', ref flag @ .., b' ', state @ (b'0' | b'1')] => {
             Some(Event::Flag(read_flag(flag)?, state == b'1'))
         }
@@ -594,23 +612,6 @@ fn read_number(tens: u8, ones: u8, most: u8) -> Option<u8> {
     }
     let number = (tens - b'0') * 10 + (ones - b'0');
     (1..=most).contains(&number).then_some(number)
-}
-
-fn read_bits(digits: [u8; 4]) -> Option<u16> {
-    digits
-        .iter()
-        .all(u8::is_ascii_hexdigit)
-        .then(|| bits_of(digits))
-}
-
-/// The word of four hexadecimal digits.
-#[inline]
-fn bits_of(digits: [u8; 4]) -> u16 {
-    // a digit is its low four bits, and nine more where it is a letter
-    let digits = u32::from_be_bytes(digits);
-    let values = (digits & 0x0f0f_0f0f) + (digits >> 6 & 0x0101_0101) * 9;
-    let pairs = values >> 4 & 0x00f0_00f0 | values & 0x000f_000f;
-    (pairs >> 8 | pairs) as u16
 }
 
 /// The two digits of each byte.

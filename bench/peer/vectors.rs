@@ -115,15 +115,18 @@ static PAIRS: [u16; 65_536] = {
     pairs
 };
 
-/// The word of the line that stands at a place, if the line of a word does whose first four bytes do.
+/// The word of four digits, if they stand at a place.
+#[inline(always)]
+pub fn word_at(bytes: &[u8], at: usize) -> Option<u16> {
+    let digits = u32::from_le_bytes(*bytes[at..].first_chunk().unwrap());
+    let (high, low) = (PAIRS[digits as usize & 0xffff], PAIRS[digits as usize >> 16]);
+    ((high | low) & NO_DIGITS == 0).then_some(high << 8 | low)
+}
+
+/// The word of the line that stands at a place, if it is the line of a word whose first four bytes are.
 #[inline(always)]
 pub fn word_in(here: &Here, at: usize) -> Option<u16> {
-    let pair = |at: usize| {
-        PAIRS[usize::from(u16::from_le_bytes(*here[at..].first_chunk().unwrap()))]
-    };
-    let (high, low) = (pair(at + 4), pair(at + 6));
-    let is_word = (high | low) & NO_DIGITS == 0 && here[at + WORD_LINE - 1] == b'\n';
-    is_word.then_some(high << 8 | low)
+    word_at(here, at + 4).filter(|_| here[at + WORD_LINE - 1] == b'\n')
 }
 
 /// The word of the line of a data word that stands at a place.

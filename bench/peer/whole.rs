@@ -83,6 +83,14 @@ pub enum Next {
     Event,
 }
 
+/// Held words that may be changed.
+pub enum Held {
+    Nothing,
+    /// Those of this subaddress.
+    One(usize),
+    All,
+}
+
 impl Terminal {
     #[cold]
     fn find_out(&self, command: Command) -> [u8; 4] {
@@ -118,6 +126,26 @@ impl Terminal {
         !self.heard[bus as usize]
             && !self.replies_on(bus)
             && !matches!(self.message, Some(message) if message.bus == bus)
+    }
+
+    /// Takes a gap by itself.
+    pub fn take_gap_on(&mut self, bus: Bus) -> Answer<'_> {
+        if self.replies_on(bus) {
+            return Answer::Silent;
+        }
+        self.take_gap(bus)
+    }
+
+    /// Takes a slot by itself.
+    pub fn take_next_slot(&mut self) -> Answer<'static> {
+        self.take_slot()
+    }
+
+    /// Takes a command by itself.
+    pub fn take_command_on(&mut self, bus: Bus, bits: u16) {
+        if !self.replies_on(bus) {
+            self.take_command(bus, Command(bits));
+        }
     }
 
     /// Takes a data word by itself.
@@ -175,15 +203,21 @@ impl Terminal {
         self.last_command = bits;
     }
 
-    /// Takes a whole message of an illegal command or a mode code, and begins its reply.
-    pub fn take_rare(&mut self, bus: Bus, bits: u16, entry: Entry, word: u16) -> Answer<'_> {
+    /// Takes a whole message of an illegal command. The reply is left to the caller.
+    #[inline]
+    pub fn take_illegal(&mut self, bits: u16, shown: u16, is_broadcast: bool) {
+        self.take(bits, shown | status::MESSAGE_ERROR, is_broadcast);
+    }
+
+    /// Takes a whole message of a mode code, and begins its reply.
+    pub fn take_mode_code(&mut self, bus: Bus, bits: u16, word: u16) -> Answer<'_> {
         self.last_command = bits;
         self.received[0] = word;
         self.complete(Message {
             bus,
             command: Command(bits),
             expected: 0,
-            is_legal: entry.kind != kind::ILLEGAL,
+            is_legal: true,
             phase: Phase::Command,
             followed: Followed::Data(0),
         })
@@ -252,12 +286,19 @@ impl Terminal {
         }
     }
 
-    /// Whether the message that a gap would end, or the reply that a slot would go on with, may reset the held words
-    /// or turn words round.
-    pub fn may_change_held(&self) -> bool {
-        let resets = matches!(self.reply, Some(reply) if matches!(reply.after, AfterStatus::Reset));
-        resets
-            || matches!(self.message, Some(message)
-                if message.command.is_mode() || message.command.subaddress() == self.profile.wraparound)
+    /// Which held words may be changed by the message that a gap would end, or the reply that a slot would go on with.
+    pub fn changes_held(&self) -> Held {
+        if matches!(self.reply, Some(reply) if matches!(reply.after, AfterStatus::Reset)) {
+            return Held::All;
+        }
+        match self.message {
+            Some(Message { command, .. }) if command.is_mode() && command.code() == code::RESET => {
+                Held::All
+            }
+            Some(Message { command, .. }) if command.subaddress() == self.profile.wraparound => {
+                Held::One(self.profile.wraparound)
+            }
+            _ => Held::Nothing,
+        }
     }
 }
