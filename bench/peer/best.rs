@@ -7,38 +7,36 @@ mod job;
 mod profile;
 mod terminal;
 mod toml;
+mod vectors;
 
 use fault::Fault;
 use job::{LONGEST_LINE, MOST_LINES};
-use std::arch::x86_64::*;
 use std::io::{Read, Write};
 use std::process::ExitCode;
-use terminal::whole::{place, Entry, Expects, Next, COMMANDS};
+use terminal::whole::{kind, Commands, Held, Next};
 use terminal::{Answer, Bus, Event, Flag, Hand, Terminal, Word};
+use vectors::{
+    are_slots, comments, copy_field, copy_fields, copy_lines, count_slots, data_in, is_gap,
+    is_slot, length_of_line, word_at, word_in, Here, Room, FIELD, GAP_LINE, LETTERS, LONGEST_ANSWER, REACH,
+    SLOT_LINE, WORD_LINE,
+};
 
 /// How many bytes are read and written at a time.
 const BLOCK: usize = 65_536;
 
-/// How many bytes of a script are looked at from a line on, at most: a message of 32 words, and a vector.
-const REACH: usize = 384;
-
-/// How many bytes are written at once, at most: a reply of 33 words, and a vector.
-const LONGEST_ANSWER: usize = 384;
-
-/// How many bytes a line of a word has, in a script and in a transcript.
-const WORD_LINE: usize = 9;
-
-/// How many bytes `slot` has, with its line feed.
-const SLOT_LINE: usize = 5;
-
-/// How many bytes the line of a gap has, with its line feed.
-const GAP_LINE: usize = 6;
-
 /// How many words a subaddress holds.
 const WORDS: usize = 32;
 
+/// How many lines are played at once, at most, but for runs of slots and comments: a message of 32 words with its slot.
+const MOST_AT_ONCE: u32 = WORDS as u32 + 3;
+
 fn main() -> ExitCode {
     job::work(play)
+}
+
+/// Zeros that are no pages of memory before something is written there.
+fn zeros<const COUNT: usize>() -> Box<[u8; COUNT]> {
+    vec![0; COUNT].into_boxed_slice().try_into().unwrap()
 }
 
 fn play(
@@ -47,42 +45,57 @@ fn play(
     transcript: &mut dyn Write,
 ) -> Result<(), Fault> {
     let mut player = Player {
-        commands: terminal.commands(),
+        commands: Commands::new(),
         printed: Printed::new(),
+        shown: terminal.shown(),
+        is_quiet: true,
         terminal,
         transcript: Transcript {
             writer: transcript,
-            block: [0; BLOCK],
+            block: zeros(),
             length: 0,
         },
         lines: 0,
     };
     let result = player.play_blocks(script);
-    // what was answered before a fault stands
-    result.and(player.transcript.hand_on())
+    // what was answered before a fault stands, and where it can't be written, that is told
+    player.transcript.hand_on().and(result)
 }
 
 struct Player<'a> {
     terminal: Terminal,
-    commands: Box<[Entry; COMMANDS]>,
+    commands: Commands,
     printed: Printed,
+    /// The status of a message to the own address that ends well, as the flags stand.
+    shown: u16,
+    /// Whether nothing is in progress on either bus.
+    is_quiet: bool,
     transcript: Transcript<'a>,
     /// How many lines were played.
     lines: u32,
 }
 
+/// The first four bytes of a line.
+const fn head(line: &[u8; 4]) -> u32 {
+    u32::from_le_bytes(*line)
+}
+
+const COMMANDS_BEGIN: [u32; 2] = [head(b"A c "), head(b"B c ")];
+
 impl Player<'_> {
     fn play_blocks(&mut self, script: &mut dyn Read) -> Result<(), Fault> {
-        let mut block = [0; BLOCK];
+        let mut block = zeros();
         let mut length = 0;
         loop {
             // the transcript is handed on before a read that may have to wait
             self.transcript.hand_on()?;
             let count = script
-                .read(&mut block[length..])
+                .read(&mut block[length..BLOCK])
                 .map_err(|_| Fault::Input)?;
             length += count;
-            let done = self.play_block(&block[..length], count == 0)?;
+            // no line but a comment has this byte: no other one goes on behind what was read
+            block[length] = 0;
+            let done = self.play_block(&block, length, count == 0)?;
             if count == 0 {
                 return Ok(());
             }
@@ -91,169 +104,305 @@ impl Player<'_> {
         }
     }
 
-    /// Plays the lines of a block, and says how many bytes they have. Where the script ends with the block, so does
-    /// its last line.
-    fn play_block(&mut self, block: &[u8], is_end: bool) -> Result<usize, Fault> {
+    /// Plays the lines of a block of this length, and says how many bytes they have. Where the script ends with the
+    /// block, so does its last line.
+    fn play_block(
+        &mut self,
+        block: &[u8; BLOCK + REACH],
+        length: usize,
+        is_end: bool,
+    ) -> Result<usize, Fault> {
         let mut at = 0;
         loop {
-            if block.len() - at >= REACH && MOST_LINES - self.lines > WORDS as u32 + 2 {
-                // a block is long enough here for all that is looked at
-                let here = block[at..].first_chunk().unwrap();
-                if let Some(length) = self.play_usual(here)? {
-                    at += length;
-                    continue;
-                }
+            self.transcript.make_room()?;
+            let here = block[at..].first_chunk().unwrap();
+            let rest = &block[at..length];
+            let played = self.play_usual(here, rest);
+            if played > 0 {
+                at += played;
+                continue;
             }
-            match self.play_line(&block[at..], is_end)? {
-                Some(length) => at += length,
+            match self.play_line(here, rest, is_end)? {
+                Some(played) => at += played,
                 None => return Ok(at),
             }
         }
     }
 
-    /// Plays what stands here, if it is a comment, a run of slots, a whole message or a word, and says how many
-    /// bytes that has.
-    #[inline]
-    fn play_usual(&mut self, here: &[u8; REACH]) -> Result<Option<usize>, Fault> {
-        Ok(match here[0] {
-            b'#' => self.pass_comment(here),
-            b's' => self.play_slots(here)?,
-            b'A' => self.play_on_bus(here, Bus::A)?,
-            b'B' => self.play_on_bus(here, Bus::B)?,
-            _ => None,
-        })
+    /// Plays what stands here, if it is a line of a word, a gap, slots or comments, and says how many bytes that has. A
+    /// command is played with its whole message and the slots of its reply.
+    #[inline(always)]
+    fn play_usual(&mut self, here: &Here, rest: &[u8]) -> usize {
+        if MOST_LINES - self.lines < MOST_AT_ONCE {
+            return 0;
+        }
+        let bus = match here[0] {
+            b'A' => Bus::A,
+            b'B' => Bus::B,
+            b's' => return self.play_slots(here, rest),
+            b'#' => return self.pass_comments(here, rest),
+            _ => return 0,
+        };
+        if head(here.first_chunk().unwrap()) == COMMANDS_BEGIN[bus as usize] {
+            self.play_command(here, bus)
+        } else {
+            self.play_on_bus(here, bus)
+        }
     }
 
-    fn pass_comment(&mut self, here: &[u8; REACH]) -> Option<usize> {
-        let feeds = (0..4).fold(0, |feeds, part| {
-            let equal = unsafe { _mm_cmpeq_epi8(vector(here, part * 16), _mm_set1_epi8(10)) };
-            feeds | u64::from(mask(equal)) << (part * 16)
-        });
-        let length = match feeds {
-            0 if here[LONGEST_LINE] == b'\n' => LONGEST_LINE,
-            0 => return None,
-            _ => feeds.trailing_zeros() as usize,
+    #[inline(always)]
+    fn play_command(&mut self, here: &Here, bus: Bus) -> usize {
+        let Some(bits) = word_in(here, 0) else {
+            return 0;
+        };
+        if self.is_quiet || self.terminal.is_free(bus) {
+            let length = self.play_message(here, WORD_LINE, bus, bits);
+            if length > 0 {
+                return length;
+            }
+        }
+        self.play_single_command(bus, bits)
+    }
+
+    /// Plays a gap, or lines of data words, with the whole message where they are all of its words.
+    #[inline(never)]
+    fn play_on_bus(&mut self, here: &Here, bus: Bus) -> usize {
+        if is_gap(here, 0, bus) {
+            self.lines += 1;
+            if !self.is_quiet {
+                self.forget_changed();
+                let answer = self.terminal.take_gap_on(bus);
+                self.transcript.put_answer(&answer);
+                self.look_again();
+            }
+            return GAP_LINE;
+        }
+        if let Some(command) = self.terminal.collects(bus) {
+            let length = self.play_message(here, 0, bus, command);
+            if length > 0 {
+                return length;
+            }
+        }
+        let mut words = 0;
+        while words < WORDS {
+            let Some(bits) = data_in(here, words * WORD_LINE, bus) else {
+                break;
+            };
+            self.terminal.take_data(bus, bits);
+            words += 1;
+        }
+        self.is_quiet = self.terminal.is_quiet();
+        self.lines += words as u32;
+        words * WORD_LINE
+    }
+
+    #[inline(never)]
+    fn play_single_command(&mut self, bus: Bus, bits: u16) -> usize {
+        self.terminal.take_command_on(bus, bits);
+        self.is_quiet = self.terminal.is_quiet();
+        self.lines += 1;
+        WORD_LINE
+    }
+
+    /// Plays the data words of a message from a place on, the gap after them and the slots of its reply, and says how many
+    /// bytes were played to their end, if they all stand here.
+    #[inline(always)]
+    fn play_message(&mut self, here: &Here, from: usize, bus: Bus, bits: u16) -> usize {
+        let entry = self.commands.entry(bits, &self.terminal);
+        let count = entry.expected();
+        let gap = from + WORD_LINE * count;
+        if !is_gap(here, gap, bus) || entry.kind == kind::EVENTS {
+            return 0;
+        }
+        let room = self.transcript.room();
+        let subaddress = usize::from(bits >> 5 & 31);
+        let fields = if bits >> 11 == 31 {
+            room[..32].copy_from_slice(&HEARD[subaddress]);
+            HEARD_LENGTH
+        } else {
+            room[..32].copy_from_slice(&RECEIVED[subaddress]);
+            RECEIVED_LENGTH
+        };
+        let are_data = match count {
+            0 => true,
+            1 => copy_field(here, from, bus, room, fields),
+            _ => copy_fields(here, from, count, bus, room, fields),
+        };
+        if !are_data {
+            return 0;
+        }
+        let slots = gap + GAP_LINE;
+        self.lines += (count + from / WORD_LINE) as u32 + 1;
+        if entry.kind == kind::OTHER {
+            return slots;
+        }
+        if !self.is_quiet {
+            self.terminal.drop_all(bus);
+            self.is_quiet = self.terminal.is_quiet();
+        }
+        match entry.kind {
+            kind::RECEIVE | kind::HEARD => {
+                let is_broadcast = entry.kind == kind::HEARD;
+                self.terminal.take(bits, self.shown, is_broadcast);
+                if !self.terminal.is_busy() {
+                    let end = fields + count * FIELD;
+                    room[end] = b'\n';
+                    self.transcript.length += end + 1;
+                    if entry.turns_round {
+                        self.turn_round(subaddress, count);
+                    }
+                }
+                if is_broadcast {
+                    return slots;
+                }
+            }
+            kind::TRANSMIT => {
+                self.terminal.take(bits, self.shown, false);
+                if !self.terminal.is_busy() && self.terminal.can_send(bus) {
+                    return self.play_reply(here, slots, bus, subaddress, entry.asked());
+                }
+            }
+            kind::ILLEGAL => {
+                let is_broadcast = bits >> 11 == 31;
+                self.terminal.take_illegal(bits, self.shown, is_broadcast);
+                if is_broadcast {
+                    return slots;
+                }
+            }
+            kind::STATUS => self.terminal.take_status_asked(bits),
+            _ => return self.play_mode_code(bus, bits, fields, slots),
+        }
+        if !self.terminal.can_send(bus) {
+            return slots;
+        }
+        if !is_slot(here, slots) {
+            self.begin_reply(bus, 0, 0);
+            return slots;
+        }
+        self.put_status(bus);
+        self.lines += 1;
+        slots + SLOT_LINE
+    }
+
+    /// Plays the slots of a reply of held words if they all stand here, and says where they end.
+    #[inline(always)]
+    fn play_reply(
+        &mut self,
+        here: &Here,
+        at: usize,
+        bus: Bus,
+        subaddress: usize,
+        words: usize,
+    ) -> usize {
+        if !are_slots(here, at, 1 + words) {
+            self.begin_reply(bus, subaddress, words);
+            return at;
+        }
+        self.put_status(bus);
+        self.put_held(bus, subaddress, 0, words);
+        self.lines += 1 + words as u32;
+        at + (1 + words) * SLOT_LINE
+    }
+
+    fn begin_reply(&mut self, bus: Bus, subaddress: usize, words: usize) {
+        self.terminal.begin_reply_of(bus, subaddress, words);
+        self.is_quiet = false;
+    }
+
+    /// Takes the whole message of a mode code, whose data word stands in the transcript's room if it has one.
+    #[inline(never)]
+    fn play_mode_code(&mut self, bus: Bus, bits: u16, field: usize, length: usize) -> usize {
+        let word = word_at(self.transcript.room(), field + 1).unwrap_or(0);
+        let answer = self.terminal.take_mode_code(bus, bits, word);
+        self.transcript.put_answer(&answer);
+        self.look_again();
+        length
+    }
+
+    /// Holds the words that were handed over last, to be sent.
+    #[inline(never)]
+    fn turn_round(&mut self, subaddress: usize, count: usize) {
+        let line = &self.transcript.block[..self.transcript.length - 1];
+        for (index, field) in line[line.len() - count * FIELD..].chunks(FIELD).enumerate() {
+            self.terminal
+                .hold(subaddress, index, word_at(field, 1).unwrap());
+        }
+        self.printed.is_known[subaddress] = false;
+    }
+
+    /// Writes the kept status.
+    #[inline(always)]
+    fn put_status(&mut self, bus: Bus) {
+        let line = self.printed.status_line(bus, self.terminal.status());
+        self.transcript.room()[..16].copy_from_slice(line);
+        self.transcript.length += WORD_LINE;
+    }
+
+    /// Writes so many words that are held.
+    #[inline]
+    fn put_held(&mut self, bus: Bus, subaddress: usize, first: usize, count: usize) {
+        let lines = self.printed.lines(&self.terminal, bus, subaddress);
+        copy_lines(lines, first, count, self.transcript.room());
+        self.transcript.length += count * WORD_LINE;
+    }
+
+    /// Plays a slot, and those that follow: as far as the reply goes, or all that stay silent.
+    #[inline(never)]
+    fn play_slots(&mut self, here: &Here, rest: &[u8]) -> usize {
+        if !is_slot(here, 0) {
+            return 0;
+        }
+        let slots = match self.terminal.next_words() {
+            Next::Nothing => count_slots(rest, (MOST_LINES - self.lines) as usize),
+            Next::Event => {
+                self.forget_changed();
+                let answer = self.terminal.take_next_slot();
+                self.transcript.put_answer(&answer);
+                self.look_again();
+                1
+            }
+            Next::Held(bus, subaddress, first, last) => {
+                let slots = count_slots(here, last + 1 - first);
+                if first == 0 {
+                    self.put_status(bus);
+                }
+                let (from, to) = (first.max(1), first + slots);
+                if from < to {
+                    self.put_held(bus, subaddress, from - 1, to - from);
+                }
+                self.terminal.go_on(to, last);
+                self.is_quiet = self.terminal.is_quiet();
+                slots
+            }
+        };
+        self.lines += slots as u32;
+        slots * SLOT_LINE
+    }
+
+    /// Passes a comment, and those that follow.
+    #[inline(never)]
+    fn pass_comments(&mut self, here: &Here, rest: &[u8]) -> usize {
+        let first = match length_of_line(here) {
+            Some(first) if first < rest.len() => first,
+            _ => return 0,
         };
         self.lines += 1;
-        Some(length + 1)
-    }
-
-    fn play_on_bus(&mut self, here: &[u8; REACH], bus: Bus) -> Result<Option<usize>, Fault> {
-        let forms = &FORMS[bus as usize];
-        let is_command = forms.command.fits(here, 0);
-        if is_command || forms.data.fits(here, 0) {
-            let bits = bits_of([here[4], here[5], here[6], here[7]]);
-            if is_command && self.terminal.hears(bits) && self.terminal.is_free(bus) {
-                if let Some(length) = self.play_message(here, bus, bits)? {
-                    return Ok(Some(length));
-                }
-            }
-            let word = Word {
-                is_command,
-                bits,
-                is_valid: true,
-            };
-            self.terminal.step(Event::Word(bus, word));
-            self.lines += 1;
-            return Ok(Some(WORD_LINE));
+        let (length, lines) = comments(&rest[first + 1..]);
+        if lines > MOST_LINES - self.lines {
+            return first + 1;
         }
-        Ok(None)
-    }
-
-    /// Plays a whole message: a command, its data words and a gap.
-    #[inline]
-    fn play_message(
-        &mut self,
-        here: &[u8; REACH],
-        bus: Bus,
-        bits: u16,
-    ) -> Result<Option<usize>, Fault> {
-        let entry = self.commands[place(bits)];
-        let count = match entry.expects {
-            Expects::Unknown => return Ok(None),
-            Expects::Nothing => 0,
-            Expects::Words(count) => usize::from(count),
-        };
-        let end = WORD_LINE * (1 + count);
-        if !is_gap(here, end, bus) {
-            return Ok(None);
-        }
-        let text = self.transcript.room()?;
-        let mut length = 0;
-        if count > 0 {
-            let head: &[u8] = if bits >> 11 == 31 {
-                b"hand receive broadcast "
-            } else {
-                b"hand receive own "
-            };
-            text[..head.len()].copy_from_slice(head);
-            length = head.len() + 2;
-            let subaddress = (bits >> 5 & 31) as u8;
-            text[length - 2] = b'0' + subaddress / 10;
-            text[length - 1] = b'0' + subaddress % 10;
-            let form = &FORMS[bus as usize].data;
-            let mut are_all = true;
-            for number in 0..count {
-                let at = WORD_LINE * (1 + number);
-                are_all &= form.fits(here, at);
-                copy_field(here, at, text, length);
-                length += 5;
-            }
-            if !are_all {
-                return Ok(None);
-            }
-            text[length] = b'\n';
-            length += 1;
-        }
-        match self.terminal.take_whole(bus, bits, entry) {
-            Answer::Silent => {}
-            Answer::Hands(Hand::Received { .. }) => self.transcript.length += length,
-            answer => self.transcript.put_answer(&answer)?,
-        }
-        self.lines += count as u32 + 2;
-        Ok(Some(end + GAP_LINE))
-    }
-
-    /// Plays slots, as far as the reply goes or as far as one looks.
-    fn play_slots(&mut self, here: &[u8; REACH]) -> Result<Option<usize>, Fault> {
-        let most = match self.terminal.next_words() {
-            Next::Event => return Ok(None),
-            Next::Nothing => WORDS,
-            Next::Held(_, _, next, count) => count + 1 - next,
-        };
-        let slots = count_slots(here, most);
-        if slots == 0 {
-            return Ok(None);
-        }
-        if let Next::Held(bus, subaddress, next, count) = self.terminal.next_words() {
-            let text = self.transcript.room()?;
-            let mut length = 0;
-            let mut first = next;
-            if next == 0 {
-                text[..WORD_LINE].copy_from_slice(&word_line(bus, b's', self.terminal.status()));
-                length = WORD_LINE;
-                first = 1;
-            }
-            let words = next + slots - first;
-            if words > 0 {
-                let lines = self.printed.lines(&self.terminal, bus, subaddress);
-                // whole vectors are copied: what comes behind the words is written over later
-                for start in (0..words * WORD_LINE).step_by(16) {
-                    let from = (first - 1) * WORD_LINE + start;
-                    let piece: [u8; 16] = *lines[from..].first_chunk().unwrap();
-                    text[length + start..length + start + 16].copy_from_slice(&piece);
-                }
-                length += words * WORD_LINE;
-            }
-            self.transcript.length += length;
-            self.terminal.go_on(next + slots, count);
-        }
-        self.lines += slots as u32;
-        Ok(Some(slots * SLOT_LINE))
+        self.lines += lines;
+        first + 1 + length
     }
 
     /// Plays the next line, whatever it is, and says how many bytes it has; None where its end isn't there yet.
-    fn play_line(&mut self, rest: &[u8], is_end: bool) -> Result<Option<usize>, Fault> {
+    #[inline(never)]
+    fn play_line(
+        &mut self,
+        here: &Here,
+        rest: &[u8],
+        is_end: bool,
+    ) -> Result<Option<usize>, Fault> {
         if rest.is_empty() {
             return Ok(None);
         }
@@ -261,54 +410,95 @@ impl Player<'_> {
             return Err(Fault::TooManyLines);
         }
         let number = self.lines + 1;
-        let reach = rest.len().min(LONGEST_LINE + 1);
-        let (line, length) = match rest[..reach].iter().position(|byte| *byte == b'\n') {
-            Some(end) => (&rest[..end], end + 1),
-            None if rest.len() > LONGEST_LINE => return Err(Fault::LongLine(number)),
-            None if is_end => (rest, rest.len()),
-            None => return Ok(None),
+        let (line, length) = match length_of_line(here) {
+            Some(end) if end < rest.len() => (&rest[..end], end + 1),
+            _ if rest.len() > LONGEST_LINE => return Err(Fault::LongLine(number)),
+            _ if is_end => (rest, rest.len()),
+            _ => return Ok(None),
         };
         self.lines = number;
         if let [] | [b'#', ..] = line {
             return Ok(Some(length));
         }
-        self.play_event(read_event(line).ok_or(Fault::Line(number))?)?;
+        self.play_event(read_event(line).ok_or(Fault::Line(number))?);
         Ok(Some(length))
     }
 
-    fn play_event(&mut self, event: Event) -> Result<(), Fault> {
+    #[inline(never)]
+    fn play_event(&mut self, event: Event) {
         match event {
-            Event::Gap(_) | Event::Slot if self.terminal.may_change_held() => self.printed.forget(),
+            Event::Gap(_) | Event::Slot => self.forget_changed(),
             Event::Write(subaddress, number, word) => {
                 self.printed
                     .put(usize::from(subaddress), usize::from(number) - 1, word)
             }
             _ => {}
         }
-        self.transcript.put_answer(&self.terminal.step(event))
+        self.transcript.put_answer(&self.terminal.step(event));
+        self.look_again();
+    }
+
+    /// Forgets the printed lines of words that a gap or a slot may change.
+    fn forget_changed(&mut self) {
+        match self.terminal.changes_held() {
+            Held::Nothing => {}
+            Held::One(subaddress) => self.printed.is_known[subaddress] = false,
+            Held::All => self.printed.is_known = [false; WORDS],
+        }
+    }
+
+    /// Looks at the terminal again after an event.
+    fn look_again(&mut self) {
+        self.shown = self.terminal.shown();
+        self.is_quiet = self.terminal.is_quiet();
     }
 }
 
-/// The words that are held, as lines of a transcript for each bus.
-struct Printed {
-    lines: Box<[[Lines; WORDS]; 2]>,
-    /// Of which subaddresses the lines are those of the words.
-    is_known: [bool; WORDS],
+/// How lines begin that hand words over, by subaddress. Behind it is room, so that all are copied in pieces of one length.
+type Beginnings = [[u8; 32]; 32];
+const RECEIVED: Beginnings = beginnings(b"hand receive own ");
+const RECEIVED_LENGTH: usize = 19;
+const HEARD: Beginnings = beginnings(b"hand receive broadcast ");
+const HEARD_LENGTH: usize = 25;
+
+const fn beginnings(text: &[u8]) -> Beginnings {
+    let mut lines = [[0; 32]; 32];
+    let mut subaddress = 0;
+    while subaddress < 32 {
+        let mut at = 0;
+        while at < text.len() {
+            lines[subaddress][at] = text[at];
+            at += 1;
+        }
+        lines[subaddress][at] = b'0' + subaddress as u8 / 10;
+        lines[subaddress][at + 1] = b'0' + subaddress as u8 % 10;
+        subaddress += 1;
+    }
+    lines
 }
 
-/// The lines of a subaddress, and room for a vector behind them.
-type Lines = [u8; WORD_LINE * WORDS + 16];
+/// Words as lines of a transcript.
+struct Printed {
+    /// The words that are held, for each bus.
+    lines: Vec<[Lines; WORDS]>,
+    /// Of which subaddresses the lines are those of the words.
+    is_known: [bool; WORDS],
+    /// The line of a status word, for each bus, in a vector.
+    status: [[u8; 16]; 2],
+    status_word: u16,
+}
+
+/// The lines of a subaddress, and room for two vectors behind them.
+type Lines = [u8; WORD_LINE * WORDS + 32];
 
 impl Printed {
     fn new() -> Printed {
         Printed {
-            lines: Box::new([[[0; WORD_LINE * WORDS + 16]; WORDS]; 2]),
+            lines: vec![[[0; WORD_LINE * WORDS + 32]; WORDS]; 2],
             is_known: [false; WORDS],
+            status: status_lines(0),
+            status_word: 0,
         }
-    }
-
-    fn forget(&mut self) {
-        self.is_known = [false; WORDS];
     }
 
     fn put(&mut self, subaddress: usize, index: usize, word: u16) {
@@ -328,102 +518,23 @@ impl Printed {
         }
         &self.lines[bus as usize][subaddress]
     }
-}
 
-/// The form of a line of a word: what it has besides its digits.
-struct Form([u8; 16]);
-
-struct Forms {
-    command: Form,
-    data: Form,
-}
-
-const FORMS: [Forms; 2] = [Forms::of(b'A'), Forms::of(b'B')];
-
-impl Forms {
-    const fn of(bus: u8) -> Forms {
-        Forms {
-            command: Form::of(bus, b'c'),
-            data: Form::of(bus, b'd'),
-        }
-    }
-}
-
-impl Form {
-    const fn of(bus: u8, kind: u8) -> Form {
-        Form([
-            bus, b' ', kind, b' ', 0, 0, 0, 0, b'\n', 0, 0, 0, 0, 0, 0, 0,
-        ])
-    }
-
-    /// Whether a line of this form stands here.
     #[inline]
-    fn fits(&self, here: &[u8; REACH], at: usize) -> bool {
-        unsafe {
-            let line = vector(here, at);
-            let equal = _mm_cmpeq_epi8(line, vector(&self.0, 0));
-            let small = _mm_or_si128(line, _mm_set1_epi8(0x20));
-            let digits = _mm_or_si128(is_below(line, b'0', 10), is_below(small, b'a', 6));
-            mask(equal) & 0x10f | mask(digits) & 0x0f0 == 0x1ff
+    fn status_line(&mut self, bus: Bus, word: u16) -> &[u8; 16] {
+        if word != self.status_word {
+            self.status = status_lines(word);
+            self.status_word = word;
         }
+        &self.status[bus as usize]
     }
 }
 
-/// In which bytes of a vector one of `count` bytes from `first` on stands.
-#[inline]
-unsafe fn is_below(bytes: __m128i, first: u8, count: u8) -> __m128i {
-    unsafe {
-        // bytes are compared as signed: `first` is moved to the least
-        let moved = _mm_add_epi8(bytes, _mm_set1_epi8(0x80u8.wrapping_sub(first) as i8));
-        _mm_cmplt_epi8(moved, _mm_set1_epi8(-128 + count as i8))
-    }
-}
-
-#[inline]
-fn vector(bytes: &[u8], at: usize) -> __m128i {
-    let bytes: &[u8; 16] = bytes[at..].first_chunk().unwrap();
-    unsafe { _mm_loadu_si128(bytes.as_ptr().cast()) }
-}
-
-#[inline]
-fn mask(bytes: __m128i) -> u32 {
-    unsafe { _mm_movemask_epi8(bytes) as u32 }
-}
-
-/// Copies the space and the digits of the line of a word, the digits small, and writes 3 bytes more.
-#[inline]
-fn copy_field(here: &[u8; REACH], at: usize, text: &mut [u8; LONGEST_ANSWER], to: usize) {
-    let field = u64::from_le_bytes(*here[at + 3..].first_chunk().unwrap());
-    text[to..to + 8].copy_from_slice(&(field | 0x2020_2020_2020_2020).to_le_bytes());
-}
-
-#[inline]
-fn is_gap(here: &[u8; REACH], at: usize, bus: Bus) -> bool {
-    let line: &[u8; GAP_LINE] = here[at..].first_chunk().unwrap();
-    match bus {
-        Bus::A => line == b"A gap\n",
-        Bus::B => line == b"B gap\n",
-    }
-}
-
-/// How many lines `slot` stand here, at most so many.
-#[inline]
-fn count_slots(here: &[u8; REACH], most: usize) -> usize {
-    let mut slots = 0;
-    while slots < most {
-        let equal = unsafe {
-            _mm_cmpeq_epi8(
-                vector(here, slots * SLOT_LINE),
-                vector(b"slot\nslot\nslot\n#", 0),
-            )
-        };
-        let in_vector = (!mask(equal)).trailing_zeros() as usize / SLOT_LINE;
-        slots += in_vector;
-        if in_vector < 3 {
-            break;
-        }
-    }
-    slots.min(most)
+fn status_lines(word: u16) -> [[u8; 16]; 2] {
+    [Bus::A, Bus::B].map(|bus| {
+        let mut line = [0; 16];
+        line[..WORD_LINE].copy_from_slice(&word_line(bus, b's', word));
+        line
+    })
 }
 
 /// The event of a whole line of any form.
@@ -435,13 +546,13 @@ fn read_event(line: &[u8]) -> Option<Event> {
         [bus, b' ', kind, b' ', a, b, c, d] => {
             let word = Word {
                 is_command: read_kind(kind)?,
-                bits: read_bits([a, b, c, d])?,
+                bits: word_at(&[a, b, c, d], 0)?,
                 is_valid: true,
             };
             Some(Event::Word(read_bus(bus)?, word))
         }
         [bus, b' ', kind, b' ', a, b, c, d, b' ', parity @ (b'0' | b'1')] => {
-            let bits = read_bits([a, b, c, d])?;
+            let bits = word_at(&[a, b, c, d], 0)?;
             let word = Word {
                 is_command: read_kind(kind)?,
                 bits,
@@ -453,13 +564,13 @@ fn read_event(line: &[u8]) -> Option<Event> {
             Some(Event::Write(
                 read_number(s, t, 30)?,
                 read_number(i, j, 32)?,
-                read_bits([a, b, c, d])?,
+                word_at(&[a, b, c, d], 0)?,
             ))
         }
         [b'v', b'e', b'c', b't', b'o', b'r', b' ', a, b, c, d] => {
-            Some(Event::Vector(read_bits([a, b, c, d])?))
+            Some(Event::Vector(word_at(&[a, b, c, d], 0)?))
         }
-        [b'b', b'i', b't', b' ', a, b, c, d] => Some(Event::Bit(read_bits([a, b, c, d])?)),
+        [b'b', b'i', b't', b' ', a, b, c, d] => Some(Event::Bit(word_at(&[a, b, c, d], 0)?)),
         [b'f', b'l', b'a', b'g', b' ', ref flag @ .., b' ', state @ (b'0' | b'1')] => {
             Some(Event::Flag(read_flag(flag)?, state == b'1'))
         }
@@ -503,23 +614,6 @@ fn read_number(tens: u8, ones: u8, most: u8) -> Option<u8> {
     (1..=most).contains(&number).then_some(number)
 }
 
-fn read_bits(digits: [u8; 4]) -> Option<u16> {
-    digits
-        .iter()
-        .all(u8::is_ascii_hexdigit)
-        .then(|| bits_of(digits))
-}
-
-/// The word of four hexadecimal digits.
-#[inline]
-fn bits_of(digits: [u8; 4]) -> u16 {
-    // a digit is its low four bits, and nine more where it is a letter
-    let digits = u32::from_be_bytes(digits);
-    let values = (digits & 0x0f0f_0f0f) + (digits >> 6 & 0x0101_0101) * 9;
-    let pairs = values >> 4 & 0x00f0_00f0 | values & 0x000f_000f;
-    (pairs >> 8 | pairs) as u16
-}
-
 /// The two digits of each byte.
 const DIGITS: [[u8; 2]; 256] = {
     let mut digits = [[0; 2]; 256];
@@ -544,18 +638,14 @@ fn digits_of(word: u16) -> [u8; 4] {
 /// A line `A s XXXX` or `A d XXXX`.
 #[inline]
 fn word_line(bus: Bus, kind: u8, word: u16) -> [u8; WORD_LINE] {
-    let bus = match bus {
-        Bus::A => b'A',
-        Bus::B => b'B',
-    };
     let [a, b, c, d] = digits_of(word);
-    [bus, b' ', kind, b' ', a, b, c, d, b'\n']
+    [LETTERS[bus as usize], b' ', kind, b' ', a, b, c, d, b'\n']
 }
 
 /// The transcript, which is written in blocks.
 struct Transcript<'a> {
     writer: &'a mut dyn Write,
-    block: [u8; BLOCK],
+    block: Box<[u8; BLOCK + LONGEST_ANSWER]>,
     length: usize,
 }
 
@@ -572,17 +662,24 @@ impl Transcript<'_> {
         self.writer.flush().map_err(|_| Fault::Output)
     }
 
-    /// Room for an answer.
+    /// Sees to it that there is room for an answer.
     #[inline]
-    fn room(&mut self) -> Result<&mut [u8; LONGEST_ANSWER], Fault> {
+    fn make_room(&mut self) -> Result<(), Fault> {
         if BLOCK - self.length < LONGEST_ANSWER {
             self.hand_on()?;
         }
-        Ok(self.block[self.length..].first_chunk_mut().unwrap())
+        Ok(())
     }
 
-    fn put_answer(&mut self, answer: &Answer) -> Result<(), Fault> {
-        self.room()?;
+    /// Where the next answer is written.
+    #[inline]
+    fn room(&mut self) -> &mut Room {
+        self.block[self.length.min(BLOCK)..]
+            .first_chunk_mut()
+            .unwrap()
+    }
+
+    fn put_answer(&mut self, answer: &Answer) {
         match answer {
             Answer::Silent => {}
             Answer::Sends(sent) => {
@@ -591,7 +688,6 @@ impl Transcript<'_> {
             }
             Answer::Hands(hand) => self.put_hand(hand),
         }
-        Ok(())
     }
 
     fn put_hand(&mut self, hand: &Hand) {
