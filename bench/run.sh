@@ -1,6 +1,6 @@
 #!/usr/bin/env bash
 # The benchmark: the least processor time, user and system together, that the program and its three peers take
-# for scripts of 1,000,000 lines, and what `wc -l` takes for them. They run in turns, many rounds, and
+# for scripts of 1,000,000 lines, and what `wc -l` takes for them, with the multiples of that. They run in turns, many rounds, and
 # write their transcripts to /dev/null. Nothing here is a test: times differ from run to run.
 #
 #   LINES_EACH   how many lines a script has      ROUNDS   how many rounds
@@ -30,9 +30,9 @@ in_milliseconds() { quotient "$1" 1000; }
 
 prepare "$lines"
 echo "milliseconds of processor time for $lines lines, the least of $rounds rounds"
-row='%-10s %9s %9s %9s %9s %9s %13s %14s %18s\n'
+row='%-10s %9s %9s %9s %9s %9s %13s %14s %18s %11s %8s %9s %13s\n'
 # shellcheck disable=SC2059
-printf "$row" script program best tuned idiomatic 'wc -l' program/best program/tuned program/idiomatic
+printf "$row" script program best tuned idiomatic 'wc -l' program/best program/tuned program/idiomatic program/wc best/wc tuned/wc idiomatic/wc
 for script in "${scripts[@]}"; do
     demand_same_transcript "$script"
     declare -A least=()
@@ -41,5 +41,7 @@ for script in "${scripts[@]}"; do
     printf "$row" "$script" "$(in_milliseconds "${least[program]}")" "$(in_milliseconds "${least[best]}")" \
         "$(in_milliseconds "${least[tuned]}")" "$(in_milliseconds "${least[idiomatic]}")" "$(in_milliseconds "${least[lines]}")" \
         "$(quotient "${least[program]}" "${least[best]}")" "$(quotient "${least[program]}" "${least[tuned]}")" \
-        "$(quotient "${least[program]}" "${least[idiomatic]}")"
+        "$(quotient "${least[program]}" "${least[idiomatic]}")" "$(quotient "${least[program]}" "${least[lines]}")" \
+        "$(quotient "${least[best]}" "${least[lines]}")" "$(quotient "${least[tuned]}" "${least[lines]}")" \
+        "$(quotient "${least[idiomatic]}" "${least[lines]}")"
 done
