@@ -13,7 +13,7 @@ import re
 import sys
 
 CRATES = ["bus_word", "bus_legal", "profile_types", "line_format", "bus_profile", "terminal_rules", "terminal_exchanges",
-          "terminal_complete_test", "bus_terminal", "bus_canon", "bus_complete_test", "rt1553"]
+          "terminal_complete_test", "bus_terminal", "byte_streams", "script_lines", "bus_script", "bus_canon", "bus_complete_test", "rt1553"]
 # `held_word` is a part of what `StandsAt` says
 EXCEPT = {("bus_terminal", "Stands.antt", "StandsAt"), ("bus_terminal", "Stands.antt", "held_word")}
 USE = re.compile(r"^ *(pub )?(?:ghost )?use (\w+(?:\.\w+)*\.specs\.inner(?:\.\w+)*)(?:\.\{([^}]*)\})?(?: as (\w+))?", re.M)

@@ -10,5 +10,3 @@ write_fails (Err e) len = true
 -- a part of the bytes was written, from the front on
 abbrev pub IsPartWritten : Option (List ℕ) → Option (List ℕ) → List ℕ → Type 0
 IsPartWritten old new bytes = (part : List ℕ) × (more : List ℕ) × (part ++ more ≡ bytes) × Appends old new part
-
--- of what is written for each of some words that for the first `whole` was written, and a part of that for the next one
