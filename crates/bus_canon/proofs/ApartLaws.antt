@@ -1,12 +1,14 @@
 -- The script of the first difference tells apart, and `Normal`s that are alike are equal.
-use Rattle.std.proofs.Common.{◌≡◌, ◌≢◌, ℕ, ◌<◌, ◌&&◌, ◌∙◌, ap, sym, subst, inl, arith}
-use Rattle.bus_word.specs.Cell.{is_allowed}
+use Rattle.std.proofs.Common.{◌≡◌, ◌≢◌, ◌↔◌, ℕ, ◌+◌, ◌-◌, ◌<◌, ◌≤◌, Bool, IsTrue, true, ◌&&◌, List, get_or, ◌∙◌, ap, sym, inl, arith}
+use Rattle.std.proofs.lemmas.Bool.Decides.{nat_tests}
+use Rattle.bus_word.specs.Cell.{is_data_place}
+use Rattle.bus_word.specs.Mask.{has_bit}
 use Rattle.bus_word.specs.declared.cell.Cell.{Cell}
 use Rattle.bus_word.specs.declared.cell.Cell.TheVariants.{OwnReceive, OwnTransmit, BroadReceive, OwnMode, BroadMode}
-use Rattle.bus_legal.specs.declared.tables.Tables.{Tables}
 use Rattle.bus_legal.specs.Description.{Description}
-use Rattle.bus_legal.specs.Parts.{Parts, description_in, IsNormal}
+use Rattle.bus_legal.specs.Parts.{Parts, description_in, AreMasks, IsNormal}
 use Rattle.bus_legal.specs.Tables.{has_count}
+use Rattle.bus_legal.proofs.Bits.{same_mask}
 use Rattle.bus_legal.proofs.Descriptions.{same_description}
 use Rattle.bus_legal.proofs.SameNormals.{same_normals}
 use Rattle.terminal_rules.specs.Out.{outs}
@@ -14,9 +16,8 @@ use Rattle.terminal_exchanges.specs.Distinguish.{TellsApart, shown_subaddress}
 use Rattle.terminal_exchanges.proofs.Distinguish.Reached.{IsReached, normal-reached, apart_by_address, apart_by_option, apart_by_own_receive, apart_by_own_transmit, apart_by_broadcast_receive, apart_by_own_code, apart_by_broadcast_code, apart_by_acceptance, apart_by_vector, apart_by_bit, apart_by_initial, apart_by_wraparound}
 use Rattle.bus_canon.specs.declared.difference.Difference.{Difference}
 use Rattle.bus_canon.specs.declared.difference.Difference.TheVariants.{Address, BroadcastOption, ReceiveCell, TransmitCell, BroadcastReceiveCell, OwnCode, BroadcastCode, Acceptance, VectorWord, BitWord, InitialWord, Wraparound}
-use Rattle.bus_canon.specs.Difference.{rank, AreAlike, IsFirstDifference, script_for}
+use Rattle.bus_canon.specs.Difference.{rank, AreAlike, AreAlikeAt, IsFirstDifference, NothingHides, script_for}
 use Rattle.bus_canon.specs.inner.Search.{AlikeBefore}
-use Rattle.bus_canon.specs.inner.Shows.{AreAlikeAt, ShowsAlone}
 
 earlier : (P Q : Description) (d c : Difference) → IsFirstDifference P Q d → rank c < rank d → AreAlike P Q c
 earlier P Q d c first l = first.alike c (inl l)
@@ -80,7 +81,7 @@ equal_by_all v w p q alike =
     (legal_alike (description_in v) (description_in w) alike))
 
 -- the script of a difference that shows by itself tells apart
-shown_alone : (P Q : Description) (d : Difference) → IsReached P → IsReached Q → (AreAlike P Q d → ⊥) → ShowsAlone P Q d → TellsApart P Q (script_for P Q d)
+shown_alone : (P Q : Description) (d : Difference) → IsReached P → IsReached Q → (AreAlike P Q d → ⊥) → NothingHides P Q d → TellsApart P Q (script_for P Q d)
 shown_alone P Q Address p q other a = apart_by_address P Q p q other
 shown_alone P Q BroadcastOption p q other a = apart_by_option P Q p q a other
 shown_alone P Q (ReceiveCell s n) p q other a = apart_by_own_receive P Q s n p q a other
@@ -103,20 +104,30 @@ shown_alone P Q Wraparound p q other a =
     })
     other
 
-pub apart_by_shown : (v w : Parts) (d : Difference) → IsNormal v → IsNormal w → (AreAlike (description_in v) (description_in w) d → ⊥) → ShowsAlone (description_in v) (description_in w) d
+pub apart_by_shown : (v w : Parts) (d : Difference) → IsNormal v → IsNormal w → (AreAlike (description_in v) (description_in w) d → ⊥) → NothingHides (description_in v) (description_in w) d
     → TellsApart (description_in v) (description_in w) (script_for (description_in v) (description_in w) d)
 apart_by_shown v w d p q other a = shown_alone (description_in v) (description_in w) d (normal-reached v p) (normal-reached w q) other a
 
--- where words come back is alike, by the tables
-pub alike_at : (v w : Parts) (ours theirs : Tables) (s t : ℕ) → ours ≡ v.tables → theirs ≡ w.tables → s ≡ t → v.broadcast ≡ w.broadcast
-    → ((n : ℕ) → has_count ours.own_receive s n ≡ has_count theirs.own_receive s n)
-    → ((n : ℕ) → has_count ours.own_transmit s n ≡ has_count theirs.own_transmit s n)
-    → ((n : ℕ) → has_count ours.broadcast_receive s n ≡ has_count theirs.broadcast_receive s n)
-    → (description_in v).initial s 1 ≡ (description_in w).initial s 1 → AreAlikeAt t (description_in v) (description_in w)
-alike_at v w ours theirs s t first second at option receive transmit broadcast word = subst (λ t. AreAlikeAt t (description_in v) (description_in w)) at (record {
-  broadcast = option;
-  own_receive = λ n. ap (λ b. is_allowed (OwnReceive s n) && b) (ap (λ x. has_count x.own_receive s n) (sym first) ∙ receive n ∙ ap (λ x. has_count x.own_receive s n) second);
-  own_transmit = λ n. ap (λ b. is_allowed (OwnTransmit s n) && b) (ap (λ x. has_count x.own_transmit s n) (sym first) ∙ transmit n ∙ ap (λ x. has_count x.own_transmit s n) second);
-  broadcast_receive = λ n. ap (λ b. is_allowed (BroadReceive s n) && b) (ap (λ x. has_count x.broadcast_receive s n) (sym first) ∙ broadcast n ∙ ap (λ x. has_count x.broadcast_receive s n) second);
-  initial = word;
-})
+-- the mask of a subaddress is decided by what is said of its word counts, and decides it
+pub same_at : (a b : List ℕ) (s : ℕ) → AreMasks a → AreMasks b → 1 ≤ s → s ≤ 30 → ((n : ℕ) → (is_data_place s n && has_count a s n) ≡ (is_data_place s n && has_count b s n)) → get_or a (s - 1) 0 ≡ get_or b (s - 1) 0
+same_at a b s are be low high said = same_mask (get_or a (s - 1) 0) (get_or b (s - 1) 0) (are.fit (s - 1)) (be.fit (s - 1)) (λ i l. bit i l)
+  where
+    bit : (i : ℕ) → i < 32 → has_bit (get_or a (s - 1) 0) i ≡ has_bit (get_or b (s - 1) 0) i
+    bit i l =
+        let place : is_data_place s (i + 1) ≡ true = grind (arith, nat_tests) in
+        let number : i + 1 - 1 ≡ i = omega arith in
+        let at : (masks : List ℕ) → (is_data_place s (i + 1) && has_count masks s (i + 1)) ≡ has_bit (get_or masks (s - 1) 0) i =
+        (λ masks. ap (λ t. t && has_count masks s (i + 1)) place ∙ ap (has_bit (get_or masks (s - 1) 0)) number) in
+        sym (at a) ∙ (said (i + 1) ∙ at b)
+
+said_at : (a b : List ℕ) (s : ℕ) → get_or a (s - 1) 0 ≡ get_or b (s - 1) 0 → (n : ℕ) → (is_data_place s n && has_count a s n) ≡ (is_data_place s n && has_count b s n)
+said_at a b s same n = ap (λ m. is_data_place s n && has_bit m (n - 1)) same
+
+-- what a comparison of masks tells of word counts
+pub counts_at : (b : Bool) (ours theirs x y : List ℕ) (s : ℕ) → ours ≡ x → theirs ≡ y → AreMasks x → AreMasks y → 1 ≤ s → s ≤ 30
+    → IsTrue b ↔ (get_or ours (s - 1) 0 ≡ get_or theirs (s - 1) 0)
+    → IsTrue b ↔ ((n : ℕ) → (is_data_place s n && has_count x s n) ≡ (is_data_place s n && has_count y s n))
+counts_at b ours theirs x y s first second are be low high told = (
+  λ t. said_at x y s (ap (λ m. get_or m (s - 1) 0) (sym first) ∙ told.0 t ∙ ap (λ m. get_or m (s - 1) 0) second),
+  λ said. told.1 (ap (λ m. get_or m (s - 1) 0) first ∙ same_at x y s are be low high said ∙ ap (λ m. get_or m (s - 1) 0) (sym second)),
+)

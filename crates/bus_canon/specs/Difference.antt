@@ -1,6 +1,7 @@
 -- The first difference between two terminals, by what can be reached of them, and the script that shows it.
 use Rattle.std.specs.Prelude.{◌≡◌, ℕ, ◌<◌, ◌⊎◌, true, List}
 use Rattle.bus_word.specs.Cell.{is_data_place}
+use Rattle.bus_word.specs.Mode.{dynamic_bus_control, vector_word, bit_word}
 use Rattle.bus_word.specs.declared.cell.Cell.TheVariants.{OwnReceive, OwnTransmit, BroadReceive, OwnMode, BroadMode}
 use Rattle.bus_legal.specs.Description.{Description}
 use Rattle.terminal_rules.specs.declared.event.Event.{Event}
@@ -94,3 +95,29 @@ script_for P Q VectorWord = vector_script P.address
 script_for P Q BitWord = bit_script P.address
 script_for P Q (InitialWord s i) = initial_script P s
 script_for P Q Wraparound = wraparound_script P (shown_subaddress P.wrap Q.wrap)
+
+-- what is received and transmitted at subaddress s is alike, and so is the first word that is held there
+pub record AreAlikeAt (s : ℕ) (P Q : Description) : Type 0 where
+  pub broadcast : P.broadcast ≡ Q.broadcast
+  pub own_receive : (n : ℕ) → P.legal (OwnReceive s n) ≡ Q.legal (OwnReceive s n)
+  pub own_transmit : (n : ℕ) → P.legal (OwnTransmit s n) ≡ Q.legal (OwnTransmit s n)
+  pub broadcast_receive : (n : ℕ) → P.legal (BroadReceive s n) ≡ Q.legal (BroadReceive s n)
+  pub initial : P.initial s 1 ≡ Q.initial s 1
+
+-- Nothing is in the way of a difference, so its script shows it whatever else differs. In the way of all but the address is
+-- another address; of commands by broadcast another broadcast option; of acceptance, the vector word and the BIT word a mode
+-- code that asks for it and is legal in one alone; of a word that is held a count that can be transmitted of its subaddress
+-- in one alone; and of the wraparound subaddress what else differs there.
+abbrev pub NothingHides : Description → Description → Difference → Type 0
+NothingHides P Q Address = Unit {0}
+NothingHides P Q BroadcastOption = P.address ≡ Q.address
+NothingHides P Q (ReceiveCell s n) = P.address ≡ Q.address
+NothingHides P Q (TransmitCell s n) = P.address ≡ Q.address
+NothingHides P Q (BroadcastReceiveCell s n) = (P.address ≡ Q.address) × (P.broadcast ≡ Q.broadcast)
+NothingHides P Q (OwnCode code) = P.address ≡ Q.address
+NothingHides P Q (BroadcastCode code) = (P.address ≡ Q.address) × (P.broadcast ≡ Q.broadcast)
+NothingHides P Q Acceptance = (P.address ≡ Q.address) × (P.legal (OwnMode dynamic_bus_control) ≡ Q.legal (OwnMode dynamic_bus_control))
+NothingHides P Q VectorWord = (P.address ≡ Q.address) × (P.legal (OwnMode vector_word) ≡ Q.legal (OwnMode vector_word))
+NothingHides P Q BitWord = (P.address ≡ Q.address) × (P.legal (OwnMode bit_word) ≡ Q.legal (OwnMode bit_word))
+NothingHides P Q (InitialWord s i) = (P.address ≡ Q.address) × ((n : ℕ) → P.legal (OwnTransmit s n) ≡ Q.legal (OwnTransmit s n))
+NothingHides P Q Wraparound = (P.address ≡ Q.address) × AreAlikeAt (shown_subaddress P.wrap Q.wrap) P Q

@@ -1,3 +1,2 @@
--- What the contracts of private functions speak of: the search for a difference, and which one shows by itself.
+-- What the contracts of private functions speak of: the search for a difference.
 pub mod Search
-pub mod Shows

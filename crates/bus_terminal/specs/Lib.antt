@@ -4,4 +4,5 @@ pub mod Answer
 pub mod Stands
 pub mod Slots
 pub mod Received
+pub mod Waiting
 pub mod inner

@@ -5,6 +5,7 @@ ghost use Rattle.std.specs.Io.BufRead.{Rests};
 mod answers;
 mod received;
 mod slots;
+mod waiting;
 
 use crate::answer::{Answer, Sent};
 use crate::settings::Settings;
