@@ -1,3 +1,1 @@
-pub mod TakenLaws
 pub mod TellingLaws
-pub mod RunLaws

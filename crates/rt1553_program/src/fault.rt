@@ -1,6 +1,7 @@
 //! Why the program ends early, the line that it prints then, and the status that it ends with.
 use rt1553::{EngineFault, LoadFault, describe};
 use rt1553_args::ArgFault;
+use rt1553_files::FileFault;
 use std::alloc::AllocError;
 use std::fmt;
 
@@ -11,10 +12,8 @@ pub enum Fault {
     Usage,
     /// Out of memory.
     Memory,
-    /// The file of this name, which is escaped, can't be opened or read.
-    CannotRead(String),
-    /// The file of this name, which is escaped, has more bytes than a profile may have.
-    TooLarge(String),
+    /// A file isn't read.
+    File(FileFault),
     /// The output can't be written.
     Output,
     /// A profile or a script is refused, or a device failed.
@@ -29,8 +28,7 @@ impl fmt::Display for Fault {
                 f.write_str("usage: rt1553 [check P, canon P, run P SCRIPT, compare P Q]\n")
             }
             Fault::Memory => f.write_str("out of memory\n"),
-            Fault::CannotRead(name) => writeln!(f, "file: cannot read {name}"),
-            Fault::TooLarge(name) => writeln!(f, "file: too large {name}"),
+            Fault::File(fault) => writeln!(f, "{fault}"),
             Fault::Output => f.write_str("output: write failed\n"),
             Fault::Engine(fault) => f.write_str(describe(fault).1.as_str()),
         }
@@ -47,7 +45,7 @@ impl Fault {
     {
         match self {
             Fault::Usage => 3,
-            Fault::Memory | Fault::CannotRead(_) | Fault::TooLarge(_) | Fault::Output => 4,
+            Fault::Memory | Fault::File(_) | Fault::Output => 4,
             Fault::Engine(fault) => describe(fault).0,
         }
     }
@@ -61,6 +59,17 @@ impl From<AllocError> for Fault {
 
     fn from(_error: AllocError) -> Fault {
         Fault::Memory
+    }
+}
+
+impl From<FileFault> for Fault {
+    ghost use Rattle.std.specs.Prelude.{◌≡◌};
+    ghost use Rattle.rt1553_program.specs.declared.fault.Fault.TheVariants.{File};
+
+    ghost from_gives = { λ file fault. fault ≡ File file };
+
+    fn from(fault: FileFault) -> Fault {
+        Fault::File(fault)
     }
 }
 

@@ -2,7 +2,6 @@
 #![tactic(auto)]
 
 mod fault;
-mod files;
 mod work;
 
 use std::process::ExitCode;
