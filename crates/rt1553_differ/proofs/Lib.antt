@@ -1,2 +1,4 @@
 mod CodeLaws
+mod NoneLaws
+mod GroupLaws
 mod Lists

@@ -1,13 +1,13 @@
 -- Lists of differences, one more at a time.
-use Rattle.std.proofs.Common.{◌≡◌, ◌<◌, ◌+◌, ◌-◌, ℕ, suc, not, ◌&&◌, List, [], ◌∷◌, ◌++◌, ap, sym, ◌∙◌, append_assoc, append-nil, arith}
+use Rattle.std.proofs.Common.{◌≡◌, ◌<◌, ◌+◌, ◌-◌, ℕ, suc, List, [], ◌∷◌, ◌++◌, ap, sym, ◌∙◌, append_assoc, append-nil, arith}
 use Rattle.std.proofs.lemmas.List.Elements.{filter-append}
-use Rattle.bus_legal.specs.Parts.{Parts, description_in}
+use Rattle.bus_legal.specs.Parts.{Parts}
 use Rattle.bus_canon.specs.declared.difference.Difference.{Difference}
-use Rattle.rt1553_differ.specs.Told.{differ, follows, told_differences, in_row, in_rows}
+use Rattle.rt1553_differ.specs.Told.{is_told, told_differences, in_row, in_rows}
 
 pub told-append : (v w : Parts) (ds es : List Difference) → told_differences v w (ds ++ es) ≡ told_differences v w ds ++ told_differences v w es
 unfolding told_differences
-told-append v w ds es = filter-append (λ d. differ (description_in v) (description_in w) d && not (follows v w d)) ds es
+told-append v w ds es = filter-append (is_told v w) ds es
 
 row-suc : (kind : ℕ → Difference) (n m k : ℕ) → m ≡ suc k → in_row kind n m ≡ (kind n ∷ []) ++ in_row kind (n + 1) k
 unfolding in_row

@@ -74,9 +74,13 @@ unfoldable pub in_rows : (ℕ → ℕ → Difference) → ℕ → ℕ → List D
 in_rows kind s zero = []
 in_rows kind s (suc k) = in_row (kind s) 1 32 ++ in_rows kind (suc s) k
 
--- those in which they differ, and that follow from no other
+-- they differ in it, and it follows from no other
+abbrev pub is_told : Parts → Parts → Difference → Bool
+is_told v w d = differ (description_in v) (description_in w) d && not (follows v w d)
+
+-- those of a list that are told
 unfoldable pub told_differences : Parts → Parts → List Difference → List Difference
-told_differences v w ds = filter (λ d. differ (description_in v) (description_in w) d && not (follows v w d)) ds
+told_differences v w ds = filter (is_told v w) ds
 
 -- all possible differences
 unfoldable pub possible : List Difference

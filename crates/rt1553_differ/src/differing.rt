@@ -3,40 +3,16 @@ ghost use Rattle.std.specs.Prelude.{◌≡◌, ◌≤◌, ◌<◌, ◌++◌, ◌
 ghost use Rattle.bus_word.specs.Cell.{is_data_place};
 ghost use Rattle.bus_legal.specs.Parts.{description_in};
 ghost use Rattle.bus_canon.specs.Difference.{IsInRange};
-ghost use Rattle.rt1553_differ.specs.Told.{unlike, at_place, of_code, differ, wraps_alone, follows, told_differences, in_row, in_rows, possible};
+ghost use Rattle.rt1553_differ.specs.Told.{unlike, at_place, of_code, differ, wraps_alone, follows, is_told, told_differences, in_row, in_rows, possible};
 
 use bus_canon::Difference;
 use bus_legal::{Legality, Normal, Tables, largest_count};
 use bus_word::Cell;
 use bus_word::mode::{BIT_WORD, DYNAMIC_BUS_CONTROL, VECTOR_WORD};
-use std::alloc::{AllocError, AllocFailed, Global};
-use thiserror::Error;
-
-/// Why two terminals are not told apart.
-#[derive(Clone, Copy, Debug, PartialEq, Eq, Error)]
-pub enum DifferFault {
-    /// Out of memory.
-    #[error("out of memory")]
-    Memory,
-    /// Nothing was found, and yet they are not the same. Tests show that this doesn't come.
-    #[error("profile: what differs is not found")]
-    Unfit,
-}
-
-impl From<AllocError> for DifferFault {
-    fn from(_error: AllocError) -> DifferFault {
-        DifferFault::Memory
-    }
-}
-
-impl<T: Drop> From<AllocFailed<T>> for DifferFault {
-    fn from(_failed: AllocFailed<T>) -> DifferFault {
-        DifferFault::Memory
-    }
-}
+use std::alloc::{AllocError, Global};
 
 /// The kinds of difference that there are at each subaddress and count.
-#[derive(Clone, Copy, PartialEq, Eq)]
+#[derive(Clone, Copy)]
 pub enum PlaceKind {
     /// What the own address may receive.
     Receiving,
@@ -143,18 +119,26 @@ fn follows(p: &Normal, q: &Normal, difference: Difference) -> bool
     }
 }
 
-/// Adds the difference where the two differ in it, and it doesn't follow from another.
+/// Tells whether the two differ in this, and it doesn't follow from another.
+pub(crate) fn is_told(p: &Normal, q: &Normal, difference: Difference) -> bool
+    requires { IsInRange difference }
+    ensures { result ≡ is_told p.now q.now difference }
+{
+    differs(p, q, difference) && !follows(p, q, difference)
+}
+
+/// Adds the difference where it is told.
 #[tactic(auto, unfolding(crate::specs::Told::told_differences))]
 fn push_if(
     list: &mut Vec<Difference>,
     p: &Normal,
     q: &Normal,
     difference: Difference,
-) -> Result<(), DifferFault>
+) -> Result<(), AllocError>
     requires { IsInRange difference }
     ensures { OnOk result (list.new.items ≡ list.old.items ++ told_differences p.now q.now (difference ∷ [])) }
 {
-    if differs(p, q, difference) && !follows(p, q, difference) {
+    if is_told(p, q, difference) {
         list.push(difference)?;
     }
     Ok(())
@@ -167,7 +151,7 @@ fn push_row(
     q: &Normal,
     kind: PlaceKind,
     s: u8,
-) -> Result<(), DifferFault>
+) -> Result<(), AllocError>
     requires low { 1 ≤ s }
     requires high { s ≤ 30 }
     ensures { OnOk result (list.new.items ≡ list.old.items ++ told_differences p.now q.now (in_row (at_place kind s) 1 32)) }
@@ -184,7 +168,7 @@ fn push_rows(
     p: &Normal,
     q: &Normal,
     kind: PlaceKind,
-) -> Result<(), DifferFault>
+) -> Result<(), AllocError>
     ensures { OnOk result (list.new.items ≡ list.old.items ++ told_differences p.now q.now (in_rows (at_place kind) 1 30)) }
 {
     for s in 1..31u8 {
@@ -199,7 +183,7 @@ fn push_codes(
     p: &Normal,
     q: &Normal,
     broadcast: bool,
-) -> Result<(), DifferFault>
+) -> Result<(), AllocError>
     ensures { OnOk result (list.new.items ≡ list.old.items ++ told_differences p.now q.now (in_row (of_code broadcast) 0 32)) }
 {
     for code in 0..32u8 {
@@ -209,7 +193,7 @@ fn push_codes(
 }
 
 /// Gives all in which two terminals differ.
-fn all_told(alloc: Global, p: &Normal, q: &Normal) -> Result<Vec<Difference>, DifferFault>
+fn all_told(alloc: Global, p: &Normal, q: &Normal) -> Result<Vec<Difference>, AllocError>
     ensures { IfOk result (λ found. found.items ≡ told_differences p.now q.now possible) }
 {
     let mut list = Vec::new(alloc);
@@ -231,14 +215,13 @@ fn all_told(alloc: Global, p: &Normal, q: &Normal) -> Result<Vec<Difference>, Di
 /// All in which two terminals differ, by what can be reached of them and so by their canonical texts: of all that is
 /// possible, in its order, that which differs and doesn't follow from another that is told. Nothing is told exactly if the
 /// two are the same.
-pub fn differences(alloc: Global, p: &Normal, q: &Normal) -> Result<Vec<Difference>, DifferFault>
+pub fn differences(alloc: Global, p: &Normal, q: &Normal) -> Result<Vec<Difference>, AllocError>
     ensures told { IfOk result (λ found. found.items ≡ told_differences p.now q.now possible) }
     ensures none { IfOk result (λ found. (found.items ≡ []) ↔ (p.now ≡ q.now)) }
 {
+    // With a set-up comes the promise that nothing unreached is in the `Normal`.
+    p.setup();
+    q.setup();
     let found = all_told(alloc, p, q)?;
-    if found.is_empty() == p.is_same(q) {
-        Ok(found)
-    } else {
-        Err(DifferFault::Unfit)
-    }
+    Ok(found)
 }

@@ -8,7 +8,7 @@ ghost use Rattle.bus_legal.specs.Parts.{description_in};
 use bus_legal::Normal;
 
 /// What is so at one subaddress. In a mask bit `n - 1` stands for a word count of `n`.
-#[derive(Clone, Copy, PartialEq, Eq)]
+#[derive(Clone, Copy)]
 pub struct SubaddressRow {
     pub subaddress: u8,
     /// The word counts that the own address may receive.
@@ -22,7 +22,7 @@ pub struct SubaddressRow {
 }
 
 /// The mode codes that are legal, bit `c` for code `c`.
-#[derive(Clone, Copy, PartialEq, Eq)]
+#[derive(Clone, Copy)]
 pub struct Codes {
     pub own: u32,
     pub broadcast: u32,

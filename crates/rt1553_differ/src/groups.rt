@@ -1,14 +1,17 @@
 //! Differences in groups, as people read them.
+ghost use Rattle.std.specs.Prelude.{◌≡◌, ◌≤◌, ◌<◌, ◌-◌, ◌==◌, ◌||◌, ◌&&◌, ◌++◌, ◌∷◌, [], ℕ, not, true, get_or, IfOk, OnOk};
+ghost use Rattle.bus_word.specs.Mask.{has_bit};
+ghost use Rattle.rt1553_differ.specs.Groups.{of_count, is_so, is_told_in, AreGroups};
+ghost use Rattle.rt1553_differ.specs.inner.Alone.{masks_of, is_untold, alone_mask, is_had, said_at, is_beside, singles, AddsGroups};
+
 use bus_canon::Difference;
 use bus_legal::{Legality, Normal};
-use bus_word::{Cell, mode_name};
-use profile_types::Numbers;
+use bus_word::Cell;
 use std::alloc::{AllocError, Global};
-use std::fmt;
 
-/// Differences that are told in one line: in what may be received or transmitted all subaddresses that have the same, and
-/// else one.
-#[derive(Clone, Copy, PartialEq, Eq)]
+/// Differences that are told together: in what may be received or transmitted all subaddresses that have the same, and else
+/// one.
+#[derive(Clone, Copy)]
 pub struct Group {
     /// The first of them.
     pub difference: Difference,
@@ -20,61 +23,21 @@ pub struct Group {
     pub in_first: bool,
 }
 
-/// What is legal in one terminal alone: for each subaddress a mask of word counts.
-#[derive(Clone, Copy)]
-struct Alone {
-    counts: [u32; 30],
-}
-
-impl Alone {
-    /// Adds a word count of a subaddress.
-    fn add(&mut self, s: u8, n: u8) {
-        for (index, mask) in self.counts.iter_mut().enumerate() {
-            if index + 1 == usize::from(s) && n >= 1 && n <= 32 {
-                *mask |= 1 << u32::from(n - 1);
-            }
-        }
-    }
-
-    /// Gives the subaddresses, bit `s - 1` for `s`, with this mask.
-    fn subaddresses(&self, mask: u32) -> u32 {
-        let mut bits = 0;
-        for (index, other) in self.counts.iter().enumerate() {
-            if *other == mask {
-                bits |= 1 << (index as u32);
-            }
-        }
-        bits
-    }
-}
-
 /// The three kinds of differences in word counts.
 #[derive(Clone, Copy, PartialEq, Eq)]
-enum CountKind {
+pub enum CountKind {
+    /// What the own address may receive.
     Receive,
+    /// What the own address may transmit.
     Transmit,
+    /// What may be received by broadcast.
     Broadcast,
 }
 
-/// Gives the kind, the cell, the subaddress and the word count of a difference in word counts.
-fn counts_of(difference: Difference) -> Option<(CountKind, Cell, u8, u8)> {
-    match difference {
-        Difference::ReceiveCell(s, n) => Some((CountKind::Receive, Cell::OwnReceive(s, n), s, n)),
-        Difference::TransmitCell(s, n) => Some((
-            CountKind::Transmit,
-            Cell::OwnTransmit(s, n),
-            s,
-            n,
-        )),
-        Difference::BroadcastReceiveCell(s, n) => {
-            Some((CountKind::Broadcast, Cell::BroadReceive(s, n), s, n))
-        }
-        _ => None,
-    }
-}
-
 /// Gives the difference of a kind at a subaddress and a word count.
-fn difference_at(kind: CountKind, s: u8, n: u8) -> Difference {
+fn of_count(kind: CountKind, s: u8, n: u8) -> Difference
+    ensures { result ≡ of_count kind s n }
+{
     match kind {
         CountKind::Receive => Difference::ReceiveCell(s, n),
         CountKind::Transmit => Difference::TransmitCell(s, n),
@@ -82,222 +45,230 @@ fn difference_at(kind: CountKind, s: u8, n: u8) -> Difference {
     }
 }
 
-/// Gives what of a kind is legal in one terminal alone.
-fn alone_of(found: &[Difference], p: &Normal, kind: CountKind, in_first: bool) -> Alone {
-    let mut alone = Alone { counts: [0; 30] };
-    for difference in found {
-        if let Some((of, cell, s, n)) = counts_of(*difference) {
-            if of == kind && p.legal(cell) == in_first {
-                alone.add(s, n);
-            }
+/// Gives the mask of a kind at a subaddress.
+fn mask_of(normal: &Normal, kind: CountKind, s: u8) -> u32
+    requires low { 1 ≤ s }
+    requires high { s ≤ 30 }
+    ensures { result ≡ get_or (masks_of kind normal.now.tables) (s - 1) 0 }
+{
+    let tables = normal.tables();
+    let index = usize::from(s) - 1;
+    match kind {
+        CountKind::Receive => tables.own_receive[index],
+        CountKind::Transmit => tables.own_transmit[index],
+        CountKind::Broadcast => tables.broadcast_receive[index],
+    }
+}
+
+/// Tells whether nothing of a kind is told: commands by broadcast where the option differs.
+fn is_untold(p: &Normal, q: &Normal, kind: CountKind) -> bool
+    ensures { result ≡ is_untold kind p.now q.now }
+{
+    match kind {
+        CountKind::Broadcast => p.broadcast() != q.broadcast(),
+        CountKind::Receive | CountKind::Transmit => false,
+    }
+}
+
+/// Gives the word counts of a kind at a subaddress that are legal in the first alone, or in the second.
+#[tactic(auto, unfolding(crate::specs::inner::Alone::alone_mask))]
+fn alone_at(p: &Normal, q: &Normal, kind: CountKind, first: bool, s: u8) -> u32
+    requires low { 1 ≤ s }
+    requires high { s ≤ 30 }
+    ensures { result ≡ alone_mask p.now q.now kind first s }
+{
+    if is_untold(p, q, kind) {
+        return 0;
+    }
+    let (ours, theirs) = (mask_of(p, kind, s), mask_of(q, kind, s));
+    if first {
+        ours & !theirs
+    } else {
+        theirs & !ours
+    }
+}
+
+/// Sets the bit of a subaddress, if it is asked for.
+fn with_subaddress(bits: u32, s: u8, set: bool) -> u32
+    requires low { 1 ≤ s }
+    requires high { s ≤ 30 }
+    ensures { (t : ℕ) → 1 ≤ t → has_bit result (t - 1) ≡ ((set && (t == s)) || has_bit bits (t - 1)) }
+{
+    if set {
+        bits | 1 << u32::from(s - 1)
+    } else {
+        bits
+    }
+}
+
+/// Gives the subaddresses, bit `s - 1` for `s`, at which just these word counts are legal in one alone.
+fn subaddresses_with(p: &Normal, q: &Normal, kind: CountKind, first: bool, mask: u32) -> u32
+    ensures { (t : ℕ) → 1 ≤ t → t ≤ 30 → has_bit result (t - 1) ≡ (mask == alone_mask p.now q.now kind first t) }
+{
+    let mut bits = 0u32;
+    for s in 1..31u8 {
+        bits = with_subaddress(bits, s, mask == alone_at(p, q, kind, first, s));
+    }
+    bits
+}
+
+/// Tells whether no subaddress before this one has its mask.
+fn is_first(p: &Normal, q: &Normal, kind: CountKind, first: bool, s: u8) -> bool
+    requires low { 1 ≤ s }
+    requires high { s ≤ 30 }
+    ensures { result ≡ not (is_had (alone_mask p.now q.now kind first) (s - 1) (alone_mask p.now q.now kind first s)) }
+{
+    let mask = alone_at(p, q, kind, first, s);
+    for t in 1..s {
+        if alone_at(p, q, kind, first, t) == mask {
+            return false;
         }
     }
-    alone
+    true
+}
+
+/// Gives the least word count of a mask.
+fn least_count(counts: u32) -> u8
+    requires { 0 < counts }
+    ensures low { 1 ≤ result }
+    ensures high { result ≤ 32 }
+    ensures has { has_bit counts (result - 1) ≡ true }
+{
+    counts.trailing_zeros() as u8 + 1
+}
+
+/// Adds the group of a subaddress, if some word counts are told there and no subaddress before has the same.
+fn push_side(
+    groups: &mut Vec<Group>,
+    p: &Normal,
+    q: &Normal,
+    kind: CountKind,
+    first: bool,
+    s: u8,
+) -> Result<(), AllocError>
+    requires low { 1 ≤ s }
+    requires high { s ≤ 30 }
+    ensures { OnOk result (AddsGroups kind groups.old.items groups.new.items (said_at (alone_mask p.now q.now kind) first s)) }
+{
+    let counts = alone_at(p, q, kind, first, s);
+    if counts == 0 {
+        return Ok(());
+    }
+    if !is_first(p, q, kind, first, s) {
+        return Ok(());
+    }
+    let subaddresses = subaddresses_with(p, q, kind, first, counts);
+    let least = least_count(counts);
+    let difference = of_count(kind, s, least);
+    let group = Group {
+        difference,
+        subaddresses,
+        counts,
+        in_first: first,
+    };
+    groups.push(group)?;
+    Ok(())
 }
 
 /// Adds the groups of a kind: one for each mask that some subaddress has, where its first subaddress stands.
 fn push_counts(
     groups: &mut Vec<Group>,
-    found: &[Difference],
     p: &Normal,
+    q: &Normal,
     kind: CountKind,
-) -> Result<(), AllocError> {
-    let ours = alone_of(found, p, kind, true);
-    let theirs = alone_of(found, p, kind, false);
+) -> Result<(), AllocError>
+    ensures { OnOk result (AddsGroups kind groups.old.items groups.new.items (λ first s n. is_told_in p.now q.now first (of_count kind s n))) }
+{
+    // With a set-up comes the promise that nothing unreached is in the `Normal`.
+    p.setup();
+    q.setup();
     for s in 1..31u8 {
-        for (alone, in_first) in [(ours, true), (theirs, false)] {
-            let counts = alone.counts[usize::from(s) - 1];
-            let subaddresses = alone.subaddresses(counts);
-            if counts != 0 && subaddresses.trailing_zeros() == u32::from(s) - 1 {
-                let least = counts.trailing_zeros() as u8 + 1;
-                groups.push(Group {
-                    difference: difference_at(kind, s, least),
-                    subaddresses,
-                    counts,
-                    in_first,
-                })?;
-            }
-        }
+        push_side(groups, p, q, kind, true, s)?;
+        push_side(groups, p, q, kind, false, s)?;
     }
     Ok(())
 }
 
-/// Gives whether what differs is so in the first terminal.
-fn is_in_first(p: &Normal, difference: Difference) -> bool {
+/// Gives whether what differs is so in a terminal: legal, accepted or heard.
+fn is_so(normal: &Normal, difference: Difference) -> bool
+    ensures { result ≡ is_so normal.now difference }
+{
     match difference {
-        Difference::BroadcastOption => p.broadcast(),
-        Difference::OwnCode(code) => p.legal(Cell::OwnMode(code)),
-        Difference::BroadcastCode(code) => p.legal(Cell::BroadMode(code)),
-        Difference::Acceptance => p.accept(),
+        Difference::BroadcastOption => normal.broadcast(),
+        Difference::ReceiveCell(s, n) => normal.legal(Cell::OwnReceive(s, n)),
+        Difference::TransmitCell(s, n) => normal.legal(Cell::OwnTransmit(s, n)),
+        Difference::BroadcastReceiveCell(s, n) => normal.legal(Cell::BroadReceive(s, n)),
+        Difference::OwnCode(code) => normal.legal(Cell::OwnMode(code)),
+        Difference::BroadcastCode(code) => normal.legal(Cell::BroadMode(code)),
+        Difference::Acceptance => normal.accept(),
         _ => true,
     }
 }
 
-/// Differences in groups, in their order. `found` are those of `p` and another.
+/// Tells whether a difference comes before those in word counts, or behind them.
+fn is_beside(behind: bool, difference: Difference) -> bool
+    ensures { result ≡ is_beside behind difference }
+{
+    match difference {
+        Difference::Address | Difference::BroadcastOption => !behind,
+        Difference::ReceiveCell(_, _)
+        | Difference::TransmitCell(_, _)
+        | Difference::BroadcastReceiveCell(_, _) => false,
+        _ => behind,
+    }
+}
+
+/// Adds the group of one difference, if it comes before those in word counts, or behind them.
+#[tactic(auto, unfolding(crate::specs::inner::Alone::singles))]
+fn push_single(
+    groups: &mut Vec<Group>,
+    difference: Difference,
+    p: &Normal,
+    behind: bool,
+) -> Result<(), AllocError>
+    ensures { OnOk result (groups.new.items ≡ groups.old.items ++ singles p.now behind (difference ∷ [])) }
+{
+    if is_beside(behind, difference) {
+        groups.push(Group {
+            difference,
+            subaddresses: 0,
+            counts: 0,
+            in_first: is_so(p, difference),
+        })?;
+    }
+    Ok(())
+}
+
+/// Adds the groups of single differences, of those before word counts, or behind them.
+fn push_singles(
+    groups: &mut Vec<Group>,
+    found: &[Difference],
+    p: &Normal,
+    behind: bool,
+) -> Result<(), AllocError>
+    ensures { OnOk result (groups.new.items ≡ groups.old.items ++ singles p.now behind found.now) }
+{
+    for difference in found {
+        push_single(groups, *difference, p, behind)?;
+    }
+    Ok(())
+}
+
+/// The differences between two terminals in groups, in their order: those in word counts together, where of several
+/// subaddresses the same counts are legal in one alone, and each other by itself. `found` are the `differences` of the two.
 pub fn groups_of(
     alloc: Global,
     found: &[Difference],
     p: &Normal,
-) -> Result<Vec<Group>, AllocError> {
+    q: &Normal,
+) -> Result<Vec<Group>, AllocError>
+    ensures { IfOk result (λ groups. AreGroups p.now q.now found.now groups.items) }
+{
     let mut groups = Vec::new(alloc);
-    let mut counted = false;
-    for difference in found {
-        // word counts come together, where the first of any stands
-        if counts_of(*difference).is_none() {
-            groups.push(Group {
-                difference: *difference,
-                subaddresses: 0,
-                counts: 0,
-                in_first: is_in_first(p, *difference),
-            })?;
-        } else if !counted {
-            counted = true;
-            for kind in [
-                CountKind::Receive,
-                CountKind::Transmit,
-                CountKind::Broadcast,
-            ] {
-                push_counts(&mut groups, found, p, kind)?;
-            }
-        }
-    }
+    push_singles(&mut groups, found, p, false)?;
+    push_counts(&mut groups, p, q, CountKind::Receive)?;
+    push_counts(&mut groups, p, q, CountKind::Transmit)?;
+    push_counts(&mut groups, p, q, CountKind::Broadcast)?;
+    push_singles(&mut groups, found, p, true)?;
     Ok(groups)
-}
-
-/// A group as a line, without its line feed.
-#[derive(Clone, Copy)]
-pub struct GroupLine<'a> {
-    pub group: Group,
-    pub p: &'a Normal,
-    pub q: &'a Normal,
-    /// What the two are called.
-    pub first: &'a str,
-    pub second: &'a str,
-}
-
-/// A word that is held; 0 at what is no place of one.
-pub fn word_at(normal: &Normal, s: u8, i: u8) -> u16 {
-    for (row, words) in normal.initial().iter().enumerate() {
-        for (at, word) in words.iter().enumerate() {
-            if row + 1 == usize::from(s) && at + 1 == usize::from(i) {
-                return *word;
-            }
-        }
-    }
-    0
-}
-
-impl GroupLine<'_> {
-    /// Writes which word counts are legal in one alone.
-    fn put_counts<W: fmt::Write>(&self, f: &mut fmt::Formatter<W>, what: &str) -> fmt::Result {
-        let subaddresses = Numbers {
-            bits: self.group.subaddresses,
-            first: 1,
-        };
-        let counts = Numbers {
-            bits: self.group.counts,
-            first: 1,
-        };
-        let plural = if self.group.counts.count_ones() == 1 {
-            ""
-        } else {
-            "s"
-        };
-        write!(f, "{what} {subaddresses}: count{plural} {counts} ")?;
-        self.put_alone(f, "legal")
-    }
-
-    /// Writes in which of the two it is so.
-    fn put_alone<W: fmt::Write>(&self, f: &mut fmt::Formatter<W>, so: &str) -> fmt::Result {
-        let name = if self.group.in_first {
-            self.first
-        } else {
-            self.second
-        };
-        write!(f, "{so} in {name} alone")
-    }
-
-    /// Writes the addresses of both.
-    fn put_addresses<W: fmt::Write>(&self, f: &mut fmt::Formatter<W>) -> fmt::Result {
-        let (ours, theirs) = (self.p.address(), self.q.address());
-        write!(
-            f,
-            "address: {ours} in {}, {theirs} in {}",
-            self.first, self.second
-        )
-    }
-
-    /// Writes in which of the two a mode code is legal.
-    fn put_code<W: fmt::Write>(
-        &self,
-        f: &mut fmt::Formatter<W>,
-        what: &str,
-        code: u8,
-    ) -> fmt::Result {
-        write!(f, "{what} {code} ({}): ", mode_name(code))?;
-        self.put_alone(f, "legal")
-    }
-
-    /// Writes the words of both.
-    fn put_words<W: fmt::Write>(
-        &self,
-        f: &mut fmt::Formatter<W>,
-        what: &str,
-        ours: u16,
-        theirs: u16,
-    ) -> fmt::Result {
-        write!(
-            f,
-            "{what}: {ours:04x} in {}, {theirs:04x} in {}",
-            self.first, self.second
-        )
-    }
-
-    /// Writes the words that both hold at a place.
-    fn put_initial<W: fmt::Write>(&self, f: &mut fmt::Formatter<W>, s: u8, i: u8) -> fmt::Result {
-        write!(f, "word {i} of subaddress {s}")?;
-        self.put_words(f, "", word_at(self.p, s, i), word_at(self.q, s, i))
-    }
-
-    /// Writes where words come back in one.
-    fn put_wrap<W: fmt::Write>(
-        &self,
-        f: &mut fmt::Formatter<W>,
-        wrap: u8,
-        name: &str,
-    ) -> fmt::Result {
-        if wrap == 0 {
-            write!(f, "none in {name}")
-        } else {
-            write!(f, "at {wrap} in {name}")
-        }
-    }
-
-    /// Writes where words come back in both.
-    fn put_wraps<W: fmt::Write>(&self, f: &mut fmt::Formatter<W>) -> fmt::Result {
-        f.write_str("wraparound: ")?;
-        self.put_wrap(f, self.p.wrap(), self.first)?;
-        f.write_str(", ")?;
-        self.put_wrap(f, self.q.wrap(), self.second)
-    }
-}
-
-impl fmt::Display for GroupLine<'_> {
-    fn fmt<W: fmt::Write>(&self, f: &mut fmt::Formatter<W>) -> fmt::Result {
-        let (p, q) = (self.p, self.q);
-        match self.group.difference {
-            Difference::Address => self.put_addresses(f),
-            Difference::BroadcastOption => self.put_alone(f, "broadcast: heard"),
-            Difference::ReceiveCell(_, _) => self.put_counts(f, "receive"),
-            Difference::TransmitCell(_, _) => self.put_counts(f, "transmit"),
-            Difference::BroadcastReceiveCell(_, _) => self.put_counts(f, "broadcast receive"),
-            Difference::OwnCode(code) => self.put_code(f, "mode code", code),
-            Difference::BroadcastCode(code) => self.put_code(f, "broadcast mode code", code),
-            Difference::Acceptance => self.put_alone(f, "bus control: accepted"),
-            Difference::VectorWord => self.put_words(f, "vector word", p.vector(), q.vector()),
-            Difference::BitWord => self.put_words(f, "BIT word", p.bit(), q.bit()),
-            Difference::InitialWord(s, i) => self.put_initial(f, s, i),
-            Difference::Wraparound => self.put_wraps(f),
-        }
-    }
 }

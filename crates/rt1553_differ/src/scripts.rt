@@ -1,9 +1,9 @@
 //! The scripts that show differences.
-ghost use Rattle.std.specs.Prelude.{◌≡◌, IfSome, true};
+ghost use Rattle.std.specs.Prelude.{◌≡◌, ◌↔◌, ◌⊎◌, IfSome, IsNone, IsTrue};
 ghost use Rattle.bus_legal.specs.Parts.{description_in};
 ghost use Rattle.terminal_exchanges.specs.Distinguish.{TellsApart};
 ghost use Rattle.bus_word.specs.Cell.{is_data_place};
-ghost use Rattle.bus_canon.specs.Difference.{IsInRange};
+ghost use Rattle.bus_canon.specs.Difference.{AreAlike, IsInRange, NothingHides, script_for};
 
 use bus_canon::{Difference, Script, script_showing};
 use bus_legal::Normal;
@@ -19,7 +19,7 @@ fn is_place(s: u8, n: u8) -> bool
 
 /// Tells whether the numbers of a difference are in their ranges.
 fn is_in_range(difference: Difference) -> bool
-    ensures { result ≡ true → IsInRange difference }
+    ensures { IsTrue result ↔ IsInRange difference }
 {
     match difference {
         Difference::ReceiveCell(s, n)
@@ -31,10 +31,14 @@ fn is_in_range(difference: Difference) -> bool
     }
 }
 
-/// The script that shows a difference, where it shows whatever else differs: from power-up the two answer it otherwise. None
-/// where something else is in its way; with another address nothing else can be shown.
+/// The script that shows a difference, whatever else differs: from power-up the two answer it otherwise. None exactly where
+/// the two don't differ in this or something is in its way; with another address nothing else can be shown. None, too, where
+/// a number of the difference is out of its range.
 pub fn script_of(p: &Normal, q: &Normal, difference: Difference) -> Option<Script>
-    ensures { IfSome result (λ script. TellsApart (description_in p.now) (description_in q.now) script.items) }
+    ensures none { IsInRange difference → (IsNone result ↔ (AreAlike (description_in p.now) (description_in q.now) difference ⊎ (NothingHides (description_in p.now) (description_in q.now) difference → ⊥))) }
+    ensures differ { IfSome result (λ _. AreAlike (description_in p.now) (description_in q.now) difference → ⊥) }
+    ensures script { IfSome result (λ script. script.items ≡ script_for (description_in p.now) (description_in q.now) difference) }
+    ensures apart { IfSome result (λ script. TellsApart (description_in p.now) (description_in q.now) script.items) }
 {
     if is_in_range(difference) {
         script_showing(p, q, difference)

@@ -1,6 +1,7 @@
 //! A profile explained, as text and as JSON.
 ghost use Rattle.std.specs.Prelude.{◌≤◌};
 
+use crate::columns::{push_column, wider};
 use crate::explained::{Codes, SubaddressRow, codes_of, row_of};
 use bus_legal::Normal;
 use bus_word::mode::{BIT_WORD, DYNAMIC_BUS_CONTROL, VECTOR_WORD};
@@ -62,46 +63,92 @@ fn words_in(row: &SubaddressRow) -> usize
     len
 }
 
-/// Writes a line of the table of word counts.
-fn push_line(
-    alloc: Global,
-    text: &mut String,
-    subaddresses: u32,
-    row: &SubaddressRow,
-) -> Result<(), AllocError> {
-    let at = numbers_text(alloc, subaddresses, 1)?;
-    let receive = numbers_text(alloc, row.receive, 1)?;
-    let transmit = numbers_text(alloc, row.transmit, 1)?;
-    let broadcast = numbers_text(alloc, row.broadcast, 1)?;
-    let (at, receive) = (at.as_str(), receive.as_str());
-    let (transmit, broadcast) = (transmit.as_str(), broadcast.as_str());
-    writeln!(text, "{at:<16}{receive:<16}{transmit:<16}{broadcast}")
+/// A line of the table of word counts: all subaddresses with the same.
+#[derive(Drop)]
+struct TableLine {
+    at: String,
+    receive: String,
+    transmit: String,
+    broadcast: String,
 }
 
-/// Writes the table of word counts: one line for all subaddresses with the same.
-fn push_counts(alloc: Global, text: &mut String, normal: &Normal) -> Result<(), AllocError> {
-    let mut started = false;
-    for s in 1..31u8 {
-        let row = row_of(normal, s);
-        let mut alike = 0u32;
-        for t in 1..31u8 {
-            if has_same(&row, &row_of(normal, t)) {
-                alike |= 1 << u32::from(t - 1);
-            }
-        }
-        if has_some(&row) && alike.trailing_zeros() == u32::from(s) - 1 {
-            if !started {
-                writeln!(
-                    text,
-                    "\nsubaddresses    receive         transmit        broadcast receive"
-                )?;
-                started = true;
-            }
-            push_line(alloc, text, alike, &row)?;
+/// Gives a line of the table of word counts.
+fn table_line(
+    alloc: Global,
+    subaddresses: u32,
+    row: &SubaddressRow,
+) -> Result<TableLine, AllocError> {
+    Ok(TableLine {
+        at: numbers_text(alloc, subaddresses, 1)?,
+        receive: numbers_text(alloc, row.receive, 1)?,
+        transmit: numbers_text(alloc, row.transmit, 1)?,
+        broadcast: numbers_text(alloc, row.broadcast, 1)?,
+    })
+}
+
+/// Gives the subaddresses, bit `s - 1` for `s`, at which the same word counts are legal as in a row.
+fn subaddresses_like(normal: &Normal, row: &SubaddressRow) -> u32 {
+    let mut alike = 0u32;
+    for t in 1..31u8 {
+        if has_same(row, &row_of(normal, t)) {
+            alike |= 1 << u32::from(t - 1);
         }
     }
-    if !started {
-        writeln!(text, "\nno word count is legal at any subaddress")?;
+    alike
+}
+
+/// Gives the table of word counts: one line for all subaddresses with the same.
+fn table_lines(alloc: Global, normal: &Normal) -> Result<Vec<TableLine>, AllocError> {
+    let mut lines = Vec::new(alloc);
+    for s in 1..31u8 {
+        let row = row_of(normal, s);
+        let alike = subaddresses_like(normal, &row);
+        if has_some(&row) && alike.trailing_zeros() == u32::from(s) - 1 {
+            lines.push(table_line(alloc, alike, &row)?)?;
+        }
+    }
+    Ok(lines)
+}
+
+/// Adds a line of the table, with the widths of its first three columns.
+fn push_line(
+    text: &mut String,
+    widths: (usize, usize, usize),
+    cells: (&str, &str, &str, &str),
+) -> Result<(), AllocError> {
+    push_column(text, cells.0, widths.0)?;
+    text.push_str("  ")?;
+    push_column(text, cells.1, widths.1)?;
+    text.push_str("  ")?;
+    push_column(text, cells.2, widths.2)?;
+    text.push_str("  ")?;
+    text.push_str(cells.3)?;
+    text.push_str("\n")
+}
+
+/// Writes the table of word counts. A column is as wide as it has to be, and at least 14 letters.
+fn push_counts(alloc: Global, text: &mut String, normal: &Normal) -> Result<(), AllocError> {
+    let lines = table_lines(alloc, normal)?;
+    if lines.is_empty() {
+        return writeln!(text, "\nno word count is legal at any subaddress");
+    }
+    let mut widths = (14, 14, 14);
+    for line in lines.as_slice() {
+        widths.0 = wider(widths.0, line.at.as_str());
+        widths.1 = wider(widths.1, line.receive.as_str());
+        widths.2 = wider(widths.2, line.transmit.as_str());
+    }
+    text.push_str("\n")?;
+    let heads = ("subaddresses", "receive", "transmit", "broadcast receive");
+    push_line(text, widths, heads)?;
+    for line in lines.as_slice() {
+        let cells = (
+            line.at.as_str(),
+            line.receive.as_str(),
+            line.transmit.as_str(),
+            line.broadcast.as_str(),
+        );
+        push_line(text, widths, cells)?;
     }
     Ok(())
 }
@@ -117,7 +164,7 @@ fn push_words(text: &mut String, normal: &Normal) -> Result<(), AllocError> {
                 writeln!(text, "\nwords at power-up")?;
                 started = true;
             }
-            write!(text, "{s}:")?;
+            write!(text, "{s:>2}:")?;
             for (index, word) in row.words.iter().enumerate() {
                 if index < len {
                     write!(text, " {word:04x}")?;
@@ -137,7 +184,7 @@ fn push_codes(text: &mut String, title: &str, codes: u32) -> Result<(), AllocErr
     writeln!(text, "\n{title}")?;
     for code in 0..32u8 {
         if has_code(codes, code) {
-            writeln!(text, "{code}: {}", mode_name(code))?;
+            writeln!(text, "{code:>2}: {}", mode_name(code))?;
         }
     }
     Ok(())
@@ -151,10 +198,10 @@ fn push_settings(text: &mut String, normal: &Normal, codes: Codes) -> Result<(),
     } else {
         "not heard"
     };
-    writeln!(text, "broadcast: {option}")?;
+    writeln!(text, "broadcast:   {option}")?;
     match normal.wrap() {
-        0 => writeln!(text, "wraparound: none")?,
-        s => writeln!(text, "wraparound: at subaddress {s}")?,
+        0 => writeln!(text, "wraparound:  none")?,
+        s => writeln!(text, "wraparound:  at subaddress {s}")?,
     }
     if has_code(codes.own, DYNAMIC_BUS_CONTROL) {
         let accept = if normal.accept() {
@@ -168,7 +215,7 @@ fn push_settings(text: &mut String, normal: &Normal, codes: Codes) -> Result<(),
         writeln!(text, "vector word: {:04x}", normal.vector())?;
     }
     if has_code(codes.own, BIT_WORD) {
-        writeln!(text, "BIT word: {:04x}", normal.bit())?;
+        writeln!(text, "BIT word:    {:04x}", normal.bit())?;
     }
     Ok(())
 }

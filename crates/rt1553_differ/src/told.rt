@@ -1,5 +1,7 @@
 //! What differs, as text and as JSON.
-use crate::groups::{Group, GroupLine, word_at};
+use crate::columns::{push_column, wider};
+use crate::groups::Group;
+use crate::lines::{DifferenceLine, Label, Values, lines_of, word_at};
 use crate::scripts::{script_lines, script_of};
 use bus_canon::Difference;
 use bus_legal::{Legality, Normal};
@@ -30,8 +32,61 @@ pub struct Pair<'a> {
     pub second: &'a str,
 }
 
-/// What differs, a line for each group; with scripts behind each line that of the first difference of the group, indented,
-/// where there is one.
+/// Gives what stands before the columns of the lines.
+fn labels_of(alloc: Global, lines: &[DifferenceLine]) -> Result<Vec<String>, AllocError> {
+    let mut labels = Vec::new(alloc);
+    for line in lines {
+        let label = Label { group: line.group };
+        labels.push(format!(in alloc; "{label}")?)?;
+    }
+    Ok(labels)
+}
+
+/// Gives the width of the labels.
+fn width_of(labels: &[String]) -> usize {
+    let mut width = 0;
+    for label in labels {
+        width = wider(width, label.as_str());
+    }
+    width
+}
+
+/// Adds a line: its label, and in a column what is so in each of the two.
+fn push_line(
+    text: &mut String,
+    pair: &Pair<'_>,
+    line: &DifferenceLine,
+    label: &str,
+    width: usize,
+) -> Result<(), AllocError> {
+    let values = Values {
+        line: *line,
+        p: pair.p,
+        q: pair.q,
+        first: pair.first,
+        second: pair.second,
+    };
+    push_column(text, label, width)?;
+    writeln!(text, " {values}")
+}
+
+/// Adds the script that shows the first difference of a group, indented, where there is one.
+fn push_script(
+    alloc: Global,
+    text: &mut String,
+    pair: &Pair<'_>,
+    group: &Group,
+) -> Result<(), AllocError> {
+    if let Some(lines) = lines_showing(alloc, pair.p, pair.q, group)? {
+        for event in lines.as_slice() {
+            writeln!(text, "    {}", event.as_str())?;
+        }
+    }
+    Ok(())
+}
+
+/// What differs, a line for each group, or for two of the same subaddresses: in what, and in a column what is so in each. With
+/// scripts behind each line that of the first difference of its first group, indented, where there is one.
 pub fn differ_text(
     alloc: Global,
     pair: &Pair<'_>,
@@ -39,21 +94,13 @@ pub fn differ_text(
     with_scripts: bool,
 ) -> Result<String, AllocError> {
     let mut text = String::new(alloc);
-    for group in groups {
-        let line = GroupLine {
-            group: *group,
-            p: pair.p,
-            q: pair.q,
-            first: pair.first,
-            second: pair.second,
-        };
-        writeln!(text, "{line}")?;
+    let lines = lines_of(alloc, groups)?;
+    let labels = labels_of(alloc, lines.as_slice())?;
+    let width = width_of(labels.as_slice());
+    for (line, label) in lines.as_slice().iter().zip(labels.as_slice()) {
+        push_line(&mut text, pair, line, label.as_str(), width)?;
         if with_scripts {
-            if let Some(lines) = lines_showing(alloc, pair.p, pair.q, group)? {
-                for event in lines.as_slice() {
-                    writeln!(text, "    {}", event.as_str())?;
-                }
-            }
+            push_script(alloc, &mut text, pair, &line.group)?;
         }
     }
     Ok(text)
