@@ -16,27 +16,6 @@ use Rattle.rt1553_verify.specs.declared.stated.StatedFault.{StatedFault}
 use Rattle.rt1553_verify.specs.declared.stated.StatedFault.TheVariants.{LongLine, TooLong}
 use Rattle.rt1553_verify.specs.Stated.{StatedEvent, Latest, After, is_empty, states_answer, can_answer, states, goes_on, ended, stays, or_misplaced, unstated_line, by_going_on, by_answer, line_says, then_events, then_lines, stated_by}
 
--- the first line of a text with a line feed at i
-pub first-with_feed : (bytes : List ℕ) (i : ℕ) → i < length bytes → ((k : ℕ) → k < i → get_or bytes k 0 ≢ 10) → get_or bytes i 0 ≡ 10
-    → lines_of bytes ≡ take i bytes ∷ lines_of (take (length bytes - (i + 1)) (drop (i + 1) bytes))
-first-with_feed bytes i within before here =
-    let at = line_at bytes i within before here in
-    let whole : take (length bytes - (i + 1)) (drop (i + 1) bytes) ≡ drop (i + 1) bytes = take_all _ _ (omega (arith, length-drop (i + 1) bytes)) in
-    ap lines_of at.1 ∙ lines-line (take i bytes) (drop (i + 1) bytes) at.0 ∙ ap (λ rest. take i bytes ∷ lines_of rest) (sym whole)
-
-no-lines : lines_of [] ≡ []
-unfolding lines_of
-no-lines = refl
-
--- the only line of a text without line feed
-pub first-without_feed : (bytes : List ℕ) → 0 < length bytes → ((k : ℕ) → k < length bytes → get_or bytes k 0 ≢ 10)
-    → lines_of bytes ≡ bytes ∷ lines_of (take (length bytes - length bytes) (drop (length bytes) bytes))
-first-without_feed [] some none = absurd (omega arith)
-first-without_feed (b ∷ bytes) some none =
-    let rest : take (length (b ∷ bytes) - length (b ∷ bytes)) (drop (length (b ∷ bytes)) (b ∷ bytes)) ≡ []
-    = ap (take (length (b ∷ bytes) - length (b ∷ bytes))) (drop_all (length (b ∷ bytes)) (b ∷ bytes) (omega arith)) ∙ take_all _ _ (omega arith) in
-    lines-last b bytes (no_line_feed (b ∷ bytes) none) ∙ ap (λ ls. (b ∷ bytes) ∷ ls) (sym no-lines ∙ ap lines_of (sym rest))
-
 -- a comment says no event
 comment-means : (line : List ℕ) → meaning (35 ∷ line) ≡ Ok None
 unfolding meaning

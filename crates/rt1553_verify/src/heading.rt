@@ -3,8 +3,8 @@ ghost use Rattle.std.specs.Prelude.{◌≡◌, option_map};
 ghost use Rattle.script_lines.specs.Text.{lines_of};
 ghost use Rattle.rt1553_verify.specs.Heading.{named};
 
-use crate::stated::first_line;
 use line_format::after;
+use refused_lines::first_line;
 
 /// What follows the key, as `# Profile: `, in the first line that begins with it, of the comments at the front of a script.
 /// The first line that is no comment ends them.

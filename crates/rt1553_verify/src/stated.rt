@@ -7,9 +7,10 @@ ghost use Rattle.rt1553_verify.specs.Stated.{shown, is_empty, states_answer, can
 ghost use Rattle.rt1553_verify.specs.declared.stated.StatedFault.TheVariants.{Memory};
 ghost use Rattle.rt1553_verify.specs.inner.Says.{Says};
 
-use bus_script::{LineFault, find_line_feed, read_event};
+use bus_script::{LineFault, read_event};
 use bus_terminal::Event;
 use line_format::after;
+use refused_lines::first_line;
 use std::alloc::{AllocError, AllocFailed, Global};
 use thiserror::Error;
 
@@ -173,18 +174,6 @@ fn read_line(
         return go_on(latest, number, rest);
     }
     read_plain(alloc, read, latest, number, line)
-}
-
-/// The first line, without its line feed, and what follows it.
-pub fn first_line(bytes: &[u8]) -> (&[u8], &[u8])
-    requires { 0 < length bytes.now }
-    ensures lines { lines_of bytes.now ≡ result.0.now ∷ lines_of result.1.now }
-    ensures shorter { length result.1.now < length bytes.now }
-{
-    match find_line_feed(bytes) {
-        Some(len) => (&bytes[..len], &bytes[len + 1..]),
-        None => (bytes, &bytes[bytes.len()..]),
-    }
 }
 
 /// Reads a script with the answers that it states in comments: `#> LINE` behind the event that LINE answers, and
