@@ -1,3 +1,5 @@
-mod Alike
 mod Back
+mod Columns
+mod Empty
 mod Told
+mod Warned

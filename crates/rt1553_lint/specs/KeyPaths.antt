@@ -1,5 +1,6 @@
 -- What of a profile text is looked for.
-use Rattle.std.specs.Prelude.{ℕ, Bool, true, false, List, Option, Some, None, is_some}
+use Rattle.std.specs.Prelude.{ℕ, Bool, true, false, List, Option, Some, None, is_some, option_map}
+use Rattle.rt1553_lint.specs.declared.key_path.KeyPath.{KeyPath}
 use Rattle.toml.specs.Data.{Data, Members, get, at, get_member}
 
 -- the value has an item of this index, or is there where none is asked for
@@ -24,3 +25,7 @@ entry_there (Some i) name word (Some d) = name_there name word (at i d)
 -- each where it is asked for.
 abbrev pub is_there : List ℕ → Option ℕ → Option (List ℕ) → Option ℕ → Members → Bool
 is_there key entry name word ms = entry_there entry name word (get_member key ms)
+
+-- the tree has what the path names
+abbrev pub has : KeyPath → Members → Bool
+has path = is_there path.key.now path.entry (option_map (λ n. n.now) path.name) path.word

@@ -1,4 +1,4 @@
 pub mod Findings
 pub mod Places
 pub mod KeyPaths
-pub mod Without
+pub mod Positions

@@ -1,11 +1,14 @@
 //! The findings of a tree's faults: for each its place, the value as it is written, and what would be allowed.
-ghost use Rattle.std.specs.Prelude.{◌≡◌, ◌++◌, IfOk, OnOk, Some};
+ghost use Rattle.std.specs.Prelude.{◌≡◌, ◌++◌, true, IfOk, IfSome, IsSome, IsNone, IsSomeAnd, OnOk, Some, None, ◌≤◌, length, map};
 ghost use Rattle.toml.specs.View.{table_view};
 ghost use Rattle.bus_profile.specs.AllFaults.{told_faults};
 ghost use Rattle.rt1553_lint.specs.declared.finding.LintFault.TheVariants as LintFault;
-ghost use Rattle.rt1553_lint.specs.Findings.{faults_in};
+ghost use Rattle.rt1553_lint.specs.KeyPaths.{has};
+ghost use Rattle.rt1553_lint.specs.Places.{IsAt, IsPositionOf, IsDocument};
+ghost use Rattle.rt1553_lint.specs.Findings.{subjects, profile_error};
 
 use crate::finding::{Finding, LintFault, Position};
+use crate::guess::guessed_unknown;
 use crate::key_path::KeyPath;
 use crate::lines::{after_blanks, position_at};
 use crate::place::place_of;
@@ -19,6 +22,9 @@ use toml::Table;
 
 /// How many bytes of beginnings of the text are read, at most, to find where the findings stand.
 pub const MOST_BYTES: usize = 67_108_864;
+
+/// How many unknown keys a message names.
+const MOST_NAMES: usize = 10;
 
 /// What a key takes.
 fn allowed(key: Key) -> &'static str {
@@ -48,31 +54,62 @@ pub fn position_of(
     text: &[u8],
     path: Option<KeyPath<'_>>,
     left: &mut usize,
-) -> Result<Option<Position>, AllocError> {
+) -> Result<Option<Position>, AllocError>
+    ensures root { IfOk result (λ found. IsNone path.entry → IsSomeAnd found (IsAt text.now 0)) }
+    ensures place { IfOk result (λ found. IfSome path.entry (λ path. IfSome found (IsPositionOf (has path) text.now))) }
+    ensures found { IfOk result (λ found. IfSome path.entry (λ path. IsDocument (has path) text.now true → length text.now ≤ left.new → IsSome found)) }
+{
     let Some(path) = path else {
         return Ok(Some(position_at(text, 0)));
     };
-    match place_of(alloc, text, &path, left)? {
-        Some(place) => Ok(Some(position_at(text, after_blanks(text, place.start)))),
-        None => Ok(None),
+    let Some(place) = place_of(alloc, text, &path, left)? else {
+        return Ok(None);
+    };
+    let at = after_blanks(text, place.start);
+    Ok(Some(position_at(text, at)))
+}
+
+/// The keys of a part that it may not have, of which that comes first that seems to be first in the text.
+fn unknown_names<'a>(
+    alloc: Global,
+    text: &[u8],
+    table: &'a Table,
+    part: Part,
+) -> Result<Vec<&'a str>, AllocError> {
+    let Some(inner) = table_of(table, part) else {
+        return Ok(Vec::new(alloc));
+    };
+    let mut names = unknown_keys(alloc, inner, part)?;
+    let first = guessed_unknown(text, part, names.as_slice());
+    if first < names.len() {
+        let name = names.remove(first);
+        names.insert(0, name)?;
     }
+    Ok(names)
 }
 
 /// Adds the keys of a table that it may not have, and those that it may.
 fn push_unknown(
     alloc: Global,
     message: &mut String,
+    text: &[u8],
     table: &Table,
     part: Part,
 ) -> Result<(), AllocError> {
-    if let Some(inner) = table_of(table, part) {
-        let names = unknown_keys(alloc, inner, part)?;
-        for (index, name) in names.as_slice().iter().enumerate() {
-            if index > 0 {
-                message.push_str(",")?;
-            }
-            write!(message, " {}", Quoted(name))?;
+    let names = unknown_names(alloc, text, table, part)?;
+    for (index, name) in names.as_slice().iter().enumerate() {
+        if index == MOST_NAMES {
+            write!(
+                message,
+                ", .. and {} more",
+                names.len().saturating_sub(index)
+            )?;
+            break;
         }
+        if index > 0 {
+            message.push_str(",")?;
+        }
+        write!(message, " {}", Quoted(name))?;
     }
     message.push_str("; known are")?;
     for (index, key) in known_keys(part).iter().enumerate() {
@@ -125,6 +162,7 @@ fn push_required(message: &mut String, table: &Table, code: u8) -> Result<(), Al
 /// The message of a fault; `word` is the index of the word that has it.
 fn message_of(
     alloc: Global,
+    text: &[u8],
     table: &Table,
     fault: ProfileFault,
     word: Option<usize>,
@@ -132,7 +170,7 @@ fn message_of(
     let mut message = String::new(alloc);
     write!(message, "{fault}")?;
     match fault {
-        ProfileFault::UnknownKey(part) => push_unknown(alloc, &mut message, table, part)?,
+        ProfileFault::UnknownKey(part) => push_unknown(alloc, &mut message, text, table, part)?,
         ProfileFault::Missing(_, key) => write!(message, "; allowed is {}", allowed(key))?,
         ProfileFault::WrongKind(part, key)
         | ProfileFault::OutOfRange(part, key)
@@ -189,11 +227,9 @@ fn position_of_unknown(
     part: Part,
     left: &mut usize,
 ) -> Result<Option<Position>, AllocError> {
-    if let Some(inner) = table_of(table, part) {
-        let names = unknown_keys(alloc, inner, part)?;
-        if let Some(name) = names.as_slice().first() {
-            return position_of(alloc, text, Some(path_of_name(part, name)), left);
-        }
+    let names = unknown_names(alloc, text, table, part)?;
+    if let Some(name) = names.as_slice().first() {
+        return position_of(alloc, text, Some(path_of_name(part, name)), left);
     }
     position_of(alloc, text, path_of_part(part), left)
 }
@@ -235,12 +271,14 @@ fn finding_of(
     word: Option<usize>,
     left: &mut usize,
 ) -> Result<Finding, AllocError>
-    ensures { IfOk result (λ finding. finding.fault ≡ Some (LintFault.Profile fault)) }
+    ensures fault { IfOk result (λ finding. finding.fault ≡ Some (LintFault.Profile fault)) }
+    ensures spare { IfOk result (λ finding. finding.spare ≡ None) }
 {
     Ok(Finding {
         position: position_of_fault(alloc, text, table, fault, word, left)?,
         fault: Some(LintFault::Profile(fault)),
-        message: message_of(alloc, table, fault, word)?,
+        spare: None,
+        message: message_of(alloc, text, table, fault, word)?,
     })
 }
 
@@ -253,7 +291,7 @@ fn push_faults(
     faults: &[ProfileFault],
     left: &mut usize,
 ) -> Result<(), AllocError>
-    ensures { OnOk result (faults_in findings.new.items ≡ faults_in findings.old.items ++ faults.now) }
+    ensures { OnOk result (subjects findings.new.items ≡ subjects findings.old.items ++ map profile_error faults.now) }
 {
     let mut from = 0usize;
     for fault in faults {
@@ -277,7 +315,7 @@ pub fn errors_of(
     table: &Table,
     left: &mut usize,
 ) -> Result<Vec<Finding>, AllocError>
-    ensures { IfOk result (λ found. faults_in found.items ≡ told_faults (table_view table.now)) }
+    ensures { IfOk result (λ found. subjects found.items ≡ map profile_error (told_faults (table_view table.now))) }
 {
     let faults = all_faults(alloc, table)?;
     let mut findings = Vec::new(alloc);

@@ -5,6 +5,7 @@ ghost use Rattle.rt1553_lint.specs.Findings.{lint_fault_number, lint_fault_name}
 use bus_canon::CanonFault;
 use bus_profile::ProfileFault;
 use serde::Serialize;
+use spare_entries::SparePlace;
 use std::alloc::{AllocError, Global};
 use std::fmt;
 
@@ -51,6 +52,8 @@ pub struct Finding {
     pub position: Option<Position>,
     /// The fault; None for a warning.
     pub fault: Option<LintFault>,
+    /// What has no effect; None for an error.
+    pub spare: Option<SparePlace>,
     /// One line.
     pub message: String,
 }

@@ -3,21 +3,18 @@
 
 mod errors;
 mod finding;
+mod guess;
 mod key_path;
 mod lines;
 mod linting;
 mod place;
 mod shown;
-mod spare;
 mod tree;
 mod warnings;
-mod why;
 
 pub use errors::MOST_BYTES;
 pub use finding::{Finding, LintFault, Position};
 pub use key_path::KeyPath;
 pub use linting::lint;
 pub use place::{TextRange, place_of};
-pub use spare::{
-    Setting, is_spare_initial, is_spare_mode, is_spare_rule, is_spare_setting, is_spare_word,
-};
+pub use spare_entries::{Setting, SparePlace};

@@ -1,15 +1,18 @@
 //! All that is wrong with a text, or has no effect in it.
-ghost use Rattle.std.specs.Prelude.{◌≡◌, IfOk};
+ghost use Rattle.std.specs.Prelude.{◌≡◌, [], ◌∷◌, Some, None, IfOk};
 ghost use Rattle.toml.specs.Data.{Members};
 ghost use Rattle.toml.specs.View.{table_view};
+ghost use Rattle.toml.specs.Errors.{IsWithin};
 ghost use Rattle.bus_profile.specs.Read.{IsTree};
-ghost use Rattle.bus_profile.specs.AllFaults.{told_faults};
-ghost use Rattle.rt1553_lint.specs.Findings.{faults_in};
+ghost use Rattle.rt1553_lint.specs.declared.finding.LintFault.TheVariants as lint_fault;
+ghost use Rattle.rt1553_lint.specs.Findings.{subjects, FindsInTree, FindsInOther};
+ghost use Rattle.rt1553_lint.specs.Places.{IsNone};
 
 use crate::errors::{MOST_BYTES, errors_of};
 use crate::finding::{Finding, LintFault};
 use crate::lines::{position_at, position_of_line};
-use crate::warnings::push_warnings;
+use crate::shown::ShownMessage;
+use crate::warnings::warnings_of;
 use bus_canon::CanonFault;
 use bus_profile::{ProfileFault, read_profile};
 use rt1553::{LoadFault, load};
@@ -19,21 +22,25 @@ use toml::de::Error;
 
 /// The findings of a text that is TOML: its faults, or where it has none what has no effect.
 fn lint_table(alloc: Global, text: &[u8], table: &Table) -> Result<Vec<Finding>, AllocError>
-    ensures { IfOk result (λ found. faults_in found.items ≡ told_faults (table_view table.now)) }
+    ensures { IfOk result (λ found. FindsInTree text.now (table_view table.now) found.items) }
 {
     let mut left = MOST_BYTES;
-    let mut findings = errors_of(alloc, text, table, &mut left)?;
-    if findings.is_empty() {
-        match read_profile(alloc, text) {
-            Ok(profile) => push_warnings(alloc, &mut findings, text, &profile, &mut left)?,
-            Err(_) => return Err(AllocError),
-        }
+    let findings = errors_of(alloc, text, table, &mut left)?;
+    if !findings.is_empty() {
+        return Ok(findings);
     }
-    Ok(findings)
+    let Ok(profile) = read_profile(alloc, text) else {
+        return Err(AllocError);
+    };
+    let warnings = warnings_of(alloc, text, &profile, &mut left)?;
+    Ok(warnings)
 }
 
 /// The finding of a canonical text that is refused.
-fn canon_finding(alloc: Global, text: &[u8], fault: CanonFault) -> Result<Finding, AllocError> {
+fn canon_finding(alloc: Global, text: &[u8], fault: CanonFault) -> Result<Finding, AllocError>
+    ensures fault { IfOk result (λ finding. finding.fault ≡ Some (lint_fault.Canon fault)) }
+    ensures spare { IfOk result (λ finding. finding.spare ≡ None) }
+{
     let position = match fault {
         CanonFault::Line(line) => position_of_line(line),
         CanonFault::Trailing => position_at(text, text.len()),
@@ -41,13 +48,22 @@ fn canon_finding(alloc: Global, text: &[u8], fault: CanonFault) -> Result<Findin
     Ok(Finding {
         position: Some(position),
         fault: Some(LintFault::Canon(fault)),
+        spare: None,
         message: format!(in alloc; "{fault}")?,
     })
 }
 
 /// The finding of a text that is no TOML.
-fn syntax_finding(alloc: Global, text: &[u8], error: &Error) -> Result<Finding, AllocError> {
-    let fault = ProfileFault::NotToml;
+fn syntax_finding(
+    alloc: Global,
+    text: &[u8],
+    fault: ProfileFault,
+    error: &Error,
+) -> Result<Finding, AllocError>
+    requires { IsWithin text.now error.now }
+    ensures fault { IfOk result (λ finding. finding.fault ≡ Some (lint_fault.Profile fault)) }
+    ensures spare { IfOk result (λ finding. finding.spare ≡ None) }
+{
     let position = match error.span() {
         Some(span) => Some(position_at(text, span.start)),
         None => None,
@@ -55,20 +71,39 @@ fn syntax_finding(alloc: Global, text: &[u8], error: &Error) -> Result<Finding, 
     Ok(Finding {
         position,
         fault: Some(LintFault::Profile(fault)),
-        message: format!(in alloc; "{fault}: {}", error.message())?,
+        spare: None,
+        message: format!(in alloc; "{fault}: {}", ShownMessage(error.message()))?,
     })
 }
 
+/// This finding alone.
+fn only(alloc: Global, finding: Finding) -> Result<Vec<Finding>, AllocError>
+    ensures { IfOk result (λ found. subjects found.items ≡ (finding.fault, finding.spare) ∷ []) }
+{
+    let mut found = Vec::new(alloc);
+    found.push(finding)?;
+    Ok(found)
+}
+
 /// The findings of a text that is no TOML: none where it is a canonical text that is accepted.
-fn lint_other(alloc: Global, text: &[u8], error: &Error) -> Result<Vec<Finding>, AllocError> {
-    let mut findings = Vec::new(alloc);
+fn lint_other(alloc: Global, text: &[u8], error: &Error) -> Result<Vec<Finding>, AllocError>
+    requires { IsWithin text.now error.now }
+    ensures { IfOk result (λ found. FindsInOther text.now found.items) }
+{
     match load(alloc, text) {
-        Ok(_) => {}
-        Err(LoadFault::Canon(fault)) => findings.push(canon_finding(alloc, text, fault)?)?,
-        Err(LoadFault::Profile(_)) => findings.push(syntax_finding(alloc, text, error)?)?,
-        Err(LoadFault::Memory) => return Err(AllocError),
+        Ok(_) => Ok(Vec::new(alloc)),
+        Err(LoadFault::Canon(fault)) => {
+            let finding = canon_finding(alloc, text, fault)?;
+            let found = only(alloc, finding)?;
+            Ok(found)
+        }
+        Err(LoadFault::Profile(fault)) => {
+            let finding = syntax_finding(alloc, text, fault, error)?;
+            let found = only(alloc, finding)?;
+            Ok(found)
+        }
+        Err(LoadFault::Memory) => Err(AllocError),
     }
-    Ok(findings)
 }
 
 /// Gives all that is wrong with a profile text or a canonical text, in the order of the faults; where nothing is wrong, each
@@ -76,7 +111,8 @@ fn lint_other(alloc: Global, text: &[u8], error: &Error) -> Result<Vec<Finding>,
 ///
 /// Of a text that is no TOML, or no canonical text, the first fault alone is found.
 pub fn lint(alloc: Global, text: &[u8]) -> Result<Vec<Finding>, AllocError>
-    ensures { IfOk result (λ found. (tree : Members) → IsTree text.now tree → faults_in found.items ≡ told_faults tree) }
+    ensures tree { IfOk result (λ found. (tree : Members) → IsTree text.now tree → FindsInTree text.now tree found.items) }
+    ensures other { IfOk result (λ found. IsNone text.now → FindsInOther text.now found.items) }
 {
     match toml::table_from_slice(alloc, text) {
         Ok(table) => lint_table(alloc, text, &table),
@@ -84,7 +120,8 @@ pub fn lint(alloc: Global, text: &[u8]) -> Result<Vec<Finding>, AllocError>
             if error.is_memory() {
                 return Err(AllocError);
             }
-            lint_other(alloc, text, &error)
+            let found = lint_other(alloc, text, &error)?;
+            Ok(found)
         }
     }
 }

@@ -1,8 +1,10 @@
 //! The lines of a profile text at which it gets something.
-ghost use Rattle.std.specs.Prelude.{◌≤◌, ◌<◌, IfOk, IfSome, take, length, option_map};
-ghost use Rattle.rt1553_lint.specs.Places.{IsTextRange, Sees, SeesBack};
+ghost use Rattle.std.specs.Prelude.{◌≡◌, ◌≤◌, ◌<◌, true, IfOk, IfSome, IsSome, take, length, option_map};
+ghost use Rattle.rt1553_lint.specs.Places.{IsTextRange, IsDocument, Sees, SeesBack};
 ghost use Rattle.rt1553_lint.specs.KeyPaths.{is_there};
+ghost use Rattle.rt1553_lint.specs.declared.place.Look.TheVariants.{With, TooMuch};
 
+use crate::guess::guessed_end;
 use crate::key_path::KeyPath;
 use std::alloc::{AllocError, Global};
 
@@ -31,7 +33,8 @@ fn look_at(
     left: &mut usize,
 ) -> Result<Look, AllocError>
     requires { end ≤ length text.now }
-    ensures { IfOk result (Sees (is_there path.now.key.now path.now.entry (option_map (λ n. n.now) path.now.name) path.now.word) (take end text.now)) }
+    ensures sees { IfOk result (Sees (is_there path.now.key.now path.now.entry (option_map (λ n. n.now) path.now.name) path.now.word) (take end text.now)) }
+    ensures spent { IfOk result (λ seen. seen ≡ TooMuch → left.new < length text.now) }
 {
     if *left < end {
         return Ok(Look::TooMuch);
@@ -76,7 +79,8 @@ fn next_document(
     path: &KeyPath<'_>,
     left: &mut usize,
 ) -> Result<(usize, Look), AllocError>
-    ensures { IfOk result (λ found. found.0 ≤ length text.now) }
+    ensures within { IfOk result (λ found. found.0 ≤ length text.now) }
+    ensures with { IfOk result (λ found. found.1 ≡ With → IsDocument (is_there path.now.key.now path.now.entry (option_map (λ n. n.now) path.now.name) path.now.word) (take found.0 text.now) true) }
 {
     let mut at = line_end(text, middle);
     for _line in 0..text.len() {
@@ -91,14 +95,17 @@ fn next_document(
     Ok((at, Look::NoDocument))
 }
 
-/// An end of a line up to which the text has what is looked for, found by halving; what is looked for is mostly in the last line before it.
-fn some_end(
+/// An end of a line up to which the text has what is looked for, found by halving; what is looked for is mostly in the last line
+/// before it. The whole text has it.
+fn halved_end(
     alloc: Global,
     text: &[u8],
     path: &KeyPath<'_>,
     left: &mut usize,
 ) -> Result<usize, AllocError>
-    ensures { IfOk result (λ end. end ≤ length text.now) }
+    requires { IsDocument (is_there path.now.key.now path.now.entry (option_map (λ n. n.now) path.now.name) path.now.word) text.now true }
+    ensures within { IfOk result (λ end. end ≤ length text.now) }
+    ensures with { IfOk result (λ end. IsDocument (is_there path.now.key.now path.now.entry (option_map (λ n. n.now) path.now.name) path.now.word) (take end text.now) true) }
 {
     let mut end = text.len();
     let mut lower = 0usize;
@@ -122,6 +129,28 @@ fn some_end(
     Ok(end)
 }
 
+/// An end of a line up to which the text has what is looked for: that which a glance at its lines gives, or else one that is
+/// found by halving. None where the whole text is no document that has it, or too few bytes are left to be read.
+fn some_end(
+    alloc: Global,
+    text: &[u8],
+    path: &KeyPath<'_>,
+    left: &mut usize,
+) -> Result<Option<usize>, AllocError>
+    ensures within { IfOk result (λ found. IfSome found (λ end. end ≤ length text.now)) }
+    ensures with { IfOk result (λ found. IfSome found (λ end. IsDocument (is_there path.now.key.now path.now.entry (option_map (λ n. n.now) path.now.name) path.now.word) (take end text.now) true)) }
+    ensures found { IfOk result (λ found. IsDocument (is_there path.now.key.now path.now.entry (option_map (λ n. n.now) path.now.name) path.now.word) text.now true → length text.now ≤ left.new → IsSome found) }
+{
+    let guess = guessed_end(text, path);
+    if guess < text.len() && look_at(alloc, text, guess, path, left)? == Look::With {
+        return Ok(Some(guess));
+    }
+    let Look::With = look_at(alloc, text, text.len(), path, left)? else {
+        return Ok(None);
+    };
+    Ok(Some(halved_end(alloc, text, path, left)?))
+}
+
 /// As `look_at`, at an end of a line alone; any other is passed over like one up to which the text is no document.
 fn look_back(
     alloc: Global,
@@ -131,7 +160,8 @@ fn look_back(
     left: &mut usize,
 ) -> Result<Look, AllocError>
     requires { at < length text.now }
-    ensures { IfOk result (SeesBack (is_there path.now.key.now path.now.entry (option_map (λ n. n.now) path.now.name) path.now.word) text.now at) }
+    ensures sees { IfOk result (SeesBack (is_there path.now.key.now path.now.entry (option_map (λ n. n.now) path.now.name) path.now.word) text.now at) }
+    ensures spent { IfOk result (λ seen. seen ≡ TooMuch → left.new < length text.now) }
 {
     if at == 0 || text[at - 1] == b'\n' {
         return look_at(alloc, text, at, path, left);
@@ -140,25 +170,25 @@ fn look_back(
 }
 
 /// Gives the lines at which a text gets what is looked for: up to their end it is a document that has it, up to their start one
-/// that doesn't, and up to no end of a line between them it is a document.
+/// that doesn't, and up to no end of a line between them it is a document. None where the text is no document that has it.
 ///
-/// `left` is how many bytes may still be read, of all beginnings of the text that are; where there are too few, no place is given.
-/// The only error is out of memory.
+/// `left` is how many bytes may still be read, of all beginnings of the text that are; where fewer are left than the text has, there may be
+/// no place. The only error is out of memory.
 pub fn place_of(
     alloc: Global,
     text: &[u8],
     path: &KeyPath<'_>,
     left: &mut usize,
 ) -> Result<Option<TextRange>, AllocError>
-    ensures { IfOk result (λ found. IfSome found (λ place. IsTextRange (is_there path.now.key.now path.now.entry (option_map (λ n. n.now) path.now.name) path.now.word) text.now place.start place.end)) }
+    ensures place { IfOk result (λ found. IfSome found (λ place. IsTextRange (is_there path.now.key.now path.now.entry (option_map (λ n. n.now) path.now.name) path.now.word) text.now place.start place.end)) }
+    ensures found { IfOk result (λ found. IsDocument (is_there path.now.key.now path.now.entry (option_map (λ n. n.now) path.now.name) path.now.word) text.now true → length text.now ≤ left.new → IsSome found) }
 {
-    let most = some_end(alloc, text, path, left)?;
-    let Look::With = look_at(alloc, text, most, path, left)? else {
+    let Some(most) = some_end(alloc, text, path, left)? else {
         return Ok(None);
     };
     let mut end = most;
-    for back in 0..most {
-        let at = most - 1 - back;
+    for back in 1..most {
+        let at = most - back;
         match look_back(alloc, text, at, path, left)? {
             Look::With => end = at,
             Look::Without => return Ok(Some(TextRange { start: at, end })),
@@ -166,5 +196,5 @@ pub fn place_of(
             Look::TooMuch => return Ok(None),
         }
     }
-    Ok(None)
+    Ok(Some(TextRange { start: 0, end }))
 }

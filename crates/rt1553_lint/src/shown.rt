@@ -5,7 +5,16 @@ use toml::Value;
 /// How many characters of a text are shown.
 const MOST: usize = 40;
 
-/// A text between quotation marks, cut where it is long.
+/// Writes a character, escaped where it does not print.
+fn write_shown<W: fmt::Write>(f: &mut fmt::Formatter<W>, letter: char) -> fmt::Result {
+    if letter == '\'' {
+        return f.write_char(letter);
+    }
+    write!(f, "{}", letter.escape_debug())
+}
+
+/// A text between quotation marks, cut where it is long. What does not print is escaped, so that it stays in its line and no
+/// terminal takes it for a command.
 #[derive(Clone, Copy)]
 pub struct Quoted<'a>(pub &'a str);
 
@@ -16,26 +25,26 @@ impl fmt::Display for Quoted<'_> {
             if index == MOST {
                 return f.write_str("\" ..");
             }
-            match letter {
-                '"' => f.write_str("\\\"")?,
-                '\\' => f.write_str("\\\\")?,
-                '\n' => f.write_str("\\n")?,
-                '\t' => f.write_str("\\t")?,
-                letter => {
-                    let code = letter as u32;
-                    if code < 32
-                        || (127 <= code && code < 160)
-                        || code == 0x2028
-                        || code == 0x2029
-                    {
-                        write!(f, "\\u{code:04x}")?;
-                    } else {
-                        f.write_char(letter)?;
-                    }
-                }
-            }
+            write_shown(f, letter)?;
         }
         f.write_str("\"")
+    }
+}
+
+/// A message of a library, with what does not print escaped.
+#[derive(Clone, Copy)]
+pub struct ShownMessage<'a>(pub &'a str);
+
+impl fmt::Display for ShownMessage<'_> {
+    fn fmt<W: fmt::Write>(&self, f: &mut fmt::Formatter<W>) -> fmt::Result {
+        for letter in self.0.chars() {
+            if letter == '"' {
+                f.write_char(letter)?;
+            } else {
+                write_shown(f, letter)?;
+            }
+        }
+        Ok(())
     }
 }
 

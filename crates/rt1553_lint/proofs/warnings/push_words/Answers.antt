@@ -1,0 +1,6 @@
+use Rattle.spare_entries.specs.declared.spare.SparePlace.TheVariants.{Word}
+use Rattle.rt1553_lint.proofs.Warned.{warns_more}
+use Rattle.rt1553_lint.proofs.warnings.push_words.Goals as goal
+
+pub loop-word-preserved : goal.loop-word-preserved
+loop-word-preserved c = warns_more _ (Word c.args.index) c.loop-word.word _ _ _ c.loop-word.invariant c.in_ok-push_word.ensures

@@ -1,0 +1,30 @@
+-- Lines and columns of a text.
+use Rattle.std.specs.Prelude.{ℕ, ◌+◌, Bool, not, ◌||◌, ◌==◌, nat_lt, nat_le, List, take, drop, reverse, take_while, count_by}
+use Rattle.std.specs.List.{prefix_len}
+
+abbrev pub is_feed : ℕ → Bool
+is_feed byte = byte == 10
+
+-- a character begins with this byte: it is no continuation byte of UTF-8
+abbrev pub begins_character : ℕ → Bool
+begins_character byte = nat_lt byte 0x80 || nat_le 0xC0 byte
+
+-- a space or a tab
+abbrev pub is_blank : ℕ → Bool
+is_blank byte = byte == 32 || byte == 9
+
+-- the bytes before a place, the nearest first, up to a line feed
+abbrev pub back_to_feed : List ℕ → ℕ → List ℕ
+back_to_feed text place = take_while (λ byte. not (is_feed byte)) (reverse (take place text))
+
+-- the line of a place: one more than the line feeds before it
+abbrev pub line_of_place : List ℕ → ℕ → ℕ
+line_of_place text place = count_by is_feed (take place text) + 1
+
+-- the column of a place: one more than the characters before it in its line
+abbrev pub column_at : List ℕ → ℕ → ℕ
+column_at text place = count_by begins_character (back_to_feed text place) + 1
+
+-- the first place from this one on whose byte is no blank, or the end of the text
+abbrev pub first_unblank : List ℕ → ℕ → ℕ
+first_unblank text place = place + prefix_len is_blank (drop place text)
