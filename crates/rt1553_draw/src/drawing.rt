@@ -1,207 +1,147 @@
-//! The drawing of a run.
-use crate::caption::{Caption, TOLD_WORDS};
-use crate::place::{Column, Lane};
-use crate::shape::{
-    BOX_COLUMN, NARROW_COLUMN, push_box, push_gap, push_head, push_lanes, push_silence,
-};
+//! Drawings of a run: as one, or message by message.
+ghost use Rattle.std.specs.Prelude.{◌≡◌, ◌≢◌, Some, None, OnOk, IfErr};
+ghost use Rattle.script_lines.specs.Text.{lines_of};
+ghost use Rattle.bus_script.specs.Reading.{reading};
+ghost use Rattle.rt1553_draw.specs.Refused.{refusal};
+
+use crate::DrawFault;
+use crate::part::{DrawnMessage, MessageTitle};
+use crate::plan::plan;
+use crate::row::{Row, bottom_of, right_of, rows_of};
+use crate::shape::{push_head, push_row, push_style};
 use bus_legal::Normal;
-use bus_terminal::{Answer, Event, Hand, Sent, Terminal};
-use bus_word::{Bus, Kind, Raw};
-use rt1553_verify::{StatedFault, read_stated};
 use std::alloc::{AllocError, Global};
-use thiserror::Error;
+use std::fmt;
 
-/// How many events are drawn at most.
-pub const MAX_EVENTS: usize = 4096;
+/// How many messages are shown unfolded at most.
+const UNFOLDED: usize = 8;
 
-/// Why there is no drawing.
-#[derive(Clone, Copy, Debug, PartialEq, Eq, Error)]
-pub enum DrawFault {
-    /// The script is refused.
-    #[error("{0}")]
-    Script(StatedFault),
-    /// The script has over 4,096 events.
-    #[error("script: too many events to draw")]
-    TooMany,
-    /// A growth of memory was refused, which says nothing of the script.
-    #[error("out of memory")]
-    Memory,
+/// How many messages are folded together, where there are more.
+const FOLDED_TOGETHER: usize = 50;
+
+/// What a drawing of a run is called.
+#[derive(Clone, Copy)]
+struct RunTitle {
+    messages: usize,
+    address: u8,
 }
 
-impl From<AllocError> for DrawFault {
-    fn from(_error: AllocError) -> DrawFault {
-        DrawFault::Memory
-    }
-}
-
-impl From<StatedFault> for DrawFault {
-    fn from(fault: StatedFault) -> DrawFault {
-        match fault {
-            StatedFault::Memory => DrawFault::Memory,
-            fault => DrawFault::Script(fault),
-        }
-    }
-}
-
-/// The lane of a bus.
-fn lane_of(bus: Bus) -> Lane {
-    match bus {
-        Bus::A => Lane::A,
-        Bus::B => Lane::B,
-    }
-}
-
-/// What a word that came is.
-fn caption_of(word: Raw) -> Caption {
-    if !word.is_valid() {
-        return Caption::Invalid(word.bits);
-    }
-    match word.kind {
-        Kind::Com => Caption::Command(word.bits),
-        Kind::Dat => Caption::Data(word.bits),
-    }
-}
-
-/// What a word that is sent is.
-fn caption_of_sent(sent: Sent) -> Caption {
-    match sent.kind {
-        Kind::Com => Caption::Status(sent.bits),
-        Kind::Dat => Caption::SentData(sent.bits),
-    }
-}
-
-/// The first of some words, and 0 where there are none.
-fn first_of(words: &[u16]) -> [u16; TOLD_WORDS] {
-    let mut first = [0; TOLD_WORDS];
-    for (to, word) in first.iter_mut().zip(words) {
-        *to = *word;
-    }
-    first
-}
-
-/// What is handed over.
-fn caption_of_hand(hand: Hand<'_>) -> Caption {
-    match hand {
-        Hand::Received {
-            broadcast,
-            subaddress,
-            words,
-        } => Caption::Received {
-            broadcast,
-            subaddress,
-            count: words.len(),
-            first: first_of(words),
-        },
-        Hand::Synchronize => Caption::Synchronize,
-        Hand::SynchronizeWith(word) => Caption::SynchronizeWith(word),
-        Hand::SelfTest => Caption::SelfTest,
-        Hand::BusControl => Caption::BusControl,
-    }
-}
-
-/// A drawing that is being made: what is drawn, and the last column.
-#[derive(Drop)]
-struct Drawing {
-    text: String,
-    last: Column,
-}
-
-impl Drawing {
-    /// Takes the next column, of this width, with its row's lanes where it is the first of a row.
-    fn column(&mut self, width: u32) -> Result<Column, AllocError> {
-        let column = self.last.next(width);
-        if column.begins_row() {
-            push_lanes(&mut self.text, column)?;
-        }
-        self.last = column;
-        Ok(column)
-    }
-
-    /// Draws a box in a lane.
-    fn put(&mut self, lane: Lane, caption: Caption) -> Result<(), AllocError> {
-        let column = self.column(BOX_COLUMN)?;
-        push_box(&mut self.text, column, lane, caption)
-    }
-
-    /// Draws a gap on a bus, and what is handed over at it.
-    fn put_gap(&mut self, bus: Bus, answer: &Answer<'_>) -> Result<(), AllocError> {
-        let lane = lane_of(bus);
-        match answer {
-            Answer::Hands(hand) => {
-                let column = self.column(BOX_COLUMN)?;
-                push_gap(&mut self.text, column, lane)?;
-                push_box(
-                    &mut self.text,
-                    column,
-                    Lane::Subsystem,
-                    caption_of_hand(*hand),
-                )
-            }
-            _ => {
-                let column = self.column(NARROW_COLUMN)?;
-                push_gap(&mut self.text, column, lane)
-            }
-        }
-    }
-
-    /// Draws a slot: the word that is sent, or that none is.
-    fn put_slot(&mut self, answer: &Answer<'_>) -> Result<(), AllocError> {
-        match answer {
-            Answer::Sends(sent) => self.put(lane_of(sent.bus), caption_of_sent(*sent)),
-            _ => {
-                let column = self.column(NARROW_COLUMN)?;
-                push_silence(&mut self.text, column)
-            }
-        }
-    }
-
-    /// Draws an event with its answer.
-    fn put_event(&mut self, event: Event, answer: &Answer<'_>) -> Result<(), AllocError> {
-        match event {
-            Event::Word(bus, word) => self.put(lane_of(bus), caption_of(word)),
-            Event::Noise(bus) => self.put(lane_of(bus), Caption::Noise),
-            Event::Gap(bus) => self.put_gap(bus, answer),
-            Event::Slot => self.put_slot(answer),
-            Event::Write(place, word) => self.put(
-                Lane::Subsystem,
-                Caption::Write {
-                    subaddress: place.subaddress(),
-                    number: place.number(),
-                    word,
-                },
+impl fmt::Display for RunTitle {
+    fn fmt<W: fmt::Write>(&self, f: &mut fmt::Formatter<W>) -> fmt::Result {
+        let address = self.address;
+        match self.messages {
+            1 => write!(f, "A run of 1 message, and what terminal {address} answers"),
+            messages => write!(
+                f,
+                "A run of {messages} messages, and what terminal {address} answers"
             ),
-            Event::Vector(word) => self.put(Lane::Subsystem, Caption::Vector(word)),
-            Event::Bit(word) => self.put(Lane::Subsystem, Caption::Bit(word)),
-            Event::Flag(flag, is_set) => self.put(Lane::Subsystem, Caption::Flag(flag, is_set)),
         }
     }
+}
 
-    /// Puts the drawing together, now that its size is known.
-    fn finish(self, alloc: Global) -> Result<String, AllocError> {
-        let mut whole = String::new(alloc);
-        push_head(&mut whole, self.last)?;
-        whole.push_str(self.text.as_str())?;
-        whole.push_str("</svg>\n")?;
-        Ok(whole)
+/// The rows of a drawing.
+fn push_rows(text: &mut String, rows: &[Row], parts: &[DrawnMessage]) -> Result<(), AllocError> {
+    for row in rows {
+        push_row(text, *row, parts)?;
     }
+    Ok(())
+}
+
+/// Draws messages in rows.
+fn drawing_of(
+    alloc: Global,
+    normal: &Normal,
+    parts: &[DrawnMessage],
+) -> Result<String, AllocError> {
+    let rows = rows_of(alloc, parts)?;
+    let rows = rows.as_slice();
+    let title = RunTitle {
+        messages: parts.len(),
+        address: normal.setup().address,
+    };
+    let mut text = String::new(alloc);
+    push_head(&mut text, right_of(rows), bottom_of(rows), &title)?;
+    push_style(&mut text)?;
+    push_rows(&mut text, rows, parts)?;
+    text.push_str("</svg>\n")?;
+    Ok(text)
 }
 
 /// Draws what comes to a terminal from power-up, by a script, and what it answers: an SVG in which each word is a box in
-/// the lane of its bus, and what the subsystem gives and is handed over a box in its own lane. Answers that the script
-/// states in comments are left aside.
-pub fn draw(alloc: Global, normal: &Normal, script: &[u8]) -> Result<String, DrawFault> {
-    let read = read_stated(alloc, script)?;
-    if read.len() > MAX_EVENTS {
-        return Err(DrawFault::TooMany);
+/// the lane of its bus, and what the subsystem gives and is handed over a box in its own lane. Comments are left aside, also
+/// those that state answers. A script that has a fault, for which its run ends, and one of over 4,096 events are refused.
+pub fn draw(alloc: Global, normal: &Normal, script: &[u8]) -> Result<String, DrawFault>
+    ensures drawn { OnOk result (refusal (reading 0 (lines_of script.now)) ≡ None) }
+    ensures refused { IfErr result (λ fault. fault ≢ DrawFault.Memory → refusal (reading 0 (lines_of script.now)) ≡ Some fault) }
+{
+    let parts = plan(alloc, normal, script)?;
+    Ok(drawing_of(alloc, normal, parts.as_slice())?)
+}
+
+/// Draws a message, to be unfolded below its summary.
+fn push_fold(text: &mut String, part: &DrawnMessage, open: &str) -> Result<(), AllocError> {
+    let summary = MessageTitle(part);
+    let row = Row::of(part);
+    writeln!(
+        text,
+        "<details{open}><summary>{summary}</summary><div class=\"run\">"
+    )?;
+    push_head(text, row.right(), row.frame.bottom(), &summary)?;
+    push_row(text, row, std::slice::from_ref(part))?;
+    text.push_str("</svg></div></details>\n")
+}
+
+/// Draws messages, each to be unfolded.
+fn push_folds(text: &mut String, parts: &[DrawnMessage], open: &str) -> Result<(), AllocError> {
+    for part in parts {
+        push_fold(text, part, open)?;
     }
-    let mut drawing = Drawing {
-        text: String::new(alloc),
-        last: Column::first(),
-    };
-    let mut terminal = Terminal::power_up(normal.setup(), *normal);
-    for stated in read.as_slice() {
-        let answer = terminal.step(stated.event);
-        drawing.put_event(stated.event, &answer)?;
+    Ok(())
+}
+
+/// Draws messages that are folded together.
+fn push_chunk(text: &mut String, parts: &[DrawnMessage]) -> Result<(), AllocError> {
+    if let [first, .., last] = parts {
+        let from = first.number;
+        let to = last.number;
+        let from_line = first.first_line();
+        let to_line = last.last_line();
+        writeln!(
+            text,
+            "<details><summary>messages {from} to {to}, lines {from_line} to {to_line}</summary>"
+        )?;
+        push_folds(text, parts, "")?;
+        return text.push_str("</details>\n");
     }
-    Ok(drawing.finish(alloc)?)
+    push_folds(text, parts, "")
+}
+
+/// Draws many messages, so many folded together.
+fn push_chunks(text: &mut String, parts: &[DrawnMessage]) -> Result<(), AllocError> {
+    for chunk in parts.chunks(FOLDED_TOGETHER) {
+        push_chunk(text, chunk)?;
+    }
+    Ok(())
+}
+
+/// Draws messages one by one, each to be unfolded: a few are unfolded, and many folded together.
+fn folds_of(alloc: Global, parts: &[DrawnMessage]) -> Result<String, AllocError> {
+    let mut text = String::new(alloc);
+    if parts.len() > FOLDED_TOGETHER {
+        push_chunks(&mut text, parts)?;
+    } else if parts.len() > UNFOLDED {
+        push_folds(&mut text, parts, "")?;
+    } else {
+        push_folds(&mut text, parts, " open=\"open\"")?;
+    }
+    Ok(text)
+}
+
+/// Draws the same message by message, for a page: each stands below a line that says what it is, and can be folded.
+pub fn draw_folded(alloc: Global, normal: &Normal, script: &[u8]) -> Result<String, DrawFault>
+    ensures drawn { OnOk result (refusal (reading 0 (lines_of script.now)) ≡ None) }
+    ensures refused { IfErr result (λ fault. fault ≢ DrawFault.Memory → refusal (reading 0 (lines_of script.now)) ≡ Some fault) }
+{
+    let parts = plan(alloc, normal, script)?;
+    Ok(folds_of(alloc, parts.as_slice())?)
 }

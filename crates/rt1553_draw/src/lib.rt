@@ -1,11 +1,19 @@
-//! Drawings of runs: what comes to a terminal and what it answers, as boxes in lanes (SVG).
+//! Drawings of runs: what comes to a terminal and what it answers, as boxes in lanes (SVG), and pages with them (HTML).
 #![tactic(auto)]
 
-mod caption;
+mod column;
+mod course;
 mod drawing;
+mod fault;
+mod numbered;
 mod page;
-mod place;
+mod part;
+mod plan;
+mod row;
 mod shape;
+mod style;
 
-pub use drawing::{DrawFault, MAX_EVENTS, draw};
+pub use drawing::{draw, draw_folded};
+pub use fault::DrawFault;
+pub use numbered::MAX_EVENTS;
 pub use page::page_of;

@@ -1,0 +1,176 @@
+//! What is drawn of one event, and of what the terminal answers to it: a column.
+ghost use Rattle.std.specs.Prelude.{◌≡◌, IfOk};
+ghost use Rattle.bus_terminal.specs.Answer.{shown_answer, IsSmall};
+
+use crate::numbered::Numbered;
+use bus_script::write_answer;
+use bus_terminal::{Answer, Event};
+use bus_word::Bus;
+use drawing_boxes::{Caption, Lane, Lanes, MARGIN, digits_width_of};
+use std::alloc::{AllocError, Global};
+
+/// How wide the column of a gap, or of a slot in which nothing is sent, is at least.
+const NARROW: u32 = 24;
+
+/// What stands in a column on a bus, or in its place.
+#[derive(Clone, Copy)]
+pub enum Mark {
+    /// A box in a lane.
+    Box(Lane, Caption),
+    /// A gap on a bus.
+    Gap(Lane),
+    /// A slot in which nothing is sent.
+    Silence,
+}
+
+/// A column of a drawing.
+#[derive(Drop)]
+pub struct Column {
+    /// The event that it is of.
+    pub of: Numbered,
+    pub mark: Mark,
+    /// What is handed over at the event.
+    pub handed: Option<Caption>,
+    /// The line of the transcript that answers the event, without its line feed; empty where nothing does.
+    pub answer: String,
+    pub width: u32,
+}
+
+/// The lane of a bus.
+fn lane_of(bus: Bus) -> Lane {
+    match bus {
+        Bus::A => Lane::A,
+        Bus::B => Lane::B,
+    }
+}
+
+/// What stands in the column of a slot: the word that is sent, or that none is.
+fn mark_of_slot(answer: &Answer<'_>) -> Mark {
+    match answer {
+        Answer::Sends(sent) => Mark::Box(lane_of(sent.bus), Caption::of_sent(*sent)),
+        _ => Mark::Silence,
+    }
+}
+
+/// What stands in the column of an event; `is_status` says of a word that it is the status word of another terminal.
+fn mark_of(event: Event, is_status: bool, answer: &Answer<'_>) -> Mark {
+    match event {
+        Event::Word(bus, word) => Mark::Box(lane_of(bus), Caption::of_word(word, is_status)),
+        Event::Noise(bus) => Mark::Box(lane_of(bus), Caption::Noise),
+        Event::Gap(bus) => Mark::Gap(lane_of(bus)),
+        Event::Slot => mark_of_slot(answer),
+        Event::Write(place, word) => Mark::Box(
+            Lane::Subsystem,
+            Caption::Write {
+                subaddress: place.subaddress(),
+                number: place.number(),
+                word,
+            },
+        ),
+        Event::Vector(word) => Mark::Box(Lane::Subsystem, Caption::Vector(word)),
+        Event::Bit(word) => Mark::Box(Lane::Subsystem, Caption::Bit(word)),
+        Event::Flag(flag, is_set) => Mark::Box(Lane::Subsystem, Caption::Flag(flag, is_set)),
+    }
+}
+
+/// What is handed over.
+fn handed_of(answer: &Answer<'_>) -> Option<Caption> {
+    match answer {
+        Answer::Hands(hand) => Some(Caption::of_hand(*hand)),
+        _ => None,
+    }
+}
+
+impl Mark {
+    /// The box, where there is one.
+    pub fn caption(&self) -> Option<Caption> {
+        match self {
+            Mark::Box(_, caption) => Some(*caption),
+            _ => None,
+        }
+    }
+
+    /// The lane that it stands in.
+    fn lanes(&self) -> Lanes {
+        match self {
+            Mark::Box(lane, _) | Mark::Gap(lane) => Lanes::NONE.with(*lane),
+            Mark::Silence => Lanes::NONE,
+        }
+    }
+}
+
+/// How wide the box of a caption is, if there is one.
+fn width_if(caption: Option<Caption>) -> u32 {
+    match caption {
+        Some(caption) => caption.width(),
+        None => NARROW,
+    }
+}
+
+/// How many lines the box of a caption has, if there is one.
+fn lines_if(caption: Option<Caption>) -> u32 {
+    match caption {
+        Some(caption) => caption.lines(),
+        None => 1,
+    }
+}
+
+/// The line of the transcript that answers an event, without its line feed.
+fn answer_line(alloc: Global, answer: &Answer<'_>) -> Result<String, AllocError>
+    requires { IsSmall (shown_answer answer.now) }
+{
+    let text = write_answer(answer);
+    match text.as_str().split_once('\n') {
+        Some((line, _)) => String::from_str(alloc, line),
+        None => Ok(String::new(alloc)),
+    }
+}
+
+impl Column {
+    /// What is drawn of an event that is answered so.
+    pub fn of(
+        alloc: Global,
+        of: Numbered,
+        is_status: bool,
+        answer: &Answer<'_>,
+    ) -> Result<Column, AllocError>
+        requires { IsSmall (shown_answer answer.now) }
+        ensures { IfOk result (λ column. column.of ≡ of) }
+    {
+        let line = of.line;
+        let mark = mark_of(of.event, is_status, answer);
+        let handed = handed_of(answer);
+        let number = digits_width_of(&line).saturating_add(2 * MARGIN);
+        let width = width_if(mark.caption()).max(width_if(handed)).max(number);
+        let answer = answer_line(alloc, answer)?;
+        Ok(Column {
+            of,
+            mark,
+            handed,
+            answer,
+            width,
+        })
+    }
+
+    /// Whether the terminal sends a word at the event.
+    pub fn is_sent(&self) -> bool {
+        matches!(
+            self.mark,
+            Mark::Box(_, Caption::Status(_) | Caption::SentData(_))
+        )
+    }
+
+    /// The lanes that it has something in.
+    pub fn lanes(&self) -> Lanes {
+        let lanes = self.mark.lanes();
+        match self.handed {
+            Some(_) => lanes.with(Lane::Subsystem),
+            None => lanes,
+        }
+    }
+
+    /// How many lines its boxes have at most.
+    pub fn lines(&self) -> u32 {
+        lines_if(self.mark.caption()).max(lines_if(self.handed))
+    }
+}

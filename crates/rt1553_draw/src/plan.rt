@@ -1,0 +1,111 @@
+//! A run as messages that are drawn.
+ghost use Rattle.std.specs.Prelude.{◌≡◌, ◌≢◌, ◌∷◌, ◌++◌, [], Some, None, IfOk, IfErr, OnOk};
+ghost use Rattle.script_lines.specs.Text.{lines_of};
+ghost use Rattle.bus_script.specs.Reading.{reading};
+ghost use Rattle.rt1553_draw.specs.Refused.{events_on, refusal};
+ghost use Rattle.rt1553_draw.specs.inner.Drawn.{drawn_of, drawn_in};
+
+use crate::DrawFault;
+use crate::column::Column;
+use crate::course::{Course, Heard};
+use crate::numbered::{Numbered, events_to_draw};
+use crate::part::DrawnMessage;
+use bus_legal::{Legality, Normal};
+use bus_terminal::{Event, Terminal};
+use std::alloc::{AllocError, Global};
+
+/// The number of the message that follows.
+fn next_number(parts: &[DrawnMessage]) -> u32 {
+    match parts {
+        [.., part] => part.number.saturating_add(1),
+        [] => 1,
+    }
+}
+
+/// Puts the message away that is over where this event is none of it, and begins another.
+fn begin_another(
+    alloc: Global,
+    parts: &mut Vec<DrawnMessage>,
+    part: DrawnMessage,
+    heard: Heard,
+    event: Event,
+) -> Result<DrawnMessage, AllocError>
+    ensures { IfOk result (λ now. drawn_in parts.new.items ++ drawn_of now ≡ drawn_in parts.old.items ++ drawn_of part) }
+{
+    if !part.course.ends_before(heard, event) {
+        return Ok(part);
+    }
+    parts.push(part)?;
+    let number = next_number(parts.as_slice());
+    Ok(DrawnMessage::new(alloc, number))
+}
+
+/// Plays an event, and gives its column.
+fn play_event<L: Legality>(
+    alloc: Global,
+    terminal: &mut Terminal<L>,
+    course: Course,
+    of: Numbered,
+) -> Result<Column, AllocError>
+    ensures { IfOk result (λ column. column.of ≡ of) }
+{
+    let is_status = match of.event {
+        Event::Word(bus, word) => course.is_status(terminal, bus, word),
+        _ => false,
+    };
+    let answer = terminal.step(of.event);
+    Column::of(alloc, of, is_status, &answer)
+}
+
+/// Plays an event, and adds its column to a message.
+fn add_event<L: Legality>(
+    alloc: Global,
+    terminal: &mut Terminal<L>,
+    heard: Heard,
+    part: &mut DrawnMessage,
+    of: Numbered,
+) -> Result<(), AllocError>
+    ensures { OnOk result (drawn_of part.new ≡ drawn_of part.old ++ of ∷ []) }
+{
+    let event = of.event;
+    let course = part.course;
+    let column = play_event(alloc, terminal, course, of)?;
+    let sent = column.is_sent();
+    part.add(column)?;
+    part.course = course.with(terminal, heard, event, sent);
+    Ok(())
+}
+
+/// Plays events from power-up, and gives the messages that are drawn of them.
+fn messages_of(
+    alloc: Global,
+    normal: &Normal,
+    events: &[Numbered],
+) -> Result<Vec<DrawnMessage>, AllocError>
+    ensures { IfOk result (λ parts. drawn_in parts.items ≡ events.now) }
+{
+    let setup = normal.setup();
+    let heard = Heard {
+        address: setup.address,
+        broadcast: setup.broadcast,
+    };
+    let mut terminal = Terminal::power_up(setup, *normal);
+    let mut parts = Vec::new(alloc);
+    let mut part = DrawnMessage::new(alloc, 1);
+    for of in events {
+        part = begin_another(alloc, &mut parts, part, heard, of.event)?;
+        add_event(alloc, &mut terminal, heard, &mut part, *of)?;
+    }
+    parts.push(part)?;
+    Ok(parts)
+}
+
+/// The messages that are drawn of a script: each of its events has one column, in their order. A script is refused by
+/// its fault, for which its run ends too; or else for having over 4,096 events.
+pub fn plan(alloc: Global, normal: &Normal, script: &[u8]) -> Result<Vec<DrawnMessage>, DrawFault>
+    ensures drawn { IfOk result (λ parts. (refusal (reading 0 (lines_of script.now)) ≡ None) × (drawn_in parts.items ≡ events_on 0 (lines_of script.now))) }
+    ensures refused { IfErr result (λ fault. fault ≢ DrawFault.Memory → refusal (reading 0 (lines_of script.now)) ≡ Some fault) }
+{
+    let events = events_to_draw(alloc, script)?;
+    Ok(messages_of(alloc, normal, events.as_slice())?)
+}
