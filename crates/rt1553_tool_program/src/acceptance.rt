@@ -1,6 +1,8 @@
 //! The command `acceptance`: the test that tells a terminal from every other, and what a unit answered to it.
+ghost use Rattle.std.specs.Prelude.{◌≡◌, IfOk, ◌≤◌};
+
 use crate::fault::{DIFFERENT, ToolFault};
-use crate::files::{json_line, load_profile, owned, read_script_file, write_bytes};
+use crate::files::{json_line, load_profile, read_script_file, shown, write_bytes};
 use bus_legal::Normal;
 use bus_script::{FromWrite, Sink};
 use rt1553_acceptance::{Progress, write_acceptance};
@@ -95,7 +97,9 @@ pub fn write_test<R: Files + AllocGlobal + Eprint, W: Write>(
     format: TestFormat,
     shows_progress: bool,
     output: &mut W,
-) -> Result<u8, ToolFault> {
+) -> Result<u8, ToolFault>
+    ensures { IfOk result (λ status. status ≡ 0) }
+{
     let normal = load_profile(rt, profile)?;
     let mut progress = Counter {
         rt,
@@ -117,7 +121,7 @@ fn load_results<R: Files + AllocGlobal>(rt: &R, name: &str) -> Result<Results, T
     let bytes = read_script_file(rt, name)?;
     match read_results(rt.alloc(), bytes.as_slice()) {
         Ok(results) => Ok(results),
-        Err(fault) => Err(ToolFault::Results(owned(rt, name)?, fault)),
+        Err(fault) => Err(ToolFault::Results(shown(rt, name)?, fault)),
     }
 }
 
@@ -143,12 +147,14 @@ pub fn against<R: Files + AllocGlobal, W: Write>(
     profile: &str,
     results: &str,
     output: &mut W,
-) -> Result<u8, ToolFault> {
+) -> Result<u8, ToolFault>
+    ensures { IfOk result (λ status. status ≤ 1) }
+{
     let normal = load_profile(rt, profile)?;
     let given = load_results(rt, results)?;
     let comparison = match compare_results(rt.alloc(), &normal, &given) {
         Ok(comparison) => comparison,
-        Err(fault) => return Err(ToolFault::Comparison(owned(rt, results)?, fault)),
+        Err(fault) => return Err(ToolFault::Comparison(shown(rt, results)?, fault)),
     };
     put_comparison(&comparison, output)?;
     Ok(if comparison.passes() { 0 } else { DIFFERENT })

@@ -1,6 +1,10 @@
 //! The command `differ`: in what two profiles differ.
+ghost use Rattle.std.specs.Prelude.{◌≡◌, ◌≤◌, ◌↔◌, IfOk};
+ghost use Rattle.bus_legal.specs.Parts.{Parts};
+ghost use Rattle.rt1553_tool_program.specs.Status.{IsLoaded};
+
 use crate::fault::{DIFFERENT, ToolFault};
-use crate::files::{json_line, load_profile, write_bytes};
+use crate::files::{json_line, load_profile, shown, write_bytes};
 use rt1553_differ::{Group, Pair, differ_json, differ_text, differences, groups_of};
 use std::alloc::Global;
 use std::io::Write;
@@ -27,9 +31,12 @@ fn put_pair<R: AllocGlobal, W: Write>(
     scripts: bool,
     as_json: bool,
     output: &mut W,
-) -> Result<u8, ToolFault> {
+) -> Result<u8, ToolFault>
+    ensures most { IfOk result (λ status. status ≤ 1) }
+    ensures same { IfOk result (λ status. (status ≡ 0) ↔ (pair.now.p.now ≡ pair.now.q.now)) }
+{
     let found = differences(rt.alloc(), pair.p, pair.q)?;
-    let groups = groups_of(rt.alloc(), found.as_slice(), pair.p)?;
+    let groups = groups_of(rt.alloc(), found.as_slice(), pair.p, pair.q)?;
     let text = text_of(rt.alloc(), pair, groups.as_slice(), scripts, as_json)?;
     write_bytes(output, text.as_str().as_bytes())?;
     Ok(if found.is_empty() { 0 } else { DIFFERENT })
@@ -44,14 +51,18 @@ pub fn differ_profiles<R: Files + AllocGlobal, W: Write>(
     scripts: bool,
     as_json: bool,
     output: &mut W,
-) -> Result<u8, ToolFault> {
+) -> Result<u8, ToolFault>
+    ensures most { IfOk result (λ status. status ≤ 1) }
+    ensures same { IfOk result (λ status. (p : Parts) × (q : Parts) × IsLoaded p × IsLoaded q × ((status ≡ 0) ↔ (p ≡ q))) }
+{
     let p = load_profile(rt, first)?;
     let q = load_profile(rt, second)?;
+    let (first, second) = (shown(rt, first)?, shown(rt, second)?);
     let pair = Pair {
         p: &p,
         q: &q,
-        first,
-        second,
+        first: first.as_str(),
+        second: second.as_str(),
     };
     put_pair(rt, &pair, scripts, as_json, output)
 }

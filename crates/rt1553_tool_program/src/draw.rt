@@ -1,34 +1,53 @@
 //! The command `draw`: a run as a drawing.
+ghost use Rattle.std.specs.Prelude.{◌≡◌, IfOk};
+
 use crate::fault::ToolFault;
-use crate::files::{load_profile, owned, read_script_file, write_bytes};
+use crate::files::{load_profile, read_script_file, shown, write_bytes};
+use crate::script_file::first_refused;
 use bus_legal::Normal;
+use bus_script::RunFault;
 use rt1553_differ::explain;
-use rt1553_draw::{draw, page_of};
+use rt1553_draw::{DrawFault, draw, draw_folded, page_of};
 use std::io::Write;
 use std::rt::Files;
 
-/// The drawing of a run, by the script of the file of this name.
+/// The drawing of a run, by the script of the file of this name; message by message where it is `folded`.
 fn draw_file<R: Files + AllocGlobal>(
     rt: &R,
     normal: &Normal,
     name: &str,
+    folded: bool,
 ) -> Result<String, ToolFault> {
     let script = read_script_file(rt, name)?;
-    match draw(rt.alloc(), normal, script.as_slice()) {
+    let script = script.as_slice();
+    let drawn = if folded {
+        draw_folded(rt.alloc(), normal, script)
+    } else {
+        draw(rt.alloc(), normal, script)
+    };
+    match drawn {
         Ok(drawing) => Ok(drawing),
-        Err(fault) => Err(ToolFault::Drawing(owned(rt, name)?, fault)),
+        Err(fault) => {
+            let told = ToolFault::Drawing(shown(rt, name)?, fault);
+            Err(match fault {
+                DrawFault::Script(RunFault::Line(_) | RunFault::LongLine(_)) => {
+                    first_refused(rt, name, script, told)
+                }
+                _ => told,
+            })
+        }
     }
 }
 
-/// The drawing as a page of its own, with the table of what its terminal does.
+/// The drawings of a run as a page of its own, with the table of what its terminal does.
 fn page<R: AllocGlobal>(
     rt: &R,
     normal: &Normal,
     title: &str,
-    drawing: &str,
+    drawings: &str,
 ) -> Result<String, ToolFault> {
     let table = explain(rt.alloc(), normal)?;
-    Ok(page_of(rt.alloc(), title, drawing, table.as_str())?)
+    Ok(page_of(rt.alloc(), title, drawings, table.as_str())?)
 }
 
 /// Writes the drawing of a run; as a page of its own where `html` asks for it. The status is 0.
@@ -38,10 +57,13 @@ pub fn draw_run<R: Files + AllocGlobal, W: Write>(
     script: &str,
     html: bool,
     output: &mut W,
-) -> Result<u8, ToolFault> {
+) -> Result<u8, ToolFault>
+    ensures { IfOk result (λ status. status ≡ 0) }
+{
     let normal = load_profile(rt, profile)?;
-    let drawing = draw_file(rt, &normal, script)?;
+    let drawing = draw_file(rt, &normal, script, html)?;
     if html {
+        let (profile, script) = (shown(rt, profile)?, shown(rt, script)?);
         let title = format!(in rt.alloc(); "{profile}: {script}")?;
         let page = page(rt, &normal, title.as_str(), drawing.as_str())?;
         write_bytes(output, page.as_str().as_bytes())?;

@@ -1,4 +1,6 @@
 //! The command `explain`: what a profile means, as a table.
+ghost use Rattle.std.specs.Prelude.{◌≡◌, IfOk};
+
 use crate::fault::ToolFault;
 use crate::files::{json_line, load_profile, write_bytes};
 use bus_legal::Normal;
@@ -21,7 +23,9 @@ pub fn explain_profile<R: Files + AllocGlobal, W: Write>(
     profile: &str,
     as_json: bool,
     output: &mut W,
-) -> Result<u8, ToolFault> {
+) -> Result<u8, ToolFault>
+    ensures { IfOk result (λ status. status ≡ 0) }
+{
     let normal = load_profile(rt, profile)?;
     let text = text_of(rt.alloc(), &normal, as_json)?;
     write_bytes(output, text.as_str().as_bytes())?;

@@ -1,10 +1,13 @@
 //! Why the program ends early, the line that it prints then, and the status that it ends with.
+ghost use Rattle.std.specs.Prelude.{◌≡◌, ◌≤◌};
+ghost use Rattle.rt1553_tool_program.specs.Status.{tool_status};
+
+use refused_lines::RefusedLine;
 use rt1553::LoadFault;
-use rt1553_differ::DifferFault;
 use rt1553_draw::DrawFault;
+use rt1553_files::FileFault;
 use rt1553_results::{CompareFault, ResultsFault};
 use rt1553_tool::TomlFault;
-use rt1553_tool_args::USAGE;
 use rt1553_verify::StatedFault;
 use std::alloc::{AllocError, AllocFailed};
 use std::fmt;
@@ -15,48 +18,72 @@ pub const DIFFERENT: u8 = 1;
 /// The status of a text that is refused.
 pub const REFUSED: u8 = 2;
 
-/// Why the program ends early. A text is the name of a file.
+/// The status of arguments that the program does not accept.
+pub const USAGE: u8 = 3;
+
+/// Why the program ends early. A text is the name of a file, escaped.
 #[derive(Drop)]
 pub enum ToolFault {
     /// Out of memory.
     Memory,
-    /// The file can't be opened or read.
-    CannotRead(String),
-    /// The file has more bytes than it may have.
-    TooLarge(String),
-    /// The input can't be read or the output can't be written.
-    Stream,
+    /// A file isn't read.
+    File(FileFault),
+    /// The name of a file is empty.
+    NoName,
+    /// The input can't be read.
+    Input,
     /// The output can't be written.
     Output,
     /// The profile or canonical text is refused.
     Profile(String, LoadFault),
+    /// A line of the script is refused.
+    Line(String, RefusedLine),
     /// The script is refused.
     Script(String, StatedFault),
     /// The script names no profile.
     NoProfile(String),
+    /// The profile that the script names is outside the folder of profiles.
+    Outside(String),
     /// There is no drawing of the script.
     Drawing(String, DrawFault),
     /// The results of a unit are refused.
     Results(String, ResultsFault),
     /// The results of a unit can't be compared.
     Comparison(String, CompareFault),
-    /// A word is missing, or is no text.
+    /// An argument is not UTF-8.
+    NotText,
+    /// A word is missing.
     Usage,
-    /// What differs was not found.
-    Differ(DifferFault),
     /// No profile was made that means the same terminal.
     Toml(TomlFault),
+}
+
+/// The line of a script that is refused, and why.
+#[derive(Clone, Copy)]
+struct RefusedText(RefusedLine);
+
+impl fmt::Display for RefusedText {
+    fn fmt<W: fmt::Write>(&self, f: &mut fmt::Formatter<W>) -> fmt::Result {
+        let refused = self.0;
+        let (line, column) = (refused.line, refused.misfit.column);
+        write!(
+            f,
+            "script: line {line}, column {column}: {}",
+            refused.misfit.reason
+        )
+    }
 }
 
 impl fmt::Display for ToolFault {
     fn fmt<W: fmt::Write>(&self, f: &mut fmt::Formatter<W>) -> fmt::Result {
         match self {
             ToolFault::Memory => f.write_str("out of memory"),
-            ToolFault::CannotRead(name) => write!(f, "file: cannot read {name}"),
-            ToolFault::TooLarge(name) => write!(f, "file: too large {name}"),
-            ToolFault::Stream => f.write_str("stream: read or write failed"),
+            ToolFault::File(fault) => write!(f, "{fault}"),
+            ToolFault::NoName => f.write_str("file: the name of a file is empty"),
+            ToolFault::Input => f.write_str("input: read failed"),
             ToolFault::Output => f.write_str("output: write failed"),
             ToolFault::Profile(name, fault) => write!(f, "{name}: {fault}"),
+            ToolFault::Line(name, line) => write!(f, "{name}: {}", RefusedText(*line)),
             ToolFault::Script(name, fault) => write!(f, "{name}: {fault}"),
             ToolFault::Drawing(name, fault) => write!(f, "{name}: {fault}"),
             ToolFault::Results(name, fault) => write!(f, "{name}: {fault}"),
@@ -65,8 +92,12 @@ impl fmt::Display for ToolFault {
                 f,
                 "{name}: script: no line '# Profile: NAME' at its front"
             ),
+            ToolFault::Outside(name) => write!(
+                f,
+                "{name}: script: the profile that it names is outside the folder"
+            ),
+            ToolFault::NotText => f.write_str("arguments: one is not UTF-8"),
             ToolFault::Usage => f.write_str("arguments: see --help"),
-            ToolFault::Differ(fault) => write!(f, "{fault}"),
             ToolFault::Toml(fault) => write!(f, "{fault}"),
         }
     }
@@ -74,7 +105,10 @@ impl fmt::Display for ToolFault {
 
 impl ToolFault {
     /// The status that the program ends with.
-    pub fn status(&self) -> u8 {
+    pub fn status(&self) -> u8
+        ensures value { result ≡ tool_status self.now }
+        ensures most { result ≤ 4 }
+    {
         match self {
             ToolFault::Profile(_, LoadFault::Memory)
             | ToolFault::Script(_, StatedFault::Memory)
@@ -82,31 +116,48 @@ impl ToolFault {
             | ToolFault::Results(_, ResultsFault::Memory)
             | ToolFault::Comparison(_, CompareFault::Memory) => 4,
             ToolFault::Profile(_, _)
+            | ToolFault::Line(_, _)
             | ToolFault::Script(_, _)
             | ToolFault::Drawing(_, _)
             | ToolFault::Results(_, _)
             | ToolFault::Comparison(_, _)
-            | ToolFault::NoProfile(_) => REFUSED,
-            ToolFault::Usage => USAGE,
+            | ToolFault::NoProfile(_)
+            | ToolFault::Outside(_) => REFUSED,
+            ToolFault::NotText | ToolFault::Usage => USAGE,
             _ => 4,
         }
     }
 }
 
 impl From<AllocError> for ToolFault {
+    ghost use Rattle.std.specs.Prelude.{◌≡◌};
+    ghost use Rattle.rt1553_tool_program.specs.declared.fault.ToolFault.TheVariants.{Memory};
+
+    ghost from_gives = { λ _ fault. fault ≡ Memory };
+
     fn from(_error: AllocError) -> ToolFault {
         ToolFault::Memory
     }
 }
 
 impl<T: Drop> From<AllocFailed<T>> for ToolFault {
+    ghost use Rattle.std.specs.Prelude.{◌≡◌};
+    ghost use Rattle.rt1553_tool_program.specs.declared.fault.ToolFault.TheVariants.{Memory};
+
+    ghost from_gives = { λ _ fault. fault ≡ Memory };
+
     fn from(_failed: AllocFailed<T>) -> ToolFault {
         ToolFault::Memory
     }
 }
 
-impl From<DifferFault> for ToolFault {
-    fn from(fault: DifferFault) -> ToolFault {
-        ToolFault::Differ(fault)
+impl From<FileFault> for ToolFault {
+    ghost use Rattle.std.specs.Prelude.{◌≡◌};
+    ghost use Rattle.rt1553_tool_program.specs.declared.fault.ToolFault.TheVariants.{File};
+
+    ghost from_gives = { λ file fault. fault ≡ File file };
+
+    fn from(fault: FileFault) -> ToolFault {
+        ToolFault::File(fault)
     }
 }

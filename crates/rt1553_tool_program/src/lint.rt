@@ -1,14 +1,19 @@
 //! The command `lint`: all that is wrong with profiles, and what in them has no effect.
+ghost use Rattle.std.specs.Prelude.{◌≡◌, ◌≤◌, ◌<◌, IfOk, length};
+ghost use Rattle.rt1553_tool_program.specs.Status.{finding_status};
+
 use crate::fault::{DIFFERENT, REFUSED, ToolFault};
-use crate::files::{json_line, read_tool_profile, write_bytes};
+use crate::files::{json_line, read_tool_profile, shown, write_bytes};
+use crate::worst::{status_or_stop, worst};
 use rt1553_lint::{Finding, lint};
 use std::io::Write;
 use std::rt::Files;
 
-/// Writes what was found in the file of this name.
+/// Writes what was found in the file of this name, or of this name as it is printed.
 fn put_finding<R: AllocGlobal, W: Write>(
     rt: &R,
     name: &str,
+    shown_name: &str,
     finding: &Finding,
     as_json: bool,
     output: &mut W,
@@ -17,10 +22,33 @@ fn put_finding<R: AllocGlobal, W: Write>(
         let line = json_line(finding.to_json(rt.alloc(), name))?;
         return write_bytes(output, line.as_str().as_bytes());
     }
-    match writeln!(output, "{name}:{finding}") {
+    match writeln!(output, "{shown_name}:{finding}") {
         Ok(()) => Ok(()),
         Err(_) => Err(ToolFault::Output),
     }
+}
+
+/// The status of a finding: refused for an error, another than 0 for a warning.
+fn status_of_finding(finding: &Finding) -> u8
+    ensures { result ≡ finding_status finding.now }
+{
+    match finding.fault {
+        Some(_) => REFUSED,
+        None => DIFFERENT,
+    }
+}
+
+/// The status of the findings of a file: the highest of them.
+fn status_of_findings(findings: &[Finding]) -> u8
+    ensures most { result ≤ 2 }
+    ensures some { 0 < length findings.now → 1 ≤ result }
+    ensures none { length findings.now ≡ 0 → result ≡ 0 }
+{
+    let mut status = 0;
+    for finding in findings {
+        status = worst(status, status_of_finding(finding));
+    }
+    status
 }
 
 /// Writes what is found in a file, and gives the status to end with.
@@ -29,20 +57,16 @@ fn lint_file<R: Files + AllocGlobal, W: Write>(
     name: &str,
     as_json: bool,
     output: &mut W,
-) -> Result<u8, ToolFault> {
+) -> Result<u8, ToolFault>
+    ensures { IfOk result (λ status. status ≤ 2) }
+{
     let bytes = read_tool_profile(rt, name)?;
-    let mut status = 0;
-    for finding in lint(rt.alloc(), bytes.as_slice())?.as_slice() {
-        put_finding(rt, name, finding, as_json, output)?;
-        let of_finding = match finding.fault {
-            Some(_) => REFUSED,
-            None => DIFFERENT,
-        };
-        if status < of_finding {
-            status = of_finding;
-        }
+    let shown_name = shown(rt, name)?;
+    let findings = lint(rt.alloc(), bytes.as_slice())?;
+    for finding in findings.as_slice() {
+        put_finding(rt, name, shown_name.as_str(), finding, as_json, output)?;
     }
-    Ok(status)
+    Ok(status_of_findings(findings.as_slice()))
 }
 
 /// Writes what is found in files. The status is the highest that a file asks for.
@@ -51,20 +75,15 @@ pub fn lint_files<R: Files + AllocGlobal + Eprint, W: Write>(
     names: &[&str],
     as_json: bool,
     output: &mut W,
-) -> Result<u8, ToolFault> {
+) -> Result<u8, ToolFault>
+    ensures { IfOk result (λ status. status ≤ 4) }
+{
     let mut status = 0;
     for name in names {
-        let of_file = match lint_file(rt, name, as_json, output) {
-            Ok(status) => status,
-            // the other files are read all the same
-            Err(fault) => {
-                let _ = eprintln!(rt; "{fault}");
-                fault.status()
-            }
-        };
-        if status < of_file {
-            status = of_file;
-        }
+        status = worst(
+            status,
+            status_or_stop(rt, lint_file(rt, name, as_json, output))?,
+        );
     }
     Ok(status)
 }

@@ -1,9 +1,12 @@
 //! The command `live`: lines are played as they come.
+ghost use Rattle.std.specs.Prelude.{◌≡◌, IfOk};
+
 use crate::fault::ToolFault;
 use crate::files::load_profile;
+use bus_script::{FromRead, FromWrite};
 use bus_terminal::Terminal;
-use rt1553_tool::serve;
-use std::io::{BufReader, ErrorKind, Read, Write};
+use rt1553_tool::{ServeFault, serve};
+use std::io::{BufReader, Read, Write};
 use std::rt::Files;
 
 /// Plays lines to the terminal of a profile as they come. The status is 0.
@@ -12,17 +15,19 @@ pub fn play_live<R: Files + AllocGlobal, I: Read + Drop, W: Write>(
     profile: &str,
     input: I,
     output: &mut W,
-) -> Result<u8, ToolFault> {
+) -> Result<u8, ToolFault>
+    ensures { IfOk result (λ status. status ≡ 0) }
+{
     let normal = load_profile(rt, profile)?;
-    let terminal = Terminal::power_up(normal.setup(), normal);
+    let mut terminal = Terminal::power_up(normal.setup(), normal);
     let Ok(reader) = BufReader::new(rt.alloc(), input) else {
         return Err(ToolFault::Memory);
     };
-    match serve(rt.alloc(), terminal, reader, output) {
+    let mut source = FromRead::new(reader);
+    let mut sink = FromWrite::new(output);
+    match serve(&mut terminal, &mut source, &mut sink) {
         Ok(()) => Ok(0),
-        Err(error) => match error.kind() {
-            ErrorKind::OutOfMemory => Err(ToolFault::Memory),
-            _ => Err(ToolFault::Stream),
-        },
+        Err(ServeFault::Write) => Err(ToolFault::Output),
+        Err(_) => Err(ToolFault::Input),
     }
 }

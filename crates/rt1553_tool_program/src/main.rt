@@ -11,9 +11,11 @@ mod files;
 mod lint;
 mod live;
 mod profile_toml;
+mod script_file;
 mod summary;
 mod verify;
 mod work;
+mod worst;
 
 use std::io::IsTerminal;
 use std::process::ExitCode;

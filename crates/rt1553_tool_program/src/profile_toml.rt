@@ -1,4 +1,6 @@
 //! The command `toml`: a small profile that means the same terminal.
+ghost use Rattle.std.specs.Prelude.{◌≡◌, IfOk};
+
 use crate::fault::ToolFault;
 use crate::files::{load_profile, write_bytes};
 use rt1553_tool::toml_of;
@@ -10,7 +12,9 @@ pub fn write_toml<R: Files + AllocGlobal, W: Write>(
     rt: &R,
     profile: &str,
     output: &mut W,
-) -> Result<u8, ToolFault> {
+) -> Result<u8, ToolFault>
+    ensures { IfOk result (λ status. status ≡ 0) }
+{
     let normal = load_profile(rt, profile)?;
     match toml_of(rt.alloc(), &normal) {
         Ok(text) => {

@@ -1,7 +1,9 @@
 //! Which scripts pass, clause by clause.
 use crate::fault::ToolFault;
 use crate::files::write_bytes;
+use rt1553_files::escaped;
 use std::alloc::{AllocError, Global};
+use std::cmp::Ordering;
 use std::fmt;
 use std::io::Write;
 
@@ -13,6 +15,14 @@ struct Count {
 }
 
 impl Count {
+    /// No script.
+    fn none() -> Count {
+        Count {
+            scripts: 0,
+            passed: 0,
+        }
+    }
+
     /// Counts a script.
     fn add(&mut self, passes: bool) {
         self.scripts = self.scripts.saturating_add(1);
@@ -28,17 +38,19 @@ impl fmt::Display for Count {
     }
 }
 
-/// The scripts that name a clause.
+/// A clause that a script names, and whether the script passes.
 #[derive(Drop)]
-struct Clause {
-    name: Vec<u8>,
-    count: Count,
+struct Named {
+    clause: Vec<u8>,
+    passes: bool,
 }
 
-/// The scripts that were played, by the clauses that they name, in order.
+/// The scripts that were played, by the clauses that they name.
 #[derive(Drop)]
 pub struct Summary {
-    clauses: Vec<Clause>,
+    named: Vec<Named>,
+    /// Those that name no clause.
+    unnamed: Count,
     all: Count,
 }
 
@@ -52,86 +64,114 @@ fn first_part(name: &[u8]) -> (&[u8], &[u8]) {
     (name, &name[name.len()..])
 }
 
-/// Tells whether a clause stands before another: by their first parts that differ, as numbers.
-fn is_before(name: &[u8], other: &[u8]) -> bool {
+/// Which of two clauses stands first: by their first parts that differ, as numbers.
+fn clause_order(name: &[u8], other: &[u8]) -> Ordering {
     let (mut ours, mut theirs) = (name, other);
     for _part in 0..name.len() {
         let (a, more) = first_part(ours);
         let (b, others) = first_part(theirs);
         if a != b {
-            return a.len() < b.len() || (a.len() == b.len() && a < b);
+            return a.len().cmp(&b.len()).then(a.cmp(b));
         }
         ours = more;
         theirs = others;
     }
-    name.len() < other.len()
+    name.len().cmp(&other.len())
+}
+
+/// A part of a list without the space before it.
+fn clause_in(part: &[u8]) -> &[u8] {
+    match part {
+        [b' ', name @ ..] => name,
+        name => name,
+    }
+}
+
+/// Whether the clause stands in a list before its part of this index.
+fn stands_before(clauses: &[u8], clause: &[u8], index: usize) -> bool {
+    for (at, part) in clauses.split(|byte| *byte == b',').enumerate() {
+        if index <= at {
+            return false;
+        }
+        if clause_in(part) == clause {
+            return true;
+        }
+    }
+    false
 }
 
 impl Summary {
     /// The summary of no script.
     pub fn new(alloc: Global) -> Summary {
         Summary {
-            clauses: Vec::new(alloc),
-            all: Count {
-                scripts: 0,
-                passed: 0,
-            },
+            named: Vec::new(alloc),
+            unnamed: Count::none(),
+            all: Count::none(),
         }
     }
 
-    /// Counts a script at one clause.
-    fn add_at(&mut self, alloc: Global, name: &[u8], passes: bool) -> Result<(), AllocError> {
-        let mut place = self.clauses.len();
-        for (index, clause) in self.clauses.as_mut_slice().iter_mut().enumerate() {
-            if clause.name.as_slice() == name {
-                clause.count.add(passes);
-                return Ok(());
-            }
-            if is_before(name, clause.name.as_slice()) {
-                place = index;
-                break;
-            }
-        }
-        if self.clauses.len() < place {
-            return Ok(());
-        }
-        let mut count = Count {
-            scripts: 0,
-            passed: 0,
-        };
-        count.add(passes);
-        let name = Vec::from_slice(alloc, name)?;
-        self.clauses.insert(place, Clause { name, count })?;
-        Ok(())
-    }
-
-    /// Counts a script that names these clauses, with commas between them.
+    /// Counts a script that names these clauses, with commas between them: at each of them once. An empty clause is none.
     pub fn add(&mut self, alloc: Global, clauses: &[u8], passes: bool) -> Result<(), AllocError> {
         self.all.add(passes);
-        for part in clauses.split(|byte| *byte == b',') {
-            let name = match part {
-                [b' ', name @ ..] => name,
-                name => name,
-            };
-            self.add_at(alloc, name, passes)?;
+        let before = self.named.len();
+        for (index, part) in clauses.split(|byte| *byte == b',').enumerate() {
+            let clause = clause_in(part);
+            if !clause.is_empty() && !stands_before(clauses, clause, index) {
+                let clause = Vec::from_slice(alloc, clause)?;
+                self.named.push(Named { clause, passes })?;
+            }
+        }
+        if self.named.len() == before {
+            self.unnamed.add(passes);
         }
         Ok(())
     }
 
-    /// Writes a line for each clause, and one for all scripts.
-    pub fn put<W: Write>(&self, output: &mut W) -> Result<(), ToolFault> {
-        for clause in self.clauses.as_slice() {
-            match clause.name.as_slice() {
-                [] => write_bytes(output, b"no clause")?,
-                name => write_bytes(output, name)?,
-            }
-            if writeln!(output, ": {}", clause.count).is_err() {
-                return Err(ToolFault::Output);
-            }
+    /// Writes a line for each clause, one for the scripts that name none, and one for all scripts.
+    pub fn put<W: Write>(mut self, alloc: Global, output: &mut W) -> Result<(), ToolFault> {
+        self.named.as_mut_slice().sort_unstable_by(|a, b| clause_order(
+            a.clause.as_slice(),
+            b.clause.as_slice(),
+        ));
+        put_clauses(alloc, self.named.as_slice(), output)?;
+        if self.unnamed.scripts > 0 {
+            put_count(output, b"no clause", self.unnamed)?;
         }
-        match writeln!(output, "all: {}", self.all) {
-            Ok(()) => Ok(()),
-            Err(_) => Err(ToolFault::Output),
+        put_count(output, b"all", self.all)
+    }
+}
+
+/// Writes how many scripts pass.
+fn put_count<W: Write>(output: &mut W, what: &[u8], count: Count) -> Result<(), ToolFault> {
+    write_bytes(output, what)?;
+    writeln!(output, ": {count}").map_err(|_| ToolFault::Output)
+}
+
+/// Writes how many scripts that name this clause pass.
+fn put_clause<W: Write>(
+    alloc: Global,
+    clause: &[u8],
+    count: Count,
+    output: &mut W,
+) -> Result<(), ToolFault> {
+    write_bytes(output, b"clause ")?;
+    put_count(output, escaped(alloc, clause)?.as_str().as_bytes(), count)
+}
+
+/// Writes a line for each clause; those of one name stand together.
+fn put_clauses<W: Write>(alloc: Global, named: &[Named], output: &mut W) -> Result<(), ToolFault> {
+    let mut count = Count::none();
+    for (index, one) in named.iter().enumerate() {
+        count.add(one.passes);
+        let clause = one.clause.as_slice();
+        let is_last = match named.get(index + 1) {
+            Some(next) => next.clause.as_slice() != clause,
+            None => true,
+        };
+        if is_last {
+            put_clause(alloc, clause, count, output)?;
+            count = Count::none();
         }
     }
+    Ok(())
 }

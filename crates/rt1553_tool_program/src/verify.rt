@@ -1,13 +1,20 @@
 //! The command `verify`: scripts that state their answers are played.
+ghost use Rattle.std.specs.Prelude.{◌≤◌, IfOk};
+ghost use Rattle.rt1553_tool_program.specs.Status.{IsLoaded};
+
 use crate::fault::{DIFFERENT, ToolFault};
-use crate::files::{load_profile, owned, read_script_file, write_bytes};
+use crate::files::{load_profile, read_script_file, shown, write_bytes};
+use crate::script_file::first_refused;
 use crate::summary::Summary;
+use crate::worst::{status_or_stop, worst};
 use bus_legal::Normal;
+use rt1553_files::escaped;
 use rt1553_tool_args::Profiles;
-use rt1553_verify::{WrongAnswer, answers_in, named, read_stated, wrong_answers};
+use rt1553_verify::{StatedFault, WrongAnswer, answers_in, named, read_stated, wrong_answers};
+use std::alloc::Global;
+use std::format;
 use std::io::Write;
 use std::rt::Files;
-use std::{fmt, format};
 
 /// Which terminal a script is played to.
 #[derive(Drop)]
@@ -18,6 +25,33 @@ enum Played<'a> {
     Folder(&'a str),
 }
 
+/// Whether the name of a profile stays in its folder: it doesn't begin at the root, and no part of it goes up.
+fn stays_inside(profile: &str) -> bool {
+    !profile.starts_with('/') && profile.split('/').all(|part| part != "..")
+}
+
+/// What can be reached of the terminal that a script of this name names, of a folder.
+fn profile_in<R: Files + AllocGlobal>(
+    rt: &R,
+    folder: &str,
+    name: &str,
+    script: &[u8],
+) -> Result<Normal, ToolFault>
+    ensures { IfOk result (λ normal. IsLoaded normal) }
+{
+    let Some(profile) = named(script, b"# Profile: ") else {
+        return Err(ToolFault::NoProfile(shown(rt, name)?));
+    };
+    let Ok(profile) = str::from_utf8(profile) else {
+        return Err(ToolFault::NoProfile(shown(rt, name)?));
+    };
+    if !stays_inside(profile) {
+        return Err(ToolFault::Outside(shown(rt, name)?));
+    }
+    let path = format!(in rt.alloc(); "{folder}/{profile}")?;
+    load_profile(rt, path.as_str())
+}
+
 impl Played<'_> {
     /// Gives what can be reached of the terminal that a script is played to.
     fn of_script<R: Files + AllocGlobal>(
@@ -26,35 +60,26 @@ impl Played<'_> {
         name: &str,
         script: &[u8],
     ) -> Result<Normal, ToolFault> {
-        let folder = match self {
-            Played::One(normal) => return Ok(*normal),
-            Played::Folder(folder) => folder,
-        };
-        let profile = match named(script, b"# Profile: ") {
-            Some(profile) => str::from_utf8(profile),
-            None => return Err(ToolFault::NoProfile(owned(rt, name)?)),
-        };
-        match profile {
-            Ok(profile) => {
-                let path = format!(in rt.alloc(); "{folder}/{profile}")?;
-                load_profile(rt, path.as_str())
-            }
-            Err(_) => Err(ToolFault::NoProfile(owned(rt, name)?)),
+        match self {
+            Played::One(normal) => Ok(*normal),
+            Played::Folder(folder) => profile_in(rt, folder, name, script),
         }
     }
 }
 
 /// Writes a line of a transcript without its line feed, or that there is none.
-fn put_answer<W: Write>(output: &mut W, answer: &[u8]) -> Result<(), ToolFault> {
-    match answer {
-        [] => write_bytes(output, b"nothing"),
-        [line @ .., b'\n'] => write_bytes(output, line),
-        line => write_bytes(output, line),
-    }
+fn put_answer<W: Write>(alloc: Global, output: &mut W, answer: &[u8]) -> Result<(), ToolFault> {
+    let line = match answer {
+        [] => return write_bytes(output, b"nothing"),
+        [line @ .., b'\n'] => line,
+        line => line,
+    };
+    write_bytes(output, escaped(alloc, line)?.as_str().as_bytes())
 }
 
 /// Writes where a file differs.
 fn put_wrong_answer<W: Write>(
+    alloc: Global,
     output: &mut W,
     name: &str,
     wrong: &WrongAnswer,
@@ -63,9 +88,9 @@ fn put_wrong_answer<W: Write>(
     if write!(output, "{name}:{line}: expected ").is_err() {
         return Err(ToolFault::Output);
     }
-    put_answer(output, wrong.expected.as_slice())?;
+    put_answer(alloc, output, wrong.expected.as_slice())?;
     write_bytes(output, b", came ")?;
-    put_answer(output, wrong.came.as_slice())?;
+    put_answer(alloc, output, wrong.came.as_slice())?;
     write_bytes(output, b"\n")
 }
 
@@ -87,6 +112,23 @@ fn put_count<W: Write>(
     written.map_err(|_| ToolFault::Output)
 }
 
+/// The fault of a script that is refused.
+fn script_fault<R: AllocGlobal>(
+    rt: &R,
+    name: &str,
+    script: &[u8],
+    fault: StatedFault,
+) -> ToolFault {
+    let told = match shown(rt, name) {
+        Ok(name) => ToolFault::Script(name, fault),
+        Err(fault) => return fault,
+    };
+    match fault {
+        StatedFault::Line(_) | StatedFault::LongLine(_) => first_refused(rt, name, script, told),
+        _ => told,
+    }
+}
+
 /// Plays a script, writes where it differs, or, where it is asked for, that it passes, and gives whether it does.
 fn play_script<R: Files + AllocGlobal, W: Write>(
     rt: &R,
@@ -99,14 +141,15 @@ fn play_script<R: Files + AllocGlobal, W: Write>(
     let normal = played.of_script(rt, name, script)?;
     let stated = match read_stated(rt.alloc(), script) {
         Ok(stated) => stated,
-        Err(fault) => return Err(ToolFault::Script(owned(rt, name)?, fault)),
+        Err(fault) => return Err(script_fault(rt, name, script, fault)),
     };
     let found = wrong_answers(rt.alloc(), &normal, stated.as_slice())?;
+    let name = shown(rt, name)?;
     for wrong in found.as_slice() {
-        put_wrong_answer(output, name, wrong)?;
+        put_wrong_answer(rt.alloc(), output, name.as_str(), wrong)?;
     }
     let answers = answers_in(stated.as_slice());
-    put_count(output, name, found.len(), answers, each)?;
+    put_count(output, name.as_str(), found.len(), answers, each)?;
     Ok(found.is_empty())
 }
 
@@ -118,7 +161,7 @@ fn clauses_of(script: &[u8]) -> &[u8] {
     }
 }
 
-/// Plays a script of a file, keeps in the summary whether it passes, and gives that.
+/// Plays a script of a file, keeps in the summary whether it passes, and gives the status to end with.
 fn play_file<R: Files + AllocGlobal, W: Write>(
     rt: &R,
     played: &Played<'_>,
@@ -126,7 +169,9 @@ fn play_file<R: Files + AllocGlobal, W: Write>(
     each: bool,
     summary: &mut Summary,
     output: &mut W,
-) -> Result<bool, ToolFault> {
+) -> Result<u8, ToolFault>
+    ensures { IfOk result (λ status. status ≤ 1) }
+{
     let script = match read_script_file(rt, name) {
         Ok(script) => script,
         Err(fault) => {
@@ -140,7 +185,7 @@ fn play_file<R: Files + AllocGlobal, W: Write>(
         Err(_) => false,
     };
     summary.add(rt.alloc(), clauses_of(script.as_slice()), passes)?;
-    outcome
+    Ok(if outcome? { 0 } else { DIFFERENT })
 }
 
 /// Plays scripts of files, and gives the status to end with.
@@ -150,25 +195,17 @@ fn play_files<R: Files + AllocGlobal + Eprint, W: Write>(
     names: &[&str],
     each: bool,
     output: &mut W,
-) -> Result<u8, ToolFault> {
+) -> Result<u8, ToolFault>
+    ensures { IfOk result (λ status. status ≤ 4) }
+{
     let mut summary = Summary::new(rt.alloc());
     let mut status = 0;
     for name in names {
-        let of_script = match play_file(rt, played, name, each, &mut summary, output) {
-            Ok(true) => 0,
-            Ok(false) => DIFFERENT,
-            // the other scripts are played all the same
-            Err(fault) => {
-                let _ = eprintln!(rt; "{fault}");
-                fault.status()
-            }
-        };
-        if status < of_script {
-            status = of_script;
-        }
+        let of_file = play_file(rt, played, name, each, &mut summary, output);
+        status = worst(status, status_or_stop(rt, of_file)?);
     }
     if each {
-        summary.put(output)?;
+        summary.put(rt.alloc(), output)?;
     }
     Ok(status)
 }
@@ -181,7 +218,9 @@ pub fn verify_scripts<R: Files + AllocGlobal + Eprint, W: Write>(
     scripts: &[&str],
     summary: bool,
     output: &mut W,
-) -> Result<u8, ToolFault> {
+) -> Result<u8, ToolFault>
+    ensures { IfOk result (λ status. status ≤ 4) }
+{
     let played = match profiles {
         Profiles::One(name) => Played::One(load_profile(rt, name)?),
         Profiles::Folder(folder) => Played::Folder(folder),

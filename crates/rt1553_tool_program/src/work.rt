@@ -1,13 +1,17 @@
 //! What the program does.
+ghost use Rattle.std.specs.Prelude.{◌≤◌, IfOk};
+ghost use Rattle.rt1553_tool_program.specs.Status.{CanEnd};
+
 use crate::acceptance::{against, write_test};
 use crate::bus_words::bus_words;
 use crate::differ::differ_profiles;
 use crate::draw::draw_run;
 use crate::explain::explain_profile;
-use crate::fault::ToolFault;
+use crate::fault::{ToolFault, USAGE};
 use crate::lint::lint_files;
 use crate::live::play_live;
 use crate::profile_toml::write_toml;
+use crate::script_file::check_scripts;
 use crate::verify::verify_scripts;
 use rt1553_tool_args::{NoCommand, ToolCommand, read_tool_args};
 use std::env;
@@ -21,9 +25,12 @@ fn do_command<R: Files + AllocGlobal + Eprint, I: Read + Drop, W: Write>(
     shows_progress: bool,
     input: I,
     output: &mut W,
-) -> Result<u8, ToolFault> {
+) -> Result<u8, ToolFault>
+    ensures { IfOk result (CanEnd command.now) }
+{
     match command {
         ToolCommand::Lint { files, as_json } => lint_files(rt, files.as_slice(), *as_json, output),
+        ToolCommand::CheckScript(files) => check_scripts(rt, files.as_slice(), output),
         ToolCommand::Verify {
             profiles,
             scripts,
@@ -58,18 +65,21 @@ pub fn run_tool<R: Env + Files + AllocGlobal + Print + Eprint, I: Read + Drop, O
     shows_progress: bool,
     input: I,
     mut output: O,
-) -> Result<u8, ToolFault> {
+) -> Result<u8, ToolFault>
+    ensures { IfOk result (λ status. status ≤ 4) }
+{
     let args = match env::args(rt) {
         Ok(args) => args,
         Err(error) => match error.kind() {
             ErrorKind::OutOfMemory => return Err(ToolFault::Memory),
-            _ => return Err(ToolFault::Usage),
+            _ => return Err(ToolFault::NotText),
         },
     };
     let args: Vec<String> = args.collect(rt.alloc())?;
     match read_tool_args(rt, args.as_slice()) {
         Ok(command) => do_command(rt, &command, shows_progress, input, &mut output),
-        Err(NoCommand::Said(status)) => Ok(status),
+        Err(NoCommand::Helped) => Ok(0),
+        Err(NoCommand::Refused) => Ok(USAGE),
         Err(NoCommand::Output) => Err(ToolFault::Output),
         Err(NoCommand::Usage) => Err(ToolFault::Usage),
         Err(NoCommand::Memory) => Err(ToolFault::Memory),

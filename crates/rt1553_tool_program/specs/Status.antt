@@ -1,0 +1,66 @@
+-- The statuses that the program ends with.
+use Rattle.std.specs.Prelude.{ℕ, ◌≡◌, ◌≤◌, if◌then◌else◌, List, [], ◌∷◌, is_some, length}
+use Rattle.bus_legal.specs.Parts.{Parts}
+use Rattle.rt1553.specs.Load.{Reaches}
+use Rattle.rt1553.specs.declared.fault.LoadFault.TheVariants as load
+use Rattle.rt1553_draw.specs.declared.fault.DrawFault.TheVariants as draw
+use Rattle.rt1553_lint.specs.declared.finding.Finding.{Finding}
+use Rattle.rt1553_results.specs.declared.comparing.CompareFault.TheVariants as compare
+use Rattle.rt1553_results.specs.declared.results.ResultsFault.TheVariants as results
+use Rattle.rt1553_verify.specs.declared.stated.StatedFault.TheVariants as stated
+use Rattle.rt1553_tool_args.specs.declared.command.ToolCommand.{ToolCommand}
+use Rattle.rt1553_tool_args.specs.declared.command.ToolCommand.TheVariants as tool
+use Rattle.rt1553_tool_program.specs.declared.fault.ToolFault.{ToolFault}
+use Rattle.rt1553_tool_program.specs.declared.fault.ToolFault.TheVariants.{Memory, File, NoName, Input, Output, Profile, Line, Script, NoProfile, Outside, Drawing, Results, Comparison, NotText, Usage, Toml}
+
+-- 2 for a text that is refused, 3 for arguments that the program does not accept, 4 where a file, a stream or memory failed
+abbrev pub tool_status : ToolFault → ℕ
+tool_status (Profile name load.Memory) = 4
+tool_status (Profile name fault) = 2
+tool_status (Line name line) = 2
+tool_status (Script name stated.Memory) = 4
+tool_status (Script name fault) = 2
+tool_status (NoProfile name) = 2
+tool_status (Outside name) = 2
+tool_status (Drawing name draw.Memory) = 4
+tool_status (Drawing name fault) = 2
+tool_status (Results name results.Memory) = 4
+tool_status (Results name fault) = 2
+tool_status (Comparison name compare.Memory) = 4
+tool_status (Comparison name fault) = 2
+tool_status NotText = 3
+tool_status Usage = 3
+tool_status Memory = 4
+tool_status (File fault) = 4
+tool_status NoName = 4
+tool_status Input = 4
+tool_status Output = 4
+tool_status (Toml fault) = 4
+
+-- the status of a finding: 2 for an error, 1 for a warning
+abbrev pub finding_status : Finding → ℕ
+finding_status f = if is_some f.fault then 2 else 1
+
+-- some text, of at most 1,048,576 bytes, is of this terminal
+abbrev pub IsLoaded : Parts → Type 0
+IsLoaded value = (text : List ℕ) × (length text ≤ 1048576) × Reaches text value
+
+-- the status of a script: 2 where a line is refused, 0 where none is
+abbrev pub lines_status : List ℕ → ℕ
+lines_status [] = 0
+lines_status (n ∷ ns) = 2
+
+-- The statuses with which a command can end that is done: those that make a text or a drawing with 0, those that compare with 0 or 1, and
+-- those that go through files with the highest of these.
+abbrev pub CanEnd : ToolCommand → ℕ → Type 0
+CanEnd (tool.Toml p) status = status ≡ 0
+CanEnd (tool.Explain p json) status = status ≡ 0
+CanEnd (tool.Acceptance p format) status = status ≡ 0
+CanEnd (tool.Draw p script html) status = status ≡ 0
+CanEnd (tool.Live p) status = status ≡ 0
+CanEnd (tool.Differ p q scripts json) status = status ≤ 1
+CanEnd (tool.Against p results) status = status ≤ 1
+CanEnd tool.Words status = status ≤ 1
+CanEnd (tool.Lint files json) status = status ≤ 4
+CanEnd (tool.CheckScript files) status = status ≤ 4
+CanEnd (tool.Verify profiles scripts summary) status = status ≤ 4

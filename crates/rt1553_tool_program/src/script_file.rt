@@ -1,0 +1,79 @@
+//! Lines of scripts that are refused.
+ghost use Rattle.std.specs.Prelude.{◌≡◌, ◌≤◌, IfOk, List, ℕ};
+ghost use Rattle.script_lines.specs.Text.{lines_of};
+ghost use Rattle.refused_lines.specs.Refused.{refused_from};
+ghost use Rattle.rt1553_tool_program.specs.Status.{lines_status};
+
+use crate::fault::{REFUSED, ToolFault};
+use crate::files::{read_script_file, shown};
+use crate::worst::{status_or_stop, worst};
+use refused_lines::{RefusedLine, refused_lines};
+use std::io::Write;
+use std::rt::Files;
+
+/// The first line of the script in the file of this name that is refused, as a fault; else the other fault.
+pub fn first_refused<R: AllocGlobal>(
+    rt: &R,
+    name: &str,
+    script: &[u8],
+    other: ToolFault,
+) -> ToolFault {
+    let found = match refused_lines(rt.alloc(), script) {
+        Ok(found) => found,
+        Err(_) => return ToolFault::Memory,
+    };
+    let Some(line) = found.as_slice().first() else {
+        return other;
+    };
+    match shown(rt, name) {
+        Ok(name) => ToolFault::Line(name, *line),
+        Err(fault) => fault,
+    }
+}
+
+/// Writes a line of the file of this name that is refused, and why.
+fn put_refused<W: Write>(
+    name: &str,
+    refused: &RefusedLine,
+    output: &mut W,
+) -> Result<(), ToolFault> {
+    let (line, column) = (refused.line, refused.misfit.column);
+    writeln!(
+        output,
+        "{name}:{line}:{column}: error: {}",
+        refused.misfit.reason
+    )
+    .map_err(|_| ToolFault::Output)
+}
+
+/// Writes each line of a script that is refused, and gives the status to end with.
+fn check_script<R: Files + AllocGlobal, W: Write>(
+    rt: &R,
+    name: &str,
+    output: &mut W,
+) -> Result<u8, ToolFault>
+    ensures { IfOk result (λ status. (script : List ℕ) × (status ≡ lines_status (refused_from 1 (lines_of script)))) }
+{
+    let script = read_script_file(rt, name)?;
+    let found = refused_lines(rt.alloc(), script.as_slice())?;
+    let name = shown(rt, name)?;
+    for refused in found.as_slice() {
+        put_refused(name.as_str(), refused, output)?;
+    }
+    Ok(if found.is_empty() { 0 } else { REFUSED })
+}
+
+/// Writes each line of scripts that is refused. The status is the highest that a file asks for.
+pub fn check_scripts<R: Files + AllocGlobal + Eprint, W: Write>(
+    rt: &R,
+    names: &[&str],
+    output: &mut W,
+) -> Result<u8, ToolFault>
+    ensures { IfOk result (λ status. status ≤ 4) }
+{
+    let mut status = 0;
+    for name in names {
+        status = worst(status, status_or_stop(rt, check_script(rt, name, output))?);
+    }
+    Ok(status)
+}
