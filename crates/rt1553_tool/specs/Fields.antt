@@ -1,10 +1,10 @@
 -- The words of a bus and their fields (MIL-STD-1553B, 4.3.3.5).
-use Rattle.std.specs.Prelude.{ℕ, ◌≡◌, ◌/◌, ◌%◌, ◌≤◌}
+use Rattle.std.specs.Prelude.{ℕ, ◌+◌, ◌*◌, ◌≡◌, ◌/◌, ◌%◌, ◌≤◌, ◌==◌}
 use Rattle.bus_word.specs.declared.word.Kind.{Kind}
 use Rattle.bus_word.specs.declared.word.Kind.TheVariants.{Com, Dat}
 use Rattle.bus_word.specs.declared.word.Raw.{Raw}
 use Rattle.bus_word.specs.Word.{bit_of, valid_word}
-use Rattle.bus_word.specs.Command.{Fields, AreOfTheirWidth, fields_of}
+use Rattle.bus_word.specs.Command.{Fields, AreOfTheirWidth, fields_of, command_bits}
 use Rattle.rt1553_tool.specs.declared.fields.CommandFields.{CommandFields}
 use Rattle.rt1553_tool.specs.declared.fields.StatusFields.{StatusFields}
 use Rattle.rt1553_tool.specs.declared.fields.WordFields.{WordFields}
@@ -27,6 +27,25 @@ pub record HasStatusFields (bits : ℕ) (f : StatusFields) : Type 0 where
   pub accept : bits / 0x0002 % 2 ≡ bit_of f.accept
   pub terminal : bits % 2 ≡ bit_of f.terminal
 
+-- the fields of a command word
+abbrev pub command_fields_in : ℕ → CommandFields
+command_fields_in bits = record { address = bits / 2048; transmit = bits / 1024 % 2 == 1; subaddress = bits / 32 % 32; low = bits % 32 }
+
+-- the fields of a status word
+abbrev pub status_in : ℕ → StatusFields
+status_in bits = record {
+  address = bits / 0x0800;
+  error = bits / 0x0400 % 2 == 1;
+  instrumentation = bits / 0x0200 % 2 == 1;
+  service = bits / 0x0100 % 2 == 1;
+  reserved = bits / 0x0020 % 8;
+  broadcast = bits / 0x0010 % 2 == 1;
+  busy = bits / 0x0008 % 2 == 1;
+  subsystem = bits / 0x0004 % 2 == 1;
+  accept = bits / 0x0002 % 2 == 1;
+  terminal = bits % 2 == 1;
+}
+
 -- each field is of its width
 abbrev pub AreOfWidth : WordFields → Type 0
 AreOfWidth (Command f) = AreOfTheirWidth (in_word f)
@@ -44,6 +63,17 @@ abbrev pub sync_of : WordFields → Kind
 sync_of (Command f) = Com
 sync_of (Status f) = Com
 sync_of (Data word) = Dat
+
+-- the 16 bits of a status word
+abbrev pub status_bits : StatusFields → ℕ
+status_bits f = f.address * 2048 + bit_of f.error * 0x0400 + bit_of f.instrumentation * 0x0200 + bit_of f.service * 0x0100 + f.reserved * 0x0020
+    + bit_of f.broadcast * 0x0010 + bit_of f.busy * 0x0008 + bit_of f.subsystem * 0x0004 + bit_of f.accept * 0x0002 + bit_of f.terminal
+
+-- the 16 bits of the word with these fields
+abbrev pub bits_with : WordFields → ℕ
+bits_with (Command f) = command_bits (in_word f)
+bits_with (Status f) = status_bits f
+bits_with (Data bits) = bits
 
 -- the word is the valid one of these fields
 pub record IsWordOf (word : Raw) (f : WordFields) : Type 0 where

@@ -1,2 +1,7 @@
 pub mod Fields
+pub mod Parts
+pub mod WordLines
+pub mod WordTexts
 pub mod Session
+pub mod Toml
+pub mod inner

@@ -1,13 +1,13 @@
 //! The fields of the words of a bus (MIL-STD-1553B, 4.3.3.5).
-ghost use Rattle.std.specs.Prelude.{◌≡◌, ◌≤◌, ◌<◌, ◌/◌, ◌%◌};
-ghost use Rattle.bus_word.specs.Word.{bit_of};
-ghost use Rattle.bus_word.specs.Command.{AreOfTheirWidth, fields_of};
-ghost use Rattle.rt1553_tool.specs.Fields.{in_word, HasStatusFields, AreOfWidth, HasFields, IsWordOf};
+ghost use Rattle.std.specs.Prelude.{◌≡◌, ◌≤◌, ◌<◌, ◌/◌, ◌%◌, ◌==◌};
+ghost use Rattle.bus_word.specs.Word.{bit_of, valid_word};
+ghost use Rattle.bus_word.specs.Command.{AreOfTheirWidth, fields_of, command_bits};
+ghost use Rattle.rt1553_tool.specs.Fields.{in_word, HasStatusFields, command_fields_in, status_in, sync_of, status_bits, bits_with, AreOfWidth, HasFields, IsWordOf};
 
 use bus_word::{Command, Kind, Raw};
 
 /// The fields of a command word (4.3.3.5.1).
-#[derive(Clone, Copy, PartialEq, Eq)]
+#[derive(Clone, Copy)]
 pub struct CommandFields {
     /// The address, 0 to 31: the terminal that is meant, or 31 for all.
     pub address: u8,
@@ -20,7 +20,7 @@ pub struct CommandFields {
 }
 
 /// The fields of a status word (4.3.3.5.3).
-#[derive(Clone, Copy, PartialEq, Eq)]
+#[derive(Clone, Copy)]
 pub struct StatusFields {
     /// The address, 0 to 31.
     pub address: u8,
@@ -45,7 +45,7 @@ pub struct StatusFields {
 }
 
 /// The fields of a word.
-#[derive(Clone, Copy, PartialEq, Eq)]
+#[derive(Clone, Copy)]
 pub enum WordFields {
     /// A command word.
     Command(CommandFields),
@@ -66,14 +66,16 @@ fn bit(is_set: bool) -> u16
 /// Tells whether the bit of this place value is set.
 fn is_set(bits: u16, place: u16) -> bool
     requires { 0 < place }
-    ensures { bits / place % 2 ≡ bit_of result }
+    ensures bit { bits / place % 2 ≡ bit_of result }
+    ensures value { result ≡ (bits / place % 2 == 1) }
 {
     bits / place % 2 == 1
 }
 
 /// The fields of a command word of these bits.
 pub fn command_fields(bits: u16) -> CommandFields
-    ensures { fields_of bits ≡ in_word result }
+    ensures fields { fields_of bits ≡ in_word result }
+    ensures value { result ≡ command_fields_in bits }
 {
     let command = Command::of(bits);
     CommandFields {
@@ -87,7 +89,8 @@ pub fn command_fields(bits: u16) -> CommandFields
 /// The bits of the command word of these fields.
 pub fn command_bits(fields: CommandFields) -> u16
     requires { AreOfTheirWidth (in_word fields) }
-    ensures { fields_of result ≡ in_word fields }
+    ensures fields { fields_of result ≡ in_word fields }
+    ensures value { result ≡ command_bits (in_word fields) }
 {
     u16::from(fields.address) * 2048
         + bit(fields.transmit) * 1024
@@ -97,7 +100,8 @@ pub fn command_bits(fields: CommandFields) -> u16
 
 /// The fields of a status word of these bits.
 pub fn status_fields(bits: u16) -> StatusFields
-    ensures { HasStatusFields bits result }
+    ensures fields { HasStatusFields bits result }
+    ensures value { result ≡ status_in bits }
 {
     StatusFields {
         address: (bits / 2048) as u8,
@@ -117,7 +121,8 @@ pub fn status_fields(bits: u16) -> StatusFields
 pub fn status_word_bits(fields: StatusFields) -> u16
     requires address { fields.address ≤ 31 }
     requires reserved { fields.reserved ≤ 7 }
-    ensures { HasStatusFields result fields }
+    ensures fields { HasStatusFields result fields }
+    ensures value { result ≡ status_bits fields }
 {
     u16::from(fields.address) * 2048
         + bit(fields.error) * 0x0400
@@ -134,7 +139,8 @@ pub fn status_word_bits(fields: StatusFields) -> u16
 /// The word of these fields, with its right parity bit. Each field is to be of its width.
 pub fn word_with(fields: WordFields) -> Raw
     requires { AreOfWidth fields }
-    ensures { IsWordOf result fields }
+    ensures word { IsWordOf result fields }
+    ensures value { result ≡ valid_word (sync_of fields) (bits_with fields) }
 {
     match fields {
         WordFields::Command(command) => Raw::of(Kind::Com, command_bits(command)),

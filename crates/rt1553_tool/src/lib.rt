@@ -3,17 +3,22 @@
 #![tactic(auto)]
 
 mod fields;
+mod input;
+mod parts;
 mod profile_text;
 mod session;
 mod word_answers;
 mod word_lines;
+mod word_texts;
 mod written;
 
 pub use fields::{
     CommandFields, StatusFields, WordFields, command_bits, command_fields, status_fields,
     status_word_bits, word_with,
 };
+pub use input::ServeFault;
 pub use profile_text::{TomlFault, toml_of};
 pub use session::{play_live_line, serve};
 pub use word_answers::answer_words;
 pub use word_lines::{WordLine, WordLineFault, read_word_line};
+pub use word_texts::{AnswerLine, answer_word_line};

@@ -1,8 +1,9 @@
 //! A TOML profile for what can be reached of a terminal.
-ghost use Rattle.std.specs.Prelude.{ℕ, List, IfOk, string_bytes};
+ghost use Rattle.std.specs.Prelude.{◌≡◌, ℕ, List, IfOk, string_bytes};
 ghost use Rattle.bus_canon.specs.Canon.{Text};
-ghost use Rattle.rt1553.specs.Load.{Reaches};
+ghost use Rattle.rt1553.specs.Load.{is_canon_text, Reaches};
 ghost use Rattle.rt1553.specs.Canon.{IsCanon};
+ghost use Rattle.rt1553_tool.specs.Toml.{IsTomlOf};
 
 use crate::written::write_profile;
 use bus_legal::Normal;
@@ -21,9 +22,17 @@ pub enum TomlFault {
     Unfit,
 }
 
+/// Tells whether a text begins as a canonical text of either version.
+fn is_canon_text(text: &[u8]) -> bool
+    ensures { result ≡ is_canon_text text.now }
+{
+    text.starts_with(b"rt1553 1\n") || text.starts_with(b"rt1553 2\n")
+}
+
 /// A TOML profile of this terminal. The text that was made is read again before it is given out.
 pub fn toml_of(alloc: Global, normal: &Normal) -> Result<String, TomlFault>
     ensures reaches { IfOk result (λ text. Reaches (string_bytes text) normal.now) }
+    ensures toml { IfOk result (λ text. IsTomlOf (string_bytes text) normal.now) }
     ensures canonical { IfOk result (λ text. (bytes : List ℕ) → Text normal.now bytes → IsCanon (string_bytes text) bytes) }
 {
     let Ok(text) = write_profile(alloc, normal) else {
@@ -31,7 +40,7 @@ pub fn toml_of(alloc: Global, normal: &Normal) -> Result<String, TomlFault>
     };
     match load(alloc, text.as_str().as_bytes()) {
         Ok(back) => {
-            if back.is_same(normal) {
+            if back.is_same(normal) && !is_canon_text(text.as_str().as_bytes()) {
                 Ok(text)
             } else {
                 Err(TomlFault::Unfit)

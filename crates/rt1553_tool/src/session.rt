@@ -1,59 +1,121 @@
 //! A terminal that is played line by line, for as long as lines come.
-ghost use Rattle.std.specs.Prelude.{◌≡◌, List};
+ghost use Rattle.std.specs.Prelude.{◌≡◌, ◌≤◌, ◌-◌, ◌^◌, ◌∷◌, [], List, codes, true, length, OnOk, IfOk, IfErr, IfSome, IsErrOf};
+ghost use Rattle.std.specs.Io.KnownBytes.{Appends};
 ghost use Rattle.bus_legal.specs.Description.{Description};
 ghost use Rattle.terminal_rules.specs.declared.event.Event.{Event};
 ghost use Rattle.bus_terminal.specs.Stands.{StandsAt};
-ghost use Rattle.script_lines.specs.Line.{meaning};
-ghost use Rattle.rt1553_tool.specs.Session.{history_after_line, line_answer};
+ghost use Rattle.script_lines.specs.Text.{lines_of};
+ghost use Rattle.rt1553_tool.specs.Session.{live_meaning, history_after_line, line_answer, session_text};
+ghost use Rattle.rt1553_tool.specs.inner.Served.{Served, ServesLine};
 
-use arrayvec::ArrayString;
+use crate::input::{ServeFault, hand_on, put, take_line};
+use arrayvec::{ArrayString, ArrayVec};
 use bus_legal::Legality;
-use bus_script::{read_event, write_answer};
-use bus_terminal::Terminal;
-use std::alloc::Global;
-use std::io::{self, BufRead, Write};
+use bus_script::{LineFault, Sink, Source, read_event, write_answer};
+use bus_terminal::{Event, Terminal};
+
+/// How many bytes a line of a script may have, its line feed not counted.
+const MOST: usize = 64;
+
+/// The bytes of a line that are kept: one more than it may have tells that it is too long.
+type Line = ArrayVec<u8, 65>;
+
+/// Gives the event of a line; a line of over 64 bytes is refused.
+fn live_event(line: &[u8]) -> Result<Option<Event>, LineFault>
+    ensures { result ≡ live_meaning line.now }
+{
+    if line.len() > MOST {
+        return Err(LineFault);
+    }
+    read_event(line)
+}
+
+/// Gives what answers a line that is none of a script.
+fn refused_line() -> ArrayString<320>
+    ensures { result.bytes ≡ codes "? no line of a script\n" }
+{
+    let mut text = ArrayString::new();
+    text.push_str("? no line of a script\n");
+    text
+}
 
 /// Plays a line, without its line feed, and gives the lines that answer it. A line that is none of a script is answered by
 /// a question mark and the reason, and the terminal stands as before.
 pub fn play_live_line<L: Legality>(terminal: &mut Terminal<L>, line: &[u8]) -> ArrayString<320>
-    ensures stands { (P : Description) (h : List Event) → StandsAt L.is_legal P h terminal.old → StandsAt L.is_legal P (history_after_line (meaning line.now) h) terminal.new }
-    ensures answer { (P : Description) (h : List Event) → StandsAt L.is_legal P h terminal.old → result.bytes ≡ line_answer P h (meaning line.now) }
+    ensures stands { (P : Description) (h : List Event) → StandsAt L.is_legal P h terminal.old → StandsAt L.is_legal P (history_after_line (live_meaning line.now) h) terminal.new }
+    ensures answer { (P : Description) (h : List Event) → StandsAt L.is_legal P h terminal.old → result.bytes ≡ line_answer P h (live_meaning line.now) }
 {
-    match read_event(line) {
+    match live_event(line) {
         Ok(Some(event)) => {
             let answer = terminal.step(event);
             write_answer(&answer)
         }
         Ok(None) => ArrayString::new(),
-        Err(_) => {
-            let mut text = ArrayString::new();
-            text.push_str("? no line of a script\n");
-            text
-        }
+        Err(_) => refused_line(),
+    }
+}
+
+/// Plays a line, and writes what answers it and a line with a dot.
+fn put_answer<L: Legality, W: Sink>(
+    terminal: &mut Terminal<L>,
+    sink: &mut W,
+    line: &[u8],
+) -> Result<(), ServeFault>
+    ensures ok { OnOk result (Served L.is_legal W.written (terminal.old, sink.old) (terminal.new, sink.new) (line.now ∷ [])) }
+    ensures fault { IfErr result (λ fault. (fault ≡ ServeFault.Write) × (W.has_failed sink.new ≡ true)) }
+{
+    let answer = play_live_line(terminal, line);
+    if let Err(fault) = put(sink, answer.as_str().as_bytes()) {
+        return Err(fault);
+    }
+    if let Err(fault) = put(sink, b".\n") {
+        return Err(fault);
+    }
+    hand_on(sink)
+}
+
+/// Answers the next line, and gives whether there was one.
+fn serve_line<L: Legality, S: Source, W: Sink>(
+    terminal: &mut Terminal<L>,
+    source: &mut S,
+    sink: &mut W,
+    line: &mut Line,
+) -> Result<bool, ServeFault>
+    ensures ok { IfOk result (λ found. IfSome (S.left source.old) (λ xs. ServesLine L.is_legal W.written (terminal.old, sink.old) (terminal.new, sink.new) found xs (S.left source.new))) }
+    ensures read { IsErrOf result ServeFault.Read → S.has_failed source.new ≡ true }
+    ensures write { IsErrOf result ServeFault.Write → W.has_failed sink.new ≡ true }
+    ensures long { IsErrOf result ServeFault.TooLong → IfSome (S.left source.old) (λ xs. 2 ^ 64 - 1 ≤ length xs) }
+{
+    match take_line(source, line) {
+        Err(fault) => Err(fault),
+        Ok(false) => Ok(false),
+        Ok(true) => match put_answer(terminal, sink, line.as_slice()) {
+            Ok(()) => Ok(true),
+            Err(fault) => Err(fault),
+        },
     }
 }
 
 /// Plays lines till there are no more. What answers a line, and then a line with a dot, are handed on before the next is read.
-pub fn serve<L: Legality + Drop, R: BufRead + Drop, W: Write>(
-    alloc: Global,
-    mut terminal: Terminal<L>,
-    mut reader: R,
-    writer: &mut W,
-) -> io::Result<()> {
-    let mut line = Vec::new(alloc);
+/// Of a line that is too long no more than 65 bytes are kept.
+pub fn serve<L: Legality, S: Source, W: Sink>(
+    terminal: &mut Terminal<L>,
+    source: &mut S,
+    sink: &mut W,
+) -> Result<(), ServeFault>
+    ensures ok { OnOk result (IfSome (S.left source.old) (λ input. (P : Description) (h : List Event) → StandsAt L.is_legal P h terminal.old
+        → Appends (W.written sink.old) (W.written sink.new) (session_text P h (lines_of input)))) }
+    ensures read { IsErrOf result ServeFault.Read → S.has_failed source.new ≡ true }
+    ensures write { IsErrOf result ServeFault.Write → W.has_failed sink.new ≡ true }
+    ensures long { IsErrOf result ServeFault.TooLong → IfSome (S.left source.old) (λ input. 2 ^ 64 - 1 ≤ length input) }
+{
+    let mut line = Line::new();
     for _turn in 0..u64::MAX {
-        line.clear();
-        if reader.read_until(b'\n', &mut line)? == 0 {
-            return Ok(());
+        match serve_line(terminal, source, sink, &mut line) {
+            Ok(true) => {}
+            Ok(false) => return Ok(()),
+            Err(fault) => return Err(fault),
         }
-        let bytes = match line.as_slice() {
-            [before @ .., b'\n'] => before,
-            whole => whole,
-        };
-        let answer = play_live_line(&mut terminal, bytes);
-        writer.write_all(answer.as_str().as_bytes())?;
-        writer.write_all(b".\n")?;
-        writer.flush()?;
     }
-    Ok(())
+    Err(ServeFault::TooLong)
 }

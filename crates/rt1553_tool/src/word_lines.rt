@@ -1,59 +1,56 @@
 //! Words by their fields and by their digits, as lines.
-ghost use Rattle.std.specs.Prelude.{◌≡◌, ◌≤◌, IfOk, IfSome};
-ghost use Rattle.rt1553_tool.specs.Fields.{AreOfWidth, IsWordOf};
-ghost use Rattle.bus_word.specs.Word.{valid_word};
+ghost use Rattle.std.specs.Prelude.{◌≡◌, ◌≤◌, codes, drop, length, true, false, IfOk};
+ghost use Rattle.std.specs.List.{slice_get, list_any};
+ghost use Rattle.std.specs.Str.{bytes_eq};
+ghost use Rattle.script_lines.specs.Digits.{number_of};
+ghost use Rattle.rt1553_tool.specs.Fields.{AreOfWidth, IsWordOf, sync_of, bits_with, command_fields_in, status_in};
+ghost use Rattle.rt1553_tool.specs.WordLines.{is_word, small_number, number_part, address_part, digits_part, ended_at, transfer_line, direction_part, mode_subaddress_part, mode_line, has_part, bit_names, name_bits, status_with, status_line, data_line, parity_part, digits_line, said_of, said_by, said_by_parts, word_line};
+ghost use Rattle.rt1553_tool.specs.declared.fields.WordFields.TheVariants.{Command as CommandWord, Status as StatusWord, Data as DataWord};
+ghost use Rattle.rt1553_tool.specs.inner.Parts.{texts};
+ghost use Rattle.rt1553_tool.specs.inner.Said.{text_in};
+ghost use Rattle.bus_word.specs.Word.{bit_of, valid_word};
 
 use crate::fields::{
     CommandFields, StatusFields, WordFields, command_fields, status_fields, word_with,
 };
-use bus_word::{Kind, Raw, mode_name, mode_row};
-use std::fmt;
-use std::str::SplitWhitespace;
-use thiserror::Error;
+use crate::parts::{MOST, line_parts};
+use bus_script::read_word;
+use bus_word::{Kind, Raw, mode_row};
 
 /// The address of all terminals.
 const ALL_TERMINALS: u8 = 31;
 
 /// Why a line of words is refused.
-#[derive(Clone, Copy, Debug, PartialEq, Eq, Error)]
+#[derive(Clone, Copy, Debug, PartialEq, Eq)]
 pub enum WordLineFault {
+    /// It has over 128 bytes.
+    Long,
     /// It begins with none of the names of the language.
-    #[error("a line begins with rx, tx, mode, status, data, c, s or d")]
     Name,
     /// The address is missing or none.
-    #[error("an address is 0 to 30, or all")]
     Address,
     /// The subaddress is missing or none.
-    #[error("a subaddress is 1 to 30")]
     Subaddress,
     /// The count is missing or none.
-    #[error("a count is 1 to 32")]
     Count,
     /// The mode code is missing or none.
-    #[error("a mode code is 0 to 31")]
     Code,
-    /// The table of mode codes doesn't say which T/R goes with the code.
-    #[error("tx or rx is wanted behind a mode code that has no row in the table")]
+    /// What follows the mode code is neither `tx` nor `rx`, or the table of mode codes doesn't say which goes with the code.
     Direction,
     /// What follows a mode command is no subaddress of mode commands.
-    #[error("the subaddress of a mode code is 0 or 31")]
     ModeSubaddress,
     /// No bit of a status word has this name.
-    #[error("a status has error, instrumentation, service, reserved1 to 3, broadcast, busy, subsystem, accept, terminal")]
     Bit,
     /// The digits are missing or none.
-    #[error("a word is four hexadecimal digits")]
     Digits,
     /// The parity bit is not the one that makes the number of ones odd.
-    #[error("the parity bit is wrong: the word isn't valid")]
     Parity,
     /// Something stands behind all that is wanted.
-    #[error("too much in a line")]
     Much,
 }
 
 /// What a line says of a word.
-#[derive(Clone, Copy, PartialEq, Eq)]
+#[derive(Clone, Copy)]
 pub struct WordLine {
     /// The fields of the word.
     pub fields: WordFields,
@@ -63,151 +60,296 @@ pub struct WordLine {
     pub by_fields: bool,
 }
 
-/// Gives a line without its comment.
-fn without_comment(line: &[u8]) -> &[u8] {
-    line.split(|byte| *byte == b'#').next().unwrap_or(line)
+/// Gives the part in this place, from 0.
+fn part<'a>(parts: &[&'a [u8]], place: usize) -> Option<&'a [u8]>
+    ensures { text_in result ≡ slice_get (texts parts.now) place }
+{
+    parts.get(place).copied()
 }
 
-/// Gives the decimal number that a part is, up to the most.
-fn number(part: Option<&str>, most: u8) -> Option<u8>
-    ensures { IfSome result (λ n. n ≤ most) }
+/// Tells whether the part is this word.
+fn is_word(part: Option<&[u8]>, word: &[u8]) -> bool
+    ensures { result ≡ is_word word.now (text_in part.entry) }
 {
-    let number = match part?.as_bytes() {
-        [d] if d.is_ascii_digit() => *d - b'0',
-        [t, d] if t.is_ascii_digit() && d.is_ascii_digit() => (*t - b'0') * 10 + (*d - b'0'),
-        _ => return None,
+    match part {
+        Some(part) => part == word,
+        None => false,
+    }
+}
+
+/// Gives the number of two decimal digits.
+fn read_number(tens: u8, ones: u8) -> Option<u8>
+    ensures { result ≡ number_of tens ones }
+{
+    if tens.is_ascii_digit() && ones.is_ascii_digit() {
+        Some((tens - b'0') * 10 + (ones - b'0'))
+    } else {
+        None
+    }
+}
+
+/// Gives the number of one or two decimal digits.
+fn small_number(part: &[u8]) -> Option<u8>
+    ensures { result ≡ small_number part.now }
+{
+    match part {
+        [d] => read_number(b'0', *d),
+        [t, d] => read_number(*t, *d),
+        _ => None,
+    }
+}
+
+/// Gives the number that a part is, in these bounds.
+fn number_part(
+    part: Option<&[u8]>,
+    least: u8,
+    most: u8,
+    fault: WordLineFault,
+) -> Result<u8, WordLineFault>
+    ensures value { result ≡ number_part least most fault (text_in part.entry) }
+    ensures most { IfOk result (λ n. n ≤ most) }
+{
+    let Some(part) = part else {
+        return Err(fault);
     };
-    if number <= most { Some(number) } else { None }
+    match small_number(part) {
+        Some(number) if least <= number && number <= most => Ok(number),
+        _ => Err(fault),
+    }
 }
 
 /// Gives the address that a part is, 0 to 31.
-fn address(part: Option<&str>) -> Result<u8, WordLineFault>
-    ensures { IfOk result (λ n. n ≤ 31) }
+fn address_part(part: Option<&[u8]>) -> Result<u8, WordLineFault>
+    ensures value { result ≡ address_part (text_in part.entry) }
+    ensures most { IfOk result (λ n. n ≤ 31) }
 {
-    if part == Some("all") {
+    if is_word(part, b"all") {
         return Ok(ALL_TERMINALS);
     }
-    number(part, 31).ok_or(WordLineFault::Address)
+    number_part(part, 0, 30, WordLineFault::Address)
 }
 
 /// Gives the four hexadecimal digits that a part is.
-fn digits(part: Option<&str>) -> Result<u16, WordLineFault> {
-    let mut bytes = [0u8; 2];
+fn digits_part(part: Option<&[u8]>) -> Result<u16, WordLineFault>
+    ensures { result ≡ digits_part (text_in part.entry) }
+{
     match part {
-        Some(part) if hex::decode_to_slice(part.as_bytes(), &mut bytes).is_ok() => {
-            Ok(u16::from_be_bytes(bytes))
-        }
+        Some([a, b, c, d]) => read_word(*a, *b, *c, *d).ok_or(WordLineFault::Digits),
         _ => Err(WordLineFault::Digits),
     }
 }
 
-/// Reads what follows `rx` or `tx`.
-fn read_transfer(
-    parts: &mut SplitWhitespace<'_>,
-    transmit: bool,
-) -> Result<WordFields, WordLineFault>
-    ensures { IfOk result AreOfWidth }
+/// Gives what was said, where there are no more parts than these.
+fn ended_at(count: usize, parts: &[&[u8]], said: WordFields) -> Result<WordFields, WordLineFault>
+    ensures { result ≡ ended_at count (texts parts.now) said }
 {
-    let address = address(parts.next())?;
-    let Some(subaddress @ 1..=30) = number(parts.next(), 30) else {
-        return Err(WordLineFault::Subaddress);
-    };
-    let Some(count @ 1..=32) = number(parts.next(), 32) else {
-        return Err(WordLineFault::Count);
-    };
-    Ok(WordFields::Command(CommandFields {
+    if parts.len() > count {
+        return Err(WordLineFault::Much);
+    }
+    Ok(said)
+}
+
+/// Reads what follows `rx` or `tx`.
+fn read_transfer(parts: &[&[u8]], transmit: bool) -> Result<WordFields, WordLineFault>
+    ensures value { result ≡ transfer_line transmit (texts parts.now) }
+    ensures width { IfOk result AreOfWidth }
+{
+    let address = address_part(part(parts, 1))?;
+    let subaddress = number_part(part(parts, 2), 1, 30, WordLineFault::Subaddress)?;
+    let count = number_part(part(parts, 3), 1, 32, WordLineFault::Count)?;
+    let fields = CommandFields {
         address,
         transmit,
         subaddress,
         low: count % 32,
-    }))
+    };
+    ended_at(4, parts, WordFields::Command(fields))
+}
+
+/// Gives the direction that follows a mode code.
+fn direction_part(code: u8, part: Option<&[u8]>) -> Result<bool, WordLineFault>
+    ensures { result ≡ direction_part code (text_in part.entry) }
+{
+    if is_word(part, b"tx") {
+        return Ok(true);
+    }
+    if is_word(part, b"rx") {
+        return Ok(false);
+    }
+    match (part, mode_row(code)) {
+        (None, Some(row)) => Ok(row.transmit),
+        _ => Err(WordLineFault::Direction),
+    }
+}
+
+/// Gives the subaddress that follows the direction.
+fn mode_subaddress_part(part: Option<&[u8]>) -> Result<u8, WordLineFault>
+    ensures value { result ≡ mode_subaddress_part (text_in part.entry) }
+    ensures most { IfOk result (λ n. n ≤ 31) }
+{
+    if part.is_none() || is_word(part, b"0") {
+        return Ok(0);
+    }
+    if is_word(part, b"31") {
+        return Ok(31);
+    }
+    Err(WordLineFault::ModeSubaddress)
 }
 
 /// Reads what follows `mode`.
-fn read_mode(parts: &mut SplitWhitespace<'_>) -> Result<WordFields, WordLineFault>
-    ensures { IfOk result AreOfWidth }
+fn read_mode(parts: &[&[u8]]) -> Result<WordFields, WordLineFault>
+    ensures value { result ≡ mode_line (texts parts.now) }
+    ensures width { IfOk result AreOfWidth }
 {
-    let address = address(parts.next())?;
-    let Some(low) = number(parts.next(), 31) else {
-        return Err(WordLineFault::Code);
-    };
-    let transmit = match (parts.next(), mode_row(low)) {
-        (Some("tx"), _) => true,
-        (Some("rx"), _) => false,
-        (None, Some(row)) => row.transmit,
-        _ => return Err(WordLineFault::Direction),
-    };
-    let subaddress = match parts.next() {
-        None | Some("0") => 0,
-        Some("31") => 31,
-        Some(_) => return Err(WordLineFault::ModeSubaddress),
-    };
-    Ok(WordFields::Command(CommandFields {
+    let address = address_part(part(parts, 1))?;
+    let low = number_part(part(parts, 2), 0, 31, WordLineFault::Code)?;
+    let transmit = direction_part(low, part(parts, 3))?;
+    let subaddress = mode_subaddress_part(part(parts, 4))?;
+    let fields = CommandFields {
         address,
         transmit,
         subaddress,
         low,
-    }))
+    };
+    ended_at(5, parts, WordFields::Command(fields))
 }
 
-/// Gives the status with the bit of this name set.
-fn with_bit(mut status: StatusFields, name: &str) -> Result<StatusFields, WordLineFault>
-    requires { status.reserved ≤ 7 }
-    ensures address { IfOk result (λ s. s.address ≡ status.address) }
-    ensures reserved { IfOk result (λ s. s.reserved ≤ 7) }
+/// Tells whether this word is one of the parts.
+fn has_part(parts: &[&[u8]], word: &[u8]) -> bool
+    ensures { result ≡ has_part word.now (texts parts.now) }
 {
-    match name {
-        "error" => status.error = true,
-        "instrumentation" => status.instrumentation = true,
-        "service" => status.service = true,
-        "reserved1" if status.reserved < 4 => status.reserved += 4,
-        "reserved2" if status.reserved % 4 < 2 => status.reserved += 2,
-        "reserved3" if status.reserved % 2 < 1 => status.reserved += 1,
-        "broadcast" => status.broadcast = true,
-        "busy" => status.busy = true,
-        "subsystem" => status.subsystem = true,
-        "accept" => status.accept = true,
-        "terminal" => status.terminal = true,
-        _ => return Err(WordLineFault::Bit),
+    for part in parts {
+        if *part == word {
+            return true;
+        }
     }
-    Ok(status)
+    false
+}
+
+/// Tells whether a bit of a status word has this name.
+fn is_bit_name(part: &[u8]) -> bool
+    ensures { result ≡ list_any (λ name. bytes_eq part.now name) bit_names }
+{
+    part == b"error".as_slice()
+        || part == b"instrumentation".as_slice()
+        || part == b"service".as_slice()
+        || part == b"reserved1".as_slice()
+        || part == b"reserved2".as_slice()
+        || part == b"reserved3".as_slice()
+        || part == b"broadcast".as_slice()
+        || part == b"busy".as_slice()
+        || part == b"subsystem".as_slice()
+        || part == b"accept".as_slice()
+        || part == b"terminal".as_slice()
+}
+
+/// Tells whether each of these parts names a bit.
+fn name_bits(parts: &[&[u8]]) -> bool
+    ensures { result ≡ name_bits (texts parts.now) }
+{
+    for part in parts {
+        if !is_bit_name(part) {
+            return false;
+        }
+    }
+    true
+}
+
+/// Gives the bit of a name: 1 where it is one of the parts.
+fn bit_named(names: &[&[u8]], name: &[u8]) -> u8
+    ensures value { result ≡ bit_of (has_part name.now (texts names.now)) }
+    ensures small { result ≤ 1 }
+{
+    if has_part(names, name) { 1 } else { 0 }
+}
+
+/// Gives the status word with the bits that are named.
+fn status_with(address: u8, names: &[&[u8]]) -> StatusFields
+    ensures value { result ≡ status_with address (texts names.now) }
+    ensures address { result.address ≡ address }
+    ensures reserved { result.reserved ≤ 7 }
+{
+    StatusFields {
+        address,
+        error: has_part(names, b"error"),
+        instrumentation: has_part(names, b"instrumentation"),
+        service: has_part(names, b"service"),
+        reserved: 4 * bit_named(names, b"reserved1")
+            + (2 * bit_named(names, b"reserved2") + bit_named(names, b"reserved3")),
+        broadcast: has_part(names, b"broadcast"),
+        busy: has_part(names, b"busy"),
+        subsystem: has_part(names, b"subsystem"),
+        accept: has_part(names, b"accept"),
+        terminal: has_part(names, b"terminal"),
+    }
 }
 
 /// Reads what follows `status`.
-fn read_status(parts: &mut SplitWhitespace<'_>) -> Result<WordFields, WordLineFault>
-    ensures { IfOk result AreOfWidth }
+fn read_status(parts: &[&[u8]]) -> Result<WordFields, WordLineFault>
+    ensures value { result ≡ status_line (texts parts.now) }
+    ensures width { IfOk result AreOfWidth }
 {
-    let Some(address) = number(parts.next(), 31) else {
-        return Err(WordLineFault::Address);
-    };
-    let mut status = status_fields(0);
-    status.address = address;
-    // no more bits have names
-    for _bit in 0..12 {
-        match parts.next() {
-            Some(name) => status = with_bit(status, name)?,
-            None => return Ok(WordFields::Status(status)),
-        }
+    let address = number_part(part(parts, 1), 0, 30, WordLineFault::Address)?;
+    let names = parts.get(2..).unwrap_or(&[]);
+    if !name_bits(names) {
+        return Err(WordLineFault::Bit);
+    }
+    Ok(WordFields::Status(status_with(address, names)))
+}
+
+/// Reads what follows `data`.
+fn read_data(parts: &[&[u8]]) -> Result<WordFields, WordLineFault>
+    ensures value { result ≡ data_line (texts parts.now) }
+    ensures width { IfOk result AreOfWidth }
+{
+    let bits = digits_part(part(parts, 1))?;
+    ended_at(2, parts, WordFields::Data(bits))
+}
+
+/// Tells whether the part is the right parity bit, or nothing.
+fn parity_part(parity: bool, part: Option<&[u8]>) -> Result<bool, WordLineFault>
+    ensures { result ≡ parity_part parity (text_in part.entry) }
+{
+    if part.is_none() {
+        return Ok(parity);
+    }
+    if is_word(part, b"0") {
+        return if parity {
+            Err(WordLineFault::Parity)
+        } else {
+            Ok(parity)
+        };
+    }
+    if is_word(part, b"1") {
+        return if parity {
+            Ok(parity)
+        } else {
+            Err(WordLineFault::Parity)
+        };
     }
     Err(WordLineFault::Much)
 }
 
 /// Reads the digits of a word with this sync, and its parity bit where it stands.
-fn read_digits(parts: &mut SplitWhitespace<'_>, kind: Kind) -> Result<Raw, WordLineFault>
-    ensures { IfOk result (λ word. word ≡ valid_word kind word.bits) }
+fn read_digits(parts: &[&[u8]], kind: Kind) -> Result<u16, WordLineFault>
+    ensures { result ≡ digits_line kind (texts parts.now) }
 {
-    let word = Raw::of(kind, digits(parts.next())?);
-    match (parts.next(), word.parity) {
-        (None, _) | (Some("0"), false) | (Some("1"), true) => Ok(word),
-        (Some("0" | "1"), _) => Err(WordLineFault::Parity),
-        _ => Err(WordLineFault::Much),
+    let bits = digits_part(part(parts, 1))?;
+    parity_part(Raw::of(kind, bits).parity, part(parts, 2))?;
+    if parts.len() > 3 {
+        return Err(WordLineFault::Much);
     }
+    Ok(bits)
 }
 
 /// Gives a line that has the fields of a word.
 fn by_fields(fields: WordFields) -> WordLine
     requires { AreOfWidth fields }
-    ensures { IsWordOf result.word result.fields }
+    ensures word { IsWordOf result.word result.fields }
+    ensures width { AreOfWidth result.fields }
+    ensures fields { result.fields ≡ fields }
+    ensures by_fields { result.by_fields ≡ true }
+    ensures digits { result.word ≡ valid_word (sync_of fields) (bits_with fields) }
 {
     WordLine {
         fields,
@@ -216,139 +358,90 @@ fn by_fields(fields: WordFields) -> WordLine
     }
 }
 
-/// Reads a line that has a word's digits, behind `c` or `s` for the command sync and `d` for the data sync.
-fn read_by_digits(parts: &mut SplitWhitespace<'_>, name: &str) -> Result<WordLine, WordLineFault>
-    ensures { IfOk result (λ line. IsWordOf line.word line.fields) }
+/// Gives a line that has the digits of a command word.
+fn command_by_digits(bits: u16) -> WordLine
+    ensures word { IsWordOf result.word result.fields }
+    ensures width { AreOfWidth result.fields }
+    ensures said { said_of result ≡ record { fields = CommandWord (command_fields_in bits); by_fields = false } }
 {
-    let (fields, word) = match name {
-        "c" => {
-            let word = read_digits(parts, Kind::Com)?;
-            (WordFields::Command(command_fields(word.bits)), word)
-        }
-        "s" => {
-            let word = read_digits(parts, Kind::Com)?;
-            (WordFields::Status(status_fields(word.bits)), word)
-        }
-        "d" => {
-            let word = read_digits(parts, Kind::Dat)?;
-            (WordFields::Data(word.bits), word)
-        }
-        _ => return Err(WordLineFault::Name),
-    };
-    Ok(WordLine {
-        fields,
-        word,
+    WordLine {
+        fields: WordFields::Command(command_fields(bits)),
+        word: Raw::of(Kind::Com, bits),
         by_fields: false,
-    })
+    }
 }
 
-/// Reads a line that says a word by its fields, or by its digits: what it tells of both is of one word. Parts of a line are
-/// separated by spaces, and what stands behind `#` is a comment.
-pub fn read_word_line(line: &[u8]) -> Result<WordLine, WordLineFault>
-    ensures { IfOk result (λ line. IsWordOf line.word line.fields) }
+/// Gives a line that has the digits of a status word.
+fn status_by_digits(bits: u16) -> WordLine
+    ensures word { IsWordOf result.word result.fields }
+    ensures width { AreOfWidth result.fields }
+    ensures said { said_of result ≡ record { fields = StatusWord (status_in bits); by_fields = false } }
 {
-    let Ok(text) = str::from_utf8(without_comment(line)) else {
-        return Err(WordLineFault::Name);
-    };
-    let mut parts = text.split_whitespace();
-    let Some(name) = parts.next() else {
-        return Err(WordLineFault::Name);
-    };
-    let line = match name {
-        "rx" => by_fields(read_transfer(&mut parts, false)?),
-        "tx" => by_fields(read_transfer(&mut parts, true)?),
-        "mode" => by_fields(read_mode(&mut parts)?),
-        "status" => by_fields(read_status(&mut parts)?),
-        "data" => by_fields(WordFields::Data(digits(parts.next())?)),
-        _ => read_by_digits(&mut parts, name)?,
-    };
-    match parts.next() {
-        None => Ok(line),
-        Some(_) => Err(WordLineFault::Much),
+    WordLine {
+        fields: WordFields::Status(status_fields(bits)),
+        word: Raw::of(Kind::Com, bits),
+        by_fields: false,
     }
 }
 
-/// Writes an address.
-fn put_address<W: fmt::Write>(f: &mut fmt::Formatter<W>, address: u8) -> fmt::Result {
-    if address == ALL_TERMINALS {
-        f.write_str("all")
-    } else {
-        write!(f, "{address}")
+/// Gives a line that has the digits of a data word.
+fn data_by_digits(bits: u16) -> WordLine
+    ensures word { IsWordOf result.word result.fields }
+    ensures width { AreOfWidth result.fields }
+    ensures said { said_of result ≡ record { fields = DataWord bits; by_fields = false } }
+{
+    WordLine {
+        fields: WordFields::Data(bits),
+        word: Raw::of(Kind::Dat, bits),
+        by_fields: false,
     }
 }
 
-impl fmt::Display for CommandFields {
-    fn fmt<W: fmt::Write>(&self, f: &mut fmt::Formatter<W>) -> fmt::Result {
-        let direction = if self.transmit { "tx" } else { "rx" };
-        if self.subaddress == 0 || self.subaddress == 31 {
-            f.write_str("mode ")?;
-            put_address(f, self.address)?;
-            write!(f, " {} {direction}", self.low)?;
-            if self.subaddress == 31 {
-                f.write_str(" 31")?;
-            }
-            return match mode_row(self.low) {
-                Some(row) if row.transmit == self.transmit => {
-                    write!(f, " # {}", mode_name(self.low))
-                }
-                _ => f.write_str(" # always illegal"),
-            };
-        }
-        let count = if self.low == 0 { 32 } else { self.low };
-        write!(f, "{direction} ")?;
-        put_address(f, self.address)?;
-        write!(f, " {} {count}", self.subaddress)
+/// Reads a line by its parts.
+fn read_parts(parts: &[&[u8]]) -> Result<WordLine, WordLineFault>
+    ensures word { IfOk result (λ line. IsWordOf line.word line.fields) }
+    ensures width { IfOk result (λ line. AreOfWidth line.fields) }
+    ensures said { said_by result ≡ said_by_parts (texts parts.now) }
+    ensures digits { IfOk result (λ line. line.by_fields ≡ true → line.word ≡ valid_word (sync_of line.fields) (bits_with line.fields)) }
+{
+    let name = part(parts, 0);
+    if is_word(name, b"rx") {
+        return Ok(by_fields(read_transfer(parts, false)?));
     }
+    if is_word(name, b"tx") {
+        return Ok(by_fields(read_transfer(parts, true)?));
+    }
+    if is_word(name, b"mode") {
+        return Ok(by_fields(read_mode(parts)?));
+    }
+    if is_word(name, b"status") {
+        return Ok(by_fields(read_status(parts)?));
+    }
+    if is_word(name, b"data") {
+        return Ok(by_fields(read_data(parts)?));
+    }
+    if is_word(name, b"c") {
+        return Ok(command_by_digits(read_digits(parts, Kind::Com)?));
+    }
+    if is_word(name, b"s") {
+        return Ok(status_by_digits(read_digits(parts, Kind::Com)?));
+    }
+    if is_word(name, b"d") {
+        return Ok(data_by_digits(read_digits(parts, Kind::Dat)?));
+    }
+    Err(WordLineFault::Name)
 }
 
-impl fmt::Display for StatusFields {
-    fn fmt<W: fmt::Write>(&self, f: &mut fmt::Formatter<W>) -> fmt::Result {
-        let names = [
-            (self.error, " error"),
-            (self.instrumentation, " instrumentation"),
-            (self.service, " service"),
-            (self.reserved & 4 != 0, " reserved1"),
-            (self.reserved & 2 != 0, " reserved2"),
-            (self.reserved & 1 != 0, " reserved3"),
-            (self.broadcast, " broadcast"),
-            (self.busy, " busy"),
-            (self.subsystem, " subsystem"),
-            (self.accept, " accept"),
-            (self.terminal, " terminal"),
-        ];
-        write!(f, "status {}", self.address)?;
-        for (is_set, name) in names {
-            if is_set {
-                f.write_str(name)?;
-            }
-        }
-        Ok(())
+/// Reads a line, without its line feed, that says a word by its fields, or by its digits: what it tells of both is of one
+/// word. Parts of a line are separated by white space, and what stands behind `#` is a comment.
+pub fn read_word_line(line: &[u8]) -> Result<WordLine, WordLineFault>
+    ensures word { IfOk result (λ line. IsWordOf line.word line.fields) }
+    ensures width { IfOk result (λ line. AreOfWidth line.fields) }
+    ensures said { said_by result ≡ word_line line.now }
+    ensures digits { IfOk result (λ line. line.by_fields ≡ true → line.word ≡ valid_word (sync_of line.fields) (bits_with line.fields)) }
+{
+    if line.len() > MOST {
+        return Err(WordLineFault::Long);
     }
-}
-
-impl fmt::Display for WordFields {
-    fn fmt<W: fmt::Write>(&self, f: &mut fmt::Formatter<W>) -> fmt::Result {
-        match self {
-            WordFields::Command(command) => write!(f, "{command}"),
-            WordFields::Status(status) => write!(f, "{status}"),
-            WordFields::Data(bits) => write!(f, "data {bits:04x}"),
-        }
-    }
-}
-
-impl fmt::Display for WordLine {
-    /// Writes what answers the line.
-    fn fmt<W: fmt::Write>(&self, f: &mut fmt::Formatter<W>) -> fmt::Result {
-        if !self.by_fields {
-            return write!(f, "{}", self.fields);
-        }
-        let name = match self.fields {
-            WordFields::Command(_) => "c",
-            WordFields::Status(_) => "s",
-            WordFields::Data(_) => "d",
-        };
-        let bits = self.word.bits;
-        let parity = u8::from(self.word.parity);
-        write!(f, "{name} {bits:04x} {parity}")
-    }
+    read_parts(line_parts(line).as_slice())
 }

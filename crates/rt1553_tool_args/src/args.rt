@@ -1,21 +1,26 @@
 //! The command line: the commands as clap takes them, and what is asked for, by type.
+ghost use Rattle.std.specs.Prelude.{IfOk, map, string_bytes};
+ghost use Rattle.clap.specs.Words.{App, HasMatchesOf};
+ghost use Rattle.clap.specs.declared.parser.matches.ArgMatches.{ArgMatches as Matches};
+ghost use Rattle.rt1553_tool_args.specs.Commands.{IsAskedBy};
+
 use crate::command::{ToolCommand, tool_command_of};
 use crate::table::{Argument, COMMANDS, CommandRow, Occurrence};
 use clap::error::ErrorKind;
 use clap::{Arg, ArgAction, Command};
+use rt1553_files::escaped;
 use std::alloc::{AllocError, AllocFailed, Global};
 
 /// What `--version` tells: the program's version, and that of the canonical text that it reads and writes.
 const VERSION: &str = "0.1 (canonical text 2)";
 
-/// The status of arguments that the program does not accept.
-pub const USAGE: u8 = 3;
-
 /// Why no job is given.
 #[derive(Clone, Copy)]
 pub enum NoCommand {
-    /// What clap says of the arguments has been printed: help, the version, or what is wrong. The program ends with this status.
-    Said(u8),
+    /// The arguments ask for help or for the version, which has been printed.
+    Helped,
+    /// Clap finds a fault with the arguments, which has been printed.
+    Refused,
     /// What clap says of the arguments can't be printed.
     Output,
     /// The arguments name no job.
@@ -103,22 +108,45 @@ fn program<'a>(alloc: Global) -> Result<Command<'a>, AllocError> {
     Ok(program)
 }
 
+/// The arguments as they are printed.
+fn shown_args(alloc: Global, args: &[String]) -> Result<Vec<String>, AllocError> {
+    let mut shown = Vec::new(alloc);
+    for arg in args {
+        shown.push(escaped(alloc, arg.as_str().as_bytes())?)?;
+    }
+    Ok(shown)
+}
+
+/// Prints what clap says of arguments that it finds a fault with, or that ask for help or for the version. What clap repeats of them is
+/// escaped.
+fn say<R: AllocGlobal + Print + Eprint>(rt: &R, args: &[String]) -> Result<NoCommand, NoCommand> {
+    let shown = shown_args(rt.alloc(), args)?;
+    let Err(error) = program(rt.alloc())?.try_get_matches_from(shown.as_slice()) else {
+        return Ok(NoCommand::Usage);
+    };
+    if error.kind() == ErrorKind::OutOfMemory {
+        return Ok(NoCommand::Memory);
+    }
+    if error.print(rt).is_err() {
+        return Ok(NoCommand::Output);
+    }
+    Ok(if error.use_stderr() {
+        NoCommand::Refused
+    } else {
+        NoCommand::Helped
+    })
+}
+
 /// Reads the arguments of the command line, of which the first is the program's own name. Where they ask for help or for the
 /// version, or clap finds a fault with them, prints what clap says.
 pub fn read_tool_args<'a, R: AllocGlobal + Print + Eprint>(
     rt: &R,
     args: &'a [String],
-) -> Result<ToolCommand<'a>, NoCommand> {
+) -> Result<ToolCommand<'a>, NoCommand>
+    ensures { IfOk result (λ command. (app : App) × (m : Matches) × HasMatchesOf app (map (λ arg. string_bytes arg) args.entry.now) m × IsAskedBy m command) }
+{
     match program(rt.alloc())?.try_get_matches_from(args) {
         Ok(matches) => tool_command_of(rt.alloc(), &matches),
-        Err(error) => {
-            if error.kind() == ErrorKind::OutOfMemory {
-                return Err(NoCommand::Memory);
-            }
-            if error.print(rt).is_err() {
-                return Err(NoCommand::Output);
-            }
-            Err(NoCommand::Said(if error.use_stderr() { USAGE } else { 0 }))
-        }
+        Err(_) => Err(say(rt, args)?),
     }
 }

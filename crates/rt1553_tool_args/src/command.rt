@@ -1,4 +1,8 @@
 //! What the command line asks for.
+ghost use Rattle.std.specs.Prelude.{◌≡◌, IfOk, codes, option_map};
+ghost use Rattle.clap.specs.Words.{first_value, found_of};
+ghost use Rattle.rt1553_tool_args.specs.Commands.{Asks, HasValue, IsAskedBy, all_values, command_name, format_of, is_given, is_json, texts_of};
+
 use crate::args::NoCommand;
 use clap::ArgMatches;
 use std::alloc::Global;
@@ -31,6 +35,8 @@ pub enum ToolCommand<'a> {
         files: Vec<&'a str>,
         as_json: bool,
     },
+    /// Which lines of scripts are refused, and why.
+    CheckScript(Vec<&'a str>),
     /// Where terminals don't answer as scripts state.
     Verify {
         profiles: Profiles<'a>,
@@ -74,25 +80,43 @@ pub enum ToolCommand<'a> {
 }
 
 /// The value of an argument that has to be there.
-fn required<'a>(given: &ArgMatches<'a>, id: &str) -> Result<&'a str, NoCommand> {
-    given.get_str(id).ok_or(NoCommand::Usage)
+fn required<'a>(given: &ArgMatches<'a>, id: &str) -> Result<&'a str, NoCommand>
+    ensures { IfOk result (λ value. HasValue (found_of given.now) id.now value.now) }
+{
+    match given.get_str(id) {
+        Some(value) => Ok(value),
+        None => Err(NoCommand::Usage),
+    }
 }
 
 /// The values of an argument; none where it is left out.
-fn all_of<'a>(alloc: Global, given: &ArgMatches<'a>, id: &str) -> Result<Vec<&'a str>, NoCommand> {
+fn all_of<'a>(alloc: Global, given: &ArgMatches<'a>, id: &str) -> Result<Vec<&'a str>, NoCommand>
+    ensures { IfOk result (λ values. texts_of values.items ≡ all_values (found_of given.now) id.now) }
+{
     match given.get_strs(id) {
         Some(values) => Ok(Vec::from_slice(alloc, values)?),
         None => Ok(Vec::new(alloc)),
     }
 }
 
+/// Whether an option without a value is given.
+fn is_flag_given(given: &ArgMatches<'_>, id: &str) -> bool
+    ensures { result ≡ is_given (found_of given.now) id.now }
+{
+    given.get_str(id) == Some("true")
+}
+
 /// Whether JSON is asked for.
-fn as_json(given: &ArgMatches<'_>) -> bool {
+fn as_json(given: &ArgMatches<'_>) -> bool
+    ensures { result ≡ is_json (found_of given.now) }
+{
     given.get_str("format") == Some("json")
 }
 
 /// What `verify` is asked for. With a folder of profiles no profile stands before the scripts.
-fn verify_command<'a>(alloc: Global, given: &ArgMatches<'a>) -> Result<ToolCommand<'a>, NoCommand> {
+fn verify_command<'a>(alloc: Global, given: &ArgMatches<'a>) -> Result<ToolCommand<'a>, NoCommand>
+    ensures { IfOk result (λ command. (command_name command ≡ codes "verify") × Asks (found_of given.now) command) }
+{
     let mut scripts = all_of(alloc, given, "script")?;
     let profiles = match given.get_str("profiles") {
         Some(folder) => {
@@ -109,22 +133,26 @@ fn verify_command<'a>(alloc: Global, given: &ArgMatches<'a>) -> Result<ToolComma
     Ok(ToolCommand::Verify {
         profiles,
         scripts,
-        summary: given.get_flag("summary"),
+        summary: is_flag_given(given, "summary"),
     })
 }
 
 /// What `differ` is asked for.
-fn differ_command<'a>(given: &ArgMatches<'a>) -> Result<ToolCommand<'a>, NoCommand> {
+fn differ_command<'a>(given: &ArgMatches<'a>) -> Result<ToolCommand<'a>, NoCommand>
+    ensures { IfOk result (λ command. (command_name command ≡ codes "differ") × Asks (found_of given.now) command) }
+{
     Ok(ToolCommand::Differ {
         profile: required(given, "profile")?,
         other: required(given, "other")?,
-        scripts: given.get_flag("scripts"),
+        scripts: is_flag_given(given, "scripts"),
         as_json: as_json(given),
     })
 }
 
 /// How the acceptance test is to be written.
-fn test_format(given: &ArgMatches<'_>) -> TestFormat {
+fn test_format(given: &ArgMatches<'_>) -> TestFormat
+    ensures { result ≡ format_of (first_value (found_of given.now) (codes "format")) }
+{
     match given.get_str("format") {
         Some("csv") => TestFormat::Csv,
         Some("json") => TestFormat::Json,
@@ -133,7 +161,9 @@ fn test_format(given: &ArgMatches<'_>) -> TestFormat {
 }
 
 /// What `acceptance` is asked for. A comparison is written as text alone.
-fn acceptance_command<'a>(given: &ArgMatches<'a>) -> Result<ToolCommand<'a>, NoCommand> {
+fn acceptance_command<'a>(given: &ArgMatches<'a>) -> Result<ToolCommand<'a>, NoCommand>
+    ensures { IfOk result (λ command. (command_name command ≡ codes "acceptance") × Asks (found_of given.now) command) }
+{
     let profile = required(given, "profile")?;
     match (given.get_str("against"), test_format(given)) {
         (None, format) => Ok(ToolCommand::Acceptance { profile, format }),
@@ -143,27 +173,31 @@ fn acceptance_command<'a>(given: &ArgMatches<'a>) -> Result<ToolCommand<'a>, NoC
 }
 
 /// What `draw` is asked for.
-fn draw_command<'a>(given: &ArgMatches<'a>) -> Result<ToolCommand<'a>, NoCommand> {
+fn draw_command<'a>(given: &ArgMatches<'a>) -> Result<ToolCommand<'a>, NoCommand>
+    ensures { IfOk result (λ command. (command_name command ≡ codes "draw") × Asks (found_of given.now) command) }
+{
     Ok(ToolCommand::Draw {
         profile: required(given, "profile")?,
         script: required(given, "script")?,
-        html: given.get_flag("html"),
+        html: is_flag_given(given, "html"),
     })
 }
 
-/// What is asked for by arguments that clap found no fault with.
-pub fn tool_command_of<'a>(
+/// What the command of this name is asked for.
+fn command_of<'a>(
     alloc: Global,
-    matches: &ArgMatches<'a>,
-) -> Result<ToolCommand<'a>, NoCommand> {
-    let Some((name, given)) = matches.subcommand() else {
-        return Err(NoCommand::Usage);
-    };
+    name: &str,
+    given: &ArgMatches<'a>,
+) -> Result<ToolCommand<'a>, NoCommand>
+    ensures name { IfOk result (λ command. command_name command ≡ name.now) }
+    ensures asks { IfOk result (Asks (found_of given.now)) }
+{
     match name {
         "lint" => Ok(ToolCommand::Lint {
             files: all_of(alloc, given, "file")?,
             as_json: as_json(given),
         }),
+        "check-script" => Ok(ToolCommand::CheckScript(all_of(alloc, given, "script")?)),
         "verify" => verify_command(alloc, given),
         "toml" => Ok(ToolCommand::Toml(required(given, "profile")?)),
         "explain" => Ok(ToolCommand::Explain {
@@ -176,5 +210,18 @@ pub fn tool_command_of<'a>(
         "words" => Ok(ToolCommand::Words),
         "live" => Ok(ToolCommand::Live(required(given, "profile")?)),
         _ => Err(NoCommand::Usage),
+    }
+}
+
+/// What is asked for by arguments that clap found no fault with.
+pub fn tool_command_of<'a>(
+    alloc: Global,
+    matches: &ArgMatches<'a>,
+) -> Result<ToolCommand<'a>, NoCommand>
+    ensures { IfOk result (IsAskedBy matches.now) }
+{
+    match matches.subcommand() {
+        None => Err(NoCommand::Usage),
+        Some((name, given)) => command_of(alloc, name, given),
     }
 }

@@ -67,6 +67,13 @@ const LINT: [Argument; 2] = [
     FORMAT,
 ];
 
+const CHECK_SCRIPT: [Argument; 1] = [Argument {
+    id: "script",
+    given: Occurrence::Often,
+    value: "SCRIPT",
+    help: "scripts",
+}];
+
 const VERIFY: [Argument; 4] = [
     Argument {
         id: "profile",
@@ -148,12 +155,18 @@ const ACCEPTANCE: [Argument; 3] = [
 const ONE_PROFILE: [Argument; 1] = [PROFILE];
 
 /// The commands, in the order of the help.
-pub const COMMANDS: [CommandRow; 9] = [
+pub const COMMANDS: [CommandRow; 10] = [
     CommandRow {
         name: "lint",
         about: "Tells all that is wrong with profiles, and what has no effect",
         example: "Example: rt1553-tool lint pump.toml",
         arguments: &LINT,
+    },
+    CommandRow {
+        name: "check-script",
+        about: "Tells which lines of scripts are refused, where and why",
+        example: "Example: rt1553-tool check-script pump.script",
+        arguments: &CHECK_SCRIPT,
     },
     CommandRow {
         name: "verify",
@@ -194,7 +207,15 @@ pub const COMMANDS: [CommandRow; 9] = [
     CommandRow {
         name: "words",
         about: "Tells words of the bus by their fields, and fields by words",
-        example: "Example: printf 'rx 5 3 2\\nc 2862\\n' | rt1553-tool words",
+        example: "Lines:\n\
+            \x20 rx A S N, tx A S N             receive or transmit N words, 1 to 32, at subaddress S, 1 to 30\n\
+            \x20 mode A CODE [tx|rx [0|31]]     mode code CODE, 0 to 31, at subaddress 0 or 31\n\
+            \x20 status A [BIT]..               status word with these bits: error, instrumentation, service,\n\
+            \x20                                reserved1 to reserved3, broadcast, busy, subsystem, accept, terminal\n\
+            \x20 data XXXX                      data word\n\
+            \x20 c|s|d XXXX [PARITY]            command, status or data word by its digits\n\
+            A is an address, 0 to 30, or all for a command; # begins a comment.\n\n\
+            Example: printf 'rx 5 3 2\\nc 2862\\n' | rt1553-tool words",
         arguments: &[],
     },
     CommandRow {

@@ -1,0 +1,4 @@
+mod PartLaws
+mod InputLaws
+mod AnswerLaws
+mod ServedLaws

@@ -1,0 +1,90 @@
+-- What the command line asks for, by what clap found in it.
+use Rattle.std.specs.Prelude.{ℕ, ◌≡◌, ◌≢◌, Bool, false, if◌then◌else◌, codes, List, [], ◌∷◌, map, Option, Some, None, option_map}
+use Rattle.std.specs.Option.{unwrap_or}
+use Rattle.std.specs.Str.{bytes_eq}
+use Rattle.std.specs.Borrow.{Bor}
+use Rattle.clap.specs.Words.{Text, first_value, matched_of, raw_values, subcommand_name_of, subcommand_rows_of}
+use Rattle.clap.specs.Walk.{rows_of}
+use Rattle.clap.specs.declared.parser.matches.Found.{Found}
+use Rattle.clap.specs.declared.parser.matches.ArgMatches.{ArgMatches}
+use Rattle.rt1553_tool_args.specs.declared.command.ToolCommand.{ToolCommand}
+use Rattle.rt1553_tool_args.specs.declared.command.ToolCommand.TheVariants.{Lint, CheckScript, Verify, Toml, Explain, Differ, Acceptance, Against, Draw, Words, Live}
+use Rattle.rt1553_tool_args.specs.declared.command.Profiles.{Profiles}
+use Rattle.rt1553_tool_args.specs.declared.command.Profiles.TheVariants.{One, Folder}
+use Rattle.rt1553_tool_args.specs.declared.command.TestFormat.{TestFormat}
+use Rattle.rt1553_tool_args.specs.declared.command.TestFormat.TheVariants.{Script, Csv, Json}
+
+-- the texts
+abbrev pub texts_of : List (Bor (List ℕ)) → List Text
+texts_of = map (λ v. v.now)
+
+-- all values of an argument, none where it is left out
+abbrev pub all_values : Found → Text → List Text
+all_values f id = unwrap_or (option_map raw_values (matched_of f id)) []
+
+-- the first value of an argument is this text
+abbrev pub is_value : Text → Option Text → Bool
+is_value text None = false
+is_value text (Some v) = bytes_eq v text
+
+-- the argument has this value
+abbrev pub HasValue : Found → Text → Text → Type 0
+HasValue f id v = first_value f id ≡ Some v
+
+-- the flag is given
+abbrev pub is_given : Found → Text → Bool
+is_given f id = is_value (codes "true") (first_value f id)
+
+-- JSON is asked for
+abbrev pub is_json : Found → Bool
+is_json f = is_value (codes "json") (first_value f (codes "format"))
+
+-- the argument, if it is there, before the others
+abbrev pub first_and_rest : Option Text → List Text → List Text
+first_and_rest None rest = rest
+first_and_rest (Some first) rest = first ∷ rest
+
+-- How the scripts of `verify` are played, and which they are. With a folder no profile stands before the scripts, so the first word is
+-- a script.
+abbrev pub PlaysTo : Found → Profiles → List Text → Type 0
+PlaysTo f (One p) scripts = (first_value f (codes "profiles") ≡ None) × HasValue f (codes "profile") p.now × (scripts ≡ all_values f (codes "script"))
+PlaysTo f (Folder folder) scripts = HasValue f (codes "profiles") folder.now × (scripts ≡ first_and_rest (first_value f (codes "profile")) (all_values f (codes "script")))
+
+-- how the test is to be written
+abbrev pub format_of : Option Text → TestFormat
+format_of o = if is_value (codes "csv") o then Csv else if is_value (codes "json") o then Json else Script
+
+-- the name of a command
+abbrev pub command_name : ToolCommand → Text
+command_name (Lint files json) = codes "lint"
+command_name (CheckScript scripts) = codes "check-script"
+command_name (Verify profiles scripts summary) = codes "verify"
+command_name (Toml p) = codes "toml"
+command_name (Explain p json) = codes "explain"
+command_name (Differ p q scripts json) = codes "differ"
+command_name (Acceptance p format) = codes "acceptance"
+command_name (Against p results) = codes "acceptance"
+command_name (Draw p script html) = codes "draw"
+command_name Words = codes "words"
+command_name (Live p) = codes "live"
+
+-- what a command says of its arguments
+abbrev pub Asks : Found → ToolCommand → Type 0
+Asks f (Lint files json) = (texts_of files.items ≡ all_values f (codes "file")) × (json ≡ is_json f)
+Asks f (CheckScript scripts) = texts_of scripts.items ≡ all_values f (codes "script")
+Asks f (Verify profiles scripts summary) = PlaysTo f profiles (texts_of scripts.items) × (scripts.items ≢ []) × (summary ≡ is_given f (codes "summary"))
+Asks f (Toml p) = HasValue f (codes "profile") p.now
+Asks f (Explain p json) = HasValue f (codes "profile") p.now × (json ≡ is_json f)
+Asks f (Differ p q scripts json) = HasValue f (codes "profile") p.now × HasValue f (codes "other") q.now × (scripts ≡ is_given f (codes "scripts")) × (json ≡ is_json f)
+Asks f (Acceptance p format) = HasValue f (codes "profile") p.now × (first_value f (codes "against") ≡ None) × (format ≡ format_of (first_value f (codes "format")))
+Asks f (Against p results) = HasValue f (codes "profile") p.now × HasValue f (codes "against") results.now × (format_of (first_value f (codes "format")) ≡ Script)
+Asks f (Draw p script html) = HasValue f (codes "profile") p.now × HasValue f (codes "script") script.now × (html ≡ is_given f (codes "html"))
+Asks f Words = Unit {0}
+Asks f (Live p) = HasValue f (codes "profile") p.now
+
+-- clap met the subcommand of this command, with these arguments
+pub record IsAskedBy (m : ArgMatches) (command : ToolCommand) : Type 0 where
+  pub found : Found
+  pub name : subcommand_name_of m ≡ Some (command_name command)
+  pub rows : option_map (λ p. p.1) (subcommand_rows_of m) ≡ Some (rows_of found)
+  pub asks : Asks found command
