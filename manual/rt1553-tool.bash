@@ -3,7 +3,7 @@ _rt1553_tool() {
     local now=${COMP_WORDS[COMP_CWORD]} before=${COMP_WORDS[COMP_CWORD - 1]} flags='' kinds=() many='' count=0 index kind
     COMPREPLY=()
     if ((COMP_CWORD == 1)); then
-        mapfile -t COMPREPLY < <(compgen -W 'lint verify toml explain differ acceptance draw words live --help --version' -- "$now")
+        mapfile -t COMPREPLY < <(compgen -W 'lint check-script verify toml explain differ acceptance draw words live --help --version' -- "$now")
         return
     fi
     case ${COMP_WORDS[1]}:$before in
@@ -16,6 +16,7 @@ _rt1553_tool() {
     esac
     case ${COMP_WORDS[1]} in
         lint) flags='--format --help' kinds=(profile) many='profile' ;;
+        check-script) flags='--help' kinds=(script) many='script' ;;
         verify) flags='--summary --profiles --help' kinds=(profile script) many='script' ;;
         toml) flags='--help' kinds=(profile) many='' ;;
         explain) flags='--format --help' kinds=(profile) many='' ;;

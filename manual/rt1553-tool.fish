@@ -5,6 +5,8 @@ complete -c rt1553-tool -n __fish_use_subcommand -l version -d 'tells the versio
 complete -c rt1553-tool -n __fish_use_subcommand -a lint -d 'Tells all that is wrong with profiles, and what has no effect'
 complete -c rt1553-tool -n '__fish_seen_subcommand_from lint' -l format -x -a 'text json' -d 'how it is written'
 complete -c rt1553-tool -n '__fish_seen_subcommand_from lint' -F
+complete -c rt1553-tool -n __fish_use_subcommand -a check-script -d 'Tells which lines of scripts are refused, where and why'
+complete -c rt1553-tool -n '__fish_seen_subcommand_from check-script' -F
 complete -c rt1553-tool -n __fish_use_subcommand -a verify -d 'Tells where a terminal doesn\'t answer as scripts state'
 complete -c rt1553-tool -n '__fish_seen_subcommand_from verify' -l summary -d 'tells what passes too, clause by clause'
 complete -c rt1553-tool -n '__fish_seen_subcommand_from verify' -l profiles -x -a '(__fish_complete_directories)' -d 'no P: each script names its profile of FOLDER'

@@ -4,6 +4,7 @@ _rt1553_tool() {
     local -a commands
     commands=(
         'lint:Tells all that is wrong with profiles, and what has no effect'
+        'check-script:Tells which lines of scripts are refused, where and why'
         'verify:Tells where a terminal doesn'\''t answer as scripts state'
         'toml:Writes a small profile that means the same terminal'
         'explain:Tells what a terminal does, as a table'
@@ -23,6 +24,7 @@ _rt1553_tool() {
     ((CURRENT--))
     case $command in
         lint) _arguments '--help[tells what the command takes]' '--format[how it is written]:format:(text json)' '*:P:_files -g "*.(toml|rt1553)(-.)"' ;;
+        check-script) _arguments '--help[tells what the command takes]' '*:SCRIPT:_files -g "*.(script)(-.)"' ;;
         verify) _arguments '--help[tells what the command takes]' '--summary[tells what passes too, clause by clause]' '(1)--profiles[no P\: each script names its profile of FOLDER]:FOLDER:_files -/' '(--profiles)1:P:_files -g "*.(toml|rt1553)(-.)"' '*:SCRIPT:_files -g "*.(script)(-.)"' ;;
         toml) _arguments '--help[tells what the command takes]' '1:P:_files -g "*.(toml|rt1553)(-.)"' ;;
         explain) _arguments '--help[tells what the command takes]' '--format[how it is written]:format:(text json)' '1:P:_files -g "*.(toml|rt1553)(-.)"' ;;

@@ -135,7 +135,7 @@ rt1553 check .|a.toml b.rt1553 sub
 rt1553 run a.toml .|c.script sub
 rt1553 run a.toml c.script .|
 rt1553 compare a.toml .|a.toml b.rt1553 sub
-rt1553-tool .|--help --version acceptance differ draw explain lint live toml verify words
+rt1553-tool .|--help --version acceptance check-script differ draw explain lint live toml verify words
 rt1553-tool l|lint live
 rt1553-tool lint a.toml .|a.toml b.rt1553 sub
 rt1553-tool lint --|--format --help

@@ -109,24 +109,30 @@ summary_rows() {
     script strange '# Profile: seven.toml\nA gap\n'
     script broken '# Profile: five.toml\n# Plan: 5.2.3\nslot \n'
     input ''
-    row 'a summary' 0 'one: passed (1 answers)\n5.2.2: 1 of 1 scripts pass\n5.2.10: 1 of 1 scripts pass\nall: 1 of 1 scripts pass\n' '' \
+    row 'a summary' 0 'one: passed (1 answers)\nclause 5.2.2: 1 of 1 scripts pass\nclause 5.2.10: 1 of 1 scripts pass\nall: 1 of 1 scripts pass\n' '' \
         verify --summary folder/five.toml one
     row 'each script names its profile' 0 '' '' verify --profiles folder one two
     row 'a summary over two profiles' 1 \
-        'one: passed (1 answers)\ntwo: passed (2 answers)\nwrong:5: expected A s 2c00, came A s 2800\nwrong: 1 differ\n5.2.2: 1 of 2 scripts pass\n5.2.10: 1 of 1 scripts pass\n30.1: 1 of 1 scripts pass\nall: 2 of 3 scripts pass\n' '' \
+        'one: passed (1 answers)\ntwo: passed (2 answers)\nwrong:5: expected A s 2c00, came A s 2800\nwrong: 1 differ\nclause 5.2.2: 1 of 2 scripts pass\nclause 5.2.10: 1 of 1 scripts pass\nclause 30.1: 1 of 1 scripts pass\nall: 2 of 3 scripts pass\n' '' \
         verify --summary --profiles folder one two wrong
     row 'a script that names no profile' 2 '' "bare: script: no line '# Profile: NAME' at its front\n" verify --profiles folder bare one
     row 'a profile that is named behind an event' 2 '' "late: script: no line '# Profile: NAME' at its front\n" verify --profiles folder late
     row 'a named profile that is not there' 4 '' 'file: cannot read folder/seven.toml\n' verify --profiles folder strange
     row 'a summary of scripts that are refused' 4 \
-        'no clause: 0 of 1 scripts pass\n5.2.3: 0 of 1 scripts pass\nall: 0 of 2 scripts pass\n' \
-        'broken: script: line 3\nfile: cannot read none\n' verify --summary --profiles folder broken none
+        'clause 5.2.3: 0 of 1 scripts pass\nno clause: 0 of 1 scripts pass\nall: 0 of 2 scripts pass\n' \
+        'broken: script: line 3, column 5: a space at the end: nothing stands behind the last field\nfile: cannot read none\n' verify --summary --profiles folder broken none
     row 'no script is named' 3 '' 'arguments: see --help\n' verify --profiles folder
+    script list '# Profile: five.toml\n# Plan: 1, 1, 2, ,all\n'
+    row 'a clause named twice, an empty one, and one called all' 0 \
+        'list: passed (0 answers)\nclause 1: 1 of 1 scripts pass\nclause 2: 1 of 1 scripts pass\nclause all: 1 of 1 scripts pass\nall: 1 of 1 scripts pass\n' '' \
+        verify --summary --profiles folder list
+    script outside '# Profile: ../five\n'
+    row 'a profile outside of the folder' 2 '' 'outside: script: the profile that it names is outside the folder\n' verify --profiles folder outside
     # the protocol tests, by the command that their page tells
     (cd "$top" && "$program" verify --summary --profiles examples/validation/profiles examples/validation/{scripts,choices}/*.script) \
         >"$work/stdout" 2>"$work/stderr" </dev/null && [[ ! -s $work/stderr ]] &&
         [[ $(tail -n 1 "$work/stdout") == 'all: 154 of 154 scripts pass' ]] &&
-        grep -q '^5.2.1.1.1: 9 of 9 scripts pass$' "$work/stdout"
+        grep -q '^clause 5.2.1.1.1: 9 of 9 scripts pass$' "$work/stdout"
     count 'a summary of the protocol tests' $?
 }
 
@@ -151,15 +157,15 @@ verify_rows() {
     row 'two events differ' 1 'wrong:3: expected A s 2c00, came A s 2800\nwrong:5: expected A d 0000, came nothing\nwrong: 2 differ\n' '' \
         verify five good wrong good
     row 'an answer that is not stated' 1 'silent:3: expected nothing, came A s 2800\nsilent: 1 differ\n' '' verify five silent
-    row 'a line of no script' 2 '' 'refused: script: line 3\n' verify five refused
-    row 'a line that is too long' 2 '' 'long: script: line 2 is too long\n' verify five long
+    row 'a line of no script' 2 '' 'refused: script: line 3, column 5: a space at the end: nothing stands behind the last field\n' verify five refused
+    row 'a line that is too long' 2 '' 'long: script: line 2, column 65: over 64 bytes before the line feed\n' verify five long
     row 'an answer without an event' 2 '' 'first: script: line 1: not behind the event that it answers\n' verify five first
     row 'two answers to an event' 2 '' 'twice: script: line 5: not behind the event that it answers\n' verify five twice
     row 'an answer to a word' 2 '' 'word: script: line 2: not behind the event that it answers\n' verify five word
     row 'a word that is sent at a gap' 2 '' 'hand: script: line 3: not behind the event that it answers\n' verify five hand
     row 'what is handed over in a slot' 2 '' 'slot: script: line 4: not behind the event that it answers\n' verify five slot
     row 'an answer goes on that was not begun' 2 '' 'on: script: line 4: not behind the event that it answers\n' verify five on
-    row 'a refused script, and others' 2 'silent:3: expected nothing, came A s 2800\nsilent: 1 differ\n' 'refused: script: line 3\n' \
+    row 'a refused script, and others' 2 'silent:3: expected nothing, came A s 2800\nsilent: 1 differ\n' 'refused: script: line 3, column 5: a space at the end: nothing stands behind the last field\n' \
         verify five refused silent
     row 'a script that is not there' 4 '' 'file: cannot read none\n' verify five none good
     row 'a profile that is not there' 4 '' 'file: cannot read none\n' verify none good
@@ -170,6 +176,84 @@ verify_rows() {
     row 'as many lines as may be' 0 '' '' verify five lines
     echo >>"$work/lines"
     row 'too many lines' 2 '' 'lines: script: too many lines\n' verify five lines
+}
+
+# a line that is refused, each for another reason: where it stops being a line of a script, and why
+refused_row() {
+    script refused "slot\n$1\n"
+    row "check-script: $1" 2 "refused:2:$2: error: $3\n" '' check-script refused
+    row "verify: $1" 2 '' "refused: script: line 2, column $2: $3\n" verify five refused
+    row "draw: $1" 2 '' "refused: script: line 2, column $2: $3\n" draw five refused
+}
+
+check_script_rows() {
+    local line
+    printf 'address = 5\n' >"$work/five"
+    input ''
+    refused_row 'A gap\r' 6 'a carriage return: a line ends in a line feed alone'
+    refused_row '\r' 1 'a carriage return: a line ends in a line feed alone'
+    refused_row '\xef\xbb\xbfA gap' 1 'a byte order mark: save the file as UTF-8 without it'
+    refused_row 'A gap ' 6 'a space at the end: nothing stands behind the last field'
+    refused_row 'A  gap' 3 'a second space: fields are separated by exactly one'
+    refused_row ' A gap' 1 'a space at the front: a line begins with its first field'
+    refused_row 'A\tgap' 2 'a tab: fields are separated by one space'
+    refused_row 'A gap # the end' 7 'a comment behind a field: a comment is a line of its own'
+    refused_row 'A c 0x2862' 6 'a word is four hexadecimal digits, without a mark'
+    refused_row 'A c 2862h' 9 'a word is four hexadecimal digits, without a mark'
+    refused_row 'A c 862' 8 'a word is four hexadecimal digits, without a mark'
+    refused_row 'A d' 4 'a word is four hexadecimal digits, without a mark'
+    refused_row 'vector 1' 9 'a word is four hexadecimal digits, without a mark'
+    refused_row 'write 3 2 00bb' 7 'a subaddress is two digits, 01 to 30'
+    refused_row 'write 31 01 0000' 7 'a subaddress is two digits, 01 to 30'
+    refused_row 'write' 6 'a subaddress is two digits, 01 to 30'
+    refused_row 'write 03 00 0000' 10 'the number of a word is two digits, 01 to 32'
+    refused_row 'write 03 33 0000' 10 'the number of a word is two digits, 01 to 32'
+    refused_row 'write 03 02 00b' 16 'a word is four hexadecimal digits, without a mark'
+    refused_row 'a c 2862' 1 'names have one spelling: A, B, slot, write, vector, bit, flag, c, d, gap, noise'
+    refused_row 'A C 2862' 3 'names have one spelling: A, B, slot, write, vector, bit, flag, c, d, gap, noise'
+    refused_row 'A Gap' 3 'names have one spelling: A, B, slot, write, vector, bit, flag, c, d, gap, noise'
+    refused_row 'C gap' 1 'no event begins so: A, B, slot, write, vector, bit, flag'
+    refused_row 'A' 2 'wanted behind a bus: c, d, gap or noise'
+    refused_row 'A gup' 3 'wanted behind a bus: c, d, gap or noise'
+    refused_row 'A s 2800' 3 "the terminal's own words are no events; the status word of another terminal is written as a word with c"
+    refused_row 'A c 2862 2' 10 'a parity bit is 0 or 1'
+    refused_row 'A c 2862 1 1' 11 'nothing stands behind the last field'
+    refused_row 'slot 1' 5 'nothing stands behind the last field'
+    refused_row 'bit 0001 0' 9 'nothing stands behind the last field'
+    refused_row 'flag' 5 'a flag is service, busy, subsystem or terminal'
+    refused_row 'flag bussy 1' 6 'a flag is service, busy, subsystem or terminal'
+    refused_row 'flag busy' 10 'a flag is set by 1 and taken back by 0'
+    refused_row 'flag busy on' 11 'a flag is set by 1 and taken back by 0'
+    line=$(printf '#%064d' 0)
+    refused_row "$line" 65 'over 64 bytes before the line feed'
+    script good 'A c 2c02\n\n# a comment\nA gap\nslot'
+    script more 'A gup\nslot\nB gap \nslot'
+    row 'check-script: no line is refused' 0 '' '' check-script good
+    row 'check-script: each line, each script' 4 \
+        'more:1:3: error: wanted behind a bus: c, d, gap or noise\nmore:3:6: error: a space at the end: nothing stands behind the last field\n' \
+        'file: cannot read none\n' check-script good none more
+    # it refuses what `run` refuses
+    for line in examples/scripts/*.script examples/validation/scripts/*.script tests/vectors/scripts/*.script; do
+        "$rt1553" run "$work/five" "$line" >/dev/null 2>&1 </dev/null
+        local ran=$?
+        "$program" check-script "$line" >"$work/stdout" 2>"$work/stderr" </dev/null
+        [[ $? -eq $ran && ! -s $work/stderr ]]
+        count "check-script: ${line#"$top"/}" $?
+    done
+    if [[ -c /dev/full ]]; then
+        "$program" lint none "$work/more" "$work/more" >/dev/full 2>"$work/stderr" </dev/null
+        [[ $? -eq 4 && $(grep -c 'output: write failed' "$work/stderr") -eq 1 ]]
+        count 'a failed write is told once' $?
+    fi
+}
+
+# nothing raw reaches a terminal
+hostile_row() {
+    local line
+    line=$(python3 scripts/hostile.py "$program" "$rt1553" 2>&1 | tee "$work/hostile" | tail -n 1)
+    [[ $line == *' passed, 0 failed' ]] || head -n 20 "$work/hostile"
+    [[ $line == *' passed, 0 failed' ]]
+    count "hostile texts: $line" $?
 }
 
 # the TOML of a profile means the same terminal: its canonical text is that of the profile
@@ -213,6 +297,9 @@ live_rows() {
     row 'live: a refused line changes nothing' 0 '.\n? no line of a script\n.\n.\n.\n.\nA s 2800\n.\n' '' live five
     input 'A c 2c02\nA g\377p\nA gap\nslot\n'
     row 'live: a line that is no text' 0 '.\n? no line of a script\n.\n.\nA s 2800\n.\n' '' live five
+    { printf '#%63s\n' ''; printf '#%64s\nA c 2c02\nA gap\nslot\n' ''; } >"$work/stdin"
+    row 'live: lines of 64 and of 65 bytes' 0 '.\n? no line of a script\n.\n.\n.\nA s 2800\n.\n' '' live five
+    row_of_one_long_line 'live: a line of 200 MB takes no memory' '? no line of a script\n.\n? no line of a script\n.\n' live five
     input ''
     row 'live: no lines' 0 '' '' live five
     yes 'slot' | head -n 1500000 | "$program" live "$work/five" | cksum >"$work/given"
@@ -228,6 +315,19 @@ live_rows() {
     count 'live: a terminal transmits to another one' $?
 }
 
+# a line of 200 MB, and a line behind it, in 64 MiB of memory: row_of_one_long_line NAME OUTPUT WORD..
+row_of_one_long_line() {
+    local name=$1 output=$2
+    shift 2
+    (
+        cd "$work" || exit 1
+        ulimit -v 65536
+        { head -c 200000000 /dev/zero | tr '\0' x; printf '\nrx 5 3 2\n'; } | "$program" "$@" >stdout 2>stderr
+        [[ ! -s stderr && $(cat stdout) == "$(printf %b "$output")" ]]
+    )
+    count "$name" $?
+}
+
 # words of the bus by their fields, and back
 bus_word_rows() {
     local kind
@@ -239,11 +339,26 @@ bus_word_rows() {
         '# so\n\nrx 5 3 2\nrx 5 3 2\nmode 5 19 tx # transmit BIT word\nmode all 1 tx # synchronize\nmode 5 1 tx 31 # synchronize\nmode 5 9 rx # always illegal\nstatus 5 error busy\nstatus 5 instrumentation reserved1 reserved2 reserved3 terminal\ndata 1234\nc fbc1 1\n' '' words
     input 'c 2862 1\nrx 32 3 2\nrx 5 31 2\nrx 5 3 33\nrx 5 3\nmode 5 9\nmode 5 32\nmode 5 1 tx 30\nstatus 5 none\nx\nc 286\nc 2862 0 x\nrx 5 3 2\n\377\n'
     row 'words that are refused' 1 \
-        "? the parity bit is wrong: the word isn't valid\n? an address is 0 to 30, or all\n? a subaddress is 1 to 30\n? a count is 1 to 32\n? a count is 1 to 32\n? tx or rx is wanted behind a mode code that has no row in the table\n? a mode code is 0 to 31\n? the subaddress of a mode code is 0 or 31\n? a status has error, instrumentation, service, reserved1 to 3, broadcast, busy, subsystem, accept, terminal\n? a line begins with rx, tx, mode, status, data, c, s or d\n? a word is four hexadecimal digits\n? too much in a line\nc 2862 0\n? a line begins with rx, tx, mode, status, data, c, s or d\n" '' words
-    # each word by its fields, and back
+        "? the parity bit is wrong: the word isn't valid\n? an address is 0 to 30, or all for a command\n? a subaddress is 1 to 30\n? a count is 1 to 32\n? a count is 1 to 32\n? tx or rx is wanted behind a mode code that has no row in the table\n? a mode code is 0 to 31\n? the subaddress of a mode code is 0 or 31\n? a status has error, instrumentation, service, reserved1 to 3, broadcast, busy, subsystem, accept, terminal\n? a line begins with rx, tx, mode, status, data, c, s or d\n? a word is four hexadecimal digits\n? too much in a line\nc 2862 0\n? a line begins with rx, tx, mode, status, data, c, s or d\n" '' words
+    input 'rx 31 3 2\nstatus 31\nstatus all\nmode 31 2\ns f800\ns f801 1\nstatus 31 # no terminal has this address\nstatus 5 busy busy\nrx\t5 3  2\r\n'
+    row 'words: the address 31' 1 \
+        '? an address is 0 to 30, or all for a command\n? an address is 0 to 30, or all for a command\n? an address is 0 to 30, or all for a command\n? an address is 0 to 30, or all for a command\nstatus 31 # no terminal has this address\nstatus 31 terminal # no terminal has this address\n? an address is 0 to 30, or all for a command\ns 2808 0\nc 2862 0\n' '' words
+    input '# \033[31m\177\t\r\n# \303\244 \342\200\256\377 \\ end\n#\n'
+    row 'words: nothing raw is written back' 0 \
+        '# \\x1b[31m\\x7f\\x09\\x0d\n# \\xc3\\xa4 \\xe2\\x80\\xae\\xff \\ end\n#\n' '' words
+    # lines of 128 and of 129 bytes, and a last line without its line feed
+    { printf 'rx 5 3 2%120s\n' ''; printf 'rx 5 3 2%121s\n' ''; printf '#%127s\n' ''; printf '#%128s\n' ''; printf 'rx 5 3 2'; } >"$work/stdin"
+    row 'words: long lines' 1 "c 2862 0\n? a line has at most 128 bytes\n#$(printf '%127s' '')\n? a line has at most 128 bytes\nc 2862 0\n" '' words
+    row_of_one_long_line 'words: a line of 200 MB takes no memory' '? a line has at most 128 bytes\nc 2862 0\n' words
+    # each word by its fields, and back; of a status word but those with the address 31, which are refused
     for kind in c s d; do
         # shellcheck disable=SC2046
         printf "$kind %04x\n" $(seq 0 65535) >"$work/all"
+        if [[ $kind == s ]]; then
+            [[ $(tail -n 2048 "$work/all" | "$program" words | "$program" words | grep -c '^? ') -eq 2048 ]]
+            count 'no status word that can be said has the address 31' $?
+            head -n 63488 "$work/all" >"$work/most" && mv "$work/most" "$work/all"
+        fi
         "$program" words <"$work/all" 2>"$work/stderr" | "$program" words 2>>"$work/stderr" | cut -c 1-6 | cmp -s - "$work/all" && [[ ! -s $work/stderr ]]
         count "each word behind $kind, and back" $?
     done
@@ -254,12 +369,12 @@ explain_rows() {
     input ''
     printf 'address = 5\n' >"$work/five"
     row 'the smallest profile explained' 0 \
-        'remote terminal 5\nbroadcast: not heard\nwraparound: none\n\nno word count is legal at any subaddress\n\nmode codes\n2: transmit status word\n4: transmitter shutdown\n5: override transmitter shutdown\n8: reset remote terminal\n' '' explain five
+        'remote terminal 5\nbroadcast:   not heard\nwraparound:  none\n\nno word count is legal at any subaddress\n\nmode codes\n 2: transmit status word\n 4: transmitter shutdown\n 5: override transmitter shutdown\n 8: reset remote terminal\n' '' explain five
     row 'the same as JSON' 0 \
         '{"address":5,"broadcast":false,"wraparound":null,"accept_bus_control":null,"vector":null,"bit":null,"subaddresses":[],"mode_codes":[{"code":2,"name":"transmit status word"},{"code":4,"name":"transmitter shutdown"},{"code":5,"name":"override transmitter shutdown"},{"code":8,"name":"reset remote terminal"}],"broadcast_mode_codes":[]}\n' '' explain --format json five
     printf 'address = 6\nbroadcast = true\naccept_bus_control = true\nbit = 0x1234\n[[rule]]\ndirection = "both"\nsubaddresses = "1-3,30"\ncounts = "1-4,32"\n[[rule]]\nto = "broadcast"\ndirection = "receive"\nsubaddresses = 2\n[[mode]]\ncodes = "0,19"\n[[mode]]\nto = "broadcast"\ncodes = 1\n[[initial]]\nsubaddress = 3\nwords = [0, 0x0301]\n' >"$work/six"
     row 'a profile explained' 0 \
-        'remote terminal 6\nbroadcast: heard\nwraparound: at subaddress 30\nbus control: accepted\nBIT word: 1234\n\nsubaddresses    receive         transmit        broadcast receive\n1,3,30          1-4,32          1-4,32          -\n2               1-4,32          1-4,32          1-32\n\nwords at power-up\n3: 0000 0301\n\nmode codes\n0: dynamic bus control\n2: transmit status word\n4: transmitter shutdown\n5: override transmitter shutdown\n8: reset remote terminal\n19: transmit BIT word\n\nmode codes by broadcast\n1: synchronize\n' '' explain six
+        'remote terminal 6\nbroadcast:   heard\nwraparound:  at subaddress 30\nbus control: accepted\nBIT word:    1234\n\nsubaddresses    receive         transmit        broadcast receive\n1,3,30          1-4,32          1-4,32          -\n2               1-4,32          1-4,32          1-32\n\nwords at power-up\n 3: 0000 0301\n\nmode codes\n 0: dynamic bus control\n 2: transmit status word\n 4: transmitter shutdown\n 5: override transmitter shutdown\n 8: reset remote terminal\n19: transmit BIT word\n\nmode codes by broadcast\n 1: synchronize\n' '' explain six
     row 'another format' 3 '' "$(cd "$work" && "$program" explain --format none six 2>&1 >/dev/null | sed 's/\\/\\\\/g')\n" explain --format none six
     row 'a refused profile explained' 2 '' 'stdin: profile: root: address is missing\n' explain stdin
     # each profile has as JSON what Python reads, and the counts of its canonical text
@@ -278,9 +393,15 @@ differ_rows() {
     row 'the same as JSON' 0 '[]\n' '' differ --format json five five
     row 'another address' 1 'address: 5 in five, 6 in six\n' '' differ five six
     row 'word counts and a mode code' 1 \
-        'receive 3: counts 5-8 legal in eight alone\nmode code 16 (transmit vector word): legal in four alone\n' '' differ eight four
+        'receive 3:                           counts 5-8 legal in eight alone\nmode code 16 (transmit vector word): legal in four alone\n' '' differ eight four
+    printf 'address = 5\n[[rule]]\ndirection = "receive"\nsubaddresses = 3\ncounts = "9"\n[[rule]]\ndirection = "transmit"\nsubaddresses = "1,3,5,7,9,11,13,15"\ncounts = "2"\n' >"$work/nine"
+    printf 'address = 5\n[[rule]]\ndirection = "receive"\nsubaddresses = 3\ncounts = "10"\n[[rule]]\ndirection = "transmit"\nsubaddresses = "1,3,5,7,9,11,13,15"\ncounts = "3-4"\n' >"$work/ten"
+    row 'word counts of both' 1 \
+        'receive 3:                   counts 9 → 10\ntransmit 1,3,5,7,9,11,13,15: counts 2 in nine, 3-4 in ten\n' '' differ nine ten
+    row 'columns as wide as they have to be' 0 \
+        'remote terminal 5\nbroadcast:   not heard\nwraparound:  none\n\nsubaddresses      receive         transmit        broadcast receive\n1,5,7,9,11,13,15  -               2               -\n3                 9               2               -\n\nmode codes\n 2: transmit status word\n 4: transmitter shutdown\n 5: override transmitter shutdown\n 8: reset remote terminal\n' '' explain nine
     row 'word counts with their script' 1 \
-        'receive 3: counts 5-8 legal in eight alone\n    A c 2865\n    A d 0000\n    A d 0000\n    A d 0000\n    A d 0000\n    A d 0000\n    A gap\n    slot\nmode code 16 (transmit vector word): legal in four alone\n    A c 2c10\n    A gap\n    slot\n' '' differ --scripts eight four
+        'receive 3:                           counts 5-8 legal in eight alone\n    A c 2865\n    A d 0000\n    A d 0000\n    A d 0000\n    A d 0000\n    A d 0000\n    A gap\n    slot\nmode code 16 (transmit vector word): legal in four alone\n    A c 2c10\n    A gap\n    slot\n' '' differ --scripts eight four
     row 'word counts as JSON' 1 \
         '[{"what":"address","subaddresses":[],"numbers":[],"first":"5","second":"6","script":["A c 2c02","A gap","slot"]}]\n' '' differ --scripts --format json five six
     row 'a profile that is not there' 4 '' 'file: cannot read none\n' differ five none
@@ -312,6 +433,14 @@ lint_rows() {
     row 'lint: a canonical text that is refused' 2 'canonical:3:1: error: canonical text: line 3\n' '' lint canonical
     { echo 'address = 5'; yes '# a comment' | head -n 4996; printf '[[rule]]\ndirection = "up"\nsubaddresses = 1\n'; } >"$work/far"
     row 'lint: a fault far down' 2 'far:4999:1: error: profile: rule 1: direction is out of range: "up"; allowed is "receive", "transmit" or "both"\n' '' lint far
+    printf 'address = 5\nzeta = 1\nalpha = 2\n' >"$work/order"
+    row 'lint: unknown keys, the first of the text first' 2 'order:2:1: error: profile: root: unknown key "zeta", "alpha"; known are address, broadcast, wraparound, accept_bus_control, vector, bit, rule, mode, initial\n' '' lint order
+    { printf 'address = 5\n[[mode]]\ncodes = 17\n'; for path in m l k j i h g f e d c b a; do echo "$path = 1"; done; } >"$work/lot"
+    row 'lint: more unknown keys than are told' 2 'lot:4:1: error: profile: mode 1: unknown key "m", "a", "b", "c", "d", "e", "f", "g", "h", "i", .. and 3 more; known are to, codes, legal\n' '' lint lot
+    printf 'address = 5\n\t broadcast = 3\n' >"$work/blanks"
+    row 'lint: blanks before a key' 2 'blanks:2:3: error: profile: root: broadcast has the wrong kind: 3; allowed is true or false\n' '' lint blanks
+    python3 tests/tool/lint/shown.py "$program"
+    count 'lint: nothing raw is shown' $?
     printf 'address = 5\nvector = 7\n' >"$work/idle"
     row 'lint: a word that no mode code asks for' 1 'idle:2:1: warning: vector has no effect: mode code 16 is not legal\n' '' lint idle
     printf 'address = 5\n\n[[rule]]\ndirection = "receive"\nsubaddresses = 1\nlegal = false\n' >"$work/first"
@@ -352,7 +481,8 @@ draw_rows() {
     [[ $line == *' passed, 0 failed' ]] || cat "$work/drawings"
     [[ $line == *' passed, 0 failed' ]]
     count 'drawings' $?
-    row 'draw: a script that is refused' 2 '' 'refused: script: line 3\n' draw five refused
+    script refused 'A c 2c02\nA gap\nslot \n'
+    row 'draw: a script that is refused' 2 '' 'refused: script: line 3, column 5: a space at the end: nothing stands behind the last field\n' draw five refused
     yes 'slot' | head -n 4096 >"$work/stdin"
     cp "$work/stdin" "$work/most"
     (cd "$work" && "$program" draw five most >stdout 2>stderr) && [[ ! -s $work/stderr ]] && tail -n 1 "$work/stdout" | grep -q '</svg>'
@@ -390,7 +520,7 @@ word_rows() {
     input ''
     (cd "$work" && "$program" --version >stdout 2>stderr) && [[ $(cat "$work/stdout") == 'rt1553-tool 0.1 (canonical text 2)' && ! -s $work/stderr ]]
     count '--version' $?
-    for word in lint verify toml explain differ acceptance draw words live; do
+    for word in lint check-script verify toml explain differ acceptance draw words live; do
         "$program" "$word" --help >"$work/stdout" 2>"$work/stderr" </dev/null && grep -q '^Example: ' "$work/stdout" && [[ ! -s $work/stderr ]]
         count "$word --help" $?
         [[ $word == words ]] && continue
@@ -414,6 +544,8 @@ for program in "$@"; do
     rt1553=${rt1553%-tool}
     verify_rows
     summary_rows
+    check_script_rows
+    hostile_row
     validation
     toml_rows
     bus_word_rows

@@ -5,16 +5,20 @@ use bus_legal::{Legality, RuleList, normalise, setup_of};
 use bus_profile::read_profile;
 use bus_terminal::{Answer, Event, Terminal, WordPlace};
 use bus_word::{Bus, Cell, Command, Kind, Raw, cell_of};
+use drawing_boxes::Caption;
 use line_format::{FieldKind, Lines, bit_line, put_number_line};
 use profile_types::{Entries, Numbers, Rule};
+use refused_lines::{misfit_of, refused_lines};
 use rt1553::{canonical, load};
 use rt1553_acceptance::label_of;
 use rt1553_differ::{differences, explain};
 use rt1553_draw::draw;
+use rt1553_files::escaped;
 use rt1553_lint::lint;
 use rt1553_results::{compare_results, read_results};
 use rt1553_tool::{read_word_line, toml_of};
 use rt1553_verify::verify;
+use spare_entries::{Setting, is_spare_setting};
 use std::test::Fail;
 use terminal_exchanges::{events_of, transmit};
 use terminal_state::{Decoded, GapEnd, InProgress};
@@ -211,5 +215,39 @@ fn a_drawing(rt: HostRuntime) -> Result<(), Fail> {
     let normal = load(rt.alloc(), b"address = 5")?;
     let svg = draw(rt.alloc(), &normal, b"A c 2c02\nA gap\nslot\n")?;
     assert!(rt; !svg.as_str().is_empty());
+    Ok(())
+}
+
+#[test]
+fn a_box(rt: HostRuntime) {
+    let caption = Caption::of_word(Raw::of(Kind::Com, 0x2c02), false);
+    let width = caption.width();
+    assert!(rt; 80 < width);
+}
+
+#[test]
+fn lines_that_are_refused(rt: HostRuntime) -> Result<(), Fail> {
+    let found = refused_lines(rt.alloc(), b"slot\nA gup\n")?;
+    let misfit = misfit_of(b"A gup");
+    let first = found.as_slice().first();
+    assert_eq!(rt; first.map(|refused| refused.line), Some(2));
+    assert_eq!(rt; misfit.map(|misfit| misfit.column), Some(3));
+    Ok(())
+}
+
+#[test]
+fn texts_that_are_printed(rt: HostRuntime) -> Result<(), Fail> {
+    let shown = escaped(rt.alloc(), b"a\x1bb\n")?;
+    assert_eq!(rt; shown.as_str(), "a\\u{1b}b\\n");
+    Ok(())
+}
+
+#[test]
+fn a_key_without_effect(rt: HostRuntime) -> Result<(), Fail> {
+    let Ok(profile) = read_profile(rt.alloc(), b"address = 5\nvector = 7\n") else {
+        panic!(rt; "the profile is refused");
+    };
+    let spare = is_spare_setting(rt.alloc(), &profile, Setting::Vector)?;
+    assert!(rt; spare);
     Ok(())
 }
