@@ -1,53 +1,76 @@
 //! Why a line is no line of a script.
-ghost use Rattle.std.specs.Prelude.{◌↔◌, ◌<◌, ◌≤◌, IfSome, IsNone, IsOk, length, suc};
-ghost use Rattle.script_lines.specs.Line.{meaning};
+ghost use Rattle.std.specs.Prelude.{◌≡◌, ◌<◌, ◌≤◌, IfSome, is_some, length};
+ghost use Rattle.refused_lines.specs.Refused.{is_refused};
+ghost use Rattle.refused_lines.specs.Reasons.{reason_text};
 
 use crate::blanks::misplaced_blank;
 use crate::fields::misfit_in_fields;
 use script_lines::read_event;
-use thiserror::Error;
+use std::fmt;
+
+/// How many bytes a line may have, its line feed not counted.
+const MAX_LINE: usize = 64;
 
 /// Why a line is no line of a script.
-#[derive(Clone, Copy, Debug, PartialEq, Eq, Error)]
+#[derive(Clone, Copy, Debug, PartialEq, Eq)]
 pub enum LineReason {
-    #[error("over 64 bytes before the line feed")]
     Long,
-    #[error("a byte order mark: save the file as UTF-8 without it")]
     Mark,
-    #[error("a carriage return: a line ends in a line feed alone")]
     Return,
-    #[error("a tab: fields are separated by one space")]
     Tab,
-    #[error("a space at the front: a line begins with its first field")]
     Front,
-    #[error("a second space: fields are separated by exactly one")]
     Spaces,
-    #[error("a space at the end: nothing stands behind the last field")]
     End,
-    #[error("a comment behind a field: a comment is a line of its own")]
     Comment,
-    #[error("no event begins so: A, B, slot, write, vector, bit, flag")]
     Name,
-    #[error("names have one spelling: A, B, slot, write, vector, bit, flag, c, d, gap, noise")]
     Spelling,
-    #[error("wanted behind a bus: c, d, gap or noise")]
     OnBus,
-    #[error("the terminal's own words are no events; the status word of another terminal is written as a word with c")]
     Sent,
-    #[error("a word is four hexadecimal digits, without a mark")]
     Digits,
-    #[error("a parity bit is 0 or 1")]
     Parity,
-    #[error("a subaddress is two digits, 01 to 30")]
     Subaddress,
-    #[error("the number of a word is two digits, 01 to 32")]
     Number,
-    #[error("a flag is service, busy, subsystem or terminal")]
     Flag,
-    #[error("a flag is set by 1 and taken back by 0")]
     Value,
-    #[error("nothing stands behind the last field")]
     Much,
+}
+
+impl LineReason {
+    /// The reason in words, in one line.
+    pub fn text(self) -> &'static str
+        ensures value { result.now ≡ reason_text self }
+        ensures short { length result.now ≤ 120 }
+    {
+        match self {
+            LineReason::Long => "over 64 bytes before the line feed",
+            LineReason::Mark => "a byte order mark: save the file as UTF-8 without it",
+            LineReason::Return => "a carriage return: a line ends in a line feed alone",
+            LineReason::Tab => "a tab: fields are separated by one space",
+            LineReason::Front => "a space at the front: a line begins with its first field",
+            LineReason::Spaces => "a second space: fields are separated by exactly one",
+            LineReason::End => "a space at the end: nothing stands behind the last field",
+            LineReason::Comment => "a comment behind a field: a comment is a line of its own",
+            LineReason::Name => "no event begins so: A, B, slot, write, vector, bit, flag",
+            LineReason::Spelling =>
+                "names have one spelling: A, B, slot, write, vector, bit, flag, c, d, gap, noise",
+            LineReason::OnBus => "wanted behind a bus: c, d, gap or noise",
+            LineReason::Sent =>
+                "the terminal's own words are no events; the status word of another terminal is written as a word with c",
+            LineReason::Digits => "a word is four hexadecimal digits, without a mark",
+            LineReason::Parity => "a parity bit is 0 or 1",
+            LineReason::Subaddress => "a subaddress is two digits, 01 to 30",
+            LineReason::Number => "the number of a word is two digits, 01 to 32",
+            LineReason::Flag => "a flag is service, busy, subsystem or terminal",
+            LineReason::Value => "a flag is set by 1 and taken back by 0",
+            LineReason::Much => "nothing stands behind the last field",
+        }
+    }
+}
+
+impl fmt::Display for LineReason {
+    fn fmt<W: fmt::Write>(&self, f: &mut fmt::Formatter<W>) -> fmt::Result {
+        f.write_str(self.text())
+    }
 }
 
 /// Where a line stops being a line of a script, and why.
@@ -58,11 +81,18 @@ pub struct Misfit {
     pub reason: LineReason,
 }
 
-/// Tells where a line, which has no line feed, stops being a line of a script, and why. None for a line that is one.
+/// Tells where a line, which has no line feed, stops being a line of a script, and why. None for a line that is one, of at most
+/// 64 bytes.
 pub fn misfit_of(line: &[u8]) -> Option<Misfit>
-    ensures none { IsNone result ↔ IsOk (meaning line.now) }
-    ensures column { IfSome result (λ misfit. (0 < misfit.column) × (misfit.column ≤ suc (length line.now))) }
+    ensures refused { is_some result ≡ is_refused line.now }
+    ensures column { IfSome result (λ misfit. (0 < misfit.column) × (misfit.column ≤ 65)) }
 {
+    if line.len() > MAX_LINE {
+        return Some(Misfit {
+            column: MAX_LINE + 1,
+            reason: LineReason::Long,
+        });
+    }
     if read_event(line).is_ok() {
         return None;
     }

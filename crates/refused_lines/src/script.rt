@@ -1,14 +1,11 @@
 //! All lines of a script that are refused.
-ghost use Rattle.std.specs.Prelude.{◌≡◌, ◌++◌, IfOk, OnOk, is_some, map};
+ghost use Rattle.std.specs.Prelude.{◌≡◌, ◌++◌, IfOk, OnOk, map};
 ghost use Rattle.script_lines.specs.Text.{lines_of};
-ghost use Rattle.refused_lines.specs.Refused.{is_refused, refused_from, refused_at};
+ghost use Rattle.refused_lines.specs.Refused.{refused_from, refused_at};
 
 use crate::lines::first_line;
-use crate::reason::{LineReason, Misfit, misfit_of};
+use crate::reason::{Misfit, misfit_of};
 use std::alloc::{AllocError, Global};
-
-/// How many bytes a line may have, its line feed not counted.
-const MAX_LINE: usize = 64;
 
 /// A line that is refused.
 #[derive(Clone, Copy, PartialEq, Eq)]
@@ -18,24 +15,11 @@ pub struct RefusedLine {
     pub misfit: Misfit,
 }
 
-/// Where a line stops being a line of a script, and why; None for a line that is one, of at most 64 bytes.
-fn misfit_in_script(line: &[u8]) -> Option<Misfit>
-    ensures { is_some result ≡ is_refused line.now }
-{
-    if line.len() > MAX_LINE {
-        return Some(Misfit {
-            column: MAX_LINE + 1,
-            reason: LineReason::Long,
-        });
-    }
-    misfit_of(line)
-}
-
 /// Adds a line of this number where it is refused.
 fn push_refused(found: &mut Vec<RefusedLine>, line: &[u8], number: u64) -> Result<(), AllocError>
     ensures { OnOk result (map (λ refused. refused.line) found.new.items ≡ map (λ refused. refused.line) found.old.items ++ refused_at number line.now) }
 {
-    if let Some(misfit) = misfit_in_script(line) {
+    if let Some(misfit) = misfit_of(line) {
         found.push(RefusedLine {
             line: number,
             misfit,

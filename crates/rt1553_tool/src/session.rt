@@ -1,57 +1,56 @@
 //! A terminal that is played line by line, for as long as lines come.
-ghost use Rattle.std.specs.Prelude.{◌≡◌, ◌≤◌, ◌-◌, ◌^◌, ◌∷◌, [], List, codes, true, length, OnOk, IfOk, IfErr, IfSome, IsErrOf};
+ghost use Rattle.std.specs.Prelude.{◌≡◌, ◌<◌, ◌≤◌, ◌-◌, ◌^◌, ◌∷◌, [], ℕ, List, true, length, OnOk, IfOk, IfErr, IfSome, IsErrOf};
 ghost use Rattle.std.specs.Io.KnownBytes.{Appends};
 ghost use Rattle.bus_legal.specs.Description.{Description};
 ghost use Rattle.terminal_rules.specs.declared.event.Event.{Event};
 ghost use Rattle.bus_terminal.specs.Stands.{StandsAt};
 ghost use Rattle.script_lines.specs.Text.{lines_of};
-ghost use Rattle.rt1553_tool.specs.Session.{live_meaning, history_after_line, line_answer, session_text};
+ghost use Rattle.rt1553_tool.specs.Session.{live_meaning, history_after_line, AnswersLine, AnswersLines, IsRefusal};
 ghost use Rattle.rt1553_tool.specs.inner.Served.{Served, ServesLine};
 
 use crate::input::{ServeFault, hand_on, put, take_line};
+use crate::word_texts::push_decimal;
 use arrayvec::{ArrayString, ArrayVec};
 use bus_legal::Legality;
-use bus_script::{LineFault, Sink, Source, read_event, write_answer};
-use bus_terminal::{Event, Terminal};
-
-/// How many bytes a line of a script may have, its line feed not counted.
-const MOST: usize = 64;
+use bus_script::{Sink, Source, read_event, write_answer};
+use bus_terminal::Terminal;
+use refused_lines::{Misfit, misfit_of};
 
 /// The bytes of a line that are kept: one more than it may have tells that it is too long.
 type Line = ArrayVec<u8, 65>;
 
-/// Gives the event of a line; a line of over 64 bytes is refused.
-fn live_event(line: &[u8]) -> Result<Option<Event>, LineFault>
-    ensures { result ≡ live_meaning line.now }
-{
-    if line.len() > MOST {
-        return Err(LineFault);
-    }
-    read_event(line)
-}
+/// What answers a line: a line of a transcript, or why the line is refused.
+type LiveAnswer = ArrayString<320>;
 
-/// Gives what answers a line that is none of a script.
-fn refused_line() -> ArrayString<320>
-    ensures { result.bytes ≡ codes "? no line of a script\n" }
+/// Gives what answers a line that is refused.
+fn refusal(misfit: Misfit) -> LiveAnswer
+    requires { misfit.column < 100 }
+    ensures { IsRefusal result.bytes }
 {
-    let mut text = ArrayString::new();
-    text.push_str("? no line of a script\n");
+    let mut text = LiveAnswer::new();
+    text.push_str("? column ");
+    push_decimal(&mut text, misfit.column as u8);
+    text.push_str(": ");
+    text.push_str(misfit.reason.text());
+    text.push_str("\n");
     text
 }
 
-/// Plays a line, without its line feed, and gives the lines that answer it. A line that is none of a script is answered by
-/// a question mark and the reason, and the terminal stands as before.
-pub fn play_live_line<L: Legality>(terminal: &mut Terminal<L>, line: &[u8]) -> ArrayString<320>
+/// Plays a line, without its line feed, and gives what answers it. A line that is none of a script is answered by a question
+/// mark, the column of the first byte that doesn't fit and the reason, and the terminal stands as before.
+pub fn play_live_line<L: Legality>(terminal: &mut Terminal<L>, line: &[u8]) -> LiveAnswer
     ensures stands { (P : Description) (h : List Event) → StandsAt L.is_legal P h terminal.old → StandsAt L.is_legal P (history_after_line (live_meaning line.now) h) terminal.new }
-    ensures answer { (P : Description) (h : List Event) → StandsAt L.is_legal P h terminal.old → result.bytes ≡ line_answer P h (live_meaning line.now) }
+    ensures answer { (P : Description) (h : List Event) → StandsAt L.is_legal P h terminal.old → AnswersLine P h (live_meaning line.now) result.bytes }
 {
-    match live_event(line) {
+    if let Some(misfit) = misfit_of(line) {
+        return refusal(misfit);
+    }
+    match read_event(line) {
         Ok(Some(event)) => {
             let answer = terminal.step(event);
             write_answer(&answer)
         }
-        Ok(None) => ArrayString::new(),
-        Err(_) => refused_line(),
+        _ => LiveAnswer::new(),
     }
 }
 
@@ -104,7 +103,7 @@ pub fn serve<L: Legality, S: Source, W: Sink>(
     sink: &mut W,
 ) -> Result<(), ServeFault>
     ensures ok { OnOk result (IfSome (S.left source.old) (λ input. (P : Description) (h : List Event) → StandsAt L.is_legal P h terminal.old
-        → Appends (W.written sink.old) (W.written sink.new) (session_text P h (lines_of input)))) }
+        → (text : List ℕ) × AnswersLines P h (lines_of input) text × Appends (W.written sink.old) (W.written sink.new) text)) }
     ensures read { IsErrOf result ServeFault.Read → S.has_failed source.new ≡ true }
     ensures write { IsErrOf result ServeFault.Write → W.has_failed sink.new ≡ true }
     ensures long { IsErrOf result ServeFault.TooLong → IfSome (S.left source.old) (λ input. 2 ^ 64 - 1 ≤ length input) }

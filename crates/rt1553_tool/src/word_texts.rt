@@ -20,8 +20,8 @@ pub type AnswerLine = ArrayString<600>;
 const MOST: usize = 128;
 
 /// Writes a number below 100, in decimal digits.
-fn push_decimal(text: &mut AnswerLine, number: u8)
-    requires room { array_string_len text.old ≤ 500 }
+pub fn push_decimal<const N: usize>(text: &mut ArrayString<N>, number: u8)
+    requires room { array_string_len text.old + 2 ≤ N }
     requires number { number < 100 }
     ensures bytes { text.new.bytes ≡ text.old.bytes ++ short_decimal number }
     ensures len { array_string_len text.new ≤ array_string_len text.old + 2 }

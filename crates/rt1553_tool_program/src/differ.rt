@@ -3,8 +3,10 @@ ghost use Rattle.std.specs.Prelude.{◌≡◌, ◌≤◌, ◌↔◌, IfOk};
 ghost use Rattle.bus_legal.specs.Parts.{Parts};
 ghost use Rattle.rt1553_tool_program.specs.Status.{IsLoaded};
 
+use crate::colours::put_lines;
 use crate::fault::{DIFFERENT, ToolFault};
-use crate::files::{json_line, load_profile, shown, write_bytes};
+use crate::files::{json_line, load_profile, shown};
+use crate::work::Screen;
 use rt1553_differ::{Group, Pair, differ_json, differ_text, differences, groups_of};
 use std::alloc::Global;
 use std::io::Write;
@@ -30,6 +32,7 @@ fn put_pair<R: AllocGlobal, W: Write>(
     pair: &Pair<'_>,
     scripts: bool,
     as_json: bool,
+    screen: Screen,
     output: &mut W,
 ) -> Result<u8, ToolFault>
     ensures most { IfOk result (λ status. status ≤ 1) }
@@ -38,7 +41,11 @@ fn put_pair<R: AllocGlobal, W: Write>(
     let found = differences(rt.alloc(), pair.p, pair.q)?;
     let groups = groups_of(rt.alloc(), found.as_slice(), pair.p, pair.q)?;
     let text = text_of(rt.alloc(), pair, groups.as_slice(), scripts, as_json)?;
-    write_bytes(output, text.as_str().as_bytes())?;
+    put_lines(
+        output,
+        screen.has_colours && !as_json,
+        text.as_str().as_bytes(),
+    )?;
     Ok(if found.is_empty() { 0 } else { DIFFERENT })
 }
 
@@ -50,6 +57,7 @@ pub fn differ_profiles<R: Files + AllocGlobal, W: Write>(
     second: &str,
     scripts: bool,
     as_json: bool,
+    screen: Screen,
     output: &mut W,
 ) -> Result<u8, ToolFault>
     ensures most { IfOk result (λ status. status ≤ 1) }
@@ -64,5 +72,5 @@ pub fn differ_profiles<R: Files + AllocGlobal, W: Write>(
         first: first.as_str(),
         second: second.as_str(),
     };
-    put_pair(rt, &pair, scripts, as_json, output)
+    put_pair(rt, &pair, scripts, as_json, screen, output)
 }

@@ -1,8 +1,10 @@
 //! The command `explain`: what a profile means, as a table.
 ghost use Rattle.std.specs.Prelude.{◌≡◌, IfOk};
 
+use crate::colours::put_lines;
 use crate::fault::ToolFault;
-use crate::files::{json_line, load_profile, write_bytes};
+use crate::files::{json_line, load_profile};
+use crate::work::Screen;
 use bus_legal::Normal;
 use rt1553_differ::{explain, explain_json};
 use std::alloc::Global;
@@ -22,12 +24,17 @@ pub fn explain_profile<R: Files + AllocGlobal, W: Write>(
     rt: &R,
     profile: &str,
     as_json: bool,
+    screen: Screen,
     output: &mut W,
 ) -> Result<u8, ToolFault>
     ensures { IfOk result (λ status. status ≡ 0) }
 {
     let normal = load_profile(rt, profile)?;
     let text = text_of(rt.alloc(), &normal, as_json)?;
-    write_bytes(output, text.as_str().as_bytes())?;
+    put_lines(
+        output,
+        screen.has_colours && !as_json,
+        text.as_str().as_bytes(),
+    )?;
     Ok(0)
 }

@@ -1,6 +1,6 @@
 //! The command `lint`: all that is wrong with profiles, and what in them has no effect.
-ghost use Rattle.std.specs.Prelude.{◌≡◌, ◌≤◌, ◌<◌, IfOk, length};
-ghost use Rattle.rt1553_tool_program.specs.Status.{finding_status};
+ghost use Rattle.std.specs.Prelude.{◌≡◌, ◌≤◌, IfOk};
+ghost use Rattle.rt1553_tool_program.specs.Status.{findings_status};
 
 use crate::fault::{DIFFERENT, REFUSED, ToolFault};
 use crate::files::{json_line, read_tool_profile, shown, write_bytes};
@@ -28,27 +28,17 @@ fn put_finding<R: AllocGlobal, W: Write>(
     }
 }
 
-/// The status of a finding: refused for an error, another than 0 for a warning.
-fn status_of_finding(finding: &Finding) -> u8
-    ensures { result ≡ finding_status finding.now }
-{
-    match finding.fault {
-        Some(_) => REFUSED,
-        None => DIFFERENT,
-    }
-}
-
-/// The status of the findings of a file: the highest of them.
+/// The status of the findings of a file.
 fn status_of_findings(findings: &[Finding]) -> u8
-    ensures most { result ≤ 2 }
-    ensures some { 0 < length findings.now → 1 ≤ result }
-    ensures none { length findings.now ≡ 0 → result ≡ 0 }
+    ensures { result ≡ findings_status findings.now }
 {
-    let mut status = 0;
-    for finding in findings {
-        status = worst(status, status_of_finding(finding));
+    if findings.iter().any(|finding| finding.fault.is_some()) {
+        REFUSED
+    } else if findings.is_empty() {
+        0
+    } else {
+        DIFFERENT
     }
-    status
 }
 
 /// Writes what is found in a file, and gives the status to end with.

@@ -3,6 +3,7 @@
 
 mod acceptance;
 mod bus_words;
+mod colours;
 mod differ;
 mod draw;
 mod explain;
@@ -17,12 +18,26 @@ mod verify;
 mod work;
 mod worst;
 
+use std::env;
 use std::io::IsTerminal;
 use std::process::ExitCode;
+use work::Screen;
+
+/// Whether the environment asks for no colours: NO_COLOR is there and not empty.
+fn forbids_colours(rt: &HostRuntime) -> bool {
+    match env::var(rt, "NO_COLOR") {
+        Ok(value) => !value.is_empty(),
+        Err(error) => error != env::VarError::NotPresent,
+    }
+}
 
 fn main(rt: HostRuntime) -> ExitCode {
-    let shows_progress = rt.stderr().is_terminal() && !rt.stdout().is_terminal();
-    match work::run_tool(&rt, shows_progress, rt.stdin(), rt.stdout()) {
+    let is_seen = rt.stdout().is_terminal();
+    let screen = Screen {
+        has_progress: rt.stderr().is_terminal() && !is_seen,
+        has_colours: is_seen && !forbids_colours(&rt),
+    };
+    match work::run_tool(&rt, screen, rt.stdin(), rt.stdout()) {
         Ok(status) => ExitCode::from(status),
         Err(fault) => {
             // there is nowhere to tell that this could not be written

@@ -1,11 +1,12 @@
 //! Which scripts pass, clause by clause.
+use crate::colours::{Ink, put_in};
 use crate::fault::ToolFault;
 use crate::files::write_bytes;
 use rt1553_files::escaped;
 use std::alloc::{AllocError, Global};
 use std::cmp::Ordering;
-use std::fmt;
 use std::io::Write;
+use std::{fmt, format};
 
 /// How many scripts there are, and how many of them pass.
 #[derive(Clone, Copy)]
@@ -128,23 +129,42 @@ impl Summary {
     }
 
     /// Writes a line for each clause, one for the scripts that name none, and one for all scripts.
-    pub fn put<W: Write>(mut self, alloc: Global, output: &mut W) -> Result<(), ToolFault> {
+    pub fn put<W: Write>(
+        mut self,
+        alloc: Global,
+        has_colours: bool,
+        output: &mut W,
+    ) -> Result<(), ToolFault> {
         self.named.as_mut_slice().sort_unstable_by(|a, b| clause_order(
             a.clause.as_slice(),
             b.clause.as_slice(),
         ));
-        put_clauses(alloc, self.named.as_slice(), output)?;
+        put_clauses(alloc, self.named.as_slice(), has_colours, output)?;
         if self.unnamed.scripts > 0 {
-            put_count(output, b"no clause", self.unnamed)?;
+            put_count(alloc, output, has_colours, b"no clause", self.unnamed)?;
         }
-        put_count(output, b"all", self.all)
+        put_count(alloc, output, has_colours, b"all", self.all)
     }
 }
 
-/// Writes how many scripts pass.
-fn put_count<W: Write>(output: &mut W, what: &[u8], count: Count) -> Result<(), ToolFault> {
+/// Writes how many scripts pass: green where all do, and else red.
+fn put_count<W: Write>(
+    alloc: Global,
+    output: &mut W,
+    has_colours: bool,
+    what: &[u8],
+    count: Count,
+) -> Result<(), ToolFault> {
     write_bytes(output, what)?;
-    writeln!(output, ": {count}").map_err(|_| ToolFault::Output)
+    write_bytes(output, b": ")?;
+    let ink = if count.passed == count.scripts {
+        Ink::Green
+    } else {
+        Ink::Red
+    };
+    let text = format!(in alloc; "{count}")?;
+    put_in(output, has_colours, ink, text.as_str().as_bytes())?;
+    write_bytes(output, b"\n")
 }
 
 /// Writes how many scripts that name this clause pass.
@@ -152,14 +172,21 @@ fn put_clause<W: Write>(
     alloc: Global,
     clause: &[u8],
     count: Count,
+    has_colours: bool,
     output: &mut W,
 ) -> Result<(), ToolFault> {
     write_bytes(output, b"clause ")?;
-    put_count(output, escaped(alloc, clause)?.as_str().as_bytes(), count)
+    let name = escaped(alloc, clause)?;
+    put_count(alloc, output, has_colours, name.as_str().as_bytes(), count)
 }
 
 /// Writes a line for each clause; those of one name stand together.
-fn put_clauses<W: Write>(alloc: Global, named: &[Named], output: &mut W) -> Result<(), ToolFault> {
+fn put_clauses<W: Write>(
+    alloc: Global,
+    named: &[Named],
+    has_colours: bool,
+    output: &mut W,
+) -> Result<(), ToolFault> {
     let mut count = Count::none();
     for (index, one) in named.iter().enumerate() {
         count.add(one.passes);
@@ -169,7 +196,7 @@ fn put_clauses<W: Write>(alloc: Global, named: &[Named], output: &mut W) -> Resu
             None => true,
         };
         if is_last {
-            put_clause(alloc, clause, count, output)?;
+            put_clause(alloc, clause, count, has_colours, output)?;
             count = Count::none();
         }
     }

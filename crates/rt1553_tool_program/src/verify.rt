@@ -1,11 +1,15 @@
 //! The command `verify`: scripts that state their answers are played.
 ghost use Rattle.std.specs.Prelude.{◌≤◌, IfOk};
+ghost use Rattle.bus_legal.specs.Parts.{Parts};
+ghost use Rattle.rt1553_tool_program.specs.Passing.{IsPlayed, SaysOf};
 ghost use Rattle.rt1553_tool_program.specs.Status.{IsLoaded};
 
+use crate::colours::{Ink, put_in};
 use crate::fault::{DIFFERENT, ToolFault};
-use crate::files::{load_profile, read_script_file, shown, write_bytes};
+use crate::files::{load_profile, read_script_file, shown as shown_name, write_bytes};
 use crate::script_file::first_refused;
 use crate::summary::Summary;
+use crate::work::Screen;
 use crate::worst::{status_or_stop, worst};
 use bus_legal::Normal;
 use rt1553_files::escaped;
@@ -25,6 +29,14 @@ enum Played<'a> {
     Folder(&'a str),
 }
 
+/// What is written of each script.
+#[derive(Clone, Copy)]
+struct Shown {
+    /// That it passes, too.
+    each: bool,
+    has_colours: bool,
+}
+
 /// Whether the name of a profile stays in its folder: it doesn't begin at the root, and no part of it goes up.
 fn stays_inside(profile: &str) -> bool {
     !profile.starts_with('/') && profile.split('/').all(|part| part != "..")
@@ -40,13 +52,13 @@ fn profile_in<R: Files + AllocGlobal>(
     ensures { IfOk result (λ normal. IsLoaded normal) }
 {
     let Some(profile) = named(script, b"# Profile: ") else {
-        return Err(ToolFault::NoProfile(shown(rt, name)?));
+        return Err(ToolFault::NoProfile(shown_name(rt, name)?));
     };
     let Ok(profile) = str::from_utf8(profile) else {
-        return Err(ToolFault::NoProfile(shown(rt, name)?));
+        return Err(ToolFault::NoProfile(shown_name(rt, name)?));
     };
     if !stays_inside(profile) {
-        return Err(ToolFault::Outside(shown(rt, name)?));
+        return Err(ToolFault::Outside(shown_name(rt, name)?));
     }
     let path = format!(in rt.alloc(); "{folder}/{profile}")?;
     load_profile(rt, path.as_str())
@@ -59,7 +71,9 @@ impl Played<'_> {
         rt: &R,
         name: &str,
         script: &[u8],
-    ) -> Result<Normal, ToolFault> {
+    ) -> Result<Normal, ToolFault>
+        ensures { IfOk result (IsPlayed self.now) }
+    {
         match self {
             Played::One(normal) => Ok(*normal),
             Played::Folder(folder) => profile_in(rt, folder, name, script),
@@ -96,20 +110,24 @@ fn put_wrong_answer<W: Write>(
 
 /// Writes how many answers of a file differ, or, where it is asked for, that it passes with so many.
 fn put_count<W: Write>(
+    alloc: Global,
     output: &mut W,
     name: &str,
     count: usize,
     answers: usize,
-    each: bool,
+    shown: Shown,
 ) -> Result<(), ToolFault> {
-    let written = if count > 0 {
-        writeln!(output, "{name}: {count} differ")
-    } else if each {
-        writeln!(output, "{name}: passed ({answers} answers)")
+    let (ink, text) = if count > 0 {
+        (Ink::Red, format!(in alloc; "{count} differ")?)
+    } else if shown.each {
+        (Ink::Green, format!(in alloc; "passed ({answers} answers)")?)
     } else {
-        Ok(())
+        return Ok(());
     };
-    written.map_err(|_| ToolFault::Output)
+    write_bytes(output, name.as_bytes())?;
+    write_bytes(output, b": ")?;
+    put_in(output, shown.has_colours, ink, text.as_str().as_bytes())?;
+    write_bytes(output, b"\n")
 }
 
 /// The fault of a script that is refused.
@@ -119,7 +137,7 @@ fn script_fault<R: AllocGlobal>(
     script: &[u8],
     fault: StatedFault,
 ) -> ToolFault {
-    let told = match shown(rt, name) {
+    let told = match shown_name(rt, name) {
         Ok(name) => ToolFault::Script(name, fault),
         Err(fault) => return fault,
     };
@@ -135,21 +153,30 @@ fn play_script<R: Files + AllocGlobal, W: Write>(
     played: &Played<'_>,
     name: &str,
     script: &[u8],
-    each: bool,
+    shown: Shown,
     output: &mut W,
-) -> Result<bool, ToolFault> {
+) -> Result<bool, ToolFault>
+    ensures { IfOk result (λ passes. (value : Parts) × IsPlayed played.now value × SaysOf value script.now passes) }
+{
     let normal = played.of_script(rt, name, script)?;
     let stated = match read_stated(rt.alloc(), script) {
         Ok(stated) => stated,
         Err(fault) => return Err(script_fault(rt, name, script, fault)),
     };
     let found = wrong_answers(rt.alloc(), &normal, stated.as_slice())?;
-    let name = shown(rt, name)?;
+    let name = shown_name(rt, name)?;
     for wrong in found.as_slice() {
         put_wrong_answer(rt.alloc(), output, name.as_str(), wrong)?;
     }
     let answers = answers_in(stated.as_slice());
-    put_count(output, name.as_str(), found.len(), answers, each)?;
+    put_count(
+        rt.alloc(),
+        output,
+        name.as_str(),
+        found.len(),
+        answers,
+        shown,
+    )?;
     Ok(found.is_empty())
 }
 
@@ -166,7 +193,7 @@ fn play_file<R: Files + AllocGlobal, W: Write>(
     rt: &R,
     played: &Played<'_>,
     name: &str,
-    each: bool,
+    shown: Shown,
     summary: &mut Summary,
     output: &mut W,
 ) -> Result<u8, ToolFault>
@@ -179,7 +206,7 @@ fn play_file<R: Files + AllocGlobal, W: Write>(
             return Err(fault);
         }
     };
-    let outcome = play_script(rt, played, name, script.as_slice(), each, output);
+    let outcome = play_script(rt, played, name, script.as_slice(), shown, output);
     let passes = match &outcome {
         Ok(passes) => *passes,
         Err(_) => false,
@@ -193,7 +220,7 @@ fn play_files<R: Files + AllocGlobal + Eprint, W: Write>(
     rt: &R,
     played: &Played<'_>,
     names: &[&str],
-    each: bool,
+    shown: Shown,
     output: &mut W,
 ) -> Result<u8, ToolFault>
     ensures { IfOk result (λ status. status ≤ 4) }
@@ -201,11 +228,11 @@ fn play_files<R: Files + AllocGlobal + Eprint, W: Write>(
     let mut summary = Summary::new(rt.alloc());
     let mut status = 0;
     for name in names {
-        let of_file = play_file(rt, played, name, each, &mut summary, output);
+        let of_file = play_file(rt, played, name, shown, &mut summary, output);
         status = worst(status, status_or_stop(rt, of_file)?);
     }
-    if each {
-        summary.put(rt.alloc(), output)?;
+    if shown.each {
+        summary.put(rt.alloc(), shown.has_colours, output)?;
     }
     Ok(status)
 }
@@ -217,6 +244,7 @@ pub fn verify_scripts<R: Files + AllocGlobal + Eprint, W: Write>(
     profiles: Profiles<'_>,
     scripts: &[&str],
     summary: bool,
+    screen: Screen,
     output: &mut W,
 ) -> Result<u8, ToolFault>
     ensures { IfOk result (λ status. status ≤ 4) }
@@ -225,5 +253,9 @@ pub fn verify_scripts<R: Files + AllocGlobal + Eprint, W: Write>(
         Profiles::One(name) => Played::One(load_profile(rt, name)?),
         Profiles::Folder(folder) => Played::Folder(folder),
     };
-    play_files(rt, &played, scripts, summary, output)
+    let shown = Shown {
+        each: summary,
+        has_colours: screen.has_colours,
+    };
+    play_files(rt, &played, scripts, shown, output)
 }

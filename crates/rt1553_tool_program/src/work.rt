@@ -18,11 +18,20 @@ use std::env;
 use std::io::{ErrorKind, Read, Write};
 use std::rt::{Env, Files};
 
+/// What somebody sees of the streams.
+#[derive(Clone, Copy)]
+pub struct Screen {
+    /// The standard error and not the output: progress is shown there.
+    pub has_progress: bool,
+    /// The output, and colours are welcome there.
+    pub has_colours: bool,
+}
+
 /// Does what is asked for, and gives the status to end with.
 fn do_command<R: Files + AllocGlobal + Eprint, I: Read + Drop, W: Write>(
     rt: &R,
     command: &ToolCommand<'_>,
-    shows_progress: bool,
+    screen: Screen,
     input: I,
     output: &mut W,
 ) -> Result<u8, ToolFault>
@@ -35,17 +44,19 @@ fn do_command<R: Files + AllocGlobal + Eprint, I: Read + Drop, W: Write>(
             profiles,
             scripts,
             summary,
-        } => verify_scripts(rt, *profiles, scripts.as_slice(), *summary, output),
+        } => verify_scripts(rt, *profiles, scripts.as_slice(), *summary, screen, output),
         ToolCommand::Toml(profile) => write_toml(rt, profile, output),
-        ToolCommand::Explain { profile, as_json } => explain_profile(rt, profile, *as_json, output),
+        ToolCommand::Explain { profile, as_json } => explain_profile(
+            rt, profile, *as_json, screen, output,
+        ),
         ToolCommand::Differ {
             profile,
             other,
             scripts,
             as_json,
-        } => differ_profiles(rt, profile, other, *scripts, *as_json, output),
+        } => differ_profiles(rt, profile, other, *scripts, *as_json, screen, output),
         ToolCommand::Acceptance { profile, format } => {
-            write_test(rt, profile, *format, shows_progress, output)
+            write_test(rt, profile, *format, screen.has_progress, output)
         }
         ToolCommand::Against { profile, results } => against(rt, profile, results, output),
         ToolCommand::Draw {
@@ -58,11 +69,10 @@ fn do_command<R: Files + AllocGlobal + Eprint, I: Read + Drop, W: Write>(
     }
 }
 
-/// Does what the command line asks for, and gives the status to end with. Where somebody looks at the standard error and not at
-/// the output, it shows progress there.
+/// Does what the command line asks for, and gives the status to end with.
 pub fn run_tool<R: Env + Files + AllocGlobal + Print + Eprint, I: Read + Drop, O: Write + Drop>(
     rt: &R,
-    shows_progress: bool,
+    screen: Screen,
     input: I,
     mut output: O,
 ) -> Result<u8, ToolFault>
@@ -77,7 +87,7 @@ pub fn run_tool<R: Env + Files + AllocGlobal + Print + Eprint, I: Read + Drop, O
     };
     let args: Vec<String> = args.collect(rt.alloc())?;
     match read_tool_args(rt, args.as_slice()) {
-        Ok(command) => do_command(rt, &command, shows_progress, input, &mut output),
+        Ok(command) => do_command(rt, &command, screen, input, &mut output),
         Err(NoCommand::Helped) => Ok(0),
         Err(NoCommand::Refused) => Ok(USAGE),
         Err(NoCommand::Output) => Err(ToolFault::Output),
