@@ -256,6 +256,29 @@ hostile_row() {
     count "hostile texts: $line" $?
 }
 
+# what a command prints on a terminal: seen_on_terminal WORD..
+seen_on_terminal() { (cd "$work" && script -qec "$(printf '%q ' "$program" "$@")" /dev/null </dev/null 2>&1 | tr -d '\r'); }
+
+# headings and verdicts stand out on a terminal, and nowhere else
+colour_rows() {
+    local bold=$'\033[1m' green=$'\033[32m' red=$'\033[31m' plain=$'\033[0m'
+    unset NO_COLOR
+    printf 'address = 5\n' >"$work/five"
+    printf 'address = 6\n' >"$work/six"
+    script right '# Plan: 1\nA c 2c02\nA gap\nslot\n#> A s 2800\n'
+    script wrong '# Plan: 2\nA c 2c02\nA gap\nslot\n'
+    [[ $(seen_on_terminal differ five six) == "${bold}address${plain}:  5 in five, 6 in six" ]]
+    count 'colours: differ' $?
+    [[ $(seen_on_terminal explain five | head -n 2) == "${bold}remote terminal 5${plain}"$'\n'"${bold}broadcast${plain}:   not heard" ]]
+    count 'colours: explain' $?
+    [[ $(seen_on_terminal verify --summary five right wrong | tail -n 4) == "wrong: ${red}1 differ${plain}"$'\n'"clause 1: ${green}1 of 1 scripts pass${plain}"$'\n'"clause 2: ${red}0 of 1 scripts pass${plain}"$'\n'"all: ${red}1 of 2 scripts pass${plain}" ]]
+    count 'colours: verify --summary' $?
+    ! (seen_on_terminal explain --format json five; NO_COLOR=1 seen_on_terminal explain five) | grep -q $'\033'
+    count 'no colours where NO_COLOR is set, and none in JSON' $?
+    [[ $(NO_COLOR='' seen_on_terminal differ five six) == "$bold"* ]]
+    count 'colours where NO_COLOR is empty' $?
+}
+
 # the TOML of a profile means the same terminal: its canonical text is that of the profile
 toml_row() {
     local path=$1
@@ -294,12 +317,13 @@ live_rows() {
     input 'A c 2c02\nA gap\nslot\n'
     row 'live: a status' 0 '.\n.\nA s 2800\n.\n' '' live five
     input 'A c 2c02\nA gap \n# so\n\nA gap\nslot'
-    row 'live: a refused line changes nothing' 0 '.\n? no line of a script\n.\n.\n.\n.\nA s 2800\n.\n' '' live five
+    row 'live: a refused line changes nothing' 0 '.\n? column 6: a space at the end: nothing stands behind the last field\n.\n.\n.\n.\nA s 2800\n.\n' '' live five
     input 'A c 2c02\nA g\377p\nA gap\nslot\n'
-    row 'live: a line that is no text' 0 '.\n? no line of a script\n.\n.\nA s 2800\n.\n' '' live five
+    row 'live: a line that is no text' 0 '.\n? column 3: wanted behind a bus: c, d, gap or noise\n.\n.\nA s 2800\n.\n' '' live five
     { printf '#%63s\n' ''; printf '#%64s\nA c 2c02\nA gap\nslot\n' ''; } >"$work/stdin"
-    row 'live: lines of 64 and of 65 bytes' 0 '.\n? no line of a script\n.\n.\n.\nA s 2800\n.\n' '' live five
-    row_of_one_long_line 'live: a line of 200 MB takes no memory' '? no line of a script\n.\n? no line of a script\n.\n' live five
+    row 'live: lines of 64 and of 65 bytes' 0 '.\n? column 65: over 64 bytes before the line feed\n.\n.\n.\nA s 2800\n.\n' '' live five
+    row_of_one_long_line 'live: a line of 200 MB takes no memory' \
+        '? column 65: over 64 bytes before the line feed\n.\n? column 1: no event begins so: A, B, slot, write, vector, bit, flag\n.\n' live five
     input ''
     row 'live: no lines' 0 '' '' live five
     yes 'slot' | head -n 1500000 | "$program" live "$work/five" | cksum >"$work/given"
@@ -556,6 +580,7 @@ for program in "$@"; do
     draw_rows
     schema_rows
     live_rows
+    colour_rows
     word_rows
 done
 echo "$passed passed, $failed failed"
