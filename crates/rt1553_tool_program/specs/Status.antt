@@ -1,5 +1,5 @@
 -- The statuses that the program ends with.
-use Rattle.std.specs.Prelude.{ℕ, ◌≡◌, ◌≤◌, if◌then◌else◌, List, [], ◌∷◌, is_some, length}
+use Rattle.std.specs.Prelude.{ℕ, ◌≡◌, ◌≤◌, ◌==◌, if◌then◌else◌, List, [], ◌∷◌, is_some, length}
 use Rattle.std.specs.List.{list_any}
 use Rattle.bus_legal.specs.Parts.{Parts}
 use Rattle.rt1553.specs.Load.{Reaches}
@@ -38,14 +38,9 @@ tool_status Input = 4
 tool_status Output = 4
 tool_status (Toml fault) = 4
 
--- the same where none is an error
-abbrev pub warned_status : List Finding → ℕ
-warned_status [] = 0
-warned_status (f ∷ fs) = 1
-
 -- the status of what is found in a text: 2 where one is an error, else 1 where there is a warning, else 0
 abbrev pub findings_status : List Finding → ℕ
-findings_status fs = if list_any (λ f. is_some f.fault) fs then 2 else warned_status fs
+findings_status fs = if list_any (λ f. is_some f.fault) fs then 2 else if length fs == 0 then 0 else 1
 
 -- some text, of at most 1,048,576 bytes, is of this terminal
 abbrev pub IsLoaded : Parts → Type 0

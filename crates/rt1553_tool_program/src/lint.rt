@@ -1,5 +1,6 @@
 //! The command `lint`: all that is wrong with profiles, and what in them has no effect.
-ghost use Rattle.std.specs.Prelude.{◌≡◌, ◌≤◌, IfOk};
+ghost use Rattle.std.specs.Prelude.{◌≡◌, ◌≤◌, IfOk, is_some};
+ghost use Rattle.std.specs.List.{list_any};
 ghost use Rattle.rt1553_tool_program.specs.Status.{findings_status};
 
 use crate::fault::{DIFFERENT, REFUSED, ToolFault};
@@ -28,11 +29,23 @@ fn put_finding<R: AllocGlobal, W: Write>(
     }
 }
 
+/// Whether one of them is an error.
+fn has_error(findings: &[Finding]) -> bool
+    ensures { result ≡ list_any (λ f. is_some f.fault) findings.now }
+{
+    for finding in findings {
+        if finding.fault.is_some() {
+            return true;
+        }
+    }
+    false
+}
+
 /// The status of the findings of a file.
 fn status_of_findings(findings: &[Finding]) -> u8
     ensures { result ≡ findings_status findings.now }
 {
-    if findings.iter().any(|finding| finding.fault.is_some()) {
+    if has_error(findings) {
         REFUSED
     } else if findings.is_empty() {
         0
