@@ -175,11 +175,13 @@ players() {
 }
 
 examples() {
-    local folder=$top/examples/library
+    local folder=$top/examples/library name
     builds bus31 "$folder/bus31.c"
     prints 'bus31.c' "$folder/bus31.transcript" "$work/bus31"
     prints 'bus31.py' "$folder/bus31.transcript" python3 "$folder/bus31.py"
-    prints 'two_terminals.py' "$folder/two_terminals.transcript" python3 "$folder/two_terminals.py"
+    for name in two_terminals poll31 controller_test; do
+        prints "$name.py" "$folder/$name.transcript" python3 "$folder/$name.py"
+    done
     part 'the sessions of docs/library.md' python3 "$tests/pages.py" "$library"
 }
 
