@@ -136,7 +136,9 @@ in_python() {
     done_by 'the wheel is installed' python3 -m pip install --quiet --no-index --no-deps --target "$package" "$wheel"
     export PYTHONPATH=$package
     done_by 'the docstrings of the package' python3 -c 'import doctest, rt1553, sys; sys.exit(doctest.testmod(rt1553).failed)'
+    done_by 'the docstrings of the bus' python3 -c 'import doctest, rt1553.bus, sys; sys.exit(doctest.testmod(rt1553.bus).failed)'
     part 'the package' python3 "$tests/package.py"
+    part 'the bus' python3 "$tests/bus.py"
     # bytes around each block of memory are looked at when it is freed, and what is freed is overwritten
     part 'the package, misused' env PYTHONMALLOC=debug MALLOC_PERTURB_=85 python3 "$tests/misuse.py"
     [[ $(python3 -c 'import rt1553; print("{}.{}".format(*rt1553.version()))') == "$(python3 "$top/scripts/manual.py" version)" ]]
@@ -173,11 +175,13 @@ players() {
 }
 
 examples() {
-    local folder=$top/examples/library
+    local folder=$top/examples/library name
     builds bus31 "$folder/bus31.c"
     prints 'bus31.c' "$folder/bus31.transcript" "$work/bus31"
     prints 'bus31.py' "$folder/bus31.transcript" python3 "$folder/bus31.py"
-    prints 'two_terminals.py' "$folder/two_terminals.transcript" python3 "$folder/two_terminals.py"
+    for name in two_terminals poll31 controller_test; do
+        prints "$name.py" "$folder/$name.transcript" python3 "$folder/$name.py"
+    done
     part 'the sessions of docs/library.md' python3 "$tests/pages.py" "$library"
 }
 

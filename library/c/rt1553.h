@@ -89,16 +89,18 @@ uint8_t rt1553_canonical(const uint8_t *text, size_t text_length, uint8_t *to, s
 
 /* RT1553_DONE where two texts mean the same terminal: both answer alike for ever. RT1553_DIFFER where they don't: then a
    script that the two answer differently from power-up stands at the front of `to`, and *length is the number of its bytes.
-   RT1553_NO_ROOM: they differ too, and what `to` holds says nothing. RT1553_REFUSED: the first text, or where that is
-   accepted the second one, is refused for the fault told. RT1553_NO_MEMORY. */
+   RT1553_NO_ROOM: they differ too, *length bytes are needed, and `to` stays as it was; a room of RT1553_SCRIPT_ROOM is always
+   enough. RT1553_REFUSED: the first text, or where that is accepted the second one, is refused for the fault told.
+   RT1553_NO_MEMORY. */
 uint8_t rt1553_compare(const uint8_t *first, size_t first_length, const uint8_t *second, size_t second_length, uint8_t *to,
                        size_t room, size_t *length, rt1553_fault *fault);
 
 /* Plays a script (docs/script.md) to the terminal of a text, from power-up, and writes the transcript to the front of `to`,
    and to *length the number of its bytes. RT1553_DONE: the whole script. RT1553_REFUSED: the text is refused, *length is 0;
-   or a line of the script, and the transcript of the lines before it is there. RT1553_NO_ROOM: the text is accepted, and a
-   beginning of the transcript is there; RT1553_NO_MEMORY: at most that. Neither says anything of the script. The transcript is
-   gathered in memory of its own before it is written to `to`; where that is wanting, the fault is RT1553_OF_SCRIPT, number 5. */
+   or a line of the script, and the transcript of the lines before it is there. RT1553_NO_ROOM: the transcript, of the whole
+   script or of the lines before the one that is refused, has *length bytes, and `to` stays as it was. RT1553_NO_MEMORY: a
+   beginning of the transcript is there, which says nothing of the rest of the script. The transcript is gathered in memory of
+   its own before it is written to `to`; if that memory runs out, the fault is RT1553_OF_SCRIPT, number 5. */
 uint8_t rt1553_run(const uint8_t *text, size_t text_length, const uint8_t *script, size_t script_length, uint8_t *to,
                    size_t room, size_t *length, rt1553_fault *fault);
 

@@ -12,7 +12,7 @@ import pathlib
 import sys
 import zipfile
 
-PARTS = ["__init__.py", "py.typed", "librt1553.so"]
+PARTS = ["__init__.py", "bus.py", "py.typed", "librt1553.so"]
 METADATA = """Metadata-Version: 2.1
 Name: rt1553
 Version: {version}

@@ -49,6 +49,12 @@ static int tells(const rt1553_fault *fault, uint8_t kind, uint8_t number, uint64
            && fault->length == strlen(text);
 }
 
+static int has_zeros(const rt1553_fault *fault) {
+    for (size_t at = fault->length; at < sizeof fault->text; at++)
+        if (fault->text[at] != 0) return 0;
+    return 1;
+}
+
 static rt1553_terminal *terminal_of(const char *text) {
     rt1553_terminal *terminal = NULL;
     rt1553_fault fault = untouched();
@@ -99,7 +105,9 @@ static void comparisons(void) {
     row("the same", rt1553_compare(TEXT(FIVE), TEXT("address = 0x05"), to, sizeof to, &length, &fault) == RT1553_DONE);
     row("not the same", rt1553_compare(TEXT(FIVE), TEXT(SIX), to, sizeof to, &length, &fault) == RT1553_DIFFER);
     row("the script", length == strlen(script) && memcmp(to, script, length) == 0 && is_untouched(&fault));
+    memset(to, 0xa5, sizeof to);
     row("no room for it", rt1553_compare(TEXT(FIVE), TEXT(SIX), to, length - 1, &length, &fault) == RT1553_NO_ROOM);
+    row("what is needed for it is told", length == strlen(script) && to[0] == 0xa5 && is_untouched(&fault));
     row("the first is refused", rt1553_compare(TEXT(REFUSED), TEXT("x"), to, sizeof to, &length, &fault) == RT1553_REFUSED
                                     && fault.number == 2);
     row("the second is refused", rt1553_compare(TEXT(FIVE), TEXT("x"), to, sizeof to, &length, &fault) == RT1553_REFUSED
@@ -114,10 +122,14 @@ static void runs(void) {
     row("a run", rt1553_run(TEXT(FIVE), TEXT(script), to, sizeof to, &length, &fault) == RT1553_DONE);
     row("its transcript", length == 9 && memcmp(to, "A s 2800\n", 9) == 0 && is_untouched(&fault));
     row("just enough room", rt1553_run(TEXT(FIVE), TEXT(script), to, 9, &length, &fault) == RT1553_DONE && length == 9);
-    row("no room", rt1553_run(TEXT(FIVE), TEXT(script), to, 8, &length, &fault) == RT1553_NO_ROOM && length <= 8);
-    row("and no fault is told", is_untouched(&fault));
+    memset(to, 0xa5, sizeof to);
+    row("no room", rt1553_run(TEXT(FIVE), TEXT(script), to, 8, &length, &fault) == RT1553_NO_ROOM);
+    row("what is needed for a transcript is told", length == 9 && to[0] == 0xa5 && is_untouched(&fault));
+    row("no room before a refused line", rt1553_run(TEXT(FIVE), TEXT(wrong), to, 8, &length, &fault) == RT1553_NO_ROOM
+                                             && length == 9 && to[0] == 0xa5 && is_untouched(&fault));
     row("a refused line", rt1553_run(TEXT(FIVE), TEXT(wrong), to, sizeof to, &length, &fault) == RT1553_REFUSED);
     row("its number", length == 9 && tells(&fault, RT1553_OF_SCRIPT, 1, 4, "script: line 4\n"));
+    row("zero bytes behind its text", has_zeros(&fault));
     row("a refused text", rt1553_run(TEXT(REFUSED), TEXT(script), to, sizeof to, &length, &fault) == RT1553_REFUSED && length == 0);
     row("no script", rt1553_run(TEXT(FIVE), TEXT(""), to, 0, &length, &fault) == RT1553_DONE && length == 0);
 }

@@ -1,13 +1,14 @@
 -- What a call tells with its status.
-use Rattle.std.specs.Prelude.{◌≡◌, ◌<◌, ◌⊎◌, ℕ, List, [], Some, Option, length}
+use Rattle.std.specs.Prelude.{◌≡◌, ◌≢◌, ◌<◌, ◌⊎◌, ℕ, List, [], Some, Option, length}
 use Rattle.terminal_rules.specs.declared.event.Event.{Event}
+use Rattle.bus_script.specs.declared.fault.RunFault.{RunFault}
+use Rattle.bus_script.specs.declared.fault.RunFault.TheVariants as run
 use Rattle.rt1553.specs.declared.fault.LoadFault.{LoadFault}
 use Rattle.rt1553.specs.declared.fault.LoadFault.TheVariants as load
 use Rattle.rt1553.specs.declared.fault.EngineFault.{EngineFault}
-use Rattle.rt1553.specs.declared.fault.EngineFault.TheVariants.{Load}
+use Rattle.rt1553.specs.declared.fault.EngineFault.TheVariants.{Load, Script}
 use Rattle.rt1553.specs.Load.{IsNotLoaded}
 use Rattle.rt1553.specs.Canon.{IsCanon}
-use Rattle.rt1553.specs.Compare.{AreDifferent}
 use Rattle.rt1553.specs.Engine.{RunCompletes, RunStops, OnLoad, OnScript}
 use Rattle.rt1553.specs.Report.{exit_status_of}
 use Rattle.rt1553_live.specs.PlainFault.{TellsFault}
@@ -32,20 +33,22 @@ pub record IsTooLong (text : List ℕ) (needed room : ℕ) : Type 0 where
   pub counts : needed ≡ length bytes
   pub more : room < needed
 
--- the two texts are not of the same terminal
-abbrev pub Differ : List ℕ → List ℕ → Type 0
-Differ first second = (script : List Event) × AreDifferent first second script
-
 -- the text is accepted, and this is the transcript of the whole script
 abbrev pub RunsThrough : List ℕ → List ℕ → List ℕ → Type 0
 RunsThrough profile script transcript = (n : ℕ) × RunCompletes profile (Some script) (Some []) (Some transcript) n
 
+-- this is the transcript of the whole script, or of what was played of it before it was stopped
+abbrev pub IsPlayed : List ℕ → List ℕ → List ℕ → Type 0
+IsPlayed profile script transcript = RunsThrough profile script transcript
+    ⊎ ((fault : RunFault) × (left : Option (List ℕ)) × RunStops profile (Some script) left (Some []) (Some transcript) fault)
+
 -- Where a run was stopped: by the profile, of which this is the first fault; or by the script, or out of memory, behind
--- the events whose transcript this is.
+-- the events whose transcript this is. A script in memory is always read.
 pub record IsStopped (profile script transcript : List ℕ) (to : PlainFault) (status : ℕ) : Type 0 where
   pub fault : EngineFault
   pub left : Option (List ℕ)
   pub not_loaded : OnLoad fault (λ f. IsNotLoaded profile f × (transcript ≡ []))
   pub stopped : OnScript fault (RunStops profile (Some script) left (Some []) (Some transcript))
+  pub read : fault ≢ Script run.Read
   pub tells : TellsFault to fault
   pub answers : status ≡ exit_status_of fault

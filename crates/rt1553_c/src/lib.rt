@@ -3,7 +3,7 @@
 //! small. With 2 and 4 the fault is told; with the others it stays as it was.
 #![tactic(auto)]
 
-ghost use Rattle.std.specs.Prelude.{◌≡◌, ◌≢◌, ℕ, List, length, take};
+ghost use Rattle.std.specs.Prelude.{◌≡◌, ◌≢◌, ◌<◌, ℕ, List, length, take};
 ghost use Rattle.std.specs.Borrow.{full_share, sem};
 ghost use Rattle.std.specs.Ptr.{lies_at};
 ghost use base.Fml.{ftrue, fsep, fex};
@@ -18,14 +18,14 @@ ghost use Rattle.rt1553_live.specs.declared.live.Live.{Live};
 ghost use Rattle.rt1553_live.specs.contracts.live.Live.{the_row};
 ghost use Rattle.rt1553_live.specs.Live.{Steps};
 ghost use Rattle.script_lines.specs.EventLine.{script_text};
-ghost use Rattle.rt1553_c.specs.Told.{IsTold, IsNotWritten, IsTooLong, Differ, RunsThrough, IsStopped};
+ghost use Rattle.rt1553_c.specs.Told.{IsTold, IsNotWritten, IsTooLong, RunsThrough, IsStopped, IsPlayed};
 
-mod bounded_sink;
+mod memory;
 mod room;
 
-use bounded_sink::BoundedSink;
-use room::{put_bytes, put_script};
-use rt1553::{EngineFault, LoadFault, MemorySource, Verdict, canonical, compare, load, run};
+use memory::{TextSource, TranscriptSink};
+use room::{put_all, script_lines};
+use rt1553::{EngineFault, LoadFault, Verdict, canonical, compare, load, run};
 use rt1553_live::{Live, PlainAnswer, PlainEvent, PlainFault, new_live, step_live, tell_fault};
 use std::alloc::Global;
 
@@ -105,10 +105,9 @@ pub extern "C" fn rt1553_canonical(
     *filled = 0;
     match canonical(alloc, text) {
         Ok(bytes) => {
-            if put_bytes(to, filled, bytes.as_slice()) {
+            if put_all(to, filled, bytes.as_slice()) {
                 DONE
             } else {
-                *filled = bytes.len();
                 NO_ROOM
             }
         }
@@ -117,7 +116,7 @@ pub extern "C" fn rt1553_canonical(
 }
 
 /// Says whether two texts mean the same terminal. Where they don't, writes a script that shows it at the front of the room,
-/// its lines with their line feeds, and how many bytes it has.
+/// its lines with their line feeds, and how many bytes it has. A room of 4,608 bytes is enough.
 #[unsafe(no_mangle)]
 pub extern "C" fn rt1553_compare(
     alloc: Global,
@@ -130,7 +129,9 @@ pub extern "C" fn rt1553_compare(
     ensures same { result ≡ DONE → AreSame first.now second.now × (to.new ≡ to.old) × (filled.new ≡ 0) × (fault.new ≡ fault.old) }
     ensures differ { result ≡ DIFFER → (script : List Event) × AreDifferent first.now second.now script
         × (take filled.new to.new ≡ script_text script) × (fault.new ≡ fault.old) }
-    ensures no_room { result ≡ NO_ROOM → Differ first.now second.now × (fault.new ≡ fault.old) }
+    ensures no_room { result ≡ NO_ROOM → (script : List Event) × AreDifferent first.now second.now script
+        × (filled.new ≡ length (script_text script)) × (length to.old < length (script_text script)) × (to.new ≡ to.old) × (fault.new ≡ fault.old) }
+    ensures enough { result ≡ NO_ROOM → length to.old < 4608 }
     ensures refused { result ≢ DONE → result ≢ DIFFER → result ≢ NO_ROOM → IsTold (IsNotCompared first.now second.now) fault.new result
         × (to.new ≡ to.old) × (filled.new ≡ 0) }
 {
@@ -138,7 +139,7 @@ pub extern "C" fn rt1553_compare(
     match compare(alloc, first, second) {
         Ok(Verdict::Same) => DONE,
         Ok(Verdict::Differ(script)) => {
-            if put_script(to, filled, script.as_slice()) {
+            if put_all(to, filled, script_lines(script.as_slice()).as_slice()) {
                 DIFFER
             } else {
                 NO_ROOM
@@ -149,7 +150,8 @@ pub extern "C" fn rt1553_compare(
 }
 
 /// Plays a script to the terminal of a text, from power-up, and writes its transcript at the front of the room, and how many
-/// bytes it has. Where the run is stopped, the transcript so far is there.
+/// bytes it has. Where the run is stopped, the transcript so far is there. Where it has more bytes than the room, the room stays
+/// as it was.
 #[unsafe(no_mangle)]
 pub extern "C" fn rt1553_run(
     alloc: Global,
@@ -161,14 +163,15 @@ pub extern "C" fn rt1553_run(
 ) -> u8
     ensures done { result ≡ DONE → RunsThrough profile.now script.now (take filled.new to.new) × (fault.new ≡ fault.old) }
     ensures stopped { result ≢ DONE → result ≢ NO_ROOM → IsStopped profile.now script.now (take filled.new to.new) fault.new result }
-    ensures no_room { result ≡ NO_ROOM → (P : Description) × Of profile.now P × (fault.new ≡ fault.old) }
+    ensures no_room { result ≡ NO_ROOM → (transcript : List ℕ) × IsPlayed profile.now script.now transcript
+        × (filled.new ≡ length transcript) × (length to.old < length transcript) × (to.new ≡ to.old) × (fault.new ≡ fault.old) }
 {
     *filled = 0;
-    let mut source = MemorySource::new(script, usize::MAX, None);
-    let mut sink = BoundedSink::new(alloc, to.len());
+    let mut source = TextSource::new(script);
+    let mut sink = TranscriptSink::new(alloc);
     match run(alloc, profile, &mut source, &mut sink) {
         Ok(_) => {
-            if put_bytes(to, filled, sink.as_slice()) {
+            if put_all(to, filled, sink.as_slice()) {
                 DONE
             } else {
                 NO_ROOM
@@ -176,10 +179,10 @@ pub extern "C" fn rt1553_run(
         }
         Err(EngineFault::Load(why)) => told(fault, why),
         Err(EngineFault::Script(why)) => {
-            if !put_bytes(to, filled, sink.as_slice()) || sink.is_full() {
-                NO_ROOM
-            } else {
+            if put_all(to, filled, sink.as_slice()) {
                 tell_fault(fault, &EngineFault::Script(why))
+            } else {
+                NO_ROOM
             }
         }
     }

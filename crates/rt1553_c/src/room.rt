@@ -1,50 +1,49 @@
 //! Bytes are put into the room that a caller gives.
-ghost use Rattle.std.specs.Prelude.{◌≡◌, ◌≤◌, ◌<◌, ◌+◌, ◌++◌, true, false, length, take};
+ghost use Rattle.std.specs.Prelude.{◌≡◌, ◌≤◌, ◌<◌, ◌+◌, ◌*◌, ◌++◌, true, false, length, take};
 ghost use Rattle.script_lines.specs.EventLine.{event_line, script_text};
 
+use arrayvec::ArrayVec;
 use bus_script::write_event;
 use bus_terminal::Event;
 
-/// Puts a piece behind the first `used` bytes.
-fn put_behind(to: &mut [u8], used: usize, piece: &[u8])
-    requires { used + length piece.now ≤ length to.old }
-    ensures { take (used + length piece.now) to.new ≡ take used to.old ++ piece.now }
-{
-    to[used..used + piece.len()].copy_from_slice(piece);
-}
+/// The lines of a script, which has at most 80 events. A line has at most 65 bytes, with its line feed.
+type ScriptLines = ArrayVec<u8, 5200>;
 
-/// Puts a piece behind the first `used` bytes, and counts it. False where there is no room for it: then all stays as it was.
-pub fn put_bytes(to: &mut [u8], used: &mut usize, piece: &[u8]) -> bool
-    ensures bytes { result ≡ true → take used.new to.new ≡ take used.old to.old ++ piece.now }
-    ensures count { result ≡ true → used.new ≡ used.old + length piece.now }
-    ensures full { result ≡ false → length to.old < used.old + length piece.now }
+/// Puts bytes at the front of a room, and tells how many they are. False where they are more than the room, which stays as it was.
+pub fn put_all(to: &mut [u8], filled: &mut usize, bytes: &[u8]) -> bool
+    ensures filled { filled.new ≡ length bytes.now }
+    ensures put { result ≡ true → take (length bytes.now) to.new ≡ bytes.now }
+    ensures full { result ≡ false → length to.old < length bytes.now }
     ensures same { result ≡ false → to.new ≡ to.old }
 {
-    let at = *used;
-    if at > to.len() || piece.len() > to.len() - at {
+    *filled = bytes.len();
+    if bytes.len() > to.len() {
         return false;
     }
-    put_behind(to, at, piece);
-    *used = at + piece.len();
+    to[..bytes.len()].copy_from_slice(bytes);
     true
 }
 
-/// Puts the line of an event, with its line feed, behind the first `used` bytes; false where there is no room for it.
-fn put_event(to: &mut [u8], used: &mut usize, event: &Event) -> bool
-    ensures { result ≡ true → take used.new to.new ≡ take used.old to.old ++ event_line event.now }
+/// Adds the line of an event, with its line feed.
+fn push_event(lines: &mut ScriptLines, event: &Event)
+    requires { length lines.old.items + 65 ≤ 5200 }
+    ensures line { lines.new.items ≡ lines.old.items ++ event_line event.now }
+    ensures short { length lines.new.items ≤ length lines.old.items + 65 }
 {
-    put_bytes(to, used, write_event(event).as_str().as_bytes()) && put_bytes(to, used, b"\n")
+    let text = write_event(event);
+    let _ = lines.try_extend_from_slice(text.as_str().as_bytes());
+    lines.push(b'\n');
 }
 
-/// Puts the lines of a script at the front; false where there is no room for them.
-pub fn put_script(to: &mut [u8], used: &mut usize, script: &[Event]) -> bool
-    ensures { result ≡ true → take used.new to.new ≡ script_text script.now }
+/// The lines of a script.
+pub fn script_lines(script: &[Event]) -> ScriptLines
+    requires { length script.now ≤ 80 }
+    ensures lines { result.items ≡ script_text script.now }
+    ensures short { length result.items ≤ 65 * length script.now }
 {
-    *used = 0;
+    let mut lines = ScriptLines::new();
     for event in script {
-        if !put_event(to, used, event) {
-            return false;
-        }
+        push_event(&mut lines, event);
     }
-    true
+    lines
 }

@@ -1,5 +1,5 @@
 -- Faults as plain numbers.
-use Rattle.std.specs.Prelude.{◌≡◌, ℕ, take}
+use Rattle.std.specs.Prelude.{◌≡◌, ℕ, ◌-◌, take, drop, replicate}
 use Rattle.bus_profile.specs.FaultNames.{profile_fault_number}
 use Rattle.bus_canon.specs.Fault.{canon_fault_number}
 use Rattle.bus_canon.specs.declared.fault.CanonFault.TheVariants as canon_fault
@@ -32,9 +32,10 @@ plain_fault_line (Script (script_fault.Line line)) = line
 plain_fault_line (Script (script_fault.LongLine line)) = line
 plain_fault_line _ = 0
 
--- these are the numbers of the fault, and the text is one line
+-- these are the numbers of the fault, and the text is one line, with zero bytes behind it
 pub record TellsFault (to : PlainFault) (fault : EngineFault) : Type 0 where
   pub kind : to.kind ≡ plain_fault_kind fault
   pub number : to.number ≡ plain_fault_number fault
   pub line : to.line ≡ plain_fault_line fault
   pub text : IsOneLine (take to.length to.text)
+  pub zeros : drop to.length to.text ≡ replicate (136 - to.length) 0

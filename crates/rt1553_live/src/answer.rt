@@ -1,5 +1,5 @@
 //! Answers as plain numbers.
-ghost use Rattle.std.specs.Prelude.{◌≡◌, ◌≤◌, length, take, Some};
+ghost use Rattle.std.specs.Prelude.{◌≡◌, ◌≤◌, length, take, drop, Some};
 ghost use Rattle.terminal_rules.specs.Out.{SendsWord, HandsOver};
 ghost use Rattle.bus_terminal.specs.Answer.{shown_answer, shown_word, shown_handing, words_handed, IsSmall};
 ghost use Rattle.rt1553_live.specs.PlainEvent.{bus_of_number};
@@ -41,7 +41,8 @@ fn bus_number(bus: Bus) -> u8
 /// Puts items at the front of a row.
 pub fn put_first<T: Copy>(row: &mut [T], items: &[T])
     requires { length items.now ≤ length row.old }
-    ensures { take (length items.now) row.new ≡ items.now }
+    ensures front { take (length items.now) row.new ≡ items.now }
+    ensures behind { drop (length items.now) row.new ≡ drop (length items.now) row.old }
 {
     row[..items.len()].copy_from_slice(items);
 }

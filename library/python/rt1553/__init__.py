@@ -123,7 +123,7 @@ class NoMemory(Fault):
 
 
 class NoRoom(Fault):
-    """A transcript is longer than the room for it."""
+    """A transcript is longer than the room for it. The text says how many bytes it has."""
 
 
 # --- events and answers
@@ -434,8 +434,6 @@ def _of(text: Text) -> bytes:
 
 def _told(status: int, fault: ctypes.Array[ctypes.c_char]) -> Fault:
     """The fault of a call that was refused."""
-    if status == _NO_ROOM:
-        return NoRoom("no room")
     kind, number, length, line, text = _FAULT.unpack(fault)
     said = text[:length].decode().rstrip("\n")
     return (NoMemory if status == _NO_MEMORY else Refused)(said, FaultKind(kind), number, line)
@@ -495,7 +493,7 @@ def _room(room: object) -> int:
 def run(text: Text, script: Text, room: Optional[int] = None) -> str:
     """The transcript of a script, played to the terminal of a text from power-up. `room` is how many bytes it may have; as
     many as any transcript of this script where it isn't given. ValueError where it is negative. A fault has in `transcript` what
-    was answered before it.
+    was answered before it; `NoRoom` says how many bytes are needed.
 
     >>> run("address = 5", "A c 2c02\\nA gap\\nslot\\n")
     'A s 2800\\n'
@@ -506,6 +504,8 @@ def run(text: Text, script: Text, room: Optional[int] = None) -> str:
     room = enough if room is None else min(_room(room), enough)
     to, length = ctypes.create_string_buffer(max(room, 1)), _size()
     status = _run(text, len(text), script, len(script), to, room, ctypes.byref(length), fault)
+    if status == _NO_ROOM:
+        raise NoRoom(f"no room: {length.value} bytes are needed")
     transcript = ctypes.string_at(to, length.value).decode()
     if status:
         why = _told(status, fault)

@@ -84,7 +84,8 @@ fn written(room: usize, call: impl FnOnce(*mut u8, usize, *mut usize, *mut sys::
     let (mut length, mut fault) = (0, MaybeUninit::uninit());
     let status = call(to.as_mut_ptr(), to.len(), &mut length, fault.as_mut_ptr());
     let is_done = matches!(status, sys::RT1553_DONE | sys::RT1553_DIFFER);
-    to.truncate(length);
+    // where there is no room, nothing is written
+    to.truncate(if status == sys::RT1553_NO_ROOM { 0 } else { length });
     (status, to, (!is_done).then(|| told(status, &fault)))
 }
 
