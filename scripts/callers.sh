@@ -3,9 +3,10 @@
 #
 # Builds the library in BUILT, a copy of this repository in which `rt ci` or `rt lib` has run, or here. Then: the tests of each
 # language; the cases of tests/vectors, random messages and the validation scripts, which a player in each language plays by the whole
-# text and event by event; each growth of memory refused in turn; 31 terminals on 31 threads; the examples; and the sessions of
-# docs/library.md. The C programs are run under the address, undefined behaviour and thread sanitizers too, and under valgrind where
-# there is one. scripts/unpacked.sh tests the library where it is installed. The last line is 'N passed, M failed'.
+# text and event by event; each growth of memory refused in turn; 31 terminals on 31 threads; how much stack the calls take; the
+# examples; and the sessions of docs/library.md. The C programs are run under the address, undefined behaviour and thread sanitizers
+# too, and under valgrind where there is one. scripts/unpacked.sh tests the library where it is installed. The last line is 'N passed,
+# M failed'.
 set -uo pipefail
 top=$(realpath "$(dirname "$0")/..") || exit 1
 built=$(realpath "${1:-"$top"}") || exit 1
@@ -100,6 +101,7 @@ in_c() {
     builds growths "$tests/growths.c" -Wl,--wrap=malloc,--wrap=realloc,--wrap=free \
         && part 'each growth of memory refused in turn' "$work/growths"
     builds threads "$tests/threads.c" -pthread -fsanitize=thread -g && part '31 terminals on 31 threads' "$work/threads"
+    builds stack "$tests/stack.c" -pthread && part 'the stack that calls take' "$work/stack"
     if command -v valgrind >/dev/null; then
         part 'the calls under valgrind' valgrind -q --error-exitcode=9 --leak-check=full "$work/calls"
         part 'the growths under valgrind' valgrind -q --error-exitcode=9 --leak-check=full "$work/growths"

@@ -2,9 +2,9 @@
 # The archive of `make dist`, where nothing else of this repository is: scripts/unpacked.sh [BUILT]
 #
 # Makes it of BUILT, in which `rt ci` and `scripts/library.sh build` have run, or of this repository, and unpacks it in a temporary
-# folder. There, with an empty environment, a home of its own and no toolchain in PATH: its checksums, the sessions of its pages, the
-# same where it is installed, the wheel, and that it is removed again. No file of it names a folder of this machine, and where there is
-# strace no program opens a file of the repository. The last line is 'N passed, M failed'.
+# folder. There, with an empty environment, a home of its own and no toolchain in PATH: its checksums; the sessions of its pages where it
+# is installed, with the wheel, and that it is removed again; the sessions in the unpacked folder. No file of it names a folder of this
+# machine, and where there is strace no program opens a file of the repository. The last line is 'N passed, M failed'.
 set -uo pipefail
 built=$(realpath "${1:-$(dirname "$0")/..}") || exit 1
 cd "$(dirname "$0")/.." || exit 1
@@ -97,7 +97,9 @@ installed() {
     ln -s "$place"/bin/* "$used/bin"
     ln -s "$place"/{include,lib} "$used/bin/library"
     ln -s "$work/python" "$used/bin/library/python"
-    ln -s "$place"/share/doc/rt1553/* "$unpacked/library" "$used"
+    ln -s "$place"/share/doc/rt1553/* "$used"
+    # the crates look for the library in the folder in which they stand
+    cp -r "$unpacked/library" "$used"
     sessions 'the sessions of the installed pages' "$used" README.md docs/tutorial.md docs/library.md
     grep -q "^prefix=$prefix\$" "$place/lib/pkgconfig/rt1553.pc"
     count 'the pkg-config file names the place' $?
@@ -127,8 +129,8 @@ cp scripts/sessions.py "$work"
 made
 [[ $failed -eq 0 ]] || the_end
 received
-sessions 'the sessions in the unpacked archive' "$unpacked" README.txt README.md docs/tutorial.md docs/library.md
 installed
+sessions 'the sessions in the unpacked archive' "$unpacked" README.txt README.md docs/tutorial.md docs/library.md
 if ((${#tracer[@]})); then
     ! grep -F -e "\"$top/" -e "\"$built/" "$work/opened"
     count 'nothing of this repository was opened' $?
