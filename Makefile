@@ -28,7 +28,7 @@ bench: ## the speed beside that of three programs in plain Rust; no test
 	@bash scripts/need.sh rt rustc python3
 	bash bench/run.sh
 
-install: ## copies programs, man pages, completions, schemas and, where it is built, the library below PREFIX, /usr/local
+install: ## copies programs, pages, completions, schemas and, where it is built, the library below PREFIX, /usr/local
 	@bash scripts/install.sh install
 
 uninstall: ## removes them
@@ -38,6 +38,10 @@ deb: ## a Debian package of what is built, the library too where it is: bin/rt15
 	@bash scripts/need.sh python3 dpkg-deb dpkg-shlibdeps
 	@bash scripts/deb.sh
 
+dist: ## an archive of programs, library and pages, for who has no toolchain: bin/rt1553-VERSION-linux-x86_64.tar.gz
+	@bash scripts/need.sh python3 objdump
+	@bash scripts/dist.sh
+
 pages: ## writes man pages and completions anew from manual/arguments.toml
 	@bash scripts/need.sh python3
 	@python3 scripts/manual.py write
@@ -46,4 +50,4 @@ clean: ## removes what was built: bin/, and crates/*/out, the work of the proofs
 	@du -shc bin out crates/*/out 2>/dev/null | tail -n 1 | sed 's/\ttotal/ are freed; make build proves and builds anew/'
 	@rm -rf bin out crates/*/out
 
-.PHONY: build help check library test bench install uninstall deb pages clean
+.PHONY: build help check library test bench install uninstall deb dist pages clean

@@ -1,11 +1,12 @@
 #!/usr/bin/env bash
 # The library inside programs in C, C++, Python and Rust: scripts/callers.sh [BUILT]
 #
-# Builds the library in BUILT, a copy of this repository in which `rt ci` or `rt lib` has run, or here, and installs it in a
-# temporary folder. Then: the tests of each language; the cases of tests/vectors, random messages and the validation scripts,
-# which a player in each language plays by the whole text and event by event; each growth of memory refused in turn; 31
-# terminals on 31 threads; the examples; and the sessions of docs/library.md. The C programs are run under the address, undefined
-# behaviour and thread sanitizers too, and under valgrind where there is one. The last line is 'N passed, M failed'.
+# Builds the library in BUILT, a copy of this repository in which `rt ci` or `rt lib` has run, or here. Then: the tests of each
+# language; the cases of tests/vectors, random messages and the validation scripts, which a player in each language plays by the whole
+# text and event by event; each growth of memory refused in turn; 31 terminals on 31 threads; how much stack the calls take; the
+# examples; and the sessions of docs/library.md. The C programs are run under the address, undefined behaviour and thread sanitizers
+# too, and under valgrind where there is one. scripts/unpacked.sh tests the library where it is installed. The last line is 'N passed,
+# M failed'.
 set -uo pipefail
 top=$(realpath "$(dirname "$0")/..") || exit 1
 built=$(realpath "${1:-"$top"}") || exit 1
@@ -100,6 +101,7 @@ in_c() {
     builds growths "$tests/growths.c" -Wl,--wrap=malloc,--wrap=realloc,--wrap=free \
         && part 'each growth of memory refused in turn' "$work/growths"
     builds threads "$tests/threads.c" -pthread -fsanitize=thread -g && part '31 terminals on 31 threads' "$work/threads"
+    builds stack "$tests/stack.c" -pthread && part 'the stack that calls take' "$work/stack"
     if command -v valgrind >/dev/null; then
         part 'the calls under valgrind' valgrind -q --error-exitcode=9 --leak-check=full "$work/calls"
         part 'the growths under valgrind' valgrind -q --error-exitcode=9 --leak-check=full "$work/growths"
@@ -108,25 +110,8 @@ in_c() {
     builds player-c-checked "$tests/player.c" $sanitizers -g
     builds player-cpp "$tests/player.cpp"
     builds player-cpp-checked "$tests/player.cpp" $sanitizers -g
-}
-
-# what `install` leaves, linked by name: as a program finds it that isn't of this repository
-installed() {
-    local place=$work/place prefix=/opt/terminal flags
-    done_by 'the library is installed' env DESTDIR="$place" PREFIX=$prefix bash "$top/scripts/library.sh" install "$built"
     [[ -z $(nm -D --defined-only "$library/lib/librt1553.so" | awk '$3 !~ /^rt1553_/') ]]
     count 'the shared library has the calls of the header and no other name' $?
-    grep -q "^prefix=$prefix\$" "$place$prefix/lib/pkgconfig/rt1553.pc"
-    count 'the pkg-config file names the place' $?
-    flags="-I$place$prefix/include -L$place$prefix/lib -lrt1553"
-    if command -v pkg-config >/dev/null; then
-        flags=$(PKG_CONFIG_SYSROOT_DIR=$place PKG_CONFIG_PATH=$place$prefix/lib/pkgconfig pkg-config --cflags --libs rt1553)
-    fi
-    # the flags are words
-    # shellcheck disable=SC2086
-    done_by 'a program is linked with the shared library' cc -o "$work/shared" "$top/examples/library/first.c" $flags
-    echo 'A s 2800' >"$work/first"
-    prints 'and runs with it' "$work/first" env "LD_LIBRARY_PATH=$place$prefix/lib" "$work/shared"
 }
 
 # --- Python
@@ -182,11 +167,13 @@ examples() {
     for name in two_terminals poll31 controller_test; do
         prints "$name.py" "$folder/$name.transcript" python3 "$folder/$name.py"
     done
-    part 'the sessions of docs/library.md' python3 "$tests/pages.py" "$library"
+    mkdir -p "$work/page/bin"
+    ln -s "$library" "$work/page/bin/library"
+    ln -s "$top"/{docs,examples,library} "$work/page"
+    part 'the sessions of docs/library.md' python3 "$top/scripts/sessions.py" in "$work/page" docs/library.md
 }
 
 in_c
-installed
 in_python
 in_rust
 players

@@ -1,6 +1,6 @@
 #!/usr/bin/env bash
 # Makes a Debian package of what was built: deb.sh [FOLDER], which it is left in; else in bin/. It prints the package's name.
-# Programs, man pages, completions, schemas and examples; and the C library, if bin/library is there.
+# All that `make install` copies: the C library too, if bin/library is there.
 set -euo pipefail
 cd "$(dirname "$0")/.."
 folder=${1:-bin}
@@ -11,13 +11,9 @@ version=$(python3 scripts/manual.py version)
 architecture=$(dpkg --print-architecture)
 
 DESTDIR=$root PREFIX=/usr ZSH_FUNCTIONS=share/zsh/vendor-completions bash scripts/install.sh install >/dev/null
-gzip -9n "$root"/usr/share/man/man1/*.1
-doc=$root/usr/share/doc/rt1553
-mkdir -p "$doc"
-gzip -9nc CHANGELOG.md >"$doc/changelog.gz"
-find examples -type f | sort | while read -r name; do install -D -m 644 "$name" "$doc/$name"; done
-# the schema stands elsewhere in a package: as seen from share/doc/rt1553
-find "$doc/examples" -name '*.toml' -exec sed -i '1s|^\(#:schema [./]*\)editors/|\1../../rt1553/|' {} +
+# the names and the form that Debian's packages have
+gzip -9n "$root"/usr/share/man/man1/*.1 "$root/usr/share/doc/rt1553/CHANGELOG.md"
+mv "$root"/usr/share/doc/rt1553/{CHANGELOG.md,changelog}.gz
 
 # on which packages the programs depend is asked of the programs
 mkdir -p "$work/debian" "$root/DEBIAN"

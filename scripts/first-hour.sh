@@ -76,7 +76,7 @@ END
 make_rows() {
     local word
     make --silent help >"$work/help"
-    for word in build help check library test bench install uninstall deb pages clean; do
+    for word in build help check library test bench install uninstall deb dist pages clean; do
         grep -q "^make $word  *[a-z]" "$work/help"
         count "make help tells of $word" $?
     done
@@ -215,11 +215,12 @@ install_rows() {
     answers_below "$to"
     count 'the installed programs answer' $?
     for file in share/man/man1/rt1553.1 share/man/man1/rt1553-tool.1 share/bash-completion/completions/rt1553-tool share/zsh/site-functions/_rt1553 \
-        share/fish/vendor_completions.d/rt1553.fish share/rt1553/profile.schema.json share/rt1553/acceptance.schema.json share/rt1553/editors/vim/syntax/rt1553script.vim; do
+        share/fish/vendor_completions.d/rt1553.fish share/rt1553/profile.schema.json share/rt1553/acceptance.schema.json share/rt1553/editors/vim/syntax/rt1553script.vim \
+        share/doc/rt1553/README.md share/doc/rt1553/docs/tutorial.md; do
         [[ -s $to/$file ]]
         count "make install leaves $file" $?
     done
-    (cd "$work/clone" && make --silent uninstall PREFIX="$to") >"$work/told" 2>&1 && [[ -z $(find "$to" -type f) && ! -e $to/share/rt1553 ]]
+    (cd "$work/clone" && make --silent uninstall PREFIX="$to") >"$work/told" 2>&1 && [[ -z $(find "$to" -type f) && ! -e $to/share/rt1553 && ! -e $to/share/doc/rt1553 ]]
     count 'make uninstall leaves nothing' $?
 }
 
@@ -243,7 +244,7 @@ deb_rows() {
     answers_below "$root/usr"
     count 'the programs of the package answer' $?
     for file in man/man1/rt1553.1.gz man/man1/rt1553-tool.1.gz bash-completion/completions/rt1553 zsh/vendor-completions/_rt1553-tool fish/vendor_completions.d/rt1553-tool.fish \
-        rt1553/profile.schema.json doc/rt1553/changelog.gz doc/rt1553/examples/profiles/sensor.toml; do
+        rt1553/profile.schema.json doc/rt1553/changelog.gz doc/rt1553/README.md doc/rt1553/docs/tutorial.md doc/rt1553/examples/profiles/sensor.toml; do
         [[ -s $root/usr/share/$file ]]
         count "the package has $file" $?
     done

@@ -1,8 +1,8 @@
 #!/usr/bin/env bash
 # The gate: every proof and test; that public contracts cite nothing of specs/inner, that nothing is there to which nothing refers,
 # that one name stands for one thing, and that the pages speak of what is there; then the built programs from end to end, texts with
-# known answers, the protocol tests, the acceptance tests, the library in C, C++, Python and Rust, the sessions of the pages, and what
-# is installed; and beside all this the must-fail edits. All is proved, tested and run each time; edits that an earlier run on this
+# known answers, the protocol tests, the acceptance tests, the library in C, C++, Python and Rust, the archive of all, the sessions of the
+# pages, and what is installed; and beside all this the must-fail edits. All is proved, tested and run each time; edits that an earlier run on this
 # machine refused over the same files are taken from there. With ANEW=1 they are tried too. The line before the
 # last tells how long it took. The last line, 'N passed, M failed', adds the counts of the parts.
 set -uo pipefail
@@ -79,6 +79,7 @@ if [[ $failed -eq 0 ]]; then
     part bash scripts/tool.sh "${tools[@]}"
     part python3 scripts/acceptance.py "${programs[0]}" "${tools[@]}"
     part bash scripts/callers.sh "$built"
+    part bash scripts/unpacked.sh "$built"
     part python3 scripts/sessions.py "${programs[0]}" "${tools[0]}"
     part bash scripts/first-hour.sh "${programs[0]}" "${tools[0]}"
     wait "$edits"

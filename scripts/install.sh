@@ -1,9 +1,11 @@
 #!/usr/bin/env bash
 # Copies what was built, and its pages, below $DESTDIR$PREFIX, or removes them: install.sh install|uninstall
-# The library goes with them where `make library` has built it.
+# PREFIX is /usr/local where it isn't set. The library goes with them where `make library` has built it. The archive of `make dist`
+# has this script too, and the same folders.
 set -euo pipefail
 cd "$(dirname "$0")/.."
-to=${DESTDIR:-}${PREFIX:-/usr/local}
+prefix=${PREFIX:-/usr/local}
+to=${DESTDIR:-}$prefix
 # zsh looks here in /usr/local, and elsewhere in what Debian's packages bring
 zsh=${ZSH_FUNCTIONS:-share/zsh/site-functions}
 
@@ -22,6 +24,23 @@ files() {
         echo "docs/$name.schema.json 644 share/rt1553/$name.schema.json"
     done
     find editors/vim editors/vscode -type f -printf '%p 644 share/rt1553/%p\n' | sort
+    find README.md CHANGELOG.md docs/*.md examples -type f -printf '%p 644 share/doc/rt1553/%p\n' | sort
+}
+
+# the same of the library
+library_files() {
+    local name
+    for name in include/rt1553.h include/rt1553.hpp lib/librt1553.a lib/pkgconfig/rt1553.pc; do
+        echo "bin/library/$name 644 $name"
+    done
+    echo "bin/library/lib/librt1553.so.0 755 lib/librt1553.so.0"
+    for name in bin/library/rt1553-*.whl; do echo "$name 644 share/rt1553/${name##*/}"; done
+}
+
+# copies the files that are told to their places
+copy() {
+    local file mode place
+    while read -r file mode place; do install -D -m "$mode" "$file" "$to/$place"; done
 }
 
 case ${1:-} in
@@ -30,14 +49,22 @@ install)
         echo "bin/rt1553 and bin/rt1553-tool aren't there: run 'make build' first" >&2
         exit 1
     fi
-    files | while read -r file mode place; do install -D -m "$mode" "$file" "$to/$place" || exit 1; done
-    if [[ -d bin/library ]]; then bash scripts/library.sh install; fi
-    echo "rt1553 and rt1553-tool are installed in $to, their man pages in $to/share/man"
+    files | copy
+    # the schema stands elsewhere here: as seen from share/doc/rt1553
+    find "$to/share/doc/rt1553/examples" -name '*.toml' -exec sed -i '1s|^\(#:schema [./]*\)editors/|\1../../rt1553/|' {} +
+    if [[ -d bin/library ]]; then
+        library_files | copy
+        ln -sf librt1553.so.0 "$to/lib/librt1553.so"
+        sed -i "s|@PREFIX@|$prefix|" "$to/lib/pkgconfig/rt1553.pc"
+    fi
+    echo "rt1553 and rt1553-tool are installed in $to, their man pages in $to/share/man, the other pages in $to/share/doc/rt1553"
     ;;
 uninstall)
-    files | while read -r _ _ place; do rm -f "$to/$place"; done
-    bash scripts/library.sh uninstall
-    if [[ -d $to/share/rt1553 ]]; then find "$to/share/rt1553" -type d -empty -delete; fi
+    { files; library_files; } | while read -r _ _ place; do rm -f "$to/$place"; done
+    rm -f "$to/lib/librt1553.so" "$to"/share/rt1553/rt1553-*.whl
+    for folder in "$to"/share/{,doc/}rt1553; do
+        if [[ -d $folder ]]; then find "$folder" -type d -empty -delete; fi
+    done
     echo "rt1553 and rt1553-tool are removed from $to"
     ;;
 *)

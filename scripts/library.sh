@@ -3,8 +3,7 @@
 #
 #     scripts/library.sh build [BUILT]   proves the calls in BUILT, a copy of this repository, or here, and leaves the library in
 #                                        BUILT/bin/library: include/, lib/ with its pkg-config file, python/ and the wheel
-#     scripts/library.sh install [BUILT] copies what `build` left there to $DESTDIR$PREFIX; PREFIX is /usr/local where it isn't set
-#     scripts/library.sh uninstall       removes it from there
+#     scripts/library.sh glibc FILE..    the newest version of the C library that these files ask for
 set -euo pipefail
 top=$(realpath "$(dirname "$0")/..")
 
@@ -24,8 +23,8 @@ whole_object() {
     objcopy --wildcard --keep-global-symbol='rt1553_*' "$to"
 }
 
-# the newest version of the C library that a shared library asks for: newest_glibc FILE
-newest_glibc() { objdump -T "$1" | grep -o 'GLIBC_[0-9.]*' | sort -V | tail -n 1 | sed s/GLIBC_//; }
+# the newest version of the C library that these files ask for: newest_glibc FILE..
+newest_glibc() { objdump -T "$@" | grep -o 'GLIBC_[0-9.]*' | sort -V | tail -n 1 | sed s/GLIBC_//; }
 
 # the crates below one, as crates.txt has them: below NAME
 below() { sed -n "s/^$1\( staticlib\)\?: *//p" crates.txt; }
@@ -79,27 +78,8 @@ build() {
     python3 "$top/library/python/wheel.py" "$to/python" "$to" "$version" manylinux_2_17_x86_64
 }
 
-install_library() {
-    local from=${1:-"$top"}/bin/library to=${DESTDIR:-}${PREFIX:-/usr/local} file
-    [[ -e $from/lib/librt1553.a ]] || { echo "scripts/library.sh: build the library first" >&2; exit 1; }
-    for file in include/rt1553.h include/rt1553.hpp lib/librt1553.a; do
-        install -D -m 644 "$from/$file" "$to/$file"
-    done
-    install -D -m 755 "$from/lib/librt1553.so.0" "$to/lib/librt1553.so.0"
-    ln -sf librt1553.so.0 "$to/lib/librt1553.so"
-    install -d "$to/lib/pkgconfig"
-    sed "s|@PREFIX@|${PREFIX:-/usr/local}|" "$from/lib/pkgconfig/rt1553.pc" >"$to/lib/pkgconfig/rt1553.pc"
-    install -D -m 644 -t "$to/share/rt1553" "$from"/rt1553-*.whl
-}
-
-uninstall_library() {
-    local to=${DESTDIR:-}${PREFIX:-/usr/local}
-    rm -f "$to"/include/rt1553.h{,pp} "$to"/lib/librt1553.{a,so,so.0} "$to"/lib/pkgconfig/rt1553.pc "$to"/share/rt1553/rt1553-*.whl
-}
-
 case ${1:-} in
     build) build "${2:-}" ;;
-    install) install_library "${2:-}" ;;
-    uninstall) uninstall_library ;;
-    *) sed -n '4,8s/^# \{0,1\}//p' "$0" >&2; exit 3 ;;
+    glibc) newest_glibc "${@:2}" ;;
+    *) sed -n '4,6s/^# \{0,1\}//p' "$0" >&2; exit 3 ;;
 esac

@@ -1,9 +1,12 @@
 #!/usr/bin/env python3
-"""Plays the sessions of the pages: sessions.py PROGRAM TOOL
+"""Plays the sessions of the pages.
+
+    sessions.py PROGRAM TOOL      those of all pages of this repository, with these programs
+    sessions.py in FOLDER PAGE..  those of pages of the folder, in it
 
 A session is an indented line `$ COMMAND` of a page, with what it prints in the lines below it, to the letter. Those of a
-page are played one after the other, each in the folder in which the one before ended; they begin in a temporary folder of the page's
-own that has `examples/` and the two programs, as `bin/rt1553` and `rt1553`, and with `-tool` behind it. A command that isn't
+page are played one after the other, each in the folder in which the one before ended; without `in` they begin in a temporary folder
+of the page's own that has `examples/` and the two programs, as `bin/rt1553` and `rt1553`, and with `-tool` behind it. A command that isn't
 played stands in NOT_PLAYED with its reason, a page that another script plays in ELSEWHERE. What looks like a command and is in no
 session is told, a block of TOML is to be a profile that is accepted, and what a page names of this repository is to be there. The
 last line is 'N passed, M failed'.
@@ -75,21 +78,26 @@ def printed(command, top, folder):
     return done.stdout.strip("\n"), pathlib.Path(ended).read_text().strip("\n")
 
 
+def played_in(top, text):
+    """Each command of a page's text that is played in a folder, what it is to print, and what it prints."""
+    folder = top
+    for block in blocks_of(text):
+        for command, wanted in sessions_of(block):
+            # what stands behind several spaces is a description
+            if any(re.match(pattern, re.split(r" {2,}", command)[0]) for pattern in NOT_PLAYED):
+                continue
+            found, folder = printed(command, top, folder)
+            yield command, wanted, found
+
+
 def played(page, program, tool):
-    """Each command of a page that is played, what it is to print, and what it prints."""
+    """The same of a page of this repository, in a folder of its own."""
     with tempfile.TemporaryDirectory() as top:
         os.mkdir(f"{top}/bin")
         os.symlink(program, f"{top}/bin/rt1553")
         os.symlink(tool, f"{top}/bin/rt1553-tool")
         os.symlink(TOP / "examples", f"{top}/examples")
-        folder = top
-        for block in blocks_of((TOP / page).read_text()):
-            for command, wanted in sessions_of(block):
-                # what stands behind several spaces is a description
-                if any(re.match(pattern, re.split(r" {2,}", command)[0]) for pattern in NOT_PLAYED):
-                    continue
-                found, folder = printed(command, top, folder)
-                yield command, wanted, found
+        yield from played_in(top, (TOP / page).read_text())
 
 
 def unplayed(page):
@@ -121,17 +129,28 @@ def named(page):
         yield name, "something that is there", "something that is there" if any(folder.glob(name.replace("NAME", "*"))) else "nothing"
 
 
-def main():
-    program, tool = map(os.path.realpath, sys.argv[1:3])
-    passed = failed = 0
+def rows(words):
+    """All that is compared: the page, what it has, what is wanted, and what is found."""
+    if words[0] == "in":
+        for page in words[2:]:
+            for row in played_in(words[1], pathlib.Path(words[1], page).read_text()):
+                yield page, *row
+        return
+    program, tool = map(os.path.realpath, words)
     for page in PAGES:
         sessions = [] if page in ELSEWHERE else played(page, program, tool)
-        for what, wanted, found in [*sessions, *unplayed(page), *profiles_in(page, program), *named(page)]:
-            if found == wanted:
-                passed += 1
-            else:
-                failed += 1
-                print(f"FAIL {page}: {what}\nis to print\n{wanted}\nand prints\n{found}")
+        for row in [*sessions, *unplayed(page), *profiles_in(page, program), *named(page)]:
+            yield page, *row
+
+
+def main():
+    passed = failed = 0
+    for page, what, wanted, found in rows(sys.argv[1:]):
+        if found == wanted:
+            passed += 1
+        else:
+            failed += 1
+            print(f"FAIL {page}: {what}\nis to print\n{wanted}\nand prints\n{found}")
     print(f"{passed} passed, {failed} failed")
     sys.exit(failed > 0)
 

@@ -12,6 +12,11 @@
    Threads. There is no global state, so calls may be made by any number of threads at once. A terminal takes one call at
    a time, and may be handed from thread to thread if the threads order that, by a lock or a join.
 
+   Stack. A step takes up to 4 KiB, each other call up to 128 KiB for a text whose tables nest as those of a profile do. A text
+   that nests them deeper takes more, also where it is refused: those of N bytes that were tried up to 180 N bytes and 256 KiB, and
+   none of up to 1 MiB more than 4 MiB. Where a thread has less, the process ends by a signal. So a thread that reads texts of
+   others has 4 MiB, and longer texts are refused before. This is measured and not proved (docs/library.md).
+
    Memory comes from malloc and realloc, and goes back by free. Only a terminal outlives the call that makes it. A step and
    rt1553_version take no memory. Calls that take some may not be made in a signal handler, nor in the forked child of a
    process with threads.
