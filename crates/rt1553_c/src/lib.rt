@@ -24,7 +24,7 @@ mod memory;
 mod room;
 
 use memory::{TextSource, TranscriptSink};
-use room::{put_all, script_lines};
+use room::{event_lines, put_all};
 use rt1553::{EngineFault, LoadFault, Verdict, canonical, compare, load, run};
 use rt1553_live::{Live, PlainAnswer, PlainEvent, PlainFault, new_live, step_live, tell_fault};
 use std::alloc::Global;
@@ -139,7 +139,7 @@ pub extern "C" fn rt1553_compare(
     match compare(alloc, first, second) {
         Ok(Verdict::Same) => DONE,
         Ok(Verdict::Differ(script)) => {
-            if put_all(to, filled, script_lines(script.as_slice()).as_slice()) {
+            if put_all(to, filled, event_lines(script.as_slice()).as_slice()) {
                 DIFFER
             } else {
                 NO_ROOM

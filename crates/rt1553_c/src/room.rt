@@ -36,7 +36,7 @@ fn push_event(lines: &mut ScriptLines, event: &Event)
 }
 
 /// The lines of a script.
-pub fn script_lines(script: &[Event]) -> ScriptLines
+pub fn event_lines(script: &[Event]) -> ScriptLines
     requires { length script.now ≤ 80 }
     ensures lines { result.items ≡ script_text script.now }
     ensures short { length result.items ≤ 65 * length script.now }

@@ -19,7 +19,7 @@ history_after_line (Ok (Some e)) h = e ∷ h
 history_after_line _ h = h
 
 -- what answers a line that is refused: the column of the first byte that doesn't fit, and why it doesn't
-pub record IsRefusal (text : List ℕ) : Type 0 where
+pub record RefusesLine (text : List ℕ) : Type 0 where
   pub column : ℕ
   pub reason : LineReason
   pub is : text ≡ codes "? column " ++ (short_decimal column ++ (codes ": " ++ (reason_text reason ++ codes "\n")))
@@ -28,7 +28,7 @@ pub record IsRefusal (text : List ℕ) : Type 0 where
 abbrev pub AnswersLine : Description → List Event → Result (Option Event) LineFault → List ℕ → Type 0
 AnswersLine P h (Ok (Some e)) text = text ≡ text_at P h e
 AnswersLine P h (Ok None) text = text ≡ []
-AnswersLine P h (Err f) text = IsRefusal text
+AnswersLine P h (Err f) text = RefusesLine text
 
 -- the history after lines
 unfoldable pub history_after_lines : List (List ℕ) → List Event → List Event

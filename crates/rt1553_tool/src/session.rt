@@ -5,7 +5,7 @@ ghost use Rattle.bus_legal.specs.Description.{Description};
 ghost use Rattle.terminal_rules.specs.declared.event.Event.{Event};
 ghost use Rattle.bus_terminal.specs.Stands.{StandsAt};
 ghost use Rattle.script_lines.specs.Text.{lines_of};
-ghost use Rattle.rt1553_tool.specs.Session.{live_meaning, history_after_line, AnswersLine, AnswersLines, IsRefusal};
+ghost use Rattle.rt1553_tool.specs.Session.{live_meaning, history_after_line, AnswersLine, AnswersLines, RefusesLine};
 ghost use Rattle.rt1553_tool.specs.inner.Served.{Served, ServesLine};
 
 use crate::input::{ServeFault, hand_on, put, take_line};
@@ -25,7 +25,7 @@ type LiveAnswer = ArrayString<320>;
 /// Gives what answers a line that is refused.
 fn refusal(misfit: Misfit) -> LiveAnswer
     requires { misfit.column < 100 }
-    ensures { IsRefusal result.bytes }
+    ensures { RefusesLine result.bytes }
 {
     let mut text = LiveAnswer::new();
     text.push_str("? column ");

@@ -16,9 +16,9 @@ tells_nothing (Ok (told ∷ others)) = false
 tells_nothing (Err fault) = false
 
 -- the terminal is the one that was given, or one of some file
-abbrev pub IsPlayed : Played → Parts → Type 0
-IsPlayed (One normal) value = value ≡ normal
-IsPlayed (Folder folder) value = IsLoaded value
+abbrev pub IsPlayedTo : Played → Parts → Type 0
+IsPlayedTo (One normal) value = value ≡ normal
+IsPlayedTo (Folder folder) value = IsLoaded value
 
 -- it is said of the terminal of which this can be reached whether it answers the script as stated
 abbrev pub SaysOf : Parts → List ℕ → Bool → Type 0

@@ -1,12 +1,12 @@
 //! The command `verify`: scripts that state their answers are played.
 ghost use Rattle.std.specs.Prelude.{◌≤◌, IfOk};
 ghost use Rattle.bus_legal.specs.Parts.{Parts};
-ghost use Rattle.rt1553_tool_program.specs.Passing.{IsPlayed, SaysOf};
+ghost use Rattle.rt1553_tool_program.specs.Passing.{IsPlayedTo, SaysOf};
 ghost use Rattle.rt1553_tool_program.specs.Status.{IsLoaded};
 
 use crate::colours::{Ink, put_in};
 use crate::fault::{DIFFERENT, ToolFault};
-use crate::files::{load_profile, read_script_file, shown as shown_name, write_bytes};
+use crate::files::{load_profile, read_script_file, shown, write_bytes};
 use crate::script_file::first_refused;
 use crate::summary::Summary;
 use crate::work::Screen;
@@ -31,7 +31,7 @@ enum Played<'a> {
 
 /// What is written of each script.
 #[derive(Clone, Copy)]
-struct Shown {
+struct ScriptReport {
     /// That it passes, too.
     each: bool,
     has_colours: bool,
@@ -52,13 +52,13 @@ fn profile_in<R: Files + AllocGlobal>(
     ensures { IfOk result (λ normal. IsLoaded normal) }
 {
     let Some(profile) = named(script, b"# Profile: ") else {
-        return Err(ToolFault::NoProfile(shown_name(rt, name)?));
+        return Err(ToolFault::NoProfile(shown(rt, name)?));
     };
     let Ok(profile) = str::from_utf8(profile) else {
-        return Err(ToolFault::NoProfile(shown_name(rt, name)?));
+        return Err(ToolFault::NoProfile(shown(rt, name)?));
     };
     if !stays_inside(profile) {
-        return Err(ToolFault::Outside(shown_name(rt, name)?));
+        return Err(ToolFault::Outside(shown(rt, name)?));
     }
     let path = format!(in rt.alloc(); "{folder}/{profile}")?;
     load_profile(rt, path.as_str())
@@ -72,7 +72,7 @@ impl Played<'_> {
         name: &str,
         script: &[u8],
     ) -> Result<Normal, ToolFault>
-        ensures { IfOk result (IsPlayed self.now) }
+        ensures { IfOk result (IsPlayedTo self.now) }
     {
         match self {
             Played::One(normal) => Ok(*normal),
@@ -115,18 +115,18 @@ fn put_count<W: Write>(
     name: &str,
     count: usize,
     answers: usize,
-    shown: Shown,
+    report: ScriptReport,
 ) -> Result<(), ToolFault> {
     let (ink, text) = if count > 0 {
         (Ink::Red, format!(in alloc; "{count} differ")?)
-    } else if shown.each {
+    } else if report.each {
         (Ink::Green, format!(in alloc; "passed ({answers} answers)")?)
     } else {
         return Ok(());
     };
     write_bytes(output, name.as_bytes())?;
     write_bytes(output, b": ")?;
-    put_in(output, shown.has_colours, ink, text.as_str().as_bytes())?;
+    put_in(output, report.has_colours, ink, text.as_str().as_bytes())?;
     write_bytes(output, b"\n")
 }
 
@@ -137,7 +137,7 @@ fn script_fault<R: AllocGlobal>(
     script: &[u8],
     fault: StatedFault,
 ) -> ToolFault {
-    let told = match shown_name(rt, name) {
+    let told = match shown(rt, name) {
         Ok(name) => ToolFault::Script(name, fault),
         Err(fault) => return fault,
     };
@@ -153,10 +153,10 @@ fn play_script<R: Files + AllocGlobal, W: Write>(
     played: &Played<'_>,
     name: &str,
     script: &[u8],
-    shown: Shown,
+    report: ScriptReport,
     output: &mut W,
 ) -> Result<bool, ToolFault>
-    ensures { IfOk result (λ passes. (value : Parts) × IsPlayed played.now value × SaysOf value script.now passes) }
+    ensures { IfOk result (λ passes. (value : Parts) × IsPlayedTo played.now value × SaysOf value script.now passes) }
 {
     let normal = played.of_script(rt, name, script)?;
     let stated = match read_stated(rt.alloc(), script) {
@@ -164,7 +164,7 @@ fn play_script<R: Files + AllocGlobal, W: Write>(
         Err(fault) => return Err(script_fault(rt, name, script, fault)),
     };
     let found = wrong_answers(rt.alloc(), &normal, stated.as_slice())?;
-    let name = shown_name(rt, name)?;
+    let name = shown(rt, name)?;
     for wrong in found.as_slice() {
         put_wrong_answer(rt.alloc(), output, name.as_str(), wrong)?;
     }
@@ -175,7 +175,7 @@ fn play_script<R: Files + AllocGlobal, W: Write>(
         name.as_str(),
         found.len(),
         answers,
-        shown,
+        report,
     )?;
     Ok(found.is_empty())
 }
@@ -193,7 +193,7 @@ fn play_file<R: Files + AllocGlobal, W: Write>(
     rt: &R,
     played: &Played<'_>,
     name: &str,
-    shown: Shown,
+    report: ScriptReport,
     summary: &mut Summary,
     output: &mut W,
 ) -> Result<u8, ToolFault>
@@ -206,7 +206,7 @@ fn play_file<R: Files + AllocGlobal, W: Write>(
             return Err(fault);
         }
     };
-    let outcome = play_script(rt, played, name, script.as_slice(), shown, output);
+    let outcome = play_script(rt, played, name, script.as_slice(), report, output);
     let passes = match &outcome {
         Ok(passes) => *passes,
         Err(_) => false,
@@ -220,7 +220,7 @@ fn play_files<R: Files + AllocGlobal + Eprint, W: Write>(
     rt: &R,
     played: &Played<'_>,
     names: &[&str],
-    shown: Shown,
+    report: ScriptReport,
     output: &mut W,
 ) -> Result<u8, ToolFault>
     ensures { IfOk result (λ status. status ≤ 4) }
@@ -228,11 +228,11 @@ fn play_files<R: Files + AllocGlobal + Eprint, W: Write>(
     let mut summary = Summary::new(rt.alloc());
     let mut status = 0;
     for name in names {
-        let of_file = play_file(rt, played, name, shown, &mut summary, output);
+        let of_file = play_file(rt, played, name, report, &mut summary, output);
         status = worst(status, status_or_stop(rt, of_file)?);
     }
-    if shown.each {
-        summary.put(rt.alloc(), shown.has_colours, output)?;
+    if report.each {
+        summary.put(rt.alloc(), report.has_colours, output)?;
     }
     Ok(status)
 }
@@ -253,9 +253,9 @@ pub fn verify_scripts<R: Files + AllocGlobal + Eprint, W: Write>(
         Profiles::One(name) => Played::One(load_profile(rt, name)?),
         Profiles::Folder(folder) => Played::Folder(folder),
     };
-    let shown = Shown {
+    let report = ScriptReport {
         each: summary,
         has_colours: screen.has_colours,
     };
-    play_files(rt, &played, scripts, shown, output)
+    play_files(rt, &played, scripts, report, output)
 }
