@@ -21,7 +21,7 @@ library: ## proves and builds the library for C, C++, Python and Rust: bin/libra
 	@python3 scripts/build.py library
 
 test: ## the gate: proves and tests everything; the last line is 'N passed, M failed'
-	@bash scripts/need.sh rt python3 cc c++ cargo groff vim dpkg-deb git
+	@bash scripts/need.sh rt python3 cc c++ cargo groff vim dpkg-deb git script
 	bash scripts/gate.sh
 
 bench: ## the speed beside that of three programs in plain Rust; no test

@@ -9,6 +9,7 @@ declare -A from=(
     [c++]='a C++ compiler; Debian package g++'
     [cargo]='Rust with cargo; Debian package cargo'
     [git]='Debian package git'
+    [script]='Debian package bsdutils'
     [ar]='Debian package binutils'
     [ld]='Debian package binutils'
     [objcopy]='Debian package binutils'

@@ -257,7 +257,7 @@ hostile_row() {
 }
 
 # what a command prints on a terminal: seen_on_terminal WORD..
-seen_on_terminal() { (cd "$work" && script -qec "$(printf '%q ' "$program" "$@")" /dev/null </dev/null 2>&1 | tr -d '\r'); }
+seen_on_terminal() { (cd "$work" && command script -qec "$(printf '%q ' "$program" "$@")" /dev/null </dev/null 2>&1 | tr -d '\r'); }
 
 # headings and verdicts stand out on a terminal, and nowhere else
 colour_rows() {
@@ -267,7 +267,7 @@ colour_rows() {
     printf 'address = 6\n' >"$work/six"
     script right '# Plan: 1\nA c 2c02\nA gap\nslot\n#> A s 2800\n'
     script wrong '# Plan: 2\nA c 2c02\nA gap\nslot\n'
-    [[ $(seen_on_terminal differ five six) == "${bold}address${plain}:  5 in five, 6 in six" ]]
+    [[ $(seen_on_terminal differ five six) == "${bold}address${plain}: 5 in five, 6 in six" ]]
     count 'colours: differ' $?
     [[ $(seen_on_terminal explain five | head -n 2) == "${bold}remote terminal 5${plain}"$'\n'"${bold}broadcast${plain}:   not heard" ]]
     count 'colours: explain' $?
