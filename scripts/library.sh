@@ -29,6 +29,12 @@ newest_glibc() { objdump -T "$@" | grep -o 'GLIBC_[0-9.]*' | sort -V | tail -n 1
 # the crates below one, as crates.txt has them: below NAME
 below() { sed -n "s/^$1\( staticlib\)\?: *//p" crates.txt; }
 
+# where a crate is built, one of this repository or the toolchain's: rlib_of NAME KIT
+rlib_of() {
+    local own=$PWD/crates/$1/out/rlib/$1.rlib
+    if [[ -e $own ]]; then echo "$own"; else echo "$2/rlibs/$1.rlib"; fi
+}
+
 # Proves and builds the calls, as crates/rt1553_c/out/librt1553_c.a: archive KIT. Where `rt ci` has run, the libraries below
 # stand as it left them, without the stamp by which `rt lib` knows that they needn't be proved again.
 archive() {
@@ -41,7 +47,7 @@ archive() {
         --antt-project "$kit/rattle/logic/antt-project.json" --logic-built "$kit/logic_built" --toolchain "$kit/toolchain"
         --backend llvm -L "dependency=$kit/rlibs")
     for name in crates/*/out/rlib; do words+=(-L "dependency=$PWD/$name"); done
-    for name in $(below rt1553_c); do words+=(--extern "$name=$PWD/crates/$name/out/rlib/$name.rlib"); done
+    for name in $(below rt1553_c); do words+=(--extern "$name=$(rlib_of "$name" "$kit")"); done
     mkdir -p crates/rt1553_c/out
     (cd crates/rt1553_c && "$kit/bin/rattle" build "${words[@]}" -o out/librt1553_c.a)
 }
