@@ -18,7 +18,7 @@ abbrev pub history_after_line : Result (Option Event) LineFault → List Event �
 history_after_line (Ok (Some e)) h = e ∷ h
 history_after_line _ h = h
 
--- what answers a line that is refused: the column of the first byte that doesn't fit, and why it doesn't
+-- what answers a line that is refused: a column, and one of the reasons
 pub record RefusesLine (text : List ℕ) : Type 0 where
   pub column : ℕ
   pub reason : LineReason
