@@ -1,17 +1,17 @@
-# rt1553: `make help` tells the words. All proofs, compilers and runs are the toolchain's command `rt`.
+# rt1553: `make help` lists the targets. All proofs, compilers and runs are the toolchain's command `rt`.
 PREFIX ?= /usr/local
 export PREFIX DESTDIR
 # the toolchain with which this release was proved: what `rt version` prints
-export KIT = rattle-kit-13b logic dac8208d650f15bf
+export KIT = rattle-kit-13f logic dac8208d650f15bf
 
-build: ## proves and builds the two programs, a line a crate: bin/rt1553, bin/rt1553-tool
+build: ## proves and builds the two programs, one line a crate: bin/rt1553, bin/rt1553-tool
 	@bash scripts/need.sh rt python3
 	@python3 scripts/build.py
 
-help: ## tells these words
+help: ## lists the targets
 	@awk -F ':.*## ' '/^[a-z]+:.*## / { printf "make %-12s %s\n", $$1, $$2 }' Makefile
 
-check: ## proves one crate, and what it stands on: make check CRATE=bus_word
+check: ## proves one crate and those below it: make check CRATE=bus_word
 	@bash scripts/need.sh rt
 	@if [ -z "$(CRATE)" ] || [ ! -d "crates/$(CRATE)" ]; then echo "make check CRATE=NAME, where NAME is one of:" $$(ls crates) >&2; exit 1; fi
 	cd "crates/$(CRATE)" && rt check
@@ -21,33 +21,33 @@ library: ## proves and builds the library for C, C++, Python and Rust: bin/libra
 	@python3 scripts/build.py library
 
 test: ## the gate: proves and tests everything; the last line is 'N passed, M failed'
-	@bash scripts/need.sh rt python3 cc c++ cargo groff vim dpkg-deb git script
+	@bash scripts/need.sh rt python3 pip3 cc c++ cargo objdump groff mandoc aspell vim dpkg-deb dpkg-shlibdeps git script
 	bash scripts/gate.sh
 
 bench: ## the speed beside that of three programs in plain Rust; no test
 	@bash scripts/need.sh rt rustc python3
 	bash bench/run.sh
 
-install: ## copies programs, pages, completions, schemas and, where it is built, the library below PREFIX, /usr/local
+install: ## copies programs, pages, completions, schemas and the library, if it is built, to PREFIX, /usr/local
 	@bash scripts/install.sh install
 
-uninstall: ## removes them
+uninstall: ## removes what `make install` copied
 	@bash scripts/install.sh uninstall
 
-deb: ## a Debian package of what is built, the library too where it is: bin/rt1553_VERSION_ARCHITECTURE.deb
+deb: ## makes a Debian package of what is built: bin/rt1553_VERSION_ARCHITECTURE.deb
 	@bash scripts/need.sh python3 dpkg-deb dpkg-shlibdeps
 	@bash scripts/deb.sh
 
-dist: ## an archive of programs, library and pages, for who has no toolchain: bin/rt1553-VERSION-linux-x86_64.tar.gz
+dist: ## makes an archive for machines without the toolchain: bin/rt1553-VERSION-linux-x86_64.tar.gz
 	@bash scripts/need.sh python3 objdump
 	@bash scripts/dist.sh
 
-pages: ## writes man pages and completions anew from manual/arguments.toml
+pages: ## writes the man pages and completions, of manual/arguments.toml, docs/script.md and docs/profile.md
 	@bash scripts/need.sh python3
 	@python3 scripts/manual.py write
 
-clean: ## removes what was built: bin/, and crates/*/out, the work of the proofs and the built libraries
-	@du -shc bin out crates/*/out 2>/dev/null | tail -n 1 | sed 's/\ttotal/ are freed; make build proves and builds anew/'
+clean: ## removes what was built: bin/, out/ and crates/*/out
+	@du -shc bin out crates/*/out 2>/dev/null | tail -n 1 | sed 's/\ttotal/ are freed; make build builds all of it again/'
 	@rm -rf bin out crates/*/out
 
 .PHONY: build help check library test bench install uninstall deb dist pages clean

@@ -3,10 +3,10 @@
 _rt1553() {
     local -a commands
     commands=(
-        'check:Prints ok, or tells the first fault of the profile'
+        'check:Prints ok, or the first fault of the profile'
         'canon:Prints the canonical text'
         'run:Plays the script to the terminal of the profile, from power-up, and prints the transcript'
-        'compare:Prints same, or a script on which the two terminals answer otherwise'
+        'compare:Prints same, or a script that the two terminals answer differently'
     )
     if ((CURRENT == 2)); then
         _describe -t commands command commands

@@ -3,10 +3,11 @@
 #
 # Builds the library in BUILT, a copy of this repository in which `rt ci` or `rt lib` has run, or here. Then: the tests of each
 # language; the cases of tests/vectors, random messages and the validation scripts, which a player in each language plays by the whole
-# text and event by event; each growth of memory refused in turn; 31 terminals on 31 threads; how much stack the calls take; the
-# examples; and the sessions of docs/library.md. The C programs are run under the address, undefined behaviour and thread sanitizers
-# too, and under valgrind where there is one. scripts/unpacked.sh tests the library where it is installed. The last line is 'N passed,
-# M failed'.
+# text and event by event; random scripts that are cut, and go on from saved states in another process; saved states with each byte
+# changed; each growth of memory refused in turn; 31 terminals on 31 threads; how much stack the calls take; the examples; and the
+# sessions of docs/library.md. The C programs are run under the address, undefined behaviour and thread sanitizers too, and under
+# valgrind where there is one; mypy looks at the types of the Python package and of the examples where there is one.
+# scripts/unpacked.sh tests the library where it is installed. The last line is 'N passed, M failed'.
 set -uo pipefail
 top=$(realpath "$(dirname "$0")/..") || exit 1
 built=$(realpath "${1:-"$top"}") || exit 1
@@ -98,12 +99,16 @@ in_c() {
     local sanitizers=-fsanitize=address,undefined
     builds calls "$tests/calls.c" && part 'the calls in C' "$work/calls"
     builds calls-checked "$tests/calls.c" $sanitizers -g && part 'the same under sanitizers' "$work/calls-checked"
+    builds copies "$tests/copies.cpp" && part 'copies and saved states in C++' "$work/copies"
+    builds copies-checked "$tests/copies.cpp" $sanitizers -g && part 'the same under sanitizers' "$work/copies-checked"
+    builds changes "$tests/changes.c" -pthread && part 'saved states with each byte changed' "$work/changes"
     builds growths "$tests/growths.c" -Wl,--wrap=malloc,--wrap=realloc,--wrap=free \
         && part 'each growth of memory refused in turn' "$work/growths"
     builds threads "$tests/threads.c" -pthread -fsanitize=thread -g && part '31 terminals on 31 threads' "$work/threads"
     builds stack "$tests/stack.c" -pthread && part 'the stack that calls take' "$work/stack"
     if command -v valgrind >/dev/null; then
         part 'the calls under valgrind' valgrind -q --error-exitcode=9 --leak-check=full "$work/calls"
+        part 'copies in C++ under valgrind' valgrind -q --error-exitcode=9 --leak-check=full "$work/copies"
         part 'the growths under valgrind' valgrind -q --error-exitcode=9 --leak-check=full "$work/growths"
     fi
     builds player-c "$tests/player.c"
@@ -122,6 +127,9 @@ in_python() {
     export PYTHONPATH=$package
     done_by 'the docstrings of the package' python3 -c 'import doctest, rt1553, sys; sys.exit(doctest.testmod(rt1553).failed)'
     done_by 'the docstrings of the bus' python3 -c 'import doctest, rt1553.bus, sys; sys.exit(doctest.testmod(rt1553.bus).failed)'
+    if command -v mypy >/dev/null; then
+        done_by 'the types of the package and of the examples' mypy --strict --cache-dir "$work/mypy" "$package/rt1553" "$top"/examples/library/*.py
+    fi
     part 'the package' python3 "$tests/package.py"
     part 'the bus' python3 "$tests/bus.py"
     # bytes around each block of memory are looked at when it is freed, and what is freed is overwritten
@@ -157,6 +165,8 @@ players() {
         part "cases, player-$name" python3 "$tests/vectors.py" "$work/cases" "$work/player-$name"
         part "protocol tests, player-$name" python3 "$top/scripts/validation.py" "$work/player-$name"
     done
+    mkdir "$work/states"
+    part 'cut scripts' python3 "$tests/states.py" "$work/states" "$work"/player-{c,cpp,python,rust}
 }
 
 examples() {
@@ -167,6 +177,10 @@ examples() {
     for name in two_terminals poll31 controller_test; do
         prints "$name.py" "$folder/$name.transcript" python3 "$folder/$name.py"
     done
+    # the first call begins the simulation, and the second goes on with it
+    # shellcheck disable=SC2016
+    prints 'saved_simulation.py' "$folder/saved_simulation.transcript" bash -c 'python3 "$1" "$2" && python3 "$1" "$2"' _ \
+        "$folder/saved_simulation.py" "$work/simulation"
     mkdir -p "$work/page/bin"
     ln -s "$library" "$work/page/bin/library"
     ln -s "$top"/{docs,examples,library} "$work/page"

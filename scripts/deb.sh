@@ -12,7 +12,7 @@ architecture=$(dpkg --print-architecture)
 
 DESTDIR=$root PREFIX=/usr ZSH_FUNCTIONS=share/zsh/vendor-completions bash scripts/install.sh install >/dev/null
 # the names and the form that Debian's packages have
-gzip -9n "$root"/usr/share/man/man1/*.1 "$root/usr/share/doc/rt1553/CHANGELOG.md"
+gzip -9n "$root"/usr/share/man/man[15]/* "$root/usr/share/doc/rt1553/CHANGELOG.md"
 mv "$root"/usr/share/doc/rt1553/{CHANGELOG.md,changelog}.gz
 
 # on which packages the programs depend is asked of the programs

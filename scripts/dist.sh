@@ -1,10 +1,10 @@
 #!/usr/bin/env bash
 # Makes an archive of what `make build` and `make library` leave, with its pages: dist.sh [BUILT [FOLDER]]
-# BUILT is a copy of this repository in which `rt ci` and `scripts/library.sh build` have run; else it is this one. The archive is
-# left in FOLDER, else in bin/, with its checksum beside it. It prints the archive's name.
+# BUILT is a copy of this repository in which `rt ci` and `scripts/library.sh build` have run, by default this one. The archive is
+# left in FOLDER, by default bin/, with its checksum beside it. It prints the archive's name.
 #
-# Folders are those of the repository, so that the commands of the pages can be typed in the unpacked archive as they stand. The same
-# files make the same archive, to the byte: each file has the time of the last commit, or that of SOURCE_DATE_EPOCH.
+# The folders are those of the repository, so that the commands of the pages can be typed in the unpacked archive. The same files make
+# the same archive, to the byte: each file has the time of the last commit, or that of SOURCE_DATE_EPOCH.
 set -euo pipefail
 built=$(realpath "${1:-$(dirname "$0")/..}")
 cd "$(dirname "$0")/.."
@@ -39,23 +39,29 @@ fi
 install -D -m 755 "$rt1553" "$to/bin/rt1553"
 install -D -m 755 "$tool" "$to/bin/rt1553-tool"
 tar -c -C "$built" --exclude=__pycache__ bin/library | tar -x -C "$to"
-tar -c --exclude=__pycache__ --exclude=target --exclude=arguments.toml \
-    README.md CHANGELOG.md docs editors examples library/rust manual scripts/install.sh | tar -x -C "$to"
+tar -c --exclude=__pycache__ --exclude=target --exclude=arguments.toml --exclude=words.txt \
+    README.md CHANGELOG.md SECURITY.md Containerfile docs editors examples library/rust manual scripts/install.sh | tar -x -C "$to"
 sed "s/@VERSION@/$version/; s/@GLIBC@/$(bash scripts/library.sh glibc "$rt1553" "$tool")/" >"$to/README.txt" <<'END'
 rt1553 @VERSION@ for Linux on x86-64
 ==============================
 
-A remote terminal of MIL-STD-1553B with Notice 2: two programs, and a library for C, C++, Python and Rust. README.md says
-what it does, docs/proofs.md what of it is proved. All of it is built: no toolchain is needed.
+A remote terminal of MIL-STD-1553B with Notice 2: two programs, and a library for C, C++, Python and
+Rust. README.md says what it does, docs/proofs.md says what is proved. Everything is built: you need
+no toolchain.
 
-It runs on Linux with an x86-64 processor of level v2, as nearly all since 2009 are, and glibc @GLIBC@ or later; the library
-with glibc 2.17 or later. The Python package needs Python 3.9 or later, the Rust crates need cargo.
+It runs on Linux, on x86-64 processors of level v2 (nearly all since 2009), with glibc @GLIBC@ or
+later. The library needs glibc 2.17 or later, the Python package Python 3.9 or later, and the Rust
+crates cargo. On macOS, Windows and ARM use a Linux container or virtual machine for x86-64;
+Containerfile installs this archive in a container.
 
-Did it arrive as it was made? This prints nothing if so:
+The owner has given no licence yet: all rights are reserved. SECURITY.md says where to report
+faults.
+
+Check that the archive is complete. This prints nothing if it is:
 
     $ sha256sum --quiet -c SHA256SUMS
 
-Try it in this folder. Nothing has to be installed:
+Try it in this folder. You need not install anything:
 
     $ printf 'A c 2c02\nA gap\nslot\n' | bin/rt1553
     A s 2800
@@ -64,14 +70,16 @@ Try it in this folder. Nothing has to be installed:
     $ PYTHONPATH=bin/library/python python3 -c 'import rt1553; print(rt1553.check("address = 5"))'
     None
 
-The folders are those of the repository. So the commands of README.md, docs/tutorial.md and docs/library.md can be typed here as
-they stand; `make`, crates/, tests/ and other scripts are in the repository alone.
+The folders are those of the repository, so you can type the commands of README.md, docs/tutorial.md
+and docs/library.md here. `make`, crates/, tests/ and the other scripts are in the repository alone.
 
-Install it below a folder of yours. Without PREFIX it goes below /usr/local, which takes root:
+Install it in a folder of your own. Without PREFIX it goes to /usr/local, for which you have to be
+root:
 
     PREFIX=$HOME/.local bash scripts/install.sh install
 
-`uninstall` in place of `install` removes it. Who makes packages sets DESTDIR too, the folder before PREFIX.
+`uninstall` in place of `install` removes it. To build a package, set DESTDIR too, the folder before
+PREFIX.
 
 Install the Python package alone, in a virtual environment:
 
@@ -84,7 +92,7 @@ What is where:
     library/rust/                 the crates rt1553-sys and rt1553, which find the library in bin/library
     manual/                       man pages, and completions for bash, zsh and fish
     editors/                      the schema of profiles, and colours for scripts: editors/README.md
-    docs/                         the pages, which README.md lists, and schemas of what is written as JSON
+    docs/                         the pages that README.md lists, and the schemas of JSON output
     examples/                     profiles, scripts and programs to start from: examples/README.md
 END
 (cd "$to" && find . ! -type d ! -name SHA256SUMS -printf '%P\n' | LC_ALL=C sort | xargs -d '\n' sha256sum >"$work/SHA256SUMS")

@@ -1,6 +1,6 @@
 #!/usr/bin/env bash
 # What a user meets in the first hour, beside the programs themselves: man pages, completions, the schema of profiles, the colours of
-# scripts, what `make install` and `make deb` leave, the example of a check in CI, and that nothing of this changes the clone.
+# scripts, what `make install` and `make deb` leave, the example of a check in CI; and that none of this changes the clone.
 #
 #     scripts/first-hour.sh RT1553 TOOL
 #
@@ -97,10 +97,15 @@ make_rows() {
 # man pages: no warning, and text in each
 man_rows() {
     local page
-    for page in manual/*.1; do
+    for page in manual/*.[15]; do
         groff -mdoc -ww -Tutf8 "$page" >"$work/page" 2>"$work/warnings"
         [[ $? -eq 0 && ! -s $work/warnings && $(wc -l <"$work/page") -gt 40 ]]
         count "$page" $?
+        if command -v mandoc >/dev/null; then
+            # the other pages aren't installed
+            [[ -z $(mandoc -Tlint "$page" 2>&1 | grep -v 'referenced manual not found: Xr rt1553') ]]
+            count "mandoc reads $page" $?
+        fi
     done
 }
 
@@ -192,7 +197,7 @@ drawing_rows() {
 # a copy of what `make install` and `make deb` need, with these programs in bin/, so that the clone stays as it is
 copied() {
     mkdir -p "$work/clone/bin"
-    tar -c --exclude=crates/'*'/out --exclude=./bin --exclude=./try CHANGELOG.md Makefile README.md docs editors examples manual scripts crates/rt1553_tool_args/src | tar -x -C "$work/clone"
+    tar -c --exclude=crates/'*'/out --exclude=./bin --exclude=./try CHANGELOG.md SECURITY.md Makefile README.md docs editors examples manual scripts crates/rt1553_tool_args/src | tar -x -C "$work/clone"
     install -m 755 "$rt1553" "$work/clone/bin/rt1553" && install -m 755 "$tool" "$work/clone/bin/rt1553-tool"
 }
 
@@ -214,9 +219,9 @@ install_rows() {
     count 'make install' $?
     answers_below "$to"
     count 'the installed programs answer' $?
-    for file in share/man/man1/rt1553.1 share/man/man1/rt1553-tool.1 share/bash-completion/completions/rt1553-tool share/zsh/site-functions/_rt1553 \
+    for file in share/man/man1/rt1553.1 share/man/man1/rt1553-tool.1 share/man/man5/rt1553-script.5 share/man/man5/rt1553-profile.5 share/bash-completion/completions/rt1553-tool share/zsh/site-functions/_rt1553 \
         share/fish/vendor_completions.d/rt1553.fish share/rt1553/profile.schema.json share/rt1553/acceptance.schema.json share/rt1553/editors/vim/syntax/rt1553script.vim \
-        share/doc/rt1553/README.md share/doc/rt1553/docs/tutorial.md; do
+        share/doc/rt1553/README.md share/doc/rt1553/SECURITY.md share/doc/rt1553/docs/tutorial.md; do
         [[ -s $to/$file ]]
         count "make install leaves $file" $?
     done
@@ -243,7 +248,7 @@ deb_rows() {
     count 'the package is installed' $?
     answers_below "$root/usr"
     count 'the programs of the package answer' $?
-    for file in man/man1/rt1553.1.gz man/man1/rt1553-tool.1.gz bash-completion/completions/rt1553 zsh/vendor-completions/_rt1553-tool fish/vendor_completions.d/rt1553-tool.fish \
+    for file in man/man1/rt1553.1.gz man/man1/rt1553-tool.1.gz man/man5/rt1553-script.5.gz man/man5/rt1553-profile.5.gz bash-completion/completions/rt1553 zsh/vendor-completions/_rt1553-tool fish/vendor_completions.d/rt1553-tool.fish \
         rt1553/profile.schema.json doc/rt1553/changelog.gz doc/rt1553/README.md doc/rt1553/docs/tutorial.md doc/rt1553/examples/profiles/sensor.toml; do
         [[ -s $root/usr/share/$file ]]
         count "the package has $file" $?
@@ -276,8 +281,10 @@ workflow_rows() {
     count 'check-profiles.sh tells of a script without its profile' $?
 }
 
-# what stands in the change log of the versions
+# what the pages say of versions
 version_rows() {
+    grep -qF " rt1553-$(python3 scripts/manual.py version)-linux-x86_64.tar.gz " README.md
+    count 'README.md has the name of the archive' $?
     grep -qF "    $("$tool" --version)" CHANGELOG.md
     count 'CHANGELOG.md has the versions' $?
     [[ $(python3 -c "import json; print(json.load(open('editors/vscode/package.json'))['version'])") == "$(python3 scripts/manual.py version).0" ]]

@@ -1,10 +1,11 @@
 #!/usr/bin/env bash
 # The gate: every proof and test; that public contracts cite nothing of specs/inner, that nothing is there to which nothing refers,
-# that one name stands for one thing, and that the pages speak of what is there; then the built programs from end to end, texts with
-# known answers, the protocol tests, the acceptance tests, the library in C, C++, Python and Rust, the archive of all, the sessions of the
-# pages, and what is installed; and beside all this the must-fail edits. All is proved, tested and run each time; edits that an earlier run on this
-# machine refused over the same files are taken from there. With ANEW=1 they are tried too. The line before the
-# last tells how long it took. The last line, 'N passed, M failed', adds the counts of the parts.
+# that one name stands for one thing, and that the pages of crates speak of what is there; then the built programs from end to end,
+# texts with known answers, the protocol tests, the acceptance tests, the library in C, C++, Python and Rust, the archive of all, links,
+# lines, spelling and sessions of the pages, and what is installed; and beside all this the must-fail edits.
+# What an earlier run on this machine proved over the same files, and the edits that it refused, are taken from there; every test and
+# program runs each time. With ANEW=1 all is proved and tried. The line before the last says how long it took. The last line,
+# 'N passed, M failed', adds the counts of the parts.
 set -uo pipefail
 cd "$(dirname "$0")/.." || exit 1
 work=$(mktemp -d) || exit 1
@@ -19,7 +20,7 @@ tar -c --exclude='crates/*/out' --exclude='crates/*/must-fail' HANDLES crates.tx
 
 # proves, tests and builds the copy: two checks side by side, each in one process. More processes for a check would read the
 # libraries again, and what is idle is the edits'
-proved() { (cd "$built" && RT_JOBS=2 rt ci) 2>&1 | tee "$work/proofs"; }
+proved() { (cd "$built" && RT_JOBS=2 rt ci ${ANEW:+--anew}) 2>&1 | tee "$work/proofs"; }
 
 # begins with the edits, in a group of processes of their own, which get what all else leaves of the processors: in one session
 # with the rest, since between sessions Linux shares the processors alike, however nice they are
@@ -80,6 +81,7 @@ if [[ $failed -eq 0 ]]; then
     part python3 scripts/acceptance.py "${programs[0]}" "${tools[@]}"
     part bash scripts/callers.sh "$built"
     part bash scripts/unpacked.sh "$built"
+    part python3 scripts/pages.py
     part python3 scripts/sessions.py "${programs[0]}" "${tools[0]}"
     part bash scripts/first-hour.sh "${programs[0]}" "${tools[0]}"
     wait "$edits"

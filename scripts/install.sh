@@ -1,6 +1,6 @@
 #!/usr/bin/env bash
-# Copies what was built, and its pages, below $DESTDIR$PREFIX, or removes them: install.sh install|uninstall
-# PREFIX is /usr/local where it isn't set. The library goes with them where `make library` has built it. The archive of `make dist`
+# Copies what was built, and its pages, to $DESTDIR$PREFIX, or removes them: install.sh install|uninstall
+# PREFIX is /usr/local if it isn't set. The library goes with them if `make library` has built it. The archive of `make dist`
 # has this script too, and the same folders.
 set -euo pipefail
 cd "$(dirname "$0")/.."
@@ -19,12 +19,13 @@ files() {
         echo "manual/$name.zsh 644 $zsh/_$name"
         echo "manual/$name.fish 644 share/fish/vendor_completions.d/$name.fish"
     done
+    find manual/*.5 -printf '%p 644 share/man/man5/%f\n' | sort
     echo "editors/profile.schema.json 644 share/rt1553/profile.schema.json"
     for name in lint explain differ acceptance; do
         echo "docs/$name.schema.json 644 share/rt1553/$name.schema.json"
     done
     find editors/vim editors/vscode -type f -printf '%p 644 share/rt1553/%p\n' | sort
-    find README.md CHANGELOG.md docs/*.md examples -type f -printf '%p 644 share/doc/rt1553/%p\n' | sort
+    find README.md CHANGELOG.md SECURITY.md docs/*.md editors/README.md examples -type f -printf '%p 644 share/doc/rt1553/%p\n' | sort
 }
 
 # the same of the library

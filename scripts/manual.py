@@ -1,12 +1,13 @@
 #!/usr/bin/env python3
-"""The man pages and the completions of the two programs, made of manual/arguments.toml.
+"""The man pages and the completions of the two programs, made of manual/arguments.toml, and the man pages of scripts and profiles,
+made of docs/script.md and docs/profile.md.
 
     scripts/manual.py write                writes them
-    scripts/manual.py version              tells the version of the programs, as it stands in the program's source
+    scripts/manual.py version              prints the version of the programs, as it stands in the program's source
     scripts/manual.py check TOOL RT1553    whether the files are those that are written, and whether the description is what the
-                                           programs tell of themselves and do; the last line is 'N passed, M failed'
+                                           programs say of themselves and do; the last line is 'N passed, M failed'
 
-What a page says of a version is what `rt1553-tool --version` tells: both are the constant VERSION of the program's source.
+The version in a page is that of `rt1553-tool --version`: both are the constant VERSION of the program's source.
 """
 import os
 import pathlib
@@ -49,23 +50,50 @@ def literal(text):
     return '"' + typed(text).replace('"', "\\(dq") + '"'
 
 
-def lines_of(sentence):
-    """The lines of a sentence. What stands between backticks is literal."""
-    parts = re.split(r"`([^`]+)`(\S*)", sentence)
-    for place in range(0, len(parts), 3):
-        yield from map(escaped, textwrap.wrap(parts[place].strip(), 78, break_on_hyphens=False))
-        if place + 1 < len(parts):
-            behind = "".join(f" {it}" for it in parts[place + 2])
-            yield f".Ql {literal(parts[place + 1])}{behind}"
+# what isn't plain in a sentence, with what stands right before and behind it: strong, between pairs of stars, and literal, between backticks
+MARKED = re.compile(r"(\*\*.+?\*\*[^\s`*]*|[^\s`*]*`[^`]+`[^\s`*]*)")
+
+
+def behind(text):
+    """What stands right behind the argument of a macro: letters, and marks that end or close."""
+    letters, marks = re.fullmatch(r"(.*?)([.,;:?!)\]]*)", text).groups()
+    return (f" Ns {literal(letters)}" if letters else "") + "".join(f" {mark}" for mark in marks)
+
+
+def lines_of(sentence, plain="{}"):
+    """The lines of a sentence; what is plain in it stands in the macro."""
+    for part in MARKED.split(sentence):
+        if part.startswith("**"):
+            strong, _, rest = part[2:].partition("**")
+            mark = re.search(r"[.:]?$", strong)[0]
+            *lines, last = lines_of(strong.removesuffix(mark), ".Sy {}")
+            yield from [*lines, last + behind(mark + rest)]
+        elif "`" in part:
+            before, text, rest = part.split("`")
+            yield (f".Pf {literal(before)} Ql" if before else ".Ql") + f" {literal(text)}{behind(rest)}"
+        else:
+            for line in textwrap.wrap(part.strip(), 78, break_on_hyphens=False):
+                yield plain.format(literal(line)) if plain != "{}" else escaped(line)
+
+
+def sentences_of(paragraph):
+    """The sentences of a paragraph, not broken within backticks."""
+    held = re.sub(r"`[^`]+`", lambda found: found[0].replace(" ", "\0"), " ".join(paragraph.split()))
+    return [sentence.replace("\0", " ") for sentence in re.split(r"(?<=[.:])\s+|(?<=[.:]\*\*)\s+", held)]
+
+
+def paragraph_of(text):
+    """A paragraph, each sentence in lines of its own."""
+    for sentence in sentences_of(text):
+        yield from lines_of(sentence)
 
 
 def paragraphs(text):
-    """Paragraphs, each sentence in lines of its own."""
+    """Paragraphs, with macros between them."""
     for number, paragraph in enumerate(text.strip().split("\n\n")):
         if number:
             yield ".Pp"
-        for sentence in re.split(r"(?<=[.:])\s+", paragraph.replace("\n", " ")):
-            yield from lines_of(sentence)
+        yield from paragraph_of(paragraph)
 
 
 def synopsis_of(command):
@@ -86,15 +114,31 @@ def synopsis_of(command):
             yield f".Ar {takes['name']}{many}"
 
 
-def page_of(program, others):
-    """The man page of a program."""
-    name = program["name"]
-    number, canonical = version()
+def head_of(name, section, about):
+    """The beginning of a man page."""
     yield f'.\\" {MADE}'
     yield f".Dd {PROGRAMS['date']}"
-    yield f".Dt {name.upper()} 1"
-    yield f".Os rt1553 {number}"
-    yield from [".Sh NAME", f".Nm {name}", f".Nd {program['about']}", ".Sh SYNOPSIS"]
+    yield f".Dt {name.upper()} {section}"
+    yield ".Os"
+    yield from [".Sh NAME", f".Nm {name}", f".Nd {about}"]
+
+
+def end_of(name):
+    """The end of a man page: the other pages, and of which versions this one is."""
+    others = [(1, program["name"]) for program in PROGRAMS["program"]] + [(5, page["name"]) for page in PROGRAMS["page"]]
+    yield ".Sh SEE ALSO"
+    yield " ,\n".join(f".Xr {other} {section}" for section, other in sorted(others) if other != name)
+    yield ".Sh STANDARDS"
+    yield "The terminal is that of MIL-STD-1553B with Notice 2."
+    number, canonical = version()
+    yield f"This page is for rt1553 {number}, which writes canonical text of version {canonical}."
+
+
+def page_of(program):
+    """The man page of a program."""
+    name = program["name"]
+    yield from head_of(name, 1, program["about"])
+    yield ".Sh SYNOPSIS"
     if program["alone"]:
         yield ".Nm"
     for command in program["command"]:
@@ -130,11 +174,91 @@ def page_of(program, others):
         yield ".Bd -literal -offset indent"
         yield from (typed(line) for line in [f"$ {example['command']}", *example["prints"].splitlines()])
         yield ".Ed"
-    yield ".Sh SEE ALSO"
-    yield " ,\n".join(f".Xr {other['name']} 1" for other in others)
-    yield ".Sh STANDARDS"
-    yield "The terminal is that of MIL-STD-1553B with Notice 2."
-    yield f"The canonical text that is written is that of version {canonical}."
+    yield from end_of(name)
+
+
+# --- man pages of Markdown ---
+
+
+def title_of(text):
+    """A heading. A word of two letters isn't to be taken for a macro."""
+    return re.sub(r"\b([A-Z][a-z])\b", r"\\&\1", text.replace("`", ""))
+
+
+def cells_of(row):
+    """The cells of a row of a table."""
+    return [cell.strip().replace("\\|", "|") for cell in re.split(r"(?<!\\)\|", row)[1:-1]]
+
+
+def table_of(rows):
+    """A table as a list: the first cell of each row with the others behind it, which have their headings if there are several."""
+    heads, _, *rows = map(cells_of, rows)
+    yield ".Bl -tag -width Ds"
+    for first, *others in rows:
+        yield from [".It Xo", *lines_of(first), ".Xc"]
+        filled = [(head, cell) for head, cell in zip(heads[1:], others) if cell]
+        for number, (head, cell) in enumerate(filled):
+            if number:
+                yield ".br"
+            yield from paragraph_of(cell if len(heads) == 2 else f"{head}: {cell}")
+    yield ".El"
+
+
+def list_of(lines):
+    """A list, with numbers or without."""
+    yield ".Bl -enum" if lines[0][0].isdigit() else ".Bl -bullet"
+    for item in re.split(r"^(?:- |\d+\. )", "\n".join(lines), flags=re.MULTILINE)[1:]:
+        yield ".It"
+        yield from paragraph_of(item)
+    yield ".El"
+
+
+def literal_of(lines):
+    """What is typed or printed, line by line."""
+    yield from [".Bd -literal -offset indent", *map(typed, lines), ".Ed"]
+
+
+def blocks_of(text):
+    """The blocks of a page in Markdown: the kind of each, and its lines."""
+    kinds = {"#": "heading", "!": "image", "|": "table", "- ": "list", "1. ": "list", "    ": "literal"}
+    # what stands between fences is indented too
+    text = re.sub(r"^```\w*\n(.*?)^```$", lambda found: textwrap.indent(found[1], "    "), text, flags=re.MULTILINE | re.DOTALL)
+    block = []
+    for line in [*text.split("\n"), "", "end"]:
+        is_code = bool(block) and block[0].startswith("    ")
+        if block and (line[:4].strip() if is_code else not line):
+            yield next((kind for start, kind in kinds.items() if block[0].startswith(start)), "text"), block
+            block = []
+        if line or block:
+            block.append(line)
+
+
+def page_of_markdown(page):
+    """The man page of section 5 that a page of docs/ makes. The sections in `without` are for readers of the code."""
+    yield from head_of(page["name"], 5, page["about"])
+    yield ".Sh DESCRIPTION"
+    skipped, before = False, "heading"
+    for kind, lines in blocks_of((TOP / page["source"]).read_text()):
+        if kind == "heading":
+            marks, title = lines[0].split(" ", 1)
+            skipped = title in page["without"] or (skipped and marks == "###")
+        if skipped or kind == "image" or lines[0].startswith("# "):
+            continue
+        if kind == "text" and before != "heading":
+            yield ".Pp"
+        match kind:
+            case "heading":
+                yield f".Ss {title_of(title)}" if marks == "###" else f".Sh {title_of(title).upper()}"
+            case "table":
+                yield from table_of(lines)
+            case "list":
+                yield from list_of(lines)
+            case "literal":
+                yield from literal_of(textwrap.dedent("\n".join(lines)).rstrip("\n").split("\n"))
+            case _:
+                yield from paragraph_of("\n".join(lines))
+        before = kind
+    yield from end_of(page["name"])
 
 
 # --- completions ---
@@ -252,7 +376,7 @@ def zsh_of(program):
     yield "    )"
     yield "    if ((CURRENT == 2)); then"
     if not program["alone"]:
-        yield "        if [[ $words[2] == -* ]]; then _arguments '--help[tells the words]' '--version[tells the versions]'; return; fi"
+        yield "        if [[ $words[2] == -* ]]; then _arguments '--help[lists the commands]' '--version[prints the versions]'; return; fi"
     yield "        _describe -t commands command commands"
     yield "        return"
     yield "    fi"
@@ -261,7 +385,7 @@ def zsh_of(program):
     yield "    ((CURRENT--))"
     yield "    case $command in"
     for command in program["command"]:
-        specs = [] if program["alone"] else ["'--help[tells what the command takes]'"]
+        specs = [] if program["alone"] else ["'--help[prints what the command takes]'"]
         yield f"        {command['name']}) _arguments {' '.join([*specs, *zsh_specs(command)])} ;;"
     yield "    esac"
     yield "}"
@@ -279,8 +403,8 @@ def fish_of(program):
     yield f"# completion of {name} in fish, {MADE}"
     yield f"complete -c {name} -f"
     if not program["alone"]:
-        yield f"complete -c {name} -n __fish_use_subcommand -l help -d 'tells the words'"
-        yield f"complete -c {name} -n __fish_use_subcommand -l version -d 'tells the versions'"
+        yield f"complete -c {name} -n __fish_use_subcommand -l help -d 'lists the commands'"
+        yield f"complete -c {name} -n __fish_use_subcommand -l version -d 'prints the versions'"
     for command in program["command"]:
         yield f"complete -c {name} -n __fish_use_subcommand -a {command['name']} -d {fish_text(about_of(command))}"
         seen = f"-n '__fish_seen_subcommand_from {command['name']}'"
@@ -300,10 +424,11 @@ def fish_of(program):
 
 def made():
     """Each file that is made, with its text."""
+    for page in PROGRAMS["page"]:
+        yield TOP / f"manual/{page['name']}.5", "\n".join(page_of_markdown(page)) + "\n"
     for program in PROGRAMS["program"]:
-        others = [other for other in PROGRAMS["program"] if other is not program]
         name = program["name"]
-        for ending, lines in ((".1", page_of(program, others)), (".bash", bash_of(program)), (".zsh", zsh_of(program)), (".fish", fish_of(program))):
+        for ending, lines in ((".1", page_of(program)), (".bash", bash_of(program)), (".zsh", zsh_of(program)), (".fish", fish_of(program))):
             yield TOP / f"manual/{name}{ending}", "\n".join(lines) + "\n"
 
 

@@ -279,12 +279,13 @@ colour_rows() {
     count 'colours where NO_COLOR is empty' $?
 }
 
-# the TOML of a profile means the same terminal: its canonical text is that of the profile
+# the TOML of a profile means the same terminal: its canonical text is that of the profile; it is the small text, in which no
+# entry says that something isn't legal
 toml_row() {
     local path=$1
     "$program" toml "$path" >"$work/profile.toml" 2>"$work/stderr" </dev/null &&
         "$rt1553" canon "$path" >"$work/canon" && "$rt1553" canon "$work/profile.toml" | cmp -s - "$work/canon" &&
-        ! head -c 7 "$work/profile.toml" | grep -q '^rt1553 '
+        ! head -c 7 "$work/profile.toml" | grep -q '^rt1553 ' && ! grep -q '^legal' "$work/profile.toml"
     count "toml ${path#"$top"/}" $?
 }
 

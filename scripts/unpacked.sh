@@ -93,6 +93,8 @@ installed() {
     place=$work/root$prefix
     done_by 'it is installed' env DESTDIR="$work/root" PREFIX=$prefix bash "$unpacked/scripts/install.sh" install
     done_by 'its wheel is installed' python3 -m pip install --quiet --no-index --no-deps --target "$work/python" "$place"/share/rt1553/rt1553-*.whl
+    [[ $(cd "$place/share/man" && echo man*/*) == 'man1/rt1553-tool.1 man1/rt1553.1 man5/rt1553-profile.5 man5/rt1553-script.5' ]]
+    count 'its man pages are installed' $?
     mkdir -p "$used/bin/library"
     ln -s "$place"/bin/* "$used/bin"
     ln -s "$place"/{include,lib} "$used/bin/library"

@@ -1,12 +1,12 @@
 #!/usr/bin/env bash
 # Checks the profiles of a folder: check-profiles.sh FOLDER
 #
-# - lint: each profile NAME.toml; an error fails, a warning is told;
-# - verify: each script NAME.script, which states its answers, is played to the profile of its name;
+# - lint: each profile NAME.toml has no error; a warning is printed, and passes;
+# - verify: each script NAME.script, which states its answers, passes with the profile of its name;
 # - differ: each canonical text NAME.rt1553 that is kept means the same terminal as the profile of its name.
 #
-# What is found is told as an annotation, with file and line, that GitHub Actions shows beside the text.
-# It needs rt1553-tool. The status is 0 where nothing fails, and where there is a profile at all: a folder with none is told.
+# It prints what it finds as annotations with file and line, which GitHub Actions shows beside the text.
+# It needs rt1553-tool. The status is 0 if nothing fails, else 1. A folder without a profile fails.
 set -uo pipefail
 if (($# != 1)); then
     echo 'check-profiles.sh FOLDER' >&2

@@ -23,7 +23,8 @@ while answer := terminal.slot():
 # a transmit command; the subsystem writes word 2 while the reply is in progress
 terminal.word(Bus.A, Sync.COMMAND, 0x2C62)
 terminal.gap(Bus.A)
-print(terminal.slot().line())
+if answer := terminal.slot():
+    print(answer.line())
 terminal.write(3, 2, 0x00BB)
 while answer := terminal.slot():
     print(answer.line())

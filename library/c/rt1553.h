@@ -1,28 +1,34 @@
 /* The remote terminal of MIL-STD-1553B that `rt1553` proves: calls for C and C++.
 
-   Texts. A text is bytes and how many they are. It needs no zero byte at its end, and may hold any bytes. A profile text
-   (docs/profile.md) or a canonical text (docs/canonical-text.md) may stand wherever a text of a terminal is asked for.
+   Texts. A text is bytes and their number. It needs no zero byte at its end, and may hold any
+   bytes. Every call that takes the text of a terminal accepts a profile text (docs/profile.md) or a
+   canonical text (docs/canonical-text.md).
 
-   Statuses. Each call but rt1553_version returns one of RT1553_DONE, RT1553_DIFFER, RT1553_REFUSED, RT1553_NO_MEMORY and
-   RT1553_NO_ROOM. With RT1553_REFUSED and RT1553_NO_MEMORY *fault says why; with all others it stays as it was.
+   Statuses. A call that returns uint8_t returns RT1553_DONE, RT1553_DIFFER, RT1553_REFUSED,
+   RT1553_NO_MEMORY or RT1553_NO_ROOM. With RT1553_REFUSED and RT1553_NO_MEMORY *fault says why;
+   with the others it stays as it was.
 
-   Pointers. No pointer may be null, also not one with a length or a room of 0. A call reads and writes only what its
-   pointers name, and keeps none of them. What it writes to may not overlap with anything else that it is given.
+   Pointers. No pointer may be null, not even one with a length or a room of 0. A call reads and
+   writes only what its pointers name, and keeps none of them. What it writes to may not overlap
+   with anything else that it is given.
 
-   Threads. There is no global state, so calls may be made by any number of threads at once. A terminal takes one call at
-   a time, and may be handed from thread to thread if the threads order that, by a lock or a join.
+   Threads. There is no global state, so any number of threads may make calls at once. A terminal
+   takes one call at a time. It may be handed from thread to thread if the threads order that, by a
+   lock or a join.
 
-   Stack. A step takes up to 4 KiB, each other call up to 128 KiB for a text whose tables nest as those of a profile do. A text
-   that nests them deeper takes more, also where it is refused: those of N bytes that were tried up to 180 N bytes and 256 KiB, and
-   none of up to 1 MiB more than 4 MiB. Where a thread has less, the process ends by a signal. So a thread that reads texts of
-   others has 4 MiB, and longer texts are refused before. This is measured and not proved (docs/library.md).
+   Stack. A step needs up to 4 KiB. A call that copies, saves or restores a terminal needs up to
+   128 KiB, whatever the bytes. Each other call needs as much for a text whose tables nest as those
+   of a profile do. A text whose tables nest deeper needs more, even if it is refused: the texts of
+   N bytes that were tried needed up to 180 N bytes and 256 KiB, and none of up to 1 MiB needed more
+   than 4 MiB. If a thread has less, a signal ends the process. So give a thread that reads texts of
+   others 4 MiB, and refuse longer texts first. This is measured and not proved (docs/library.md).
 
-   Memory comes from malloc and realloc, and goes back by free. Only a terminal outlives the call that makes it. A step and
-   rt1553_version take no memory. Calls that take some may not be made in a signal handler, nor in the forked child of a
-   process with threads.
+   Memory comes from malloc and realloc, and goes back by free. Only a terminal outlives the call
+   that makes it. A step and rt1553_version take no memory. Calls that take memory may not be made
+   in a signal handler, nor in the forked child of a process with threads.
 
-   Proved, and what you owe. Each call does what its contract in crates/rt1553_c says. That holds for a program that keeps
-   to this page; docs/library.md says what it is. */
+   Proved, and what you owe. Each call does what its contract in crates/rt1553_c says, in a program
+   that keeps to this page; docs/library.md says what the contracts are. */
 #ifndef RT1553_H
 #define RT1553_H
 
@@ -40,102 +46,108 @@ extern "C" {
 
 /* Statuses. */
 enum {
-    RT1553_DONE = 0,      /* done; of rt1553_compare: the same terminal */
-    RT1553_DIFFER = 1,    /* of rt1553_compare: not the same terminal */
-    RT1553_REFUSED = 2,   /* a text is refused, or an event's numbers mean none */
-    RT1553_NO_MEMORY = 4, /* out of memory, which says nothing of the texts */
-    RT1553_NO_ROOM = 5    /* what is to be written is longer than the room for it */
+    RT1553_DONE = 0,      /* done; from rt1553_compare: the same terminal */
+    RT1553_DIFFER = 1,    /* from rt1553_compare: not the same terminal */
+    RT1553_REFUSED = 2,   /* a text or a saved state is refused, or numbers mean no event */
+    RT1553_NO_MEMORY = 4, /* out of memory, which says nothing about the texts */
+    RT1553_NO_ROOM = 5    /* what is to be written is longer than its room */
 };
 
-/* --- the version ------------------------------------------------------------------------------------------------------ */
+/* --- the version ------------------------------------------------------------------------------ */
 
-/* The version of the library, and that of the canonical texts that it writes; those of earlier versions it reads too. */
+/* The versions of the library and of the canonical texts that it writes. It also reads canonical
+   texts of earlier versions. */
 typedef struct {
     uint16_t major;
     uint16_t minor;
     uint16_t canonical_text;
 } rt1553_versions;
 
-/* Writes the version of the library that the program runs with. */
+/* Writes the versions of the library that the program runs with. */
 void rt1553_version(rt1553_versions *version);
 
-/* --- faults ----------------------------------------------------------------------------------------------------------- */
+/* --- faults ----------------------------------------------------------------------------------- */
 
-/* What a fault is of. */
+/* The kind of a fault: what it is about. */
 enum {
     RT1553_OF_PROFILE = 1,        /* a profile text */
     RT1553_OF_CANONICAL_TEXT = 2, /* a canonical text */
     RT1553_OF_MEMORY = 3,         /* out of memory */
-    RT1553_OF_SCRIPT = 4          /* a script, or writing its transcript */
+    RT1553_OF_SCRIPT = 4,         /* a script, or writing its transcript */
+    RT1553_OF_STATE = 5           /* a saved state */
 };
 
-/* Why a call was refused. docs/faults.md lists the numbers, which stay as they are when texts change. */
+/* Why a call was refused. docs/faults.md lists the numbers, which stay when texts change. */
 typedef struct {
     uint8_t kind;   /* RT1553_OF_PROFILE, .. */
-    uint8_t number; /* the fault among those of its kind: ProfileFault, CanonFault or RunFault; 0 of RT1553_OF_MEMORY */
-    uint8_t length; /* how many bytes of `text` are the line */
-    uint64_t line;  /* the line of a canonical text or a script, from 1; 0 where the fault names none */
-    char text[136]; /* the line that the program `rt1553` prints, with its line feed; behind it are zero bytes */
+    uint8_t number; /* of ProfileFault, CanonFault, RunFault or StateFault; 0 for RT1553_OF_MEMORY */
+    uint8_t length; /* the number of bytes of the line in `text` */
+    uint64_t line;  /* the line of a canonical text, script or saved state, from 1; 0 if none */
+    char text[136]; /* the line that `rt1553` prints, with its line feed, then zero bytes */
 } rt1553_fault;
 
-/* --- texts ------------------------------------------------------------------------------------------------------------ */
+/* --- texts ------------------------------------------------------------------------------------ */
 
 /* Room for any canonical text, and for any script that rt1553_compare writes. */
 enum { RT1553_CANONICAL_ROOM = 7680, RT1553_SCRIPT_ROOM = 4608 };
 
-/* RT1553_DONE where the text is accepted. RT1553_REFUSED: it isn't, for the fault told, its first. RT1553_NO_MEMORY. */
+/* RT1553_DONE: the text is accepted. RT1553_REFUSED: it is refused, and *fault is its first fault.
+   RT1553_NO_MEMORY. */
 uint8_t rt1553_check(const uint8_t *text, size_t text_length, rt1553_fault *fault);
 
-/* Writes the canonical bytes of a text to the front of `to`, and to *length how many they are. They are equal for two texts
-   exactly if these mean the same terminal. RT1553_NO_ROOM: the text is accepted, *length bytes are needed, and `to` stays as
-   it was. RT1553_REFUSED and RT1553_NO_MEMORY: `to` stays as it was, and *length is 0. */
+/* Writes the canonical bytes of a text to the front of `to`, and their number to *length. Two texts
+   have the same canonical bytes exactly if they mean the same terminal. RT1553_NO_ROOM: the text is
+   accepted, *length bytes are needed, and `to` stays as it was. RT1553_REFUSED and
+   RT1553_NO_MEMORY: `to` stays as it was, and *length is 0. */
 uint8_t rt1553_canonical(const uint8_t *text, size_t text_length, uint8_t *to, size_t room, size_t *length,
                          rt1553_fault *fault);
 
-/* RT1553_DONE where two texts mean the same terminal: both answer alike for ever. RT1553_DIFFER where they don't: then a
-   script that the two answer differently from power-up stands at the front of `to`, and *length is the number of its bytes.
-   RT1553_NO_ROOM: they differ too, *length bytes are needed, and `to` stays as it was; a room of RT1553_SCRIPT_ROOM is always
-   enough. RT1553_REFUSED: the first text, or where that is accepted the second one, is refused for the fault told.
-   RT1553_NO_MEMORY. */
+/* RT1553_DONE: two texts mean the same terminal, so both answer alike for ever. RT1553_DIFFER: they
+   do not. Then the front of `to` has a script that the two answer differently from power-up, and
+   *length is its number of bytes. RT1553_NO_ROOM: they differ too, *length bytes are needed, and
+   `to` stays as it was. A room of RT1553_SCRIPT_ROOM is always enough. RT1553_REFUSED: *fault is
+   the fault of the first text or, if that is accepted, of the second. RT1553_NO_MEMORY. */
 uint8_t rt1553_compare(const uint8_t *first, size_t first_length, const uint8_t *second, size_t second_length, uint8_t *to,
                        size_t room, size_t *length, rt1553_fault *fault);
 
-/* Plays a script (docs/script.md) to the terminal of a text, from power-up, and writes the transcript to the front of `to`,
-   and to *length the number of its bytes. RT1553_DONE: the whole script. RT1553_REFUSED: the text is refused, *length is 0;
-   or a line of the script, and the transcript of the lines before it is there. RT1553_NO_ROOM: the transcript, of the whole
-   script or of the lines before the one that is refused, has *length bytes, and `to` stays as it was. RT1553_NO_MEMORY: a
-   beginning of the transcript is there, which says nothing of the rest of the script. The transcript is gathered in memory of
-   its own before it is written to `to`; if that memory runs out, the fault is RT1553_OF_SCRIPT, number 5. */
+/* Plays a script (docs/script.md) to the terminal of a text, from power-up. Writes the transcript
+   to the front of `to`, and its number of bytes to *length. RT1553_DONE: this is the whole
+   transcript. RT1553_REFUSED: the text is refused, and *length is 0; or a line of the script is
+   refused, and the transcript of the lines before it is written. RT1553_NO_ROOM: that transcript,
+   of the whole script or of the lines before a refused one, has *length bytes, and `to` stays as it
+   was. RT1553_NO_MEMORY: a beginning of the transcript is written, which says nothing about the
+   rest of the script. The transcript is gathered in memory of its own before it is written to `to`;
+   if that memory runs out, the fault is RT1553_OF_SCRIPT, number 5. */
 uint8_t rt1553_run(const uint8_t *text, size_t text_length, const uint8_t *script, size_t script_length, uint8_t *to,
                    size_t room, size_t *length, rt1553_fault *fault);
 
-/* --- a terminal ------------------------------------------------------------------------------------------------------- */
+/* --- a terminal ------------------------------------------------------------------------------- */
 
 /* The buses. */
 enum { RT1553_BUS_A = 0, RT1553_BUS_B = 1 };
 
-/* The syncs of words: that of commands and status words, and that of data words. */
+/* The sync of a word: command and status sync, or data sync. */
 enum { RT1553_COMMAND_SYNC = 0, RT1553_DATA_SYNC = 1 };
 
-/* In place of a parity bit: the right one. */
+/* Instead of a parity bit: the right one. */
 enum { RT1553_RIGHT_PARITY = 2 };
 
-/* The flags of the subsystem, which the status word shows. */
+/* The flags that the subsystem sets and the status word shows. */
 enum { RT1553_SERVICE_REQUEST = 0, RT1553_BUSY = 1, RT1553_SUBSYSTEM_FLAG = 2, RT1553_TERMINAL_FLAG = 3 };
 
-/* What an event is. */
+/* The kinds of events, each with the fields that it uses. */
 enum {
     RT1553_WORD = 0,   /* a word on a bus: `bus`, `sync`, `parity`, `bits` */
-    RT1553_NOISE = 1,  /* what is on a bus and is no word: `bus` */
+    RT1553_NOISE = 1,  /* something on a bus that is not a word: `bus` */
     RT1553_GAP = 2,    /* a gap on a bus, which ends a message: `bus` */
-    RT1553_WRITE = 3,  /* the subsystem writes a word that is to be transmitted: `subaddress`, `number`, `bits` */
+    RT1553_WRITE = 3,  /* the subsystem writes a word to transmit: `subaddress`, `number`, `bits` */
     RT1553_VECTOR = 4, /* the subsystem gives a new vector word: `bits` */
     RT1553_BIT = 5,    /* the subsystem gives a new BIT word: `bits` */
-    RT1553_FLAG = 6,   /* the subsystem sets a flag or takes it back: `flag`, `value` */
-    RT1553_SLOT = 7    /* the time of one word of a reply: the next one is sent */
+    RT1553_FLAG = 6,   /* the subsystem sets or clears a flag: `flag`, `value` */
+    RT1553_SLOT = 7    /* the time of one word of a reply: the next word is sent */
 };
 
-/* An event. Of the fields only those are looked at that its kind names. */
+/* An event. Only the fields that its kind names are read. */
 typedef struct {
     uint8_t what;       /* RT1553_WORD, .. */
     uint8_t bus;        /* RT1553_BUS_A or RT1553_BUS_B */
@@ -148,57 +160,81 @@ typedef struct {
     uint16_t bits;      /* the 16 bits of a word */
 } rt1553_event;
 
-/* What an answer is. A word is sent only in a slot, and something is handed over only at a gap. */
+/* The kinds of answers, each with the fields that it uses. A word is sent only in a slot. Something
+   is handed over only at a gap. */
 enum {
-    RT1553_SILENT = 0,                 /* nothing, as to most events */
+    RT1553_SILENT = 0,                 /* nothing: the answer to most events */
     RT1553_SENDS_STATUS = 1,           /* a status word is sent: `bus`, `bits` */
     RT1553_SENDS_DATA = 2,             /* a data word is sent: `bus`, `bits` */
-    RT1553_HANDS_RECEIVED = 3,         /* words that were received: `broadcast`, `subaddress`, `count`, `words` */
+    RT1553_HANDS_RECEIVED = 3,         /* received: `broadcast`, `subaddress`, `count`, `words` */
     RT1553_HANDS_SYNCHRONIZE = 4,      /* synchronize */
     RT1553_HANDS_SYNCHRONIZE_WITH = 5, /* synchronize with a word: `bits` */
     RT1553_HANDS_SELF_TEST = 6,        /* initiate self test */
     RT1553_HANDS_BUS_CONTROL = 7       /* the offer of dynamic bus control was accepted */
 };
 
-/* The answer to an event. Fields that its kind doesn't name say nothing. */
+/* The answer to an event. Fields that its kind does not name mean nothing. */
 typedef struct {
     uint8_t what;       /* RT1553_SILENT, .. */
     uint8_t bus;        /* RT1553_BUS_A or RT1553_BUS_B */
     uint16_t bits;      /* the 16 bits of a word */
     bool broadcast;     /* whether the words came by broadcast */
     uint8_t subaddress; /* 1 to 30 */
-    uint8_t count;      /* how many words, 1 to 32 */
+    uint8_t count;      /* the number of words, 1 to 32 */
     uint16_t words[32]; /* the words, in order, from the front */
 } rt1553_answer;
 
-/* A terminal. Behind these two fields stands what only the library reads and writes. So a terminal is made by
-   rt1553_terminal_new alone and never copied; a program writes to `event` and reads `answer`, and touches nothing else. */
+/* A terminal. After these two fields comes memory that only the library reads and writes. So only
+   rt1553_terminal_new, rt1553_terminal_copy and rt1553_terminal_restore make a terminal, and the
+   struct itself is never copied. A program writes to `event`, reads `answer`, and touches nothing
+   else. */
 typedef struct {
     rt1553_event event;
     rt1553_answer answer;
 } rt1553_terminal;
 
-/* Makes the terminal of a text, at power-up, and writes to *terminal where it stands; it is the caller's, to be freed by
-   rt1553_terminal_free. Its event is a word, its answer RT1553_SILENT. RT1553_REFUSED and RT1553_NO_MEMORY: *terminal stays
-   as it was. */
+/* Makes the terminal of a text, at power-up, and writes its address to *terminal. The caller owns
+   it and frees it by rt1553_terminal_free. Its event is a word, its answer RT1553_SILENT.
+   RT1553_REFUSED and RT1553_NO_MEMORY: *terminal stays as it was. */
 uint8_t rt1553_terminal_new(const uint8_t *text, size_t text_length, rt1553_terminal **terminal, rt1553_fault *fault);
 
-/* Plays terminal->event, and leaves in terminal->answer what is answered to it: RT1553_DONE. Where the numbers of the event
-   mean none: RT1553_REFUSED, and nothing changes. The answer is read before the next step, which writes another one. */
+/* Plays terminal->event, and leaves the answer to it in terminal->answer: RT1553_DONE. If the
+   numbers mean no event: RT1553_REFUSED, and nothing changes. Read the answer before the next step,
+   which writes another one. */
 uint8_t rt1553_terminal_step(rt1553_terminal *terminal);
 
-/* Gives the memory of a terminal back; nothing where it is null. Only a terminal that is not used again. */
+/* Frees a terminal, which may not be used afterwards. Does nothing if it is null. */
 static inline void rt1553_terminal_free(rt1553_terminal *terminal) { free(terminal); }
 
-/* Plays events one after the other, up to the first that means none, and returns how many were played. An answer other than
-   RT1553_SILENT goes to `answers`, and to `places` the number of its event, from 0; *answered is how many these are. Where
-   there are `room` of them, no more events are played: call again for those behind. The room is 1 or more. */
+/* Makes a terminal with the same event and answer, which answers every further event as the other
+   does, and writes its address to *copy. The caller owns it and frees it by rt1553_terminal_free.
+   RT1553_NO_MEMORY: *copy stays as it was. */
+uint8_t rt1553_terminal_copy(const rt1553_terminal *terminal, rt1553_terminal **copy, rt1553_fault *fault);
+
+/* Room for any saved state. */
+enum { RT1553_STATE_ROOM = 13056 };
+
+/* Writes the saved state of a terminal (docs/library.md) to the front of `to`, and its number of
+   bytes to *length. A room of RT1553_STATE_ROOM is always enough. RT1553_NO_ROOM: *length bytes are
+   needed, and `to` stays as it was. RT1553_NO_MEMORY: `to` stays as it was, and *length is 0. */
+uint8_t rt1553_terminal_save(const rt1553_terminal *terminal, uint8_t *to, size_t room, size_t *length, rt1553_fault *fault);
+
+/* Makes a terminal in a saved state, which answers every further event as the saved terminal does,
+   and writes its address to *terminal. The caller owns it and frees it by rt1553_terminal_free. Its
+   event is a word, its answer RT1553_SILENT. RT1553_REFUSED: the bytes are no saved state.
+   RT1553_REFUSED and RT1553_NO_MEMORY: *terminal stays as it was. */
+uint8_t rt1553_terminal_restore(const uint8_t *state, size_t state_length, rt1553_terminal **terminal, rt1553_fault *fault);
+
+/* Plays events one after the other, up to the first whose numbers mean none, and returns how many
+   were played. Each answer other than RT1553_SILENT goes to `answers`, and the number of its event,
+   from 0, to `places`; *answered is the number of these answers. When there are `room` of them, no
+   more events are played: call again for the rest. The room is 1 or more. */
 size_t rt1553_terminal_play(rt1553_terminal *terminal, const rt1553_event *events, size_t count, rt1553_answer *answers,
                             size_t *places, size_t room, size_t *answered);
 
-/* --- one call an event ------------------------------------------------------------------------------------------------ */
+/* --- one call an event ------------------------------------------------------------------------ */
 
-/* Each sets terminal->event and plays it, as rt1553_terminal_step. */
+/* Each sets terminal->event and plays it, as rt1553_terminal_step does. */
 
 static inline uint8_t rt1553_play(rt1553_terminal *terminal, rt1553_event event) {
     terminal->event = event;
@@ -264,7 +300,7 @@ static inline uint8_t rt1553_flag(rt1553_terminal *terminal, uint8_t flag, bool 
     return rt1553_play(terminal, event);
 }
 
-/* --- the layout that the library has ---------------------------------------------------------------------------------- */
+/* --- the layout that the library uses --------------------------------------------------------- */
 
 RT1553_ASSERT(sizeof(rt1553_versions) == 6);
 RT1553_ASSERT(sizeof(rt1553_fault) == 152 && offsetof(rt1553_fault, line) == 8 && offsetof(rt1553_fault, text) == 16);

@@ -1,5 +1,6 @@
-// The calls of rt1553.h for C++17: a terminal that frees itself, texts as std::string_view, faults as exceptions. What rt1553.h
-// says of texts, threads and memory holds here too. The exceptions are thrown on this side of the calls, never through them.
+// The calls of rt1553.h for C++17: a terminal that frees itself, texts as std::string_view, faults
+// as exceptions. What rt1553.h says about texts, threads and memory holds here too. Exceptions are
+// thrown on this side of the calls, never through them.
 #ifndef RT1553_HPP
 #define RT1553_HPP
 
@@ -13,6 +14,7 @@
 #include <stdexcept>
 #include <string>
 #include <string_view>
+#include <utility>
 
 namespace rt1553 {
 
@@ -25,7 +27,7 @@ enum class flag : std::uint8_t {
     terminal = RT1553_TERMINAL_FLAG
 };
 
-// A text is refused: its first fault. `kind`, `number` and `line` are those of rt1553_fault.
+// A text or a saved state is refused, for its first fault. `kind`, `number` and `line` are as in rt1553_fault.
 struct refused : std::runtime_error {
     explicit refused(const rt1553_fault &fault)
         : std::runtime_error(without_line_feed(fault)), kind(fault.kind), number(fault.number), line(fault.line) {}
@@ -43,7 +45,7 @@ struct refused : std::runtime_error {
     }
 };
 
-// Some words, which stand elsewhere.
+// A view of words that are stored elsewhere.
 class words_view {
   public:
     words_view(const std::uint16_t *first, std::size_t size) : first_(first), size_(size) {}
@@ -59,7 +61,8 @@ class words_view {
     std::size_t size_;
 };
 
-// The answer to an event, as it stands in the terminal: to be read before the terminal's next event.
+// The answer to an event, in the terminal itself. Read it before the terminal's next event, and
+// before another terminal is assigned to it.
 class answer_view {
   public:
     explicit answer_view(const rt1553_answer &answer) : answer_(&answer) {}
@@ -67,13 +70,13 @@ class answer_view {
     std::uint8_t what() const { return answer_->what; }
     // whether there is an answer
     explicit operator bool() const { return what() != RT1553_SILENT; }
-    // whether a word is sent: `on` the bus, of this kind, these bits
+    // whether a word is sent; then `on`, `kind` and `bits` are its bus, its sync and its bits
     bool sends() const { return what() == RT1553_SENDS_STATUS || what() == RT1553_SENDS_DATA; }
     bus on() const { return static_cast<bus>(answer_->bus); }
     sync kind() const { return what() == RT1553_SENDS_STATUS ? sync::command : sync::data; }
-    // of a word that is sent, and of synchronize with a word
+    // if a word is sent, or for synchronize with a word
     std::uint16_t bits() const { return answer_->bits; }
-    // of words that were received
+    // if words were received
     bool broadcast() const { return answer_->broadcast; }
     std::uint8_t subaddress() const { return answer_->subaddress; }
     words_view words() const { return {answer_->words, what() == RT1553_HANDS_RECEIVED ? answer_->count : std::size_t{0}}; }
@@ -84,13 +87,13 @@ class answer_view {
 
 namespace detail {
 
-// an empty view may be null, which no pointer may be that crosses
+// an empty view may be null, but no pointer that is passed on may be
 inline const std::uint8_t *at(std::string_view text) {
     return reinterpret_cast<const std::uint8_t *>(text.empty() ? "" : text.data());
 }
 inline std::uint8_t *at(std::string &text) { return reinterpret_cast<std::uint8_t *>(text.data()); }
 
-// throws where a call was not done
+// throws if a call was not done
 inline std::uint8_t done(std::uint8_t status, const rt1553_fault &fault) {
     switch (status) {
     case RT1553_REFUSED:
@@ -112,7 +115,7 @@ inline rt1553_versions version() {
     return versions;
 }
 
-// Throws refused where the text is not accepted.
+// Throws refused if the text is not accepted.
 inline void check(std::string_view text) {
     rt1553_fault fault;
     detail::done(rt1553_check(detail::at(text), text.size(), &fault), fault);
@@ -128,7 +131,7 @@ inline std::string canonical(std::string_view text) {
     return to;
 }
 
-// Nothing where two texts mean the same terminal, else a script that the two answer differently.
+// Nothing if two texts mean the same terminal, else a script that the two answer differently.
 inline std::optional<std::string> compare(std::string_view first, std::string_view second) {
     std::string to(RT1553_SCRIPT_ROOM, '\0');
     std::size_t length = 0;
@@ -141,7 +144,8 @@ inline std::optional<std::string> compare(std::string_view first, std::string_vi
     return to;
 }
 
-// The transcript of a script, of at most `room` bytes, played to the terminal of a text from power-up.
+// The transcript, of at most `room` bytes, of a script played to the terminal of a text from
+// power-up.
 inline std::string run(std::string_view text, std::string_view script, std::size_t room) {
     std::string to(room, '\0');
     std::size_t length = 0;
@@ -153,18 +157,40 @@ inline std::string run(std::string_view text, std::string_view script, std::size
     return to;
 }
 
-// A remote terminal, from power-up. It is moved and never copied; one thread at a time may use it. One that was moved from may
-// be assigned to or destroyed, and nothing else.
+// A remote terminal, from power-up. One thread at a time may use it. A copy answers every further
+// event as the other does, and neither knows of the other. A terminal that was moved from may be
+// assigned to, copied or destroyed, and nothing else; a copy of it is such a terminal too.
 class terminal {
   public:
-    explicit terminal(std::string_view text) {
-        rt1553_terminal *made = nullptr;
-        rt1553_fault fault;
-        detail::done(rt1553_terminal_new(detail::at(text), text.size(), &made, &fault), fault);
-        terminal_.reset(made);
+    explicit terminal(std::string_view text) : terminal_(made_by(rt1553_terminal_new, detail::at(text), text.size())) {}
+
+    // A terminal in a saved state. Throws refused if the bytes are none.
+    static terminal restore(std::string_view state) {
+        return terminal(made_by(rt1553_terminal_restore, detail::at(state), state.size()));
     }
 
-    // Plays an event. std::invalid_argument where its numbers mean none: then nothing changes.
+    terminal(const terminal &other) : terminal_(other.terminal_ ? made_by(rt1553_terminal_copy, other.terminal_.get()) : nullptr) {}
+    terminal(terminal &&) noexcept = default;
+    // This terminal stays as it was if there is no memory for the other.
+    terminal &operator=(const terminal &other) {
+        if (this != &other)
+            *this = terminal(other);
+        return *this;
+    }
+    terminal &operator=(terminal &&) noexcept = default;
+    ~terminal() = default;
+
+    // Its saved state, by which `restore` makes a terminal that answers every further event alike.
+    std::string save() const {
+        std::string to(RT1553_STATE_ROOM, '\0');
+        std::size_t length = 0;
+        rt1553_fault fault;
+        detail::done(rt1553_terminal_save(terminal_.get(), detail::at(to), to.size(), &length, &fault), fault);
+        to.resize(length);
+        return to;
+    }
+
+    // Plays an event. Throws std::invalid_argument if its numbers mean none; then nothing changes.
     answer_view play(const rt1553_event &event) { return answered(rt1553_play(terminal_.get(), event)); }
     answer_view word(bus on, sync kind, std::uint16_t bits) {
         return answered(rt1553_word(terminal_.get(), number(on), number(kind), bits));
@@ -191,7 +217,19 @@ class terminal {
     struct frees {
         void operator()(rt1553_terminal *terminal) const { rt1553_terminal_free(terminal); }
     };
-    std::unique_ptr<rt1553_terminal, frees> terminal_;
+    using owner = std::unique_ptr<rt1553_terminal, frees>;
+
+    explicit terminal(owner made) : terminal_(std::move(made)) {}
+
+    // what a call of rt1553.h makes of these arguments
+    template <typename C, typename... As> static owner made_by(C call, As... arguments) {
+        rt1553_terminal *made = nullptr;
+        rt1553_fault fault;
+        detail::done(call(arguments..., &made, &fault), fault);
+        return owner(made);
+    }
+
+    owner terminal_;
 };
 
 } // namespace rt1553

@@ -1,4 +1,4 @@
-/* Many events at once, for callers to whom each call is dear. */
+/* Many events at once, for callers for which each call is costly. */
 #include "rt1553.h"
 
 size_t rt1553_terminal_play(rt1553_terminal *terminal, const rt1553_event *events, size_t count, rt1553_answer *answers,

@@ -1,9 +1,9 @@
 #!/usr/bin/env python3
 """Writes the wheel of the package: wheel.py FROM TO VERSION PLATFORM
 
-FROM holds the package's folder `rt1553` with its library, TO takes the wheel, and PLATFORM is as manylinux_2_17_x86_64. A
-wheel is a zip file of the package beside a folder that tells of it, so nothing but Python is needed. The same files make
-the same wheel, to the byte.
+FROM is the folder with the package `rt1553` and its library. The wheel is written to TO. PLATFORM is, for example,
+manylinux_2_17_x86_64. A wheel is a zip file of the package and a folder that describes it, so only Python is needed. The
+same files make the same wheel, to the byte.
 """
 
 import base64
@@ -27,12 +27,12 @@ Tag: py3-none-{platform}
 
 
 def digest(data):
-    """The hash of a file, as a wheel's record has it."""
+    """The hash of a file, in the form that a wheel's record uses."""
     return base64.urlsafe_b64encode(hashlib.sha256(data).digest()).rstrip(b"=").decode()
 
 
 def files_of(folder, version, platform):
-    """Each file of the wheel with its bytes; the record of them all stands last."""
+    """Each file of the wheel with its bytes. The record of them all comes last."""
     about = f"rt1553-{version}.dist-info"
     files = {f"rt1553/{part}": (folder / "rt1553" / part).read_bytes() for part in PARTS}
     files[f"{about}/METADATA"] = METADATA.format(version=version).encode()

@@ -2,6 +2,7 @@
 """The bus controller of the package, `rt1553.bus`: words, messages, faults on purpose, wrong arguments, and random messages whose
 scripts `rt1553.run` plays again. The last line is 'N passed, M failed'."""
 
+import copy
 import itertools
 import pathlib
 import pickle
@@ -382,6 +383,28 @@ def plans():
     yield "and the next one", controller.mode(9, 2), good(9)
 
 
+# --- copies and pickles
+
+
+def copies():
+    """Controllers in the midst of a late reply, with their terminals."""
+    for way, through in (("deepcopy", copy.deepcopy), ("pickle", lambda it: pickle.loads(pickle.dumps(it)))):
+        terminals, controller = system(9, [FaultyReply(delay=2), None, FaultyReply(shorten=1)])
+        controller.receive(3, 2, [1, 2])
+        controller.transmit(9, 1, 2)
+        others, other = through((terminals, controller))
+        told = {address: it.script for address, it in terminals.items()}
+        asked = [lambda it: it.mode(3, 2), lambda it: it.transmit(9, 1, 2), lambda it: it.transmit(9, 1, 2), lambda it: it.mode(31, 17, 5)]
+        found = [ask(other) for ask in asked]
+        yield f"{way}, the first stays as it was", {address: it.script for address, it in terminals.items()}, told
+        yield f"{way}, both go on alike", [ask(controller) for ask in asked], found
+        yield f"{way}, the errors", [result.errors for result in found], [(INVALID_WORD, WORD_COUNT), (), (WORD_COUNT,), ()]
+        for address, it in terminals.items():
+            yield f"{way}, terminal {address}", (others[address].script, others[address].transcript), (it.script, it.transcript)
+        _, controller = system(9, (None for _ in range(5)))
+        yield f"{way}, a generator", ended(through, controller), Raised(TypeError, "generator")
+
+
 # --- wrong arguments
 
 
@@ -675,7 +698,7 @@ def random_traffic():
 
 def main():
     passed = failed = 0
-    for part in (words, messages, conditions, faults, transfers_with_faults, late, plans, wrong_arguments, random_traffic):
+    for part in (words, messages, conditions, faults, transfers_with_faults, late, plans, copies, wrong_arguments, random_traffic):
         for name, found, wanted in part():
             if wanted == found:
                 passed += 1

@@ -191,6 +191,72 @@ static void steps(void) {
     rt1553_terminal_free(t);
 }
 
+/* A terminal whose reply of a status word and two data words begins at the next slot. */
+static rt1553_terminal *replying(void) {
+    rt1553_terminal *t = terminal_of(WHOLE);
+    rt1553_write(t, 3, 2, 0x00bb);
+    rt1553_word(t, RT1553_BUS_A, RT1553_COMMAND_SYNC, 0x2c62);
+    rt1553_gap(t, RT1553_BUS_A);
+    return t;
+}
+
+/* Whether a terminal sends its status and two words, the second of them this one, and no more. */
+static int sends(rt1553_terminal *t, uint16_t word) {
+    int status = rt1553_slot(t) == RT1553_DONE && is_answer(t, RT1553_SENDS_STATUS, RT1553_BUS_A, 0x2800);
+    int first = rt1553_slot(t) == RT1553_DONE && is_answer(t, RT1553_SENDS_DATA, RT1553_BUS_A, 0);
+    int second = rt1553_slot(t) == RT1553_DONE && is_answer(t, RT1553_SENDS_DATA, RT1553_BUS_A, word);
+    return status && first && second && rt1553_slot(t) == RT1553_DONE && t->answer.what == RT1553_SILENT;
+}
+
+static void copies(void) {
+    rt1553_fault fault = untouched();
+    rt1553_terminal *t = replying(), *copy = NULL, *last = NULL;
+    t->event.bits = 0x1234;
+    rt1553_gap(t, RT1553_BUS_B);
+    row("a copy", rt1553_terminal_copy(t, &copy, &fault) == RT1553_DONE && copy && copy != t && is_untouched(&fault));
+    row("with the same event and answer", memcmp(copy, t, sizeof *t) == 0);
+    row("a copy of the copy", rt1553_terminal_copy(copy, &last, &fault) == RT1553_DONE);
+    rt1553_write(copy, 3, 2, 0x00cc);
+    rt1553_flag(t, RT1553_BUSY, true);
+    row("neither knows of the other", sends(copy, 0xcc) && sends(t, 0xbb));
+    rt1553_terminal_free(t);
+    rt1553_terminal_free(copy);
+    row("nor that the others are freed", sends(last, 0xbb));
+    rt1553_terminal_free(last);
+}
+
+static void states(void) {
+    uint8_t state[RT1553_STATE_ROOM], again[RT1553_STATE_ROOM];
+    size_t length = 7, other = 7;
+    rt1553_fault fault = untouched();
+    rt1553_terminal *t = replying(), *restored = NULL, *none = NULL;
+    row("a saved state", rt1553_terminal_save(t, state, sizeof state, &length, &fault) == RT1553_DONE && is_untouched(&fault));
+    row("it begins with its version", length <= RT1553_STATE_ROOM && memcmp(state, "rt1553-state 1\nbits 01 0000 0000 ", 33) == 0);
+    row("the terminal stays as it was", t->event.what == RT1553_GAP && t->answer.what == RT1553_SILENT);
+    memset(again, 0xa5, sizeof again);
+    row("a byte of room too few", rt1553_terminal_save(t, again, length - 1, &other, &fault) == RT1553_NO_ROOM);
+    row("what is needed for it is told", other == length && again[0] == 0xa5 && again[length - 2] == 0xa5 && is_untouched(&fault));
+    row("no room", rt1553_terminal_save(t, again, 0, &other, &fault) == RT1553_NO_ROOM && other == length);
+    row("just enough room", rt1553_terminal_save(t, again, length, &other, &fault) == RT1553_DONE && memcmp(again, state, length) == 0);
+    row("restored", rt1553_terminal_restore(state, length, &restored, &fault) == RT1553_DONE && restored && is_untouched(&fault));
+    row("its event and its answer", restored->event.what == RT1553_WORD && restored->answer.what == RT1553_SILENT);
+    row("it saves to the same bytes", rt1553_terminal_save(restored, again, sizeof again, &other, &fault) == RT1553_DONE
+                                          && other == length && memcmp(again, state, length) == 0);
+    rt1553_write(restored, 3, 2, 0x00cc);
+    row("both go on", sends(restored, 0xcc) && sends(t, 0xbb));
+    for (size_t few = 0; few < length; few++)
+        if (rt1553_terminal_restore(state, few, &none, &fault) != RT1553_REFUSED || fault.kind != RT1553_OF_STATE || fault.number != 1)
+            row("a beginning is refused", 0);
+    row("nothing was made", !none);
+    row("no bytes", rt1553_terminal_restore(bytes(""), 0, &none, &fault) == RT1553_REFUSED
+                        && tells(&fault, RT1553_OF_STATE, 1, 1, "saved state: line 1\n") && has_zeros(&fault));
+    state[length] = '\n';
+    row("a byte too many", rt1553_terminal_restore(state, length + 1, &none, &fault) == RT1553_REFUSED
+                               && tells(&fault, RT1553_OF_STATE, 2, 0, "saved state: bytes after the end\n") && !none);
+    rt1553_terminal_free(t);
+    rt1553_terminal_free(restored);
+}
+
 /* Numbers that mean no event are refused, and change nothing: the terminal answers as one that never met them. */
 static void refused_events(void) {
     static const rt1553_event bad[] = {
@@ -253,6 +319,8 @@ int main(void) {
     comparisons();
     runs();
     steps();
+    copies();
+    states();
     refused_events();
     batches();
     printf("%d passed, %d failed\n", passed, failed);

@@ -20,6 +20,7 @@ import play  # noqa: E402
 import random_scripts  # noqa: E402
 import rt1553  # noqa: E402
 import rules  # noqa: E402
+from told import tell  # noqa: E402
 
 EVENTS = 4000
 
@@ -94,14 +95,7 @@ def rows(folder):
 
 
 def main(folder):
-    passed = failed = 0
-    for name, holds in rows(pathlib.Path(folder)):
-        passed += holds
-        failed += not holds
-        if not holds:
-            print(f"FAILED: {name}")
-    print(f"{passed} passed, {failed} failed")
-    return 1 if failed or not passed else 0
+    return tell(rows(pathlib.Path(folder)))
 
 
 if __name__ == "__main__":

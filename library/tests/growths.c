@@ -46,7 +46,7 @@ static const char *const SCRIPT = "A c 2c23\nA gap\nslot\nslot\nslot\nslot\n";
 /* What a call answered. */
 typedef struct {
     uint8_t status;
-    uint8_t bytes[RT1553_CANONICAL_ROOM];
+    uint8_t bytes[RT1553_STATE_ROOM];
     size_t length;
     rt1553_fault fault;
 } answer;
@@ -67,10 +67,8 @@ static void run(answer *to) {
     to->status = rt1553_run(TEXT(PROFILE), TEXT(SCRIPT), to->bytes, sizeof to->bytes, &to->length, &to->fault);
 }
 
-/* a terminal, and its first answer */
-static void terminal(answer *to) {
-    rt1553_terminal *made = NULL;
-    to->status = rt1553_terminal_new(TEXT(PROFILE), &made, &to->fault);
+/* what a call made: its first answer */
+static void made_is(answer *to, rt1553_terminal *made) {
     if (to->status == RT1553_DONE) {
         long before = seen;
         rt1553_word(made, RT1553_BUS_A, RT1553_COMMAND_SYNC, 0x2c02);
@@ -84,6 +82,31 @@ static void terminal(answer *to) {
     } else if (made) {
         to->status = 98; /* it is left as it was */
     }
+}
+
+static void terminal(answer *to) {
+    rt1553_terminal *made = NULL;
+    to->status = rt1553_terminal_new(TEXT(PROFILE), &made, &to->fault);
+    made_is(to, made);
+}
+
+/* the terminal that is copied and saved, and its saved state */
+static rt1553_terminal *saved;
+static uint8_t state[RT1553_STATE_ROOM];
+static size_t state_length;
+
+static void copy(answer *to) {
+    rt1553_terminal *made = NULL;
+    to->status = rt1553_terminal_copy(saved, &made, &to->fault);
+    made_is(to, made);
+}
+
+static void save(answer *to) { to->status = rt1553_terminal_save(saved, to->bytes, sizeof to->bytes, &to->length, &to->fault); }
+
+static void restore(answer *to) {
+    rt1553_terminal *made = NULL;
+    to->status = rt1553_terminal_restore(state, state_length, &made, &to->fault);
+    made_is(to, made);
 }
 
 static int is_same(const answer *one, const answer *other) {
@@ -121,10 +144,16 @@ int main(void) {
     static const struct {
         const char *name;
         void (*call)(answer *);
-    } calls[] = {{"check", check}, {"canonical", canonical}, {"compare", compare}, {"run", run}, {"terminal", terminal}};
+    } calls[] = {{"check", check}, {"canonical", canonical}, {"compare", compare}, {"run", run}, {"terminal", terminal},
+                 {"copy", copy},   {"save", save},           {"restore", restore}};
     int passed = 0, all = sizeof calls / sizeof *calls;
+    rt1553_fault fault;
+    if (rt1553_terminal_new(TEXT(PROFILE), &saved, &fault) != RT1553_DONE
+        || rt1553_terminal_save(saved, state, sizeof state, &state_length, &fault) != RT1553_DONE)
+        return 1;
     for (int i = 0; i < all; i++)
         passed += swept(calls[i].name, calls[i].call);
+    rt1553_terminal_free(saved);
     printf("%d passed, %d failed\n", passed, all - passed);
     return passed != all;
 }

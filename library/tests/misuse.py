@@ -17,6 +17,7 @@ import types
 import typing
 
 import rt1553
+from rt1553 import bus
 from rt1553 import (
     Bit, Bus, BusControl, Fault, FaultKind, Flag, FlagName, Gap, NoEvent, NoMemory, Noise, NoRoom, Received, Refused, SelfTest, Sent, Slot,
     Sync, Synchronize, Terminal, Vector, Word, Write, packed, read_event,
@@ -29,7 +30,7 @@ STATUS = Sent(Bus.A, Sync.COMMAND, 0x2800)
 ANSWERED = [(2, STATUS)]
 # each method with arguments that are right
 METHODS = {"step": [Slot()], "word": [0, 0, 0], "noise": [0], "gap": [0], "slot": [], "write": [1, 1, 0], "vector": [0], "bit": [0],
-           "flag": [0, True], "play": [[]]}
+           "flag": [0, True], "play": [[]], "save": []}
 EVENTS = [Word(Bus.B, Sync.DATA, 1, 0), Noise(Bus.A), Gap(Bus.B), Write(3, 2, 0xBB), Vector(1), Bit(2), Flag(FlagName.BUSY, True), Slot()]
 ANSWERS = [STATUS, Received(False, 3, (17, 34)), Synchronize(), Synchronize(0x42), SelfTest(), BusControl()]
 NO_TEXT = [None, 5, -1, 5.0, True, [97], (97,), {}, object(), Slot(), str, PROFILE.splitlines()]
@@ -180,6 +181,8 @@ def lives():
             yield f"{name}, {method}", NOT_MADE, getattr(make(), method), *arguments
         yield f"{name}, a script", NOT_MADE, make().play, SCRIPT
         yield f"{name}, many events", NOT_MADE, make().play, packed(Slot()) * 100_000
+        for way, through in WAYS:
+            yield f"{name}, {way}", NOT_MADE, through, make()
         yield f"{name}, and deleted", None, make().__del__
         yield f"{name}, shown", True, lambda make=make: "object at" in repr(make())
     for name, make in without[:4]:
@@ -233,6 +236,12 @@ def grown(call):
 
 def leaks():
     terminal = Terminal(PROFILE)
+    state = terminal.save()
+    yield "saved", 0, grown, terminal.save
+    yield "restored", 0, grown, lambda: Terminal.restore(state)
+    yield "no saved state", 0, grown, lambda: ended(Terminal.restore, (state[:-1],))
+    yield "copied", 0, grown, lambda: copy.copy(terminal)
+    yield "pickled", 0, grown, lambda: pickle.loads(pickle.dumps(terminal))
     yield "made again", 0, grown, lambda: terminal.__init__(PROFILE)
     yield "refused again", 0, grown, lambda: ended(terminal.__init__, ("x",))
     yield "made and dropped", 0, grown, lambda: Terminal(PROFILE)
@@ -354,11 +363,85 @@ def annotated(thing):
     return [part for part in parts if isinstance(part, types.FunctionType) and part.__code__.co_filename == rt1553.__file__]
 
 
-# --- pickling
+# --- copies, saved states and pickling
 
 
 class Own(Terminal):
-    pass
+    """A terminal with attributes of its own, and one that refers to itself."""
+
+    def __init__(self, text):
+        super().__init__(text)
+        self.mine, self.me = [5], self
+
+
+def pickled_by(number):
+    return lambda value: pickle.loads(pickle.dumps(value, number))
+
+
+WAYS = [*((f"pickle {number}", pickled_by(number)) for number in range(pickle.HIGHEST_PROTOCOL + 1)),
+        ("copy", copy.copy), ("deepcopy", copy.deepcopy)]  # fmt: skip
+
+
+def replying():
+    """A terminal that has its status still to send."""
+    terminal = Terminal(PROFILE)
+    terminal.play(ASK[:2])
+    return terminal
+
+
+def own_after(through):
+    """What becomes of the attributes of a subclass: its type, the value, whether it is shared, and to which terminal it refers."""
+    terminal = Own(PROFILE)
+    other = through(terminal)
+    return type(other) is Own, other.mine, other.mine is terminal.mine, other.me is other, asked(other)
+
+
+def changed_pickle(old, new):
+    """What a pickle gives, changed by hand, of which one is to be as long as the other."""
+    data = pickle.dumps(replying(), 4)
+    return pickle.loads(data.replace(old, new)) if old in data and len(old) == len(new) else None
+
+
+def saved():
+    state = replying().save()
+    first = Raises(Refused, "saved state: line 1")
+    for bad in [*NO_TEXT, PROFILE, "rt1553-state 1", state.decode()]:
+        yield f"restore, {bad!r}"[:60], Raises(TypeError, "a saved state is wanted, as bytes"), Terminal.restore, bad
+    for bad in (b"", b"\0", b"\n", b"\xff\xfe", PROFILE.encode(), b"x" * 5_000_000, b"\n" * 5_000_000, state[1:], state.replace(b"\n", b"\r\n"),
+                state.upper(), b"\xef\xbb\xbf" + state, LongBytes(b"rt1553-state 1")):
+        yield f"restore, {bad[:9]!r} of {memoryview(bad).nbytes}", first, Terminal.restore, bad
+    for more in (b"\n", b"\0", state, b"x" * 5_000_000):
+        yield f"restore, and {len(more)} bytes", Raises(Refused, "bytes after the end"), Terminal.restore, state + more
+    yield "restore, what was released", Raises(ValueError), Terminal.restore, released()
+    yield "restore, nothing", Raises(TypeError), Terminal.restore
+    yield "restore, two states", Raises(TypeError), Terminal.restore, state, state
+    for right in (state, bytearray(state), memoryview(state), memoryview(state * 2)[: len(state)], LongBytes(state)):
+        yield f"restore, {type(right).__name__}", STATUS, lambda right=right: Terminal.restore(right).slot()
+    yield "save, a word", Raises(TypeError), Terminal(PROFILE).save, 1
+    yield "saved again and again", {state}, lambda: {it.save() for it in [replying()] * 100}
+    yield "restored again and again", state, lambda: restored_often(state, 100).save()
+    yield "restored by a subclass", True, lambda: type(Own.restore(state)) is Own
+    yield "restored by a terminal", STATUS, lambda: Terminal(PROFILE).restore(state).slot()
+    yield "restored and made anew", None, lambda: made_late(Terminal.restore(state)) and None
+    for way, through in WAYS:
+        yield f"{way}, goes on", STATUS, lambda through=through: through(replying()).slot()
+        yield f"{way}, and the first too", STATUS, lambda through=through: (it := replying(), through(it).slot())[0].slot()
+        yield f"{way}, a subclass", (True, [5], way == "copy", way != "copy", True), own_after, through
+        yield f"{way}, twice in a row", True, lambda through=through: (row := through([it := replying(), it]))[0] is row[1]
+        yield f"{way} of a copy", STATUS, lambda through=through: through(through(replying())).slot()
+    yield "a pickle with a digit more", Raises(Refused, "line 6"), changed_pickle, b"words 01\n", b"words 011"
+    yield "a pickle of another version", first, changed_pickle, b"rt1553-state 1", b"rt1553-state 2"
+    yield "a pickle without a line feed", Raises(Refused, "line 100"), changed_pickle, b"00000134\n", b"00000134 "
+    other = Sent(Bus.A, Sync.COMMAND, 0x3000)
+    yield "a pickle of another address", other, lambda: changed_pickle(b"\naddress 05", b"\naddress 06").slot()
+
+
+def restored_often(state, times):
+    """A terminal that is restored of a terminal that is restored .."""
+    for _ in range(times):
+        terminal = Terminal.restore(state)
+        state = terminal.save()
+    return terminal
 
 
 def faults():
@@ -378,20 +461,27 @@ def same_fault(one, other):
 
 
 def pickles():
-    ways = [(f"pickle {number}", lambda value, number=number: pickle.loads(pickle.dumps(value, number)))
-            for number in range(pickle.HIGHEST_PROTOCOL + 1)]
-    ways += [("copy", copy.copy), ("deepcopy", copy.deepcopy)]
-    for way, through in ways:
+    for way, through in WAYS:
         for value in [*EVENTS, *ANSWERS, *Bus, *Sync, *FlagName, *FaultKind, rt1553.Event, rt1553.Answer]:
             yield f"{way}, {value}", value, through, value
         for fault in faults():
             yield f"{way}, {fault!r}", True, lambda fault=fault, through=through: same_fault(through(fault), fault)
         for name in rt1553.__all__:
             yield f"{way}, the name {name}", getattr(rt1553, name), through, getattr(rt1553, name)
-        for terminal in (Terminal(PROFILE), Own(PROFILE), deleted(), Terminal.__new__(Terminal)):
-            for held in (terminal, [terminal], {"terminal": terminal}):
-                if way != "copy" or held is terminal:
-                    yield f"{way}, a terminal", Raises(TypeError, "a terminal can't be "), through, held
+        for name in bus.__all__:
+            yield f"{way}, the name bus.{name}", getattr(bus, name), through, getattr(bus, name)
+        for value in (bus.Status(5, busy=True), bus.FaultyReply(delay=2), bus.ReplyError.WORD_COUNT, controller().mode(5, 2)):
+            yield f"{way}, {value}", value, through, value
+        for terminal in (controller(), controller(bus.Recorder(PROFILE)), controller(bus.Faulty(Terminal(PROFILE), [None]))):
+            yield f"{way}, a controller", controller().mode(5, 2), lambda it=terminal, through=through: through(it).mode(5, 2)
+        for terminal in (deleted(), Terminal.__new__(Terminal)):
+            for held in ([terminal], {"terminal": terminal}, controller(terminal)):
+                if way != "copy":
+                    yield f"{way}, a terminal that was not made, in a {type(held).__name__}", NOT_MADE, through, held
+
+
+def controller(terminal=None):
+    return bus.BusController({5: terminal or Terminal(PROFILE)})
 
 
 def raises_in_worker(what):
@@ -404,7 +494,7 @@ def raises_in_worker(what):
         return rt1553.run(PROFILE, SCRIPT + "slots\n")
     if what == "NoRoom":
         return rt1553.run(PROFILE, SCRIPT, 8)
-    return Terminal(PROFILE).play(ASK) if what == "answers" else Terminal(PROFILE)
+    return Terminal(PROFILE).play(ASK) if what == "answers" else replying()
 
 
 def from_worker(pool, what):
@@ -420,8 +510,7 @@ def workers():
         yield "its transcript", "A s 2800\n", lambda: ended(from_worker, (pool, "Refused")).transcript
         yield "NoRoom of a worker", Raises(NoRoom), from_worker, pool, "NoRoom"
         yield "answers of a worker", ANSWERED, from_worker, pool, "answers"
-        refused = Raises(multiprocessing.pool.MaybeEncodingError, "a terminal can't be pickled")
-        yield "a terminal of a worker", refused, from_worker, pool, ""
+        yield "a terminal of a worker", STATUS, lambda: from_worker(pool, "").slot()
 
 
 # --- many events
@@ -569,6 +658,15 @@ def steps_many(terminal):
     return None
 
 
+def copies_many(terminal):
+    """Copies, saved states and steps, one after the other."""
+    for _ in range(50):
+        copy.copy(Terminal.restore(terminal.save())).step(Slot())
+        copy.copy(terminal).step(Slot())
+        steps_of_each = [terminal.step(event) for event in EVENTS]
+    return steps_of_each[0]
+
+
 def deleted_in_use():
     """A terminal is deleted and made anew while other threads use it: what they end in, by kind."""
     terminal = Terminal(PROFILE)
@@ -606,6 +704,7 @@ def in_a_handler():
 def threads():
     terminal, wanted = Terminal(PROFILE), [(3 * turn + 2, STATUS) for turn in range(500)]
     yield "one terminal, steps", [None] * 8, on_threads, 8, lambda: steps_many(terminal)
+    yield "one terminal, saved, copied and stepped", [None] * 8, on_threads, 8, lambda: copies_many(terminal)
     terminal.flag(FlagName.BUSY, False)
     yield "one terminal, many events", [wanted] * 8, on_threads, 8, lambda: terminal.play(ASK * 500)
     yield "one terminal, many answers", [20_000] * 4, on_threads, 4, lambda: len(terminal.play(ASK * 20_000))
@@ -623,7 +722,7 @@ def main():
     # a crash tells where it was, and so does a call that doesn't end
     faulthandler.enable()
     faulthandler.dump_traceback_later(900, exit=True)
-    for part in (workers, texts, rooms, lives, events, read, values, called, pickles, rows, scripts, threads, leaks):
+    for part in (workers, texts, rooms, lives, events, read, values, called, saved, pickles, rows, scripts, threads, leaks):
         for name, wanted, call, *arguments in part():
             found = ended(call, arguments)
             if type(found) is type(wanted) and found == wanted or isinstance(wanted, Raises) and wanted == found:

@@ -5,12 +5,14 @@
 import copy
 import pathlib
 import pickle
+import random
 import re
 import sys
 import threading
 
 import rt1553
 from rt1553 import Bit, Bus, Flag, FlagName, Gap, Noise, Sent, Slot, Sync, Terminal, Vector, Word, Write
+from told import tell
 
 TOP = pathlib.Path(__file__).resolve().parent.parent.parent
 ASK = [Word(Bus.A, Sync.COMMAND, 0x2C02), Gap(Bus.A), Slot()]
@@ -38,7 +40,7 @@ def layouts():
     for name, layout in sizes.items():
         yield f"the size of {name}", sizes_in_header()[name] == layout.size
     header = (TOP / "library/c/rt1553.h").read_text()
-    rooms = {"CANONICAL": rt1553._CANONICAL_ROOM, "SCRIPT": rt1553._SCRIPT_ROOM}
+    rooms = {"CANONICAL": rt1553._CANONICAL_ROOM, "SCRIPT": rt1553._SCRIPT_ROOM, "STATE": rt1553._STATE_ROOM}
     for name, room in rooms.items():
         yield f"the room of {name}", f"RT1553_{name}_ROOM = {room}" in header
 
@@ -102,10 +104,73 @@ def lines():
         yield f"the line of {event}", rt1553.read_event(event.line()) == event
 
 
+WAYS = [copy.copy, copy.deepcopy, lambda terminal: pickle.loads(pickle.dumps(terminal)),
+        lambda terminal: Terminal.restore(terminal.save())]
+
+
+def copies():
+    """Terminals made of another one in the midst of a reply of two words, the second of which is written meanwhile."""
+    profile = 'address = 5\n[[rule]]\ndirection = "transmit"\nsubaddresses = 3\n'
+    for number, way in enumerate(WAYS):
+        terminal = Terminal(profile)
+        terminal.play([Word(Bus.A, Sync.COMMAND, 0x2C62), Gap(Bus.A), Slot()])
+        state = terminal.save()
+        other = way(terminal)
+        yield f"way {number}, the same state", other.save() == state == terminal.save()
+        other.write(3, 2, 0xCC)
+        terminal.write(3, 2, 0xBB)
+        terminal.flag(FlagName.BUSY, True)
+        yield f"way {number}, neither knows of the other", [
+            [answer.bits for _, answer in it.play([Slot()] * 3)] for it in (other, terminal)] == [[0, 0xCC], [0, 0xBB]]
+        del terminal
+        yield f"way {number}, the other is gone", other.play(ASK) == [(2, STATUS)]
+    for length in range(len(state)):
+        fault = refusal(rt1553.Refused, Terminal.restore, state[:length])
+        if not (fault and fault.kind is rt1553.FaultKind.STATE and fault.number == 1 and fault.line == state[:length].count(b"\n") + 1):
+            yield f"the first {length} bytes", False
+    fault = refusal(rt1553.Refused, Terminal.restore, state + b"\n")
+    yield "a byte too many", fault and (fault.number, fault.line, str(fault)) == (2, 0, "saved state: bytes after the end")
+
+
+def is_reply(kind, bus, place, count, number):
+    """Whether the words of a line `reply` are as docs/library.md says."""
+    if kind == 0 or kind > 6 or bus > 1 or place > 255:
+        return kind == bus == place == count == number == 0
+    counts = {1: [0], 2: range(256), 3: range(1, 33), 4: range(256), 5: [0], 6: [0]}[kind]
+    is_place = place == 0 if kind == 1 else 1 <= place <= 30 or kind != 3
+    words = count if kind == 3 else int(kind == 5 and place in (16, 18, 19))
+    return is_place and count in counts and number <= words
+
+
+def is_message(kind, bus, command, address, count):
+    """The same of a line `message`."""
+    if kind == 0 or kind > 7 or bus > 1:
+        return kind == bus == command == address == count == 0
+    return address <= (255 if kind in (2, 4, 6) else 0) and count <= (32 if kind in (1, 5) else 0)
+
+
+def tables():
+    """Random words in the lines `reply` and `message` of a saved state."""
+    chosen, lines = random.Random(1553), Terminal("address = 5").save().decode().split("\n")
+    edges = [0, 0, 0, 1, 1, 2, 16, 18, 19, 30, 31, 32, 33, 255, 256, 0xFFFF]
+    accepted = 0
+    for turn in range(10_000):
+        name, at, allows = (("reply", 3, is_reply), ("message", 4, is_message))[turn % 2]
+        words = [chosen.randrange(9), chosen.choice([0, 0, 1, 1, 2]), *chosen.choices(edges, k=3)]
+        wanted = allows(*words)
+        changed = [*lines]
+        changed[at] = f"{name} 01" + "".join(f" {word:04x}" for word in words)
+        if name == "message" and wanted:
+            changed[5] += " 1234" * words[4]
+        state = "\n".join(changed).encode()
+        fault = refusal(rt1553.Refused, Terminal.restore, state)
+        accepted += wanted
+        if not (Terminal.restore(state).save() == state if wanted and not fault else not wanted and fault and fault.line == at + 1):
+            yield changed[at], False
+    yield "lines that are accepted, and others", 100 < accepted < 9_900
+
+
 def ownership():
-    terminal = Terminal("address = 5")
-    for copied in (copy.copy, copy.deepcopy, pickle.dumps):
-        yield f"{copied.__name__} of a terminal", refusal(TypeError, copied, terminal)
     answers = []
     threads = [threading.Thread(target=lambda: answers.extend(Terminal("address = 5").play(ASK * 500))) for _ in range(8)]
     for thread in threads:
@@ -116,15 +181,8 @@ def ownership():
 
 
 def main():
-    passed = failed = 0
-    for part in (layouts, faults, out_of_range, many, lines, ownership):
-        for name, holds in part():
-            passed += bool(holds)
-            failed += not holds
-            if not holds:
-                print(f"FAILED: {part.__name__}: {name}")
-    print(f"{passed} passed, {failed} failed")
-    return 1 if failed or not passed else 0
+    parts = (layouts, faults, out_of_range, many, lines, copies, tables, ownership)
+    return tell((f"{part.__name__}: {name}", holds) for part in parts for name, holds in part())
 
 
 if __name__ == "__main__":

@@ -1,6 +1,9 @@
 /* The words of the program `rt1553` by the calls of rt1553.h: PLAYER check P | canon P | compare P Q | run P SCRIPT
+   And what states.py asks for: PLAYER save CUTS | resume CUTS
 
-   `run` plays the script twice, by rt1553_run and line by line to a terminal, and ends with status 9 where the two differ. */
+   `run` plays the script twice, by rt1553_run and line by line to a terminal, and ends with status 9 where the two differ. A line
+   of CUTS is `NAME N`. `save` plays the first N lines of NAME.script to the terminal of NAME.toml, and saves it to NAME-N.state.
+   `resume` restores that, and prints the line of CUTS and the transcript of the lines behind. */
 #include "script_line.h"
 
 #include <stdlib.h>
@@ -17,7 +20,8 @@ static text read_file(const char *name) {
     text read = {malloc(1 << 24), 0};
     if (!file || !read.bytes)
         exit(8);
-    read.length = fread(read.bytes, 1, 1 << 24, file);
+    read.length = fread(read.bytes, 1, (1 << 24) - 1, file);
+    read.bytes[read.length] = '\0';
     fclose(file);
     return read;
 }
@@ -106,9 +110,96 @@ static int run(text profile, text script) {
     return told_status;
 }
 
+/* A line of CUTS: the name of a profile and its script, and after how many lines this is cut. */
+typedef struct {
+    char name[32];
+    size_t lines;
+} cut;
+
+/* Takes a line of CUTS; false at the end. */
+static bool next_cut(text *cuts, cut *to) {
+    int length = 0;
+    if (cuts->length == 0 || sscanf((const char *)cuts->bytes, "%31s %zu\n%n", to->name, &to->lines, &length) != 2)
+        return false;
+    cuts->bytes += length;
+    cuts->length -= (size_t)length;
+    return true;
+}
+
+/* The file NAME with this ending. */
+static text file_of(const char *name, const char *ending) {
+    char path[64];
+    snprintf(path, sizeof path, "%s%s", name, ending);
+    return read_file(path);
+}
+
+static const char *state_name(const cut *at) {
+    static char path[64];
+    snprintf(path, sizeof path, "%s-%zu.state", at->name, at->lines);
+    return path;
+}
+
+/* How many bytes so many lines have. */
+static size_t size_of_lines(text script, size_t lines) {
+    size_t at = 0;
+    for (; lines > 0; at++)
+        lines -= script.bytes[at] == '\n';
+    return at;
+}
+
+static bool save_at(const cut *at) {
+    text profile = file_of(at->name, ".toml"), script = file_of(at->name, ".script");
+    uint8_t state[RT1553_STATE_ROOM], *transcript = malloc(room_for(script));
+    rt1553_terminal *terminal;
+    size_t length = 0;
+    script.length = size_of_lines(script, at->lines);
+    bool is_saved = rt1553_terminal_new(profile.bytes, profile.length, &terminal, &fault) == RT1553_DONE;
+    if (is_saved) {
+        play_lines(terminal, script, transcript);
+        is_saved = rt1553_terminal_save(terminal, state, sizeof state, &length, &fault) == RT1553_DONE;
+        rt1553_terminal_free(terminal);
+    }
+    FILE *file = fopen(state_name(at), "wb");
+    is_saved = is_saved && file && fwrite(state, 1, length, file) == length && fclose(file) == 0;
+    free(profile.bytes);
+    free(script.bytes);
+    free(transcript);
+    return is_saved;
+}
+
+static bool resume_at(const cut *at) {
+    text state = read_file(state_name(at)), script = file_of(at->name, ".script");
+    uint8_t *transcript = malloc(room_for(script));
+    size_t played = size_of_lines(script, at->lines);
+    rt1553_terminal *terminal;
+    bool is_restored = rt1553_terminal_restore(state.bytes, state.length, &terminal, &fault) == RT1553_DONE;
+    if (is_restored) {
+        size_t length = play_lines(terminal, (text){script.bytes + played, script.length - played}, transcript);
+        printf("%s %zu\n", at->name, at->lines);
+        fwrite(transcript, 1, length, stdout);
+        rt1553_terminal_free(terminal);
+    }
+    free(state.bytes);
+    free(script.bytes);
+    free(transcript);
+    return is_restored;
+}
+
+static int at_each(text cuts, bool (*call)(const cut *)) {
+    cut at;
+    while (next_cut(&cuts, &at))
+        if (!call(&at))
+            return told(RT1553_REFUSED, NULL, 0);
+    return 0;
+}
+
 int main(int count, char **words) {
     text first = count > 2 ? read_file(words[2]) : (text){NULL, 0}, second = count > 3 ? read_file(words[3]) : (text){NULL, 0};
     int status = 7;
+    if (count == 3 && strcmp(words[1], "save") == 0)
+        status = at_each(first, save_at);
+    if (count == 3 && strcmp(words[1], "resume") == 0)
+        status = at_each(first, resume_at);
     if (count == 3 && strcmp(words[1], "check") == 0)
         status = check(first);
     if (count == 3 && strcmp(words[1], "canon") == 0)

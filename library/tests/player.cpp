@@ -1,6 +1,4 @@
-// The words of the program `rt1553` by rt1553.hpp: PLAYER check P | canon P | compare P Q | run P SCRIPT
-//
-// `run` plays the script twice, by rt1553::run and line by line to a terminal, and ends with status 9 where the two differ.
+// The words of player.c by rt1553.hpp.
 #include "rt1553.hpp"
 #include "script_line.h"
 
@@ -8,6 +6,7 @@
 #include <fstream>
 #include <iostream>
 #include <iterator>
+#include <sstream>
 
 namespace {
 
@@ -29,10 +28,10 @@ std::string line_of(const rt1553::answer_view &answer) {
     return {line, write_answer(&plain, line)};
 }
 
-// the transcript of the lines up to the first that is none of a script
-std::string play(rt1553::terminal terminal, const std::string &script) {
+// the transcript of the lines from a byte on, up to the first that is none of a script
+std::string play(rt1553::terminal &terminal, const std::string &script, std::size_t at = 0) {
     std::string transcript;
-    for (std::size_t at = 0; at < script.size();) {
+    while (at < script.size()) {
         std::string line = script.substr(at, std::min(script.find('\n', at), script.size()) - at);
         at += line.size() + 1;
         if (line.empty() || (line[0] == '#' && line.size() <= LONGEST_LINE))
@@ -64,12 +63,50 @@ int run(const std::string &profile, const std::string &script) {
         std::cerr << fault.text;
     if (status == RT1553_DONE && rt1553::run(profile, script, transcript.size()) != transcript)
         return 9;
-    return play(rt1553::terminal(profile), script) == transcript ? status : 9;
+    rt1553::terminal terminal(profile);
+    return play(terminal, script) == transcript ? status : 9;
+}
+
+// a line of CUTS, with the script that it names
+struct cut {
+    std::string name;
+    std::size_t lines;
+
+    std::string state() const { return name + '-' + std::to_string(lines) + ".state"; }
+    std::string script() const { return read_file(name + ".script"); }
+    // how many bytes the lines have
+    std::size_t size() const {
+        std::string all = script();
+        std::size_t at = 0;
+        for (std::size_t line = 0; line < lines; line++)
+            at = all.find('\n', at) + 1;
+        return at;
+    }
+};
+
+void save(const cut &at) {
+    rt1553::terminal terminal(read_file(at.name + ".toml"));
+    play(terminal, at.script().substr(0, at.size()));
+    std::ofstream(at.state(), std::ios::binary) << terminal.save();
+}
+
+void resume(const cut &at) {
+    rt1553::terminal terminal = rt1553::terminal::restore(read_file(at.state()));
+    std::cout << at.name << ' ' << at.lines << '\n' << play(terminal, at.script(), at.size());
+}
+
+int at_each(const std::string &cuts, void (*call)(const cut &)) {
+    std::istringstream lines(cuts);
+    for (cut at; lines >> at.name >> at.lines;)
+        call(at);
+    return 0;
 }
 
 int work(const std::string &word, const std::string &first, const std::string &second) {
     if (word == "run")
         return run(first, second);
+    if (word == "save" || word == "resume")
+        return at_each(first, word == "save" ? save : resume);
     if (word == "check") {
         rt1553::check(first);
         std::cout << "ok\n";

@@ -1,7 +1,4 @@
-"""The words of the program `rt1553` by the package: player.py check P | canon P | compare P Q | run P SCRIPT
-
-`run` plays the script twice, by `run` and to a terminal, and ends with status 9 where the two differ.
-"""
+"""The words of player.c by the package."""
 
 import pathlib
 import sys
@@ -21,10 +18,9 @@ def lines_of(script):
                 return
 
 
-def played(profile, script):
+def played(terminal, script):
     """The transcript of those lines that mean events."""
     transcript = ""
-    terminal = rt1553.Terminal(profile)
     for event in lines_of(script):
         try:
             transcript += "".join(answer.line() + "\n" for _, answer in terminal.play([event]))
@@ -39,15 +35,40 @@ def run(profile, script):
     except rt1553.Refused as refused:
         sys.stdout.write(refused.transcript)
         print(refused, file=sys.stderr)
-        is_same = refused.kind is not rt1553.FaultKind.SCRIPT or played(profile, script) == refused.transcript
+        is_same = refused.kind is not rt1553.FaultKind.SCRIPT or played(rt1553.Terminal(profile), script) == refused.transcript
         return 2 if is_same else 9
     sys.stdout.write(transcript)
-    return 0 if played(profile, script) == transcript else 9
+    return 0 if played(rt1553.Terminal(profile), script) == transcript else 9
+
+
+def cuts_of(text):
+    """The lines of CUTS: the name of the profile and the script, the name of the state, and the lines before and behind."""
+    for line in text.decode().splitlines():
+        name, lines = line.split(" ")
+        script = pathlib.Path(f"{name}.script").read_bytes().splitlines(keepends=True)
+        yield name, pathlib.Path(f"{name}-{lines}.state"), b"".join(script[: int(lines)]), b"".join(script[int(lines) :])
+
+
+def save(cuts):
+    for name, state, before, _ in cuts_of(cuts):
+        terminal = rt1553.Terminal(pathlib.Path(f"{name}.toml").read_bytes())
+        played(terminal, before)
+        state.write_bytes(terminal.save())
+    return 0
+
+
+def resume(cuts):
+    for name, state, before, behind in cuts_of(cuts):
+        print(name, before.count(b"\n"))
+        print(played(rt1553.Terminal.restore(state.read_bytes()), behind), end="")
+    return 0
 
 
 def work(word, first, *second):
     if word == "run":
         return run(first, *second)
+    if word in ("save", "resume"):
+        return (save if word == "save" else resume)(first)
     if word == "compare":
         script = rt1553.compare(first, *second)
         print(script or "same\n", end="")

@@ -26,7 +26,7 @@ static void row(const char *name, const char *of, int holds) {
 
 static char text[LONGEST];
 static size_t length;
-static uint8_t room[RT1553_CANONICAL_ROOM];
+static uint8_t room[RT1553_STATE_ROOM];
 static size_t written;
 static rt1553_fault fault;
 static rt1553_terminal *terminal;
@@ -64,6 +64,29 @@ static uint8_t steps(void) {
         rt1553_flag(terminal, RT1553_BUSY, command & 1);
     }
     return RT1553_DONE;
+}
+
+static uint8_t copy(void) {
+    rt1553_terminal *copied = NULL;
+    uint8_t status = rt1553_terminal_copy(terminal, &copied, &fault);
+    rt1553_terminal_free(copied);
+    return status;
+}
+
+static uint8_t save(void) { return rt1553_terminal_save(terminal, room, sizeof room, &written, &fault); }
+
+/* of what was saved */
+static uint8_t restore(void) {
+    rt1553_terminal *restored = NULL;
+    uint8_t status = rt1553_terminal_restore(room, written, &restored, &fault);
+    rt1553_terminal_free(restored);
+    return status;
+}
+
+/* of bytes that are refused in their last line */
+static uint8_t refused_state(void) {
+    rt1553_terminal *restored = NULL;
+    return rt1553_terminal_restore(room, written - 1, &restored, &fault) == RT1553_REFUSED ? RT1553_DONE : RT1553_REFUSED;
 }
 
 static struct {
@@ -232,15 +255,26 @@ static void of_texts(void) {
     }
 }
 
-static void of_steps(void) {
+static void of_terminals(void) {
     length = 0;
     ordinary();
     if (rt1553_terminal_new(TEXT, &terminal, &fault) != RT1553_DONE)
         exit(1);
-    size_t took = taken(steps);
+    static const struct {
+        const char *name;
+        uint8_t (*call)(void);
+        size_t most;
+    } rows[] = {{"rt1553_terminal_step", steps, OF_STEP},
+                {"rt1553_terminal_copy", copy, OF_ORDINARY},
+                {"rt1553_terminal_save", save, OF_ORDINARY},
+                {"rt1553_terminal_restore", restore, OF_ORDINARY},
+                {"rt1553_terminal_restore, refused", refused_state, OF_ORDINARY}};
+    for (size_t i = 0; i < sizeof rows / sizeof *rows; i++) {
+        size_t took = taken(rows[i].call);
+        row(rows[i].name, "a terminal", status == RT1553_DONE && took <= rows[i].most);
+        printf("%s: %zu bytes\n", rows[i].name, took);
+    }
     rt1553_terminal_free(terminal);
-    row("rt1553_terminal_step", "all commands", took <= OF_STEP);
-    printf("rt1553_terminal_step: %zu bytes\n", took);
 }
 
 int main(void) {
@@ -249,7 +283,7 @@ int main(void) {
     if (!stack)
         return 1;
     of_texts();
-    of_steps();
+    of_terminals();
     for (int i = 0; i < CALLS; i++)
         printf("%s: %zu bytes, %zu at most\n", calls[i].name, calls[i].ordinary, calls[i].most);
     free(stack);

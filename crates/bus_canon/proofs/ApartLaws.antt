@@ -16,7 +16,7 @@ use Rattle.terminal_exchanges.specs.Distinguish.{TellsApart, shown_subaddress}
 use Rattle.terminal_exchanges.proofs.Distinguish.Reached.{IsReached, normal-reached, apart_by_address, apart_by_option, apart_by_own_receive, apart_by_own_transmit, apart_by_broadcast_receive, apart_by_own_code, apart_by_broadcast_code, apart_by_acceptance, apart_by_vector, apart_by_bit, apart_by_initial, apart_by_wraparound}
 use Rattle.bus_canon.specs.declared.difference.Difference.{Difference}
 use Rattle.bus_canon.specs.declared.difference.Difference.TheVariants.{Address, BroadcastOption, ReceiveCell, TransmitCell, BroadcastReceiveCell, OwnCode, BroadcastCode, Acceptance, VectorWord, BitWord, InitialWord, Wraparound}
-use Rattle.bus_canon.specs.Difference.{rank, AreAlike, AreAlikeAt, IsFirstDifference, NothingHides, script_for}
+use Rattle.bus_canon.specs.Difference.{rank, AreAlike, IsFirstDifference, NothingHides, script_for}
 use Rattle.bus_canon.specs.inner.Search.{AlikeBefore}
 
 earlier : (P Q : Description) (d c : Difference) → IsFirstDifference P Q d → rank c < rank d → AreAlike P Q c

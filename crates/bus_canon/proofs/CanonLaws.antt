@@ -19,7 +19,7 @@ use Rattle.line_format.proofs.FormatLaws.{read-is, Meets}
 use Rattle.line_format.proofs.AnswerLaws.{one_front}
 use Rattle.line_format.proofs.OneText.{Parted, parted, number_one, number_value, number_weaker, number_fits, bit_one}
 use Rattle.line_format.proofs.SizeLaws.{HasSize, size_done, size_then, size_number, size_bit}
-use Rattle.bus_canon.specs.Canon.{when, masks, cells, blocks, wrap_bit, wrap_switch, may_wrap, wrap_name, wrap_lines, version_field, is_written, is_read, canon, Text, AnyText}
+use Rattle.bus_canon.specs.Canon.{when, masks, cells, blocks, wrap_bit, wrap_switch, may_wrap, wrap_name, wrap_lines, version_field, is_written, is_read, versions_of, canon, Text, AnyText}
 use Rattle.bus_canon.proofs.Several.{when_sound, when_one, when_size, when_absent, when_holds, when_spelled}
 use Rattle.bus_canon.proofs.MaskLaws.{AreSoMany, masks_are, are_masks, masks_some}
 use Rattle.bus_canon.proofs.BlockLaws.{zero_words, zero_at, FitBlocks, blocks_sound, blocks_one, blocks_size, blocks_fit, blocks_some}
@@ -378,8 +378,9 @@ pub written_normal : (v : Parts) (x : List ℕ) → Text v x → IsNormal v
 written_normal v x h = text_normal v x (text_read v x h)
 
 -- what is read is a `Normal`
-pub read_normal : (p q : Spot) (v : Parts) → read (canon is_read) p ≡ Ok (v, q) → IsNormal v
-read_normal p q v e = let m : Meets (canon is_read) p.rest v q.rest = read-is (canon is_read) p (v, q) e in text_normal v m.front m.spells
+pub read_normal : (written : Bool) (p q : Spot) (v : Parts) → read (canon (versions_of written)) p ≡ Ok (v, q) → IsNormal v
+read_normal true p q v e = let m : Meets (canon is_written) p.rest v q.rest = read-is (canon is_written) p (v, q) e in written_normal v m.front m.spells
+read_normal false p q v e = let m : Meets (canon is_read) p.rest v q.rest = read-is (canon is_read) p (v, q) e in text_normal v m.front m.spells
 
 -- a mask that holds no bit but those of another is no larger
 masked : (n most : ℕ) → (bit_and n most == n) ≡ true → n ≤ most

@@ -22,12 +22,12 @@ join : {X : Type 0} (front : List X) (x : X) (r : Result (List X × Spot) ℕ) �
 join front x (Ok y) = ap (λ l. Ok (l, y.1)) (sym (append_assoc front (x ∷ []) y.0))
 join front x (Err n) = refl
 
-one_more : {X : Type 0} (F : Format X) (G : Format (List X)) (front : List X) (p q : Spot) (x : X) → read F p ≡ Ok (x, q)
+pub one_more : {X : Type 0} (F : Format X) (G : Format (List X)) (front : List X) (p q : Spot) (x : X) → read F p ≡ Ok (x, q)
     → with_front front (read (one_and F G) p) ≡ with_front (front ++ x ∷ []) (read G q)
 one_more F G front p q x e =
     ap (with_front front) (then_ok F (λ x. and_then G (λ xs. done (x ∷ xs))) p q x e ∙ read-then G (λ xs. done (x ∷ xs)) q) ∙ join front x (read G q)
 
-one_err : {X : Type 0} (F : Format X) (G : Format (List X)) (front : List X) (p : Spot) (n : ℕ) → read F p ≡ Err n → with_front front (read (one_and F G) p) ≡ Err n
+pub one_err : {X : Type 0} (F : Format X) (G : Format (List X)) (front : List X) (p : Spot) (n : ℕ) → read F p ≡ Err n → with_front front (read (one_and F G) p) ≡ Err n
 one_err F G front p n e = ap (with_front front) (then_err F (λ x. and_then G (λ xs. done (x ∷ xs))) p n e)
 
 -- ---- masks

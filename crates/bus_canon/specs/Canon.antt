@@ -88,6 +88,10 @@ is_written version = version == 2
 abbrev pub is_read : ℕ → Bool
 is_read version = (version == 1) || (version == 2)
 
+-- the one alone, or all
+abbrev pub versions_of : Bool → ℕ → Bool
+versions_of written version = if written then is_written version else is_read version
+
 -- The lines of a canonical text of one of these versions, which means a `Normal`. There is a line for acceptance, the
 -- vector word and the BIT word where the own mode code that asks for it is legal. What differs between the
 -- versions is the line of wraparound alone.

@@ -18,6 +18,6 @@ mod write;
 pub use apart::{distinguish, script_showing};
 pub use difference::Difference;
 pub use fault::CanonFault;
-pub use read::read_canon;
+pub use read::{canon_lines, read_canon};
 pub use terminal_exchanges::Script;
-pub use write::write_canon;
+pub use write::{put_canon, write_canon};

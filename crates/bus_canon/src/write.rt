@@ -36,6 +36,13 @@ fn put_text(out: &mut Vec<u8>, setup: &Setup, tables: &Tables) -> Result<(), All
     Ok(())
 }
 
+/// Writes the canonical text behind other lines.
+pub fn put_canon(out: &mut Vec<u8>, normal: &Normal) -> Result<(), AllocError>
+    ensures { OnOk result (Adds (canon is_written) normal.now out.old.items out.new.items) }
+{
+    put_text(out, &normal.setup(), normal.tables())
+}
+
 /// Writes the canonical text, asking once for the room of the longest.
 pub fn write_canon(alloc: Global, normal: &Normal) -> Result<Vec<u8>, AllocError>
     ensures text { IfOk result (λ bytes. Text normal.now bytes.items) }

@@ -30,6 +30,7 @@ same_setup is_legal t u settings legality power_up initial = record {
     registers = record t.registers { power_up = power_up j };
     held = record t.held { initial = initial j };
   });
+  legality = legality;
 }
 
 -- the terminal with which a word starts a message: a transfer that waited has failed, and the word is noted
@@ -43,7 +44,7 @@ before_start is_legal b w t = record t {
 pub starting_word : {L : Type 0} (is_legal : L → Cell → Bool) (b : Bus) (w : Raw) (t u : Terminal L) → starts_in is_legal t b (Some w) ≡ true →
     TakesStart is_legal b w.bits (before_start is_legal b w t) u → TakesWord is_legal b (Some w) t u
 starting_word is_legal b w t u e k = record {
-  setup = record { description = k.setup.description };
+  setup = record { description = k.setup.description; legality = k.setup.legality };
   heard = k.heard;
   standing = λ c. k.standing c ∙ ap (λ s. word_leaves t.settings.address s (same_bus c b) (Some w) (standing_on c t.in_progress)) (sym e);
   registers = k.registers ∙ ap (λ s. started_if s (spares (own_description is_legal t) w.bits) w.bits (before_start is_legal b w t).registers) (sym e);

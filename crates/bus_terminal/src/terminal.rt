@@ -3,6 +3,7 @@ ghost use Rattle.std.specs.Borrow.{sem};
 ghost use Rattle.std.specs.Io.BufRead.{Rests};
 
 mod answers;
+mod kept;
 mod received;
 mod slots;
 mod waiting;
@@ -11,6 +12,7 @@ use crate::answer::{Answer, Sent};
 use crate::settings::Settings;
 use bus_legal::{Legality, Setup};
 use bus_word::{Bus, Cell, Command, Kind, Raw, cell_of};
+pub use kept::Kept;
 use terminal_rules::{Event, WordPlace};
 use terminal_state::{
     Decoded, Ended, GapEnd, HeldWords, InProgress, OnBuses, Registers, Reply, advance, begin,
@@ -61,7 +63,8 @@ impl<L: Legality> Terminal<L> {
 
     /// Gives the terminal at power-up.
     pub fn power_up(setup: Setup, legality: L) -> Terminal<L>
-        ensures { StandsAt L.is_legal (described setup (L.is_legal legality)) [] result }
+        ensures legality { result.legality ≡ legality }
+        ensures stands { StandsAt L.is_legal (described setup (L.is_legal legality)) [] result }
     {
         Terminal {
             settings: Settings {
@@ -84,7 +87,7 @@ impl<L: Legality> Terminal<L> {
     #[inline(always)]
     pub fn step(&mut self, event: Event) -> Answer<'_>
         ensures answer { AnswersEvent L.is_legal event self.old (shown_answer result) }
-        ensures* stands { sem 𝓛 (Rests (the_row L.row) self.entry (λ new. TakesEvent L.is_legal event self.old new)) }
+        ensures* stands { sem 𝓛 (Rests (the_row L.row) self.entry (λ new. TakesEvent L.is_legal event self.old new × (new.legality ≡ self.old.legality))) }
         ensures small { IsSmall (shown_answer result) }
     {
         match event {
@@ -134,7 +137,8 @@ impl<L: Legality> Terminal<L> {
     /// Takes a word on this bus, if no reply is in progress there.
     #[inline(always)]
     fn hear(&mut self, bus: Bus, word: Raw)
-        ensures { TakesEvent L.is_legal (WordEvent bus word) self.old self.new }
+        ensures takes { TakesEvent L.is_legal (WordEvent bus word) self.old self.new }
+        ensures legality { self.new.legality ≡ self.old.legality }
     {
         if !self.replies_on(bus) {
             let ours = word.is_for(self.settings.address, self.settings.broadcast);
@@ -145,7 +149,8 @@ impl<L: Legality> Terminal<L> {
     /// Takes one event of any kind and drops its answer.
     #[inline(never)]
     fn take_any(&mut self, event: Event)
-        ensures { TakesEvent L.is_legal event self.old self.new }
+        ensures takes { TakesEvent L.is_legal event self.old self.new }
+        ensures legality { self.new.legality ≡ self.old.legality }
     {
         match event {
             Event::Word(bus, word) => self.hear(bus, word),

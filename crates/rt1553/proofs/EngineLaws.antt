@@ -1,6 +1,6 @@
 -- Laws of a run from power-up: what was played is what was written, as the profile's own terminal writes it.
 use Rattle.std.proofs.Common.{ℕ, ◌≡◌, ◌≤◌, ◌∙◌, List, [], ◌∷◌, ◌++◌, Option, Bool, refl, sym, ap, ap₂, subst}
-use Rattle.std.specs.Io.KnownBytes.{Appends, Consumes}
+use Rattle.std.specs.Io.KnownBytes.{Appends}
 use Rattle.bus_word.specs.declared.cell.Cell.{Cell}
 use Rattle.bus_legal.specs.declared.setup.Setup.{Setup}
 use Rattle.bus_legal.specs.Description.{Description, described}
@@ -15,7 +15,6 @@ use Rattle.bus_terminal.specs.Stands.{StandsAt}
 use Rattle.terminal_rules.specs.Past.{history_after}
 use Rattle.terminal_rules.proofs.Reach.Same.{out-reach}
 use Rattle.bus_script.specs.declared.fault.RunFault.{RunFault}
-use Rattle.script_lines.specs.Text.{NoLineFeed, EndsLine}
 use Rattle.bus_script.specs.Reading.{Reading, stops, nothing, ByFault}
 use Rattle.script_lines.specs.Transcript.{answer_text, text_at, transcript}
 use Rattle.bus_script.specs.Played.{Ran, StoppedReading, StoppedWriting}

@@ -23,4 +23,4 @@ pub use comparison::{Verdict, compare};
 pub use engine::run;
 pub use fault::{EngineFault, LoadFault};
 pub use loading::{canonical, load};
-pub use report::describe;
+pub use report::{describe, fault_line};

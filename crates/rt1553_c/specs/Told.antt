@@ -1,17 +1,24 @@
 -- What a call tells with its status.
-use Rattle.std.specs.Prelude.{◌≡◌, ◌≢◌, ◌<◌, ◌⊎◌, ℕ, List, [], Some, Option, length}
-use Rattle.terminal_rules.specs.declared.event.Event.{Event}
+use Rattle.std.specs.Prelude.{◌≡◌, ◌≢◌, ◌<◌, ◌⊎◌, ℕ, zero, suc, List, [], Some, Option, Result, Ok, Err, length}
+use base.Fml.{Fml, ftrue}
+use Rattle.bus_legal.specs.Description.{Description}
 use Rattle.bus_script.specs.declared.fault.RunFault.{RunFault}
 use Rattle.bus_script.specs.declared.fault.RunFault.TheVariants as run
 use Rattle.rt1553.specs.declared.fault.LoadFault.{LoadFault}
 use Rattle.rt1553.specs.declared.fault.LoadFault.TheVariants as load
 use Rattle.rt1553.specs.declared.fault.EngineFault.{EngineFault}
 use Rattle.rt1553.specs.declared.fault.EngineFault.TheVariants.{Load, Script}
-use Rattle.rt1553.specs.Load.{IsNotLoaded}
+use Rattle.rt1553.specs.Load.{Of, IsNotLoaded}
 use Rattle.rt1553.specs.Canon.{IsCanon}
 use Rattle.rt1553.specs.Engine.{RunCompletes, RunStops, OnLoad, OnScript}
 use Rattle.rt1553.specs.Report.{exit_status_of}
+use Rattle.saved_states.specs.State.{State}
+use Rattle.saved_states.specs.Text.{StateText}
+use Rattle.rt1553_live.specs.Live.{IsNew}
+use Rattle.rt1553_live.specs.declared.live.Live.{Live}
 use Rattle.rt1553_live.specs.PlainFault.{TellsFault}
+use Rattle.rt1553_live.specs.Restored.{IsNotRestored, TellsRestoreFault, restore_status}
+use Rattle.rt1553_live.specs.declared.live.RestoreFault.{RestoreFault}
 use Rattle.rt1553_live.specs.declared.fault.PlainFault.{PlainFault}
 
 -- A fault for which this holds is told by its numbers and its line, with the status of the program `rt1553` for it: 2
@@ -33,6 +40,24 @@ pub record IsTooLong (text : List ℕ) (needed room : ℕ) : Type 0 where
   pub counts : needed ≡ length bytes
   pub more : room < needed
 
+-- memory ran out
+abbrev pub IsNoMemory : LoadFault → Type 0
+IsNoMemory fault = fault ≡ load.Memory
+
+-- the text of the state is this long, which is more than the room
+pub record IsLongState (state : State) (needed room : ℕ) : Type 0 where
+  pub bytes : List ℕ
+  pub text : StateText state bytes
+  pub counts : needed ≡ length bytes
+  pub more : room < needed
+
+-- The text is no saved state, or memory ran out: told by its numbers and its line, with status 2 or 4.
+pub record IsNotRestoredFor (text : List ℕ) (to : PlainFault) (status : ℕ) : Type 0 where
+  pub fault : RestoreFault
+  pub why : IsNotRestored text fault
+  pub tells : TellsRestoreFault to fault
+  pub answers : status ≡ restore_status fault
+
 -- the text is accepted, and this is the transcript of the whole script
 abbrev pub RunsThrough : List ℕ → List ℕ → List ℕ → Type 0
 RunsThrough profile script transcript = (n : ℕ) × RunCompletes profile (Some script) (Some []) (Some transcript) n
@@ -52,3 +77,17 @@ pub record IsStopped (profile script transcript : List ℕ) (to : PlainFault) (s
   pub read : fault ≢ Script run.Read
   pub tells : TellsFault to fault
   pub answers : status ≡ exit_status_of fault
+
+-- a terminal at power-up, of which nothing was asked yet, of a description of this text
+abbrev pub IsNewOf : List ℕ → Live → Type 0
+IsNewOf text w = (P : Description) × Of text P × IsNew P w
+
+-- what is owned where the status is 0: done
+abbrev pub when_done : ℕ → Fml → Fml
+when_done zero F = F
+when_done (suc _) F = ftrue
+
+-- what is owned of a value, where there is one
+abbrev pub when_ok : {A B : Type 0} → Result A B → (A → Fml) → Fml
+when_ok (Ok a) F = F a
+when_ok (Err _) F = ftrue

@@ -3,7 +3,7 @@
 //! small. With 2 and 4 the fault is told; with the others it stays as it was.
 #![tactic(auto)]
 
-ghost use Rattle.std.specs.Prelude.{◌≡◌, ◌≢◌, ◌<◌, ℕ, List, length, take};
+ghost use Rattle.std.specs.Prelude.{◌≡◌, ◌≢◌, ◌<◌, ℕ, List, length, take, IfOk, IfErr};
 ghost use Rattle.std.specs.Borrow.{full_share, sem};
 ghost use Rattle.std.specs.Ptr.{lies_at};
 ghost use base.Fml.{ftrue, fsep, fex};
@@ -16,9 +16,11 @@ ghost use Rattle.rt1553.specs.Report.{exit_status_of};
 ghost use Rattle.rt1553_live.specs.PlainFault.{TellsFault};
 ghost use Rattle.rt1553_live.specs.declared.live.Live.{Live};
 ghost use Rattle.rt1553_live.specs.contracts.live.Live.{the_row};
-ghost use Rattle.rt1553_live.specs.Live.{Steps};
+ghost use Rattle.saved_states.specs.State.{state_of};
+ghost use Rattle.saved_states.specs.Text.{StateText};
+ghost use Rattle.rt1553_live.specs.Live.{Steps, IsCopy, IsRestored};
 ghost use Rattle.script_lines.specs.EventLine.{script_text};
-ghost use Rattle.rt1553_c.specs.Told.{IsTold, IsNotWritten, IsTooLong, RunsThrough, IsStopped, IsPlayed};
+ghost use Rattle.rt1553_c.specs.Told.{IsTold, IsNotWritten, IsTooLong, RunsThrough, IsStopped, IsPlayed, IsNoMemory, IsLongState, IsNotRestoredFor, IsNewOf, when_done, when_ok};
 
 mod memory;
 mod room;
@@ -26,7 +28,10 @@ mod room;
 use memory::{TextSource, TranscriptSink};
 use room::{event_lines, put_all};
 use rt1553::{EngineFault, LoadFault, Verdict, canonical, compare, load, run};
-use rt1553_live::{Live, PlainAnswer, PlainEvent, PlainFault, new_live, step_live, tell_fault};
+use rt1553_live::{
+    Live, PlainAnswer, PlainEvent, PlainFault, copy_live, new_live, restore_live, save_live,
+    step_live, tell_fault, tell_restore_fault,
+};
 use std::alloc::Global;
 
 const DONE: u8 = 0;
@@ -196,15 +201,150 @@ pub extern "C" fn rt1553_terminal_new(
     to: &mut *mut Front,
     fault: &mut PlainFault,
 ) -> u8
+    ensures* lies { sem 𝓛 (when_done result (fex Live (λ w. fsep (lies_at the_row full_share to.new w) (fex (IsNewOf text.now w) (λ _. ftrue))))) }
     ensures made { result ≡ DONE → (P : Description) × Of text.now P × (fault.new ≡ fault.old) }
     ensures refused { result ≢ DONE → IsTold (IsNotWritten text.now) fault.new result × (to.new ≡ to.old) }
 {
+    hand_over(made_new(alloc, text, fault), to)
+}
+
+/// Makes the terminal of a text, at power-up; or tells why there is none, and gives the status for it.
+fn made_new(alloc: Global, text: &[u8], fault: &mut PlainFault) -> Result<Box<Live>, u8>
+    ensures made { IfOk result (λ live. IsNewOf text.now live.value × (fault.new ≡ fault.old)) }
+    ensures refused { IfErr result (λ status. (status ≢ DONE) × IsTold (IsNotWritten text.now) fault.new status) }
+{
     match new_live(alloc, text) {
+        Ok(live) => Ok(live),
+        Err(why) => Err(told(fault, why)),
+    }
+}
+
+/// Hands a terminal over to the caller, who owns it from here on; or gives the status, and `to` stays as it was.
+fn hand_over(made: Result<Box<Live>, u8>, to: &mut *mut Front) -> u8
+    ensures* lies { sem 𝓛 (when_ok made (λ live. lies_at the_row full_share to.new live.value)) }
+    ensures done { IfOk made (λ _. result ≡ DONE) }
+    ensures refused { IfErr made (λ status. (result ≡ status) × (to.new ≡ to.old)) }
+{
+    match made {
         Ok(live) => {
-            *to = Box::into_raw(live) as *mut Front;
+            put_live(live, to);
             DONE
         }
-        Err(why) => told(fault, why),
+        Err(status) => status,
+    }
+}
+
+/// Puts the address of a terminal where the caller wants it. The caller owns what lies there.
+fn put_live(live: Box<Live>, to: &mut *mut Front)
+    ensures* { sem 𝓛 (lies_at the_row full_share to.new live.value) }
+{
+    *to = Box::into_raw(live) as *mut Front;
+}
+
+/// Makes a terminal that goes on as this one does, with the same event in front and the same answer, in a block of the C library's.
+/// Where it isn't made, `to` stays as it was.
+#[unsafe(no_mangle)]
+pub unsafe extern "C" fn rt1553_terminal_copy(
+    alloc: Global,
+    terminal: *mut Front,
+    to: &mut *mut Front,
+    fault: &mut PlainFault,
+) -> u8
+    ghost x: { Live }
+    requires* { sem 𝓛 (lies_at the_row full_share terminal x) }
+    ensures* same { sem 𝓛 (lies_at the_row full_share terminal x) }
+    ensures* lies { sem 𝓛 (when_done result (fex Live (λ w. fsep (lies_at the_row full_share to.new w) (fex (IsCopy x w) (λ _. ftrue))))) }
+    ensures done { result ≡ DONE → fault.new ≡ fault.old }
+    ensures refused { result ≢ DONE → IsTold IsNoMemory fault.new result × (to.new ≡ to.old) }
+{
+    let live = terminal as *mut Live;
+    hand_over(made_copy(alloc, unsafe { &mut *live }, fault), to)
+}
+
+/// Writes the state of a terminal at the front of the room, and how many bytes it has: never more than 13,028. Where the room is too
+/// small it stays as it was.
+#[unsafe(no_mangle)]
+pub unsafe extern "C" fn rt1553_terminal_save(
+    alloc: Global,
+    terminal: *mut Front,
+    to: &mut [u8],
+    filled: &mut usize,
+    fault: &mut PlainFault,
+) -> u8
+    ghost x: { Live }
+    requires* { sem 𝓛 (lies_at the_row full_share terminal x) }
+    ensures* same { sem 𝓛 (lies_at the_row full_share terminal x) }
+    ensures saved { result ≡ DONE → StateText (state_of x.terminal) (take filled.new to.new) × (fault.new ≡ fault.old) }
+    ensures no_room { result ≡ NO_ROOM → IsLongState (state_of x.terminal) filled.new (length to.old) × (to.new ≡ to.old) × (fault.new ≡ fault.old) }
+    ensures enough { result ≡ NO_ROOM → length to.old < 13028 }
+    ensures refused { result ≢ DONE → result ≢ NO_ROOM → IsTold IsNoMemory fault.new result × (to.new ≡ to.old) × (filled.new ≡ 0) }
+{
+    let live = terminal as *mut Live;
+    put_state(alloc, unsafe { &mut *live }, to, filled, fault)
+}
+
+/// Makes a copy of a terminal; or tells that memory ran out, and gives the status for it.
+fn made_copy(alloc: Global, live: &mut Live, fault: &mut PlainFault) -> Result<Box<Live>, u8>
+    ensures same { live.new ≡ live.old }
+    ensures made { IfOk result (λ copy. IsCopy live.old copy.value × (fault.new ≡ fault.old)) }
+    ensures refused { IfErr result (λ status. (status ≢ DONE) × IsTold IsNoMemory fault.new status) }
+{
+    match copy_live(alloc, live) {
+        Some(copy) => Ok(copy),
+        None => Err(told(fault, LoadFault::Memory)),
+    }
+}
+
+/// Puts the state of a terminal into a room.
+fn put_state(
+    alloc: Global,
+    live: &mut Live,
+    to: &mut [u8],
+    filled: &mut usize,
+    fault: &mut PlainFault,
+) -> u8
+    ensures same { live.new ≡ live.old }
+    ensures saved { result ≡ DONE → StateText (state_of live.old.terminal) (take filled.new to.new) × (fault.new ≡ fault.old) }
+    ensures no_room { result ≡ NO_ROOM → IsLongState (state_of live.old.terminal) filled.new (length to.old) × (to.new ≡ to.old) × (fault.new ≡ fault.old) }
+    ensures enough { result ≡ NO_ROOM → length to.old < 13028 }
+    ensures refused { result ≢ DONE → result ≢ NO_ROOM → IsTold IsNoMemory fault.new result × (to.new ≡ to.old) × (filled.new ≡ 0) }
+{
+    *filled = 0;
+    match save_live(alloc, live) {
+        Ok(state) => {
+            if put_all(to, filled, state.as_slice()) {
+                DONE
+            } else {
+                NO_ROOM
+            }
+        }
+        Err(_) => told(fault, LoadFault::Memory),
+    }
+}
+
+/// Makes the terminal of a saved state, in a block of the C library's. Where it isn't made, `to` stays as it was.
+#[unsafe(no_mangle)]
+pub extern "C" fn rt1553_terminal_restore(
+    alloc: Global,
+    state: &[u8],
+    to: &mut *mut Front,
+    fault: &mut PlainFault,
+) -> u8
+    ensures* lies { sem 𝓛 (when_done result (fex Live (λ w. fsep (lies_at the_row full_share to.new w) (fex (IsRestored state.now w) (λ _. ftrue))))) }
+    ensures made { result ≡ DONE → (live : Live) × IsRestored state.now live × (fault.new ≡ fault.old) }
+    ensures refused { result ≢ DONE → IsNotRestoredFor state.now fault.new result × (to.new ≡ to.old) }
+{
+    hand_over(made_restored(alloc, state, fault), to)
+}
+
+/// Makes the terminal of a saved state; or tells why there is none, and gives the status for it.
+fn made_restored(alloc: Global, state: &[u8], fault: &mut PlainFault) -> Result<Box<Live>, u8>
+    ensures made { IfOk result (λ live. IsRestored state.now live.value × (fault.new ≡ fault.old)) }
+    ensures refused { IfErr result (λ status. (status ≢ DONE) × IsNotRestoredFor state.now fault.new status) }
+{
+    match restore_live(alloc, state) {
+        Ok(live) => Ok(live),
+        Err(why) => Err(tell_restore_fault(fault, &why)),
     }
 }
 

@@ -2,3 +2,4 @@ pub mod PlainEvent
 pub mod PlainAnswer
 pub mod PlainFault
 pub mod Live
+pub mod Restored

@@ -32,10 +32,14 @@ plain_fault_line (Script (script_fault.Line line)) = line
 plain_fault_line (Script (script_fault.LongLine line)) = line
 plain_fault_line _ = 0
 
--- these are the numbers of the fault, and the text is one line, with zero bytes behind it
-pub record TellsFault (to : PlainFault) (fault : EngineFault) : Type 0 where
-  pub kind : to.kind ≡ plain_fault_kind fault
-  pub number : to.number ≡ plain_fault_number fault
-  pub line : to.line ≡ plain_fault_line fault
+-- these are the numbers of a fault, and the text is one line, with zero bytes behind it
+pub record TellsNumbers (to : PlainFault) (kind number line : ℕ) : Type 0 where
+  pub kind_is : to.kind ≡ kind
+  pub number_is : to.number ≡ number
+  pub line_is : to.line ≡ line
   pub text : IsOneLine (take to.length to.text)
   pub zeros : drop to.length to.text ≡ replicate (136 - to.length) 0
+
+-- the fault of a text or of a run is told
+abbrev pub TellsFault : PlainFault → EngineFault → Type 0
+TellsFault to fault = TellsNumbers to (plain_fault_kind fault) (plain_fault_number fault) (plain_fault_line fault)

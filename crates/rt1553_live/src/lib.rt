@@ -9,5 +9,5 @@ mod live;
 
 pub use answer::PlainAnswer;
 pub use event::{PlainEvent, plain_event};
-pub use fault::{PlainFault, tell_fault};
-pub use live::{Live, new_live, step_live};
+pub use fault::{PlainFault, tell_fault, tell_restore_fault};
+pub use live::{Live, RestoreFault, copy_live, new_live, restore_live, save_live, step_live};

@@ -1,17 +1,23 @@
 //! A terminal with a place for the event that is played next and one for what was answered last.
-ghost use Rattle.std.specs.Prelude.{◌≡◌, ◌⊎◌, [], IfOk, IfErr};
+ghost use Rattle.std.specs.Prelude.{◌≡◌, ◌≤◌, ◌⊎◌, [], Some, length, IfSome, IfOk, IfErr};
 ghost use Rattle.bus_legal.specs.Description.{Description};
 ghost use Rattle.bus_legal.specs.Parts.{description_in};
 ghost use Rattle.bus_legal.specs.Reach.{reach};
 ghost use Rattle.rt1553.specs.Load.{Of, IsNotLoaded};
-ghost use Rattle.rt1553_live.specs.Live.{AnswersAs, IsNew, Steps};
+ghost use Rattle.terminal_rules.specs.Out.{Silence};
+ghost use Rattle.saved_states.specs.State.{state_of};
+ghost use Rattle.saved_states.specs.Text.{StateText};
+ghost use Rattle.rt1553_live.specs.PlainAnswer.{answer_in};
+ghost use Rattle.rt1553_live.specs.Live.{AnswersAs, IsNew, Steps, IsCopy, IsRestored};
+ghost use Rattle.rt1553_live.specs.Restored.{IsNotRestored};
 
 use crate::answer::{PlainAnswer, show};
 use crate::event::{PlainEvent, plain_event};
 use bus_legal::Normal;
 use bus_terminal::Terminal;
 use rt1553::{LoadFault, load};
-use std::alloc::Global;
+use saved_states::{StateFault, restore, save};
+use std::alloc::{AllocError, Global};
 
 /// A terminal, behind the event that is played next and what was answered last.
 #[repr(C)]
@@ -20,6 +26,15 @@ pub struct Live {
     pub event: PlainEvent,
     pub answer: PlainAnswer,
     pub terminal: Terminal<Normal>,
+}
+
+/// Why no terminal is made of a text.
+#[derive(Clone, Copy, Debug, PartialEq, Eq)]
+pub enum RestoreFault {
+    /// It is no saved state.
+    State(StateFault),
+    /// Out of memory.
+    Memory,
 }
 
 /// Plays the event that stands in front of the terminal, and leaves there what is answered. Gives 0; or 2 where the
@@ -45,15 +60,23 @@ fn at_power_up(normal: Normal) -> Terminal<Normal>
     Terminal::power_up(setup, normal)
 }
 
-/// The same with no event played.
-fn fresh(normal: Normal) -> Live
-    ensures { (P : Description) → description_in normal ≡ reach P → IsNew P result }
+/// A terminal of which nothing was asked yet.
+fn unasked(terminal: Terminal<Normal>) -> Live
+    ensures silent { answer_in result.answer ≡ Some Silence }
+    ensures terminal { result.terminal ≡ terminal }
 {
     Live {
         event: PlainEvent::default(),
         answer: PlainAnswer::default(),
-        terminal: at_power_up(normal),
+        terminal,
     }
+}
+
+/// The same with no event played.
+fn fresh(normal: Normal) -> Live
+    ensures { (P : Description) → description_in normal ≡ reach P → IsNew P result }
+{
+    unasked(at_power_up(normal))
 }
 
 /// The terminal of a profile text or a canonical text, at power-up. Nothing was answered yet, and the event in front is a
@@ -66,6 +89,47 @@ pub fn new_live(alloc: Global, text: &[u8]) -> Result<Box<Live>, LoadFault>
     match Box::new(alloc, fresh(normal)) {
         Ok(live) => Ok(live),
         Err(_) => Err(LoadFault::Memory),
+    }
+}
+
+/// The terminal once more, with the same event in front and the same answer. None where memory runs out.
+pub fn copy_live(alloc: Global, live: &Live) -> Option<Box<Live>>
+    ensures { IfSome result (λ it. IsCopy live.now it.value) }
+{
+    Box::new(alloc, once_more(live)).ok()
+}
+
+/// The same as a value.
+fn once_more(live: &Live) -> Live
+    ensures { IsCopy live.now result }
+{
+    Live {
+        event: live.event,
+        answer: live.answer,
+        terminal: live.terminal.copy(),
+    }
+}
+
+/// The state of the terminal as a text, of at most 13,028 bytes. The event in front and what was answered last are no part of it.
+pub fn save_live(alloc: Global, live: &Live) -> Result<Vec<u8>, AllocError>
+    ensures text { IfOk result (λ bytes. StateText (state_of live.now.terminal) bytes.items) }
+    ensures size { IfOk result (λ bytes. length bytes.items ≤ 13028) }
+{
+    save(alloc, &live.terminal)
+}
+
+/// A terminal of a saved state. Nothing was answered yet, and the event in front is a word.
+pub fn restore_live(alloc: Global, text: &[u8]) -> Result<Box<Live>, RestoreFault>
+    ensures restored { IfOk result (λ live. IsRestored text.now live.value) }
+    ensures refused { IfErr result (IsNotRestored text.now) }
+{
+    let terminal = match restore(text) {
+        Ok(terminal) => terminal,
+        Err(why) => return Err(RestoreFault::State(why)),
+    };
+    match Box::new(alloc, unasked(terminal)) {
+        Ok(live) => Ok(live),
+        Err(_) => Err(RestoreFault::Memory),
     }
 }
 

@@ -1,6 +1,8 @@
-//! A terminal of a text, stepped by hand; addresses of canonical texts; the sets that texts of mode codes name.
+//! A terminal of a text, stepped by hand; addresses of canonical texts; the sets that texts of mode codes name; full
+//! profiles.
 use bus_profile::parse_ranges;
 use rt1553::{Answer, Bus, Event, Kind, Raw, Terminal, canonical, load};
+use rt1553_toml::full_toml_of;
 use std::test::Fail;
 
 #[test]
@@ -42,4 +44,22 @@ fn sets_of_mode_codes(rt: HostRuntime) {
     ] {
         assert_eq!(rt; parse_ranges(text, 0, 31).ok(), Some(set), "{text}");
     }
+}
+
+/// Profiles with all that a full profile can say, and with as little as one can.
+const PROFILES: [&[u8]; 3] = [
+    b"address = 5\n",
+    b"address = 30\nwraparound = false\nvector = 65535\nmode = [{codes = 16}]\nrule = [{direction = \"transmit\", subaddresses = 30}]\ninitial = [{subaddress = 30, at = 32, words = [65535]}]\n",
+    b"address = 0\nbroadcast = true\naccept_bus_control = true\nbit = 1\nmode = [{codes = \"0,19\"}, {to = \"broadcast\", codes = \"1,3-8,17\"}]\nrule = [{to = \"both\", direction = \"both\", subaddresses = \"1-30\", counts = \"1,32\"}]\n",
+];
+
+#[test]
+fn full_profiles_mean_the_same(rt: HostRuntime) -> Result<(), Fail> {
+    for profile in &PROFILES {
+        let normal = load(rt.alloc(), *profile)?;
+        let full = full_toml_of(rt.alloc(), &normal)?;
+        let back = load(rt.alloc(), full.as_str().as_bytes())?;
+        assert!(rt; back.is_same(&normal), "{profile:?}");
+    }
+    Ok(())
 }

@@ -16,7 +16,8 @@ use rt1553_draw::draw;
 use rt1553_files::escaped;
 use rt1553_lint::lint;
 use rt1553_results::{compare_results, read_results};
-use rt1553_tool::{read_word_line, toml_of};
+use rt1553_toml::toml_of;
+use rt1553_tool::read_word_line;
 use rt1553_verify::verify;
 use spare_entries::{Setting, is_spare_setting};
 use std::test::Fail;
@@ -197,8 +198,13 @@ fn the_test_as_a_table(rt: HostRuntime) -> Result<(), Fail> {
 fn a_profile_in_toml(rt: HostRuntime) -> Result<(), Fail> {
     let normal = load(rt.alloc(), b"address = 5")?;
     let text = toml_of(rt.alloc(), &normal)?;
-    let line = read_word_line(b"c 2c22");
     assert!(rt; !text.as_str().is_empty());
+    Ok(())
+}
+
+#[test]
+fn a_word_by_its_fields(rt: HostRuntime) -> Result<(), Fail> {
+    let line = read_word_line(b"c 2c22");
     assert!(rt; line.is_ok());
     Ok(())
 }

@@ -12,6 +12,8 @@ mod first_uses;
 #[cfg(test)]
 mod formats;
 #[cfg(test)]
+mod saved;
+#[cfg(test)]
 mod scripts;
 #[cfg(test)]
 mod stepped;

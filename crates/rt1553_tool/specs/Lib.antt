@@ -3,5 +3,4 @@ pub mod Parts
 pub mod WordLines
 pub mod WordTexts
 pub mod Session
-pub mod Toml
 pub mod inner

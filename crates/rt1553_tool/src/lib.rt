@@ -1,23 +1,20 @@
-//! What people ask of a profile: a profile in TOML that means the same terminal, a terminal that is played line by line,
+//! What people ask beside runs: a terminal that is played line by line,
 //! and words of a bus by their fields and by their digits.
 #![tactic(auto)]
 
 mod fields;
 mod input;
 mod parts;
-mod profile_text;
 mod session;
 mod word_answers;
 mod word_lines;
 mod word_texts;
-mod written;
 
 pub use fields::{
     CommandFields, StatusFields, WordFields, command_bits, command_fields, status_fields,
     status_word_bits, word_with,
 };
 pub use input::ServeFault;
-pub use profile_text::{TomlFault, toml_of};
 pub use session::{play_live_line, serve};
 pub use word_answers::answer_words;
 pub use word_lines::{WordLine, WordLineFault, read_word_line};

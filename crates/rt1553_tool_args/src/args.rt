@@ -30,12 +30,22 @@ pub enum NoCommand {
 }
 
 impl From<AllocError> for NoCommand {
+    ghost use Rattle.std.specs.Prelude.{◌≡◌};
+    ghost use Rattle.rt1553_tool_args.specs.declared.args.NoCommand.TheVariants.{Memory};
+
+    ghost from_gives = { λ _ no. no ≡ Memory };
+
     fn from(_error: AllocError) -> NoCommand {
         NoCommand::Memory
     }
 }
 
 impl<T: Drop> From<AllocFailed<T>> for NoCommand {
+    ghost use Rattle.std.specs.Prelude.{◌≡◌};
+    ghost use Rattle.rt1553_tool_args.specs.declared.args.NoCommand.TheVariants.{Memory};
+
+    ghost from_gives = { λ _ no. no ≡ Memory };
+
     fn from(_failed: AllocFailed<T>) -> NoCommand {
         NoCommand::Memory
     }
@@ -95,7 +105,7 @@ fn subcommand<'a>(alloc: Global, row: &CommandRow) -> Result<Command<'a>, AllocE
 fn bare_program<'a>(alloc: Global) -> Command<'a> {
     Command::new(alloc, "rt1553-tool")
         .version(VERSION)
-        .about("What people ask of a profile of a remote terminal")
+        .about("Checks, explains, compares and tests profiles of a remote terminal")
         .subcommand_required(true)
 }
 

@@ -54,7 +54,7 @@ const FORMAT: Argument = Argument {
     id: "format",
     given: Occurrence::OneOf("text", &TEXT_OR_JSON),
     value: "FORMAT",
-    help: "how it is written",
+    help: "the output format",
 };
 
 const LINT: [Argument; 2] = [
@@ -91,13 +91,13 @@ const VERIFY: [Argument; 4] = [
         id: "summary",
         given: Occurrence::Flag,
         value: "",
-        help: "tells what passes too, clause by clause",
+        help: "prints what passes, too, clause by clause",
     },
     Argument {
         id: "profiles",
         given: Occurrence::Value,
         value: "FOLDER",
-        help: "no P: each script names its profile of FOLDER",
+        help: "in place of P: each script names its profile in FOLDER",
     },
 ];
 
@@ -109,13 +109,13 @@ const DIFFER: [Argument; 4] = [
         id: "other",
         given: Occurrence::Once,
         value: "Q",
-        help: "another",
+        help: "another profile or canonical text",
     },
     Argument {
         id: "scripts",
         given: Occurrence::Flag,
         value: "",
-        help: "gives the script that shows it, where there is one",
+        help: "prints the script that shows each difference, if there is one",
     },
     FORMAT,
 ];
@@ -132,7 +132,7 @@ const DRAW: [Argument; 3] = [
         id: "html",
         given: Occurrence::Flag,
         value: "",
-        help: "a page of its own, with what is legal",
+        help: "writes an HTML page, with the table of legal commands",
     },
 ];
 
@@ -142,13 +142,13 @@ const ACCEPTANCE: [Argument; 3] = [
         id: "against",
         given: Occurrence::Value,
         value: "RESULTS",
-        help: "compares the replies of a unit, a table in CSV",
+        help: "compares the replies of a unit, a CSV table, with the test",
     },
     Argument {
         id: "format",
         given: Occurrence::OneOf("text", &TEXT_OR_TABLE),
         value: "FORMAT",
-        help: "how it is written",
+        help: "the output format",
     },
 ];
 
@@ -158,19 +158,19 @@ const ONE_PROFILE: [Argument; 1] = [PROFILE];
 pub const COMMANDS: [CommandRow; 10] = [
     CommandRow {
         name: "lint",
-        about: "Tells all that is wrong with profiles, and what has no effect",
+        about: "Prints all faults of profiles, and what has no effect",
         example: "Example: rt1553-tool lint pump.toml",
         arguments: &LINT,
     },
     CommandRow {
         name: "check-script",
-        about: "Tells which lines of scripts are refused, where and why",
+        about: "Prints which lines of scripts are refused, where and why",
         example: "Example: rt1553-tool check-script pump.script",
         arguments: &CHECK_SCRIPT,
     },
     CommandRow {
         name: "verify",
-        about: "Tells where a terminal doesn't answer as scripts state",
+        about: "Prints where a terminal does not answer as scripts state",
         example: "Example: rt1553-tool verify pump.toml pump.script",
         arguments: &VERIFY,
     },
@@ -182,19 +182,19 @@ pub const COMMANDS: [CommandRow; 10] = [
     },
     CommandRow {
         name: "explain",
-        about: "Tells what a terminal does, as a table",
+        about: "Prints what a terminal does, as a table",
         example: "Example: rt1553-tool explain pump.toml",
         arguments: &EXPLAIN,
     },
     CommandRow {
         name: "differ",
-        about: "Tells all in which two terminals differ",
+        about: "Prints all differences between two terminals",
         example: "Example: rt1553-tool differ --scripts old.toml new.toml",
         arguments: &DIFFER,
     },
     CommandRow {
         name: "acceptance",
-        about: "Writes the test that tells a terminal from every other",
+        about: "Writes the test that distinguishes a terminal from every other",
         example: "Example: rt1553-tool acceptance pump.toml > pump.script",
         arguments: &ACCEPTANCE,
     },
@@ -206,7 +206,7 @@ pub const COMMANDS: [CommandRow; 10] = [
     },
     CommandRow {
         name: "words",
-        about: "Tells words of the bus by their fields, and fields by words",
+        about: "Converts between words of the bus and their fields",
         example: "Lines:\n\
             \x20 rx A S N, tx A S N             receive or transmit N words, 1 to 32, at subaddress S, 1 to 30\n\
             \x20 mode A CODE [tx|rx [0|31]]     mode code CODE, 0 to 31, at subaddress 0 or 31\n\
@@ -220,7 +220,7 @@ pub const COMMANDS: [CommandRow; 10] = [
     },
     CommandRow {
         name: "live",
-        about: "Plays lines as they come, and ends each answer by a dot",
+        about: "Plays lines as they come, and ends each answer with a dot",
         example: "Example: printf 'A c 2c02\\nA gap\\nslot\\n' | rt1553-tool live pump.toml",
         arguments: &ONE_PROFILE,
     },

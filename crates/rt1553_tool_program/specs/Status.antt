@@ -12,7 +12,7 @@ use Rattle.rt1553_verify.specs.declared.stated.StatedFault.TheVariants as stated
 use Rattle.rt1553_tool_args.specs.declared.command.ToolCommand.{ToolCommand}
 use Rattle.rt1553_tool_args.specs.declared.command.ToolCommand.TheVariants as tool
 use Rattle.rt1553_tool_program.specs.declared.fault.ToolFault.{ToolFault}
-use Rattle.rt1553_tool_program.specs.declared.fault.ToolFault.TheVariants.{Memory, File, NoName, Input, Output, Profile, Line, Script, NoProfile, Outside, Drawing, Results, Comparison, NotText, Usage, Toml}
+use Rattle.rt1553_tool_program.specs.declared.fault.ToolFault.TheVariants.{Memory, File, NoName, Input, Output, Profile, Line, Script, NoProfile, Outside, Drawing, Results, Comparison, NotText, Usage}
 
 -- 2 for a text that is refused, 3 for arguments that the program does not accept, 4 where a file, a stream or memory failed
 abbrev pub tool_status : ToolFault → ℕ
@@ -36,7 +36,6 @@ tool_status (File fault) = 4
 tool_status NoName = 4
 tool_status Input = 4
 tool_status Output = 4
-tool_status (Toml fault) = 4
 
 -- the status of what is found in a text: 2 where one is an error, else 1 where there is a warning, else 0
 abbrev pub findings_status : List Finding → ℕ

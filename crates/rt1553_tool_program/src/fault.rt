@@ -7,7 +7,6 @@ use rt1553::LoadFault;
 use rt1553_draw::DrawFault;
 use rt1553_files::FileFault;
 use rt1553_results::{CompareFault, ResultsFault};
-use rt1553_tool::TomlFault;
 use rt1553_verify::StatedFault;
 use std::alloc::{AllocError, AllocFailed};
 use std::fmt;
@@ -54,8 +53,6 @@ pub enum ToolFault {
     NotText,
     /// A word is missing.
     Usage,
-    /// No profile was made that means the same terminal.
-    Toml(TomlFault),
 }
 
 /// The line of a script that is refused, and why.
@@ -98,7 +95,6 @@ impl fmt::Display for ToolFault {
             ),
             ToolFault::NotText => f.write_str("arguments: one is not UTF-8"),
             ToolFault::Usage => f.write_str("arguments: see --help"),
-            ToolFault::Toml(fault) => write!(f, "{fault}"),
         }
     }
 }

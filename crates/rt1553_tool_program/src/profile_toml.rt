@@ -3,7 +3,7 @@ ghost use Rattle.std.specs.Prelude.{◌≡◌, IfOk};
 
 use crate::fault::ToolFault;
 use crate::files::{load_profile, write_bytes};
-use rt1553_tool::toml_of;
+use rt1553_toml::toml_of;
 use std::io::Write;
 use std::rt::Files;
 
@@ -16,11 +16,7 @@ pub fn write_toml<R: Files + AllocGlobal, W: Write>(
     ensures { IfOk result (λ status. status ≡ 0) }
 {
     let normal = load_profile(rt, profile)?;
-    match toml_of(rt.alloc(), &normal) {
-        Ok(text) => {
-            write_bytes(output, text.as_str().as_bytes())?;
-            Ok(0)
-        }
-        Err(fault) => Err(ToolFault::Toml(fault)),
-    }
+    let text = toml_of(rt.alloc(), &normal)?;
+    write_bytes(output, text.as_str().as_bytes())?;
+    Ok(0)
 }

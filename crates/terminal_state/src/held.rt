@@ -36,6 +36,29 @@ impl HeldWords {
         }
     }
 
+    /// Gives these words of power-up with these held over them.
+    pub fn holding(initial: Blocks, blocks: Blocks) -> HeldWords
+        ensures words { (s : ℕ) → 1 ≤ s → s ≤ 30 → block_in result s ≡ get_or blocks (s - 1) [] }
+        ensures initial { result.initial ≡ initial }
+    {
+        HeldWords {
+            initial,
+            blocks,
+            changed: [true; 30],
+        }
+    }
+
+    /// Gives the same once more.
+    pub fn copy(&self) -> HeldWords
+        ensures { result ≡ self.now }
+    {
+        HeldWords {
+            initial: self.initial,
+            blocks: self.blocks,
+            changed: self.changed,
+        }
+    }
+
     /// Lends the words of a subaddress, 1 to 30.
     #[inline(always)]
     pub fn block(&self, subaddress: u8) -> &[u16]

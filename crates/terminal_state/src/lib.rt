@@ -14,5 +14,5 @@ pub use decoded::Decoded;
 pub use ended::{Ended, code_in, reports_kept, verdict_of};
 pub use held::{Blocks, HeldWords};
 pub use message::{Collected, GapEnd, InProgress, Message, Phase};
-pub use registers::{Flags, Registers};
+pub use registers::{Flags, PowerUpWords, Registers};
 pub use reply::{Reply, advance, advance_by, begin};

@@ -115,6 +115,19 @@ impl InProgress {
         }
     }
 
+    /// Gives the same once more.
+    pub fn copy(&self) -> InProgress
+        ensures message { result.message ≡ self.now.message }
+        ensures words { result.words.items ≡ self.now.words.items }
+    {
+        let mut words = ArrayVec::new();
+        let _ = words.try_extend_from_slice(self.words.as_slice());
+        InProgress {
+            message: self.message,
+            words,
+        }
+    }
+
     /// Begins the message of this command, and drops what was in progress.
     pub fn start(&mut self, bus: Bus, decoded: Decoded)
         ensures { (b : Bus) → standing_on b self.new ≡ (if same_bus b bus then Collects decoded.command (Words []) else Idle) }

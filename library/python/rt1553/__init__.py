@@ -1,7 +1,7 @@
 r"""A proved remote terminal of MIL-STD-1553B, and the canonical texts of its profiles.
 
-A terminal is made of a profile text or a canonical text and takes events; most are answered by nothing, and a message ends
-at its gap. A reply takes time: each slot sends its next word.
+A terminal is made from a profile text or a canonical text and takes events. Most events have no answer. A message ends at its
+gap. A reply takes time: each slot sends its next word.
 
 >>> terminal = Terminal("address = 5")
 >>> terminal.word(Bus.A, Sync.COMMAND, 0x2C02)
@@ -10,12 +10,12 @@ at its gap. A reply takes time: each slot sends its next word.
 Sent(bus=<Bus.A: 0>, sync=<Sync.COMMAND: 0>, bits=10240)
 >>> terminal.slot()
 
-A script plays many events, and gives the answers:
+A script plays many events and returns the answers:
 
 >>> Terminal("address = 5").play(["A c 2c02", "A gap", "slot"])
 [(2, Sent(bus=<Bus.A: 0>, sync=<Sync.COMMAND: 0>, bits=10240))]
 
-What is refused is told with the number of the fault, which stays as it is when texts change:
+A refused text raises a fault with a number, which stays when the wording of faults changes:
 
 >>> check("adress = 5")
 Traceback (most recent call last):
@@ -39,6 +39,7 @@ True
 
 from __future__ import annotations
 
+import copy
 import ctypes
 import enum
 import operator
@@ -47,7 +48,7 @@ import struct
 import threading
 from collections.abc import Iterable
 from dataclasses import dataclass
-from typing import Any, Callable, NoReturn, Optional, Union
+from typing import Any, Callable, Optional, TypeVar, Union, cast
 
 __all__ = [
     "Answer", "Bit", "Bus", "BusControl", "Event", "Fault", "FaultKind", "Flag", "FlagName", "Gap", "NoEvent", "NoMemory", "NoRoom",
@@ -68,14 +69,14 @@ class Bus(enum.IntEnum):
 
 
 class Sync(enum.IntEnum):
-    """The sync of a word: that of commands and status words, or that of data words."""
+    """The sync of a word: command and status sync, or data sync."""
 
     COMMAND = 0
     DATA = 1
 
 
 class FlagName(enum.IntEnum):
-    """A condition that the subsystem reports, and that the status word shows."""
+    """A condition that the subsystem reports and the status word shows."""
 
     SERVICE = 0
     BUSY = 1
@@ -87,18 +88,20 @@ class FlagName(enum.IntEnum):
 
 
 class FaultKind(enum.IntEnum):
-    """What a fault is of; NONE of `NoRoom`, which says nothing of any text."""
+    """The kind of a fault: what it is about. `NoRoom` has NONE, since it says nothing about any text."""
 
     NONE = 0
     PROFILE = 1
     CANONICAL_TEXT = 2
     MEMORY = 3
     SCRIPT = 4
+    STATE = 5
 
 
 class Fault(Exception):
-    """Why a call was not done. `number` is the fault among those of its kind (docs/faults.md), `line` the line of a canonical
-    text or a script that it names, or 0. Where a run was stopped, `transcript` is what was answered before."""
+    """Why a call was not done. `number` is its number among the faults of its kind (docs/faults.md). `line` is the line of the
+    canonical text, script or saved state that it names, or 0. If a run was stopped, `transcript` has the answers before the
+    fault."""
 
     def __init__(self, text: str, kind: FaultKind = FaultKind.NONE, number: int = 0, line: int = 0) -> None:
         super().__init__(text)
@@ -106,7 +109,7 @@ class Fault(Exception):
 
 
 class NoEvent(ValueError):
-    """What `Terminal.play` was given means no event. `answers` are those to the events before it, which are played."""
+    """An item given to `Terminal.play` means no event. `answers` has the answers to the events before it, which are played."""
 
     # an exception is pickled as its text and its attributes, so the text alone has to be enough for it
     def __init__(self, text: str, answers: "Iterable[tuple[int, Answer]]" = ()) -> None:
@@ -115,15 +118,15 @@ class NoEvent(ValueError):
 
 
 class Refused(Fault):
-    """A text is refused: its first fault."""
+    """A text or a saved state is refused, for its first fault."""
 
 
 class NoMemory(Fault):
-    """Out of memory, which says nothing of the texts."""
+    """Out of memory, which says nothing about the texts."""
 
 
 class NoRoom(Fault):
-    """A transcript is longer than the room for it. The text says how many bytes it has."""
+    """A transcript is longer than its room. The message says how many bytes it has."""
 
 
 # --- events and answers
@@ -131,13 +134,13 @@ class NoRoom(Fault):
 # an event as rt1553.h lays it out: what, bus, sync, parity, subaddress, number, flag, value, bits
 _EVENT = struct.Struct("=BBBBBBBBH")
 
-# the numbers that the fields of events and answers have
+# the ranges of the fields of events and answers
 _RANGES = {
     "bus": (0, 1), "sync": (0, 1), "parity": (0, 1), "bits": (0, 0xFFFF), "word": (0, 0xFFFF), "subaddress": (1, 30), "number": (1, 32),
     "flag": (0, 3), "value": (0, 1),
 }  # fmt: skip
 
-# what stands in front of the bits of an event, for each that there is
+# the bytes before the bits, for each event that there is
 _FRONTS = frozenset(
     _EVENT.pack(*numbers, 0)[:8]
     for numbers in [
@@ -151,12 +154,12 @@ _FRONTS = frozenset(
 
 
 def _kind(value: object) -> str:
-    """What a value is, for a TypeError."""
+    """The name of a value's type, for a TypeError."""
     return type(value).__name__
 
 
 def _index(name: str, value: Any) -> int:
-    """A field as a number, of any size. TypeError where it is none."""
+    """A field as a number of any size. TypeError if it is not a number."""
     if hasattr(type(value), "__index__"):
         return int(operator.index(value))
     wanted = "{}a number from {} to {}".format("None or " if name == "parity" else "", *_RANGES[name])
@@ -164,7 +167,7 @@ def _index(name: str, value: Any) -> int:
 
 
 def _number(name: str, value: object) -> int:
-    """A field as a number. TypeError where it is none, ValueError where it is out of range."""
+    """A field as a number. TypeError if it is not a number, ValueError if it is out of range."""
     number, (least, most) = _index(name, value), _RANGES[name]
     if not least <= number <= most:
         raise ValueError(f"{name} is not from {least} to {most}")
@@ -180,13 +183,13 @@ def _hex(value: object, name: str = "bits") -> str:
 
 
 class _Event:
-    """What all events have."""
+    """What all events have in common."""
 
     def _packed(self) -> bytes:
         raise NotImplementedError
 
     def _check(self) -> None:
-        """TypeError where a field is no number. Their ranges are not looked at."""
+        """TypeError if a field is not a number. Ranges are not checked."""
         for name in _RANGES:
             value = getattr(self, name, 0)
             if not (name == "parity" and value is None):
@@ -195,7 +198,7 @@ class _Event:
 
 @dataclass(frozen=True)
 class Word(_Event):
-    """A word on a bus, with this parity bit, or with the right one.
+    """A word on a bus, with the given parity bit or with the right one.
 
     >>> Word(Bus.A, Sync.COMMAND, 0x2c02).line()
     'A c 2c02'
@@ -214,14 +217,14 @@ class Word(_Event):
         return f"{_bus(self.bus)} {'cd'[_number('sync', self.sync)]} {_hex(self.bits)}{parity}"
 
     def _packed(self) -> bytes:
-        # 2 is the right one in the library, and no parity bit here
+        # 2 means the right parity bit in the library, but is not a parity bit here
         parity = 2 if self.parity is None else 3 if self.parity == 2 else self.parity
         return _EVENT.pack(0, self.bus, self.sync, parity, 0, 0, 0, 0, self.bits)
 
 
 @dataclass(frozen=True)
 class Noise(_Event):
-    """What is on a bus and is no word."""
+    """Something on a bus that is not a word."""
 
     bus: Bus
 
@@ -294,7 +297,7 @@ class Bit(_Event):
 
 @dataclass(frozen=True)
 class Flag(_Event):
-    """The subsystem sets a flag or takes it back."""
+    """The subsystem sets or clears a flag."""
 
     flag: FlagName
     value: bool
@@ -309,7 +312,7 @@ class Flag(_Event):
 
 @dataclass(frozen=True)
 class Slot(_Event):
-    """The time of one word of a reply: the next one is sent."""
+    """The time of one word of a reply: the next word is sent."""
 
     def line(self) -> str:
         """The event as a line of a script."""
@@ -324,7 +327,7 @@ Event = Union[Word, Noise, Gap, Write, Vector, Bit, Flag, Slot]
 
 @dataclass(frozen=True)
 class Sent:
-    """A word is sent: the status word has command sync.
+    """A word is sent. The status word has command sync.
 
     >>> Sent(Bus.A, Sync.COMMAND, 0x2800).line()
     'A s 2800'
@@ -339,7 +342,7 @@ class Sent:
         return f"{_bus(self.bus)} {'sd'[_number('sync', self.sync)]} {_hex(self.bits)}"
 
     def heard(self) -> Word:
-        """The word as the others on the bus hear it."""
+        """The word as the other terminals on the bus hear it."""
         return Word(self.bus, self.sync, self.bits)
 
 
@@ -388,7 +391,7 @@ class BusControl:
 
 Answer = Union[Sent, Received, Synchronize, SelfTest, BusControl]
 
-# --- what else crosses to the library, as rt1553.h lays it out
+# --- the other structs of rt1553.h
 
 _ANSWER = struct.Struct("=BBH?BBx32H")  # what, bus, bits, broadcast, subaddress, count, words
 _PLACE = struct.Struct("=Q")
@@ -396,8 +399,8 @@ _FAULT = struct.Struct("=BBB5xQ136s")  # kind, number, length, line, text
 _VERSION = struct.Struct("=HHH")  # major, minor, canonical text
 
 _DONE, _DIFFER, _REFUSED, _NO_MEMORY, _NO_ROOM = 0, 1, 2, 4, 5
-_CANONICAL_ROOM, _SCRIPT_ROOM = 7680, 4608
-# of scripts: the bytes of a line, the lines, and the bytes that answer a line
+_CANONICAL_ROOM, _SCRIPT_ROOM, _STATE_ROOM = 7680, 4608, 13056
+# limits of scripts: the bytes of a line, the lines, and the bytes of the answer to a line
 _LONGEST_LINE, _MOST_LINES, _LONGEST_ANSWER = 64, 1048576, 186
 
 _library = ctypes.CDLL(str(pathlib.Path(__file__).with_name("librt1553.so")))
@@ -406,10 +409,10 @@ _sized = ctypes.POINTER(_size)
 
 
 def _call(name: str, result: object, *arguments: object) -> Callable[..., int]:
-    """A call of the library."""
+    """A function of the library."""
     call = getattr(_library, f"rt1553_{name}")
     call.argtypes, call.restype = arguments, result
-    return call
+    return cast("Callable[..., int]", call)
 
 
 _version = _call("version", None, _at)
@@ -418,13 +421,16 @@ _canonical = _call("canonical", ctypes.c_uint8, _bytes, _size, _at, _size, _size
 _compare = _call("compare", ctypes.c_uint8, _bytes, _size, _bytes, _size, _at, _size, _sized, _at)
 _run = _call("run", ctypes.c_uint8, _bytes, _size, _bytes, _size, _at, _size, _sized, _at)
 _new = _call("terminal_new", ctypes.c_uint8, _bytes, _size, ctypes.POINTER(_at), _at)
+_copy = _call("terminal_copy", ctypes.c_uint8, _at, ctypes.POINTER(_at), _at)
+_save = _call("terminal_save", ctypes.c_uint8, _at, _at, _size, _sized, _at)
+_restore = _call("terminal_restore", ctypes.c_uint8, _bytes, _size, ctypes.POINTER(_at), _at)
 _play = _call("terminal_play", _size, _at, _at, _size, _at, _at, _size, _at)
 _free = ctypes.CDLL(None).free
 _free.argtypes, _free.restype = [_at], None
 
 
 def _of(text: Text) -> bytes:
-    """The bytes of a text, just as many as they say that they are."""
+    """The bytes of a text, exactly as many as its length says."""
     if isinstance(text, str):
         return str.encode(text)
     if isinstance(text, _BYTES):
@@ -433,28 +439,29 @@ def _of(text: Text) -> bytes:
 
 
 def _told(status: int, fault: ctypes.Array[ctypes.c_char]) -> Fault:
-    """The fault of a call that was refused."""
+    """The fault of a refused call, as an exception."""
     kind, number, length, line, text = _FAULT.unpack(fault)
     said = text[:length].decode().rstrip("\n")
     return (NoMemory if status == _NO_MEMORY else Refused)(said, FaultKind(kind), number, line)
 
 
 def version() -> tuple[int, int, int]:
-    """The library's version, major and minor, and that of the canonical texts that it writes.
+    """The version of the library, major and minor, and the version of the canonical texts that it writes.
 
     >>> version()
     (0, 1, 2)
     """
     to = ctypes.create_string_buffer(_VERSION.size)
     _version(to)
-    return _VERSION.unpack(to)
+    major, minor, canonical_text = _VERSION.unpack(to)
+    return major, minor, canonical_text
 
 
 # --- whole texts
 
 
 def check(text: Text) -> None:
-    """Raises `Refused` where a profile text or a canonical text is not accepted."""
+    """Raises `Refused` if a profile text or a canonical text is not accepted."""
     text, fault = _of(text), ctypes.create_string_buffer(_FAULT.size)
     if status := _check(text, len(text), fault):
         raise _told(status, fault)
@@ -470,7 +477,7 @@ def canonical(text: Text) -> str:
 
 
 def compare(first: Text, second: Text) -> Optional[str]:
-    """None where two texts mean the same terminal; else a script that the two answer differently from power-up."""
+    """None if two texts mean the same terminal, else a script that the two answer differently from power-up."""
     one, other, fault = _of(first), _of(second), ctypes.create_string_buffer(_FAULT.size)
     to, length = ctypes.create_string_buffer(_SCRIPT_ROOM), _size()
     status = _compare(one, len(one), other, len(other), to, len(to), ctypes.byref(length), fault)
@@ -491,15 +498,15 @@ def _room(room: object) -> int:
 
 
 def run(text: Text, script: Text, room: Optional[int] = None) -> str:
-    """The transcript of a script, played to the terminal of a text from power-up. `room` is how many bytes it may have; as
-    many as any transcript of this script where it isn't given. ValueError where it is negative. A fault has in `transcript` what
-    was answered before it; `NoRoom` says how many bytes are needed.
+    """The transcript of a script, played to the terminal of a text from power-up. `room` is the number of bytes that it may have;
+    without it any transcript of this script has room. ValueError if it is negative. A fault has the answers before it in
+    `transcript`. `NoRoom` says how many bytes are needed.
 
     >>> run("address = 5", "A c 2c02\\nA gap\\nslot\\n")
     'A s 2800\\n'
     """
     text, script, fault = _of(text), _of(script), ctypes.create_string_buffer(_FAULT.size)
-    # no line of a script is answered by more than one of a transcript, so a room that is larger is never filled
+    # a line of a script has at most one line of a transcript as its answer, so a larger room is never filled
     enough = _LONGEST_ANSWER * min(script.count(b"\n") + 1, _MOST_LINES)
     room = enough if room is None else min(_room(room), enough)
     to, length = ctypes.create_string_buffer(max(room, 1)), _size()
@@ -518,7 +525,7 @@ def run(text: Text, script: Text, room: Optional[int] = None) -> str:
 
 
 def packed(event: Event) -> bytes:
-    """An event as the library takes it. ValueError where it is none: a number is out of range."""
+    """An event in the layout of the library. ValueError if it is not an event, because a number is out of range."""
     if not isinstance(event, _Event):
         raise TypeError(f"an event is wanted, not {_kind(event)}")
     try:
@@ -548,7 +555,7 @@ def _number_of(digits: str) -> int:
 
 
 def _read(line: str) -> Optional[Event]:
-    """The event of a line of a script, whose numbers may be out of range; None where it has the form of none."""
+    """The event of a script line, whose numbers may be out of range; None if the line does not have the form of an event."""
     fields = line.split(" ")
     try:
         if fields == ["slot"]:
@@ -567,7 +574,7 @@ def _read(line: str) -> Optional[Event]:
             return Write(_number_of(subaddress), _number_of(number), _word_of(bits))
         if fields[0] in ("vector", "bit"):
             (bits,) = fields[1:]
-            return (Vector if fields[0] == "vector" else Bit)(_word_of(bits))
+            return Vector(_word_of(bits)) if fields[0] == "vector" else Bit(_word_of(bits))
         if fields[0] == "flag":
             flag, value = fields[1:]
             return Flag(_FLAGS[flag], {"0": False, "1": True}[value])
@@ -577,7 +584,7 @@ def _read(line: str) -> Optional[Event]:
 
 
 def read_event(line: str) -> Event:
-    """The event of a line of a script, without its line feed. ValueError where it is none.
+    """The event of a script line without its line feed. ValueError if the line is not an event.
 
     >>> read_event("A c 2c02")
     Word(bus=<Bus.A: 0>, sync=<Sync.COMMAND: 0>, bits=11266, parity=None)
@@ -593,14 +600,14 @@ def read_event(line: str) -> Event:
 
 
 def _packed_line(line: bytes) -> bytes:
-    """The event of a line of a script as the library takes it, and nothing where it is empty or a comment."""
+    """The event of a script line in the layout of the library; nothing if the line is empty or a comment."""
     if not line or line[:1] == b"#":
         return b""
     return read_event(line.decode("ascii"))._packed()
 
 
 def _packed_row(number_and_line: tuple[int, bytes]) -> bytes:
-    """The same of a line of a whole script. It is refused by what `run` says of it."""
+    """The same for a line of a whole script. The ValueError says what `run` says of the line."""
     number, line = number_and_line
     if number > _MOST_LINES:
         raise ValueError("script: too many lines")
@@ -613,7 +620,7 @@ def _packed_row(number_and_line: tuple[int, bytes]) -> bytes:
 
 
 def _packed_piece(piece: Union[Event, Text]) -> bytes:
-    """The events of a piece of a row."""
+    """The events of an item of a sequence."""
     if isinstance(piece, str):
         line = _of(piece).removesuffix(b"\n")
         if len(line) > _LONGEST_LINE or b"\n" in line:
@@ -630,7 +637,7 @@ def _packed_piece(piece: Union[Event, Text]) -> bytes:
 
 
 def _gathered(packed_of: Callable[[Any], bytes], row: Iterable[Any]) -> tuple[bytes, Optional[str]]:
-    """The events of a row, up to the first that is none, and why it is none. What the row itself raises passes through."""
+    """The events of a sequence up to the first item that is none, and why it is none. Exceptions of the sequence pass through."""
     gathered: list[bytes] = []
     for piece in row:
         try:
@@ -641,7 +648,7 @@ def _gathered(packed_of: Callable[[Any], bytes], row: Iterable[Any]) -> tuple[by
 
 
 def _events_of(script: object) -> tuple[bytes, Optional[str]]:
-    """The events of what `Terminal.play` is given, as `_gathered`."""
+    """The events of the argument of `Terminal.play`, as in `_gathered`."""
     if isinstance(script, str):
         lines = _of(script).split(b"\n")
         return _gathered(_packed_row, enumerate(lines if lines[-1] else lines[:-1], 1))
@@ -656,7 +663,7 @@ _BUSES, _SYNCS = tuple(Bus), tuple(Sync)
 
 
 def _answer_at(front: ctypes.Array[ctypes.c_char], at: int) -> Optional[Answer]:
-    """The answer that stands there."""
+    """The answer at this place."""
     what = front[at][0]
     if what == 0:
         return None
@@ -671,27 +678,33 @@ def _answer_at(front: ctypes.Array[ctypes.c_char], at: int) -> Optional[Answer]:
 
 
 class _Memory:
-    """The memory of a terminal. It goes back when nothing refers to it any more, so not while a call on it is in progress."""
+    """The memory of a terminal. It is freed when nothing refers to it any more, so never during a call on it."""
 
     at: Any = None
 
-    def __init__(self, text: bytes) -> None:
-        # calls of several threads come one after the other; a call in a signal's handler comes between two others
+    def __init__(self, make: Callable[..., int], *arguments: object) -> None:
+        # calls of several threads come one after the other; a call in a signal handler comes between two others
         self.lock = threading.RLock()
         self.at, fault = _at(), ctypes.create_string_buffer(_FAULT.size)
-        if status := _new(text, len(text), ctypes.byref(self.at), fault):
+        if status := make(*arguments, ctypes.byref(self.at), fault):
             raise _told(status, fault)
 
     def __del__(self, free: Callable[[Any], object] = _free) -> None:
         free(self.at)
 
 
-# where a step writes to: an answer, its place, and how many answers there are
+# what a step writes: an answer, its place, and the number of answers
 _Stepped = ctypes.c_char * (_ANSWER.size + 2 * _PLACE.size)
 
 
+_T = TypeVar("_T", bound="Terminal")
+
+
 class Terminal:
-    """A remote terminal, from power-up. Where several threads use it, their calls come one after the other.
+    """A remote terminal, from power-up. If several threads use it, their calls come one after the other.
+
+    `copy.copy`, `copy.deepcopy` and `pickle` make a terminal that answers every further event as this one does. Neither knows of
+    the other. What a subclass has in its `__dict__` comes with it.
 
     >>> terminal = Terminal('''
     ... address = 5
@@ -710,30 +723,80 @@ class Terminal:
     __memory: Optional[_Memory] = None
 
     def __init__(self, text: Text) -> None:
-        # once more, it is made anew; where the text is refused, it stays as it was
-        self.__memory = _Memory(_of(text))
+        # a second call makes it anew; if the text is refused, it stays as it was
+        data = _of(text)
+        self.__memory = _Memory(_new, data, len(data))
 
     def __del__(self) -> None:
         self.__memory = None
 
-    def __copy__(self) -> NoReturn:
-        raise TypeError("a terminal can't be copied")
+    @classmethod
+    def restore(cls: type[_T], state: Union[bytes, bytearray, memoryview]) -> _T:
+        """A terminal in a saved state, which answers every further event as the saved one does. `Refused` if the bytes are none.
+        `__init__` is not called.
 
-    def __deepcopy__(self, memo: object) -> NoReturn:
-        raise TypeError("a terminal can't be copied")
+        >>> try:
+        ...     Terminal.restore(b"rt1553-state 2")
+        ... except Refused as refused:
+        ...     print(refused, refused.kind.name, refused.number, refused.line)
+        saved state: line 1 STATE 1 1
+        """
+        if not isinstance(state, _BYTES):
+            raise TypeError(f"a saved state is wanted, as bytes, not {_kind(state)}")
+        terminal, data = cls.__new__(cls), _of(state)
+        terminal.__memory = _Memory(_restore, data, len(data))
+        return terminal
 
-    def __reduce__(self) -> NoReturn:
-        raise TypeError("a terminal can't be pickled")
+    def save(self) -> bytes:
+        """Its saved state, a text of ASCII (docs/library.md).
+
+        >>> terminal = Terminal("address = 5")
+        >>> terminal.play(["A c 2c02", "A gap"])
+        []
+        >>> Terminal.restore(terminal.save()).slot()
+        Sent(bus=<Bus.A: 0>, sync=<Sync.COMMAND: 0>, bits=10240)
+        """
+        memory, fault = self.__made(), ctypes.create_string_buffer(_FAULT.size)
+        to, length = ctypes.create_string_buffer(_STATE_ROOM), _size()
+        with memory.lock:
+            status = _save(memory.at, to, len(to), ctypes.byref(length), fault)
+        if status:
+            raise _told(status, fault)
+        return to.raw[: length.value]
+
+    def __twin(self: _T) -> _T:
+        """A terminal in the same state, without what a subclass has of its own."""
+        memory, terminal = self.__made(), type(self).__new__(type(self))
+        with memory.lock:
+            terminal.__memory = _Memory(_copy, memory.at)
+        return terminal
+
+    def __own(self) -> dict[str, Any]:
+        """What a subclass has of its own."""
+        return {name: value for name, value in vars(self).items() if value is not self.__memory}
+
+    def __copy__(self: _T) -> _T:
+        terminal = self.__twin()
+        vars(terminal).update(self.__own())
+        return terminal
+
+    def __deepcopy__(self: _T, memo: dict[int, Any]) -> _T:
+        terminal = memo[id(self)] = self.__twin()
+        vars(terminal).update(copy.deepcopy(self.__own(), memo))
+        return terminal
+
+    def __reduce__(self) -> tuple[Any, ...]:
+        return type(self).restore, (self.save(),), self.__own() or None
 
     def __made(self) -> _Memory:
-        """Its memory. RuntimeError where it has none."""
+        """Its memory. RuntimeError if it has none."""
         memory = self.__memory
         if memory is None:
             raise RuntimeError("this terminal was not made by `Terminal.__init__`, or it was deleted")
         return memory
 
     def step(self, event: Event) -> Optional[Answer]:
-        """Plays an event, and gives its answer, if there is one. ValueError where the event is none: then nothing changes.
+        """Plays an event and returns its answer, if there is one. ValueError if its numbers mean no event; then nothing changes.
 
         >>> Terminal("address = 5").step(Write(31, 1, 0))
         Traceback (most recent call last):
@@ -750,19 +813,19 @@ class Terminal:
         return _answer_at(to, 0)
 
     def word(self, bus: Bus, sync: Sync, bits: int, parity: Optional[int] = None) -> None:
-        """A word on a bus, with the right parity bit or with this one."""
+        """A word on a bus, with the given parity bit or with the right one."""
         self.step(Word(bus, sync, bits, parity))
 
     def noise(self, bus: Bus) -> None:
-        """What is on a bus and is no word."""
+        """Something on a bus that is not a word."""
         self.step(Noise(bus))
 
     def gap(self, bus: Bus) -> Optional[Answer]:
-        """A gap on a bus: what is handed over at the message that it ends."""
+        """A gap on a bus. Returns what is handed over at the end of a message."""
         return self.step(Gap(bus))
 
     def slot(self) -> Optional[Answer]:
-        """The time of one word: the next word of the reply in progress."""
+        """The time of one word. Returns the next word of the reply in progress."""
         return self.step(Slot())
 
     def write(self, subaddress: int, number: int, bits: int) -> None:
@@ -778,15 +841,17 @@ class Terminal:
         self.step(Bit(bits))
 
     def flag(self, flag: FlagName, value: bool) -> None:
-        """The subsystem sets a flag or takes it back."""
+        """The subsystem sets or clears a flag."""
         self.step(Flag(flag, value))
 
     def play(self, script: Union[Text, Iterable[Union[Event, Text]]]) -> list[tuple[int, Answer]]:
-        """Plays many events at once: a whole script as one text, or a row of events, of lines of a script, with their line feeds or
-        without, and of bytes that `packed` has made, one event or more in a piece. The row is read to its end before anything
-        is played. Gives the answers, each with the number of its event, from 0. Empty lines and lines that begin with `#`
-        count as no event. `NoEvent`, a ValueError, where one is none, or where `run` refuses a line of the script: those before
-        it are played, and it has their answers. TypeError where something else stands in a row: then nothing is played.
+        """Plays many events at once and returns the answers, each with the number of its event, from 0.
+
+        `script` is a whole script as one text, or a sequence of events, of script lines with or without line feeds, and of bytes
+        that `packed` has made, one event or more in an item. The sequence is read to its end before anything is played. Empty
+        lines and lines that begin with `#` do not count as events. If an item is not an event, or `run` would refuse a line of
+        the script, the events before it are played and `NoEvent`, a ValueError, has their answers. TypeError if an item has
+        another type; then nothing is played.
 
         >>> Terminal("address = 5").play(["# ask", Word(Bus.A, Sync.COMMAND, 0x2c02), "A gap", packed(Slot()) * 33])
         [(2, Sent(bus=<Bus.A: 0>, sync=<Sync.COMMAND: 0>, bits=10240))]
@@ -798,16 +863,16 @@ class Terminal:
         return answers
 
     def __played(self, events: bytes) -> list[tuple[int, Answer]]:
-        """Plays events that are packed. `NoEvent` at the first whose numbers mean none."""
+        """Plays packed events. `NoEvent` at the first whose numbers mean none."""
         memory, count = self.__made(), len(events) // _EVENT.size
         room = max(min(count, 4096), 1)
         to, places, filled = ctypes.create_string_buffer(room * _ANSWER.size), (_size * room)(), _size()
-        front, played, answers = ctypes.cast(events, _at).value or 0, 0, []
+        front, played, answers = ctypes.cast(ctypes.c_char_p(events), _at).value or 0, 0, []
         with memory.lock:
             while played < count:
                 done = _play(memory.at, front + played * _EVENT.size, count - played, to, places, room, ctypes.addressof(filled))
                 for k in range(filled.value):
-                    answers.append((played + places[k], _answer_at(to, k * _ANSWER.size)))
+                    answers.append((played + places[k], cast("Answer", _answer_at(to, k * _ANSWER.size))))
                 played += done
                 if played < count and filled.value < room:
                     raise NoEvent(f"no event: number {played}", answers)

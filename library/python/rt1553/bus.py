@@ -1,4 +1,4 @@
-r"""A bus controller of MIL-STD-1553B and the terminals on its two buses, which may be faulty on purpose.
+r"""A bus controller of MIL-STD-1553B, with the terminals on its two buses, which may be faulty on purpose.
 
 >>> PUMP = '''
 ... address = 5
@@ -15,7 +15,7 @@ r"""A bus controller of MIL-STD-1553B and the terminals on its two buses, which 
 >>> controller.transmit(5, 3, 2, bus=Bus.B).words
 (0, 0)
 
-What a controller would see of an error is in the result. Here the first reply is not sent:
+The result has the errors that a controller would see. Here the first reply is not sent:
 
 >>> controller = BusController({5: Faulty(Terminal(PUMP), [FaultyReply(drop=True)])})
 >>> controller.mode(5, 2).errors
@@ -23,7 +23,13 @@ What a controller would see of an error is in the result. Here the first reply i
 >>> controller.mode(5, 2).errors
 ()
 
-A wrong argument ends in an exception before anything is sent: `TypeError` or `ValueError`, which says what is wanted.
+A wrong argument raises `TypeError` or `ValueError` before anything is sent. The message says what is expected.
+
+`copy.deepcopy` and `pickle` take the terminals of a controller along, with their states; `copy.copy` shares them:
+
+>>> from copy import deepcopy
+>>> deepcopy(controller).mode(5, 2).status
+Status(address=5)
 """
 
 from __future__ import annotations
@@ -45,7 +51,7 @@ __all__ = [
     "parity",
 ]  # fmt: skip
 
-# the address of all terminals (4.3.3.5.1.2)
+# the broadcast address (4.3.3.5.1.2)
 BROADCAST = 31
 # the mode codes that the standard names, each with its T/R bit (4.3.3.5.1.7)
 _MODE_CODES = {**dict.fromkeys([*range(9), 16, 18, 19], True), **dict.fromkeys([17, 20, 21], False)}
@@ -55,7 +61,7 @@ _STATUS_BITS = {
     "busy": 0x0008, "subsystem_flag": 0x0004, "dynamic_bus_control_acceptance": 0x0002, "terminal_flag": 0x0001,
 }  # fmt: skip
 
-# what is on a bus in the time of one word, and what a terminal hands over at a gap
+# what may be on a bus in the time of one word; what a terminal hands over at a gap
 _Heard = Union[Word, Noise]
 HandedOver = Union[Received, Synchronize, SelfTest, BusControl]
 
@@ -68,7 +74,7 @@ def _unwanted(name: str, wanted: str, value: object) -> TypeError:
 
 
 def _number(name: str, value: Any, least: int, most: int) -> int:
-    """A number in its range. TypeError where it is none, ValueError where it is out of range."""
+    """A number in its range. TypeError if it is not a number, ValueError if it is out of range."""
     wanted = f"a number from {least} to {most}"
     if not hasattr(type(value), "__index__"):
         raise _unwanted(name, wanted, value)
@@ -90,7 +96,7 @@ def _words(words: Any) -> list[int]:
 
 
 def _place(name: str, place: Any, most: int) -> tuple[int, int]:
-    """An address up to this one, and a subaddress of data."""
+    """An address up to `most`, and a subaddress for data."""
     if not isinstance(place, tuple):
         raise _unwanted(name, "a tuple of an address and a subaddress", place)
     if len(place) != 2:
@@ -115,8 +121,8 @@ def _command(address: int, transmit: Any, subaddress: int, low: int) -> int:
 
 
 def command(address: int, transmit: bool, subaddress: int, count: int) -> int:
-    """The 16 bits of a command word (4.3.3.5.1): to receive data words, or with `transmit` to transmit them. `address` is 0 to 31,
-    31 being broadcast, `subaddress` 1 to 30, `count` 1 to 32.
+    """The 16 bits of a command word (4.3.3.5.1) to receive data words, or with `transmit` to transmit them. `address` is 0 to 31,
+    where 31 is broadcast, `subaddress` 1 to 30, `count` 1 to 32.
 
     >>> f"{command(5, False, 3, 2):04x}"
     '2862'
@@ -125,9 +131,9 @@ def command(address: int, transmit: bool, subaddress: int, count: int) -> int:
 
 
 def mode_command(address: int, code: int, transmit: Optional[bool] = None, subaddress: int = 0) -> int:
-    """The 16 bits of the command word of a mode code, 0 to 31 (4.3.3.5.1.7). `transmit` is the T/R bit. Without it the bit is the
-    one of the standard's table; a code that is reserved there, 9 to 15 or 22 to 31, needs it. `subaddress` is 0 or 31, which
-    mean the same (30.4.1).
+    """The 16 bits of the command word of a mode code, 0 to 31 (4.3.3.5.1.7). `transmit` is the T/R bit. Without it, the bit comes
+    from the standard's table; a code that is reserved there, 9 to 15 or 22 to 31, needs it. `subaddress` is 0 or 31, which mean
+    the same (30.4.1).
 
     >>> f"{mode_command(5, 2):04x}"
     '2c02'
@@ -144,7 +150,7 @@ def mode_command(address: int, code: int, transmit: Optional[bool] = None, subad
 
 @dataclass(frozen=True, repr=False)
 class Status:
-    """A status word (4.3.3.5.3). `address` is 0 to 31, `reserved` the three reserved bits, 0 to 7. It shows the bits that are set.
+    """A status word (4.3.3.5.3). `address` is 0 to 31, `reserved` the three reserved bits, 0 to 7. Its text names the bits set.
 
     >>> Status.from_bits(0x2808)
     Status(address=5, busy=True)
@@ -189,8 +195,8 @@ class Status:
 
 
 class Recorder:
-    """A terminal that keeps the events that it is told, as a script, and its answers, as a transcript: the one that
-    `rt1553.run(profile, script)` gives. What its subsystem does has to go through `step` too. A profile that is refused is
+    """A terminal that keeps its events as a script and its answers as a transcript, which is the one that
+    `rt1553.run(profile, script)` gives. What its subsystem does has to go through `step` too. A refused profile raises
     `rt1553.Refused`.
 
     >>> recorder = Recorder("address = 5")
@@ -208,7 +214,7 @@ class Recorder:
         self._answers: list[str] = []
 
     def step(self, event: Event) -> Optional[Answer]:
-        """Plays an event, as `Terminal.step`."""
+        """Plays an event, as `Terminal.step` does."""
         answer = self.terminal.step(event)
         self._events.append(event.line() + "\n")
         if answer is not None:
@@ -228,15 +234,15 @@ class Recorder:
 
 @dataclass(frozen=True)
 class FaultyReply:
-    """What is wrong with one reply of a `Faulty` terminal. Without arguments nothing is.
+    """What is wrong with one reply of a `Faulty` terminal. Without arguments nothing is wrong.
 
     - `drop`: nothing is sent.
-    - `delay`: the reply begins so many slots late, 0 to 1000, so a controller has given up by then (4.3.3.9).
-    - `shorten`: so many words at its end are not sent, 0 to 33.
-    - `lengthen`: so many data words 0000 are sent behind it, 0 to 33.
-    - `word`: the number of the word that the rest is about: 0, the status word, or 1 to 32. Where the reply has no such word, the
-      rest does nothing.
-    - `flip`: the bits of this mask, 0 to 0xffff, are inverted. The parity bit is right for the new ones.
+    - `delay`: the reply begins this many slots late, 0 to 1000, so a controller has given up by then (4.3.3.9).
+    - `shorten`: this many words at its end are not sent, 0 to 33.
+    - `lengthen`: this many data words 0000 are sent after it, 0 to 33.
+    - `word`: the number of the word that the next three change: 0 for the status word, or 1 to 32. If the reply has no such
+      word, they do nothing.
+    - `flip`: the bits of this mask, 0 to 0xffff, are inverted. The parity bit is right for the new bits.
     - `wrong_parity`: the parity bit is wrong (4.4.1.1).
     - `noise`: the word is noise: its sync, code or bit count is wrong.
     """
@@ -262,7 +268,7 @@ class FaultyReply:
         return Word(word.bus, word.sync, bits, 1 - parity(bits) if self.wrong_parity else None)
 
     def _sent(self, reply: list[Word]) -> list[Optional[_Heard]]:
-        """What is sent instead of a reply, a word or nothing in each slot."""
+        """What is sent instead of a reply: a word or nothing in each slot."""
         if self.drop:
             return []
         words = [self._corrupted(word) if number == self.word else word for number, word in enumerate(reply)]
@@ -271,11 +277,12 @@ class FaultyReply:
 
 
 class Faulty:
-    """A terminal whose replies are faulty by a plan: a row that has for each reply in turn a `FaultyReply`, or None where nothing
-    is wrong. Past the end of the plan nothing is. `itertools.cycle` or a generator makes a plan without end.
+    """A terminal whose replies are faulty by a plan: a sequence that has for each reply in turn a `FaultyReply`, or None if nothing
+    is wrong. After the end of the plan nothing is wrong. `itertools.cycle` or a generator makes a plan without end.
 
-    A message that the terminal doesn't answer, as a broadcast, takes nothing from the plan. What is left of a late reply is
-    dropped when the terminal has another one to send (4.4.3.2).
+    A message that the terminal does not answer, such as a broadcast, takes nothing from the plan. The rest of a late reply is
+    dropped when the terminal has another reply to send (4.4.3.2). `copy.deepcopy` and `pickle` keep the place in the plan. They
+    refuse a generator as a plan with a TypeError.
     """
 
     def __init__(self, terminal: Union[Terminal, Recorder], plan: Iterable[Optional[FaultyReply]]) -> None:
@@ -287,15 +294,15 @@ class Faulty:
         self._left: deque[Optional[_Heard]] = deque()
 
     def _reply(self) -> list[Word]:
-        """The whole reply that the terminal begins in this slot, if it does."""
+        """The whole reply that the terminal begins in this slot, if it begins one."""
         reply: list[Word] = []
         while isinstance(sent := self.terminal.step(Slot()), Sent):
             reply.append(sent.heard())
         return reply
 
     def step(self, event: Event) -> Union[Answer, Word, Noise, None]:
-        """Plays an event, as `Terminal.step`; a slot is answered by what is then on the bus. TypeError where the plan has something
-        else than `FaultyReply` and None: that reply is sent as it is, from the next slot on."""
+        """Plays an event, as `Terminal.step` does. The answer to a slot is what is then on the bus. TypeError if the plan has
+        something other than `FaultyReply` and None; that reply is sent as it is, from the next slot on."""
         if not isinstance(event, Slot):
             return self.terminal.step(event)
         if reply := self._reply():
@@ -315,11 +322,10 @@ class ReplyError(enum.Enum):
     """What a bus controller sees wrong in a reply.
 
     - `NO_RESPONSE`: no status word came before the no-response time-out (4.3.3.9).
-    - `INVALID_WORD`: a word has a wrong sync or parity bit, or is noise, as where two terminals send at once (4.4.1.1).
-    - `ANOTHER_ADDRESS`: the status word is that of another address (4.3.3.5.3.2).
-    - `MESSAGE_ERROR`: message error is set (4.3.3.5.3.3). With mode codes 2 and 18 it is that of the message before.
-    - `WORD_COUNT`: more data words or fewer than asked for. None at all are right with message error (4.4.3.4) or busy
-      (4.3.3.5.3.8).
+    - `INVALID_WORD`: a word has a wrong sync or parity bit, or is noise, as when two terminals send at once (4.4.1.1).
+    - `ANOTHER_ADDRESS`: the status word has another address (4.3.3.5.3.2).
+    - `MESSAGE_ERROR`: message error is set (4.3.3.5.3.3). With mode codes 2 and 18 it belongs to the previous message.
+    - `WORD_COUNT`: more or fewer data words than asked for; with message error (4.4.3.4) or busy (4.3.3.5.3.8), none is correct too.
     """
 
     NO_RESPONSE = "no response"
@@ -331,12 +337,12 @@ class ReplyError(enum.Enum):
 
 @dataclass(frozen=True)
 class Result:
-    """What a bus controller sees of a message, and what terminals hand over to their subsystems at it.
+    """What a bus controller sees of a message, and what terminals hand over to their subsystems at its end.
 
-    `status` is the status word of the terminal of the command, in a transfer of the one that receives. It is None where no valid
-    one came, and by broadcast, to which none belongs. `transmitter` is the status word of the one that transmits in a
-    transfer. `words` are the valid data words that came, and `errors` is what was wrong. `handed` has what each terminal
-    handed over, by its address: `Received`, `Synchronize`, `SelfTest` or `BusControl`.
+    `status` is the status word of the terminal that got the command; in a transfer, of the receiving terminal. It is None if no
+    valid status word came, and for a broadcast, which has none. `transmitter` is the status word of the transmitting terminal in
+    a transfer. `words` are the valid data words that came, and `errors` is what was wrong. `handed` has what each terminal handed
+    over, by its address: `Received`, `Synchronize`, `SelfTest` or `BusControl`.
     """
 
     status: Optional[Status]
@@ -347,13 +353,13 @@ class Result:
 
 
 def _valid(words: list[_Heard], sync: Sync) -> list[int]:
-    """The bits of those words that are valid (4.4.1.1) and have this sync."""
+    """The bits of the words that are valid (4.4.1.1) and have this sync."""
     with_sync = [word for word in words if isinstance(word, Word) and word.sync == sync]
     return [word.bits for word in with_sync if word.parity in (None, parity(word.bits))]
 
 
 def _read(reply: list[_Heard], address: int, count: int) -> tuple[Optional[Status], list[int], list[ReplyError]]:
-    """The status word and the data words of a reply, which is to be of this terminal with so many data words; and what is wrong."""
+    """The status word and the data words of a reply that should have this address and this many data words; and what is wrong."""
     if not reply:
         return None, [], [ReplyError.NO_RESPONSE]
     first, data, words = _valid(reply[:1], Sync.COMMAND), _valid(reply[1:], Sync.DATA), len(reply) - 1
@@ -369,11 +375,11 @@ def _read(reply: list[_Heard], address: int, count: int) -> tuple[Optional[Statu
 
 
 class BusController:
-    """A bus controller and the terminals on its two buses, by their addresses, 0 to 30, which are to be those of their profiles.
-    Messages go over bus A, or over the one that `bus` names, one after the other. It is for one thread at a time.
+    """A bus controller and the terminals on its two buses, by their addresses, 0 to 30, which should be those of their profiles.
+    Messages go one after the other, over bus A or over the one that `bus` names. It is for one thread at a time.
 
-    Each silence is one gap, and where no reply follows it the no-response time-out is one more. A word is heard by all but its
-    sender; what two send at once is noise. While the controller waits for a reply, time passes in slots.
+    Each silence is one gap, and if no reply follows it, the no-response time-out is one more. A word is heard by all but its
+    sender; two words at once are noise. While the controller waits for a reply, time passes in slots.
     """
 
     def __init__(self, terminals: Mapping[int, Union[Terminal, Recorder, Faulty]]) -> None:
@@ -386,12 +392,11 @@ class BusController:
         if len(set(map(id, self._terminals.values()))) < len(self._terminals):
             raise ValueError("terminals: a terminal of its own is wanted for each address")
         self._handed: dict[int, list[HandedOver]] = {}
-        # the buses with a word since their last gap
+        # the buses that have had a word since their last gap
         self._in_use: set[Bus] = set()
 
     def receive(self, rt: int, subaddress: int, words: Iterable[int], *, bus: Bus = Bus.A) -> Result:
-        """Tells a terminal, or by address 31 all, to receive 1 to 32 data words (4.3.3.6.1, 4.3.3.6.7.1). `subaddress` is 1 to
-        30."""
+        """Tells a terminal, or all by address 31, to receive 1 to 32 data words (4.3.3.6.1, 4.3.3.6.7.1). `subaddress`: 1 to 30."""
         address, data = _number("rt", rt, 0, BROADCAST), _words(words)
         return self._message(bus, [command(address, False, subaddress, len(data))], data, [(address, 0)])
 
@@ -404,8 +409,8 @@ class BusController:
         self, rt: int, code: int, word: Optional[int] = None, *, transmit: Optional[bool] = None, subaddress: int = 0,
         bus: Bus = Bus.A,
     ) -> Result:  # fmt: skip
-        """Sends a mode code, 0 to 31, to a terminal, or by address 31 to all (4.3.3.6.4 to 4.3.3.6.6, 4.3.3.6.7.3, 4.3.3.6.7.4).
-        A data word goes with a code from 16 on whose T/R bit is 0, and with no other. `transmit` and `subaddress` are those of
+        """Sends a mode code, 0 to 31, to a terminal, or to all by address 31 (4.3.3.6.4 to 4.3.3.6.6, 4.3.3.6.7.3, 4.3.3.6.7.4).
+        A data word goes with a code of 16 or more whose T/R bit is 0, and with no other. `transmit` and `subaddress` are as in
         `mode_command`."""
         address = _number("rt", rt, 0, BROADCAST)
         bits = mode_command(address, code, transmit, subaddress)
@@ -417,8 +422,8 @@ class BusController:
         return self._message(bus, [bits], data, [(address, has_word & transmits)])
 
     def transfer(self, to: tuple[int, int], from_: tuple[int, int], count: int, *, bus: Bus = Bus.A) -> Result:
-        """Tells a terminal to transmit `count` data words, 1 to 32, to another, or by address 31 to all others (4.3.3.6.3,
-        4.3.3.6.7.2). `to` and `from_` are an address and a subaddress, 1 to 30, of each."""
+        """Tells a terminal to transmit `count` data words, 1 to 32, to another one, or to all others by address 31 (4.3.3.6.3,
+        4.3.3.6.7.2). `to` and `from_` are each an address and a subaddress, 1 to 30."""
         receiver, transmitter = _place("to", to, BROADCAST), _place("from_", from_, 30)
         if receiver[0] == transmitter[0]:
             raise ValueError("from_: another terminal than that of `to` is wanted")
@@ -426,7 +431,7 @@ class BusController:
         return self._message(bus, commands, [], [(transmitter[0], count), (receiver[0], 0)])
 
     def _message(self, bus: Bus, commands: list[int], words: list[int], awaited: list[tuple[int, int]]) -> Result:
-        """Sends a message, and gives what comes of it."""
+        """Sends a message and returns its result."""
         if not isinstance(bus, Bus):
             raise _unwanted("bus", "Bus.A or Bus.B", bus)
         self._handed = {}
@@ -439,7 +444,7 @@ class BusController:
         return self._result(bus, awaited)
 
     def _result(self, bus: Bus, awaited: list[tuple[int, int]]) -> Result:
-        """Waits for the replies of these addresses, each with so many data words, up to the first that doesn't come."""
+        """Waits for the replies of these addresses, each with this many data words, up to the first that does not come."""
         statuses: dict[int, Optional[Status]] = {}
         words: list[int] = []
         errors: list[ReplyError] = []
@@ -453,7 +458,7 @@ class BusController:
         return Result(statuses.get(awaited[-1][0]), tuple(words), tuple(errors), self._handed, transmitter)
 
     def _reply(self, bus: Bus) -> list[_Heard]:
-        """What comes on a bus up to the silence behind it. Where nothing comes, the no-response time-out is a gap (4.3.3.9)."""
+        """What comes on a bus up to the next silence. If nothing comes, the no-response time-out is a gap (4.3.3.9)."""
         reply: list[_Heard] = []
         while (heard := self._slot().get(bus)) is not None:
             reply.append(heard)
@@ -476,7 +481,7 @@ class BusController:
         return heard
 
     def _silence(self, bus: Bus) -> None:
-        """A gap on a bus, where none has come since its last word."""
+        """A gap on a bus, unless there has been one since its last word."""
         if bus in self._in_use:
             self._gap(bus)
 
@@ -488,7 +493,7 @@ class BusController:
                 self._handed.setdefault(address, []).append(answer)
 
     def _tell(self, event: Event, but: Collection[int] = ()) -> dict[int, Union[Answer, Word, Noise]]:
-        """Tells an event to all terminals but these, and gives the answers by their addresses."""
+        """Tells an event to all terminals except `but`, and returns the answers by their addresses."""
         if isinstance(event, (Word, Noise)):
             self._in_use.add(event.bus)
         answers = {address: terminal.step(event) for address, terminal in self._terminals.items() if address not in but}

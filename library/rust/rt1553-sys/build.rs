@@ -1,4 +1,5 @@
-//! RT1553_LIB_DIR names the folder of librt1553.a: that which `scripts/library.sh build` leaves, where it isn't set.
+//! RT1553_LIB_DIR names the folder of librt1553.a. If it is not set, this is the folder that
+//! `scripts/library.sh build` leaves.
 use std::env;
 use std::path::PathBuf;
 

@@ -86,6 +86,7 @@ receives_in is_legal t b =
 -- the same set-up and legality
 pub record IsSameSetup {L : Type 0} (is_legal : L → Cell → Bool) (t u : Terminal L) : Type 0 where
   pub description : own_description is_legal u ≡ own_description is_legal t
+  pub legality : u.legality ≡ t.legality
 
 -- what a command makes of it that starts a message
 pub record TakesStart {L : Type 0} (is_legal : L → Cell → Bool) (b : Bus) (c : ℕ) (t u : Terminal L) : Type 0 where

@@ -1,11 +1,11 @@
 //! How a reply begins and goes on.
 ghost use Rattle.std.specs.Prelude.{◌≡◌, true, Some};
-ghost use Rattle.terminal_state.specs.inner.Places.{can_reply};
-ghost use Rattle.terminal_state.specs.inner.Replies.{shown_reply, sent_many};
+ghost use Rattle.terminal_state.specs.inner.Places.{has_place, can_reply};
+ghost use Rattle.terminal_state.specs.inner.Replies.{shown_reply, reply_at, sent_many};
 ghost use Rattle.terminal_rules.specs.inner.Steps.{begun_if, sent_one, resets_next};
 
 use super::{Reply, words_after_status};
-use bus_word::{Bus, Cell, mode};
+use bus_word::{Bus, Cell, is_data_place, mode};
 
 impl Reply {
     /// Tells whether the next word is the status of a reset.
@@ -14,6 +14,34 @@ impl Reply {
         ensures { result ≡ resets_next (shown_reply (Some self.now)) }
     {
         self.next == 0 && matches!(self.cell, Some(Cell::OwnMode(mode::RESET)))
+    }
+
+    /// Gives the reply to a message of this cell whose word `next` is sent next. None where its words are not those of a place
+    /// that can be read, or fewer follow the status.
+    pub fn at(bus: Bus, cell: Option<Cell>, next: u8) -> Option<Reply>
+        ensures { shown_reply result ≡ reply_at bus cell next }
+    {
+        let count = words_after_status(cell);
+        if has_place(cell, count) && next <= count {
+            Some(Reply {
+                bus,
+                cell,
+                next,
+                count,
+            })
+        } else {
+            None
+        }
+    }
+}
+
+/// Tells whether so many data words of a reply are those of places that can be read.
+fn has_place(cell: Option<Cell>, count: u8) -> bool
+    ensures { result ≡ has_place cell count }
+{
+    match cell {
+        Some(Cell::OwnTransmit(subaddress, _)) => is_data_place(subaddress, count),
+        _ => true,
     }
 }
 

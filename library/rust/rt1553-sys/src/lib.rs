@@ -1,4 +1,4 @@
-//! The calls and structs of `rt1553.h`, which says what they mean and what their callers owe.
+//! The calls and structs of `rt1553.h`. That header says what they mean and what their callers owe.
 #![no_std]
 #![allow(non_camel_case_types)]
 
@@ -10,6 +10,7 @@ pub const RT1553_NO_ROOM: u8 = 5;
 
 pub const RT1553_CANONICAL_ROOM: usize = 7680;
 pub const RT1553_SCRIPT_ROOM: usize = 4608;
+pub const RT1553_STATE_ROOM: usize = 13056;
 
 pub const RT1553_RIGHT_PARITY: u8 = 2;
 
@@ -121,6 +122,24 @@ extern "C" {
         fault: *mut rt1553_fault,
     ) -> u8;
     pub fn rt1553_terminal_step(terminal: *mut rt1553_terminal) -> u8;
+    pub fn rt1553_terminal_copy(
+        terminal: *const rt1553_terminal,
+        copy: *mut *mut rt1553_terminal,
+        fault: *mut rt1553_fault,
+    ) -> u8;
+    pub fn rt1553_terminal_save(
+        terminal: *const rt1553_terminal,
+        to: *mut u8,
+        room: usize,
+        length: *mut usize,
+        fault: *mut rt1553_fault,
+    ) -> u8;
+    pub fn rt1553_terminal_restore(
+        state: *const u8,
+        state_length: usize,
+        terminal: *mut *mut rt1553_terminal,
+        fault: *mut rt1553_fault,
+    ) -> u8;
     pub fn rt1553_terminal_play(
         terminal: *mut rt1553_terminal,
         events: *const rt1553_event,
@@ -133,11 +152,12 @@ extern "C" {
     fn free(block: *mut core::ffi::c_void);
 }
 
-/// Gives the memory of a terminal back.
+/// Frees the memory of a terminal.
 ///
 /// # Safety
 ///
-/// The terminal was made by `rt1553_terminal_new`, and isn't used again.
+/// The terminal was made by `rt1553_terminal_new`, `rt1553_terminal_copy` or
+/// `rt1553_terminal_restore`, and is not used again.
 pub unsafe fn rt1553_terminal_free(terminal: *mut rt1553_terminal) {
     free(terminal.cast());
 }

@@ -1,6 +1,10 @@
-//! The words of the program `rt1553` by the safe calls: PLAYER check P | canon P | compare P Q | run P SCRIPT
+//! The commands of the program `rt1553`, by the safe calls:
+//! PLAYER check P | canon P | compare P Q | run P SCRIPT | save CUTS | resume CUTS
 //!
-//! `run` plays the script twice, by `run` and line by line to a terminal, and ends with status 9 where the two differ.
+//! `run` plays the script twice, by `run` and line by line to a terminal, and ends with status 9 if
+//! the two differ. A line of CUTS is `NAME N`. `save` plays the first N lines of NAME.script to the
+//! terminal of NAME.toml, and saves it to NAME-N.state. `resume` restores that, and prints the line
+//! of CUTS and the transcript of the lines behind.
 use rt1553::{canonical, check, compare, run, Answer, Bus, Event, Fault, Flag, Sync, Terminal};
 use std::io::Write;
 use std::process::ExitCode;
@@ -76,8 +80,8 @@ fn line_of(answer: Answer<'_>) -> String {
     }
 }
 
-/// The transcript of the lines up to the first that is none of a script.
-fn played(mut terminal: Terminal, script: &[u8]) -> Vec<u8> {
+/// The transcript of the lines up to the first that is not a script line.
+fn played(terminal: &mut Terminal, script: &[u8]) -> Vec<u8> {
     let mut transcript = Vec::new();
     for line in script.split(|byte| *byte == b'\n') {
         if line.len() > 64 {
@@ -96,7 +100,7 @@ fn played(mut terminal: Terminal, script: &[u8]) -> Vec<u8> {
 fn run_twice(profile: &[u8], script: &[u8]) -> Result<(Vec<u8>, u8), Fault> {
     let room = 186 * (1 + script.iter().filter(|byte| **byte == b'\n').count());
     let (transcript, fault) = run(profile, script, room);
-    let is_same = played(Terminal::new(profile)?, script) == transcript;
+    let is_same = played(&mut Terminal::new(profile)?, script) == transcript;
     let status = fault.map_or(0, |fault| {
         eprintln!("{fault}");
         2
@@ -104,13 +108,46 @@ fn run_twice(profile: &[u8], script: &[u8]) -> Result<(Vec<u8>, u8), Fault> {
     Ok((transcript, if is_same { status } else { 9 }))
 }
 
+fn file(name: &str) -> Vec<u8> {
+    std::fs::read(name).expect("a file")
+}
+
+/// Saves what a line of CUTS names, and prints nothing.
+fn save(name: &str, lines: usize) -> Result<Vec<u8>, Fault> {
+    let mut terminal = Terminal::new(file(&format!("{name}.toml")))?;
+    let script = file(&format!("{name}.script"));
+    let before: Vec<&[u8]> = script.split_inclusive(|byte| *byte == b'\n').take(lines).collect();
+    played(&mut terminal, &before.concat());
+    std::fs::write(format!("{name}-{lines}.state"), terminal.save()?).expect("a file");
+    Ok(vec![])
+}
+
+/// Restores what a line of CUTS names, and prints it and the transcript of the lines behind.
+fn resume(name: &str, lines: usize) -> Result<Vec<u8>, Fault> {
+    let mut terminal = Terminal::restore(file(&format!("{name}-{lines}.state")))?;
+    let script = file(&format!("{name}.script"));
+    let behind: Vec<&[u8]> = script.split_inclusive(|byte| *byte == b'\n').skip(lines).collect();
+    Ok([format!("{name} {lines}\n").into_bytes(), played(&mut terminal, &behind.concat())].concat())
+}
+
+fn at_each(cuts: &[u8], call: fn(&str, usize) -> Result<Vec<u8>, Fault>) -> Result<(Vec<u8>, u8), Fault> {
+    let mut printed = Vec::new();
+    for line in std::str::from_utf8(cuts).expect("a text").lines() {
+        let (name, lines) = line.split_once(' ').expect("two fields");
+        printed.extend(call(name, lines.parse().expect("a number"))?);
+    }
+    Ok((printed, 0))
+}
+
 fn work(words: &[String]) -> Result<(Vec<u8>, u8), Fault> {
-    let texts: Vec<Vec<u8>> = words[1..].iter().map(|name| std::fs::read(name).expect("a file")).collect();
+    let texts: Vec<Vec<u8>> = words[1..].iter().map(|name| file(name)).collect();
     match (words[0].as_str(), &texts[..]) {
         ("check", [text]) => check(text).map(|()| (b"ok\n".to_vec(), 0)),
         ("canon", [text]) => canonical(text).map(|bytes| (bytes, 0)),
         ("compare", [first, second]) => Ok(compare(first, second)?.map_or((b"same\n".to_vec(), 0), |script| (script, 1))),
         ("run", [profile, script]) => run_twice(profile, script),
+        ("save", [cuts]) => at_each(cuts, save),
+        ("resume", [cuts]) => at_each(cuts, resume),
         _ => Ok((vec![], 7)),
     }
 }

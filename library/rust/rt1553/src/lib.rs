@@ -1,4 +1,5 @@
-//! A proved remote terminal of MIL-STD-1553B, and the canonical texts of its profiles: the calls of `rt1553.h`, safe.
+//! A proved remote terminal of MIL-STD-1553B, and the canonical texts of its profiles: a safe
+//! interface to the calls of `rt1553.h`.
 //!
 //! ```
 //! use rt1553::{Answer, Bus, Event, Sync, Terminal};
@@ -12,7 +13,7 @@
 //! ```
 
 use rt1553_sys as sys;
-use std::alloc::{alloc_zeroed, Layout};
+use std::alloc::{alloc_zeroed, handle_alloc_error, Layout};
 use std::error::Error;
 use std::fmt;
 use std::mem::MaybeUninit;
@@ -21,22 +22,22 @@ use std::ptr::{self, NonNull};
 /// Why a call was not done.
 #[derive(Clone, Debug, PartialEq, Eq)]
 pub enum Fault {
-    /// A text is refused: its first fault.
+    /// A text or a saved state is refused, for its first fault.
     Refused {
-        /// What the fault is of: 1 a profile text, 2 a canonical text, 4 a script.
+        /// The kind of text: 1 a profile text, 2 a canonical text, 4 a script, 5 a saved state.
         kind: u8,
         /// Its number among the faults of its kind.
         number: u8,
-        /// The line of a canonical text or a script, from 1; 0 where it names none.
+        /// The line of a canonical text, script or saved state, from 1; 0 if there is none.
         line: u64,
         /// The line that the program `rt1553` prints, without its line feed.
         text: String,
     },
-    /// Out of memory, which says nothing of the texts.
+    /// Out of memory, which says nothing about the texts.
     NoMemory,
-    /// There was no room for what was to be written.
+    /// What was to be written is longer than its room.
     NoRoom,
-    /// The numbers of an event mean none.
+    /// The numbers mean no event.
     NoEvent,
 }
 
@@ -53,7 +54,8 @@ impl fmt::Display for Fault {
 
 impl Error for Fault {}
 
-/// The fault of a call with this status. A status that is none leaves it as it was, so it must not be read then.
+/// The fault of a call with this status. With other statuses the call does not write it, so it must
+/// not be read then.
 fn told(status: u8, fault: &MaybeUninit<sys::rt1553_fault>) -> Fault {
     match status {
         sys::RT1553_REFUSED => {
@@ -68,17 +70,18 @@ fn told(status: u8, fault: &MaybeUninit<sys::rt1553_fault>) -> Fault {
     }
 }
 
-/// So many zero bytes; None where they can't be had.
+/// This many zero bytes; None if there is no memory for them.
 fn zeros(room: usize) -> Option<Vec<u8>> {
     let layout = Layout::array::<u8>(room).ok()?;
     if room == 0 {
         return Some(Vec::new());
     }
-    // the layout is not empty, and a Vec has just this one
+    // the layout is not empty, and it is the one that a Vec has
     unsafe { NonNull::new(alloc_zeroed(layout)).map(|at| Vec::from_raw_parts(at.as_ptr(), room, room)) }
 }
 
-/// Makes a call that writes into a room of this many bytes: its status, and what it wrote.
+/// Makes a call that writes into a room of this many bytes. Returns its status, what it wrote, and
+/// its fault.
 fn written(room: usize, call: impl FnOnce(*mut u8, usize, *mut usize, *mut sys::rt1553_fault) -> u8) -> (u8, Vec<u8>, Option<Fault>) {
     let Some(mut to) = zeros(room) else { return (sys::RT1553_NO_MEMORY, Vec::new(), Some(Fault::NoMemory)) };
     let (mut length, mut fault) = (0, MaybeUninit::uninit());
@@ -89,7 +92,8 @@ fn written(room: usize, call: impl FnOnce(*mut u8, usize, *mut usize, *mut sys::
     (status, to, (!is_done).then(|| told(status, &fault)))
 }
 
-/// The library's version, major and minor, and that of the canonical texts that it writes.
+/// The version of the library, major and minor, and the version of the canonical texts that it
+/// writes.
 pub fn version() -> (u16, u16, u16) {
     let mut version = sys::rt1553_versions::default();
     unsafe { sys::rt1553_version(&mut version) };
@@ -105,7 +109,8 @@ pub fn check(text: impl AsRef<[u8]>) -> Result<(), Fault> {
     }
 }
 
-/// The canonical bytes of a text: equal for two texts exactly if they mean the same terminal.
+/// The canonical bytes of a text. Two texts have the same ones exactly if they mean the same
+/// terminal.
 pub fn canonical(text: impl AsRef<[u8]>) -> Result<Vec<u8>, Fault> {
     let text = text.as_ref();
     let (_, bytes, fault) = written(sys::RT1553_CANONICAL_ROOM, |to, room, length, fault| unsafe {
@@ -114,7 +119,8 @@ pub fn canonical(text: impl AsRef<[u8]>) -> Result<Vec<u8>, Fault> {
     fault.map_or(Ok(bytes), Err)
 }
 
-/// None where two texts mean the same terminal; else a script that the two answer differently from power-up.
+/// None if two texts mean the same terminal, else a script that the two answer differently from
+/// power-up.
 pub fn compare(first: impl AsRef<[u8]>, second: impl AsRef<[u8]>) -> Result<Option<Vec<u8>>, Fault> {
     let (one, other) = (first.as_ref(), second.as_ref());
     let (status, script, fault) = written(sys::RT1553_SCRIPT_ROOM, |to, room, length, fault| unsafe {
@@ -123,8 +129,9 @@ pub fn compare(first: impl AsRef<[u8]>, second: impl AsRef<[u8]>) -> Result<Opti
     fault.map_or(Ok((status == sys::RT1553_DIFFER).then_some(script)), Err)
 }
 
-/// Plays a script to the terminal of a text, from power-up: the transcript, of at most `room` bytes, and the fault that stopped
-/// it, if one did. `NoMemory` where so large a room can't be had: then nothing is played.
+/// Plays a script to the terminal of a text, from power-up. Returns the transcript, of at most `room`
+/// bytes, and the fault that stopped it, if any. `NoMemory` if there is no memory for the room; then
+/// nothing is played.
 pub fn run(text: impl AsRef<[u8]>, script: impl AsRef<[u8]>, room: usize) -> (Vec<u8>, Option<Fault>) {
     let (text, script) = (text.as_ref(), script.as_ref());
     let (_, transcript, fault) = written(room, |to, room, length, fault| unsafe {
@@ -140,14 +147,14 @@ pub enum Bus {
     B,
 }
 
-/// The sync of a word: that of commands and status words, or that of data words.
+/// The sync of a word: command and status sync, or data sync.
 #[derive(Clone, Copy, Debug, PartialEq, Eq)]
 pub enum Sync {
     Command,
     Data,
 }
 
-/// A condition that the subsystem reports, and that the status word shows.
+/// A condition that the subsystem reports and the status word shows.
 #[derive(Clone, Copy, Debug, PartialEq, Eq)]
 pub enum Flag {
     Service,
@@ -159,9 +166,9 @@ pub enum Flag {
 /// What comes to a terminal.
 #[derive(Clone, Copy, Debug, PartialEq, Eq)]
 pub enum Event {
-    /// A word on a bus, with this parity bit, or with the right one.
+    /// A word on a bus, with the given parity bit or with the right one.
     Word { bus: Bus, sync: Sync, bits: u16, parity: Option<bool> },
-    /// What is on a bus and is no word.
+    /// Something on a bus that is not a word.
     Noise(Bus),
     /// A gap on a bus, which ends a message.
     Gap(Bus),
@@ -171,9 +178,9 @@ pub enum Event {
     Vector(u16),
     /// The subsystem gives a new BIT word.
     Bit(u16),
-    /// The subsystem sets a flag or takes it back.
+    /// The subsystem sets or clears a flag.
     Flag(Flag, bool),
-    /// The time of one word of a reply: the next one is sent.
+    /// The time of one word of a reply: the next word is sent.
     Slot,
 }
 
@@ -209,12 +216,13 @@ impl Event {
     }
 }
 
-/// The answer to an event. Words that are handed over are the terminal's own, so it is of use until the next event.
+/// The answer to an event. It borrows the words that are handed over from the terminal, so it lasts
+/// until the next event.
 #[derive(Clone, Copy, Debug, PartialEq, Eq)]
 pub enum Answer<'a> {
-    /// Nothing, as to most events.
+    /// Nothing: the answer to most events.
     Silent,
-    /// A word is sent: the status word has command sync.
+    /// A word is sent. The status word has command sync.
     Sends { bus: Bus, sync: Sync, bits: u16 },
     /// Words that were received are handed over.
     Received { broadcast: bool, subaddress: u8, words: &'a [u16] },
@@ -246,24 +254,50 @@ fn shown(answer: &sys::rt1553_answer) -> Answer<'_> {
     }
 }
 
-/// A remote terminal, from power-up.
+/// A remote terminal, from power-up. A clone answers every further event as the other does, and
+/// neither knows of the other.
 pub struct Terminal(NonNull<sys::rt1553_terminal>);
 
-// It is one block of plain values, without a pointer; each call has it alone, by `&mut`.
+// It is one block of plain values without pointers, and each call has exclusive access by `&mut`.
 unsafe impl Send for Terminal {}
 
 impl Terminal {
-    /// The terminal of a profile text or a canonical text.
-    pub fn new(text: impl AsRef<[u8]>) -> Result<Terminal, Fault> {
-        let (text, mut made, mut fault) = (text.as_ref(), ptr::null_mut(), MaybeUninit::uninit());
-        let status = unsafe { sys::rt1553_terminal_new(text.as_ptr(), text.len(), &mut made, fault.as_mut_ptr()) };
+    /// The terminal that a call makes, or the fault of the call.
+    fn made(call: impl FnOnce(*mut *mut sys::rt1553_terminal, *mut sys::rt1553_fault) -> u8) -> Result<Terminal, Fault> {
+        let (mut made, mut fault) = (ptr::null_mut(), MaybeUninit::uninit());
+        let status = call(&mut made, fault.as_mut_ptr());
         NonNull::new(made).map(Terminal).ok_or_else(|| told(status, &fault))
     }
 
-    /// Plays an event. `NoEvent` where a number of it is out of range: then nothing changes.
+    /// Makes the terminal of a profile text or a canonical text.
+    pub fn new(text: impl AsRef<[u8]>) -> Result<Terminal, Fault> {
+        let text = text.as_ref();
+        Terminal::made(|made, fault| unsafe { sys::rt1553_terminal_new(text.as_ptr(), text.len(), made, fault) })
+    }
+
+    /// A terminal in a saved state, which answers every further event as the saved one does.
+    pub fn restore(state: impl AsRef<[u8]>) -> Result<Terminal, Fault> {
+        let state = state.as_ref();
+        Terminal::made(|made, fault| unsafe { sys::rt1553_terminal_restore(state.as_ptr(), state.len(), made, fault) })
+    }
+
+    /// Its saved state, a text of ASCII.
+    pub fn save(&self) -> Result<Vec<u8>, Fault> {
+        let (_, state, fault) = written(sys::RT1553_STATE_ROOM, |to, room, length, fault| unsafe {
+            sys::rt1553_terminal_save(self.0.as_ptr(), to, room, length, fault)
+        });
+        fault.map_or(Ok(state), Err)
+    }
+
+    /// A clone, or `NoMemory`.
+    pub fn try_clone(&self) -> Result<Terminal, Fault> {
+        Terminal::made(|made, fault| unsafe { sys::rt1553_terminal_copy(self.0.as_ptr(), made, fault) })
+    }
+
+    /// Plays an event. `NoEvent` if one of its numbers is out of range; then nothing changes.
     pub fn step(&mut self, event: Event) -> Result<Answer<'_>, Fault> {
         let terminal = self.0.as_ptr();
-        // the library made it and the front is its caller's
+        // the library made it, and the caller may use the event and the answer
         unsafe {
             (*terminal).event = event.plain();
             match sys::rt1553_terminal_step(terminal) {
@@ -274,9 +308,16 @@ impl Terminal {
     }
 }
 
+impl Clone for Terminal {
+    /// Ends the process if there is no memory for the clone, as the collections of `std` do.
+    fn clone(&self) -> Terminal {
+        self.try_clone().unwrap_or_else(|_| handle_alloc_error(Layout::new::<sys::rt1553_terminal>()))
+    }
+}
+
 impl Drop for Terminal {
     fn drop(&mut self) {
-        // `new` made it, and it isn't used again
+        // the library made it, and it is not used again
         unsafe { sys::rt1553_terminal_free(self.0.as_ptr()) }
     }
 }
@@ -307,6 +348,66 @@ mod tests {
             assert_eq!(terminal.step(Event::Slot), Ok(Answer::Sends { bus: Bus::B, sync, bits }));
         }
         assert_eq!(terminal.step(Event::Slot), Ok(Answer::Silent));
+    }
+
+    /// A terminal whose reply of a status word and two data words begins at the next slot.
+    fn replying() -> Terminal {
+        let mut terminal = Terminal::new(PROFILE).unwrap();
+        terminal.step(Event::Write { subaddress: 3, number: 2, bits: 0xbb }).unwrap();
+        terminal.step(Event::word(Bus::A, Sync::Command, 0x2c62)).unwrap();
+        terminal.step(Event::Gap(Bus::A)).unwrap();
+        terminal
+    }
+
+    /// What a terminal sends in three slots.
+    fn sent(terminal: &mut Terminal) -> Vec<u16> {
+        let bits = |_| match terminal.step(Event::Slot) {
+            Ok(Answer::Sends { bits, .. }) => bits,
+            answer => panic!("{answer:?}"),
+        };
+        (0..3).map(bits).collect()
+    }
+
+    #[test]
+    fn a_clone_goes_its_own_way() {
+        let mut terminal = replying();
+        let (mut clone, mut tried) = (terminal.clone(), terminal.try_clone().unwrap());
+        is_send(&clone);
+        clone.step(Event::Write { subaddress: 3, number: 2, bits: 0xcc }).unwrap();
+        terminal.step(Event::Flag(Flag::Busy, true)).unwrap();
+        assert_eq!(sent(&mut clone), [0x2800, 0, 0xcc]);
+        assert_eq!(sent(&mut terminal), [0x2800, 0, 0xbb]);
+        drop(terminal);
+        assert_eq!(sent(&mut tried), [0x2800, 0, 0xbb]);
+        assert_eq!(tried.step(Event::Slot), Ok(Answer::Silent));
+    }
+
+    #[test]
+    fn a_saved_state_is_restored() {
+        let mut terminal = replying();
+        let state = terminal.save().unwrap();
+        assert_eq!(terminal.save(), Ok(state.clone()));
+        let mut restored = Terminal::restore(&state).unwrap();
+        assert_eq!(restored.save(), Ok(state));
+        assert_eq!(sent(&mut restored), sent(&mut terminal));
+        assert_eq!(restored.save(), terminal.save());
+    }
+
+    #[test]
+    fn bytes_that_are_no_saved_state_are_refused() {
+        let mut state = replying().save().unwrap();
+        let refused = |bytes: &[u8]| match Terminal::restore(bytes).err() {
+            Some(Fault::Refused { kind: 5, number, line, text }) => (number, line, text),
+            fault => panic!("{fault:?}"),
+        };
+        for bytes in [&b""[..], b"\0", b"\xff\xfe", b"address = 5", b"rt1553-state 2\n", &[b'x'; 2_000_000], &[b'\n'; 4096]] {
+            assert_eq!(refused(bytes), (1, 1, "saved state: line 1".to_owned()));
+        }
+        state.push(b'\n');
+        assert_eq!(refused(&state), (2, 0, "saved state: bytes after the end".to_owned()));
+        state.truncate(state.len() - 2);
+        let lines = state.split(|byte| *byte == b'\n').count() as u64;
+        assert_eq!(refused(&state), (1, lines, format!("saved state: line {lines}")));
     }
 
     #[test]

@@ -73,7 +73,7 @@ returns-in_err-initial c =
 
 pub of-requires : goal.of-requires
 unfolding canon
-of-requires c = read_normal _ _ _
+of-requires c = read_normal c.args.written _ _ _
     (then_ok _ _ _ _ _ c.in_ok-version.ensures
     ∙ then_ok _ _ _ _ _ c.in_ok-address.ensures.answer
     ∙ then_ok _ _ _ _ _ c.in_ok-broadcast.ensures

@@ -13,7 +13,7 @@ returns-clause-ok g c P reached =
     let alike = set_up_alike v setup P c.setup-setup.ensures.normal c.setup-setup.ensures.parts setup.own_address reached in
     IfOk-weaker c.run_script.result _ _
     (λ n. IfSome-map (g.R.Source.left c.args.reader.now) _ _
-    (λ script ran. (ran.0, ran.1, ran_writes (λ normal. tables_say normal.tables) g.W.Sink.written P (described setup (tables_say v.tables)) _ _ script ran.0 nothing c.power_up-terminal.ensures alike ran.2)))
+    (λ script ran. (ran.0, ran.1, ran_writes (λ normal. tables_say normal.tables) g.W.Sink.written P (described setup (tables_say v.tables)) _ _ script ran.0 nothing c.power_up-terminal.ensures.stands alike ran.2)))
     c.run_script.ensures.ok
 
 pub returns-clause-stopped : goal.returns-clause-stopped
@@ -23,5 +23,5 @@ returns-clause-stopped g c P reached =
     let alike = set_up_alike v setup P c.setup-setup.ensures.normal c.setup-setup.ensures.parts setup.own_address reached in
     IfErr-weaker c.run_script.result _ _
     (λ fault. IfSome-map (g.R.Source.left c.args.reader.now) _ _
-    (λ script known. stopped (λ normal. tables_say normal.tables) g.W.Sink.written P (described setup (tables_say v.tables)) _ _ _ _ script fault c.power_up-terminal.ensures alike known))
+    (λ script known. stopped (λ normal. tables_say normal.tables) g.W.Sink.written P (described setup (tables_say v.tables)) _ _ _ _ script fault c.power_up-terminal.ensures.stands alike known))
     c.run_script.ensures.fault

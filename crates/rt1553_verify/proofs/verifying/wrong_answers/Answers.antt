@@ -21,5 +21,5 @@ returns c P reached =
     let setup = c.setup-setup.result in
     let Q = described setup (tables_say v.tables) in
     let alike = set_up_alike v setup P c.setup-setup.ensures.normal c.setup-setup.ensures.parts setup.own_address reached in
-    let i = c.loop-stated.invariant Q c.power_up-terminal.ensures in
+    let i = c.loop-stated.invariant Q c.power_up-terminal.ensures.stands in
     all_told Q i.0 c.args.script.now c.loop-stated.stated-index _ _ (drop_all c.loop-stated.stated-index c.args.script.now (omega (arith, c.loop-stated-test.false))) i.2 ∙ wrong_answers_from-alike Q P alike [] (map shown c.args.script.now)

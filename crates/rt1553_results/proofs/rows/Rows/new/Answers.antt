@@ -15,7 +15,7 @@ returns c =
     record {
       description = Q;
       history = [];
-      stands = c.power_up.ensures;
+      stands = c.power_up.ensures.stands;
       rest = (ap (rows_from P []) (sym c.new.ensures.left) ∙ sym (rows_alike Q P (set_up_alike v setup c.setup.ensures.normal c.setup.ensures.parts setup.own_address) [] _));
       number = ap (λ n. n + 1) c.new.ensures.given;
     }

@@ -1,0 +1,5 @@
+mod TableLaws
+mod SetTexts
+mod TreeFaults
+mod TreeMeaning
+mod TreeText

@@ -1,0 +1,113 @@
+-- The full tree of what can be reached of a terminal: a profile with each setting, a rule for each subaddress, direction and
+-- addressee, and all the words held.
+use Rattle.std.specs.Prelude.{ℕ, zero, suc, ◌+◌, ◌/◌, ◌%◌, ◌==◌, false, not, if◌then◌else◌, pos, List, [], ◌∷◌, ◌++◌, map, codes}
+use Rattle.std.specs.Ordering.{nat_cmp, match_ordering}
+use Rattle.std.specs.Cmp.Lexicographic.{slice_cmp}
+use Rattle.toml.specs.Data.{Data, string, integer, boolean, array, table, Members, no_members, member}
+use Rattle.toml.specs.View.{items_of}
+use Rattle.bus_word.specs.Mask.{has_bit}
+use Rattle.bus_legal.specs.declared.tables.Tables.{Tables}
+use Rattle.bus_legal.specs.Parts.{Parts}
+
+-- ---- sets as texts: the numbers of the bits that are set, in two digits each, with commas between them
+
+abbrev pub two_digits : ℕ → List ℕ
+two_digits n = (48 + n / 10) ∷ (48 + n % 10) ∷ []
+
+-- a comma and a number for each bit below k, the highest first; bit 0 stands for the number `first`
+abbrev pub more_numbers : ℕ → ℕ → ℕ → List ℕ
+more_numbers first mask zero = []
+more_numbers first mask (suc k) = if has_bit mask k then 44 ∷ (two_digits (first + k) ++ more_numbers first mask k) else more_numbers first mask k
+
+-- the numbers of the bits below k
+abbrev pub numbers_below : ℕ → ℕ → ℕ → List ℕ
+numbers_below first mask zero = []
+numbers_below first mask (suc k) = if has_bit mask k then two_digits (first + k) ++ more_numbers first mask k else numbers_below first mask k
+
+-- the text of a set that is not empty
+unfoldable pub numbers_text : ℕ → ℕ → List ℕ
+numbers_text first mask = numbers_below first mask 32
+
+-- No text is that of the empty set: its text is that of the first number alone, which its entry then says isn't legal.
+abbrev pub said_set : ℕ → ℕ
+said_set mask = if mask == 0 then 1 else mask
+
+abbrev pub set_text : ℕ → ℕ → List ℕ
+set_text first mask = numbers_text first (said_set mask)
+
+-- ---- tables
+
+-- the members with a value at a key, which stands in the order of the keys
+abbrev pub put_member : List ℕ → Data → Members → Members
+put_member k d no_members = member k d no_members
+put_member k d (member l e ms) = match_ordering (slice_cmp nat_cmp k l) (member k d (member l e ms)) (member l d ms) (member l e (put_member k d ms))
+
+-- what each item gives with its number, from n
+abbrev pub from_number : {A B : Type 0} → (ℕ → A → B) → ℕ → List A → List B
+from_number f n [] = []
+from_number f n (x ∷ xs) = f n x ∷ from_number f (suc n) xs
+
+-- ---- entries
+
+-- which word counts are legal at a subaddress
+abbrev pub rule_members : List ℕ → List ℕ → ℕ → ℕ → Members
+rule_members to direction subaddress mask =
+    member (codes "counts") (string (set_text 1 mask))
+    (member (codes "direction") (string direction)
+    (member (codes "legal") (boolean (not (mask == 0)))
+    (member (codes "subaddresses") (integer (pos subaddress))
+    (member (codes "to") (string to) no_members))))
+
+abbrev pub rule_data : List ℕ → List ℕ → ℕ → ℕ → Data
+rule_data to direction subaddress mask = table (rule_members to direction subaddress mask)
+
+-- which mode codes are legal
+abbrev pub mode_members : List ℕ → ℕ → Members
+mode_members to mask =
+    member (codes "codes") (string (set_text 0 mask))
+    (member (codes "legal") (boolean (not (mask == 0)))
+    (member (codes "to") (string to) no_members))
+
+abbrev pub mode_data : List ℕ → ℕ → Data
+mode_data to mask = table (mode_members to mask)
+
+abbrev pub word_data : ℕ → Data
+word_data word = integer (pos word)
+
+-- all the words that a subaddress holds
+abbrev pub initial_members : ℕ → List ℕ → Members
+initial_members subaddress words =
+    member (codes "subaddress") (integer (pos subaddress))
+    (member (codes "words") (array (items_of (map word_data words))) no_members)
+
+abbrev pub initial_data : ℕ → List ℕ → Data
+initial_data subaddress words = table (initial_members subaddress words)
+
+-- ---- the tree
+
+abbrev pub rules_by : Tables → List Data
+rules_by t =
+    from_number (rule_data (codes "own") (codes "receive")) 1 t.own_receive
+    ++ (from_number (rule_data (codes "own") (codes "transmit")) 1 t.own_transmit
+    ++ from_number (rule_data (codes "broadcast") (codes "receive")) 1 t.broadcast_receive)
+
+abbrev pub modes_by : Tables → List Data
+modes_by t = mode_data (codes "own") t.own_mode ∷ mode_data (codes "broadcast") t.broadcast_mode ∷ []
+
+abbrev pub initials_by : List (List ℕ) → List Data
+initials_by words = from_number initial_data 1 words
+
+abbrev pub wraparound_data : ℕ → Data
+wraparound_data wrap = if wrap == 0 then boolean false else integer (pos wrap)
+
+abbrev pub full_tree : Parts → Members
+full_tree v =
+    member (codes "accept_bus_control") (boolean v.accept)
+    (member (codes "address") (integer (pos v.address))
+    (member (codes "bit") (integer (pos v.bit))
+    (member (codes "broadcast") (boolean v.broadcast)
+    (member (codes "initial") (array (items_of (initials_by v.initial)))
+    (member (codes "mode") (array (items_of (modes_by v.tables)))
+    (member (codes "rule") (array (items_of (rules_by v.tables)))
+    (member (codes "vector") (integer (pos v.vector))
+    (member (codes "wraparound") (wraparound_data v.wrap) no_members))))))))
