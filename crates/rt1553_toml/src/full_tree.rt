@@ -211,6 +211,11 @@ pub fn full_table(alloc: Global, normal: &Normal) -> Result<Table, AllocError>
     put(alloc, &mut root, "mode", mode)?;
     put(alloc, &mut root, "rule", rule)?;
     put(alloc, &mut root, "vector", vector)?;
-    put(alloc, &mut root, "wraparound", wraparound_value(normal.wrap()))?;
+    put(
+        alloc,
+        &mut root,
+        "wraparound",
+        wraparound_value(normal.wrap()),
+    )?;
     Ok(root)
 }
