@@ -22,7 +22,8 @@ use Rattle.script_lines.specs.Transcript.{bus_letter, sent_kind, sent_text, word
 use Rattle.script_lines.proofs.RoundTrip.{event_read}
 use Rattle.line_format.specs.Front.{after}
 use Rattle.rt1553_verify.specs.declared.stated.StatedFault.{StatedFault}
-use Rattle.rt1553_verify.specs.Stated.{StatedEvent, Latest, After, can_answer, ended, stays, or_misplaced, unstated_line, by_going_on, by_answer, with_line_feed, is_empty, line_says}
+use Rattle.rt1553_verify.specs.declared.matching.Matching.TheVariants.{Exact}
+use Rattle.rt1553_verify.specs.Stated.{StatedEvent, Latest, After, can_answer, ended, stays, or_misplaced, unstated_line, by_going_on, by_mask, by_answer, with_line_feed, is_empty, line_says}
 use Rattle.rt1553_verify.proofs.StatedLaws.{stated-means}
 use Rattle.rt1553_acceptance.specs.Label.{label_of}
 use Rattle.rt1553_acceptance.specs.Text.{answer_stated, event_stated, comment_of, exchanges_stated, fields_stated}
@@ -36,18 +37,22 @@ use Rattle.rt1553_acceptance.proofs.Fields.{answered, fields-added}
 
 -- a line that means an event says that event, whatever is the latest
 says-event : (n : ℕ) (latest : Latest) (line : List ℕ) (e : Event) → meaning line ≡ Ok (Some e)
-    → line_says n latest line ≡ Ok (record { events = ended latest; latest = Some (record { line = n; event = e; answer = [] }) })
+    → line_says n latest line ≡ Ok (record { events = ended latest; latest = Some (record { line = n; event = e; matching = Exact; answer = [] }) })
 says-event n latest line e means = first (after (codes "#> ") line) refl
   where
     Said : Result After StatedFault → Type 0
-    Said said = said ≡ Ok (record { events = ended latest; latest = Some (record { line = n; event = e; answer = [] }) })
+    Said said = said ≡ Ok (record { events = ended latest; latest = Some (record { line = n; event = e; matching = Exact; answer = [] }) })
 
-    second : (o : Option (List ℕ)) → after (codes "#+ ") line ≡ o → Said (by_going_on n latest line o)
-    second None is = ap (unstated_line n latest) means
-    second (Some rest) is = let no = sym (stated-means 43 line rest is) ∙ means in absurd (cc)
+    third : (o : Option (List ℕ)) → after (codes "#+ ") line ≡ o → Said (by_going_on n latest line o)
+    third None is = ap (unstated_line n latest) means
+    third (Some rest) is = let no = sym (stated-means 43 line rest is) ∙ means in absurd (cc)
+
+    second : (o : Option (List ℕ)) → after (codes "#~ ") line ≡ o → Said (by_mask n latest line o)
+    second None is = third (after (codes "#+ ") line) refl
+    second (Some mask) is = let no = sym (stated-means 126 line mask is) ∙ means in absurd (cc)
 
     first : (o : Option (List ℕ)) → after (codes "#> ") line ≡ o → Said (by_answer n latest line o)
-    first None is = second (after (codes "#+ ") line) refl
+    first None is = second (after (codes "#~ ") line) refl
     first (Some rest) is = let no = sym (stated-means 62 line rest is) ∙ means in absurd (cc)
 
 -- ---- the lines of an answer
@@ -105,7 +110,7 @@ can_be P h event.Slot = by_reply (sends P (past P h) (reply_now (past P h)))
 
 -- an event of which nothing was stated, on a line
 abbrev unanswered : ℕ → Event → StatedEvent
-unanswered n e = record { line = n; event = e; answer = [] }
+unanswered n e = record { line = n; event = e; matching = Exact; answer = [] }
 
 -- the lines of an answer are read, at most four
 abbrev IsTold : ℕ → StatedEvent → Out → Type 0
@@ -144,7 +149,7 @@ told n k (event.Gap bus) (HandsOver (HandsReceived broadcast subaddress words)) 
     let front : List ℕ = codes "#> " ++ (received_by broadcast ++ decimal_digits subaddress) in
     let is : IsLine 28 front = within (omega arith) (joined (codes "#> ") _ (literal _ refl) (joined (received_by broadcast) _ (by_line broadcast) (decimal_digits-line subaddress))) in
     let p = fields-added n 7 words front (received_by broadcast ++ decimal_digits subaddress) (Some (unanswered k (event.Gap bus))) (unanswered k (event.Gap bus))
-    is.feeds (omega (arith, is.short)) (omega arith) (some broadcast) (omega (arith, few, fits))
+    refl is.feeds (omega (arith, is.short)) (omega arith) (some broadcast) (omega (arith, few, fits))
     (λ more. states-line (n + 1) k (event.Gap bus) ((received_by broadcast ++ decimal_digits subaddress) ++ more) (hands_line broadcast more)) in (
       p.0,
       Tells-same {m = p.0} _ (ap (λ text. codes "#> " ++ text) (sym (append_assoc (received_by broadcast) (decimal_digits subaddress) (fields_stated 7 words)))) p.1,
@@ -205,7 +210,7 @@ Chain-nil P n h latest = record { said = []; stated = []; tells = Tells-nil n la
 
 answered-append : (P : Description) (h : List Event) (ss ts : List StatedEvent) → AreStatedAnswers P h ss → AreStatedAnswers P (history_after (map (λ s. s.event) ss) h) ts → AreStatedAnswers P h (ss ++ ts)
 answered-append P h [] ts a b = b
-answered-append P h (s ∷ ss) ts a b = (a.0, answered-append P (s.event ∷ h) ss ts a.1 b)
+answered-append P h (s ∷ ss) ts a b = (a.0, a.1, answered-append P (s.event ∷ h) ss ts a.2 b)
 
 Chain-trans : {P : Description} {n m k : ℕ} {h : List Event} {text more : List ℕ} {a b c : Latest} {es fs : List Event}
     → Chain P n m h text a b es → Chain P m k (history_after es h) more b c fs → Chain P n k h (text ++ more) a c (es ++ fs)
@@ -235,7 +240,7 @@ one_event P n h e latest few proper fits =
         tells = Tells-same {m = answer.0} _ (sym (append_assoc (event_text e) (10 ∷ []) (answer_stated (out P h e)))) (Tells-trans event answer.1);
         splits = ap (λ xs. xs ++ ended (Some (answered (unanswered (n + 1) e) (answer_line (out P h e))))) (append-nil (ended latest));
         events = refl;
-        answers = (line-text (out P h e), tt);
+        answers = (refl, line-text (out P h e), tt);
       },
       omega (arith, answer.2),
     )

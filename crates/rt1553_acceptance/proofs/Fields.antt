@@ -1,10 +1,10 @@
 -- Words that an answer states, read: however they stand on lines, they follow one another.
-use Rattle.std.proofs.Common.{ℕ, zero, suc, ◌≡◌, ◌∙◌, ◌+◌, ◌*◌, ◌-◌, ◌≤◌, false, not, List, [], ◌∷◌, ◌++◌, Some, None, Ok, length, flat_map, refl, sym, ap, subst, arith, append_assoc, append-nil, length-append, codes, if◌then◌else◌}
+use Rattle.std.proofs.Common.{ℕ, zero, suc, ◌≡◌, ◌∙◌, ◌+◌, ◌*◌, ◌-◌, ◌≤◌, true, false, not, ◌&&◌, List, [], ◌∷◌, ◌++◌, Some, None, Ok, length, flat_map, refl, sym, ap, subst, arith, append_assoc, append-nil, length-append, codes, if◌then◌else◌}
 use Rattle.script_lines.specs.Digits.{digits_of}
 use Rattle.script_lines.specs.Text.{NoLineFeed}
 use Rattle.script_lines.specs.Transcript.{word_field}
 use Rattle.script_lines.proofs.TranscriptLaws.{four_digits}
-use Rattle.rt1553_verify.specs.Stated.{StatedEvent, Latest, stays, or_misplaced, is_empty, line_says}
+use Rattle.rt1553_verify.specs.Stated.{StatedEvent, Latest, stays, or_misplaced, is_empty, says_bytes, line_says}
 use Rattle.rt1553_acceptance.specs.Text.{fields_stated}
 use Rattle.rt1553_acceptance.proofs.Pieces.{Tells, Tells-line, Tells-trans, Tells-same, feeds-append}
 use Rattle.rt1553_acceptance.proofs.Digits.{feeds-digits}
@@ -22,9 +22,11 @@ abbrev pub AreAdded : ℕ → List ℕ → Latest → StatedEvent → List ℕ �
 AreAdded n text latest s answer most = (m : ℕ) × Tells n m text latest (Some (answered s answer)) [] × (12 * m ≤ most)
 
 -- a line that goes on with a word
-goes_on-by : (n : ℕ) (s : StatedEvent) (base front more : List ℕ) → is_empty base ≡ false
+goes_on-by : (n : ℕ) (s : StatedEvent) (base front more : List ℕ) → says_bytes s.matching ≡ true → is_empty base ≡ false
     → line_says n (Some (answered s base)) (codes "#+ " ++ (front ++ more)) ≡ Ok (stays (Some (answered s (base ++ 32 ∷ (front ++ more)))))
-goes_on-by n s base front more some = ap (λ b. or_misplaced n (if not b then Some (answered s (base ++ 32 ∷ (front ++ more))) else None)) some
+goes_on-by n s base front more bytes some =
+    ap (λ b. or_misplaced n (if not b && says_bytes s.matching then Some (answered s (base ++ 32 ∷ (front ++ more))) else None)) some
+    ∙ ap (λ b. or_misplaced n (if b then Some (answered s (base ++ 32 ∷ (front ++ more))) else None)) bytes
 
 some-append : (xs ys : List ℕ) → is_empty xs ≡ false → is_empty (xs ++ ys) ≡ false
 some-append [] ys some = absurd (cc)
@@ -37,38 +39,38 @@ feeds-lead : NoLineFeed (codes "#+ ")
 feeds-lead = (λ e. absurd (omega (arith, e)), (λ e. absurd (omega (arith, e)), (λ e. absurd (omega (arith, e)), tt)))
 
 pub fields-added : (n room : ℕ) (words front base : List ℕ) (latest : Latest) (s : StatedEvent)
-    → NoLineFeed front → length front + 5 * room ≤ 64 → room ≤ 11 → is_empty base ≡ false
+    → says_bytes s.matching ≡ true → NoLineFeed front → length front + 5 * room ≤ 64 → room ≤ 11 → is_empty base ≡ false
     → 12 * (n + 1) + (length words + (11 - room)) ≤ 12 * 1048576 → Adds (n + 1) latest s front base
     → AreAdded n (front ++ fields_stated room words) latest s (base ++ flat_map word_field words) (12 * (n + 1) + (length words + (11 - room)))
 unfolding fields_stated
-fields-added n room [] front base latest s feeds long low some few adds = (
+fields-added n room [] front base latest s bytes feeds long low some few adds = (
   n + 1,
   Tells-line n front latest (Some (answered s (base ++ []))) [] (omega (arith, few)) (omega (arith, long)) feeds
       (ap (line_says (n + 1) latest) (sym (append-nil front)) ∙ adds []),
   omega arith,
 )
-fields-added n (suc room) (w ∷ words) front base latest s feeds long low some few adds =
+fields-added n (suc room) (w ∷ words) front base latest s bytes feeds long low some few adds =
     let front' : List ℕ = front ++ word_field w in
     let base' : List ℕ = base ++ word_field w in
     let adds' : Adds (n + 1) latest s front' base' = λ more.
     ap (line_says (n + 1) latest) (append_assoc front (word_field w) more) ∙ adds (word_field w ++ more)
     ∙ ap (λ answer. Ok (stays (Some (answered s answer)))) (sym (append_assoc base (word_field w) more)) in
-    let p = fields-added n room words front' base' latest s (feeds-append front (word_field w) feeds (feeds-field w))
+    let p = fields-added n room words front' base' latest s bytes (feeds-append front (word_field w) feeds (feeds-field w))
     (omega (arith, long, length-append front (word_field w), four_digits w)) (omega (arith, low)) (some-append base (word_field w) some) (omega (arith, few, low)) adds' in (
       p.0,
       Tells-same {m = p.0} _ (sym (append_assoc front (word_field w) (fields_stated room words)))
           (subst (λ answer. Tells n p.0 (front' ++ fields_stated room words) latest (Some (answered s answer)) []) (append_assoc base (word_field w) (flat_map word_field words)) p.1),
       omega (arith, p.2, low),
     )
-fields-added n zero (w ∷ words) front base latest s feeds long low some few adds =
+fields-added n zero (w ∷ words) front base latest s bytes feeds long low some few adds =
     let front' : List ℕ = codes "#+ " ++ digits_of w in
     let base' : List ℕ = base ++ word_field w in
     let ends : Tells n (n + 1) (front ++ 10 ∷ []) latest (Some (answered s base)) [] =
     Tells-line n front latest (Some (answered s base)) [] (omega (arith, few)) (omega (arith, long)) feeds
     (ap (line_says (n + 1) latest) (sym (append-nil front)) ∙ adds [] ∙ ap (λ answer. Ok (stays (Some (answered s answer)))) (append-nil base)) in
     let adds' : Adds (n + 1 + 1) (Some (answered s base)) s front' base' = λ more.
-    goes_on-by (n + 1 + 1) s base (digits_of w) more some ∙ ap (λ answer. Ok (stays (Some (answered s answer)))) (sym (append_assoc base (word_field w) more)) in
-    let p = fields-added (n + 1) 11 words front' base' (Some (answered s base)) s (feeds-append (codes "#+ ") (digits_of w) feeds-lead (feeds-digits w))
+    goes_on-by (n + 1 + 1) s base (digits_of w) more bytes some ∙ ap (λ answer. Ok (stays (Some (answered s answer)))) (sym (append_assoc base (word_field w) more)) in
+    let p = fields-added (n + 1) 11 words front' base' (Some (answered s base)) s bytes (feeds-append (codes "#+ ") (digits_of w) feeds-lead (feeds-digits w))
     (omega (arith, length-append (codes "#+ ") (digits_of w), four_digits w)) (omega arith) (some-append base (word_field w) some) (omega (arith, few)) adds' in (
       p.0,
       Tells-same {m = p.0} _ (sym (append_assoc front (10 ∷ []) (front' ++ fields_stated 11 words)))

@@ -16,7 +16,8 @@ use Rattle.terminal_complete_test.specs.CompleteTest.{complete_test, tried}
 use Rattle.script_lines.specs.Digits.{digits_of}
 use Rattle.script_lines.specs.Transcript.{sent_text, hand_text, answer_text, text_at}
 use Rattle.terminal_complete_test.proofs.Complete.{complete_test_law}
-use Rattle.rt1553_verify.specs.Stated.{StatedEvent, stated_in}
+use Rattle.rt1553_verify.specs.declared.matching.Matching.TheVariants.{Exact}
+use Rattle.rt1553_verify.specs.Stated.{StatedEvent, fits, stated_in}
 use Rattle.rt1553_verify.specs.Verify.{ToldAnswer, answers_told, wrong_answers_from, by_script, verified}
 use Rattle.rt1553_acceptance.specs.Text.{acceptance_text}
 use Rattle.rt1553_acceptance.specs.Law.{AreStatedAnswers, IsAcceptanceTest}
@@ -92,15 +93,19 @@ same_word (HandsOver h) (HandsOver k) fits e = refl
 abbrev told_if : Bool → StatedEvent → List ℕ → List ToldAnswer
 told_if same s came = if same then [] else record { line = s.line; expected = s.answer; came = came } ∷ []
 
-told-same : (s : StatedEvent) (came : List ℕ) → s.answer ≡ came → answers_told s came ≡ []
-told-same s came same = pick (bytes_eq came s.answer) ((bytes_eq-Decides came s.answer).1 (sym same))
+-- of an answer that is stated without a mask it is told whether it is another
+told-exact : (s : StatedEvent) (came : List ℕ) → s.matching ≡ Exact → answers_told s came ≡ told_if (bytes_eq came s.answer) s came
+told-exact s came exact = ap (λ m. told_if (fits m s.answer came) s came) exact
+
+told-same : (s : StatedEvent) (came : List ℕ) → s.matching ≡ Exact → s.answer ≡ came → answers_told s came ≡ []
+told-same s came exact same = told-exact s came exact ∙ pick (bytes_eq came s.answer) ((bytes_eq-Decides came s.answer).1 (sym same))
   where
     pick : (b : Bool) → b ≡ true → told_if b s came ≡ []
     pick true e = refl
     pick false e = absurd (cc)
 
-told-none : (s : StatedEvent) (came : List ℕ) (more : List ToldAnswer) → answers_told s came ++ more ≡ [] → (s.answer ≡ came) × (more ≡ [])
-told-none s came more e = pick (bytes_eq came s.answer) refl e
+told-none : (s : StatedEvent) (came : List ℕ) (more : List ToldAnswer) → s.matching ≡ Exact → answers_told s came ++ more ≡ [] → (s.answer ≡ came) × (more ≡ [])
+told-none s came more exact e = pick (bytes_eq came s.answer) refl (ap (λ xs. xs ++ more) (sym (told-exact s came exact)) ∙ e)
   where
     pick : (b : Bool) → bytes_eq came s.answer ≡ b → told_if b s came ++ more ≡ [] → (s.answer ≡ came) × (more ≡ [])
     pick true is e = (sym ((bytes_eq-Decides came s.answer).0 is), e)
@@ -110,22 +115,23 @@ told-none s came more e = pick (bytes_eq came s.answer) refl e
 none-differs : (Q : Description) (h : List Event) (ss : List StatedEvent) → AreStatedAnswers Q h ss → wrong_answers_from Q h ss ≡ []
 unfolding wrong_answers_from
 none-differs Q h [] are = refl
-none-differs Q h (s ∷ ss) are = ap (λ xs. xs ++ wrong_answers_from Q (s.event ∷ h) ss) (told-same s (text_at Q h s.event) are.0) ∙ none-differs Q (s.event ∷ h) ss are.1
+none-differs Q h (s ∷ ss) are = ap (λ xs. xs ++ wrong_answers_from Q (s.event ∷ h) ss) (told-same s (text_at Q h s.event) are.0 are.1) ∙ none-differs Q (s.event ∷ h) ss are.2
 
-all-answered : (Q : Description) (h : List Event) (ss : List StatedEvent) → wrong_answers_from Q h ss ≡ [] → AreStatedAnswers Q h ss
+-- where nothing differs, what is stated of the answers of one terminal is stated of those of the other
+all-answered : (P Q : Description) (g h : List Event) (ss : List StatedEvent) → AreStatedAnswers P g ss → wrong_answers_from Q h ss ≡ [] → AreStatedAnswers Q h ss
 unfolding wrong_answers_from
-all-answered Q h [] e = tt
-all-answered Q h (s ∷ ss) e =
-    let p = told-none s (text_at Q h s.event) (wrong_answers_from Q (s.event ∷ h) ss) e in
-    (p.0, all-answered Q (s.event ∷ h) ss p.1)
+all-answered P Q g h [] are e = tt
+all-answered P Q g h (s ∷ ss) are e =
+    let p = told-none s (text_at Q h s.event) (wrong_answers_from Q (s.event ∷ h) ss) are.0 e in
+    (are.0, p.0, all-answered P Q (s.event ∷ g) (s.event ∷ h) ss are.2 p.1)
 
 -- terminals of which the same answers are stated send the same words
 same-sent : (P Q : Description) (h : List Event) (ss : List StatedEvent) → AreStatedAnswers P h ss → AreStatedAnswers Q h ss → AllFit P h (map (λ s. s.event) ss)
     → map sent_in (outs_from Q h (map (λ s. s.event) ss)) ≡ map sent_in (outs_from P h (map (λ s. s.event) ss))
 same-sent P Q h [] p q fits = refl
 same-sent P Q h (s ∷ ss) p q fits =
-    let here = sym (same_word (out P h s.event) (out Q h s.event) fits.0 (sym p.0 ∙ q.0)) in
-    let later = same-sent P Q (s.event ∷ h) ss p.1 q.1 fits.1 in (λ j. here j ∷ later j)
+    let here = sym (same_word (out P h s.event) (out Q h s.event) fits.0 (sym p.1 ∙ q.1)) in
+    let later = same-sent P Q (s.event ∷ h) ss p.2 q.2 fits.1 in (λ j. here j ∷ later j)
 
 -- of terminals that answer alike the same answers are stated
 same-answered : (P Q : Description) (h : List Event) (ss : List StatedEvent) → AreStatedAnswers P h ss
@@ -134,7 +140,7 @@ same-answered P Q h [] are same = tt
 same-answered P Q h (s ∷ ss) are same =
     let here : out Q h s.event ≡ out P h s.event = cc in
     let later : outs_from Q (s.event ∷ h) (map (λ s. s.event) ss) ≡ outs_from P (s.event ∷ h) (map (λ s. s.event) ss) = cc in
-    (are.0 ∙ ap answer_text (sym here), same-answered P Q (s.event ∷ h) ss are.1 later)
+    (are.0, are.1 ∙ ap answer_text (sym here), same-answered P Q (s.event ∷ h) ss are.2 later)
 
 -- ---- the test
 
@@ -154,7 +160,7 @@ acceptance-law v normal fits =
       others = λ w other. let Q = description_in w in (
         (λ passes.
             let none : wrong_answers_from Q [] chain.stated ≡ [] = let e = sym (ap (by_script Q) reads) ∙ passes in cc in
-            let same = same-sent P Q [] chain.stated chain.answers (all-answered Q [] chain.stated none) (subst (AllFit P []) (sym chain.events) fits) in
+            let same = same-sent P Q [] chain.stated chain.answers (all-answered P Q [] [] chain.stated chain.answers none) (subst (AllFit P []) (sym chain.events) fits) in
             (complete_test_law.seen v w normal other).0 (ap (λ es. map sent_in (outs_from Q [] es)) (sym chain.events) ∙ same ∙ ap (λ es. map sent_in (outs_from P [] es)) chain.events)),
         (λ alike.
             let same = alike (complete_test P) (complete_test_law.proper v normal) in

@@ -6,13 +6,14 @@ use Rattle.terminal_rules.specs.declared.event.Event.{Event}
 use Rattle.terminal_rules.specs.Same.{Same}
 use Rattle.terminal_complete_test.specs.CompleteTest.{complete_test}
 use Rattle.script_lines.specs.Transcript.{text_at}
+use Rattle.rt1553_verify.specs.declared.matching.Matching.TheVariants.{Exact}
 use Rattle.rt1553_verify.specs.Stated.{StatedEvent, stated_in}
 use Rattle.rt1553_verify.specs.Verify.{verified}
 
--- of each event, after a history, just the answer of the terminal of P is stated
+-- of each event, after a history, just the answer of the terminal of P is stated, without a mask
 abbrev pub AreStatedAnswers : Description → List Event → List StatedEvent → Type 0
 AreStatedAnswers P h [] = Unit {0}
-AreStatedAnswers P h (s ∷ ss) = (s.answer ≡ text_at P h s.event) × AreStatedAnswers P (s.event ∷ h) ss
+AreStatedAnswers P h (s ∷ ss) = (s.matching ≡ Exact) × (s.answer ≡ text_at P h s.event) × AreStatedAnswers P (s.event ∷ h) ss
 
 -- The text is a script that states its answers. Its events are those of the complete test of the terminal of P, and its
 -- answers are those of this terminal; so `verify` finds nothing for the terminal of P, and for the terminal of any other

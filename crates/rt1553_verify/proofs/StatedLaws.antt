@@ -14,7 +14,9 @@ use Rattle.script_lines.proofs.LineLaws.{line_at, lines-line, lines-last, no_lin
 use Rattle.bus_script.proofs.ReadingLaws.{reading-line, adds-adds}
 use Rattle.rt1553_verify.specs.declared.stated.StatedFault.{StatedFault}
 use Rattle.rt1553_verify.specs.declared.stated.StatedFault.TheVariants.{LongLine, TooLong}
-use Rattle.rt1553_verify.specs.Stated.{StatedEvent, Latest, After, is_empty, states_answer, can_answer, states, goes_on, ended, stays, or_misplaced, unstated_line, by_going_on, by_answer, line_says, then_events, then_lines, stated_by}
+use Rattle.rt1553_verify.specs.declared.matching.Matching.{Matching}
+use Rattle.rt1553_verify.specs.declared.matching.Matching.TheVariants.{Exact}
+use Rattle.rt1553_verify.specs.Stated.{StatedEvent, Latest, After, is_empty, states_answer, says_bytes, can_match, matching_of, states, goes_on, ended, stays, or_misplaced, unstated_line, by_going_on, by_mask, by_answer, line_says, then_events, then_lines, stated_by}
 
 -- a comment says no event
 comment-means : (line : List ℕ) → meaning (35 ∷ line) ≡ Ok None
@@ -109,17 +111,17 @@ stays-line n m latest (Some s) line after comment same e = let is : after ≡ st
   are = ap (λ a. map (λ s. s.event) a.events ++ map (λ s. s.event) (ended a.latest)) is ∙ same s refl ∙ sym (append-nil _);
 }
 
-states-event : (latest : Latest) (line : List ℕ) (s : StatedEvent) → states latest line ≡ Some s → map (λ s. s.event) (ended (Some s)) ≡ map (λ s. s.event) (ended latest)
-states-event None line s e = absurd (cc)
-states-event (Some l) line s e = pick (is_empty l.answer && can_answer l.event line) e
+states-event : (matching : Matching) (latest : Latest) (line : List ℕ) (s : StatedEvent) → states matching latest line ≡ Some s → map (λ s. s.event) (ended (Some s)) ≡ map (λ s. s.event) (ended latest)
+states-event matching None line s e = absurd (cc)
+states-event matching (Some l) line s e = pick (is_empty l.answer && can_match matching l.event line) e
   where
-    pick : (b : Bool) → cond b (Some (record l { answer = line })) None ≡ Some s → map (λ s. s.event) (ended (Some s)) ≡ map (λ s. s.event) (ended (Some l))
-    pick true e = let is : s ≡ record l { answer = line } = cc in ap (λ x. x.event ∷ []) is
+    pick : (b : Bool) → cond b (Some (record l { matching = matching; answer = line })) None ≡ Some s → map (λ s. s.event) (ended (Some s)) ≡ map (λ s. s.event) (ended (Some l))
+    pick true e = let is : s ≡ record l { matching = matching; answer = line } = cc in ap (λ x. x.event ∷ []) is
     pick false e = absurd (cc)
 
 goes_on-event : (latest : Latest) (rest : List ℕ) (s : StatedEvent) → goes_on latest rest ≡ Some s → map (λ s. s.event) (ended (Some s)) ≡ map (λ s. s.event) (ended latest)
 goes_on-event None rest s e = absurd (cc)
-goes_on-event (Some l) rest s e = pick (states_answer l) e
+goes_on-event (Some l) rest s e = pick (states_answer l && says_bytes l.matching) e
   where
     pick : (b : Bool) → cond b (Some (record l { answer = l.answer ++ 32 ∷ rest })) None ≡ Some s → map (λ s. s.event) (ended (Some s)) ≡ map (λ s. s.event) (ended (Some l))
     pick true e = let is : s ≡ record l { answer = l.answer ++ 32 ∷ rest } = cc in ap (λ x. x.event ∷ []) is
@@ -133,7 +135,7 @@ unstated-line n m latest (Ok None) line after says e = let is : after ≡ stays 
   are = ap (λ a. map (λ s. s.event) a.events ++ map (λ s. s.event) (ended a.latest)) is ∙ sym (append-nil _);
 }
 unstated-line n m latest (Ok (Some event)) line after says e =
-    let is : after ≡ record { events = ended latest; latest = Some (record { line = m; event = event; answer = [] }) } = cc in record {
+    let is : after ≡ record { events = ended latest; latest = Some (record { line = m; event = event; matching = Exact; answer = [] }) } = cc in record {
       events = event ∷ [];
       means = λ r. ap (λ x. then_reads x n r) says;
       are = ap (λ a. map (λ s. s.event) a.events ++ map (λ s. s.event) (ended a.latest)) is;
@@ -142,13 +144,17 @@ unstated-line n m latest (Ok (Some event)) line after says e =
 says-line : (n m : ℕ) (latest : Latest) (line : List ℕ) (result : After) → line_says m latest line ≡ Ok result → Line n latest line result
 says-line n m latest line result e = first (after (codes "#> ") line) refl e
   where
-    second : (o : Option (List ℕ)) → after (codes "#+ ") line ≡ o → by_going_on m latest line o ≡ Ok result → Line n latest line result
-    second None is e = unstated-line n m latest (meaning line) line result refl e
-    second (Some rest) is e = stays-line n m latest (goes_on latest rest) line result (stated-means 43 line rest is) (goes_on-event latest rest) e
+    third : (o : Option (List ℕ)) → after (codes "#+ ") line ≡ o → by_going_on m latest line o ≡ Ok result → Line n latest line result
+    third None is e = unstated-line n m latest (meaning line) line result refl e
+    third (Some rest) is e = stays-line n m latest (goes_on latest rest) line result (stated-means 43 line rest is) (goes_on-event latest rest) e
+
+    second : (o : Option (List ℕ)) → after (codes "#~ ") line ≡ o → by_mask m latest line o ≡ Ok result → Line n latest line result
+    second None is e = third (after (codes "#+ ") line) refl e
+    second (Some mask) is e = stays-line n m latest (states (matching_of mask) latest mask) line result (stated-means 126 line mask is) (states-event (matching_of mask) latest mask) e
 
     first : (o : Option (List ℕ)) → after (codes "#> ") line ≡ o → by_answer m latest line o ≡ Ok result → Line n latest line result
-    first None is e = second (after (codes "#+ ") line) refl e
-    first (Some answer) is e = stays-line n m latest (states latest answer) line result (stated-means 62 line answer is) (states-event latest answer) e
+    first None is e = second (after (codes "#~ ") line) refl e
+    first (Some answer) is e = stays-line n m latest (states Exact latest answer) line result (stated-means 62 line answer is) (states-event Exact latest answer) e
 
 -- the events of lines, behind the latest, are those that a run reads
 abbrev AreRead : ℕ → Latest → List (List ℕ) → List StatedEvent → Type 0

@@ -1,29 +1,56 @@
--- What a script says that states its answers: `#> LINE` behind the event that LINE of the transcript answers, and `#+ REST`
+-- What a script says that states its answers: `#> LINE` behind the event that LINE of the transcript answers; `#~ MASK` behind one
+-- that a line answers of which MASK says all but the digits at its dots, and `#~ *` behind one that any line answers; and `#+ REST`
 -- behind an answer that goes on with a space and REST. All else is read as in any script.
-use Rattle.std.specs.Prelude.{ℕ, ◌+◌, Bool, true, false, not, ◌&&◌, nat_le, nat_lt, if◌then◌else◌, List, [], ◌∷◌, ◌++◌, Option, Some, None, is_some, length, Result, Ok, Err, codes}
+use Rattle.std.specs.Prelude.{ℕ, ◌+◌, Bool, true, false, not, ◌&&◌, ◌||◌, ◌==◌, nat_le, nat_lt, if◌then◌else◌, List, [], ◌∷◌, ◌++◌, Option, Some, None, is_some, length, Result, Ok, Err, codes}
 use Rattle.terminal_rules.specs.declared.event.Event.{Event}
+use Rattle.std.specs.Str.{bytes_eq}
 use Rattle.terminal_rules.specs.declared.event.Event.TheVariants.{Gap, Slot}
 use Rattle.line_format.specs.Front.{after}
 use Rattle.script_lines.specs.declared.line.LineFault.{LineFault}
 use Rattle.script_lines.specs.Line.{meaning}
 use Rattle.script_lines.specs.Text.{lines_of}
+use Rattle.rt1553_verify.specs.declared.matching.Matching.{Matching}
+use Rattle.rt1553_verify.specs.declared.matching.Matching.TheVariants.{Exact, Masked, AnyLine, Unchecked}
 use Rattle.rt1553_verify.specs.declared.stated.Stated.{Stated}
 use Rattle.rt1553_verify.specs.declared.stated.StatedFault.{StatedFault}
 use Rattle.rt1553_verify.specs.declared.stated.StatedFault.TheVariants.{Line, LongLine, TooLong, Misplaced}
 
--- An event with the number of its line, from 1, and the line of the transcript that is to answer it, with its line feed;
--- nothing where nothing is to answer it.
+-- An event with the number of its line, from 1, and what is to answer it: the line of the transcript, or its mask, with a line feed, or
+-- nothing; and how what comes is compared with that.
 pub record StatedEvent : Type 0 where
   pub line : ℕ
   pub event : Event
+  pub matching : Matching
   pub answer : List ℕ
 
 abbrev pub shown : Stated → StatedEvent
-shown s = record { line = s.line; event = s.event; answer = s.answer.items }
+shown s = record { line = s.line; event = s.event; matching = s.matching; answer = s.answer.items }
 
 abbrev pub is_empty : List ℕ → Bool
 is_empty [] = true
 is_empty (b ∷ bytes) = false
+
+-- a digit of a transcript: 0-9a-f
+abbrev pub is_digit : ℕ → Bool
+is_digit b = (nat_le 48 b && nat_lt b 58) || (nat_le 97 b && nat_lt b 103)
+
+-- a byte of a mask admits a byte: a dot any digit, and any other itself
+abbrev pub admits : ℕ → ℕ → Bool
+admits m b = if m == 46 then is_digit b else m == b
+
+-- a mask admits a line: byte by byte
+abbrev pub fits_mask : List ℕ → List ℕ → Bool
+fits_mask [] [] = true
+fits_mask [] (b ∷ bytes) = false
+fits_mask (m ∷ mask) [] = false
+fits_mask (m ∷ mask) (b ∷ bytes) = admits m b && fits_mask mask bytes
+
+-- what comes, a line or nothing, is as stated
+abbrev pub fits : Matching → List ℕ → List ℕ → Bool
+fits Exact answer came = bytes_eq came answer
+fits Masked mask came = fits_mask mask came
+fits AnyLine _ came = not (is_empty came)
+fits Unchecked _ came = true
 
 -- an answer is stated of the event
 abbrev pub states_answer : StatedEvent → Bool
@@ -35,19 +62,39 @@ can_answer (Gap bus) line = is_some (after (codes "hand ") line)
 can_answer Slot line = not (is_empty line) && not (is_some (after (codes "hand ") line))
 can_answer _ line = false
 
+abbrev pub is_gap : Event → Bool
+is_gap (Gap bus) = true
+is_gap _ = false
+
+-- a line can be stated so of the event: of some line only that there is one
+abbrev pub can_match : Matching → Event → List ℕ → Bool
+can_match AnyLine (Gap bus) line = true
+can_match AnyLine Slot line = true
+can_match AnyLine _ line = false
+can_match _ event line = can_answer event line
+
+-- how a mask is compared: `*` stands for any line
+abbrev pub matching_of : List ℕ → Matching
+matching_of mask = if bytes_eq mask (codes "*") then AnyLine else Masked
+
 -- While lines are read, the latest event is kept apart, with what was stated of it so far, without a line feed.
 abbrev pub Latest : Type 0
 Latest = Option StatedEvent
 
--- the line is stated as the answer to the latest event, which it can answer and of which nothing was stated
-abbrev pub states : Latest → List ℕ → Option StatedEvent
-states None line = None
-states (Some s) line = if is_empty s.answer && can_answer s.event line then Some (record s { answer = line }) else None
+-- the line is stated so as the answer to the latest event, which it can answer and of which nothing was stated
+abbrev pub states : Matching → Latest → List ℕ → Option StatedEvent
+states matching None line = None
+states matching (Some s) line = if is_empty s.answer && can_match matching s.event line then Some (record s { matching = matching; answer = line }) else None
+
+-- more can be stated of the answer than that there is one
+abbrev pub says_bytes : Matching → Bool
+says_bytes AnyLine = false
+says_bytes _ = true
 
 -- the answer that was stated last goes on
 abbrev pub goes_on : Latest → List ℕ → Option StatedEvent
 goes_on None rest = None
-goes_on (Some s) rest = if states_answer s then Some (record s { answer = s.answer ++ 32 ∷ rest }) else None
+goes_on (Some s) rest = if states_answer s && says_bytes s.matching then Some (record s { answer = s.answer ++ 32 ∷ rest }) else None
 
 abbrev pub with_line_feed : List ℕ → List ℕ
 with_line_feed bytes = if is_empty bytes then [] else bytes ++ 10 ∷ []
@@ -73,15 +120,19 @@ or_misplaced n (Some s) = Ok (stays (Some s))
 abbrev pub unstated_line : ℕ → Latest → Result (Option Event) LineFault → Result After StatedFault
 unstated_line n latest (Err fault) = Err (Line n)
 unstated_line n latest (Ok None) = Ok (stays latest)
-unstated_line n latest (Ok (Some e)) = Ok (record { events = ended latest; latest = Some (record { line = n; event = e; answer = [] }) })
+unstated_line n latest (Ok (Some e)) = Ok (record { events = ended latest; latest = Some (record { line = n; event = e; matching = Exact; answer = [] }) })
 
 abbrev pub by_going_on : ℕ → Latest → List ℕ → Option (List ℕ) → Result After StatedFault
 by_going_on n latest line (Some rest) = or_misplaced n (goes_on latest rest)
 by_going_on n latest line None = unstated_line n latest (meaning line)
 
+abbrev pub by_mask : ℕ → Latest → List ℕ → Option (List ℕ) → Result After StatedFault
+by_mask n latest line (Some mask) = or_misplaced n (states (matching_of mask) latest mask)
+by_mask n latest line None = by_going_on n latest line (after (codes "#+ ") line)
+
 abbrev pub by_answer : ℕ → Latest → List ℕ → Option (List ℕ) → Result After StatedFault
-by_answer n latest line (Some answer) = or_misplaced n (states latest answer)
-by_answer n latest line None = by_going_on n latest line (after (codes "#+ ") line)
+by_answer n latest line (Some answer) = or_misplaced n (states Exact latest answer)
+by_answer n latest line None = by_mask n latest line (after (codes "#~ ") line)
 
 -- what line number n says
 abbrev pub line_says : ℕ → Latest → List ℕ → Result After StatedFault
@@ -107,3 +158,10 @@ stated_by n latest (line ∷ lines) =
 -- what a script says: its events, each with what is stated of it, or its first fault
 abbrev pub stated_in : List ℕ → Result (List StatedEvent) StatedFault
 stated_in script = stated_by 0 None (lines_of script)
+
+-- On the bus alone nothing is seen of hand-overs, which answer gaps: where none is stated, whatever answers a gap is left aside.
+abbrev pub is_unseen : StatedEvent → Bool
+is_unseen s = is_gap s.event && is_empty s.answer
+
+abbrev pub seen_on_bus : StatedEvent → StatedEvent
+seen_on_bus s = if is_unseen s then record s { matching = Unchecked } else s

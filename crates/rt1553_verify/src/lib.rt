@@ -2,9 +2,11 @@
 #![tactic(auto)]
 
 mod heading;
+mod matching;
 mod stated;
 mod verifying;
 
 pub use heading::named;
-pub use stated::{Stated, StatedFault, answers_in, read_stated};
+pub use matching::Matching;
+pub use stated::{Stated, StatedFault, answers_in, read_stated, stated_on_bus};
 pub use verifying::{WrongAnswer, verify, wrong_answers};

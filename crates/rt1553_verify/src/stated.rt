@@ -3,10 +3,11 @@ ghost use Rattle.std.specs.Prelude.{◌≡◌, ◌≢◌, ◌<◌, ◌&&◌, ◌
 ghost use Rattle.script_lines.specs.Line.{meaning};
 ghost use Rattle.script_lines.specs.Text.{lines_of};
 ghost use Rattle.bus_script.specs.Reading.{reading, adds, nothing};
-ghost use Rattle.rt1553_verify.specs.Stated.{shown, is_empty, states_answer, can_answer, states, goes_on, ended, stays, or_misplaced, unstated_line, line_says, stated_in};
+ghost use Rattle.rt1553_verify.specs.Stated.{shown, is_empty, states_answer, can_answer, can_match, says_bytes, states, goes_on, ended, stays, or_misplaced, unstated_line, line_says, stated_in, seen_on_bus};
 ghost use Rattle.rt1553_verify.specs.declared.stated.StatedFault.TheVariants.{Memory};
 ghost use Rattle.rt1553_verify.specs.inner.Says.{Says};
 
+use crate::Matching;
 use bus_script::{LineFault, read_event};
 use bus_terminal::Event;
 use line_format::after;
@@ -26,7 +27,9 @@ pub struct Stated {
     /// The number of the event's line, from 1.
     pub line: u64,
     pub event: Event,
-    /// The line of the transcript that is to answer the event, with its line feed; empty where nothing is to answer it.
+    /// How what answers the event is compared with `answer`.
+    pub matching: Matching,
+    /// The line of the transcript that is to answer the event, or its mask, with its line feed; empty where nothing is to answer it.
     pub answer: Vec<u8>,
 }
 
@@ -78,26 +81,49 @@ fn can_answer(event: Event, line: &[u8]) -> bool
     }
 }
 
-/// Whether the line can be stated as the answer to this event, of which nothing was stated yet.
-fn is_open_to(latest: &Stated, line: &[u8]) -> bool
-    ensures { result ≡ (is_empty latest.now.answer.items && can_answer latest.now.event line.now) }
+/// Whether the line, or the mask, can be stated of the event.
+fn can_match(matching: Matching, event: Event, line: &[u8]) -> bool
+    ensures { result ≡ can_match matching event line.now }
 {
-    latest.answer.is_empty() && can_answer(latest.event, line)
+    match matching {
+        Matching::AnyLine => matches!(event, Event::Gap(_) | Event::Slot),
+        _ => can_answer(event, line),
+    }
 }
 
-/// Keeps what a line states of the answer to the latest event.
-fn state(latest: Option<Stated>, number: u64, line: &[u8]) -> Result<Option<Stated>, StatedFault>
-    ensures said { IfOk result (λ new. or_misplaced number (states (option_map shown latest) line.now) ≡ Ok (stays (option_map shown new))) }
-    ensures refused { IfErr result (λ fault. fault ≢ StatedFault.Memory → or_misplaced number (states (option_map shown latest) line.now) ≡ Err fault) }
+/// Whether the line, or the mask, can be stated of this event, of which nothing was stated yet.
+fn is_open_to(latest: &Stated, matching: Matching, line: &[u8]) -> bool
+    ensures { result ≡ (is_empty latest.now.answer.items && can_match matching latest.now.event line.now) }
+{
+    latest.answer.is_empty() && can_match(matching, latest.event, line)
+}
+
+/// Keeps what a line states of the answer to the latest event, of which nothing was stated yet.
+fn state(
+    latest: Option<Stated>,
+    number: u64,
+    matching: Matching,
+    line: &[u8],
+) -> Result<Option<Stated>, StatedFault>
+    ensures said { IfOk result (λ new. or_misplaced number (states matching (option_map shown latest) line.now) ≡ Ok (stays (option_map shown new))) }
+    ensures refused { IfErr result (λ fault. fault ≢ StatedFault.Memory → or_misplaced number (states matching (option_map shown latest) line.now) ≡ Err fault) }
 {
     let Some(mut latest) = latest else {
         return Err(StatedFault::Misplaced(number));
     };
-    if !is_open_to(&latest, line) {
+    if !is_open_to(&latest, matching, line) {
         return Err(StatedFault::Misplaced(number));
     }
+    latest.matching = matching;
     latest.answer.extend_from_slice(line)?;
     Ok(Some(latest))
+}
+
+/// Whether the answer that was stated of the event can go on.
+fn can_go_on(latest: &Stated) -> bool
+    ensures { result ≡ (states_answer (shown latest.now) && says_bytes latest.now.matching) }
+{
+    !latest.answer.is_empty() && latest.matching != Matching::AnyLine
 }
 
 /// Keeps how the answer that was stated last goes on.
@@ -108,7 +134,7 @@ fn go_on(latest: Option<Stated>, number: u64, rest: &[u8]) -> Result<Option<Stat
     let Some(mut latest) = latest else {
         return Err(StatedFault::Misplaced(number));
     };
-    if latest.answer.is_empty() {
+    if !can_go_on(&latest) {
         return Err(StatedFault::Misplaced(number));
     }
     latest.answer.push(b' ')?;
@@ -148,6 +174,7 @@ fn read_plain(
             Ok(Some(Stated {
                 line: number,
                 event,
+                matching: Matching::Exact,
                 answer: Vec::new(alloc),
             }))
         }
@@ -168,7 +195,10 @@ fn read_line(
     ensures refused { IfErr result (λ fault. fault ≢ StatedFault.Memory → line_says number (option_map shown latest) line.now ≡ Err fault) }
 {
     if let Some(answer) = after(line, b"#> ") {
-        return state(latest, number, answer);
+        return state(latest, number, Matching::Exact, answer);
+    }
+    if let Some(mask) = after(line, b"#~ ") {
+        return state(latest, number, Matching::of_mask(mask), mask);
     }
     if let Some(rest) = after(line, b"#+ ") {
         return go_on(latest, number, rest);
@@ -176,9 +206,10 @@ fn read_line(
     read_plain(alloc, read, latest, number, line)
 }
 
-/// Reads a script with the answers that it states in comments: `#> LINE` behind the event that LINE answers, and
-/// `#+ REST` behind an answer that goes on with a space and REST. Other comments and empty lines may stand between. A script
-/// is refused by its first fault.
+/// Reads a script with the answers that it states in comments: `#> LINE` behind the event that LINE answers, `#~ MASK` behind one
+/// that is answered by a line with any digits at the dots of MASK, `#~ *` behind one that is answered by any line, and `#+ REST`
+/// behind an answer that goes on with a space and REST. Other comments and empty lines may stand between. A script is refused by
+/// its first fault.
 pub fn read_stated(alloc: Global, script: &[u8]) -> Result<Vec<Stated>, StatedFault>
     ensures accepted { IfOk result (λ read. stated_in script.now ≡ Ok (map shown read.items)) }
     ensures refused { IfErr result (λ fault. fault ≢ StatedFault.Memory → stated_in script.now ≡ Err fault) }
@@ -212,4 +243,25 @@ pub fn answers_in(script: &[Stated]) -> usize
         .iter()
         .filter(|stated| !stated.answer.is_empty())
         .count()
+}
+
+/// Gives what the bus alone shows of what is stated: where nothing is stated of a gap, it is not checked what answers it.
+fn seen_on_bus(mut stated: Stated) -> Stated
+    ensures { shown result ≡ seen_on_bus (shown stated) }
+{
+    if matches!(stated.event, Event::Gap(_)) && stated.answer.is_empty() {
+        stated.matching = Matching::Unchecked;
+    }
+    stated
+}
+
+/// Gives what is stated of events where hand-overs are not seen: a gap of which nothing is stated may hand over anything.
+pub fn stated_on_bus(alloc: Global, script: Vec<Stated>) -> Result<Vec<Stated>, AllocError>
+    ensures { IfOk result (λ seen. map shown seen.items ≡ map seen_on_bus (map shown script.items)) }
+{
+    let mut seen = Vec::new(alloc);
+    for stated in script {
+        seen.push(seen_on_bus(stated))?;
+    }
+    Ok(seen)
 }

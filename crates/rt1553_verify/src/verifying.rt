@@ -19,7 +19,7 @@ use std::alloc::{AllocError, Global};
 pub struct WrongAnswer {
     /// The number of the event's line, from 1.
     pub line: u64,
-    /// The line of the transcript that was stated, with its line feed; empty for nothing.
+    /// The line of the transcript that was stated, or its mask, with its line feed; empty for nothing.
     pub expected: Vec<u8>,
     /// The line of the transcript that answered, with its line feed; empty for nothing.
     pub came: Vec<u8>,
@@ -39,7 +39,7 @@ fn compare_answer<L: Legality>(
     let came = write_answer(&answer);
     let came = came.as_str().as_bytes();
     let expected = stated.answer.as_slice();
-    if came == expected {
+    if stated.matching.fits(expected, came) {
         return Ok(());
     }
     found.push(WrongAnswer {

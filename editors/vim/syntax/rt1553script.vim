@@ -9,7 +9,7 @@ syntax case match
 syntax match rt1553Error   /^.\+$/
 syntax match rt1553Comment /^#.*$/
 syntax match rt1553Heading /^# \(Profile\|Plan\|Standard\): .*$/
-syntax match rt1553Answer  /^#[>+] .*$/
+syntax match rt1553Answer  /^#[>~+] .*$/
 syntax match rt1553Reading /^#| .*$/
 syntax match rt1553Word    /^[AB] [cd] \x\{4}\( [01]\)\?$/ contains=rt1553Bus,rt1553Digits
 syntax match rt1553Gap     /^[AB] \(noise\|gap\)$/ contains=rt1553Bus
