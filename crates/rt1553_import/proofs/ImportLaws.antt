@@ -1,0 +1,33 @@
+-- A text that is read as the tree of a table says what the table says.
+use Rattle.std.proofs.Common.{◌≡◌, ℕ, List, Some, sym, ap, ◌∙◌}
+use Rattle.toml.specs.Data.{Members}
+use Rattle.toml.specs.Parse.{parse_document}
+use Rattle.profile_types.specs.declared.profile.Profile.{Profile}
+use Rattle.profile_types.specs.Plain.{plain}
+use Rattle.bus_profile.specs.Gives.{profile_of}
+use Rattle.bus_profile.specs.Read.{Accepts}
+use Rattle.rt1553_import.specs.declared.sheet.Sheet.{Sheet}
+use Rattle.rt1553_import.specs.Tree.{table_tree}
+use Rattle.rt1553_import.specs.declared.fault.ImportFault.{ImportFault}
+use Rattle.rt1553_import.specs.declared.fault.ImportFault.TheVariants.{Faults, NotText, NotCsv, Memory}
+use Rattle.rt1553_import.specs.inner.NoTable.{IsNoTable}
+use Rattle.rt1553_import.specs.Import.{SaysTable, IsTableRefused}
+
+some_same : (a b : Members) → Some a ≡ Some b → a ≡ b
+some_same a b e = cc e
+
+tree_same : (s : Sheet) (text : List ℕ) (p : Profile) → parse_document text ≡ Some (table_tree s) → Accepts text p → plain p ≡ profile_of (table_tree s)
+tree_same s text p reads accepts = accepts.gives ∙ ap profile_of (some_same accepts.tree (table_tree s) (sym accepts.is.reads ∙ reads))
+
+pub text_says : (s : Sheet) (text : List ℕ) (p : Profile) → parse_document text ≡ Some (table_tree s) → Accepts text p → SaysTable s text
+text_says s text p reads accepts = record { profile = p; accepts = accepts; gives = tree_same s text p reads accepts }
+
+-- another text that gives the same profile
+pub same_says : (s : Sheet) (text named : List ℕ) (p q : Profile) → parse_document text ≡ Some (table_tree s) → Accepts text p → Accepts named q → plain q ≡ plain p → SaysTable s named
+same_says s text named p q reads accepts back same = record { profile = q; accepts = back; gives = same ∙ tree_same s text p reads accepts }
+
+pub no_table : (text : List ℕ) (f : ImportFault) → IsNoTable f → IsTableRefused text f
+no_table text (Faults faults) is = absurd is
+no_table text (NotText line) is = tt
+no_table text NotCsv is = tt
+no_table text Memory is = tt

@@ -1,0 +1,7 @@
+pub mod CellLaws
+pub mod FaultLaws
+pub mod FieldLaws
+pub mod ImportLaws
+pub mod SameLaws
+pub mod TableLaws
+pub mod TreeLaws

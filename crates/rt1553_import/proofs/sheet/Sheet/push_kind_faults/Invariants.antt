@@ -1,0 +1,8 @@
+use Rattle.std.proofs.Common.{◌≡◌, ◌++◌, drop}
+use Rattle.std.specs.List.{flat_map}
+use Rattle.rt1553_import.specs.Columns.{all_columns}
+use Rattle.rt1553_import.specs.TableFaults.{fault_if_any, cell_fault}
+use Rattle.rt1553_import.proofs.sheet.Sheet.push_kind_faults.Given as goal
+
+abbrev pub invariant-loop-column : goal.invariant-loop-column
+invariant-loop-column l = l.faults.items ++ flat_map (λ c. fault_if_any (cell_fault l.self l.before l.row l.kind c)) (drop l.column-index all_columns) ≡ l.initial.faults.items ++ flat_map (λ c. fault_if_any (cell_fault l.self l.before l.row l.kind c)) all_columns

@@ -1,0 +1,68 @@
+-- What the texts of cells say: values of the profile, and words.
+use Rattle.std.specs.Prelude.{ℕ, ◌^◌, ◌||◌, ◌&&◌, nat_lt, nat_le, ◌==◌, Bool, true, false, if◌then◌else◌, pos, List, [], ◌∷◌, drop, length, Option, Some, None, codes}
+use Rattle.std.specs.List.{slice_split, list_all}
+use Rattle.std.specs.Char.{is_digit}
+use Rattle.std.specs.Str.{bytes_eq}
+use Rattle.std.specs.Str.Parse.{digits_value}
+use Rattle.toml.specs.Data.{Data, string, integer, boolean}
+
+abbrev pub has_no_text : List ℕ → Bool
+has_no_text [] = true
+has_no_text (b ∷ bs) = false
+
+-- digits of this radix, one or more, and nothing else
+abbrev pub is_numeral : ℕ → List ℕ → Bool
+is_numeral radix [] = false
+is_numeral radix text = list_all (λ c. is_digit c radix) text
+
+-- the number that digits of this radix write, if it is below 2 ^ 32
+abbrev pub number_in : ℕ → List ℕ → Option ℕ
+number_in radix text = if is_numeral radix text && nat_lt (digits_value radix text) (2 ^ 32) then Some (digits_value radix text) else None
+
+-- the text begins with `0x`
+abbrev pub is_hexadecimal : List ℕ → Bool
+is_hexadecimal (a ∷ b ∷ digits) = (a == 48) && (b == 120)
+is_hexadecimal _ = false
+
+-- a number: decimal digits, or hexadecimal digits behind `0x`
+abbrev pub cell_number : List ℕ → Option ℕ
+cell_number text = if is_hexadecimal text then number_in 16 (drop 2 text) else number_in 10 text
+
+abbrev pub is_yes : List ℕ → Bool
+is_yes text = bytes_eq text (codes "yes") || bytes_eq text (codes "true") || bytes_eq text (codes "TRUE")
+
+abbrev pub is_no : List ℕ → Bool
+is_no text = bytes_eq text (codes "no") || bytes_eq text (codes "false") || bytes_eq text (codes "FALSE")
+
+-- the truth value that a text names
+abbrev pub cell_truth : List ℕ → Option Bool
+cell_truth text = if is_yes text then Some true else if is_no text then Some false else None
+
+-- a word: 1 to 4 hexadecimal digits
+abbrev pub cell_word : List ℕ → Option ℕ
+cell_word text = if nat_le (length text) 4 then number_in 16 text else None
+
+abbrev pub word_before : Option ℕ → Option (List ℕ) → Option (List ℕ)
+word_before (Some word) (Some words) = Some (word ∷ words)
+word_before _ _ = None
+
+-- the words that parts are, of which empty ones are passed over, if each other is a word
+abbrev pub words_of_parts : List (List ℕ) → Option (List ℕ)
+words_of_parts [] = Some []
+words_of_parts (part ∷ parts) = if has_no_text part then words_of_parts parts else word_before (cell_word part) (words_of_parts parts)
+
+-- words with spaces between them
+abbrev pub cell_words : List ℕ → Option (List ℕ)
+cell_words text = words_of_parts (slice_split (λ b. b == 32) text)
+
+abbrev pub value_or : Option Bool → List ℕ → Data
+value_or (Some b) text = boolean b
+value_or None text = string text
+
+abbrev pub value_from : Option ℕ → List ℕ → Data
+value_from (Some n) text = integer (pos n)
+value_from None text = value_or (cell_truth text) text
+
+-- the value of a text: a number, a truth value, or else the text
+abbrev pub cell_value : List ℕ → Data
+cell_value text = value_from (cell_number text) text

@@ -1,0 +1,40 @@
+-- What a table becomes: a profile, or its faults.
+use Rattle.std.specs.Prelude.{◌≡◌, ◌<◌, ℕ, List, [], length}
+use Rattle.profile_types.specs.declared.profile.Profile.{Profile}
+use Rattle.profile_types.specs.Plain.{plain}
+use Rattle.bus_profile.specs.Gives.{profile_of}
+use Rattle.bus_profile.specs.Read.{Accepts}
+use Rattle.rt1553_import.specs.declared.fault.TableFault.{TableFault}
+use Rattle.rt1553_import.specs.declared.fault.ImportFault.{ImportFault}
+use Rattle.rt1553_import.specs.declared.fault.ImportFault.TheVariants.{Faults, NotText, NotCsv, Memory}
+use Rattle.rt1553_import.specs.declared.sheet.Sheet.{Sheet}
+use Rattle.rt1553_import.specs.Reading.{IsSheetOf}
+use Rattle.rt1553_import.specs.Tree.{table_tree}
+use Rattle.rt1553_import.specs.Places.{told}
+
+-- the text is an accepted profile text, and its profile is the one that the table says
+pub record SaysTable (sheet : Sheet) (text : List ℕ) : Type 0 where
+  pub profile : Profile
+  pub accepts : Accepts text profile
+  pub gives : plain profile ≡ profile_of (table_tree sheet)
+
+-- the table has no fault, and the profile text says what it says
+pub record IsImported (table profile_text : List ℕ) : Type 0 where
+  pub sheet : Sheet
+  pub read : IsSheetOf table sheet
+  pub faultless : told sheet ≡ []
+  pub says : SaysTable sheet profile_text
+
+-- these are all the faults that are told of the table, and there is one
+pub record HasFaults (table : List ℕ) (faults : List TableFault) : Type 0 where
+  pub sheet : Sheet
+  pub read : IsSheetOf table sheet
+  pub all : faults ≡ told sheet
+  pub some : 0 < length faults
+
+-- Why a table is refused: its faults, or that it is no table; memory says nothing of it.
+abbrev pub IsTableRefused : List ℕ → ImportFault → Type 0
+IsTableRefused table (Faults faults) = HasFaults table faults.items
+IsTableRefused table (NotText line) = Unit {0}
+IsTableRefused table NotCsv = Unit {0}
+IsTableRefused table Memory = Unit {0}

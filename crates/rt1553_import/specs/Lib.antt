@@ -1,0 +1,9 @@
+pub mod Columns
+pub mod Kinds
+pub mod Cells
+pub mod Tree
+pub mod TableFaults
+pub mod Places
+pub mod Reading
+pub mod Import
+pub mod inner

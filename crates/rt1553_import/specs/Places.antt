@@ -1,0 +1,86 @@
+-- Where in a table the faults of its profile stand.
+use Rattle.std.specs.Prelude.{ℕ, ◌-◌, List, map, Option, Some, None, slice_get}
+use Rattle.bus_profile.specs.declared.fault.Key.{Key}
+use Rattle.bus_profile.specs.declared.fault.Key.TheVariants as key
+use Rattle.bus_profile.specs.declared.fault.Part.{Part}
+use Rattle.bus_profile.specs.declared.fault.Part.TheVariants as part
+use Rattle.bus_profile.specs.declared.fault.ProfileFault.{ProfileFault}
+use Rattle.bus_profile.specs.declared.fault.ProfileFault.TheVariants.{Missing, WrongKind, OutOfRange, BadRanges, TooMany}
+use Rattle.bus_profile.specs.AllFaults.{told_faults}
+use Rattle.rt1553_import.specs.declared.column.TableColumn.{TableColumn}
+use Rattle.rt1553_import.specs.declared.column.TableColumn.TheVariants as column
+use Rattle.rt1553_import.specs.declared.kind.RowKind.TheVariants as kind
+use Rattle.rt1553_import.specs.declared.fault.CellPlace.{CellPlace}
+use Rattle.rt1553_import.specs.declared.fault.TableFault.{TableFault}
+use Rattle.rt1553_import.specs.declared.fault.TableFaultKind.TheVariants as fault
+use Rattle.rt1553_import.specs.declared.sheet.Sheet.{Sheet}
+use Rattle.rt1553_import.specs.declared.sheet.TableRow.{TableRow}
+use Rattle.rt1553_import.specs.declared.tree.Entry.{Entry}
+use Rattle.rt1553_import.specs.declared.tree.Entry.TheVariants as entry
+use Rattle.rt1553_import.specs.Columns.{row_place}
+use Rattle.rt1553_import.specs.Tree.{entry_rows, setting_row, table_tree}
+use Rattle.rt1553_import.specs.TableFaults.{or_others, table_faults}
+
+-- the row that became the entry of this number, from 1
+abbrev pub entry_row : Sheet → Entry → ℕ → Option TableRow
+entry_row sheet e number = slice_get (entry_rows sheet e) (number - 1)
+
+-- the row that has a key of the root; of an array that is too long the row of its first entry beyond
+abbrev pub root_row : Sheet → Key → Option TableRow
+root_row sheet key.Address = setting_row sheet kind.Address
+root_row sheet key.Broadcast = setting_row sheet kind.Broadcast
+root_row sheet key.Wraparound = setting_row sheet kind.Wraparound
+root_row sheet key.AcceptBusControl = setting_row sheet kind.AcceptBusControl
+root_row sheet key.Vector = setting_row sheet kind.Vector
+root_row sheet key.Bit = setting_row sheet kind.Bit
+root_row sheet key.Rule = entry_row sheet entry.Rule 257
+root_row sheet key.Mode = entry_row sheet entry.Mode 257
+root_row sheet key.Initial = entry_row sheet entry.Initial 257
+root_row sheet _ = None
+
+-- the row that became a part of the profile
+abbrev pub part_row : Sheet → Part → Key → Option TableRow
+part_row sheet part.Root k = root_row sheet k
+part_row sheet (part.Rule n) k = entry_row sheet entry.Rule n
+part_row sheet (part.Mode n) k = entry_row sheet entry.Mode n
+part_row sheet (part.Initial n) k = entry_row sheet entry.Initial n
+
+-- the column from which a key comes
+abbrev pub key_column : Key → TableColumn
+key_column key.Rule = column.Kind
+key_column key.Mode = column.Kind
+key_column key.Direction = column.Kind
+key_column key.Initial = column.Initial
+key_column key.To = column.To
+key_column key.Subaddresses = column.Subaddress
+key_column key.Subaddress = column.Subaddress
+key_column key.Counts = column.Words
+key_column key.Legal = column.Legal
+key_column key.Codes = column.Code
+key_column key.At = column.Initial
+key_column key.Words = column.Initial
+key_column _ = column.Value
+
+-- a place in a row; in the header where there is no row
+abbrev pub place_or_header : Sheet → Option TableRow → TableColumn → CellPlace
+place_or_header sheet None c = row_place sheet sheet.header column.Kind
+place_or_header sheet (Some row) c = row_place sheet row c
+
+abbrev pub key_place : Sheet → Part → Key → CellPlace
+key_place sheet p k = place_or_header sheet (part_row sheet p k) (key_column k)
+
+-- where a fault of the profile stands; one that is of no row stands in the header
+abbrev pub fault_place : Sheet → ProfileFault → CellPlace
+fault_place sheet (Missing p k) = key_place sheet p k
+fault_place sheet (WrongKind p k) = key_place sheet p k
+fault_place sheet (OutOfRange p k) = key_place sheet p k
+fault_place sheet (BadRanges p k) = key_place sheet p k
+fault_place sheet (TooMany p k) = key_place sheet p k
+fault_place sheet _ = place_or_header sheet None column.Kind
+
+abbrev pub placed : Sheet → ProfileFault → TableFault
+placed sheet f = record { place = fault_place sheet f; kind = fault.Profile f }
+
+-- all that is told of a table: the faults of the table itself, or if it has none those of the profile that it says
+abbrev pub told : Sheet → List TableFault
+told sheet = or_others (table_faults sheet) (map (placed sheet) (told_faults (table_tree sheet)))

@@ -1,0 +1,271 @@
+//! The faults of a table itself, apart from the profile that it says.
+ghost use Rattle.std.specs.Prelude.{◌≡◌, ◌<◌, ◌-◌, ◌^◌, ◌++◌, [], IfOk, OnOk, flat_map};
+ghost use Rattle.csv.specs.Records.{fields_of, field_at};
+ghost use Rattle.rt1553_import.specs.inner.Texts.{has_text};
+ghost use Rattle.rt1553_import.specs.Columns.{all_columns};
+ghost use Rattle.rt1553_import.specs.TableFaults.{fault_if_any, header_place, column_fault, no_kind_fault, header_faults, is_set_in, kind_fault, initial_fault, taken_fault, cell_fault, kind_faults, last_place, is_blank_row, row_faults, rows_faults, table_faults};
+
+use crate::cells::{cell_number, cell_words};
+use crate::column::{COLUMNS, TableColumn};
+use crate::fault::{CellPlace, TableFault, TableFaultKind};
+use crate::kind::RowKind;
+use crate::sheet::{Sheet, TableRow, place_from};
+use csv::StringRecord;
+use std::alloc::{AllocError, Global};
+
+/// Adds a fault if there is one.
+fn push_some(faults: &mut Vec<TableFault>, fault: Option<TableFault>) -> Result<(), AllocError>
+    ensures { OnOk result (faults.new.items ≡ faults.old.items ++ fault_if_any fault) }
+{
+    if let Some(fault) = fault {
+        faults.push(fault)?;
+    }
+    Ok(())
+}
+
+/// Whether a field is there and has text.
+fn has_text(fields: &StringRecord, place: usize) -> bool
+    ensures { result ≡ has_text (field_at (fields_of fields.now) place) }
+{
+    match fields.get(place) {
+        Some(field) => !field.is_empty(),
+        None => false,
+    }
+}
+
+impl TableRow {
+    /// Whether all fields are empty.
+    fn is_blank_row(&self) -> bool
+        ensures { result ≡ is_blank_row self.now }
+    {
+        for place in 0..self.fields.len() {
+            if has_text(&self.fields, place) {
+                return false;
+            }
+        }
+        true
+    }
+}
+
+impl Sheet {
+    /// A field of the header, by its place from 0.
+    fn header_place(&self, place: usize) -> CellPlace
+        requires { place < 2 ^ 64 - 1 }
+        ensures { result ≡ header_place self.now place }
+    {
+        CellPlace {
+            row: self.header.line,
+            column: place as u64 + 1,
+        }
+    }
+
+    /// The fault of a header without the column `kind`.
+    fn no_kind_fault(&self) -> Option<TableFault>
+        ensures { result ≡ no_kind_fault self.now }
+    {
+        if self.place_of(TableColumn::Kind).is_some() {
+            return None;
+        }
+        Some(TableFault {
+            place: self.header_place(0),
+            kind: TableFaultKind::NoKind,
+        })
+    }
+
+    /// The fault of a column that is there twice.
+    fn column_fault(&self, column: TableColumn) -> Option<TableFault>
+        ensures { result ≡ column_fault self.now column }
+    {
+        let Some(first) = self.place_of(column) else {
+            return None;
+        };
+        match place_from(&self.header.fields, column.name(), first + 1) {
+            Some(second) => Some(TableFault {
+                place: self.header_place(second),
+                kind: TableFaultKind::TwoColumns(column),
+            }),
+            None => None,
+        }
+    }
+
+    /// The faults of the header.
+    fn header_faults(&self, alloc: Global) -> Result<Vec<TableFault>, AllocError>
+        ensures { IfOk result (λ faults. faults.items ≡ header_faults self.now) }
+    {
+        let mut faults = Vec::new(alloc);
+        push_some(&mut faults, self.no_kind_fault())?;
+        for column in COLUMNS {
+            push_some(&mut faults, self.column_fault(column))?;
+        }
+        Ok(faults)
+    }
+
+    /// Whether one of these rows is of this kind.
+    fn is_set_in(&self, kind: RowKind, rows: &[TableRow]) -> bool
+        ensures { result ≡ is_set_in self.now kind rows.now }
+    {
+        for row in rows {
+            if self.is_kind(row, kind) {
+                return true;
+            }
+        }
+        false
+    }
+
+    /// The fault of a setting that one of the rows before has.
+    fn kind_fault(&self, before: &[TableRow], row: &TableRow, kind: RowKind) -> Option<TableFault>
+        ensures { result ≡ kind_fault self.now before.now row.now kind }
+    {
+        if kind.is_setting() && self.is_set_in(kind, before) {
+            return Some(TableFault {
+                place: self.place(row, TableColumn::Kind),
+                kind: TableFaultKind::Twice,
+            });
+        }
+        None
+    }
+
+    /// The fault of initial words.
+    fn initial_fault(&self, alloc: Global, row: &TableRow) -> Result<Option<TableFault>, AllocError>
+        ensures { IfOk result (λ fault. fault ≡ initial_fault self.now row.now) }
+    {
+        let subaddress = self.cell(row, TableColumn::Subaddress);
+        if cell_number(subaddress.as_bytes()).is_none() {
+            return Ok(Some(TableFault {
+                place: self.place(row, TableColumn::Subaddress),
+                kind: TableFaultKind::OneSubaddress,
+            }));
+        }
+        match cell_words(alloc, self.cell(row, TableColumn::Initial))? {
+            Some(_) => Ok(None),
+            None => Ok(Some(TableFault {
+                place: self.place(row, TableColumn::Initial),
+                kind: TableFaultKind::NotWords,
+            })),
+        }
+    }
+
+    /// The fault of a text in a column that takes it.
+    fn taken_fault(
+        &self,
+        alloc: Global,
+        before: &[TableRow],
+        row: &TableRow,
+        kind: RowKind,
+        column: TableColumn,
+    ) -> Result<Option<TableFault>, AllocError>
+        ensures { IfOk result (λ fault. fault ≡ taken_fault self.now before.now row.now kind column) }
+    {
+        match column {
+            TableColumn::Kind => Ok(self.kind_fault(before, row, kind)),
+            TableColumn::Initial => self.initial_fault(alloc, row),
+            _ => Ok(None),
+        }
+    }
+
+    /// The fault of a row in a column.
+    fn cell_fault(
+        &self,
+        alloc: Global,
+        before: &[TableRow],
+        row: &TableRow,
+        kind: RowKind,
+        column: TableColumn,
+    ) -> Result<Option<TableFault>, AllocError>
+        ensures { IfOk result (λ fault. fault ≡ cell_fault self.now before.now row.now kind column) }
+    {
+        if self.cell(row, column).is_empty() {
+            return Ok(None);
+        }
+        if kind.takes(column) {
+            return self.taken_fault(alloc, before, row, kind, column);
+        }
+        Ok(Some(TableFault {
+            place: self.place(row, column),
+            kind: TableFaultKind::NotTaken(column),
+        }))
+    }
+
+    /// Adds the faults of a row of this kind.
+    fn push_kind_faults(
+        &self,
+        alloc: Global,
+        faults: &mut Vec<TableFault>,
+        before: &[TableRow],
+        row: &TableRow,
+        kind: RowKind,
+    ) -> Result<(), AllocError>
+        ensures { OnOk result (faults.new.items ≡ faults.old.items ++ flat_map (λ c. fault_if_any (cell_fault self.now before.now row.now kind c)) all_columns) }
+    {
+        for column in COLUMNS {
+            push_some(faults, self.cell_fault(alloc, before, row, kind, column)?)?;
+        }
+        Ok(())
+    }
+
+    /// The last field that the row and the header both have.
+    fn last_place(&self, row: &TableRow) -> CellPlace
+        ensures { result ≡ last_place self.now row.now }
+    {
+        CellPlace {
+            row: row.line,
+            column: row.fields.len().min(self.header.fields.len()) as u64,
+        }
+    }
+
+    /// Adds the faults of a row.
+    fn push_row_faults(
+        &self,
+        alloc: Global,
+        faults: &mut Vec<TableFault>,
+        before: &[TableRow],
+        row: &TableRow,
+    ) -> Result<(), AllocError>
+        ensures { OnOk result (faults.new.items ≡ faults.old.items ++ row_faults self.now before.now row.now) }
+    {
+        if row.is_blank_row() {
+            return Ok(());
+        }
+        if row.fields.len() != self.header.fields.len() {
+            faults.push(TableFault {
+                place: self.last_place(row),
+                kind: TableFaultKind::Fields,
+            })?;
+            return Ok(());
+        }
+        match RowKind::of(self.cell(row, TableColumn::Kind)) {
+            Some(kind) => self.push_kind_faults(alloc, faults, before, row, kind),
+            None => {
+                faults.push(TableFault {
+                    place: self.place(row, TableColumn::Kind),
+                    kind: TableFaultKind::UnknownKind,
+                })?;
+                Ok(())
+            }
+        }
+    }
+
+    /// The faults of the rows.
+    fn rows_faults(&self, alloc: Global) -> Result<Vec<TableFault>, AllocError>
+        ensures { IfOk result (λ faults. faults.items ≡ rows_faults self.now [] self.now.rows.items) }
+    {
+        let mut faults = Vec::new(alloc);
+        let rows = self.rows.as_slice();
+        for at in 0..rows.len() {
+            self.push_row_faults(alloc, &mut faults, &rows[..at], &rows[at])?;
+        }
+        Ok(faults)
+    }
+
+    /// The faults of the table itself: those of the header, or if it has none those of the rows.
+    #[tactic(auto, unfolding(crate::specs::TableFaults::table_faults))]
+    pub fn table_faults(&self, alloc: Global) -> Result<Vec<TableFault>, AllocError>
+        ensures { IfOk result (λ faults. faults.items ≡ table_faults self.now) }
+    {
+        let faults = self.header_faults(alloc)?;
+        if !faults.as_slice().is_empty() {
+            return Ok(faults);
+        }
+        self.rows_faults(alloc)
+    }
+}
