@@ -1,0 +1,6 @@
+mod CutLaws
+mod DataLaws
+mod WroteLaws
+mod FeedLaws
+mod ReadLaws
+mod ExpandLaws

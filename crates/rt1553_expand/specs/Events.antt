@@ -1,0 +1,46 @@
+-- The events of a message.
+use Rattle.std.specs.Prelude.{ℕ, ◌+◌, Bool, true, false, nat_le, if◌then◌else◌, List, [], ◌∷◌, ◌++◌, map, Option, Some, None, replicate}
+use Rattle.bus_word.specs.declared.word.Bus.{Bus}
+use Rattle.bus_word.specs.Word.{valid_word}
+use Rattle.bus_word.specs.Command.{transmits, is_mode, is_broadcast, code_of, count_of}
+use Rattle.terminal_rules.specs.declared.event.Event.{Event}
+use Rattle.terminal_rules.specs.declared.event.Event.TheVariants as event
+use Rattle.rt1553_tool.specs.declared.fields.CommandFields.{CommandFields}
+use Rattle.rt1553_tool.specs.declared.fields.WordFields.{WordFields}
+use Rattle.rt1553_tool.specs.declared.fields.WordFields.TheVariants as fields
+use Rattle.rt1553_tool.specs.Fields.{sync_of, bits_with}
+use Rattle.rt1553_tool.specs.WordLines.{status_with}
+use Rattle.rt1553_expand.specs.Message.{SaidMessage}
+
+-- the valid word of these fields comes on the bus
+abbrev pub word_event : Bus → WordFields → Event
+word_event bus f = event.Word bus (valid_word (sync_of f) (bits_with f))
+
+abbrev pub data_events : Bus → List ℕ → List Event
+data_events bus words = map (λ word. word_event bus (fields.Data word)) words
+
+-- how many data words a terminal sends behind its status word in the reply to a command
+abbrev pub data_words_sent : ℕ → ℕ
+data_words_sent command =
+    if transmits command then (if is_mode command then (if nat_le 16 (code_of command) then 1 else 0) else count_of command)
+    else 0
+
+-- how many words the reply to a command can have: nothing replies to a command to all terminals
+abbrev pub reply_words : ℕ → ℕ
+reply_words command = if is_broadcast command then 0 else data_words_sent command + 1
+
+-- behind a command and its data words: a gap, and a slot for each word of the reply
+abbrev pub message_end : Bus → WordFields → List Event
+message_end bus (fields.Command f) = event.Gap bus ∷ replicate (reply_words (bits_with (fields.Command f))) event.Slot
+message_end bus (fields.Status f) = []
+message_end bus (fields.Data word) = []
+
+-- In a transfer, behind the command to receive: the command to the terminal that sends, a gap, and the status word of that
+-- terminal, without a bit that is set.
+abbrev pub sender_events : Bus → Option CommandFields → List Event
+sender_events bus None = []
+sender_events bus (Some f) = word_event bus (fields.Command f) ∷ event.Gap bus ∷ word_event bus (fields.Status (status_with f.address [])) ∷ []
+
+-- the events of a message, in their order
+abbrev pub message_events : Bus → SaidMessage → List Event
+message_events bus m = word_event bus m.first ∷ (sender_events bus m.sender ++ (data_events bus m.words ++ message_end bus m.first))

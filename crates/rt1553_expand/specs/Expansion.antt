@@ -1,0 +1,108 @@
+-- The script that a text of events and messages stands for.
+use Rattle.std.specs.Prelude.{ℕ, ◌+◌, ◌≡◌, ◌≢◌, ◌<◌, ◌≤◌, nat_lt, if◌then◌else◌, List, [], ◌∷◌, ◌++◌, length, map, drop, Option, Some, None, Result, Ok, Err}
+use Rattle.std.specs.List.{flat_map, sum_by}
+use Rattle.bus_word.specs.declared.word.Bus.{Bus}
+use Rattle.terminal_rules.specs.declared.event.Event.{Event}
+use Rattle.script_lines.specs.declared.line.LineFault.{LineFault}
+use Rattle.script_lines.specs.Line.{meaning, bus_first}
+use Rattle.script_lines.specs.Text.{lines_of}
+use Rattle.script_lines.specs.EventLine.{script_text}
+use Rattle.rt1553_expand.specs.declared.fault.ExpandFault.{ExpandFault}
+use Rattle.rt1553_expand.specs.declared.fault.ExpandFault.TheVariants.{Long, LongComment, Neither}
+use Rattle.rt1553_expand.specs.declared.expanding.Expanded.{Expanded}
+use Rattle.rt1553_expand.specs.declared.expanding.Expanded.TheVariants.{Script, Refused, TooLong}
+use Rattle.rt1553_expand.specs.declared.expanding.UnexpandedLine.{UnexpandedLine}
+use Rattle.rt1553_expand.specs.Message.{SaidMessage, message_in}
+use Rattle.rt1553_expand.specs.Events.{message_events}
+
+-- what stands in the script for a line: its text, of so many lines, and the events of them
+pub record Expansion : Type 0 where
+  pub text : List ℕ
+  pub events : List Event
+  pub lines : ℕ
+
+abbrev pub events_said : Option Event → List Event
+events_said None = []
+events_said (Some e) = e ∷ []
+
+-- a line of a script stays as it is
+abbrev pub kept : List ℕ → Option Event → Expansion
+kept line said = record { text = line ++ 10 ∷ []; events = events_said said; lines = 1 }
+
+-- a message gives a line for each of its events
+abbrev pub from_events : List Event → Expansion
+from_events es = record { text = script_text es; events = es; lines = length es }
+
+abbrev pub message_expansion : Bus → Result SaidMessage ExpandFault → Result Expansion ExpandFault
+message_expansion bus (Err fault) = Err fault
+message_expansion bus (Ok message) = Ok (from_events (message_events bus message))
+
+abbrev pub by_bus_letter : Option Bus → List ℕ → Result Expansion ExpandFault
+by_bus_letter None text = Err Neither
+by_bus_letter (Some bus) text = message_expansion bus (message_in text)
+
+abbrev pub by_meaning : List ℕ → Result (Option Event) LineFault → Result Expansion ExpandFault
+by_meaning line (Ok said) = if nat_lt 64 (length line) then Err LongComment else Ok (kept line said)
+by_meaning line (Err fault) = by_bus_letter (bus_first line) (drop 2 line)
+
+-- what stands in the script for a line of the text, or why the line is refused
+abbrev pub expansion_of : List ℕ → Result Expansion ExpandFault
+expansion_of line = if nat_lt 256 (length line) then Err Long else by_meaning line (meaning line)
+
+abbrev pub expanded_text : Result Expansion ExpandFault → List ℕ
+expanded_text (Ok expansion) = expansion.text
+expanded_text (Err fault) = []
+
+abbrev pub expanded_events : Result Expansion ExpandFault → List Event
+expanded_events (Ok expansion) = expansion.events
+expanded_events (Err fault) = []
+
+abbrev pub expanded_lines : Result Expansion ExpandFault → ℕ
+expanded_lines (Ok expansion) = expansion.lines
+expanded_lines (Err fault) = 0
+
+-- what stands in the script for lines, one behind the other
+abbrev pub script_in : List (List ℕ) → List ℕ
+script_in lines = flat_map (λ line. expanded_text (expansion_of line)) lines
+
+-- its events
+abbrev pub all_events : List (List ℕ) → List Event
+all_events lines = flat_map (λ line. expanded_events (expansion_of line)) lines
+
+-- how many lines these are
+abbrev pub line_count : List (List ℕ) → ℕ
+line_count lines = sum_by (λ line. expanded_lines (expansion_of line)) lines
+
+-- a line that is refused, by its number, and why
+pub record Refusal : Type 0 where
+  pub line : ℕ
+  pub fault : ExpandFault
+
+abbrev pub refusal_at : ℕ → Result Expansion ExpandFault → List Refusal
+refusal_at n (Ok expansion) = []
+refusal_at n (Err fault) = record { line = n; fault = fault } ∷ []
+
+-- the lines that are refused, of which the first has number n
+unfoldable pub refusals_from : ℕ → List (List ℕ) → List Refusal
+refusals_from n [] = []
+refusals_from n (line ∷ lines) = refusal_at n (expansion_of line) ++ refusals_from (n + 1) lines
+
+-- those of a text
+abbrev pub refusals_in : List ℕ → List Refusal
+refusals_in text = refusals_from 1 (lines_of text)
+
+abbrev pub refusal_of : UnexpandedLine → Refusal
+refusal_of line = record { line = line.line; fault = line.fault }
+
+-- What a text is expanded to. The three exclude one another: some lines are refused, and these are all of them; none is, and
+-- the script would have over 1,048,576 lines; or this is the script.
+abbrev pub IsExpansion : List ℕ → Expanded → Type 0
+IsExpansion text (Refused lines) = (map refusal_of lines.items ≡ refusals_in text) × (refusals_in text ≢ [])
+IsExpansion text TooLong = (refusals_in text ≡ []) × (1048576 < line_count (lines_of text))
+IsExpansion text (Script script) = (refusals_in text ≡ []) × (line_count (lines_of text) ≤ 1048576) × (script.items ≡ script_in (lines_of text))
+
+-- a fact of the script, where there is one
+abbrev pub IfScript : Expanded → (List ℕ → Type 0) → Type 0
+IfScript (Script script) p = p script.items
+IfScript (Refused lines) p = Unit {0}
+IfScript TooLong p = Unit {0}

@@ -1,0 +1,4 @@
+pub mod Message
+pub mod Events
+pub mod Expansion
+pub mod inner

@@ -1,0 +1,144 @@
+//! Where a line stops being one that can be expanded.
+ghost use Rattle.std.specs.Prelude.{◌≡◌, ◌≤◌, ◌<◌, ◌+◌, length, IfSome, option_map};
+
+use crate::fault::ExpandFault;
+use crate::message::{MOST, cut, words_wanted};
+use line_format::{FieldKind, field};
+use refused_lines::misfit_of;
+use rt1553_tool::{WordLineFault, read_word_line};
+
+/// How many bytes a comment may have.
+const MAX_COMMENT: usize = 64;
+
+/// How many bytes of the text are white space, up to the first that is none.
+fn blanks(text: &[u8]) -> usize
+    ensures { result ≤ length text.now }
+{
+    let mut len = 0;
+    while len < text.len() && text[len].is_ascii_whitespace() {
+        len += 1;
+    }
+    len
+}
+
+/// How many bytes of the text are no white space, up to the first that is.
+fn part_len(text: &[u8]) -> usize
+    ensures { result ≤ length text.now }
+{
+    let mut len = 0;
+    while len < text.len() && !text[len].is_ascii_whitespace() {
+        len += 1;
+    }
+    len
+}
+
+/// How many bytes stand before the part of this number, from 0; all where there is no such part.
+fn before_part(text: &[u8], number: usize) -> usize
+    ensures { result ≤ length text.now }
+{
+    let mut at = blanks(text);
+    for _ in 0..number {
+        at += part_len(&text[at..]);
+        at += blanks(&text[at..]);
+    }
+    at
+}
+
+/// How many bytes stand before the first part of a status word that names no bit.
+fn before_bit(text: &[u8]) -> usize
+    ensures { result ≤ length text.now }
+{
+    let mut at = before_part(text, 2);
+    for _ in 0..MOST {
+        let end = at + part_len(&text[at..]);
+        if read_word_line(&text[..end]).is_err() {
+            return at;
+        }
+        at = end + blanks(&text[end..]);
+    }
+    at
+}
+
+/// How many bytes of what is to say a word stand before what does not fit.
+fn before_fault(text: &[u8], fault: WordLineFault) -> usize
+    ensures { result ≤ length text.now }
+{
+    let number = match fault {
+        WordLineFault::Long | WordLineFault::Name => 0,
+        WordLineFault::Address | WordLineFault::Digits => 1,
+        WordLineFault::Subaddress | WordLineFault::Code | WordLineFault::Parity => 2,
+        WordLineFault::Count | WordLineFault::Direction => 3,
+        WordLineFault::ModeSubaddress => 4,
+        WordLineFault::Bit => return before_bit(text),
+        WordLineFault::Much => last_part(text),
+    };
+    before_part(text, number)
+}
+
+/// The number of the first part behind all that the word has, by its name.
+fn last_part(text: &[u8]) -> usize
+    ensures { result ≤ 5 }
+{
+    let start = blanks(text);
+    match &text[start..start + part_len(&text[start..])] {
+        b"mode" => 5,
+        b"rx" | b"tx" => 4,
+        b"data" => 2,
+        _ => 3,
+    }
+}
+
+/// How many bytes stand before the data word that is missing or is none, or before what stands behind the last one.
+fn before_data(word: &[u8], text: &[u8]) -> usize
+    ensures { result ≤ length text.now }
+{
+    let wanted = match read_word_line(word) {
+        Ok(line) => words_wanted(line.fields),
+        Err(_) => 0,
+    };
+    let mut rest = text;
+    for _ in 0..wanted {
+        let Some((_, others)) = field(rest, FieldKind::Word) else {
+            return text.len() - rest.len();
+        };
+        rest = others;
+    }
+    text.len() - rest.len()
+}
+
+/// How many bytes of a message stand before what does not fit.
+fn before_misfit(text: &[u8], fault: ExpandFault) -> usize
+    ensures { result ≤ length text.now }
+{
+    let (head, data) = cut(text, b":");
+    let (word, from) = cut(head, b" from ");
+    match (fault, from, data) {
+        (ExpandFault::Comment, ..) => cut(text, b"#").0.len(),
+        (ExpandFault::Word(fault), ..) => before_fault(word, fault),
+        (ExpandFault::NotReceive, ..) => word.len(),
+        (ExpandFault::Sender, Some(from), _) => head.len() - from.len(),
+        (ExpandFault::DataWord | ExpandFault::Much, _, Some(data)) => {
+            text.len() - data.len() + before_data(word, data)
+        }
+        (ExpandFault::DataWord | ExpandFault::Much, _, None) => text.len(),
+        _ => 0,
+    }
+}
+
+/// The column of the first byte of a line that doesn't fit, from 1, where the line is refused for this; the one behind the line
+/// where more is wanted. As well as can be said: only its bounds are proved.
+pub fn column_of(line: &[u8], fault: ExpandFault) -> usize
+    ensures low { 0 < result }
+    ensures high { result ≤ length line.now + 257 }
+{
+    match fault {
+        ExpandFault::Long => MOST + 1,
+        ExpandFault::LongComment => MAX_COMMENT + 1,
+        ExpandFault::Neither => match misfit_of(line) {
+            Some(misfit) => misfit.column,
+            None => 1,
+        },
+        _ if line.len() < 2 => 1,
+        _ => before_misfit(&line[2..], fault) + 3,
+    }
+}

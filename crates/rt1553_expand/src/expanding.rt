@@ -1,0 +1,210 @@
+//! Texts of events and messages, expanded to scripts.
+ghost use Rattle.std.specs.Prelude.{ℕ, ◌≡◌, ◌≢◌, ◌≤◌, ◌<◌, ◌+◌, ◌++◌, [], List, drop, length, map, true, false, Ok, Err, IfOk, IfErr, IfSome, OnOk, MatchOption};
+ghost use Rattle.terminal_rules.specs.declared.event.Event.{Event};
+ghost use Rattle.script_lines.specs.Line.{bus_first};
+ghost use Rattle.script_lines.specs.Text.{lines_of, NoLineFeed};
+ghost use Rattle.bus_script.specs.Reading.{reading, adds, nothing};
+ghost use Rattle.rt1553_expand.specs.Expansion.{expansion_of, expanded_text, expanded_lines, script_in, all_events, line_count, refusal_at, refusals_in, refusal_of, by_bus_letter, IsExpansion, IfScript};
+ghost use Rattle.rt1553_expand.specs.inner.Read.{expansion_by, IsWritable, LinesRead};
+ghost use Rattle.rt1553_expand.specs.inner.Added.{Added};
+
+use crate::column::column_of;
+use crate::fault::ExpandFault;
+use crate::message::{BusMessage, MOST, read_message};
+use crate::writing::{message_lines, push_message};
+use bus_terminal::Event;
+use bus_word::Bus;
+use refused_lines::first_line;
+use script_lines::{read_bus, read_event};
+use std::alloc::{AllocError, Global};
+
+/// How many bytes a line of a script may have, its line feed not counted.
+const MAX_LINE: usize = 64;
+
+/// How many lines a script may have.
+const MAX_LINES: usize = 1_048_576;
+
+/// A line that is not expanded.
+#[derive(Clone, Copy, Debug, PartialEq, Eq)]
+pub struct UnexpandedLine {
+    /// Its number, from 1.
+    pub line: u64,
+    /// The first byte that doesn't fit, from 1; the one behind the line where more is wanted.
+    pub column: usize,
+    /// Why it is refused.
+    pub fault: ExpandFault,
+}
+
+/// What a text is expanded to.
+#[derive(Drop)]
+pub enum Expanded {
+    /// The script.
+    Script(Vec<u8>),
+    /// The lines that are refused, all of them, in their order.
+    Refused(Vec<UnexpandedLine>),
+    /// No line is refused, and the script would have over 1,048,576 lines.
+    TooLong,
+}
+
+/// What was read of a line.
+#[derive(Drop)]
+pub enum ReadLine {
+    /// A line of a script, with its event.
+    Kept(Option<Event>),
+    /// A message on this bus.
+    Written(Bus, BusMessage),
+}
+
+/// A script so far.
+#[derive(Drop)]
+pub struct ScriptSoFar {
+    /// Its text.
+    pub text: Vec<u8>,
+    /// How many lines that is.
+    pub lines: usize,
+}
+
+/// LinesRead a line that is no line of a script.
+fn read_message_line(line: &[u8]) -> Result<ReadLine, ExpandFault>
+    requires { length line.now ≤ 256 }
+    ensures said { IfOk result (λ read. by_bus_letter (bus_first line.now) (drop 2 line.now) ≡ Ok (expansion_by line.now read)) }
+    ensures refused { IfErr result (λ fault. by_bus_letter (bus_first line.now) (drop 2 line.now) ≡ Err fault) }
+    ensures sound { IfOk result (IsWritable line.now) }
+{
+    let Some(bus) = read_bus(line) else {
+        return Err(ExpandFault::Neither);
+    };
+    let message = read_message(&line[2..])?;
+    Ok(ReadLine::Written(bus, message))
+}
+
+/// LinesRead a line.
+fn read_line(line: &[u8]) -> Result<ReadLine, ExpandFault>
+    ensures said { IfOk result (λ read. expansion_of line.now ≡ Ok (expansion_by line.now read)) }
+    ensures refused { IfErr result (λ fault. expansion_of line.now ≡ Err fault) }
+    ensures sound { IfOk result (IsWritable line.now) }
+{
+    if line.len() > MOST {
+        return Err(ExpandFault::Long);
+    }
+    match read_event(line) {
+        Ok(_) if line.len() > MAX_LINE => Err(ExpandFault::LongComment),
+        Ok(said) => Ok(ReadLine::Kept(said)),
+        Err(_) => read_message_line(line),
+    }
+}
+
+/// How many lines of a script stand for a line that was read, 1 to 70.
+fn lines_for(read: &ReadLine, line: &[u8]) -> usize
+    requires { IsWritable line.now read.now }
+    ensures value { result ≡ (expansion_by line.now read.now).lines }
+    ensures few { result ≤ 70 }
+{
+    match read {
+        ReadLine::Kept(_) => 1,
+        ReadLine::Written(_, message) => message_lines(message),
+    }
+}
+
+/// Writes what stands in the script for a line that was read.
+fn push_read(out: &mut Vec<u8>, line: &[u8], read: &ReadLine) -> Result<(), AllocError>
+    requires { IsWritable line.now read.now }
+    ensures text { OnOk result (out.new.items ≡ out.old.items ++ (expansion_by line.now read.now).text) }
+    ensures read { OnOk result (NoLineFeed line.now → (n : ℕ) → LinesRead n (expansion_by line.now read.now)) }
+{
+    match read {
+        ReadLine::Kept(_) => {
+            out.extend_from_slice(line)?;
+            out.push(b'\n')?;
+        }
+        ReadLine::Written(bus, message) => push_message(out, *bus, message)?,
+    }
+    Ok(())
+}
+
+/// Adds what stands in the script for a line, where that has room. Tells whether it has.
+fn add_line(script: &mut ScriptSoFar, line: &[u8]) -> Result<bool, AllocError>
+    requires { script.old.lines ≤ 1048576 }
+    ensures added { IfOk result (λ has_room. has_room ≡ true → Added script.old.text.items script.new.text.items line.now script.old.lines script.new.lines) }
+    ensures full { IfOk result (λ has_room. has_room ≡ false → 1048576 < script.old.lines + expanded_lines (expansion_of line.now)) }
+{
+    let Ok(read) = read_line(line) else {
+        return Ok(true);
+    };
+    let lines = script.lines + lines_for(&read, line);
+    if lines > MAX_LINES {
+        return Ok(false);
+    }
+    push_read(&mut script.text, line, &read)?;
+    script.lines = lines;
+    Ok(true)
+}
+
+/// The script of a text, without what is refused of it; None where it would have over 1,048,576 lines.
+fn script_of(alloc: Global, text: &[u8]) -> Result<Option<Vec<u8>>, AllocError>
+    ensures text { IfOk result (λ o. IfSome o (λ script. script.items ≡ script_in (lines_of text.now))) }
+    ensures count { IfOk result (λ o. MatchOption o (1048576 < line_count (lines_of text.now)) (λ _. line_count (lines_of text.now) ≤ 1048576)) }
+    ensures read { IfOk result (λ o. IfSome o (λ script. reading 0 (lines_of script.items) ≡ adds (all_events (lines_of text.now)) nothing)) }
+{
+    let mut script = ScriptSoFar {
+        text: Vec::new(alloc),
+        lines: 0,
+    };
+    let mut rest = text;
+    while !rest.is_empty() {
+        let (line, more) = first_line(rest);
+        if !add_line(&mut script, line)? {
+            return Ok(None);
+        }
+        rest = more;
+    }
+    Ok(Some(script.text))
+}
+
+/// Adds a line of this number where it is refused.
+fn push_refused(found: &mut Vec<UnexpandedLine>, line: &[u8], number: u64) -> Result<(), AllocError>
+    ensures { OnOk result (map refusal_of found.new.items ≡ map refusal_of found.old.items ++ refusal_at number (expansion_of line.now)) }
+{
+    if let Err(fault) = read_line(line) {
+        found.push(UnexpandedLine {
+            line: number,
+            column: column_of(line, fault),
+            fault,
+        })?;
+    }
+    Ok(())
+}
+
+/// Tells each line of a text that is refused, in their order.
+fn unexpanded_lines(alloc: Global, text: &[u8]) -> Result<Vec<UnexpandedLine>, AllocError>
+    ensures { IfOk result (λ found. map refusal_of found.items ≡ refusals_in text.now) }
+{
+    let mut found = Vec::new(alloc);
+    let mut rest = text;
+    let mut number = 1u64;
+    while !rest.is_empty() {
+        let (line, more) = first_line(rest);
+        push_refused(&mut found, line, number)?;
+        number += 1;
+        rest = more;
+    }
+    Ok(found)
+}
+
+/// Expands a text, line by line. A line of a script, a comment and an empty line stay as they are. A message, which is the
+/// letter of a bus and a space, a word by the names of its fields as `read_word_line` reads it, perhaps ` from ` with the address
+/// and the subaddress of the terminal that sends, and perhaps a colon and data words, gives the lines of its events. Any other
+/// line, one of over 256 bytes and a comment of over 64 are refused. The only error is out of memory.
+pub fn expand(alloc: Global, text: &[u8]) -> Result<Expanded, AllocError>
+    ensures expansion { IfOk result (IsExpansion text.now) }
+    ensures read { IfOk result (λ expanded. IfScript expanded (λ script. reading 0 (lines_of script) ≡ adds (all_events (lines_of text.now)) nothing)) }
+{
+    let refused = unexpanded_lines(alloc, text)?;
+    if !refused.is_empty() {
+        return Ok(Expanded::Refused(refused));
+    }
+    match script_of(alloc, text)? {
+        Some(script) => Ok(Expanded::Script(script)),
+        None => Ok(Expanded::TooLong),
+    }
+}

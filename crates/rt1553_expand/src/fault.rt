@@ -1,0 +1,63 @@
+//! Why a line is not expanded.
+
+use rt1553_tool::WordLineFault;
+use thiserror::Error;
+
+/// Why a line is refused that is to be expanded.
+#[derive(Clone, Copy, Debug, PartialEq, Eq, Error)]
+pub enum ExpandFault {
+    /// It has over 256 bytes before its line feed.
+    #[error("over 256 bytes before the line feed")]
+    Long,
+    /// It is a comment of over 64 bytes before its line feed.
+    #[error("a comment of over 64 bytes: a script has none that long")]
+    LongComment,
+    /// It is no line of a script, and no bus stands at its front, so that it is no message.
+    #[error("neither a line of a script nor a message, which begins with A or B and a space")]
+    Neither,
+    /// Something in a message is marked as a comment by `#`.
+    #[error("a comment behind a message: a comment is a line of its own")]
+    Comment,
+    /// What stands behind the bus, up to `from` or the colon, says no word.
+    #[error("{}", word_fault_text(*.0))]
+    Word(WordLineFault),
+    /// What stands behind the bus says a word by its digits, and is no line of a script.
+    #[error("a message names its fields, by rx, tx, mode, status or data")]
+    ByDigits,
+    /// `from` stands behind something else than `rx`.
+    #[error("from stands behind rx alone: the terminal of rx receives what another sends")]
+    NotReceive,
+    /// What stands behind `from` is not the address and the subaddress of another terminal.
+    #[error("wanted behind from: the address of another terminal, 0 to 30, and its subaddress, 1 to 30")]
+    Sender,
+    /// A data word is missing, or is none.
+    #[error("a data word is wanted: one space and four hexadecimal digits, with small letters")]
+    DataWord,
+    /// Something stands behind all that is wanted.
+    #[error("nothing more is wanted: the message has all its data words")]
+    Much,
+}
+
+/// Why what is to say a word does not.
+fn word_fault_text(fault: WordLineFault) -> &'static str {
+    match fault {
+        WordLineFault::Long => "a word is said in at most 128 bytes",
+        WordLineFault::Name => {
+            "wanted behind a bus: rx, tx, mode, status or data for a message; c, d, gap or noise for an event"
+        }
+        WordLineFault::Address => "an address is 0 to 30, or all for a command",
+        WordLineFault::Subaddress => "a subaddress is 1 to 30",
+        WordLineFault::Count => "a count is 1 to 32",
+        WordLineFault::Code => "a mode code is 0 to 31",
+        WordLineFault::Direction => {
+            "tx or rx is wanted behind a mode code that has no row in the table"
+        }
+        WordLineFault::ModeSubaddress => "the subaddress of a mode code is 0 or 31",
+        WordLineFault::Bit => {
+            "a status has error, instrumentation, service, reserved1 to 3, broadcast, busy, subsystem, accept, terminal"
+        }
+        WordLineFault::Digits => "a word is four hexadecimal digits",
+        WordLineFault::Parity => "a parity bit is 0 or 1",
+        WordLineFault::Much => "nothing stands behind the last field",
+    }
+}

@@ -1,0 +1,13 @@
+//! Scripts that people can write: messages of a bus controller, each expanded to the events of a script.
+#![tactic(auto)]
+
+mod column;
+mod expanding;
+mod fault;
+mod message;
+#[cfg(test)]
+mod tests;
+mod writing;
+
+pub use expanding::{Expanded, UnexpandedLine, expand};
+pub use fault::ExpandFault;

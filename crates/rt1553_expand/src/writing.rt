@@ -1,0 +1,163 @@
+//! Messages, written as the lines of a script.
+ghost use Rattle.std.specs.Prelude.{◌≡◌, ◌≤◌, ◌+◌, [], ◌∷◌, ◌++◌, length, replicate, Ok, Some, IfOk, IfSome, OnOk};
+ghost use Rattle.bus_word.specs.declared.word.Bus.{Bus};
+ghost use Rattle.bus_word.specs.Command.{AreOfTheirWidth};
+ghost use Rattle.terminal_rules.specs.declared.event.Event.TheVariants.{Slot as SlotEvent};
+ghost use Rattle.rt1553_tool.specs.Fields.{AreOfWidth, in_word};
+ghost use Rattle.rt1553_tool.specs.WordLines.{status_with};
+ghost use Rattle.rt1553_expand.specs.Events.{word_event, data_events, data_words_sent, reply_words, message_end, sender_events, message_events};
+ghost use Rattle.rt1553_expand.specs.inner.Said.{said_message};
+ghost use Rattle.rt1553_expand.specs.inner.Wrote.{Wrote};
+
+use crate::message::BusMessage;
+use bus_terminal::Event;
+use bus_word::{Bus, Command};
+use rt1553_tool::{CommandFields, StatusFields, WordFields, command_bits, word_with};
+use script_lines::write_event;
+use std::alloc::AllocError;
+
+/// Writes the line of an event.
+fn push_event(out: &mut Vec<u8>, event: Event) -> Result<(), AllocError>
+    ensures { OnOk result (Wrote out.old.items out.new.items (event ∷ [])) }
+{
+    let line = write_event(&event);
+    out.extend_from_slice(line.as_str().as_bytes())?;
+    out.push(b'\n')?;
+    Ok(())
+}
+
+/// Writes the line of a word with these fields.
+fn push_word(out: &mut Vec<u8>, bus: Bus, fields: WordFields) -> Result<(), AllocError>
+    requires { AreOfWidth fields }
+    ensures { OnOk result (Wrote out.old.items out.new.items (word_event bus fields ∷ [])) }
+{
+    push_event(out, Event::Word(bus, word_with(fields)))
+}
+
+/// Writes the lines of data words.
+fn push_data(out: &mut Vec<u8>, bus: Bus, words: &[u16]) -> Result<(), AllocError>
+    ensures { OnOk result (Wrote out.old.items out.new.items (data_events bus words.now)) }
+{
+    for word in words {
+        push_word(out, bus, WordFields::Data(*word))?;
+    }
+    Ok(())
+}
+
+/// Writes so many slots.
+fn push_slots(out: &mut Vec<u8>, count: u8) -> Result<(), AllocError>
+    ensures { OnOk result (Wrote out.old.items out.new.items (replicate count SlotEvent)) }
+{
+    for _ in 0..count {
+        push_event(out, Event::Slot)?;
+    }
+    Ok(())
+}
+
+/// How many data words a terminal sends behind its status word in the reply to a command, 0 to 32.
+fn data_words_sent(command: Command) -> u8
+    ensures value { result ≡ data_words_sent command }
+    ensures few { result ≤ 32 }
+{
+    if !command.transmit() {
+        0
+    } else if !command.is_mode() {
+        command.count()
+    } else if command.code() >= 16 {
+        1
+    } else {
+        0
+    }
+}
+
+/// How many words the reply to a command can have, 0 to 33.
+fn reply_words(command: Command) -> u8
+    ensures value { result ≡ reply_words command }
+    ensures few { result ≤ 33 }
+{
+    if command.is_broadcast() {
+        0
+    } else {
+        data_words_sent(command) + 1
+    }
+}
+
+/// Writes what comes behind a message that begins with this word.
+fn push_end(out: &mut Vec<u8>, bus: Bus, first: WordFields) -> Result<(), AllocError>
+    requires { AreOfWidth first }
+    ensures { OnOk result (Wrote out.old.items out.new.items (message_end bus first)) }
+{
+    if let WordFields::Command(command) = first {
+        push_event(out, Event::Gap(bus))?;
+        push_slots(out, reply_words(Command::of(command_bits(command))))?;
+    }
+    Ok(())
+}
+
+/// The status word of a terminal, without a bit that is set.
+fn plain_status(address: u8) -> StatusFields
+    ensures { result ≡ status_with address [] }
+{
+    StatusFields {
+        address,
+        error: false,
+        instrumentation: false,
+        service: false,
+        reserved: 0,
+        broadcast: false,
+        busy: false,
+        subsystem: false,
+        accept: false,
+        terminal: false,
+    }
+}
+
+/// Writes what comes from and to the terminal that sends in a transfer, up to its data words.
+fn push_sender(out: &mut Vec<u8>, bus: Bus, sender: Option<CommandFields>) -> Result<(), AllocError>
+    requires { IfSome sender (λ s. AreOfTheirWidth (in_word s)) }
+    ensures { OnOk result (Wrote out.old.items out.new.items (sender_events bus sender)) }
+{
+    if let Some(command) = sender {
+        push_word(out, bus, WordFields::Command(command))?;
+        push_event(out, Event::Gap(bus))?;
+        push_word(out, bus, WordFields::Status(plain_status(command.address)))?;
+    }
+    Ok(())
+}
+
+/// How many lines a message ends with that begins with this word, 0 to 34.
+fn end_lines(first: WordFields) -> usize
+    requires { AreOfWidth first }
+    ensures value { (bus : Bus) → result ≡ length (message_end bus first) }
+    ensures few { result ≤ 34 }
+{
+    match first {
+        WordFields::Command(command) => {
+            usize::from(reply_words(Command::of(command_bits(command)))) + 1
+        }
+        _ => 0,
+    }
+}
+
+/// How many lines a message has, 1 to 70.
+pub fn message_lines(message: &BusMessage) -> usize
+    requires { AreOfWidth message.now.first }
+    ensures value { (bus : Bus) → result ≡ length (message_events bus (said_message message.now)) }
+    ensures few { result ≤ 70 }
+{
+    let of_sender = if message.sender.is_some() { 3 } else { 0 };
+    1 + of_sender + message.words.len() + end_lines(message.first)
+}
+
+/// Writes the lines of a message.
+pub fn push_message(out: &mut Vec<u8>, bus: Bus, message: &BusMessage) -> Result<(), AllocError>
+    requires width { AreOfWidth message.now.first }
+    requires sender { IfSome message.now.sender (λ s. AreOfTheirWidth (in_word s)) }
+    ensures { OnOk result (Wrote out.old.items out.new.items (message_events bus (said_message message.now))) }
+{
+    push_word(out, bus, message.first)?;
+    push_sender(out, bus, message.sender)?;
+    push_data(out, bus, message.words.as_slice())?;
+    push_end(out, bus, message.first)?;
+    Ok(())
+}
