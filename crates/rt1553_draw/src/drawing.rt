@@ -1,8 +1,9 @@
 //! Drawings of a run: as one, or message by message.
-ghost use Rattle.std.specs.Prelude.{◌≡◌, ◌≢◌, Some, None, OnOk, IfErr};
+ghost use Rattle.std.specs.Prelude.{◌≡◌, ◌≢◌, Some, None, OnOk, IfOk, IfErr, filter};
 ghost use Rattle.script_lines.specs.Text.{lines_of};
 ghost use Rattle.bus_script.specs.Reading.{reading};
 ghost use Rattle.rt1553_draw.specs.Refused.{refusal};
+ghost use Rattle.rt1553_draw.specs.inner.Drawn.{stands_in};
 
 use crate::DrawFault;
 use crate::part::{DrawnMessage, MessageTitle};
@@ -144,4 +145,36 @@ pub fn draw_folded(alloc: Global, normal: &Normal, script: &[u8]) -> Result<Stri
 {
     let parts = plan(alloc, normal, script)?;
     Ok(folds_of(alloc, parts.as_slice())?)
+}
+
+/// The messages of which an event stands in one of these lines, in their order.
+fn standing_in(
+    alloc: Global,
+    parts: Vec<DrawnMessage>,
+    lines: &[u64],
+) -> Result<Vec<DrawnMessage>, AllocError>
+    ensures { IfOk result (λ kept. kept.items ≡ filter (stands_in lines.now) parts.items) }
+{
+    let mut kept = Vec::new(alloc);
+    for part in parts {
+        if part.has_one_of(lines) {
+            kept.push(part)?;
+        }
+    }
+    Ok(kept)
+}
+
+/// Draws, like `draw_folded`, only the messages of which an event stands in one of these lines of the script, numbered from 1.
+pub fn draw_lines(
+    alloc: Global,
+    normal: &Normal,
+    script: &[u8],
+    lines: &[u64],
+) -> Result<String, DrawFault>
+    ensures drawn { OnOk result (refusal (reading 0 (lines_of script.now)) ≡ None) }
+    ensures refused { IfErr result (λ fault. fault ≢ DrawFault.Memory → refusal (reading 0 (lines_of script.now)) ≡ Some fault) }
+{
+    let parts = plan(alloc, normal, script)?;
+    let kept = standing_in(alloc, parts, lines)?;
+    Ok(folds_of(alloc, kept.as_slice())?)
 }

@@ -13,7 +13,7 @@ mod row;
 mod shape;
 mod style;
 
-pub use drawing::{draw, draw_folded};
+pub use drawing::{draw, draw_folded, draw_lines};
 pub use fault::DrawFault;
 pub use numbered::MAX_EVENTS;
-pub use page::page_of;
+pub use page::{page_of, push_escaped, push_front, push_keys};

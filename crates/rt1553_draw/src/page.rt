@@ -17,8 +17,8 @@ const KEYS: [(&str, &str); 7] = [
     ("given", "what its subsystem does"),
 ];
 
-/// Writes a character as it stands in a page: what would begin something else there goes by its name, and a control
-/// character, which no page may have, but for the line feed, by the replacement character.
+/// Writes a character as it stands in a page: what would begin or end something else there goes by its name, and what no text of
+/// XML may have, a control character but for the line feed, or U+FFFE or U+FFFF, by the replacement character.
 fn push_escaped_char(page: &mut String, c: char) -> Result<(), AllocError>
     ensures { OnOk result (string_bytes page.new ≡ string_bytes page.old ++ escaped_char c) }
 {
@@ -28,17 +28,19 @@ fn push_escaped_char(page: &mut String, c: char) -> Result<(), AllocError>
         page.push_str("&gt;")
     } else if c == '&' {
         page.push_str("&amp;")
+    } else if c == '"' {
+        page.push_str("&quot;")
     } else if c == '\n' {
         page.push_str("\n")
-    } else if c.is_control() {
+    } else if c.is_control() || c == '\u{fffe}' || c == '\u{ffff}' {
         page.push('\u{fffd}')
     } else {
         page.push(c)
     }
 }
 
-/// Writes a text as it stands in a page, character by character.
-fn push_escaped(page: &mut String, text: &str) -> Result<(), AllocError>
+/// Writes a text as it stands in a page or in another text of XML, there also as the value of an attribute between `"`.
+pub fn push_escaped(page: &mut String, text: &str) -> Result<(), AllocError>
     ensures { OnOk result (Escapes text.now (string_bytes page.old) (string_bytes page.new)) }
 {
     for c in text.chars() {
@@ -47,8 +49,8 @@ fn push_escaped(page: &mut String, text: &str) -> Result<(), AllocError>
     Ok(())
 }
 
-/// What the colours and lines of a drawing say.
-fn push_keys(page: &mut String) -> Result<(), AllocError> {
+/// Writes what the colours and lines of a drawing say, as a list.
+pub fn push_keys(page: &mut String) -> Result<(), AllocError> {
     page.push_str("<ul class=\"keys\">\n")?;
     for (class, what) in KEYS {
         writeln!(
@@ -64,8 +66,9 @@ fn push_keys(page: &mut String) -> Result<(), AllocError> {
     )
 }
 
-/// Writes the begin of a page with this title, up to where the drawings stand.
-fn push_front(page: &mut String, title: &str) -> Result<(), AllocError> {
+/// Writes the begin of a page that can have drawings: HTML, and well-formed XML too. Its first heading is the title. The style is CSS
+/// for what stands on the page beside drawings, and may be empty; it has no `<` and no `&`.
+pub fn push_front(page: &mut String, title: &str, style: &str) -> Result<(), AllocError> {
     page.push_str(
         "<!DOCTYPE html>\n<html xmlns=\"http://www.w3.org/1999/xhtml\" lang=\"en\"><head><meta charset=\"utf-8\"/>",
     )?;
@@ -76,10 +79,10 @@ fn push_front(page: &mut String, title: &str) -> Result<(), AllocError> {
     page.push_str("</title><style>")?;
     page.push_str(PAGE_STYLE)?;
     page.push_str(DRAWING_STYLE)?;
+    page.push_str(style)?;
     page.push_str("</style></head><body>\n<h1>")?;
     push_escaped(page, title)?;
-    page.push_str("</h1>\n")?;
-    push_keys(page)
+    page.push_str("</h1>\n")
 }
 
 /// Makes a page of its own of drawings: HTML, and well-formed XML too, with this title above them and this table, a text of
@@ -91,7 +94,8 @@ pub fn page_of(
     table: &str,
 ) -> Result<String, AllocError> {
     let mut page = String::new(alloc);
-    push_front(&mut page, title)?;
+    push_front(&mut page, title, "")?;
+    push_keys(&mut page)?;
     page.push_str(drawings)?;
     page.push_str("<h2>What is legal, and what the terminal holds</h2>\n<pre>")?;
     push_escaped(&mut page, table)?;

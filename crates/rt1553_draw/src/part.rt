@@ -1,6 +1,6 @@
 //! A message as it is drawn: its columns, one for each event.
 ghost use Rattle.std.specs.Prelude.{◌≡◌, ◌∷◌, ◌++◌, [], OnOk};
-ghost use Rattle.rt1553_draw.specs.inner.Drawn.{drawn_of};
+ghost use Rattle.rt1553_draw.specs.inner.Drawn.{drawn_of, stands_in};
 
 use crate::column::Column;
 use crate::course::Course;
@@ -92,6 +92,18 @@ impl DrawnMessage {
             [.., column] => column.of.line,
             [] => 0,
         }
+    }
+
+    /// Whether one of its events stands in one of these lines.
+    pub fn has_one_of(&self, lines: &[u64]) -> bool
+        ensures { result ≡ stands_in lines.now self.now }
+    {
+        for column in self.columns.as_slice() {
+            if lines.contains(&column.of.line) {
+                return true;
+            }
+        }
+        false
     }
 
     /// What came first on a bus.

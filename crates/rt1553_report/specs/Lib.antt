@@ -1,0 +1,4 @@
+pub mod Results
+pub mod Clauses
+pub mod Ascii
+pub mod Rules

@@ -1,0 +1,86 @@
+//! Results as JSON.
+ghost use Rattle.std.specs.Prelude.{IfSome};
+ghost use Rattle.std.specs.String.{string_bytes};
+ghost use Rattle.rt1553_report.specs.Ascii.{IsPlainText};
+
+use crate::ascii::in_ascii;
+use crate::result::{ScriptOutcome, ScriptResult};
+use crate::told::answer_told;
+use rt1553_files::escaped;
+use rt1553_verify::WrongAnswer;
+use serde::Serialize;
+use std::alloc::{AllocError, Global};
+
+/// An event that was not answered as stated. A line of the transcript has no line feed, and is null for nothing.
+#[derive(Drop, Serialize)]
+struct WrongEntry {
+    line: u64,
+    expected: Option<String>,
+    came: Option<String>,
+}
+
+/// What came of a script.
+#[derive(Drop, Serialize)]
+struct ResultLine<'a> {
+    file: &'a str,
+    /// Null where the script names none.
+    profile: Option<&'a str>,
+    passes: bool,
+    /// Null where the script was not played.
+    answers: Option<usize>,
+    clauses: Vec<String>,
+    differences: Vec<WrongEntry>,
+    /// Null where the script was played.
+    fault: Option<&'a str>,
+}
+
+/// Clauses as they are printed.
+fn clauses_told(alloc: Global, clauses: &[Vec<u8>]) -> Result<Vec<String>, AllocError> {
+    let mut told = Vec::new(alloc);
+    for clause in clauses {
+        told.push(escaped(alloc, clause.as_slice())?)?;
+    }
+    Ok(told)
+}
+
+/// Each event that was not answered as stated.
+fn wrong_lines(alloc: Global, wrong: &[WrongAnswer]) -> Result<Vec<WrongEntry>, AllocError> {
+    let mut lines = Vec::new(alloc);
+    for one in wrong {
+        lines.push(WrongEntry {
+            line: one.line,
+            expected: answer_told(alloc, one.expected.as_slice())?,
+            came: answer_told(alloc, one.came.as_slice())?,
+        })?;
+    }
+    Ok(lines)
+}
+
+/// The result of a script as it is written.
+fn line_of<'a>(alloc: Global, of: &'a ScriptResult) -> Result<ResultLine<'a>, AllocError> {
+    let (answers, differences, fault) = match &of.outcome {
+        ScriptOutcome::Played { answers, wrong, .. } => {
+            (Some(*answers), wrong_lines(alloc, wrong.as_slice())?, None)
+        }
+        ScriptOutcome::NotPlayed(reason) => (None, Vec::new(alloc), Some(reason.as_str())),
+    };
+    Ok(ResultLine {
+        file: of.file.as_str(),
+        profile: of.profile.as_ref().map(|name| name.as_str()),
+        passes: of.outcome.passes(),
+        answers,
+        clauses: clauses_told(alloc, of.clauses.as_slice())?,
+        differences,
+        fault,
+    })
+}
+
+/// The result of a script as an object of JSON, one line without a line feed, of printable characters of ASCII. None where memory
+/// runs out.
+pub fn result_json(alloc: Global, of: &ScriptResult) -> Option<String>
+    ensures { IfSome result (λ text. IsPlainText (string_bytes text)) }
+{
+    let line = line_of(alloc, of).ok()?;
+    let json = serde_json::to_string(alloc, &line).ok()?;
+    in_ascii(alloc, json.as_str()).ok()
+}

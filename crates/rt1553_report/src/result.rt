@@ -1,0 +1,103 @@
+//! What came of scripts that state their answers.
+ghost use Rattle.std.specs.Prelude.{◌≡◌, length, filter};
+ghost use Rattle.rt1553_report.specs.Results.{outcome_passes, outcome_fails, outcome_is_missing, totals_of};
+
+use rt1553_verify::WrongAnswer;
+
+/// What came of a script.
+#[derive(Drop)]
+pub enum ScriptOutcome {
+    /// It was played.
+    Played {
+        /// How many answers it states.
+        answers: usize,
+        /// Each event that was not answered as stated.
+        wrong: Vec<WrongAnswer>,
+        /// The messages in which these events stand, drawn for a page; None where they were not drawn.
+        drawing: Option<String>,
+    },
+    /// It can't be read or is refused, for this reason: one line.
+    NotPlayed(String),
+}
+
+impl ScriptOutcome {
+    /// Whether it was played, and each event was answered as stated.
+    pub fn passes(&self) -> bool
+        ensures { result ≡ outcome_passes self.now }
+    {
+        match self {
+            ScriptOutcome::Played { wrong, .. } => wrong.is_empty(),
+            ScriptOutcome::NotPlayed(_) => false,
+        }
+    }
+
+    /// Whether it was played, and an event was not answered as stated.
+    pub fn fails(&self) -> bool
+        ensures { result ≡ outcome_fails self.now }
+    {
+        match self {
+            ScriptOutcome::Played { wrong, .. } => !wrong.is_empty(),
+            ScriptOutcome::NotPlayed(_) => false,
+        }
+    }
+
+    /// Whether it can't be read or is refused.
+    pub fn is_not_played(&self) -> bool
+        ensures { result ≡ outcome_is_missing self.now }
+    {
+        match self {
+            ScriptOutcome::Played { .. } => false,
+            ScriptOutcome::NotPlayed(_) => true,
+        }
+    }
+}
+
+/// A script, and what came of it.
+#[derive(Drop)]
+pub struct ScriptResult {
+    /// The name of its file, as it was given.
+    pub file: String,
+    /// The name of the profile, as it was given or as the script names it; None where it names none.
+    pub profile: Option<String>,
+    /// The clauses that the script names, each once.
+    pub clauses: Vec<Vec<u8>>,
+    pub outcome: ScriptOutcome,
+}
+
+/// How many scripts there are, and how many of them did not pass.
+#[derive(Clone, Copy, Debug, PartialEq, Eq)]
+pub struct Totals {
+    pub tests: usize,
+    /// Those in which an event was not answered as stated.
+    pub failures: usize,
+    /// Those that can't be read or are refused.
+    pub errors: usize,
+}
+
+/// How many scripts have an event that was not answered as stated.
+fn failures_in(results: &[ScriptResult]) -> usize
+    ensures { result ≡ length (filter (λ r. outcome_fails r.outcome) results.now) }
+{
+    results.iter().filter(|it| it.outcome.fails()).count()
+}
+
+/// How many scripts were not played.
+fn errors_in(results: &[ScriptResult]) -> usize
+    ensures { result ≡ length (filter (λ r. outcome_is_missing r.outcome) results.now) }
+{
+    results
+        .iter()
+        .filter(|it| it.outcome.is_not_played())
+        .count()
+}
+
+/// Counts scripts by what came of them.
+pub fn totals_of(results: &[ScriptResult]) -> Totals
+    ensures { result ≡ totals_of results.now }
+{
+    Totals {
+        tests: results.len(),
+        failures: failures_in(results),
+        errors: errors_in(results),
+    }
+}
