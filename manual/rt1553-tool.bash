@@ -3,12 +3,13 @@ _rt1553_tool() {
     local now=${COMP_WORDS[COMP_CWORD]} before=${COMP_WORDS[COMP_CWORD - 1]} flags='' kinds=() many='' count=0 index kind
     COMPREPLY=()
     if ((COMP_CWORD == 1)); then
-        mapfile -t COMPREPLY < <(compgen -W 'lint check-script verify toml explain differ acceptance draw words live --help --version' -- "$now")
+        mapfile -t COMPREPLY < <(compgen -W 'lint check-script verify import expand toml explain differ acceptance draw words live --help --version' -- "$now")
         return
     fi
     case ${COMP_WORDS[1]}:$before in
-        lint:--format) mapfile -t COMPREPLY < <(compgen -W 'text json' -- "$now"); return ;;
+        lint:--format) mapfile -t COMPREPLY < <(compgen -W 'text json sarif' -- "$now"); return ;;
         verify:--profiles) mapfile -t COMPREPLY < <(compgen -d -- "$now"); return ;;
+        verify:--format) mapfile -t COMPREPLY < <(compgen -W 'text json junit html' -- "$now"); return ;;
         explain:--format) mapfile -t COMPREPLY < <(compgen -W 'text json' -- "$now"); return ;;
         differ:--format) mapfile -t COMPREPLY < <(compgen -W 'text json' -- "$now"); return ;;
         acceptance:--against) mapfile -t COMPREPLY < <(compgen -f -X '!*.csv' -- "$now"; compgen -d -- "$now"); return ;;
@@ -17,7 +18,9 @@ _rt1553_tool() {
     case ${COMP_WORDS[1]} in
         lint) flags='--format --help' kinds=(profile) many='profile' ;;
         check-script) flags='--help' kinds=(script) many='script' ;;
-        verify) flags='--summary --profiles --help' kinds=(profile script) many='script' ;;
+        verify) flags='--summary --bus-only --profiles --format --help' kinds=(profile script) many='script' ;;
+        import) flags='--help' kinds=(table) many='' ;;
+        expand) flags='--help' kinds=(messages) many='' ;;
         toml) flags='--help' kinds=(profile) many='' ;;
         explain) flags='--format --help' kinds=(profile) many='' ;;
         differ) flags='--scripts --format --help' kinds=(profile profile) many='' ;;
@@ -31,6 +34,7 @@ _rt1553_tool() {
         case ${COMP_WORDS[1]}:${COMP_WORDS[index]} in
             lint:--format) index=$((index + 1)) ;;
             verify:--profiles) kinds=("${kinds[@]:1}") index=$((index + 1)) ;;
+            verify:--format) index=$((index + 1)) ;;
             explain:--format) index=$((index + 1)) ;;
             differ:--format) index=$((index + 1)) ;;
             acceptance:--against) index=$((index + 1)) ;;

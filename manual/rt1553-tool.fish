@@ -3,14 +3,20 @@ complete -c rt1553-tool -f
 complete -c rt1553-tool -n __fish_use_subcommand -l help -d 'lists the commands'
 complete -c rt1553-tool -n __fish_use_subcommand -l version -d 'prints the versions'
 complete -c rt1553-tool -n __fish_use_subcommand -a lint -d 'Prints all faults of profiles, and what has no effect'
-complete -c rt1553-tool -n '__fish_seen_subcommand_from lint' -l format -x -a 'text json' -d 'the output format'
+complete -c rt1553-tool -n '__fish_seen_subcommand_from lint' -l format -x -a 'text json sarif' -d 'the output format'
 complete -c rt1553-tool -n '__fish_seen_subcommand_from lint' -F
 complete -c rt1553-tool -n __fish_use_subcommand -a check-script -d 'Prints which lines of scripts are refused, where and why'
 complete -c rt1553-tool -n '__fish_seen_subcommand_from check-script' -F
 complete -c rt1553-tool -n __fish_use_subcommand -a verify -d 'Prints where a terminal does not answer as scripts state'
 complete -c rt1553-tool -n '__fish_seen_subcommand_from verify' -l summary -d 'prints what passes, too, clause by clause'
+complete -c rt1553-tool -n '__fish_seen_subcommand_from verify' -l bus-only -d 'leaves hand-overs aside that a script does not state'
 complete -c rt1553-tool -n '__fish_seen_subcommand_from verify' -l profiles -x -a '(__fish_complete_directories)' -d 'in place of P: each script names its profile in FOLDER'
+complete -c rt1553-tool -n '__fish_seen_subcommand_from verify' -l format -x -a 'text json junit html' -d 'the output format'
 complete -c rt1553-tool -n '__fish_seen_subcommand_from verify' -F
+complete -c rt1553-tool -n __fish_use_subcommand -a import -d 'Writes the profile that a table means'
+complete -c rt1553-tool -n '__fish_seen_subcommand_from import' -F
+complete -c rt1553-tool -n __fish_use_subcommand -a expand -d 'Writes messages as the lines of a script'
+complete -c rt1553-tool -n '__fish_seen_subcommand_from expand' -F
 complete -c rt1553-tool -n __fish_use_subcommand -a toml -d 'Writes a small profile that means the same terminal'
 complete -c rt1553-tool -n '__fish_seen_subcommand_from toml' -F
 complete -c rt1553-tool -n __fish_use_subcommand -a explain -d 'Prints what a terminal does, as a table'

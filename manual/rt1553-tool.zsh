@@ -6,6 +6,8 @@ _rt1553_tool() {
         'lint:Prints all faults of profiles, and what has no effect'
         'check-script:Prints which lines of scripts are refused, where and why'
         'verify:Prints where a terminal does not answer as scripts state'
+        'import:Writes the profile that a table means'
+        'expand:Writes messages as the lines of a script'
         'toml:Writes a small profile that means the same terminal'
         'explain:Prints what a terminal does, as a table'
         'differ:Prints all differences between two terminals'
@@ -23,9 +25,11 @@ _rt1553_tool() {
     shift words
     ((CURRENT--))
     case $command in
-        lint) _arguments '--help[prints what the command takes]' '--format[the output format]:format:(text json)' '*:P:_files -g "*.(toml|rt1553)(-.)"' ;;
+        lint) _arguments '--help[prints what the command takes]' '--format[the output format]:format:(text json sarif)' '*:P:_files -g "*.(toml|rt1553)(-.)"' ;;
         check-script) _arguments '--help[prints what the command takes]' '*:SCRIPT:_files -g "*.(script)(-.)"' ;;
-        verify) _arguments '--help[prints what the command takes]' '--summary[prints what passes, too, clause by clause]' '(1)--profiles[in place of P\: each script names its profile in FOLDER]:FOLDER:_files -/' '(--profiles)1:P:_files -g "*.(toml|rt1553)(-.)"' '*:SCRIPT:_files -g "*.(script)(-.)"' ;;
+        verify) _arguments '--help[prints what the command takes]' '--summary[prints what passes, too, clause by clause]' '--bus-only[leaves hand-overs aside that a script does not state]' '(1)--profiles[in place of P\: each script names its profile in FOLDER]:FOLDER:_files -/' '--format[the output format]:format:(text json junit html)' '(--profiles)1:P:_files -g "*.(toml|rt1553)(-.)"' '*:SCRIPT:_files -g "*.(script)(-.)"' ;;
+        import) _arguments '--help[prints what the command takes]' '1:TABLE:_files -g "*.(csv)(-.)"' ;;
+        expand) _arguments '--help[prints what the command takes]' '1:MESSAGES:_files -g "*.(messages)(-.)"' ;;
         toml) _arguments '--help[prints what the command takes]' '1:P:_files -g "*.(toml|rt1553)(-.)"' ;;
         explain) _arguments '--help[prints what the command takes]' '--format[the output format]:format:(text json)' '1:P:_files -g "*.(toml|rt1553)(-.)"' ;;
         differ) _arguments '--help[prints what the command takes]' '--scripts[prints the script that shows each difference, if there is one]' '--format[the output format]:format:(text json)' '1:P:_files -g "*.(toml|rt1553)(-.)"' '2:Q:_files -g "*.(toml|rt1553)(-.)"' ;;

@@ -59,6 +59,8 @@ def names(rows, c):
     for word in ["lint", "toml", "explain", "live", "acceptance"]:
         rows.row(f"{word}: absent {c!r}", rows.run(rows.tool, [word, absent]), 1, {4})
         rows.row(f"{word}: refused {c!r}", rows.run(rows.tool, [word, profile]), 0 if word == "lint" else 1, {2})
+    rows.row(f"lint --format json: refused {c!r}", rows.run(rows.tool, ["lint", "--format", "json", profile, absent]), 1, {4})
+    rows.row(f"lint --format sarif: refused {c!r}", rows.run(rows.tool, ["lint", "--format", "sarif", profile, absent]), 1, {4})
     rows.row(f"check-script: absent {c!r}", rows.run(rows.tool, ["check-script", absent]), 1, {4})
     rows.row(f"check-script: refused {c!r}", rows.run(rows.tool, ["check-script", script]), 0, {2})
     for word in ["verify", "draw"]:
@@ -70,8 +72,16 @@ def names(rows, c):
     rows.row(f"against: refused {c!r}", rows.run(rows.tool, ["acceptance", "--against", results, "five"]), 1, {2})
     rows.write(script, "A c 2c02\nA gap\nslot\n")
     rows.row(f"verify: differs {c!r}", rows.run(rows.tool, ["verify", "--summary", "five", script]), 0, {1})
+    for word in ["json", "junit", "html"]:
+        rows.row(f"verify --format {word}: differs {c!r}", rows.run(rows.tool, ["verify", "--format", word, "five", script]), 0, {1})
+        rows.row(f"verify --format {word}: absent {c!r}", rows.run(rows.tool, ["verify", "--format", word, "five", absent]), 1, {4})
     rows.row(f"draw: a page {c!r}", rows.run(rows.tool, ["draw", "--html", "five", script]), 0, {0})
     rows.row(f"folder {c!r}", rows.run(rows.tool, ["verify", "--profiles", absent, "named"]), 1, {4})
+    rows.write(script, "kind\nA gup\n")
+    for word in ["import", "expand"]:
+        rows.row(f"{word}: absent {c!r}", rows.run(rows.tool, [word, absent]), 1, {4})
+    rows.row(f"import: refused {c!r}", rows.run(rows.tool, ["import", script]), 1, {2})
+    rows.row(f"expand: refused {c!r}", rows.run(rows.tool, ["expand", script]), 2, {2})
     for word in ["check", "canon"]:
         rows.row(f"rt1553 {word}: absent {c!r}", rows.run(rows.rt1553, [word, absent]), 1, {4})
 
@@ -89,8 +99,20 @@ def profiles(rows, c):
     rows.write("syntax", f"address = 5\nx{c}y = [\n")
     for name in ["key", "text", "syntax"]:
         rows.row(f"lint: {name} {c!r}", rows.run(rows.tool, ["lint", name]), 0, {2})
+        rows.row(f"lint --format sarif: {name} {c!r}", rows.run(rows.tool, ["lint", "--format", "sarif", name]), 0, {2})
         rows.row(f"toml: {name} {c!r}", rows.run(rows.tool, ["toml", name]), 1, {2})
         rows.row(f"rt1553 check: {name} {c!r}", rows.run(rows.rt1553, ["check", name]), 1, {2})
+
+
+def tables(rows, c):
+    """Names of columns and rows, kinds and values of a table."""
+    rows.write("table", f'kind,name,value,"col{c}umn",words,subaddress\naddress,,5,,,\nreceive,"na{c}me",,,2,1\n')
+    rows.row(f"import: names {c!r}", rows.run(rows.tool, ["import", "table"]), 1, {0})
+    for kind, value in [(f"ki{c}nd", ""), ("address", f"5{c}6")]:
+        rows.write("table", f'kind,value\n"{kind}","{value}"\n')
+        rows.row(f"import: {kind!r} {value!r}", rows.run(rows.tool, ["import", "table"]), None, {2})
+    rows.write("messages", f"A rx 5 3 1: 00{c}1\n{c}A gap\n")
+    rows.row(f"expand: messages {c!r}", rows.run(rows.tool, ["expand", "messages"]), None, {2})
 
 
 def scripts(rows, c):
@@ -101,6 +123,9 @@ def scripts(rows, c):
     rows.row(f"a clause {c!r}", rows.run(rows.tool, ["verify", "--summary", "five", "clause"]), 0, {0})
     rows.write("stated", f"A c 2c02\nA gap\nslot\n#> A s {c}\n#+ {c}x\n")
     rows.row(f"an answer {c!r}", rows.run(rows.tool, ["verify", "five", "stated"]), 0, {1})
+    for word in ["json", "junit", "html"]:
+        rows.row(f"--format {word}: a clause {c!r}", rows.run(rows.tool, ["verify", "--format", word, "five", "clause"]), 0, {0})
+        rows.row(f"--format {word}: an answer {c!r}", rows.run(rows.tool, ["verify", "--format", word, "five", "stated"]), 0, {1})
     rows.write("names", f"# Profile: no{c}ne\nA gap\n")
     rows.row(f"a profile {c!r}", rows.run(rows.tool, ["verify", "--profiles", ".", "names"]), 1, {4})
     line = f"# {c}\nrx {c}\nx{c}\nc 2862 {c}\n".encode()
@@ -129,6 +154,7 @@ def main():
         for c in HOSTILE:
             names(rows, c)
             arguments(rows, c)
+            tables(rows, c)
             profiles(rows, c)
             scripts(rows, c)
         others(rows)

@@ -23,12 +23,14 @@ WORDS = TOP / "manual/arguments.toml"
 VERSION = TOP / "crates/rt1553_tool_args/src/args.rt"
 MADE = "made by scripts/manual.py of manual/arguments.toml"
 # the endings by which files are completed
-ENDINGS = {"profile": ["toml", "rt1553"], "script": ["script"], "results": ["csv"], "folder": []}
+ENDINGS = {
+    "profile": ["toml", "rt1553"], "script": ["script"], "messages": ["messages"], "results": ["csv"], "table": ["csv"], "folder": [],
+}
 
 
 def version():
     """The version of the programs, and that of the canonical text which they write."""
-    found = re.search(r'^const VERSION: &str = "(\S+) \(canonical text (\d+)\)";$', VERSION.read_text(), re.MULTILINE)
+    found = re.search(r'^pub const VERSION: &str = "(\S+) \(canonical text (\d+)\)";$', VERSION.read_text(), re.MULTILINE)
     return found[1], found[2]
 
 

@@ -136,6 +136,90 @@ summary_rows() {
     count 'a summary of the protocol tests' $?
 }
 
+# what `import` makes of tables: the profiles of examples/documents/, and each fault with its place
+import_rows() {
+    local path name
+    input ''
+    for path in examples/documents/*.csv; do
+        name=$(basename "$path" .csv)
+        cp "$path" "$work/$name.csv"
+        (cd "$work" && "$program" import "$name.csv" >"$name.toml" 2>stderr)
+        [[ $? -eq 0 ]] && cmp -s "$work/$name.toml" "examples/documents/$name.toml" && ! grep -qv ': warning: the column "remarks" is left out$' "$work/stderr" &&
+            "$program" lint "$work/$name.toml" >/dev/null
+        count "the table $name" $?
+    done
+    for path in tests/tool/import/*.csv; do
+        name=$(basename "$path")
+        cp "$path" "$work/$name"
+        row "the faults of $name" 2 '' "$(sed "s/^/$name:/" "${path%.csv}.told")\n" import "$name"
+    done
+    printf 'kind;value\r\n"address";"5"\r\n' >"$work/office.csv"
+    row 'semicolons, quotes and CR LF' 0 'address = 5\n' '' import office.csv
+    printf '\xef\xbb\xbfkind,value\naddress,0x1f\n' >"$work/marked.csv"
+    row 'a byte order mark, and an address that is too large' 2 '' 'marked.csv:2:2: error: profile: root: address is out of range\n' import marked.csv
+    printf 'kind,value\naddress,\xff\n' >"$work/bytes.csv"
+    row 'a table that is not UTF-8' 2 '' 'bytes.csv: table: not UTF-8\n' import bytes.csv
+    row 'a table that is not there' 4 '' 'file: cannot read none\n' import none
+}
+
+# what `expand` makes of messages
+expand_rows() {
+    input ''
+    script messages '# to 5\nA rx 5 3 2: 0001 00af\nA tx 5 14 2\nA mode 5 17: 1234\nA mode 5 2\nA mode 5 18\nB rx all 3 1: 0001\nA rx 5 3 1 from 6 4: 00ff\nB status 6 busy\nslot\n#> A s 2800\n\nA c 2c02'
+    row 'messages' 0 \
+        '# to 5\nA c 2862\nA d 0001\nA d 00af\nA gap\nslot\nA c 2dc2\nA gap\nslot\nslot\nslot\nA c 2811\nA d 1234\nA gap\nslot\nA c 2c02\nA gap\nslot\nA c 2c12\nA gap\nslot\nslot\nB c f861\nB d 0001\nB gap\nA c 2861\nA c 3481\nA gap\nA c 3000\nA d 00ff\nA gap\nslot\nB c 3008\nslot\n#> A s 2800\n\nA c 2c02\n' '' \
+        expand messages
+    script refused 'A rx 5 3 2: 0001\nA gap\nA rx 5 31 2\nA tx 5 1 1: 0001\nC gap\nA rx 5 3 1 from 5 4: 0001\n'
+    (cd "$work" && "$program" expand refused >stdout 2>stderr)
+    [[ $? -eq 2 && ! -s $work/stdout && $(cut -d : -f 1-4 "$work/stderr") == $'refused:1:17: error\nrefused:3:8: error\nrefused:4:12: error\nrefused:5:1: error\nrefused:6:17: error' ]]
+    count 'messages that are refused' $?
+    (cd "$work" && "$program" expand messages >expanded && "$program" check-script expanded && "$program" expand expanded | cmp -s - expanded)
+    count 'an expanded script stays as it is' $?
+    yes 'A rx 5 3 1: 0001' | head -n 262145 >"$work/many"
+    row 'an expanded script that would be too long' 2 '' 'many: script: too many lines\n' expand many
+    row 'messages that are not there' 4 '' 'file: cannot read none\n' expand none
+}
+
+# answers stated by masks, and on the bus alone: over the profile `address = 5`, which hands over what is received
+mask_rows() {
+    local received='A c 2862\nA d 0001\nA d 00af\nA gap\n'
+    printf 'address = 5\n[[rule]]\nsubaddresses = 3\ndirection = "receive"\ncounts = 2\n' >"$work/receiver"
+    script masked 'A c 2c02\nA gap\nslot\n#~ A s 2...\n'
+    script dots 'A c 2c02\nA gap\nslot\n#~ A . 2800\n'
+    script longer 'A c 2c02\nA gap\nslot\n#~ A s 2...0\n'
+    script shorter 'A c 2c02\nA gap\nslot\n#~ A s 2..\n'
+    script some 'A c 2c02\nA gap\nslot\n#~ *\n'
+    script missing 'A c 2c02\nA gap\n#~ *\nslot\n#~ A s ....\nslot\n#~ *\n'
+    script literal 'A c 2c02\nA gap\nslot\n#> A s ....\n'
+    script going "${received}"'#~ hand receive own 03\n#+ .... 00a.\nslot\n#~ A s 2.00\n'
+    script star_goes "${received}"'#~ *\n#+ 0001\n'
+    script twice_masked 'A c 2c02\nA gap\nslot\n#> A s 2800\n#~ *\n'
+    script word_masked 'A c 2c02\n#~ *\n'
+    script hand_masked 'A c 2c02\nA gap\n#~ A s ....\n'
+    script bus "${received}"'slot\n#> A s 2800\n'
+    script stated "${received}"'#> hand receive own 03 0001 00ae\nslot\n#> A s 2800\n'
+    script silent_bus "${received}"'slot\n'
+    input ''
+    row 'a mask' 0 '' '' verify receiver masked some going
+    row 'a dot stands for no letter but a to f' 1 'dots:3: expected A . 2800, came A s 2800\ndots: 1 differ\n' '' verify receiver dots
+    row 'a mask of more bytes' 1 'longer:3: expected A s 2...0, came A s 2800\nlonger: 1 differ\n' '' verify receiver longer
+    row 'a mask of fewer bytes' 1 'shorter:3: expected A s 2.., came A s 2800\nshorter: 1 differ\n' '' verify receiver shorter
+    row 'no line where some line is stated' 1 'missing:2: expected *, came nothing\nmissing:6: expected *, came nothing\nmissing: 2 differ\n' '' \
+        verify receiver missing
+    row 'a dot in an answer without a mask' 1 'literal:3: expected A s ...., came A s 2800\nliteral: 1 differ\n' '' verify receiver literal
+    row 'a mask counts as an answer' 0 'masked: passed (1 answers)\nno clause: 1 of 1 scripts pass\nall: 1 of 1 scripts pass\n' '' verify --summary receiver masked
+    row 'any line that goes on' 2 '' 'star_goes: script: line 6: not behind the event that it answers\n' verify receiver star_goes
+    row 'a mask behind an answer' 2 '' 'twice_masked: script: line 5: not behind the event that it answers\n' verify receiver twice_masked
+    row 'any line behind a word' 2 '' 'word_masked: script: line 2: not behind the event that it answers\n' verify receiver word_masked
+    row 'a mask of a word behind a gap' 2 '' 'hand_masked: script: line 3: not behind the event that it answers\n' verify receiver hand_masked
+    row 'a hand-over that is not stated' 1 'bus:4: expected nothing, came hand receive own 03 0001 00af\nbus: 1 differ\n' '' verify receiver bus
+    row 'the same on the bus alone' 0 '' '' verify --bus-only receiver bus
+    row 'a hand-over that is stated, on the bus alone' 1 \
+        'stated:4: expected hand receive own 03 0001 00ae, came hand receive own 03 0001 00af\nstated: 1 differ\n' '' verify --bus-only receiver stated
+    row 'a word that is not stated, on the bus alone' 1 'silent_bus:5: expected nothing, came A s 2800\nsilent_bus: 1 differ\n' '' \
+        verify --bus-only receiver silent_bus
+}
+
 # what `verify` tells of small scripts over the profile `address = 5`
 verify_rows() {
     printf 'address = 5\n' >"$work/five"
@@ -528,6 +612,15 @@ differ_beside_compare() {
     done
 }
 
+# reports of results and findings, as other programs read them
+report_rows() {
+    local line
+    line=$(python3 scripts/reports.py "$program" 2>&1 | tee "$work/reports" | tail -n 1)
+    [[ $line == *' passed, 0 failed' ]] || head -n 20 "$work/reports"
+    [[ $line == *' passed, 0 failed' ]]
+    count "reports: $line" $?
+}
+
 # what is written as JSON fits its schema
 schema_rows() {
     local path
@@ -568,9 +661,13 @@ for program in "$@"; do
     rt1553=${program//rt1553_tool_program/rt1553_program}
     rt1553=${rt1553%-tool}
     verify_rows
+    mask_rows
+    import_rows
+    expand_rows
     summary_rows
     check_script_rows
     hostile_row
+    report_rows
     validation
     toml_rows
     bus_word_rows

@@ -13,7 +13,9 @@ use rt1553::{canonical, load};
 use rt1553_acceptance::label_of;
 use rt1553_differ::{differences, explain};
 use rt1553_draw::draw;
+use rt1553_expand::{Expanded, expand};
 use rt1553_files::escaped;
+use rt1553_import::import_table;
 use rt1553_lint::lint;
 use rt1553_results::{compare_results, read_results};
 use rt1553_toml::toml_of;
@@ -256,4 +258,29 @@ fn a_key_without_effect(rt: HostRuntime) -> Result<(), Fail> {
     let spare = is_spare_setting(rt.alloc(), &profile, Setting::Vector)?;
     assert!(rt; spare);
     Ok(())
+}
+
+#[test]
+fn messages_of_a_script(rt: HostRuntime) -> Result<(), Fail> {
+    let expanded = expand(rt.alloc(), b"A rx 5 3 1: 0001\n")?;
+    let Expanded::Script(script) = expanded else {
+        panic!(rt; "the message is refused");
+    };
+    assert_eq!(rt;
+        script.as_slice(),
+        b"A c 2861\nA d 0001\nA gap\nslot\n".as_slice()
+    );
+    Ok(())
+}
+
+#[test]
+fn a_table_of_a_document(rt: HostRuntime) {
+    let imported = import_table(
+        rt.alloc(),
+        b"kind,value,subaddress,words\naddress,5,,\nreceive,,1-3,2\n",
+    );
+    let Ok(imported) = imported else {
+        panic!(rt; "the table is refused");
+    };
+    assert!(rt; read_profile(rt.alloc(), imported.profile.as_str().as_bytes()).is_ok());
 }

@@ -1,5 +1,5 @@
 -- What the command line asks for, by what clap found in it.
-use Rattle.std.specs.Prelude.{ℕ, ◌≡◌, ◌≢◌, Bool, false, if◌then◌else◌, codes, List, [], ◌∷◌, map, Option, Some, None, option_map}
+use Rattle.std.specs.Prelude.{ℕ, ◌≡◌, ◌≢◌, Bool, true, false, if◌then◌else◌, codes, List, [], ◌∷◌, map, Option, Some, None, option_map}
 use Rattle.std.specs.Option.{unwrap_or}
 use Rattle.std.specs.Str.{bytes_eq}
 use Rattle.std.specs.Borrow.{Bor}
@@ -8,9 +8,13 @@ use Rattle.clap.specs.Walk.{rows_of}
 use Rattle.clap.specs.declared.parser.matches.Found.{Found}
 use Rattle.clap.specs.declared.parser.matches.ArgMatches.{ArgMatches}
 use Rattle.rt1553_tool_args.specs.declared.command.ToolCommand.{ToolCommand}
-use Rattle.rt1553_tool_args.specs.declared.command.ToolCommand.TheVariants.{Lint, CheckScript, Verify, Toml, Explain, Differ, Acceptance, Against, Draw, Words, Live}
+use Rattle.rt1553_tool_args.specs.declared.command.ToolCommand.TheVariants.{Lint, CheckScript, Verify, Import, Expand, Toml, Explain, Differ, Acceptance, Against, Draw, Words, Live}
 use Rattle.rt1553_tool_args.specs.declared.command.Profiles.{Profiles}
 use Rattle.rt1553_tool_args.specs.declared.command.Profiles.TheVariants.{One, Folder}
+use Rattle.rt1553_tool_args.specs.declared.command.LintFormat.{LintFormat}
+use Rattle.rt1553_tool_args.specs.declared.command.LintFormat.TheVariants as lint
+use Rattle.rt1553_tool_args.specs.declared.command.ReportFormat.{ReportFormat}
+use Rattle.rt1553_tool_args.specs.declared.command.ReportFormat.TheVariants as report
 use Rattle.rt1553_tool_args.specs.declared.command.TestFormat.{TestFormat}
 use Rattle.rt1553_tool_args.specs.declared.command.TestFormat.TheVariants.{Script, Csv, Json}
 
@@ -54,11 +58,30 @@ PlaysTo f (Folder folder) scripts = HasValue f (codes "profiles") folder.now × 
 abbrev pub format_of : Option Text → TestFormat
 format_of o = if is_value (codes "csv") o then Csv else if is_value (codes "json") o then Json else Script
 
+-- how findings are to be written
+abbrev pub lint_format_of : Option Text → LintFormat
+lint_format_of o = if is_value (codes "json") o then lint.Json else if is_value (codes "sarif") o then lint.Sarif else lint.Text
+
+-- how results of scripts are to be written
+abbrev pub report_format_of : Option Text → ReportFormat
+report_format_of o =
+    if is_value (codes "json") o then report.Json
+    else if is_value (codes "junit") o then report.Junit
+    else if is_value (codes "html") o then report.Html
+    else report.Text
+
+-- how results are to be written, and whether what passes is, too, which only the text leaves open
+abbrev pub AsksReport : Found → ReportFormat → Bool → Type 0
+AsksReport f format summary =
+    (format ≡ report_format_of (first_value f (codes "format"))) × (summary ≡ is_given f (codes "summary")) × (summary ≡ true → format ≡ report.Text)
+
 -- the name of a command
 abbrev pub command_name : ToolCommand → Text
-command_name (Lint files json) = codes "lint"
+command_name (Lint files format) = codes "lint"
 command_name (CheckScript scripts) = codes "check-script"
-command_name (Verify profiles scripts summary) = codes "verify"
+command_name (Verify profiles scripts bus_only format summary) = codes "verify"
+command_name (Import table) = codes "import"
+command_name (Expand messages) = codes "expand"
 command_name (Toml p) = codes "toml"
 command_name (Explain p json) = codes "explain"
 command_name (Differ p q scripts json) = codes "differ"
@@ -70,9 +93,12 @@ command_name (Live p) = codes "live"
 
 -- what a command says of its arguments
 abbrev pub Asks : Found → ToolCommand → Type 0
-Asks f (Lint files json) = (texts_of files.items ≡ all_values f (codes "file")) × (json ≡ is_json f)
+Asks f (Lint files format) = (texts_of files.items ≡ all_values f (codes "file")) × (format ≡ lint_format_of (first_value f (codes "format")))
 Asks f (CheckScript scripts) = texts_of scripts.items ≡ all_values f (codes "script")
-Asks f (Verify profiles scripts summary) = PlaysTo f profiles (texts_of scripts.items) × (scripts.items ≢ []) × (summary ≡ is_given f (codes "summary"))
+Asks f (Verify profiles scripts bus_only format summary) =
+    PlaysTo f profiles (texts_of scripts.items) × (scripts.items ≢ []) × (bus_only ≡ is_given f (codes "bus-only")) × AsksReport f format summary
+Asks f (Import table) = HasValue f (codes "table") table.now
+Asks f (Expand messages) = HasValue f (codes "messages") messages.now
 Asks f (Toml p) = HasValue f (codes "profile") p.now
 Asks f (Explain p json) = HasValue f (codes "profile") p.now × (json ≡ is_json f)
 Asks f (Differ p q scripts json) = HasValue f (codes "profile") p.now × HasValue f (codes "other") q.now × (scripts ≡ is_given f (codes "scripts")) × (json ≡ is_json f)

@@ -12,7 +12,7 @@ use rt1553_files::escaped;
 use std::alloc::{AllocError, AllocFailed, Global};
 
 /// What `--version` tells: the program's version, and that of the canonical text that it reads and writes.
-const VERSION: &str = "0.1 (canonical text 2)";
+pub const VERSION: &str = "0.1 (canonical text 2)";
 
 /// Why no job is given.
 #[derive(Clone, Copy)]

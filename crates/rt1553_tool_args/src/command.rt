@@ -1,7 +1,7 @@
 //! What the command line asks for.
 ghost use Rattle.std.specs.Prelude.{◌≡◌, IfOk, codes, option_map};
 ghost use Rattle.clap.specs.Words.{first_value, found_of};
-ghost use Rattle.rt1553_tool_args.specs.Commands.{Asks, HasValue, IsAskedBy, all_values, command_name, format_of, is_given, is_json, texts_of};
+ghost use Rattle.rt1553_tool_args.specs.Commands.{Asks, AsksReport, HasValue, IsAskedBy, all_values, command_name, format_of, is_given, is_json, lint_format_of, report_format_of, texts_of};
 
 use crate::args::NoCommand;
 use clap::ArgMatches;
@@ -27,13 +27,37 @@ pub enum TestFormat {
     Json,
 }
 
+/// How findings are written.
+#[derive(Clone, Copy)]
+pub enum LintFormat {
+    /// As text, a line each.
+    Text,
+    /// As an object of JSON a line.
+    Json,
+    /// As one document of SARIF 2.1.0.
+    Sarif,
+}
+
+/// How results of scripts are written.
+#[derive(Clone, Copy)]
+pub enum ReportFormat {
+    /// As text.
+    Text,
+    /// As an object of JSON a line.
+    Json,
+    /// As JUnit reports tests, XML.
+    Junit,
+    /// As a page.
+    Html,
+}
+
 /// What the command line asks for. The texts are names of files.
 #[derive(Drop)]
 pub enum ToolCommand<'a> {
     /// All that is wrong with profiles, and what in them has no effect.
     Lint {
         files: Vec<&'a str>,
-        as_json: bool,
+        format: LintFormat,
     },
     /// Which lines of scripts are refused, and why.
     CheckScript(Vec<&'a str>),
@@ -41,8 +65,16 @@ pub enum ToolCommand<'a> {
     Verify {
         profiles: Profiles<'a>,
         scripts: Vec<&'a str>,
+        /// Hand-overs that a script doesn't state are left aside.
+        bus_only: bool,
+        format: ReportFormat,
+        /// What passes, too, clause by clause; only as text.
         summary: bool,
     },
+    /// The profile that a table means.
+    Import(&'a str),
+    /// Messages as the lines of a script.
+    Expand(&'a str),
     /// A small profile that means the same terminal.
     Toml(&'a str),
     /// What a terminal does, as a table.
@@ -113,6 +145,41 @@ fn as_json(given: &ArgMatches<'_>) -> bool
     given.get_str("format") == Some("json")
 }
 
+/// How findings are to be written.
+fn lint_format(given: &ArgMatches<'_>) -> LintFormat
+    ensures { result ≡ lint_format_of (first_value (found_of given.now) (codes "format")) }
+{
+    match given.get_str("format") {
+        Some("json") => LintFormat::Json,
+        Some("sarif") => LintFormat::Sarif,
+        _ => LintFormat::Text,
+    }
+}
+
+/// How results of scripts are to be written.
+fn report_format(given: &ArgMatches<'_>) -> ReportFormat
+    ensures { result ≡ report_format_of (first_value (found_of given.now) (codes "format")) }
+{
+    match given.get_str("format") {
+        Some("json") => ReportFormat::Json,
+        Some("junit") => ReportFormat::Junit,
+        Some("html") => ReportFormat::Html,
+        _ => ReportFormat::Text,
+    }
+}
+
+/// How results of scripts are to be written, and whether what passes is, too. A summary belongs to the text: other formats have all.
+fn report_of(given: &ArgMatches<'_>) -> Result<(ReportFormat, bool), NoCommand>
+    ensures { IfOk result (λ report. AsksReport (found_of given.now) report.0 report.1) }
+{
+    let summary = is_flag_given(given, "summary");
+    match (report_format(given), summary) {
+        (ReportFormat::Text, summary) => Ok((ReportFormat::Text, summary)),
+        (format, false) => Ok((format, false)),
+        (_, true) => Err(NoCommand::Usage),
+    }
+}
+
 /// What `verify` is asked for. With a folder of profiles no profile stands before the scripts.
 fn verify_command<'a>(alloc: Global, given: &ArgMatches<'a>) -> Result<ToolCommand<'a>, NoCommand>
     ensures { IfOk result (λ command. (command_name command ≡ codes "verify") × Asks (found_of given.now) command) }
@@ -130,10 +197,13 @@ fn verify_command<'a>(alloc: Global, given: &ArgMatches<'a>) -> Result<ToolComma
     if scripts.is_empty() {
         return Err(NoCommand::Usage);
     }
+    let (format, summary) = report_of(given)?;
     Ok(ToolCommand::Verify {
         profiles,
         scripts,
-        summary: is_flag_given(given, "summary"),
+        bus_only: is_flag_given(given, "bus-only"),
+        format,
+        summary,
     })
 }
 
@@ -195,10 +265,12 @@ fn command_of<'a>(
     match name {
         "lint" => Ok(ToolCommand::Lint {
             files: all_of(alloc, given, "file")?,
-            as_json: as_json(given),
+            format: lint_format(given),
         }),
         "check-script" => Ok(ToolCommand::CheckScript(all_of(alloc, given, "script")?)),
         "verify" => verify_command(alloc, given),
+        "import" => Ok(ToolCommand::Import(required(given, "table")?)),
+        "expand" => Ok(ToolCommand::Expand(required(given, "messages")?)),
         "toml" => Ok(ToolCommand::Toml(required(given, "profile")?)),
         "explain" => Ok(ToolCommand::Explain {
             profile: required(given, "profile")?,

@@ -5,5 +5,5 @@ mod args;
 mod command;
 mod table;
 
-pub use args::{NoCommand, read_tool_args};
-pub use command::{Profiles, TestFormat, ToolCommand};
+pub use args::{NoCommand, VERSION, read_tool_args};
+pub use command::{LintFormat, Profiles, ReportFormat, TestFormat, ToolCommand};

@@ -48,6 +48,10 @@ const PROFILE: Argument = Argument {
 
 const TEXT_OR_JSON: [&str; 2] = ["text", "json"];
 
+const TEXT_OR_SARIF: [&str; 3] = ["text", "json", "sarif"];
+
+const TEXT_OR_REPORT: [&str; 4] = ["text", "json", "junit", "html"];
+
 const TEXT_OR_TABLE: [&str; 3] = ["text", "csv", "json"];
 
 const FORMAT: Argument = Argument {
@@ -64,7 +68,12 @@ const LINT: [Argument; 2] = [
         value: "P",
         help: "profiles or canonical texts",
     },
-    FORMAT,
+    Argument {
+        id: "format",
+        given: Occurrence::OneOf("text", &TEXT_OR_SARIF),
+        value: "FORMAT",
+        help: "the output format",
+    },
 ];
 
 const CHECK_SCRIPT: [Argument; 1] = [Argument {
@@ -74,7 +83,7 @@ const CHECK_SCRIPT: [Argument; 1] = [Argument {
     help: "scripts",
 }];
 
-const VERIFY: [Argument; 4] = [
+const VERIFY: [Argument; 6] = [
     Argument {
         id: "profile",
         given: Occurrence::OnceOr("profiles"),
@@ -94,12 +103,38 @@ const VERIFY: [Argument; 4] = [
         help: "prints what passes, too, clause by clause",
     },
     Argument {
+        id: "bus-only",
+        given: Occurrence::Flag,
+        value: "",
+        help: "leaves hand-overs aside that a script does not state",
+    },
+    Argument {
         id: "profiles",
         given: Occurrence::Value,
         value: "FOLDER",
         help: "in place of P: each script names its profile in FOLDER",
     },
+    Argument {
+        id: "format",
+        given: Occurrence::OneOf("text", &TEXT_OR_REPORT),
+        value: "FORMAT",
+        help: "the output format",
+    },
 ];
+
+const IMPORT: [Argument; 1] = [Argument {
+    id: "table",
+    given: Occurrence::Once,
+    value: "TABLE",
+    help: "a table in CSV",
+}];
+
+const EXPAND: [Argument; 1] = [Argument {
+    id: "messages",
+    given: Occurrence::Once,
+    value: "MESSAGES",
+    help: "messages, and lines of a script",
+}];
 
 const EXPLAIN: [Argument; 2] = [PROFILE, FORMAT];
 
@@ -155,7 +190,7 @@ const ACCEPTANCE: [Argument; 3] = [
 const ONE_PROFILE: [Argument; 1] = [PROFILE];
 
 /// The commands, in the order of the help.
-pub const COMMANDS: [CommandRow; 10] = [
+pub const COMMANDS: [CommandRow; 12] = [
     CommandRow {
         name: "lint",
         about: "Prints all faults of profiles, and what has no effect",
@@ -173,6 +208,18 @@ pub const COMMANDS: [CommandRow; 10] = [
         about: "Prints where a terminal does not answer as scripts state",
         example: "Example: rt1553-tool verify pump.toml pump.script",
         arguments: &VERIFY,
+    },
+    CommandRow {
+        name: "import",
+        about: "Writes the profile that a table means",
+        example: "Example: rt1553-tool import pump.csv > pump.toml",
+        arguments: &IMPORT,
+    },
+    CommandRow {
+        name: "expand",
+        about: "Writes messages as the lines of a script",
+        example: "Example: rt1553-tool expand pump.messages > pump.script",
+        arguments: &EXPAND,
     },
     CommandRow {
         name: "toml",

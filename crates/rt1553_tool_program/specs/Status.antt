@@ -1,5 +1,5 @@
 -- The statuses that the program ends with.
-use Rattle.std.specs.Prelude.{ℕ, ◌≡◌, ◌≤◌, ◌==◌, if◌then◌else◌, List, [], ◌∷◌, is_some, length}
+use Rattle.std.specs.Prelude.{ℕ, ◌≡◌, ◌≤◌, ◌⊎◌, ◌==◌, if◌then◌else◌, List, [], ◌∷◌, is_some, length}
 use Rattle.std.specs.List.{list_any}
 use Rattle.bus_legal.specs.Parts.{Parts}
 use Rattle.rt1553.specs.Load.{Reaches}
@@ -11,8 +11,14 @@ use Rattle.rt1553_results.specs.declared.results.ResultsFault.TheVariants as res
 use Rattle.rt1553_verify.specs.declared.stated.StatedFault.TheVariants as stated
 use Rattle.rt1553_tool_args.specs.declared.command.ToolCommand.{ToolCommand}
 use Rattle.rt1553_tool_args.specs.declared.command.ToolCommand.TheVariants as tool
+use Rattle.rt1553_expand.specs.declared.expanding.Expanded.{Expanded}
+use Rattle.rt1553_expand.specs.declared.expanding.Expanded.TheVariants as expanded
+use Rattle.rt1553_expand.specs.Expansion.{IsExpansion}
+use Rattle.rt1553_import.specs.declared.fault.TableFault.{TableFault}
+use Rattle.rt1553_import.specs.declared.fault.ImportFault.TheVariants as table
+use Rattle.rt1553_import.specs.Import.{IsImported, HasFaults}
 use Rattle.rt1553_tool_program.specs.declared.fault.ToolFault.{ToolFault}
-use Rattle.rt1553_tool_program.specs.declared.fault.ToolFault.TheVariants.{Memory, File, NoName, Input, Output, Profile, Line, Script, NoProfile, Outside, Drawing, Results, Comparison, NotText, Usage}
+use Rattle.rt1553_tool_program.specs.declared.fault.ToolFault.TheVariants.{Memory, File, NoName, Input, Output, Profile, Line, Script, NoProfile, Outside, Drawing, Results, Comparison, Table, NotText, Usage}
 
 -- 2 for a text that is refused, 3 for arguments that the program does not accept, 4 where a file, a stream or memory failed
 abbrev pub tool_status : ToolFault → ℕ
@@ -29,6 +35,8 @@ tool_status (Results name results.Memory) = 4
 tool_status (Results name fault) = 2
 tool_status (Comparison name compare.Memory) = 4
 tool_status (Comparison name fault) = 2
+tool_status (Table name table.Memory) = 4
+tool_status (Table name fault) = 2
 tool_status NotText = 3
 tool_status Usage = 3
 tool_status Memory = 4
@@ -61,6 +69,21 @@ CanEnd (tool.Live p) status = status ≡ 0
 CanEnd (tool.Differ p q scripts json) status = status ≤ 1
 CanEnd (tool.Against p results) status = status ≤ 1
 CanEnd tool.Words status = status ≤ 1
-CanEnd (tool.Lint files json) status = status ≤ 4
+CanEnd (tool.Lint files format) status = status ≤ 4
 CanEnd (tool.CheckScript files) status = status ≤ 4
-CanEnd (tool.Verify profiles scripts summary) status = status ≤ 4
+CanEnd (tool.Verify profiles scripts bus_only format summary) status = status ≤ 4
+CanEnd (tool.Import table) status = status ≤ 2
+CanEnd (tool.Expand messages) status = status ≤ 2
+
+-- `import` ends with 0 where a table gives a profile, and with 2 where it has faults
+abbrev pub EndsImport : List ℕ → ℕ → Type 0
+EndsImport table status = ((text : List ℕ) × IsImported table text × (status ≡ 0)) ⊎ ((faults : List TableFault) × HasFaults table faults × (status ≡ 2))
+
+-- 0 for a script, 2 where it can't be
+abbrev pub expansion_status : Expanded → ℕ
+expansion_status (expanded.Script script) = 0
+expansion_status _ = 2
+
+-- `expand` ends with the status of what a text is expanded to
+abbrev pub EndsExpansion : List ℕ → ℕ → Type 0
+EndsExpansion text status = (expanded : Expanded) × IsExpansion text expanded × (status ≡ expansion_status expanded)

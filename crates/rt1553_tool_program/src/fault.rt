@@ -6,6 +6,7 @@ use refused_lines::RefusedLine;
 use rt1553::LoadFault;
 use rt1553_draw::DrawFault;
 use rt1553_files::FileFault;
+use rt1553_import::ImportFault;
 use rt1553_results::{CompareFault, ResultsFault};
 use rt1553_verify::StatedFault;
 use std::alloc::{AllocError, AllocFailed};
@@ -53,6 +54,8 @@ pub enum ToolFault {
     NotText,
     /// A word is missing.
     Usage,
+    /// The table of a document can't be read.
+    Table(String, ImportFault),
 }
 
 /// The line of a script that is refused, and why.
@@ -85,6 +88,7 @@ impl fmt::Display for ToolFault {
             ToolFault::Drawing(name, fault) => write!(f, "{name}: {fault}"),
             ToolFault::Results(name, fault) => write!(f, "{name}: {fault}"),
             ToolFault::Comparison(name, fault) => write!(f, "{name}: {fault}"),
+            ToolFault::Table(name, fault) => write!(f, "{name}: {fault}"),
             ToolFault::NoProfile(name) => write!(
                 f,
                 "{name}: script: no line '# Profile: NAME' at its front"
@@ -103,6 +107,7 @@ impl ToolFault {
     /// The status that the program ends with.
     pub fn status(&self) -> u8
         ensures value { result ≡ tool_status self.now }
+        ensures least { 2 ≤ result }
         ensures most { result ≤ 4 }
     {
         match self {
@@ -110,13 +115,15 @@ impl ToolFault {
             | ToolFault::Script(_, StatedFault::Memory)
             | ToolFault::Drawing(_, DrawFault::Memory)
             | ToolFault::Results(_, ResultsFault::Memory)
-            | ToolFault::Comparison(_, CompareFault::Memory) => 4,
+            | ToolFault::Comparison(_, CompareFault::Memory)
+            | ToolFault::Table(_, ImportFault::Memory) => 4,
             ToolFault::Profile(_, _)
             | ToolFault::Line(_, _)
             | ToolFault::Script(_, _)
             | ToolFault::Drawing(_, _)
             | ToolFault::Results(_, _)
             | ToolFault::Comparison(_, _)
+            | ToolFault::Table(_, _)
             | ToolFault::NoProfile(_)
             | ToolFault::Outside(_) => REFUSED,
             ToolFault::NotText | ToolFault::Usage => USAGE,

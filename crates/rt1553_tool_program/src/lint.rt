@@ -7,6 +7,9 @@ use crate::fault::{DIFFERENT, REFUSED, ToolFault};
 use crate::files::{json_line, read_tool_profile, shown, write_bytes};
 use crate::worst::{status_or_stop, worst};
 use rt1553_lint::{Finding, lint};
+use rt1553_report::{LintedFile, in_ascii, sarif_report};
+use rt1553_tool_args::{LintFormat, VERSION};
+use std::alloc::Global;
 use std::io::Write;
 use std::rt::Files;
 
@@ -20,7 +23,10 @@ fn put_finding<R: AllocGlobal, W: Write>(
     output: &mut W,
 ) -> Result<(), ToolFault> {
     if as_json {
-        let line = json_line(finding.to_json(rt.alloc(), name))?;
+        let Some(json) = finding.to_json(rt.alloc(), name) else {
+            return Err(ToolFault::Memory);
+        };
+        let line = json_line(in_ascii(rt.alloc(), json.as_str()).ok())?;
         return write_bytes(output, line.as_str().as_bytes());
     }
     match writeln!(output, "{shown_name}:{finding}") {
@@ -54,39 +60,73 @@ fn status_of_findings(findings: &[Finding]) -> u8
     }
 }
 
-/// Writes what is found in a file, and gives the status to end with.
-fn lint_file<R: Files + AllocGlobal, W: Write>(
+/// Writes what was found in the file of this name, each in a line.
+fn put_findings<R: AllocGlobal, W: Write>(
     rt: &R,
     name: &str,
+    findings: &[Finding],
     as_json: bool,
+    output: &mut W,
+) -> Result<(), ToolFault> {
+    let shown_name = shown(rt, name)?;
+    for finding in findings {
+        put_finding(rt, name, shown_name.as_str(), finding, as_json, output)?;
+    }
+    Ok(())
+}
+
+/// Writes what is found in a file, or keeps it for a document of all files, and gives the status to end with.
+fn lint_file<'a, R: Files + AllocGlobal, W: Write>(
+    rt: &R,
+    name: &'a str,
+    format: LintFormat,
+    kept: &mut Vec<LintedFile<'a>>,
     output: &mut W,
 ) -> Result<u8, ToolFault>
     ensures { IfOk result (λ status. status ≤ 2) }
 {
     let bytes = read_tool_profile(rt, name)?;
-    let shown_name = shown(rt, name)?;
     let findings = lint(rt.alloc(), bytes.as_slice())?;
-    for finding in findings.as_slice() {
-        put_finding(rt, name, shown_name.as_str(), finding, as_json, output)?;
+    let status = status_of_findings(findings.as_slice());
+    match format {
+        LintFormat::Text => put_findings(rt, name, findings.as_slice(), false, output)?,
+        LintFormat::Json => put_findings(rt, name, findings.as_slice(), true, output)?,
+        LintFormat::Sarif => kept.push(LintedFile { name, findings })?,
     }
-    Ok(status_of_findings(findings.as_slice()))
+    Ok(status)
+}
+
+/// Writes the document of all files, where one is asked for.
+fn put_sarif<W: Write>(
+    alloc: Global,
+    format: LintFormat,
+    kept: &[LintedFile<'_>],
+    output: &mut W,
+) -> Result<(), ToolFault> {
+    match format {
+        LintFormat::Sarif => {
+            let text = json_line(sarif_report(alloc, VERSION, kept))?;
+            write_bytes(output, text.as_str().as_bytes())
+        }
+        _ => Ok(()),
+    }
 }
 
 /// Writes what is found in files. The status is the highest that a file asks for.
 pub fn lint_files<R: Files + AllocGlobal + Eprint, W: Write>(
     rt: &R,
     names: &[&str],
-    as_json: bool,
+    format: LintFormat,
     output: &mut W,
 ) -> Result<u8, ToolFault>
     ensures { IfOk result (λ status. status ≤ 4) }
 {
+    let mut kept = Vec::new(rt.alloc());
     let mut status = 0;
     for name in names {
-        status = worst(
-            status,
-            status_or_stop(rt, lint_file(rt, name, as_json, output))?,
-        );
+        let of_file = lint_file(rt, name, format, &mut kept, output);
+        status = worst(status, status_or_stop(rt, of_file)?);
     }
+    put_sarif(rt.alloc(), format, kept.as_slice(), output)?;
     Ok(status)
 }

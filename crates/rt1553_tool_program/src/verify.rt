@@ -1,35 +1,55 @@
 //! The command `verify`: scripts that state their answers are played.
-ghost use Rattle.std.specs.Prelude.{◌≤◌, IfOk};
+ghost use Rattle.std.specs.Prelude.{◌≤◌, ◌==◌, IfOk, length};
 ghost use Rattle.bus_legal.specs.Parts.{Parts};
 ghost use Rattle.rt1553_tool_program.specs.Passing.{IsPlayedTo, SaysOf};
 ghost use Rattle.rt1553_tool_program.specs.Status.{IsLoaded};
 
 use crate::colours::{Ink, put_in};
+use crate::compared::compare_script;
 use crate::fault::{DIFFERENT, ToolFault};
 use crate::files::{load_profile, read_script_file, shown, write_bytes};
+use crate::report::report_files;
 use crate::script_file::first_refused;
-use crate::summary::Summary;
+use crate::summary::put_summary;
 use crate::work::Screen;
 use crate::worst::{status_or_stop, worst};
 use bus_legal::Normal;
-use rt1553_files::escaped;
-use rt1553_tool_args::Profiles;
-use rt1553_verify::{StatedFault, WrongAnswer, answers_in, named, read_stated, wrong_answers};
-use std::alloc::Global;
+use rt1553_report::{TriedScript, clauses_in, difference_told};
+use rt1553_tool_args::{Profiles, ReportFormat};
+use rt1553_verify::{StatedFault, WrongAnswer, named};
+use std::alloc::{AllocError, Global};
 use std::format;
 use std::io::Write;
 use std::rt::Files;
 
 /// Which terminal a script is played to.
 #[derive(Drop)]
-enum Played<'a> {
+pub enum PlayedTo<'a> {
     /// All scripts to one.
     One(Normal),
     /// Each to that of the file of this folder that its line `# Profile: ` names.
     Folder(&'a str),
 }
 
-/// What is written of each script.
+/// How scripts are played.
+#[derive(Drop)]
+pub struct Played<'a> {
+    pub to: PlayedTo<'a>,
+    /// Hand-overs that a script doesn't state are left aside.
+    pub bus_only: bool,
+}
+
+/// What is asked for of the scripts.
+#[derive(Clone, Copy)]
+pub struct AskedReport<'a> {
+    pub profiles: Profiles<'a>,
+    pub bus_only: bool,
+    pub format: ReportFormat,
+    /// What passes, too, clause by clause, as text.
+    pub summary: bool,
+}
+
+/// What is written of each script as text.
 #[derive(Clone, Copy)]
 struct ScriptReport {
     /// That it passes, too.
@@ -72,23 +92,13 @@ impl Played<'_> {
         name: &str,
         script: &[u8],
     ) -> Result<Normal, ToolFault>
-        ensures { IfOk result (IsPlayedTo self.now) }
+        ensures { IfOk result (IsPlayedTo self.now.to) }
     {
-        match self {
-            Played::One(normal) => Ok(*normal),
-            Played::Folder(folder) => profile_in(rt, folder, name, script),
+        match &self.to {
+            PlayedTo::One(normal) => Ok(*normal),
+            PlayedTo::Folder(folder) => profile_in(rt, folder, name, script),
         }
     }
-}
-
-/// Writes a line of a transcript without its line feed, or that there is none.
-fn put_answer<W: Write>(alloc: Global, output: &mut W, answer: &[u8]) -> Result<(), ToolFault> {
-    let line = match answer {
-        [] => return write_bytes(output, b"nothing"),
-        [line @ .., b'\n'] => line,
-        line => line,
-    };
-    write_bytes(output, escaped(alloc, line)?.as_str().as_bytes())
 }
 
 /// Writes where a file differs.
@@ -99,13 +109,9 @@ fn put_wrong_answer<W: Write>(
     wrong: &WrongAnswer,
 ) -> Result<(), ToolFault> {
     let line = wrong.line;
-    if write!(output, "{name}:{line}: expected ").is_err() {
-        return Err(ToolFault::Output);
-    }
-    put_answer(alloc, output, wrong.expected.as_slice())?;
-    write_bytes(output, b", came ")?;
-    put_answer(alloc, output, wrong.came.as_slice())?;
-    write_bytes(output, b"\n")
+    let told = difference_told(alloc, wrong)?;
+    let told = told.as_str();
+    writeln!(output, "{name}:{line}: {told}").map_err(|_| ToolFault::Output)
 }
 
 /// Writes how many answers of a file differ, or, where it is asked for, that it passes with so many.
@@ -147,8 +153,38 @@ fn script_fault<R: AllocGlobal>(
     }
 }
 
+/// A script that was played.
+#[derive(Drop)]
+pub struct PlayedScript {
+    /// What can be reached of the terminal to which it was played.
+    pub normal: Normal,
+    /// How many answers it states.
+    pub answers: usize,
+    pub wrong: Vec<WrongAnswer>,
+}
+
+/// Plays a script of this name.
+pub fn play_script<R: Files + AllocGlobal>(
+    rt: &R,
+    played: &Played<'_>,
+    name: &str,
+    script: &[u8],
+) -> Result<PlayedScript, ToolFault>
+    ensures { IfOk result (λ it. (value : Parts) × IsPlayedTo played.now.to value × SaysOf played.now.bus_only value script.now (length it.wrong.items == 0)) }
+{
+    let normal = played.of_script(rt, name, script)?;
+    match compare_script(rt.alloc(), &normal, script, played.bus_only) {
+        Ok(compared) => Ok(PlayedScript {
+            normal,
+            answers: compared.answers,
+            wrong: compared.wrong,
+        }),
+        Err(fault) => Err(script_fault(rt, name, script, fault)),
+    }
+}
+
 /// Plays a script, writes where it differs, or, where it is asked for, that it passes, and gives whether it does.
-fn play_script<R: Files + AllocGlobal, W: Write>(
+fn tell_script<R: Files + AllocGlobal, W: Write>(
     rt: &R,
     played: &Played<'_>,
     name: &str,
@@ -156,45 +192,51 @@ fn play_script<R: Files + AllocGlobal, W: Write>(
     report: ScriptReport,
     output: &mut W,
 ) -> Result<bool, ToolFault>
-    ensures { IfOk result (λ passes. (value : Parts) × IsPlayedTo played.now value × SaysOf value script.now passes) }
+    ensures { IfOk result (λ passes. (value : Parts) × IsPlayedTo played.now.to value × SaysOf played.now.bus_only value script.now passes) }
 {
-    let normal = played.of_script(rt, name, script)?;
-    let stated = match read_stated(rt.alloc(), script) {
-        Ok(stated) => stated,
-        Err(fault) => return Err(script_fault(rt, name, script, fault)),
-    };
-    let found = wrong_answers(rt.alloc(), &normal, stated.as_slice())?;
+    let it = play_script(rt, played, name, script)?;
     let name = shown(rt, name)?;
-    for wrong in found.as_slice() {
+    for wrong in it.wrong.as_slice() {
         put_wrong_answer(rt.alloc(), output, name.as_str(), wrong)?;
     }
-    let answers = answers_in(stated.as_slice());
     put_count(
         rt.alloc(),
         output,
         name.as_str(),
-        found.len(),
-        answers,
+        it.wrong.len(),
+        it.answers,
         report,
     )?;
-    Ok(found.is_empty())
+    Ok(it.wrong.is_empty())
 }
 
 /// Gives the clauses that a script names, of the test plan or of the standard; none where it names none.
-fn clauses_of(script: &[u8]) -> &[u8] {
+pub fn clauses_of(script: &[u8]) -> &[u8] {
     match named(script, b"# Plan: ") {
         Some(clauses) => clauses,
         None => named(script, b"# Standard: ").unwrap_or(b""),
     }
 }
 
-/// Plays a script of a file, keeps in the summary whether it passes, and gives the status to end with.
+/// Keeps which clauses a script names and whether it passes.
+fn keep(
+    alloc: Global,
+    tried: &mut Vec<TriedScript>,
+    script: &[u8],
+    passes: bool,
+) -> Result<(), AllocError> {
+    let clauses = clauses_in(alloc, clauses_of(script))?;
+    tried.push(TriedScript { clauses, passes })?;
+    Ok(())
+}
+
+/// Plays a script of a file, keeps whether it passes, and gives the status to end with.
 fn play_file<R: Files + AllocGlobal, W: Write>(
     rt: &R,
     played: &Played<'_>,
     name: &str,
     report: ScriptReport,
-    summary: &mut Summary,
+    tried: &mut Vec<TriedScript>,
     output: &mut W,
 ) -> Result<u8, ToolFault>
     ensures { IfOk result (λ status. status ≤ 1) }
@@ -202,16 +244,16 @@ fn play_file<R: Files + AllocGlobal, W: Write>(
     let script = match read_script_file(rt, name) {
         Ok(script) => script,
         Err(fault) => {
-            summary.add(rt.alloc(), b"", false)?;
+            keep(rt.alloc(), tried, b"", false)?;
             return Err(fault);
         }
     };
-    let outcome = play_script(rt, played, name, script.as_slice(), report, output);
+    let outcome = tell_script(rt, played, name, script.as_slice(), report, output);
     let passes = match &outcome {
         Ok(passes) => *passes,
         Err(_) => false,
     };
-    summary.add(rt.alloc(), clauses_of(script.as_slice()), passes)?;
+    keep(rt.alloc(), tried, script.as_slice(), passes)?;
     Ok(if outcome? { 0 } else { DIFFERENT })
 }
 
@@ -225,37 +267,41 @@ fn play_files<R: Files + AllocGlobal + Eprint, W: Write>(
 ) -> Result<u8, ToolFault>
     ensures { IfOk result (λ status. status ≤ 4) }
 {
-    let mut summary = Summary::new(rt.alloc());
+    let mut tried = Vec::new(rt.alloc());
     let mut status = 0;
     for name in names {
-        let of_file = play_file(rt, played, name, report, &mut summary, output);
+        let of_file = play_file(rt, played, name, report, &mut tried, output);
         status = worst(status, status_or_stop(rt, of_file)?);
     }
     if report.each {
-        summary.put(rt.alloc(), report.has_colours, output)?;
+        put_summary(rt.alloc(), tried.as_slice(), report.has_colours, output)?;
     }
     Ok(status)
 }
 
-/// Plays scripts that state their answers and writes where they differ; with `summary` also what passes, clause by clause.
-/// The status is the highest that a script asks for.
+/// Plays scripts that state their answers and writes what came of them: as text where they differ, and with `summary` also what passes,
+/// clause by clause; in another format all. The status is the highest that a script asks for.
 pub fn verify_scripts<R: Files + AllocGlobal + Eprint, W: Write>(
     rt: &R,
-    profiles: Profiles<'_>,
+    asked: AskedReport<'_>,
     scripts: &[&str],
-    summary: bool,
     screen: Screen,
     output: &mut W,
 ) -> Result<u8, ToolFault>
     ensures { IfOk result (λ status. status ≤ 4) }
 {
-    let played = match profiles {
-        Profiles::One(name) => Played::One(load_profile(rt, name)?),
-        Profiles::Folder(folder) => Played::Folder(folder),
+    let to = match asked.profiles {
+        Profiles::One(name) => PlayedTo::One(load_profile(rt, name)?),
+        Profiles::Folder(folder) => PlayedTo::Folder(folder),
     };
+    let bus_only = asked.bus_only;
+    let played = Played { to, bus_only };
     let report = ScriptReport {
-        each: summary,
+        each: asked.summary,
         has_colours: screen.has_colours,
     };
-    play_files(rt, &played, scripts, report, output)
+    match asked.format {
+        ReportFormat::Text => play_files(rt, &played, scripts, report, output),
+        _ => report_files(rt, &played, asked, scripts, output),
+    }
 }

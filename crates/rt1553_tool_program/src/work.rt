@@ -6,13 +6,15 @@ use crate::acceptance::{against, write_test};
 use crate::bus_words::bus_words;
 use crate::differ::differ_profiles;
 use crate::draw::draw_run;
+use crate::expand::expand_file;
 use crate::explain::explain_profile;
 use crate::fault::{ToolFault, USAGE};
+use crate::import::import_file;
 use crate::lint::lint_files;
 use crate::live::play_live;
 use crate::profile_toml::write_toml;
 use crate::script_file::check_scripts;
-use crate::verify::verify_scripts;
+use crate::verify::{AskedReport, verify_scripts};
 use rt1553_tool_args::{NoCommand, ToolCommand, read_tool_args};
 use std::env;
 use std::io::{ErrorKind, Read, Write};
@@ -38,13 +40,25 @@ fn do_command<R: Files + AllocGlobal + Eprint, I: Read + Drop, W: Write>(
     ensures { IfOk result (CanEnd command.now) }
 {
     match command {
-        ToolCommand::Lint { files, as_json } => lint_files(rt, files.as_slice(), *as_json, output),
+        ToolCommand::Lint { files, format } => lint_files(rt, files.as_slice(), *format, output),
         ToolCommand::CheckScript(files) => check_scripts(rt, files.as_slice(), output),
         ToolCommand::Verify {
             profiles,
             scripts,
+            bus_only,
+            format,
             summary,
-        } => verify_scripts(rt, *profiles, scripts.as_slice(), *summary, screen, output),
+        } => {
+            let asked = AskedReport {
+                profiles: *profiles,
+                bus_only: *bus_only,
+                format: *format,
+                summary: *summary,
+            };
+            verify_scripts(rt, asked, scripts.as_slice(), screen, output)
+        }
+        ToolCommand::Import(table) => import_file(rt, table, output),
+        ToolCommand::Expand(messages) => expand_file(rt, messages, output),
         ToolCommand::Toml(profile) => write_toml(rt, profile, output),
         ToolCommand::Explain { profile, as_json } => explain_profile(
             rt, profile, *as_json, screen, output,

@@ -16,6 +16,7 @@ pub fn worst(a: u8, b: u8) -> u8
 pub fn status_or_stop<R: Eprint>(rt: &R, done: Result<u8, ToolFault>) -> Result<u8, ToolFault>
     ensures done { IfOk result (λ status. IfOk done (λ of_file. status ≡ of_file)) }
     ensures fault { IfOk result (λ status. IfErr done (λ fault. status ≡ tool_status fault)) }
+    ensures least { IfErr done (λ _. IfOk result (λ status. 2 ≤ status)) }
     ensures most { IfOk done (λ of_file. of_file ≤ 4) → IfOk result (λ status. status ≤ 4) }
     ensures stops { IfErr done (λ fault. fault ≡ ToolFault.Output → IfOk result (λ _. ⊥)) }
     ensures output { IfErr result (λ fault. fault ≡ ToolFault.Output) }
