@@ -110,6 +110,18 @@ LinesFirst-from bytes i k es p = subst (λ n. LinesFirst bytes n k es) (zero-add
 pub LinesFirst-one : (bytes : List ℕ) (j : ℕ) (e : Event) → j ≤ 64 → BeginsWith bytes j e → LinesFirst bytes (j + 1) 1 (e ∷ [])
 LinesFirst-one bytes j e short next = LinesFirst-from bytes (j + 1) 1 (e ∷ []) (LinesFirst-more j e short (LinesFirst-nil bytes) next)
 
+-- more lines behind others
+pub LinesFirst-behind : {bytes : List ℕ} {i k j m : ℕ} {es fs : List Event} → LinesFirst bytes i k es → LinesFirst (drop i bytes) j m fs → LinesFirst bytes (i + j) (k + m) (es ++ fs)
+LinesFirst-behind {bytes = bytes} {i = i} {k = k} {j = j} {m = m} {es = es} {fs = fs} p q = record {
+  within = let s = q.within in let w = p.within in grind (arith, common_steps);
+  short = let s = q.short in let w = p.short in omega arith;
+  few = let s = q.few in let w = p.few in omega (arith, length-append es fs);
+  reads = λ n room.
+      let done : n + k + m ≡ n + (k + m) = omega arith in
+      subst (λ x. ReadsLines n (take (i + j) bytes) (es ++ fs) x) done
+      (subst (λ xs. ReadsLines n xs (es ++ fs) (n + k + m)) (sym (take-add i j bytes)) (ReadsLines-trans (p.reads n (omega arith)) (q.reads (n + k) (omega arith))));
+}
+
 -- and a comment
 pub LinesFirst-comment : {bytes : List ℕ} {i k : ℕ} {es : List Event} (j : ℕ) → LinesFirst bytes i k es → IsComment (drop i bytes) j
     → LinesFirst bytes (i + (j + 1)) (k + 1) es

@@ -54,6 +54,19 @@ SlotsFirst-more bytes n fewer next k within = by_test (nat_le k n) refl
     by_test true e = fewer k (grind (arith, nat_tests, e))
     by_test false e = let same : n + 1 ≡ k = grind (arith, nat_tests, e) in subst (λ j. LinesFirst bytes (5 * j) j (slots j)) same last
 
+-- many more, and all fewer
+pub SlotsFirst-many : (bytes : List ℕ) (n m : ℕ) → ((k : ℕ) → k ≤ n → LinesFirst bytes (5 * k) k (slots k)) → ((k : ℕ) → k < m → BeginsWith (drop (5 * k) (drop (5 * n) bytes)) 4 Slot)
+    → (k : ℕ) → k ≤ n + m → LinesFirst bytes (5 * k) k (slots k)
+SlotsFirst-many bytes n zero fewer next k within = fewer k (omega (arith, within))
+SlotsFirst-many bytes n (suc m) fewer next k within =
+    let there : 5 * n + 5 * m ≡ 5 * (n + m) = omega arith in
+    SlotsFirst-more bytes (n + m) (SlotsFirst-many bytes n m fewer (λ j below. next j (omega (arith, below))))
+    (subst (λ xs. BeginsWith xs 4 Slot) (drop-drop (5 * m) (5 * n) bytes ∙ ap (λ i. drop i bytes) there) (next m (omega arith))) k (omega (arith, within))
+
+-- behind four slots more
+pub behind-slots : (n : ℕ) (bytes : List ℕ) → drop 20 (drop (5 * n) bytes) ≡ drop (5 * (n + 4)) bytes
+behind-slots n bytes = let more : 5 * n + 20 ≡ 5 * (n + 4) = omega arith in drop-drop 20 (5 * n) bytes ∙ ap (λ k. drop k bytes) more
+
 -- behind one slot more
 pub behind-slot : (n : ℕ) (bytes : List ℕ) → drop 5 (drop (5 * n) bytes) ≡ drop (5 * (n + 1)) bytes
 behind-slot n bytes = let more : 5 * n + 5 ≡ 5 * (n + 1) = omega arith in drop-drop 5 (5 * n) bytes ∙ ap (λ k. drop k bytes) more

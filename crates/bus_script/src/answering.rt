@@ -1,7 +1,12 @@
 //! Events are played one by one, and what the terminal answers is written.
 ghost use Rattle.std.specs.Prelude.{◌≡◌, ◌<◌, ◌≤◌, ◌∷◌, [], List, ℕ, true, length, IfOk, IfErr, OnOk, OnErr};
+ghost use Rattle.bus_word.specs.Word.{valid_word};
+ghost use Rattle.bus_word.specs.declared.word.Kind.TheVariants.{Com};
 ghost use Rattle.terminal_rules.specs.declared.event.Event.{Event};
-ghost use Rattle.bus_terminal.specs.Answer.{shown_answer};
+ghost use Rattle.terminal_rules.specs.declared.event.Event.TheVariants.{Word as WordEvent, Gap};
+ghost use Rattle.std.specs.Io.KnownBytes.{Appends};
+ghost use Rattle.bus_terminal.specs.Answer.{shown_answer, IsSmall};
+ghost use Rattle.byte_streams.specs.Device.{IsPartWritten};
 ghost use Rattle.script_lines.specs.Transcript.{answer_text, may_be_answered, text_at};
 ghost use Rattle.bus_script.specs.Reading.{ByFault};
 ghost use Rattle.bus_script.specs.inner.Lines.{Means, IsRefused};
@@ -13,8 +18,9 @@ use crate::piece::Piece;
 use arrayvec::ArrayString;
 use bus_legal::Legality;
 use bus_terminal::{Answer, Event, Terminal};
+use bus_word::Bus;
 use byte_streams::{IoFailed, Sink, write_all};
-use script_lines::{GAP_LINE, LineReader, first_gap, push_answer};
+use script_lines::{GAP_LINE, KnownPairs, LineReader, first_gap, push_answer};
 
 /// Whether an answer has no line.
 #[inline(always)]
@@ -32,12 +38,34 @@ fn may_be_answered(event: &Event) -> bool
     matches!(event, Event::Gap(_) | Event::Slot)
 }
 
+/// Writes the line of an answer, if it has one, by way of the text.
+#[inline(always)]
+fn write_answered<W: Sink>(
+    writer: &mut W,
+    text: &mut ArrayString<320>,
+    pairs: Option<&KnownPairs>,
+    answer: &Answer,
+) -> Result<(), IoFailed>
+    requires { IsSmall (shown_answer answer.now) }
+    ensures ok { OnOk result (Appends (W.written writer.old) (W.written writer.new) (answer_text (shown_answer answer.now))) }
+    ensures err { OnErr result (IsPartWritten (W.written writer.old) (W.written writer.new) (answer_text (shown_answer answer.now))) }
+    ensures failed { OnErr result (W.has_failed writer.new ≡ true) }
+{
+    if is_silent(answer) {
+        return Ok(());
+    }
+    text.clear();
+    push_answer(text, pairs, answer);
+    write_all(writer, text.as_str().as_bytes())
+}
+
 /// Plays an event and writes its answer, by way of the text.
 #[inline(always)]
 pub fn play_answered<L: Legality, W: Sink>(
     terminal: &mut Terminal<L>,
     writer: &mut W,
     text: &mut ArrayString<320>,
+    pairs: Option<&KnownPairs>,
     event: Event,
 ) -> Result<(), IoFailed>
     ensures ok { OnOk result (Played L.is_legal text_at W.written (terminal.old, writer.old) (terminal.new, writer.new) (event ∷ [])) }
@@ -45,12 +73,24 @@ pub fn play_answered<L: Legality, W: Sink>(
     ensures failed { OnErr result (W.has_failed writer.new ≡ true) }
 {
     let answer = terminal.step(event);
-    if is_silent(&answer) {
-        return Ok(());
-    }
-    text.clear();
-    push_answer(text, &answer);
-    write_all(writer, text.as_str().as_bytes())
+    write_answered(writer, text, pairs, &answer)
+}
+
+/// Plays a command word and the gap right behind it, and writes the answer, by way of the text.
+#[inline(always)]
+pub fn play_with_gap<L: Legality, W: Sink>(
+    terminal: &mut Terminal<L>,
+    writer: &mut W,
+    text: &mut ArrayString<320>,
+    bus: Bus,
+    bits: u16,
+) -> Result<(), IoFailed>
+    ensures ok { OnOk result (Played L.is_legal text_at W.written (terminal.old, writer.old) (terminal.new, writer.new) (WordEvent bus (valid_word Com bits) ∷ Gap bus ∷ [])) }
+    ensures err { OnErr result (PlayedPart L.is_legal W.written (terminal.old, writer.old) (terminal.new, writer.new) (WordEvent bus (valid_word Com bits) ∷ []) (Gap bus)) }
+    ensures failed { OnErr result (W.has_failed writer.new ≡ true) }
+{
+    let answer = terminal.take_with_gap(bus, bits);
+    write_answered(writer, text, None, &answer)
 }
 
 /// Plays an event.
@@ -68,7 +108,7 @@ fn play_event<L: Legality, W: Sink>(
         terminal.take(event);
         return Ok(());
     }
-    play_answered(terminal, writer, text, event)
+    play_answered(terminal, writer, text, None, event)
 }
 
 /// Plays a gap that stands first, if one does.
@@ -87,7 +127,7 @@ pub fn play_gap<L: Legality, W: Sink>(
     ensures failed { OnErr result (W.has_failed writer.new ≡ true) }
 {
     match first_gap(bytes) {
-        Some(bus) => match play_answered(terminal, writer, text, Event::Gap(bus)) {
+        Some(bus) => match play_answered(terminal, writer, text, None, Event::Gap(bus)) {
             Ok(()) => Ok(Piece::of(1, GAP_LINE)),
             Err(_) => Err(IoFailed),
         },

@@ -8,15 +8,16 @@ use crate::RunFault;
 use crate::answering::{play_gap, play_line};
 use crate::lines::{MAX_LINES, next_line, pass_comments};
 use crate::piece::{Counts, Piece};
-use crate::receiving::{play_received, take_word};
+use crate::receiving::{play_command, play_received, take_word};
 use crate::sending::play_slots;
 use arrayvec::ArrayString;
 use bus_legal::Legality;
 use bus_terminal::Terminal;
 use byte_streams::{IoFailed, Sink};
-use script_lines::LineReader;
+use script_lines::{KnownPairs, LineReader};
 
-/// Plays lines that stand first, if they are such as most scripts are made of: what they begin with tells.
+/// Plays lines that stand first, if they are such as most scripts are made of: what they begin with tells. The words of a message
+/// are looked for behind its command, so data words that come first are a whole message only where a chunk begins.
 #[inline(always)]
 #[tactic(auto, using(crate::proofs::FeedLaws::none_played, crate::proofs::FeedLaws::taken_played, crate::proofs::FeedLaws::then_played, crate::proofs::FeedLaws::then_broken))]
 fn play_usual<L: Legality, W: Sink>(
@@ -24,8 +25,10 @@ fn play_usual<L: Legality, W: Sink>(
     writer: &mut W,
     reader: &mut LineReader,
     text: &mut ArrayString<320>,
+    pairs: &KnownPairs,
     bytes: &[u8],
     most: u32,
+    is_first: bool,
 ) -> Result<Piece, IoFailed>
     requires some { 0 < most }
     requires few { most ≤ 1048576 }
@@ -34,27 +37,30 @@ fn play_usual<L: Legality, W: Sink>(
     ensures failed { OnErr result (W.has_failed writer.new ≡ true) }
 {
     match bytes {
-        [b'A' | b'B', _, b'c', ..] => Ok(take_word(terminal, reader, bytes, most)),
+        [b'A' | b'B', _, b'c', ..] => play_command(terminal, writer, reader, text, bytes, most),
         [b'A' | b'B', _, b'd', ..] => {
+            if !is_first {
+                return Ok(take_word(terminal, reader, bytes, most));
+            }
             match play_received(terminal, writer, reader, text, bytes, most) {
                 Ok(piece) if piece.lines == 0 => Ok(take_word(terminal, reader, bytes, most)),
                 played => played,
             }
         }
         [b'A' | b'B', ..] => play_gap(terminal, writer, text, bytes, most),
-        [b's', ..] => play_slots(terminal, writer, text, bytes, most),
+        [b's', ..] => play_slots(terminal, writer, text, pairs, bytes, most),
         [b'#', ..] => Ok(pass_comments(bytes, most)),
         _ => Ok(Piece::NONE),
     }
 }
 
 /// Plays the whole lines of a chunk, and gives the number of their bytes. Meanwhile the counts have a place of their own, which
-/// a compiler can keep in registers.
+/// a compiler can keep in registers. So have the text and what is known of digits: they stand in its own frame, and nothing
+/// that it reaches by a reference can be them.
 pub fn feed_lines<L: Legality, W: Sink>(
     terminal: &mut Terminal<L>,
     writer: &mut W,
-    reader: &mut LineReader,
-    text: &mut ArrayString<320>,
+    pairs: &KnownPairs,
     counts: &mut Counts,
     chunk: &[u8],
 ) -> Result<usize, RunFault>
@@ -65,6 +71,8 @@ pub fn feed_lines<L: Legality, W: Sink>(
         ⊥
         ((W.has_failed writer.new ≡ true) × FedPart L.is_legal W.written (terminal.old, writer.old) (terminal.new, writer.new) counts.old chunk.now)) }
 {
+    let mut reader = LineReader::new();
+    let mut text = ArrayString::new();
     let mut now = *counts;
     let mut at = 0;
     let result = 'lines: loop {
@@ -75,7 +83,16 @@ pub fn feed_lines<L: Legality, W: Sink>(
         if now.lines == MAX_LINES {
             break 'lines Err(RunFault::TooLong);
         }
-        match play_usual(terminal, writer, reader, text, rest, MAX_LINES - now.lines) {
+        match play_usual(
+            terminal,
+            writer,
+            &mut reader,
+            &mut text,
+            pairs,
+            rest,
+            MAX_LINES - now.lines,
+            at == 0,
+        ) {
             Ok(piece) if piece.lines > 0 => {
                 at += piece.bytes;
                 now.lines += piece.lines;
@@ -90,7 +107,14 @@ pub fn feed_lines<L: Legality, W: Sink>(
             Ok(None) => break 'lines Ok(at),
             Err(fault) => break 'lines Err(fault),
         };
-        match play_line(terminal, writer, reader, text, now.lines, &rest[..len]) {
+        match play_line(
+            terminal,
+            writer,
+            &mut reader,
+            &mut text,
+            now.lines,
+            &rest[..len],
+        ) {
             Ok(events) => now.events += events,
             Err(fault) => break 'lines Err(fault),
         }

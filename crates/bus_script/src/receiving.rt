@@ -5,22 +5,22 @@ ghost use Rattle.std.specs.List.{flat_map};
 ghost use Rattle.arrayvec.specs.ArrayString.{array_string_len};
 ghost use Rattle.terminal_rules.specs.declared.event.Event.TheVariants.{Gap};
 ghost use Rattle.bus_terminal.specs.Received.{data_words_on};
-ghost use Rattle.script_lines.specs.Begins.{BeginsWith};
 ghost use Rattle.script_lines.specs.Transcript.{word_field, received_text};
 ghost use Rattle.bus_script.specs.inner.Lines.{LinesFirst};
 ghost use Rattle.bus_script.specs.inner.Pieces.{TakesPiece, PlaysPiece, BreaksPiece};
 
+use crate::answering::play_with_gap;
 use crate::piece::Piece;
 use arrayvec::ArrayString;
 use bus_legal::Legality;
 use bus_terminal::{Receiving, Terminal};
-use bus_word::Bus;
+use bus_word::{Bus, Kind};
 use byte_streams::{IoFailed, Sink, write_all};
 use script_lines::{
-    GAP_LINE, LineReader, WORD_LINE, first_gap, push_field, push_received_by, read_bus,
+    GAP_LINE, LineReader, WORD_LINE, is_gap_first, push_field, push_received_by, read_bus,
 };
 
-/// Takes a word that stands first, if one does. No word is answered.
+/// Takes a data word that stands first, if one does. No word is answered.
 #[inline(always)]
 #[tactic(auto, using(crate::proofs::FeedLaws::none_taken))]
 pub fn take_word<L: Legality>(
@@ -32,24 +32,13 @@ pub fn take_word<L: Legality>(
     requires { 0 < most }
     ensures { TakesPiece L.is_legal terminal.old terminal.new bytes.now most result }
 {
-    match reader.first_word(bytes) {
-        Some((bus, word)) => {
-            terminal.take_valid(bus, word.kind, word.bits);
+    match reader.first_word(bytes, Kind::Dat) {
+        Some((bus, bits)) => {
+            terminal.take_valid(bus, Kind::Dat, bits);
             Piece::of(1, WORD_LINE)
         }
         None => Piece::NONE,
     }
-}
-
-/// Whether the line of a gap on this bus stands first.
-#[inline(always)]
-fn is_gap_first(bytes: &[u8], bus: Bus) -> bool
-    ensures { result ≡ true → BeginsWith bytes.now 5 (Gap bus) }
-{
-    matches!(
-        (first_gap(bytes), bus),
-        (Some(Bus::A), Bus::A) | (Some(Bus::B), Bus::B)
-    )
 }
 
 /// Writes the digits of so many data words on this bus as fields, where their lines stand first. Else it may have written some.
@@ -105,8 +94,9 @@ fn copy_message(
     is_gap_first(&bytes[(WORD_LINE + 1) * it.count as usize..], bus)
 }
 
-/// Plays a message of which the words stand first, with their gap, where the terminal is to receive just these.
-#[inline(always)]
+/// Plays a message of which the words stand first, with their gap, where the terminal is to receive just these: one whose command
+/// was the last line that had been read.
+#[inline(never)]
 #[tactic(auto, using(crate::proofs::FeedLaws::none_played))]
 pub fn play_received<L: Legality, W: Sink>(
     terminal: &mut Terminal<L>,
@@ -136,4 +126,53 @@ pub fn play_received<L: Legality, W: Sink>(
         }
     }
     Ok(Piece::NONE)
+}
+
+/// Plays a command word that stands first, if one does, and what ends its message right behind it: a gap, or the words that the
+/// terminal is to receive by it and their gap.
+#[inline(always)]
+#[tactic(auto, using(crate::proofs::FeedLaws::none_played))]
+pub fn play_command<L: Legality, W: Sink>(
+    terminal: &mut Terminal<L>,
+    writer: &mut W,
+    reader: &mut LineReader,
+    text: &mut ArrayString<320>,
+    bytes: &[u8],
+    most: u32,
+) -> Result<Piece, IoFailed>
+    requires some { 0 < most }
+    ensures ok { IfOk result (λ piece. PlaysPiece L.is_legal W.written (terminal.old, writer.old) (terminal.new, writer.new) bytes.now most piece) }
+    ensures err { OnErr result (BreaksPiece L.is_legal W.written (terminal.old, writer.old) (terminal.new, writer.new) bytes.now most) }
+    ensures failed { OnErr result (W.has_failed writer.new ≡ true) }
+{
+    let (bus, bits) = match reader.first_word(bytes, Kind::Com) {
+        Some(word) => word,
+        None => return Ok(Piece::NONE),
+    };
+    let rest = &bytes[WORD_LINE + 1..];
+    if most > 1 && is_gap_first(rest, bus) {
+        return match play_with_gap(terminal, writer, text, bus, bits) {
+            Ok(()) => Ok(Piece {
+                bytes: WORD_LINE + GAP_LINE + 2,
+                lines: 2,
+                events: 2,
+            }),
+            Err(_) => Err(IoFailed),
+        };
+    }
+    if let Some(it) = terminal.receives_by(bus, bits) {
+        if copy_message(reader, text, rest, bus, &it, most - 1) {
+            terminal.take_message(bus, bits);
+            return match write_all(writer, text.as_str().as_bytes()) {
+                Ok(()) => Ok(Piece {
+                    bytes: (WORD_LINE + 1) * it.count as usize + WORD_LINE + GAP_LINE + 2,
+                    lines: it.count as u32 + 2,
+                    events: it.count as u64 + 2,
+                }),
+                Err(_) => Err(IoFailed),
+            };
+        }
+    }
+    terminal.take_valid(bus, Kind::Com, bits);
+    Ok(Piece::of(1, WORD_LINE))
 }

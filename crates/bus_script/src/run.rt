@@ -18,7 +18,7 @@ use arrayvec::ArrayString;
 use bus_legal::Legality;
 use bus_terminal::Terminal;
 use byte_streams::{IoFailed, Sink, Source};
-use script_lines::LineReader;
+use script_lines::{KnownPairs, LineReader};
 
 /// How many bytes are read at most at once.
 const BLOCK: usize = 65_536;
@@ -63,8 +63,6 @@ fn flush_after_events<W: Sink>(writer: &mut W, events: u64) -> Result<(), IoFail
 fn finish<L: Legality, W: Sink>(
     terminal: &mut Terminal<L>,
     writer: &mut W,
-    reader: &mut LineReader,
-    text: &mut ArrayString<320>,
     counts: &mut Counts,
     rest: &[u8],
 ) -> Result<(), RunFault>
@@ -81,7 +79,8 @@ fn finish<L: Legality, W: Sink>(
     if rest.is_empty() {
         return Ok(());
     }
-    match play_line(terminal, writer, reader, text, counts.lines, rest) {
+    let (mut reader, mut text) = (LineReader::new(), ArrayString::new());
+    match play_line(terminal, writer, &mut reader, &mut text, counts.lines, rest) {
         Ok(events) => {
             counts.events += events;
             Ok(())
@@ -107,8 +106,7 @@ fn run_lines<L: Legality, R: Source, W: Sink>(
     ensures ok { OnOk result (Completed L.is_legal W.written (R.left reader.old) (terminal.old, writer.old) (terminal.new, writer.new) counts.new.events) }
     ensures fault { IfErr result (StoppedAfter L.is_legal W.written (R.left reader.old) (R.left reader.new) (terminal.old, writer.old) (terminal.new, writer.new) counts.new.events) }
 {
-    let mut lines = LineReader::new();
-    let mut text = ArrayString::new();
+    let pairs = KnownPairs::asked();
     let mut buffer = [0u8; BLOCK];
     let mut buffered = 0;
     'reads: loop {
@@ -124,28 +122,14 @@ fn run_lines<L: Legality, R: Source, W: Sink>(
             break 'reads;
         }
         let total = buffered + count;
-        let done = match feed_lines(
-            terminal,
-            writer,
-            &mut lines,
-            &mut text,
-            counts,
-            &buffer[..total],
-        ) {
+        let done = match feed_lines(terminal, writer, &pairs, counts, &buffer[..total]) {
             Ok(done) => done,
             Err(fault) => return Err(fault),
         };
         move_to_front(&mut buffer, done, total);
         buffered = total - done;
     }
-    finish(
-        terminal,
-        writer,
-        &mut lines,
-        &mut text,
-        counts,
-        &buffer[..buffered],
-    )
+    finish(terminal, writer, counts, &buffer[..buffered])
 }
 
 /// Says whether the script has the fault, and no device.

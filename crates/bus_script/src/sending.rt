@@ -19,7 +19,7 @@ use arrayvec::ArrayString;
 use bus_legal::Legality;
 use bus_terminal::{Event, Terminal};
 use byte_streams::{IoFailed, Sink, write_front};
-use script_lines::{SLOT_LINE, is_slot_first, push_data_words};
+use script_lines::{KnownPairs, SLOT_LINE, SLOTS, are_slots_first, is_slot_first, push_data_words};
 
 /// How many lines of words that are sent have room in a text.
 const ROOM: usize = 32;
@@ -27,14 +27,29 @@ const ROOM: usize = 32;
 /// How long the line of a word that is sent is, with its line feed.
 const SENT_LINE: usize = 9;
 
+/// How many lines of slots stand first, at most so many, as far as they are told many at once.
+#[inline(always)]
+fn slot_lines_at_once(bytes: &[u8], most: usize) -> usize
+    ensures most { result ≤ most }
+    ensures lines { (k : ℕ) → k ≤ result → LinesFirst bytes.now (5 * k) k (slots k) }
+{
+    let mut count = 0;
+    let mut rest = bytes;
+    while most - count >= SLOTS && are_slots_first(rest) {
+        count += SLOTS;
+        rest = &rest[SLOTS * (SLOT_LINE + 1)..];
+    }
+    count
+}
+
 /// How many lines of slots stand first, at most so many.
 #[inline(always)]
 fn slot_lines(bytes: &[u8], most: usize) -> usize
     ensures most { result ≤ most }
     ensures lines { (k : ℕ) → k ≤ result → LinesFirst bytes.now (5 * k) k (slots k) }
 {
-    let mut count = 0;
-    let mut rest = bytes;
+    let mut count = slot_lines_at_once(bytes, most);
+    let mut rest = &bytes[(SLOT_LINE + 1) * count..];
     while count < most && is_slot_first(rest) {
         count += 1;
         rest = &rest[SLOT_LINE + 1..];
@@ -60,6 +75,7 @@ fn pass_slots<L: Legality>(terminal: &mut Terminal<L>, bytes: &[u8], most: u32) 
 fn push_words<L: Legality>(
     terminal: &Terminal<L>,
     text: &mut ArrayString<320>,
+    pairs: &KnownPairs,
     bytes: &[u8],
     most: u32,
 ) -> usize
@@ -74,7 +90,7 @@ fn push_words<L: Legality>(
     };
     let count = slot_lines(bytes, next.words.len().min(most as usize).min(ROOM));
     text.clear();
-    push_data_words(text, next.bus, &next.words[..count]);
+    push_data_words(text, pairs, next.bus, &next.words[..count]);
     count
 }
 
@@ -85,6 +101,7 @@ fn send_words<L: Legality, W: Sink>(
     terminal: &mut Terminal<L>,
     writer: &mut W,
     text: &mut ArrayString<320>,
+    pairs: &KnownPairs,
     bytes: &[u8],
     most: u32,
 ) -> Result<Piece, IoFailed>
@@ -93,7 +110,7 @@ fn send_words<L: Legality, W: Sink>(
     ensures err { OnErr result (BreaksPiece L.is_legal W.written (terminal.old, writer.old) (terminal.new, writer.new) bytes.now most) }
     ensures failed { OnErr result (W.has_failed writer.new ≡ true) }
 {
-    let count = push_words(terminal, text, bytes, most);
+    let count = push_words(terminal, text, pairs, bytes, most);
     if count == 0 {
         return Ok(Piece::NONE);
     }
@@ -114,6 +131,7 @@ fn play_slot<L: Legality, W: Sink>(
     terminal: &mut Terminal<L>,
     writer: &mut W,
     text: &mut ArrayString<320>,
+    pairs: &KnownPairs,
     bytes: &[u8],
     most: u32,
 ) -> Result<Piece, IoFailed>
@@ -125,7 +143,7 @@ fn play_slot<L: Legality, W: Sink>(
     if !is_slot_first(bytes) {
         return Ok(Piece::NONE);
     }
-    match play_answered(terminal, writer, text, Event::Slot) {
+    match play_answered(terminal, writer, text, Some(pairs), Event::Slot) {
         Ok(()) => Ok(Piece::of(1, SLOT_LINE)),
         Err(_) => Err(IoFailed),
     }
@@ -138,6 +156,7 @@ pub fn play_slots<L: Legality, W: Sink>(
     terminal: &mut Terminal<L>,
     writer: &mut W,
     text: &mut ArrayString<320>,
+    pairs: &KnownPairs,
     bytes: &[u8],
     most: u32,
 ) -> Result<Piece, IoFailed>
@@ -150,8 +169,8 @@ pub fn play_slots<L: Legality, W: Sink>(
     if !terminal.is_replying() {
         return Ok(pass_slots(terminal, bytes, most));
     }
-    match send_words(terminal, writer, text, bytes, most) {
-        Ok(piece) if piece.lines == 0 => play_slot(terminal, writer, text, bytes, most),
+    match send_words(terminal, writer, text, pairs, bytes, most) {
+        Ok(piece) if piece.lines == 0 => play_slot(terminal, writer, text, pairs, bytes, most),
         sent => sent,
     }
 }

@@ -3,3 +3,4 @@ pub mod StandsLaw
 pub mod AnswerLaw
 pub mod SlotsLaw
 pub mod ReceivedLaw
+mod WholeLaw

@@ -25,8 +25,6 @@ use Rattle.terminal_rules.specs.SinceReset.{nth_word, wrapped_at, wrapped, held_
 use Rattle.terminal_rules.specs.Past.{past, open_at, history_after}
 use Rattle.terminal_rules.specs.Out.{handing_over, hands, HandsReceived}
 use Rattle.terminal_rules.specs.inner.Steps.{replies_on}
-use Rattle.terminal_state.specs.declared.message.Collected.TheVariants as buffer
-use Rattle.terminal_state.specs.declared.message.Phase.TheVariants as phase
 use Rattle.terminal_state.specs.declared.decoded.Decoded.{Decoded}
 use Rattle.terminal_state.specs.declared.message.InProgress.{InProgress}
 use Rattle.terminal_state.specs.inner.Standing.{Standing, Words, Spoilt, standing_of, next, next_word, gap_end_of, ending_at, gap_ends, gap_leaves, entry_leaves, entry_fails, fresh_in}
@@ -37,11 +35,11 @@ use Rattle.bus_terminal.specs.declared.answer.Receiving.{Receiving}
 use Rattle.bus_terminal.specs.declared.terminal.Terminal.{Terminal}
 use Rattle.bus_terminal.specs.Stands.{StandsAt, heard_on_buses}
 use Rattle.bus_terminal.specs.Received.{data_words_on, unless_wrapped, receiving_by, receiving_in, receiving, ReceivedIsHanded}
-use Rattle.bus_terminal.specs.inner.Terminal.{receives_from, receives_in, ends_at_gap, Settles}
+use Rattle.bus_terminal.specs.inner.Terminal.{collecting, receives_from, receives_in, ends_at_gap, Settles}
 use Rattle.terminal_rules.proofs.LatestLaw.{one_message_law}
 use Rattle.bus_terminal.proofs.StandsLaw.{entry_event, heard_word_law, standing_word_law, registers_word, reply_word, held_word_law, gap_stands}
 
-same_self : (b : Bus) → same_bus b b ≡ true
+pub same_self : (b : Bus) → same_bus b b ≡ true
 same_self A = refl
 same_self B = refl
 
@@ -214,17 +212,6 @@ receives_law is_legal P h b t s =
     ∙ ap (λ o. if is_on b (reply_bus (reply_now (past P h))) || flag_now (past P h) Busy then None else o)
     (ap (receives_from P) (fresh_law P (open_now P (past P h) b)) ∙ received_opens P (open_now P (past P h) b))
 
--- the message with these words
-abbrev collecting : Bus → ℕ → List ℕ → InProgress
-collecting b c ds = record {
-  message = Some (record {
-    bus = b;
-    decoded = record { command = c; cell = cell_of c; count = expected c; of_command = refl; counted = refl };
-    phase = phase.Collects buffer.Words;
-  });
-  words = record { items = ds };
-}
-
 gathered_stands : {L : Type 0} (is_legal : L → Cell → Bool) (P : Description) (h g : List Event) (b : Bus) (c : ℕ) (ds : List ℕ) (t : Terminal L) → StandsAt is_legal P h t →
     Gathered P b c ds (past P h) (past P g) → StandsAt is_legal P g (record t { in_progress = collecting b c ds })
 gathered_stands is_legal P h g b c ds t s q = record {
@@ -236,7 +223,7 @@ gathered_stands is_legal P h g b c ds t s q = record {
   held = λ m i low high first last. s.held m i low high first last ∙ sym (q.held m i);
 }
 
-leaves_none : (k : Bool) (c : ℕ) (ds : List ℕ) → Idle ≡ (if k then gap_leaves (if k then Collects c (Words ds) else Idle) else (if k then Collects c (Words ds) else Idle))
+pub leaves_none : (k : Bool) (c : ℕ) (ds : List ℕ) → Idle ≡ (if k then gap_leaves (if k then Collects c (Words ds) else Idle) else (if k then Collects c (Words ds) else Idle))
 leaves_none true c ds = refl
 leaves_none false c ds = refl
 

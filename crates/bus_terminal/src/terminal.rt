@@ -7,6 +7,7 @@ mod kept;
 mod received;
 mod slots;
 mod waiting;
+mod whole;
 
 use crate::answer::{Answer, Sent};
 use crate::settings::Settings;

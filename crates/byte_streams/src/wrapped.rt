@@ -1,10 +1,9 @@
 //! A source and a sink over std's readers and writers, which tell the bytes that those tell.
-ghost use Rattle.std.specs.Prelude.{◌≡◌, ◌≤◌, ◌+◌, [], length, drop, not, is_ok, ◌||◌, false, Ok, IfOk, OnOk};
+ghost use Rattle.std.specs.Prelude.{◌≡◌, ◌≤◌, ◌+◌, length, take, drop, ◌++◌, not, is_ok, ◌||◌, false, Ok, IfOk, OnOk};
 ghost use Rattle.std.specs.Io.KnownBytes.{Keeps, Appends, ReadConsumes, WriteAppends, append_known};
 
 use crate::writing::write_front;
 use crate::{IoFailed, Sink, Source};
-use arrayvec::ArrayVec;
 use std::io::{ErrorKind, Read, Write};
 
 /// How many bytes the buffer of a `FromWrite` has.
@@ -85,6 +84,16 @@ impl<R: Read + Drop> Source for FromRead<R> {
     }
 }
 
+/// Puts bytes over those from `at` on.
+#[inline(always)]
+fn put_at(buffer: &mut [u8], at: usize, bytes: &[u8])
+    requires { at + length bytes.now ≤ length buffer.old }
+    ensures front { take (at + length bytes.now) buffer.new ≡ take at buffer.old ++ bytes.now }
+    ensures len { length buffer.new ≡ length buffer.old }
+{
+    buffer[at..at + bytes.len()].copy_from_slice(bytes);
+}
+
 /// Gives a writer what is written, at once.
 #[derive(Drop)]
 struct Direct<W: Write + Drop> {
@@ -124,10 +133,13 @@ impl<W: Write + Drop> Sink for Direct<W> {
 #[derive(Drop)]
 pub struct FromWrite<W: Write + Drop> {
     sink: Direct<W>,
-    buffer: ArrayVec<u8, CAPACITY>,
+    /// The first `len` bytes are buffered. What stands behind them is left as it is, which costs nothing.
+    buffer: [u8; CAPACITY],
+    len: usize,
     /// How many of the buffered bytes the writer has taken: none, where no write has failed.
     taken: usize,
-    ghost within: { taken ≤ length buffer.items },
+    ghost fits: { len ≤ 65536 },
+    ghost within: { taken ≤ len },
 }
 
 impl<W: Write + Drop> FromWrite<W> {
@@ -142,7 +154,8 @@ impl<W: Write + Drop> FromWrite<W> {
                 writer,
                 failed: false,
             },
-            buffer: ArrayVec::new(),
+            buffer: [0; CAPACITY],
+            len: 0,
             taken: 0,
         }
     }
@@ -151,17 +164,18 @@ impl<W: Write + Drop> FromWrite<W> {
     #[inline(never)]
     fn drain(&mut self) -> Result<(), IoFailed>
         ensures bytes { Keeps (⟦<FromWrite<W> as Sink>⟧.written self.old) (⟦<FromWrite<W> as Sink>⟧.written self.new) }
-        ensures empty { OnOk result (self.new.buffer.items ≡ []) }
+        ensures empty { OnOk result (self.new.len ≡ 0) }
         ensures failed { self.new.sink.failed ≡ (self.old.sink.failed || not (is_ok result)) }
     {
         if self.sink.failed {
             return Err(IoFailed);
         }
-        self.taken += write_front(&mut self.sink, &self.buffer.as_slice()[self.taken..]);
-        if self.taken < self.buffer.len() {
+        let buffered = &self.buffer[..self.len];
+        self.taken += write_front(&mut self.sink, &buffered[self.taken..]);
+        if self.taken < self.len {
             return Err(IoFailed);
         }
-        self.buffer.clear();
+        self.len = 0;
         self.taken = 0;
         Ok(())
     }
@@ -169,18 +183,19 @@ impl<W: Write + Drop> FromWrite<W> {
     /// Buffers bytes for which there is room.
     #[inline(always)]
     fn put_in_buffer(&mut self, bytes: &[u8]) -> Result<usize, IoFailed>
-        requires { length self.old.buffer.items + length bytes.now ≤ 65536 }
+        requires { self.old.len + length bytes.now ≤ 65536 }
         ensures all { result ≡ Ok (length bytes.now) }
         ensures bytes { Appends (⟦<FromWrite<W> as Sink>⟧.written self.old) (⟦<FromWrite<W> as Sink>⟧.written self.new) bytes.now }
         ensures failed { self.new.sink.failed ≡ self.old.sink.failed }
     {
-        let _ = self.buffer.try_extend_from_slice(bytes);
+        put_at(&mut self.buffer, self.len, bytes);
+        self.len += bytes.len();
         Ok(bytes.len())
     }
 }
 
 impl<W: Write + Drop> Sink for FromWrite<W> {
-    ghost written = { λ s. append_known (W.contents s.sink.writer) (drop s.taken s.buffer.items) };
+    ghost written = { λ s. append_known (W.contents s.sink.writer) (drop s.taken (take s.len s.buffer)) };
 
     ghost has_failed = { λ s. s.sink.failed };
 
@@ -189,7 +204,7 @@ impl<W: Write + Drop> Sink for FromWrite<W> {
         if self.sink.failed {
             return Err(IoFailed);
         }
-        if bytes.len() <= self.buffer.remaining_capacity() {
+        if bytes.len() <= CAPACITY - self.len {
             return self.put_in_buffer(bytes);
         }
         self.drain()?;

@@ -1,8 +1,10 @@
 -- Laws of hexadecimal digits: they are ASCII, and a word is read by pairs or by the values of its digits.
 use Rattle.std.proofs.Common.{◌≡◌, ◌≢◌, ℕ, zero, suc, ◌<◌, ◌+◌, ◌*◌, ◌/◌, ◌%◌, ◌^◌, nat_lt, List, [], ◌∷◌, Bool, true, false, ◌==◌, Option, Some, None, Ok, option_map, slice_index, replicate, lit<, refl, sym, ap, ◌∙◌, arith, zero-add, length, get_or, set, subst}
 use Rattle.std.specs.List.{list_all, range_with_len}
+use Rattle.std.specs.Int.{w32, to_le_bytes, from_le_bytes}
 use Rattle.std.specs.Int.Bits.{bit_or}
-use Rattle.std.proofs.lemmas.List.{get_or-replicate, get_or-set_same, get_or-set_other}
+use Rattle.std.proofs.lemmas.Nat.{or_block, or_of_8, le_bytes_4}
+use Rattle.std.proofs.lemmas.List.{get_or-replicate, get_or-set_same, get_or-set_other, ext_get_or}
 use Rattle.std.proofs.lemmas.List.Folds.{list_all_at}
 use Rattle.std.proofs.lemmas.List.FromFn.{get_or-range_with_len, length-range_with_len}
 use Rattle.std.proofs.lemmas.Bool.{and_parts}
@@ -169,6 +171,33 @@ small_digits a b c d p q r s ka kb kc kd e f g h =
     fourth : word % 256 % 16 ≡ s
     fourth = omega (arith, digit_small a p e, digit_small b q f, digit_small c r g, digit_small d s h)
 
+-- bit 5 is set in four bytes at once
+pub all_or : (a b c d : ℕ) → a < 2 ^ 8 → b < 2 ^ 8 → c < 2 ^ 8 → d < 2 ^ 8
+    → to_le_bytes w32 (bit_or (from_le_bytes w32 (a ∷ b ∷ c ∷ d ∷ [])) 538976288) ≡ bit_or a 32 ∷ bit_or b 32 ∷ bit_or c 32 ∷ bit_or d 32 ∷ []
+all_or a b c d ka kb kc kd = le_bytes_4 (bit_or a 32 ∷ bit_or b 32 ∷ bit_or c 32 ∷ bit_or d 32 ∷ []) (bit_or n 538976288) refl at (ap (λ m. bit_or m 538976288) split ∙ by_blocks ∙ joined)
+  where
+    n : ℕ
+    n = from_le_bytes w32 (a ∷ b ∷ c ∷ d ∷ [])
+
+    split : n ≡ ((d * 2 ^ 8 + c) * 2 ^ 8 + b) * 2 ^ 8 + a
+    split = omega arith
+
+    by_blocks : bit_or (((d * 2 ^ 8 + c) * 2 ^ 8 + b) * 2 ^ 8 + a) 538976288 ≡ ((bit_or d 32 * 2 ^ 8 + bit_or c 32) * 2 ^ 8 + bit_or b 32) * 2 ^ 8 + bit_or a 32
+    by_blocks =
+        or_block 8 ((d * 2 ^ 8 + c) * 2 ^ 8 + b) 2105376 a 32 ka (omega arith)
+        ∙ ap (λ m. m * 2 ^ 8 + bit_or a 32) (or_block 8 (d * 2 ^ 8 + c) 8224 b 32 kb (omega arith)
+        ∙ ap (λ m. m * 2 ^ 8 + bit_or b 32) (or_block 8 d 32 c 32 kc (omega arith)))
+
+    joined : ((bit_or d 32 * 2 ^ 8 + bit_or c 32) * 2 ^ 8 + bit_or b 32) * 2 ^ 8 + bit_or a 32 ≡ from_le_bytes w32 (bit_or a 32 ∷ bit_or b 32 ∷ bit_or c 32 ∷ bit_or d 32 ∷ [])
+    joined = omega arith
+
+    at : (i : ℕ) → get_or (bit_or a 32 ∷ bit_or b 32 ∷ bit_or c 32 ∷ bit_or d 32 ∷ []) i 0 < 256
+    at zero = or_of_8 a 32 ka (omega arith)
+    at (suc zero) = or_of_8 b 32 kb (omega arith)
+    at (suc (suc zero)) = or_of_8 c 32 kc (omega arith)
+    at (suc (suc (suc zero))) = or_of_8 d 32 kd (omega arith)
+    at (suc (suc (suc (suc i)))) = lit< tt
+
 -- and they are ASCII
 pub small_ascii : (a b c d p q r s : ℕ) → a < 2 ^ 8 → b < 2 ^ 8 → c < 2 ^ 8 → d < 2 ^ 8
     → hex_digit_value a ≡ Some p → hex_digit_value b ≡ Some q → hex_digit_value c ≡ Some r → hex_digit_value d ≡ Some s
@@ -184,3 +213,41 @@ small_ascii a b c d p q r s ka kb kc kd e f g h i = at i
     at (suc (suc zero)) = below c r kc g
     at (suc (suc (suc zero))) = below d s kd h
     at (suc (suc (suc (suc i)))) = lit< tt
+
+-- ---- all pairs
+
+-- the two digits of element i
+pair_of : (t xs : List ℕ) (i : ℕ) → i < length xs → (slice_index (encode_with t xs) (i * 2) ≡ slice_index t (get_or xs i 0 / 16)) × (slice_index (encode_with t xs) (i * 2 + 1) ≡ slice_index t (get_or xs i 0 % 16))
+unfolding encode_with
+pair_of t [] i within = absurd (omega (arith, within))
+pair_of t (x ∷ xs) zero within = (refl, refl)
+pair_of t (x ∷ xs) (suc i) within =
+    let rest = pair_of t xs i (omega (arith, within)) in
+    let first : suc i * 2 ≡ suc (suc (i * 2)) = omega arith in
+    let second : suc i * 2 + 1 ≡ suc (suc (i * 2 + 1)) = omega arith in
+    (ap (slice_index (encode_with t (x ∷ xs))) first ∙ rest.0, ap (slice_index (encode_with t (x ∷ xs))) second ∙ rest.1)
+
+-- each byte once
+pub all_bytes : (xs : List ℕ) → length xs ≡ 256 → ((k : ℕ) → k < 256 → get_or xs k 0 ≡ k) → xs ≡ range_with_len 0 256
+all_bytes xs long each = ext_get_or 0 xs (range_with_len 0 256) (long ∙ sym (length-range_with_len 0 256))
+    (λ k below. each k (omega (arith, below, long)) ∙ sym (get_or-range_with_len 0 256 k 0 (omega (arith, below, long)) ∙ zero-add k))
+
+-- a word's digits, from those of all bytes
+pub digits_from : (pairs : List ℕ) (word : ℕ) → word < 2 ^ 16 → pairs ≡ encode_with lower_digits (range_with_len 0 256)
+    → slice_index pairs (word / 256 * 2) ∷ slice_index pairs (word / 256 * 2 + 1) ∷ slice_index pairs (word % 256 * 2) ∷ slice_index pairs (word % 256 * 2 + 1) ∷ [] ≡ digits_of word
+unfolding encode_with
+digits_from pairs word small known = λ i. (high.0 i ∷ high.1 i ∷ low.0 i ∷ low.1 i ∷ [])
+  where
+    both : (b : ℕ) → b < 256 → (slice_index pairs (b * 2) ≡ slice_index lower_digits (b / 16)) × (slice_index pairs (b * 2 + 1) ≡ slice_index lower_digits (b % 16))
+    both b below =
+        let p = pair_of lower_digits (range_with_len 0 256) b (omega (arith, below, length-range_with_len 0 256)) in
+        let is = get_or-range_with_len 0 256 b 0 below ∙ zero-add b in (
+          ap (λ xs. slice_index xs (b * 2)) known ∙ p.0 ∙ ap (λ x. slice_index lower_digits (x / 16)) is,
+          ap (λ xs. slice_index xs (b * 2 + 1)) known ∙ p.1 ∙ ap (λ x. slice_index lower_digits (x % 16)) is,
+        )
+
+    high : (slice_index pairs (word / 256 * 2) ≡ slice_index lower_digits (word / 256 / 16)) × (slice_index pairs (word / 256 * 2 + 1) ≡ slice_index lower_digits (word / 256 % 16))
+    high = both (word / 256) (omega (arith, small))
+
+    low : (slice_index pairs (word % 256 * 2) ≡ slice_index lower_digits (word % 256 / 16)) × (slice_index pairs (word % 256 * 2 + 1) ≡ slice_index lower_digits (word % 256 % 16))
+    low = both (word % 256) (omega arith)

@@ -1,8 +1,8 @@
 -- Laws of lines: the first line of a text, and the rest.
-use Rattle.std.proofs.Common.{ℕ, zero, suc, ◌≡◌, ◌≢◌, ◌<◌, ◌+◌, Option, Some, None, IfSome, option_map, Ok, codes, if◌then◌else◌, subst, List, [], ◌∷◌, ◌++◌, length, get_or, take, drop, drop-cons, length-take, take-append-drop, get_or-take, refl, sym, ap, ◌∙◌, arith, Bool, true, false, ◌==◌}
+use Rattle.std.proofs.Common.{ℕ, zero, suc, ◌≡◌, ◌≢◌, ◌<◌, ◌≤◌, ◌+◌, ◌*◌, Option, Some, None, IfSome, option_map, Ok, codes, if◌then◌else◌, subst, List, [], ◌∷◌, ◌++◌, length, get_or, take, drop, drop-cons, length-take, take-append-drop, get_or-take, refl, sym, ap, ◌∙◌, arith, Bool, true, false, ◌==◌}
 use Rattle.std.proofs.lemmas.Grind.{common_steps}
 use Rattle.std.proofs.lemmas.Bool.Decides.{nat_tests}
-use Rattle.std.proofs.lemmas.List.{take_more}
+use Rattle.std.proofs.lemmas.List.{take_more, drop-drop}
 use Rattle.script_lines.specs.Text.{lines_of, onto_first, NoLineFeed, EndsLine}
 use Rattle.bus_word.specs.declared.word.Kind.{Kind}
 use Rattle.script_lines.specs.Digits.{word_of, digits_of}
@@ -10,7 +10,7 @@ use Rattle.std.specs.Str.{bytes_eq}
 use Rattle.std.proofs.lemmas.Slice.Eq.{bytes_eq-Decides}
 use Rattle.bus_word.specs.declared.word.Bus.{Bus}
 use Rattle.bus_word.specs.declared.word.Bus.TheVariants.{A, B}
-use Rattle.bus_word.specs.declared.word.Kind.TheVariants.{Dat}
+use Rattle.bus_word.specs.declared.word.Kind.TheVariants.{Com, Dat}
 use Rattle.bus_word.specs.Word.{valid_word}
 use Rattle.line_format.specs.Front.{◌>>=◌}
 use Rattle.script_lines.specs.Transcript.{bus_letter}
@@ -19,6 +19,7 @@ use Rattle.terminal_rules.specs.declared.event.Event.{Event}
 use Rattle.terminal_rules.specs.declared.event.Event.TheVariants.{Word, Gap, Noise, Slot}
 use Rattle.script_lines.specs.Line.{bus_of, bus_first, by_bus, kind_of, word_on, event_on, event_of, subsystem_event, or_refused, meaning}
 use Rattle.script_lines.specs.Begins.{BeginsWith}
+use Rattle.script_lines.specs.inner.Leads.{LeadsWord}
 use Rattle.script_lines.proofs.DigitLaws.{no_feed_in_digits}
 
 -- a byte that is no line feed
@@ -154,12 +155,25 @@ begins_with_word bytes bus e within feed is says none =
     ∙ says)
     none
 
-pub begins_with_gap : (bytes : List ℕ) (bus : Bus) → 5 < length bytes → get_or bytes 5 0 ≡ 10 → bytes_eq (take 3 (drop 2 bytes)) (codes "gap") ≡ true → bus_first bytes ≡ Some bus
-    → BeginsWith bytes 5 (Gap bus)
-begins_with_gap bytes bus within feed gap is =
-    let same : take 3 (drop 2 bytes) ≡ codes "gap" = (bytes_eq-Decides (take 3 (drop 2 bytes)) (codes "gap")).0 gap in
-    begins_on_bus bytes 3 bus (Gap bus) within feed is (ap (λ t. if t then Some (Gap bus) else if bytes_eq (take 3 (drop 2 bytes)) (codes "noise") then Some (Noise bus) else word_on bus (take 3 (drop 2 bytes))) gap)
-    (subst NoLineFeed (sym same) (λ x. cc x, (λ x. cc x, (λ x. cc x, tt))))
+-- a gap on this bus, by its first four bytes and the two behind them
+pub begins_with_gap : (bytes : List ℕ) (bus : Bus) → 5 < length bytes
+    → get_or bytes 0 0 ∷ get_or bytes 1 0 ∷ get_or bytes 2 0 ∷ get_or bytes 3 0 ∷ [] ≡ bus_letter bus ++ codes " ga"
+    → get_or bytes 4 0 ≡ 112 → get_or bytes 5 0 ≡ 10 → BeginsWith bytes 5 (Gap bus)
+unfolding meaning
+begins_with_gap [] bus within lead p feed = absurd (omega (arith, within))
+begins_with_gap (a ∷ []) bus within lead p feed = absurd (omega (arith, within))
+begins_with_gap (a ∷ b ∷ []) bus within lead p feed = absurd (omega (arith, within))
+begins_with_gap (a ∷ b ∷ c ∷ []) bus within lead p feed = absurd (omega (arith, within))
+begins_with_gap (a ∷ b ∷ c ∷ d ∷ []) bus within lead p feed = absurd (omega (arith, within))
+begins_with_gap (a ∷ b ∷ c ∷ d ∷ e ∷ []) bus within lead p feed = absurd (omega (arith, within))
+begins_with_gap (a ∷ b ∷ c ∷ d ∷ e ∷ f ∷ rest) bus within lead p feed = on_bus bus
+    (λ i. lead i ++ p i ∷ feed i ∷ [])
+  where
+    on_bus : (bus : Bus) → a ∷ b ∷ c ∷ d ∷ e ∷ f ∷ [] ≡ (bus_letter bus ++ codes " ga") ++ codes "p\n" → BeginsWith (a ∷ b ∷ c ∷ d ∷ e ∷ f ∷ rest) 5 (Gap bus)
+    on_bus A same = subst (λ xs. BeginsWith (xs ++ rest) 5 (Gap A)) (sym same)
+        (record { within = omega arith; line_feed = refl; one_line = (λ x. cc x, (λ x. cc x, (λ x. cc x, (λ x. cc x, (λ x. cc x, tt))))); says = refl })
+    on_bus B same = subst (λ xs. BeginsWith (xs ++ rest) 5 (Gap B)) (sym same)
+        (record { within = omega arith; line_feed = refl; one_line = (λ x. cc x, (λ x. cc x, (λ x. cc x, (λ x. cc x, (λ x. cc x, tt))))); says = refl })
 
 pub begins_with_slot : (bytes : List ℕ) → 4 < length bytes → get_or bytes 4 0 ≡ 10
     → get_or bytes 0 0 ∷ get_or bytes 1 0 ∷ get_or bytes 2 0 ∷ get_or bytes 3 0 ∷ [] ≡ codes "slot" → BeginsWith bytes 4 Slot
@@ -171,54 +185,88 @@ begins_with_slot (a ∷ b ∷ c ∷ []) within feed same = absurd (omega (arith,
 begins_with_slot (a ∷ b ∷ c ∷ d ∷ rest) within feed same =
     record { within = within; line_feed = feed; one_line = subst NoLineFeed (sym same) (λ x. cc x, (λ x. cc x, (λ x. cc x, (λ x. cc x, tt)))); says = ap meaning same }
 
--- a data word on this bus, by the four bytes before its digits
-pub begins_with_data : (bytes : List ℕ) (bus : Bus) (w : ℕ) → 8 < length bytes → get_or bytes 8 0 ≡ 10
-    → get_or bytes 0 0 ∷ get_or bytes 1 0 ∷ get_or bytes 2 0 ∷ get_or bytes 3 0 ∷ [] ≡ bus_letter bus ++ kind_text Dat
-    → word_of (get_or bytes 4 0 ∷ get_or bytes 5 0 ∷ get_or bytes 6 0 ∷ get_or bytes 7 0 ∷ []) ≡ Some w → BeginsWith bytes 8 (Word bus (valid_word Dat w))
-begins_with_data [] bus w within feed lead digits = absurd (omega (arith, within))
-begins_with_data (a ∷ []) bus w within feed lead digits = absurd (omega (arith, within))
-begins_with_data (a ∷ b ∷ []) bus w within feed lead digits = absurd (omega (arith, within))
-begins_with_data (a ∷ b ∷ c ∷ []) bus w within feed lead digits = absurd (omega (arith, within))
-begins_with_data (a ∷ b ∷ c ∷ d ∷ []) bus w within feed lead digits = absurd (omega (arith, within))
-begins_with_data (a ∷ b ∷ c ∷ d ∷ e ∷ []) bus w within feed lead digits = absurd (omega (arith, within))
-begins_with_data (a ∷ b ∷ c ∷ d ∷ e ∷ f ∷ []) bus w within feed lead digits = absurd (omega (arith, within))
-begins_with_data (a ∷ b ∷ c ∷ d ∷ e ∷ f ∷ g ∷ []) bus w within feed lead digits = absurd (omega (arith, within))
-begins_with_data (a ∷ b ∷ c ∷ d ∷ e ∷ f ∷ g ∷ h ∷ rest) bus w within feed lead digits =
-    begins_with_word bytes bus (Word bus (valid_word Dat w)) within feed (on_bus bus lead)
-    (word bus lead ∙ ap (λ o. o >>= λ bits. Some (Word bus (valid_word Dat bits))) digits)
-    (no_feed_in_valid (c ∷ d ∷ e ∷ f ∷ g ∷ h ∷ []) Dat w refl (kind bus lead) (space bus lead) digits)
+-- ---- many slots
+
+-- the lines of n slots, and what follows them
+abbrev slots_before : ℕ → List ℕ → List ℕ
+slots_before zero rest = rest
+slots_before (suc n) rest = codes "slot\n" ++ slots_before n rest
+
+each_slot : (n : ℕ) (rest : List ℕ) (k : ℕ) → k < n → BeginsWith (drop (5 * k) (slots_before n rest)) 4 Slot
+each_slot zero rest k within = absurd (omega (arith, within))
+each_slot (suc n) rest zero within = begins_with_slot (slots_before (suc n) rest) (omega arith) refl refl
+each_slot (suc n) rest (suc k) within =
+    let more : 5 + 5 * k ≡ 5 * suc k = omega arith in
+    subst (λ xs. BeginsWith xs 4 Slot) (drop-drop (5 * k) 5 (slots_before (suc n) rest) ∙ ap (λ j. drop j (slots_before (suc n) rest)) more) (each_slot n rest k (omega (arith, within)))
+
+-- four bytes stand first
+four_first : (bytes xs : List ℕ) (at : ℕ) → take 4 (drop at bytes) ≡ xs → drop at bytes ≡ xs ++ drop (at + 4) bytes
+four_first bytes xs at same = sym (take-append-drop 4 (drop at bytes)) ∙ (λ i. same i ++ drop-drop 4 at bytes i)
+
+pub begins_with_slots : (bytes : List ℕ) → take 4 (drop 0 bytes) ≡ codes "slot" → take 4 (drop 4 bytes) ≡ codes "\nslo" → take 4 (drop 8 bytes) ≡ codes "t\nsl"
+    → take 4 (drop 12 bytes) ≡ codes "ot\ns" → take 4 (drop 16 bytes) ≡ codes "lot\n" → (k : ℕ) → k < 4 → BeginsWith (drop (5 * k) bytes) 4 Slot
+begins_with_slots bytes a b c d e k within = subst (λ xs. BeginsWith (drop (5 * k) xs) 4 Slot) (sym all) (each_slot 4 (drop 20 bytes) k within)
   where
-    bytes : List ℕ
-    bytes = a ∷ b ∷ c ∷ d ∷ e ∷ f ∷ g ∷ h ∷ rest
+    start : bytes ≡ drop 0 bytes
+    start = grind (arith, common_steps)
 
-    Leads : Bus → Type 0
-    Leads bus = a ∷ b ∷ c ∷ d ∷ [] ≡ bus_letter bus ++ kind_text Dat
+    all : bytes ≡ slots_before 4 (drop 20 bytes)
+    all =
+        start ∙ four_first bytes (codes "slot") 0 a ∙ ap (λ xs. codes "slot" ++ xs) (four_first bytes (codes "\nslo") 4 b
+        ∙ ap (λ xs. codes "\nslo" ++ xs) (four_first bytes (codes "t\nsl") 8 c ∙ ap (λ xs. codes "t\nsl" ++ xs) (four_first bytes (codes "ot\ns") 12 d
+        ∙ ap (λ xs. codes "ot\ns" ++ xs) (four_first bytes (codes "lot\n") 16 e))))
 
-    on_bus : (bus : Bus) → Leads bus → bus_first bytes ≡ Some bus
-    on_bus A lead = ap (λ xs. bus_first (take 2 xs)) lead
-    on_bus B lead = ap (λ xs. bus_first (take 2 xs)) lead
+-- n bytes from one on
+abbrev elements : List ℕ → ℕ → ℕ → List ℕ
+elements bytes at zero = []
+elements bytes at (suc n) = get_or bytes at 0 ∷ elements bytes (suc at) n
 
-    kind : (bus : Bus) → Leads bus → kind_of c ≡ Some Dat
-    kind A lead = ap (λ xs. kind_of (get_or xs 2 0)) lead
-    kind B lead = ap (λ xs. kind_of (get_or xs 2 0)) lead
+elements_there : (bytes : List ℕ) (at n : ℕ) → at + n ≤ length bytes → elements bytes at n ≡ take n (drop at bytes)
+elements_there bytes at zero within = refl
+elements_there bytes at (suc n) within =
+    ap (λ xs. get_or bytes at 0 ∷ xs) (elements_there bytes (suc at) n (omega (arith, within))) ∙ ap (take (suc n)) (sym (drop-cons bytes at 0 (omega (arith, within))))
 
-    space : (bus : Bus) → Leads bus → d ≡ 32
-    space A lead = ap (λ xs. get_or xs 3 0) lead
-    space B lead = ap (λ xs. get_or xs 3 0) lead
+pub four_there : (bytes : List ℕ) (at : ℕ) → at + 4 ≤ length bytes
+    → get_or bytes at 0 ∷ get_or bytes (at + 1) 0 ∷ get_or bytes (at + 2) 0 ∷ get_or bytes (at + 3) 0 ∷ [] ≡ take 4 (drop at bytes)
+four_there bytes at within =
+    let one : at + 1 ≡ suc at = omega arith in
+    let two : at + 2 ≡ suc (suc at) = omega arith in
+    let three : at + 3 ≡ suc (suc (suc at)) = omega arith in
+    (λ i. get_or bytes at 0 ∷ get_or bytes (one i) 0 ∷ get_or bytes (two i) 0 ∷ get_or bytes (three i) 0 ∷ []) ∙ elements_there bytes at 4 within
 
-    word : (bus : Bus) → Leads bus → word_on bus (c ∷ d ∷ e ∷ f ∷ g ∷ h ∷ []) ≡ (word_of (e ∷ f ∷ g ∷ h ∷ []) >>= λ bits. Some (Word bus (valid_word Dat bits)))
-    word A lead = ap (λ xs. word_on A (get_or xs 2 0 ∷ get_or xs 3 0 ∷ e ∷ f ∷ g ∷ h ∷ [])) lead
-    word B lead = ap (λ xs. word_on B (get_or xs 2 0 ∷ get_or xs 3 0 ∷ e ∷ f ∷ g ∷ h ∷ [])) lead
+-- ---- a word on this bus
+
+-- by what stands before its digits
+pub begins_with_bits : (bytes : List ℕ) (bus : Bus) (kind : Kind) (w : ℕ) → LeadsWord bytes bus kind
+    → word_of (get_or bytes 4 0 ∷ get_or bytes 5 0 ∷ get_or bytes 6 0 ∷ get_or bytes 7 0 ∷ []) ≡ Some w → BeginsWith bytes 8 (Word bus (valid_word kind w))
+begins_with_bits [] bus kind w l digits = let within = l.within in absurd (omega arith)
+begins_with_bits (a ∷ []) bus kind w l digits = let within = l.within in absurd (omega arith)
+begins_with_bits (a ∷ b ∷ []) bus kind w l digits = let within = l.within in absurd (omega arith)
+begins_with_bits (a ∷ b ∷ c ∷ []) bus kind w l digits = let within = l.within in absurd (omega arith)
+begins_with_bits (a ∷ b ∷ c ∷ d ∷ []) bus kind w l digits = let within = l.within in absurd (omega arith)
+begins_with_bits (a ∷ b ∷ c ∷ d ∷ e ∷ []) bus kind w l digits = let within = l.within in absurd (omega arith)
+begins_with_bits (a ∷ b ∷ c ∷ d ∷ e ∷ f ∷ []) bus kind w l digits = let within = l.within in absurd (omega arith)
+begins_with_bits (a ∷ b ∷ c ∷ d ∷ e ∷ f ∷ g ∷ []) bus kind w l digits = let within = l.within in absurd (omega arith)
+begins_with_bits (a ∷ b ∷ c ∷ d ∷ e ∷ f ∷ g ∷ h ∷ rest) bus kind w l digits = subst (λ xs. BeginsWith (xs ++ end) 8 (Word bus (valid_word kind w))) (sym l.lead) (by_lead bus kind)
+  where
+    end : List ℕ
+    end = e ∷ f ∷ g ∷ h ∷ rest
+
+    by_lead : (bus : Bus) (kind : Kind) → BeginsWith ((bus_letter bus ++ kind_text kind) ++ end) 8 (Word bus (valid_word kind w))
+    by_lead A Com = begins_with_word (65 ∷ 32 ∷ 99 ∷ 32 ∷ end) A (Word A (valid_word Com w)) l.within l.line_feed refl (ap (λ o. o >>= λ bits. Some (Word A (valid_word Com bits))) digits) (no_feed_in_valid (99 ∷ 32 ∷ e ∷ f ∷ g ∷ h ∷ []) Com w refl refl refl digits)
+    by_lead A Dat = begins_with_word (65 ∷ 32 ∷ 100 ∷ 32 ∷ end) A (Word A (valid_word Dat w)) l.within l.line_feed refl (ap (λ o. o >>= λ bits. Some (Word A (valid_word Dat bits))) digits) (no_feed_in_valid (100 ∷ 32 ∷ e ∷ f ∷ g ∷ h ∷ []) Dat w refl refl refl digits)
+    by_lead B Com = begins_with_word (66 ∷ 32 ∷ 99 ∷ 32 ∷ end) B (Word B (valid_word Com w)) l.within l.line_feed refl (ap (λ o. o >>= λ bits. Some (Word B (valid_word Com bits))) digits) (no_feed_in_valid (99 ∷ 32 ∷ e ∷ f ∷ g ∷ h ∷ []) Com w refl refl refl digits)
+    by_lead B Dat = begins_with_word (66 ∷ 32 ∷ 100 ∷ 32 ∷ end) B (Word B (valid_word Dat w)) l.within l.line_feed refl (ap (λ o. o >>= λ bits. Some (Word B (valid_word Dat bits))) digits) (no_feed_in_valid (100 ∷ 32 ∷ e ∷ f ∷ g ∷ h ∷ []) Dat w refl refl refl digits)
 
 -- and by its digits, small
-pub first_data_word : (bytes : List ℕ) (bus : Bus) (found : Option (List ℕ)) → 8 < length bytes → get_or bytes 8 0 ≡ 10
-    → get_or bytes 0 0 ∷ get_or bytes 1 0 ∷ get_or bytes 2 0 ∷ get_or bytes 3 0 ∷ [] ≡ bus_letter bus ++ kind_text Dat
+pub first_data_word : (bytes : List ℕ) (bus : Bus) (found : Option (List ℕ)) → LeadsWord bytes bus Dat
     → found ≡ option_map digits_of (word_of (get_or bytes 4 0 ∷ get_or bytes 5 0 ∷ get_or bytes 6 0 ∷ get_or bytes 7 0 ∷ []))
     → IfSome found (λ digits. (w : ℕ) × (digits ≡ digits_of w) × BeginsWith bytes 8 (Word bus (valid_word Dat w)))
-first_data_word bytes bus found within feed lead is = by_word (word_of (get_or bytes 4 0 ∷ get_or bytes 5 0 ∷ get_or bytes 6 0 ∷ get_or bytes 7 0 ∷ [])) refl
+first_data_word bytes bus found l is = by_word (word_of (get_or bytes 4 0 ∷ get_or bytes 5 0 ∷ get_or bytes 6 0 ∷ get_or bytes 7 0 ∷ [])) refl
   where
-    by_word : (o : Option ℕ) → word_of (get_or bytes 4 0 ∷ get_or bytes 5 0 ∷ get_or bytes 6 0 ∷ get_or bytes 7 0 ∷ []) ≡ o
-        → IfSome found (λ digits. (w : ℕ) × (digits ≡ digits_of w) × BeginsWith bytes 8 (Word bus (valid_word Dat w)))
-    by_word None none = subst (λ x. IfSome x (λ digits. (w : ℕ) × (digits ≡ digits_of w) × BeginsWith bytes 8 (Word bus (valid_word Dat w)))) (sym (is ∙ ap (option_map digits_of) none)) tt
-    by_word (Some w) some = subst (λ x. IfSome x (λ digits. (w : ℕ) × (digits ≡ digits_of w) × BeginsWith bytes 8 (Word bus (valid_word Dat w)))) (sym (is ∙ ap (option_map digits_of) some))
-        (w, refl, begins_with_data bytes bus w within feed lead some)
+    Says : Option (List ℕ) → Type 0
+    Says o = IfSome o (λ digits. (w : ℕ) × (digits ≡ digits_of w) × BeginsWith bytes 8 (Word bus (valid_word Dat w)))
+
+    by_word : (o : Option ℕ) → word_of (get_or bytes 4 0 ∷ get_or bytes 5 0 ∷ get_or bytes 6 0 ∷ get_or bytes 7 0 ∷ []) ≡ o → Says found
+    by_word None none = subst Says (sym (is ∙ ap (option_map digits_of) none)) tt
+    by_word (Some w) some = subst Says (sym (is ∙ ap (option_map digits_of) some)) (w, refl, begins_with_bits bytes bus Dat w l some)

@@ -48,7 +48,8 @@ impl KnownDigits {
     {
         let (p, q, r, s) = (self.value(a), self.value(b), self.value(c), self.value(d));
         if p < 16 && q < 16 && r < 16 && s < 16 {
-            return Some([a | 32, b | 32, c | 32, d | 32]);
+            // all four at once: one by one a compiler takes them through a vector register
+            return Some((u32::from_le_bytes([a, b, c, d]) | 0x2020_2020).to_le_bytes());
         }
         match self.ask(a, b, c, d) {
             Some(word) => Some(digits_of(word)),

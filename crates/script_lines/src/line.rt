@@ -19,17 +19,10 @@ pub struct LineFault;
 
 /// Whether this is what follows the bus in the line of a gap.
 #[inline(always)]
-pub(crate) fn is_gap(rest: &[u8]) -> bool
+fn is_gap(rest: &[u8]) -> bool
     ensures { result ≡ bytes_eq rest.now (codes "gap") }
 {
     matches!(rest, b"gap")
-}
-
-/// A word with the right parity.
-#[derive(Clone, Copy)]
-pub struct ValidWord {
-    pub kind: Kind,
-    pub bits: u16,
 }
 
 /// The bus with which a line begins: its letter and a space.
@@ -109,24 +102,6 @@ impl LineReader {
         }
     }
 
-    /// The word of `K XXXX`, which has the right parity. None for all else.
-    #[inline(always)]
-    #[tactic(auto, using(crate::proofs::LineLaws::no_feed_in_valid))]
-    pub(crate) fn read_valid(&mut self, rest: &[u8]) -> Option<ValidWord>
-        ensures says { (bus : Bus) → IfSome result (λ word. word_on bus rest.now ≡ Some (WordEvent bus (valid_word word.kind word.bits))) }
-        ensures one_line { IfSome result (λ word. NoLineFeed rest.now) }
-        ensures none { IfNone result ((bus : Bus) → length rest.now ≡ 6 → word_on bus rest.now ≡ None) }
-    {
-        match rest {
-            [kind, b' ', a, b, c, d] => {
-                let kind = read_kind(*kind)?;
-                let bits = self.digits.word(*a, *b, *c, *d)?;
-                Some(ValidWord { kind, bits })
-            }
-            _ => None,
-        }
-    }
-
     /// A word, with its parity bit or without.
     fn read_word_on(&mut self, bus: Bus, rest: &[u8]) -> Option<Event>
         ensures { result ≡ word_on bus rest.now }
@@ -138,9 +113,10 @@ impl LineReader {
                 let parity = read_truth(*parity)?;
                 Some(Event::Word(bus, Raw { kind, bits, parity }))
             }
-            [_, _, _, _, _, _] => {
-                let word = self.read_valid(rest)?;
-                Some(Event::Word(bus, Raw::of(word.kind, word.bits)))
+            [kind, b' ', a, b, c, d] => {
+                let kind = read_kind(*kind)?;
+                let bits = self.digits.word(*a, *b, *c, *d)?;
+                Some(Event::Word(bus, Raw::of(kind, bits)))
             }
             _ => None,
         }

@@ -1,28 +1,30 @@
 //! Answers as lines of a transcript. They are written piece by piece, each of a length that the compiler knows.
-ghost use Rattle.std.specs.Prelude.{◌≡◌, ◌≤◌, ◌+◌, ◌*◌, ◌++◌, ◌∷◌, length, IsAscii};
+ghost use Rattle.std.specs.Prelude.{◌≡◌, ◌≤◌, ◌+◌, ◌*◌, ◌++◌, ◌∷◌, length, codes, IsAscii};
 ghost use Rattle.std.specs.List.{flat_map};
 ghost use Rattle.arrayvec.specs.ArrayString.{array_string_len};
-ghost use Rattle.bus_terminal.specs.Answer.{shown_answer, shown_word, shown_handing};
-ghost use Rattle.script_lines.specs.Transcript.{bus_letter, sent_kind, sent_text, data_text, word_field, received_by, received_text, hand_text, answer_text};
-ghost use Rattle.script_lines.specs.Digits.{decimal_digits};
+ghost use Rattle.bus_terminal.specs.Answer.{shown_answer, shown_handing};
+ghost use Rattle.script_lines.specs.Transcript.{bus_letter, sent_kind, data_text, word_field, received_by, received_text, hand_text, answer_text};
+ghost use Rattle.script_lines.specs.Digits.{digits_of, decimal_digits};
 ghost use Rattle.terminal_rules.specs.Out.{HandsSynchronizeWith};
 
 use crate::digits::{ascii, digits_of, push_number, push_word};
+use crate::known_pairs::KnownPairs;
 use arrayvec::ArrayString;
-use bus_terminal::{Answer, Hand, Sent};
+use bus_terminal::{Answer, Hand};
 use bus_word::{Bus, Kind};
 
 /// What the line of a word that was sent begins with: the bus, and what tells a status word, which has command sync, from
 /// a data word.
 #[inline(always)]
-fn sent_lead(bus: Bus, kind: Kind) -> &'static str
-    ensures { result.now ≡ bus_letter bus ++ sent_kind kind }
+fn sent_lead(bus: Bus, kind: Kind) -> [u8; 4]
+    ensures lead { result ≡ bus_letter bus ++ sent_kind kind }
+    ensures ascii { IsAscii result }
 {
     match (bus, kind) {
-        (Bus::A, Kind::Com) => "A s ",
-        (Bus::A, Kind::Dat) => "A d ",
-        (Bus::B, Kind::Com) => "B s ",
-        (Bus::B, Kind::Dat) => "B d ",
+        (Bus::A, Kind::Com) => *b"A s ",
+        (Bus::A, Kind::Dat) => *b"A d ",
+        (Bus::B, Kind::Com) => *b"B s ",
+        (Bus::B, Kind::Dat) => *b"B d ",
     }
 }
 
@@ -50,37 +52,33 @@ fn push_fields(text: &mut ArrayString<320>, words: &[u16])
     }
 }
 
-/// Writes the line of a word that was sent.
+/// Writes the line of a word of these digits that was sent.
 #[inline(always)]
-fn push_sent(text: &mut ArrayString<320>, sent: &Sent)
-    requires { array_string_len text.old + 9 ≤ 320 }
-    ensures bytes { text.new.bytes ≡ text.old.bytes ++ sent_text (shown_word sent.now) }
+fn push_sent(text: &mut ArrayString<320>, bus: Bus, kind: Kind, digits: [u8; 4])
+    requires room { array_string_len text.old + 9 ≤ 320 }
+    requires ascii { IsAscii digits }
+    ensures bytes { text.new.bytes ≡ text.old.bytes ++ (bus_letter bus ++ (sent_kind kind ++ (digits ++ codes "\n"))) }
     ensures len { array_string_len text.new ≡ array_string_len text.old + 9 }
 {
-    text.push_str(sent_lead(sent.bus, sent.kind));
-    push_word(text, sent.bits);
+    // by value: what stands behind a reference might overlap the text, which would be asked at each line
+    text.push_str(ascii(&sent_lead(bus, kind)));
+    text.push_str(ascii(&digits));
     text.push_str("\n");
 }
 
 /// Writes the lines of data words that are sent on a bus.
 #[inline(always)]
-pub fn push_data_words(text: &mut ArrayString<320>, bus: Bus, words: &[u16])
+pub fn push_data_words(text: &mut ArrayString<320>, pairs: &KnownPairs, bus: Bus, words: &[u16])
     requires { array_string_len text.old + 9 * length words.now ≤ 320 }
     ensures { text.new.bytes ≡ text.old.bytes ++ flat_map (data_text bus) words.now }
 {
     for word in words {
-        push_sent(
-            text,
-            &Sent {
-                bus,
-                kind: Kind::Dat,
-                bits: *word,
-            },
-        );
+        push_sent(text, bus, Kind::Dat, pairs.digits(*word));
     }
 }
 
 /// What the line of data words that were received begins with.
+#[inline(always)]
 pub fn received_by(broadcast: bool) -> &'static str
     ensures { result.now ≡ received_by broadcast }
 {
@@ -98,7 +96,12 @@ pub fn push_received_by(text: &mut ArrayString<320>, broadcast: bool, subaddress
     ensures bytes { text.new.bytes ≡ text.old.bytes ++ (received_by broadcast ++ decimal_digits subaddress) }
     ensures len { array_string_len text.new ≡ array_string_len text.old + (length (received_by broadcast) + 2) }
 {
-    text.push_str(received_by(broadcast));
+    // apart, so that the compiler knows either length
+    if broadcast {
+        text.push_str(received_by(true));
+    } else {
+        text.push_str(received_by(false));
+    }
     push_number(text, subaddress);
 }
 
@@ -141,15 +144,28 @@ fn push_hand(text: &mut ArrayString<320>, hand: &Hand)
     }
 }
 
-/// Writes the line of an answer behind what the text holds. It is inlined: an answer that is handed on stands in memory.
+/// The digits of a word.
 #[inline(always)]
-pub fn push_answer(text: &mut ArrayString<320>, answer: &Answer)
+fn digits_by(pairs: Option<&KnownPairs>, word: u16) -> [u8; 4]
+    ensures digits { result ≡ digits_of word }
+    ensures ascii { IsAscii result }
+{
+    match pairs {
+        Some(pairs) => pairs.digits(word),
+        None => digits_of(word),
+    }
+}
+
+/// Writes the line of an answer behind what the text holds, with the digits that are known, where some are. It is inlined: an
+/// answer that is handed on stands in memory.
+#[inline(always)]
+pub fn push_answer(text: &mut ArrayString<320>, pairs: Option<&KnownPairs>, answer: &Answer)
     requires { array_string_len text.old + length (answer_text (shown_answer answer.now)) ≤ 320 }
     ensures { text.new.bytes ≡ text.old.bytes ++ answer_text (shown_answer answer.now) }
 {
     match answer {
         Answer::Silent => {}
-        Answer::Sends(sent) => push_sent(text, sent),
+        Answer::Sends(sent) => push_sent(text, sent.bus, sent.kind, digits_by(pairs, sent.bits)),
         Answer::Hands(hand) => push_hand(text, hand),
     }
 }
@@ -161,6 +177,6 @@ pub fn write_answer(answer: &Answer) -> ArrayString<320>
     ensures { result.bytes ≡ answer_text (shown_answer answer.now) }
 {
     let mut text = ArrayString::new();
-    push_answer(&mut text, answer);
+    push_answer(&mut text, None, answer);
     text
 }

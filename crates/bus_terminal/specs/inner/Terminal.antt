@@ -1,5 +1,5 @@
 -- What an event makes of a terminal, and what is answered from what it keeps.
-use Rattle.std.specs.Prelude.{◌≡◌, ℕ, ◌≤◌, Bool, true, false, ◌&&◌, ◌||◌, ◌==◌, if◌then◌else◌, Option, Some, None, []}
+use Rattle.std.specs.Prelude.{◌≡◌, ℕ, ◌≤◌, Bool, true, false, ◌&&◌, ◌||◌, ◌==◌, if◌then◌else◌, Option, Some, None, List, [], refl}
 use Rattle.bus_word.specs.declared.word.Bus.{Bus}
 use Rattle.bus_word.specs.declared.word.Kind.TheVariants.{Com, Dat}
 use Rattle.bus_word.specs.declared.word.Raw.{Raw}
@@ -8,6 +8,10 @@ use Rattle.bus_word.specs.declared.cell.Cell.TheVariants.{OwnTransmit, OwnMode}
 use Rattle.bus_word.specs.Status.{status_word}
 use Rattle.bus_word.specs.Mode as mode
 use Rattle.bus_word.specs.Cell.{cell_of}
+use Rattle.bus_word.specs.Command.{expected, is_addressed_to}
+use Rattle.terminal_state.specs.declared.message.InProgress.{InProgress}
+use Rattle.terminal_state.specs.declared.message.Collected.TheVariants as buffer
+use Rattle.terminal_state.specs.declared.message.Phase.TheVariants as phase
 use Rattle.bus_legal.specs.Description.{Description, word_at}
 use Rattle.terminal_rules.specs.Place.{Place}
 use Rattle.terminal_state.specs.declared.buses.OnBuses.{OnBuses}
@@ -136,3 +140,31 @@ pub record TakesSlot {L : Type 0} (is_legal : L → Cell → Bool) (t u : Termin
   pub registers : u.registers ≡ reset_if (resets_next (shown_reply t.reply)) t.registers
   pub reply : shown_reply u.reply ≡ sent_one (shown_reply t.reply)
   pub held : (s i : ℕ) → 1 ≤ s → s ≤ 30 → 1 ≤ i → i ≤ 32 → held_word u s i ≡ (if resets_next (shown_reply t.reply) then word_at t.held.initial s i else held_word t s i)
+
+-- the message with these words
+abbrev pub collecting : Bus → ℕ → List ℕ → InProgress
+collecting b c ds = record {
+  message = Some (record {
+    bus = b;
+    decoded = record { command = c; cell = cell_of c; count = expected c; of_command = refl; counted = refl };
+    phase = phase.Collects buffer.Words;
+  });
+  words = record { items = ds };
+}
+
+-- nothing stands in the way of a command on this bus: no message is in progress, no reply is on the bus, its run holds no word for
+-- the terminal yet, and the command is for the terminal
+pub record StartsAlone {L : Type 0} (b : Bus) (c : ℕ) (t : Terminal L) : Type 0 where
+  pub none : t.in_progress.message ≡ None
+  pub hears : is_on b (reply_bus (shown_reply t.reply)) ≡ false
+  pub first : on_bus b t.heard ≡ false
+  pub ours : is_addressed_to t.settings.address t.settings.broadcast c ≡ true
+
+-- with the message of such a command
+abbrev pub started_alone : {L : Type 0} → (L → Cell → Bool) → Bus → ℕ → Terminal L → Terminal L
+started_alone is_legal b c t = record t {
+  heard = with_bus b true t.heard;
+  in_progress = collecting b c [];
+  registers = started (spares (own_description is_legal t) c) c t.registers;
+  reply = None;
+}

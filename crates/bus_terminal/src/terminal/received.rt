@@ -60,7 +60,7 @@ impl<L: Legality> Terminal<L> {
 
     /// Tells what a command is to receive.
     #[inline(always)]
-    fn receiving_by(&self, decoded: Decoded) -> Option<Receiving>
+    pub(super) fn receiving_by(&self, decoded: Decoded) -> Option<Receiving>
         ensures { result ≡ receiving_by (own_description L.is_legal self.now) decoded.command (cell_of decoded.command) }
     {
         match decoded.cell {
