@@ -48,12 +48,13 @@ impl LineReason {
             LineReason::Tab => "a tab: fields are separated by one space",
             LineReason::Front => "a space at the front: a line begins with its first field",
             LineReason::Spaces => "a second space: fields are separated by exactly one",
-            LineReason::End => "a space at the end: nothing stands behind the last field",
-            LineReason::Comment => "a comment behind a field: a comment is a line of its own",
-            LineReason::Name => "no event begins so: A, B, slot, write, vector, bit, flag",
+            LineReason::End => "a space at the end: nothing may follow the last field",
+            LineReason::Comment => "a comment after a field: a comment is a line of its own",
+            LineReason::Name =>
+                "no event begins like this: it is A, B, slot, write, vector, bit or flag",
             LineReason::Spelling =>
                 "names have one spelling: A, B, slot, write, vector, bit, flag, c, d, gap, noise",
-            LineReason::OnBus => "wanted behind a bus: c, d, gap or noise",
+            LineReason::OnBus => "after a bus, c, d, gap or noise is expected",
             LineReason::Sent =>
                 "the terminal's own words are no events; the status word of another terminal is written as a word with c",
             LineReason::Digits => "a word is four hexadecimal digits, without a mark",
@@ -62,7 +63,7 @@ impl LineReason {
             LineReason::Number => "the number of a word is two digits, 01 to 32",
             LineReason::Flag => "a flag is service, busy, subsystem or terminal",
             LineReason::Value => "a flag is set by 1 and taken back by 0",
-            LineReason::Much => "nothing stands behind the last field",
+            LineReason::Much => "nothing may follow the last field",
         }
     }
 }
