@@ -1,2 +1,4 @@
 pub mod TakenLaws
 pub mod PrintLaws
+pub mod EscapeLaws
+pub mod ShownLaws

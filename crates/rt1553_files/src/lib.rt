@@ -7,4 +7,4 @@ mod printable;
 
 pub use fault::FileFault;
 pub use files::{PROFILE_BYTES, SCRIPT_BYTES, open_file, read_file};
-pub use printable::escaped;
+pub use printable::{escaped, push_printable};

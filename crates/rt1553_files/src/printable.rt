@@ -1,13 +1,17 @@
 //! Texts that come from outside, as they are printed.
-ghost use Rattle.std.specs.Prelude.{◌≡◌, IfOk, OnOk, string_bytes};
-ghost use Rattle.rt1553_files.specs.Printable.{PrintsOnOneLine};
+ghost use Rattle.std.specs.Prelude.{◌≡◌, ◌++◌, IfOk, OnOk, string_bytes, encode_utf8_all};
+ghost use Rattle.std.specs.List.{flat_map};
+ghost use Rattle.std.specs.Char.{encode_utf8};
+ghost use Rattle.std.specs.Char.Escape.{escape_ascii};
+ghost use Rattle.rt1553_files.specs.Printable.{PrintsOnOneLine, printed, AddsShown, Shows};
 
 use std::alloc::{AllocError, Global};
 
 /// Adds a character that was escaped. One that would still end the line or command a terminal goes as a question mark: none is
 /// left, and this makes it certain.
-fn push_shown(text: &mut String, c: char) -> Result<(), AllocError>
-    ensures { OnOk result (PrintsOnOneLine (string_bytes text.old) → PrintsOnOneLine (string_bytes text.new)) }
+pub fn push_printable(text: &mut String, c: char) -> Result<(), AllocError>
+    ensures writes { OnOk result (string_bytes text.new ≡ string_bytes text.old ++ encode_utf8 (printed c)) }
+    ensures one_line { OnOk result (PrintsOnOneLine (string_bytes text.old) → PrintsOnOneLine (string_bytes text.new)) }
 {
     if c < ' ' || c == '\u{7f}' {
         return text.push('?');
@@ -17,20 +21,20 @@ fn push_shown(text: &mut String, c: char) -> Result<(), AllocError>
 
 /// Adds a text with its characters escaped as `str::escape_debug` has it.
 fn push_text(text: &mut String, part: &str) -> Result<(), AllocError>
-    ensures { OnOk result (PrintsOnOneLine (string_bytes text.old) → PrintsOnOneLine (string_bytes text.new)) }
+    ensures { OnOk result (AddsShown part.now (string_bytes text.old) (string_bytes text.new)) }
 {
     for c in part.escape_debug() {
-        push_shown(text, c)?;
+        text.push(c)?;
     }
     Ok(())
 }
 
 /// Adds bytes that are no UTF-8, as `\x` with two hexadecimal digits.
 fn push_bytes(text: &mut String, bytes: &[u8]) -> Result<(), AllocError>
-    ensures { OnOk result (PrintsOnOneLine (string_bytes text.old) → PrintsOnOneLine (string_bytes text.new)) }
+    ensures { OnOk result (string_bytes text.new ≡ string_bytes text.old ++ encode_utf8_all (flat_map escape_ascii bytes.now)) }
 {
     for byte in bytes.escape_ascii() {
-        push_shown(text, char::from(byte))?;
+        text.push(char::from(byte))?;
     }
     Ok(())
 }
@@ -39,7 +43,8 @@ fn push_bytes(text: &mut String, bytes: &[u8]) -> Result<(), AllocError>
 /// shape or turn the direction of writing, quotes and backslashes escaped as `str::escape_debug` has it, and bytes that are
 /// no UTF-8 as `\x` with two hexadecimal digits. So nothing of it commands the terminal on which it is shown.
 pub fn escaped(alloc: Global, bytes: &[u8]) -> Result<String, AllocError>
-    ensures { IfOk result (λ text. PrintsOnOneLine (string_bytes text)) }
+    ensures shows { IfOk result (λ text. Shows bytes.now (string_bytes text)) }
+    ensures one_line { IfOk result (λ text. PrintsOnOneLine (string_bytes text)) }
 {
     let mut text = String::new(alloc);
     for chunk in bytes.utf8_chunks() {
