@@ -1,0 +1,4 @@
+pub mod NamedCells
+pub mod NameRow
+pub mod Names
+pub mod inner

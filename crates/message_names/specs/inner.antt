@@ -1,0 +1,2 @@
+-- What the model of the names speaks of.
+pub mod Rows
