@@ -4,24 +4,30 @@ use std::fmt::{self, Write};
 /// How wide a character of the font for digits is, in tenths of a unit.
 const DIGIT_TENTHS: u32 = 73;
 
+/// How wide a character that is none of ASCII is at most, in tenths of a unit: one and a half times the size of the font.
+const OTHER_TENTHS: u32 = 180;
+
 /// How wide a character is at most, in tenths of a unit: in DejaVu Sans at 12 units, rounded up. Arial, Helvetica and Liberation
-/// Sans are narrower.
-fn tenths_of(byte: u8) -> u32 {
-    match byte {
-        b'i' | b'j' | b'l' | b'\'' => 34,
-        b' ' | b'.' | b',' | b':' | b';' | b'/' => 41,
-        b'f' | b'-' => 44,
-        b't' | b'r' | b'(' | b')' | b'!' | b'I' => 50,
-        b's' | b'z' => 63,
-        b'c' | b'k' | b'v' | b'x' | b'y' => 71,
-        b'a'..=b'z' | b'0'..=b'9' => match byte {
-            b'w' => 99,
-            b'm' => 117,
+/// Sans are narrower. Of those that are not of ASCII only a few are wider, such as a dash of three.
+fn tenths_of(c: char) -> u32 {
+    if c > '~' {
+        return OTHER_TENTHS;
+    }
+    match c {
+        'i' | 'j' | 'l' | '\'' => 34,
+        ' ' | '.' | ',' | ':' | ';' | '/' => 41,
+        'f' | '-' => 44,
+        't' | 'r' | '(' | ')' | '!' | 'I' => 50,
+        's' | 'z' => 63,
+        'c' | 'k' | 'v' | 'x' | 'y' => 71,
+        'a'..='z' | '0'..='9' => match c {
+            'w' => 99,
+            'm' => 117,
             _ => 77,
         },
-        b'A'..=b'Z' => match byte {
-            b'M' => 104,
-            b'W' => 119,
+        'A'..='Z' => match c {
+            'M' => 104,
+            'W' => 119,
             _ => 95,
         },
         _ => 121,
@@ -36,8 +42,8 @@ struct Width {
 
 impl fmt::Write for Width {
     fn write_str(&mut self, text: &str) -> fmt::Result {
-        for byte in text.as_bytes() {
-            self.tenths = self.tenths.saturating_add(tenths_of(*byte));
+        for c in text.chars() {
+            self.tenths = self.tenths.saturating_add(tenths_of(c));
         }
         Ok(())
     }

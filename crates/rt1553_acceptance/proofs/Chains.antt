@@ -25,12 +25,14 @@ use Rattle.rt1553_verify.specs.declared.stated.StatedFault.{StatedFault}
 use Rattle.rt1553_verify.specs.declared.matching.Matching.TheVariants.{Exact}
 use Rattle.rt1553_verify.specs.Stated.{StatedEvent, Latest, After, can_answer, ended, stays, or_misplaced, unstated_line, by_going_on, by_mask, by_answer, with_line_feed, is_empty, line_says}
 use Rattle.rt1553_verify.proofs.StatedLaws.{stated-means}
+use Rattle.message_names.specs.NameRow.{NameRow}
 use Rattle.rt1553_acceptance.specs.Label.{label_of}
+use Rattle.rt1553_acceptance.specs.Remark.{remark_of}
 use Rattle.rt1553_acceptance.specs.Text.{answer_stated, event_stated, comment_of, exchanges_stated, fields_stated}
 use Rattle.rt1553_acceptance.specs.Law.{AreStatedAnswers}
 use Rattle.rt1553_acceptance.specs.inner.Fits.{Fits, AllFit}
 use Rattle.rt1553_acceptance.proofs.Pieces.{Tells, Tells-nil, Tells-line, Tells-trans, Tells-same}
-use Rattle.rt1553_acceptance.proofs.Feeds.{IsLine, literal, within, joined, digits-line, decimal_digits-line, letter-line, sent_kind-line, label-line, event-line}
+use Rattle.rt1553_acceptance.proofs.Feeds.{IsLine, literal, within, joined, digits-line, decimal_digits-line, letter-line, sent_kind-line, labelled-line, event-line}
 use Rattle.rt1553_acceptance.proofs.Fields.{answered, fields-added}
 
 -- ---- the line of an event
@@ -256,16 +258,18 @@ some_events P n h (e ∷ es) latest proper fits few =
 
 -- ---- exchanges, each behind its comment
 
-comment_said : (P : Description) (n : ℕ) (h : List Event) (x : Exchange) (latest : Latest) → n < 1048576 → Chain P n (n + 1) h (comment_of P x) latest latest []
+comment_said : (rows : List NameRow) (P : Description) (n : ℕ) (h : List Event) (x : Exchange) (latest : Latest) → n < 1048576
+    → Chain P n (n + 1) h (comment_of rows P x) latest latest []
 unfolding meaning
-comment_said P n h x latest few =
-    let label = label-line P x.command in
-    let line : IsLine 64 (codes "# " ++ label_of P x.command) = within (omega arith) (joined (codes "# ") (label_of P x.command) (literal _ refl) label) in
+comment_said rows P n h x latest few =
+    let label = label_of P x.command in
+    let remark = remark_of rows label x.command in
+    let line : IsLine 64 (codes "# " ++ (label ++ remark)) = within (omega arith) (joined (codes "# ") (label ++ remark) (literal _ refl) (labelled-line rows P x.command)) in
     record {
       said = [];
       stated = [];
-      tells = Tells-same (comment_of P x) (sym (append_assoc (codes "# ") (label_of P x.command) (10 ∷ [])))
-          (Tells-line n (codes "# " ++ label_of P x.command) latest latest [] few line.short line.feeds refl);
+      tells = Tells-same (comment_of rows P x) (ap (λ text. codes "# " ++ text) (sym (append_assoc label remark (10 ∷ []))) ∙ sym (append_assoc (codes "# ") (label ++ remark) (10 ∷ [])))
+          (Tells-line n (codes "# " ++ (label ++ remark)) latest latest [] few line.short line.feeds refl);
       splits = sym (append-nil (ended latest));
       events = refl;
       answers = tt;
@@ -279,22 +283,22 @@ fit-append : (P : Description) (h es fs : List Event) → AllFit P h (es ++ fs) 
 fit-append P h [] fs p = (tt, p)
 fit-append P h (e ∷ es) fs p = let later = fit-append P (e ∷ h) es fs p.1 in ((p.0, later.0), later.1)
 
-pub some_exchanges : (P : Description) (n : ℕ) (h : List Event) (xs : List Exchange) (latest : Latest) → AreProper (script_of xs) → AllFit P h (script_of xs)
-    → n + 6 * length (script_of xs) < 1048569 → Chained P n h (exchanges_stated P h xs) latest (script_of xs) (n + 6 * length (script_of xs))
+pub some_exchanges : (rows : List NameRow) (P : Description) (n : ℕ) (h : List Event) (xs : List Exchange) (latest : Latest) → AreProper (script_of xs) → AllFit P h (script_of xs)
+    → n + 6 * length (script_of xs) < 1048569 → Chained P n h (exchanges_stated rows P h xs) latest (script_of xs) (n + 6 * length (script_of xs))
 unfolding exchanges_stated
-some_exchanges P n h [] latest proper fits few = (n, latest, Chain-nil P n h latest, omega arith)
-some_exchanges P n h (x ∷ xs) latest proper fits few =
+some_exchanges rows P n h [] latest proper fits few = (n, latest, Chain-nil P n h latest, omega arith)
+some_exchanges rows P n h (x ∷ xs) latest proper fits few =
     let one : List Event = script_of (x ∷ []) in
     let parts : one ++ script_of xs ≡ script_of (x ∷ xs) = exchange-append x (script_of xs) in
     let long = ap length (sym parts) ∙ length-append one (script_of xs) in
     let some : 1 ≤ length one = omega arith in
     let propers = proper-append one (script_of xs) (subst AreProper (sym parts) proper) in
     let fit = fit-append P h one (script_of xs) (subst (AllFit P h) (sym parts) fits) in
-    let comment = comment_said P n h x latest (omega (arith, few)) in
+    let comment = comment_said rows P n h x latest (omega (arith, few)) in
     let events = some_events P (n + 1) h one latest propers.0 fit.0 (omega (arith, few, long, some)) in
-    let rest = some_exchanges P events.0 (history_after one h) xs events.1 propers.1 fit.1 (omega (arith, few, long, some, events.3)) in (
+    let rest = some_exchanges rows P events.0 (history_after one h) xs events.1 propers.1 fit.1 (omega (arith, few, long, some, events.3)) in (
       rest.0,
       rest.1,
-      subst (Chain P n rest.0 h (exchanges_stated P h (x ∷ xs)) latest rest.1) parts (Chain-trans {k = rest.0} {c = rest.1} comment (Chain-trans {k = rest.0} {c = rest.1} events.2 rest.2)),
+      subst (Chain P n rest.0 h (exchanges_stated rows P h (x ∷ xs)) latest rest.1) parts (Chain-trans {k = rest.0} {c = rest.1} comment (Chain-trans {k = rest.0} {c = rest.1} events.2 rest.2)),
       omega (arith, long, some, events.3, rest.3),
     )

@@ -1,5 +1,6 @@
 -- Lines have no line feed in them, and are short.
-use Rattle.std.proofs.Common.{ℕ, ◌≡◌, ◌≢◌, ◌+◌, ◌≤◌, Bool, true, false, not, ◌&&◌, ◌==◌, nat_lt, if◌then◌else◌, List, [], ◌∷◌, ◌++◌, length, codes, length-append, refl, arith}
+use Rattle.std.proofs.Common.{ℕ, ◌≡◌, ◌≢◌, ◌+◌, ◌≤◌, Bool, true, false, not, ◌&&◌, ◌==◌, nat_lt, nat_le, if◌then◌else◌, List, [], ◌∷◌, ◌++◌, Option, Some, None, length, codes, length-append, refl, arith}
+use Rattle.std.specs.List.{list_all}
 use Rattle.std.proofs.lemmas.Bool.Decides.{nat_tests}
 use Rattle.bus_word.specs.declared.word.Bus.{Bus}
 use Rattle.bus_word.specs.declared.word.Bus.TheVariants.{A, B}
@@ -19,6 +20,8 @@ use Rattle.script_lines.specs.Text.{NoLineFeed}
 use Rattle.script_lines.specs.Transcript.{bus_letter, sent_kind}
 use Rattle.script_lines.specs.EventLine.{kind_text, truth_field, place_text, flag_name, event_text}
 use Rattle.script_lines.proofs.TranscriptLaws.{four_digits}
+use Rattle.message_names.specs.NameRow.{NameRow}
+use Rattle.rt1553_acceptance.specs.Remark.{has_no_control, remark_with, name_asked, remark_of}
 use Rattle.rt1553_acceptance.specs.Label.{small_decimal, data_asked, asked, is_legal_by, label_of}
 use Rattle.rt1553_acceptance.proofs.Pieces.{feeds-append}
 use Rattle.rt1553_acceptance.proofs.Digits.{feeds-digits, feeds-decimal}
@@ -84,11 +87,40 @@ data-line c = within (omega arith)
     (joined (small_decimal (count_of c)) _ (decimal-line (count_of c)) (either (count_of c == 1) _ _ (within {most = 6} (omega arith) (literal _ refl)) (within (omega arith) (literal _ refl)))))))
 
 -- a label has no line feed, and at most 53 bytes
-pub label-line : (P : Description) (c : ℕ) → IsLine 53 (label_of P c)
+label-line : (P : Description) (c : ℕ) → IsLine 53 (label_of P c)
 label-line P c = within (omega arith)
     (joined (if is_broadcast c then codes "broadcast " else []) _ (either (is_broadcast c) _ _ (within {most = 10} (omega arith) (literal _ refl)) (within (omega arith) (literal _ refl)))
     (joined (asked c) _ (either (is_mode c) _ _ (name-line (code_of c)) (data-line c))
     (either (is_legal_by P (cell_of c)) _ _ (within {most = 9} (omega arith) (literal _ refl)) (within (omega arith) (literal _ refl)))))
+
+-- ---- names behind labels
+
+-- a text without control characters has no line feed
+plain-feeds : (text : List ℕ) → has_no_control text ≡ true → NoLineFeed text
+plain-feeds [] plain = tt
+plain-feeds (b ∷ bs) plain = (plain-byte b (list_all (λ c. nat_le 32 c && not (c == 127)) bs) plain, plain-feeds bs (plain-rest b _ plain))
+  where
+    plain-byte : (b : ℕ) (more : Bool) → ((nat_le 32 b && not (b == 127)) && more) ≡ true → b ≢ 10
+    plain-byte b more plain e = grind arith
+
+    plain-rest : (b : ℕ) (more : Bool) → ((nat_le 32 b && not (b == 127)) && more) ≡ true → more ≡ true
+    plain-rest b more plain = grind arith
+
+-- a label with what stands behind it
+remarked : (label : List ℕ) (name : Option (List ℕ)) → IsLine 53 label → IsLine 62 (label ++ remark_with label name)
+remarked label None is = within (omega arith) (joined label [] is (literal [] refl))
+remarked label (Some name) is = by_room (nat_le (length label + length name) 61) (has_no_control name) refl refl
+  where
+    by_room : (room plain : Bool) → nat_le (length label + length name) 61 ≡ room → has_no_control name ≡ plain → IsLine 62 (label ++ (if room && plain then 32 ∷ name else []))
+    by_room true true room plain = record {
+      feeds = feeds-append label (32 ∷ name) is.feeds ((λ e. absurd (omega (arith, e))), plain-feeds name plain);
+      short = grind (arith, length-append);
+    }
+    by_room true false room plain = within (omega arith) (joined label [] is (literal [] refl))
+    by_room false plain room e = within (omega arith) (joined label [] is (literal [] refl))
+
+pub labelled-line : (rows : List NameRow) (P : Description) (c : ℕ) → IsLine 62 (label_of P c ++ remark_of rows (label_of P c) c)
+labelled-line rows P c = remarked (label_of P c) (name_asked rows (cell_of c)) (label-line P c)
 
 -- ---- events
 

@@ -19,6 +19,7 @@ use Rattle.terminal_complete_test.proofs.Complete.{complete_test_law}
 use Rattle.rt1553_verify.specs.declared.matching.Matching.TheVariants.{Exact}
 use Rattle.rt1553_verify.specs.Stated.{StatedEvent, fits, stated_in}
 use Rattle.rt1553_verify.specs.Verify.{ToldAnswer, answers_told, wrong_answers_from, by_script, verified}
+use Rattle.message_names.specs.NameRow.{NameRow}
 use Rattle.rt1553_acceptance.specs.Text.{acceptance_text}
 use Rattle.rt1553_acceptance.specs.Law.{AreStatedAnswers, IsAcceptanceTest}
 use Rattle.rt1553_acceptance.specs.inner.Fits.{Fits, AllFit}
@@ -144,11 +145,11 @@ same-answered P Q h (s ∷ ss) are same =
 
 -- ---- the test
 
-pub acceptance-law : (v : Parts) → IsNormal v → AllFit (description_in v) [] (complete_test (description_in v)) → IsAcceptanceTest (description_in v) (acceptance_text (description_in v))
-acceptance-law v normal fits =
+pub acceptance-law : (rows : List NameRow) (v : Parts) → IsNormal v → AllFit (description_in v) [] (complete_test (description_in v)) → IsAcceptanceTest (description_in v) (acceptance_text rows (description_in v))
+acceptance-law rows v normal fits =
     let P = description_in v in
-    let text = acceptance_text P in
-    let told = some_exchanges P 0 [] (tried P) None (complete_test_law.proper v normal) fits (omega (arith, complete_test_law.short v normal)) in
+    let text = acceptance_text rows P in
+    let told = some_exchanges rows P 0 [] (tried P) None (complete_test_law.proper v normal) fits (omega (arith, complete_test_law.short v normal)) in
     let chain = told.2 in
     let reads : stated_in text ≡ Ok chain.stated = Tells-all chain.tells ∙ ap Ok chain.splits in
     let own : verified P text ≡ Ok [] = ap (by_script P) reads ∙ ap Ok (none-differs P [] chain.stated chain.answers) in record {

@@ -1,5 +1,6 @@
 pub use Rattle.bus_legal.specs.Parts
 pub mod Label
+pub mod Remark
 pub mod Text
 pub mod Law
 pub mod inner

@@ -9,7 +9,9 @@ use Rattle.terminal_complete_test.specs.CompleteTest.{tried}
 use Rattle.script_lines.specs.Digits.{digits_of, decimal_digits}
 use Rattle.script_lines.specs.EventLine.{event_text}
 use Rattle.script_lines.specs.Transcript.{sent_text, word_field, received_by, hand_text, transcript}
+use Rattle.message_names.specs.NameRow.{NameRow}
 use Rattle.rt1553_acceptance.specs.Label.{label_of}
+use Rattle.rt1553_acceptance.specs.Remark.{remark_of}
 
 -- the last words of an answer: so many have room on its line, and the others go on, twelve on a line
 unfoldable pub fields_stated : ℕ → List ℕ → List ℕ
@@ -35,18 +37,18 @@ answer_stated (HandsOver handing) = codes "#> " ++ hand_stated handing
 abbrev pub event_stated : Description → List Event → Event → List ℕ
 event_stated P h e = event_text e ++ 10 ∷ answer_stated (out P h e)
 
--- the comment that says what an exchange tries
-abbrev pub comment_of : Description → Exchange → List ℕ
-comment_of P x = codes "# " ++ (label_of P x.command ++ 10 ∷ [])
+-- the comment that says what an exchange tries, with the name of its message, if it has one among these rows and there is room
+abbrev pub comment_of : List NameRow → Description → Exchange → List ℕ
+comment_of rows P x = codes "# " ++ (label_of P x.command ++ (remark_of rows (label_of P x.command) x.command ++ 10 ∷ []))
 
 -- exchanges that follow a history, each behind its comment
-unfoldable pub exchanges_stated : Description → List Event → List Exchange → List ℕ
-exchanges_stated P h [] = []
-exchanges_stated P h (x ∷ xs) =
-    comment_of P x
+unfoldable pub exchanges_stated : List NameRow → Description → List Event → List Exchange → List ℕ
+exchanges_stated rows P h [] = []
+exchanges_stated rows P h (x ∷ xs) =
+    comment_of rows P x
     ++ (transcript (event_stated P) h (script_of (x ∷ []))
-    ++ exchanges_stated P (history_after (script_of (x ∷ [])) h) xs)
+    ++ exchanges_stated rows P (history_after (script_of (x ∷ [])) h) xs)
 
--- the complete test of the terminal of P, from power-up, with the answers that it gives
-abbrev pub acceptance_text : Description → List ℕ
-acceptance_text P = exchanges_stated P [] (tried P)
+-- the complete test of the terminal of P, from power-up, with the answers that it gives, and these names of messages
+abbrev pub acceptance_text : List NameRow → Description → List ℕ
+acceptance_text rows P = exchanges_stated rows P [] (tried P)

@@ -2,6 +2,7 @@
 #![tactic(auto)]
 
 mod label;
+mod remark;
 mod stating;
 mod writing;
 

@@ -15,11 +15,13 @@ ghost use Rattle.rt1553_acceptance.specs.inner.Fits.{Fits, AllFit};
 ghost use Rattle.rt1553_acceptance.specs.inner.Puts.{Puts};
 
 use crate::label::label_of;
+use crate::remark::push_remark;
 use crate::stating::{StatedLines, fits, stated_lines};
 use bus_complete_test::{Exchange, Exchanges};
 use bus_legal::{Legality, Normal};
 use bus_script::{IoFailed, Sink, write_all};
 use bus_terminal::{Event, Terminal};
+use message_names::MessageNames;
 use terminal_exchanges::events_of;
 
 /// What is told while the test is written.
@@ -61,13 +63,20 @@ fn put_events<L: Legality, W: Sink>(
 }
 
 /// Writes the comment that says what an exchange tries.
-fn put_comment<W: Sink>(sink: &mut W, p: &Normal, exchange: Exchange) -> Result<(), IoFailed>
-    ensures wrote { OnOk result (Appends (W.written sink.old) (W.written sink.new) (comment_of (description_in p.now) (exchange_in exchange))) }
+fn put_comment<W: Sink>(
+    sink: &mut W,
+    names: &MessageNames,
+    p: &Normal,
+    exchange: Exchange,
+) -> Result<(), IoFailed>
+    ensures wrote { OnOk result (Appends (W.written sink.old) (W.written sink.new) (comment_of names.now (description_in p.now) (exchange_in exchange))) }
     ensures failed { W.has_failed sink.new ≡ (W.has_failed sink.old || not (is_ok result)) }
 {
     let mut line = StatedLines::new();
+    let label = label_of(p, exchange.command);
     line.push_str("# ");
-    line.push_str(label_of(p, exchange.command).as_str());
+    line.push_str(label.as_str());
+    push_remark(&mut line, label.as_str(), names, exchange.command);
     line.push_str("\n");
     write_all(sink, line.as_str().as_bytes())
 }
@@ -76,14 +85,15 @@ fn put_comment<W: Sink>(sink: &mut W, p: &Normal, exchange: Exchange) -> Result<
 fn put_exchange<L: Legality, W: Sink>(
     sink: &mut W,
     terminal: &mut Terminal<L>,
+    names: &MessageNames,
     p: &Normal,
     exchange: Exchange,
 ) -> Result<(), IoFailed>
     requires { IsShort exchange }
-    ensures wrote { OnOk result (Puts L.is_legal W.written (description_in p.now) terminal.old terminal.new sink.old sink.new (exchange_in exchange ∷ [])) }
+    ensures wrote { OnOk result (Puts L.is_legal W.written names.now (description_in p.now) terminal.old terminal.new sink.old sink.new (exchange_in exchange ∷ [])) }
     ensures failed { W.has_failed sink.new ≡ (W.has_failed sink.old || not (is_ok result)) }
 {
-    put_comment(sink, p, exchange)?;
+    put_comment(sink, names, p, exchange)?;
     let events = events_of(exchange);
     put_events(sink, terminal, events.as_slice())
 }
@@ -92,15 +102,16 @@ fn put_exchange<L: Legality, W: Sink>(
 fn put_exchanges<L: Legality, W: Sink, T: Progress>(
     sink: &mut W,
     terminal: &mut Terminal<L>,
+    names: &MessageNames,
     p: &Normal,
     progress: &mut T,
 ) -> Result<(), IoFailed>
-    ensures wrote { OnOk result (Puts L.is_legal W.written (description_in p.now) terminal.old terminal.new sink.old sink.new (tried (description_in p.now))) }
+    ensures wrote { OnOk result (Puts L.is_legal W.written names.now (description_in p.now) terminal.old terminal.new sink.old sink.new (tried (description_in p.now))) }
     ensures failed { W.has_failed sink.new ≡ (W.has_failed sink.old || not (is_ok result)) }
 {
     let mut exchanges = Exchanges::new(p);
     while let Some(exchange) = exchanges.next() {
-        put_exchange(sink, terminal, p, exchange)?;
+        put_exchange(sink, terminal, names, p, exchange)?;
         progress.exchange_written();
     }
     Ok(())
@@ -108,17 +119,19 @@ fn put_exchanges<L: Legality, W: Sink, T: Progress>(
 
 /// Writes the acceptance test of a terminal: the script that tells it from every other terminal, each exchange behind a
 /// comment that says what it tries, each event with the answer that this terminal gives. A terminal that answers as it
-/// states, from power-up, is this one. The sink may hold bytes back: flush it.
+/// states, from power-up, is this one. The name of a message stands in the comments of its exchanges, where it has room and no control
+/// character: give names as they are printed. The sink may hold bytes back: flush it.
 pub fn write_acceptance<W: Sink, T: Progress>(
     normal: &Normal,
+    names: &MessageNames,
     sink: &mut W,
     progress: &mut T,
 ) -> Result<(), IoFailed>
-    ensures text { OnOk result (Appends (W.written sink.old) (W.written sink.new) (acceptance_text (description_in normal.now))) }
-    ensures test { OnOk result (IsAcceptanceTest (description_in normal.now) (acceptance_text (description_in normal.now))) }
+    ensures text { OnOk result (Appends (W.written sink.old) (W.written sink.new) (acceptance_text names.now (description_in normal.now))) }
+    ensures test { OnOk result (IsAcceptanceTest (description_in normal.now) (acceptance_text names.now (description_in normal.now))) }
     ensures failed { W.has_failed sink.new ≡ (W.has_failed sink.old || not (is_ok result)) }
 {
     let setup = normal.setup();
     let mut terminal = Terminal::power_up(setup, *normal);
-    put_exchanges(sink, &mut terminal, normal, progress)
+    put_exchanges(sink, &mut terminal, names, normal, progress)
 }

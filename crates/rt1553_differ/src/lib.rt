@@ -6,6 +6,7 @@ mod differing;
 mod explained;
 mod groups;
 mod lines;
+mod named;
 mod scripts;
 mod table;
 mod told;

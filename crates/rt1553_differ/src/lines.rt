@@ -66,37 +66,46 @@ pub fn lines_of(alloc: Global, groups: &[Group]) -> Result<Vec<DifferenceLine>, 
 
 /// In what the two differ, with its colon.
 #[derive(Clone, Copy)]
-pub struct Label {
+pub struct Label<'a> {
     pub group: Group,
+    /// The names of its messages with a space before them, empty for none.
+    pub names: &'a str,
 }
 
-impl Label {
+impl Label<'_> {
     /// Writes the subaddresses of word counts.
     fn put_counts<W: fmt::Write>(&self, f: &mut fmt::Formatter<W>, what: &str) -> fmt::Result {
         let subaddresses = Numbers {
             bits: self.group.subaddresses,
             first: 1,
         };
-        write!(f, "{what} {subaddresses}:")
+        write!(f, "{what} {subaddresses}{}:", self.names)
     }
 }
 
-impl fmt::Display for Label {
+impl fmt::Display for Label<'_> {
     fn fmt<W: fmt::Write>(&self, f: &mut fmt::Formatter<W>) -> fmt::Result {
+        let names = self.names;
         match self.group.difference {
             Difference::Address => f.write_str("address:"),
             Difference::BroadcastOption => f.write_str("broadcast:"),
             Difference::ReceiveCell(_, _) => self.put_counts(f, "receive"),
             Difference::TransmitCell(_, _) => self.put_counts(f, "transmit"),
             Difference::BroadcastReceiveCell(_, _) => self.put_counts(f, "broadcast receive"),
-            Difference::OwnCode(code) => write!(f, "mode code {code} ({}):", mode_name(code)),
+            Difference::OwnCode(code) => {
+                write!(f, "mode code {code} ({}){names}:", mode_name(code))
+            }
             Difference::BroadcastCode(code) => {
-                write!(f, "broadcast mode code {code} ({}):", mode_name(code))
+                write!(
+                    f,
+                    "broadcast mode code {code} ({}){names}:",
+                    mode_name(code)
+                )
             }
             Difference::Acceptance => f.write_str("bus control:"),
             Difference::VectorWord => f.write_str("vector word:"),
             Difference::BitWord => f.write_str("BIT word:"),
-            Difference::InitialWord(s, i) => write!(f, "word {i} of subaddress {s}:"),
+            Difference::InitialWord(s, i) => write!(f, "word {i} of subaddress {s}{names}:"),
             Difference::Wraparound => f.write_str("wraparound:"),
         }
     }

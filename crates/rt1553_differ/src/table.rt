@@ -3,9 +3,11 @@ ghost use Rattle.std.specs.Prelude.{◌≤◌};
 
 use crate::columns::{push_column, wider};
 use crate::explained::{Codes, SubaddressRow, codes_of, row_of};
+use crate::named::code_cell;
 use bus_legal::Normal;
 use bus_word::mode::{BIT_WORD, DYNAMIC_BUS_CONTROL, VECTOR_WORD};
 use bus_word::mode_name;
+use message_names::{MessageCounts, MessageKind, MessageNames, name_in, owned, push_name};
 use profile_types::Numbers;
 use serde::Serialize;
 use std::alloc::{AllocError, Global};
@@ -43,13 +45,6 @@ fn has_some(row: &SubaddressRow) -> bool {
     row.receive != 0 || row.transmit != 0 || row.broadcast != 0
 }
 
-/// Tells whether at two subaddresses the same word counts are legal.
-fn has_same(row: &SubaddressRow, other: &SubaddressRow) -> bool {
-    row.receive == other.receive
-        && row.transmit == other.transmit
-        && row.broadcast == other.broadcast
-}
-
 /// Gives how many words of a row there are up to the last that is not 0.
 fn words_in(row: &SubaddressRow) -> usize
     ensures { result ≤ 32 }
@@ -63,48 +58,91 @@ fn words_in(row: &SubaddressRow) -> usize
     len
 }
 
-/// A line of the table of word counts: all subaddresses with the same.
+/// The cells of a line of the table of word counts, as texts.
 #[derive(Drop)]
-struct TableLine {
-    at: String,
+struct RowTexts {
+    /// Whether some word count is legal.
+    is_legal: bool,
     receive: String,
     transmit: String,
     broadcast: String,
 }
 
-/// Gives a line of the table of word counts.
-fn table_line(
+/// A line of the table of word counts: all subaddresses with the same.
+#[derive(Drop)]
+struct TableLine<'a> {
+    at: String,
+    texts: &'a RowTexts,
+}
+
+/// Gives the word counts of a kind at the subaddress of a row.
+fn counts_of(kind: MessageKind, row: &SubaddressRow) -> MessageCounts {
+    MessageCounts {
+        kind,
+        subaddress: row.subaddress,
+        counts: match kind {
+            MessageKind::Receive => row.receive,
+            MessageKind::Transmit => row.transmit,
+            MessageKind::BroadcastReceive => row.broadcast,
+        },
+    }
+}
+
+/// Gives the cells of the line of a row, with the names of messages.
+fn row_texts(
     alloc: Global,
-    subaddresses: u32,
+    names: Option<&MessageNames>,
     row: &SubaddressRow,
-) -> Result<TableLine, AllocError> {
-    Ok(TableLine {
-        at: numbers_text(alloc, subaddresses, 1)?,
-        receive: numbers_text(alloc, row.receive, 1)?,
-        transmit: numbers_text(alloc, row.transmit, 1)?,
-        broadcast: numbers_text(alloc, row.broadcast, 1)?,
+) -> Result<RowTexts, AllocError> {
+    Ok(RowTexts {
+        is_legal: has_some(row),
+        receive: counts_of(MessageKind::Receive, row).text(alloc, names)?,
+        transmit: counts_of(MessageKind::Transmit, row).text(alloc, names)?,
+        broadcast: counts_of(MessageKind::BroadcastReceive, row).text(alloc, names)?,
     })
 }
 
-/// Gives the subaddresses, bit `s - 1` for `s`, at which the same word counts are legal as in a row.
-fn subaddresses_like(normal: &Normal, row: &SubaddressRow) -> u32 {
+/// Gives the cells of each subaddress.
+fn all_texts(
+    alloc: Global,
+    normal: &Normal,
+    names: Option<&MessageNames>,
+) -> Result<Vec<RowTexts>, AllocError> {
+    let mut texts = Vec::new(alloc);
+    for s in 1..31u8 {
+        texts.push(row_texts(alloc, names, &row_of(normal, s))?)?;
+    }
+    Ok(texts)
+}
+
+/// Tells whether at two subaddresses the same word counts are legal, of messages of the same names.
+fn has_same(texts: &RowTexts, other: &RowTexts) -> bool {
+    texts.receive == other.receive
+        && texts.transmit == other.transmit
+        && texts.broadcast == other.broadcast
+}
+
+/// Gives the subaddresses, bit `s - 1` for `s`, with the same cells.
+fn subaddresses_like(all: &[RowTexts], texts: &RowTexts) -> u32 {
     let mut alike = 0u32;
-    for t in 1..31u8 {
-        if has_same(row, &row_of(normal, t)) {
-            alike |= 1 << u32::from(t - 1);
+    for (index, other) in all.iter().enumerate() {
+        if index < 32 && has_same(texts, other) {
+            alike |= 1 << index;
         }
     }
     alike
 }
 
 /// Gives the table of word counts: one line for all subaddresses with the same.
-fn table_lines(alloc: Global, normal: &Normal) -> Result<Vec<TableLine>, AllocError> {
+fn table_lines<'a>(alloc: Global, all: &'a [RowTexts]) -> Result<Vec<TableLine<'a>>, AllocError> {
     let mut lines = Vec::new(alloc);
-    for s in 1..31u8 {
-        let row = row_of(normal, s);
-        let alike = subaddresses_like(normal, &row);
-        if has_some(&row) && alike.trailing_zeros() == u32::from(s) - 1 {
-            lines.push(table_line(alloc, alike, &row)?)?;
+    for (index, texts) in all.iter().enumerate() {
+        let alike = subaddresses_like(all, texts);
+        if texts.is_legal && alike.trailing_zeros() as usize == index {
+            lines.push(TableLine {
+                at: numbers_text(alloc, alike, 1)?,
+                texts,
+            })?;
         }
     }
     Ok(lines)
@@ -127,16 +165,22 @@ fn push_line(
 }
 
 /// Writes the table of word counts. A column is as wide as it has to be, and at least 14 letters.
-fn push_counts(alloc: Global, text: &mut String, normal: &Normal) -> Result<(), AllocError> {
-    let lines = table_lines(alloc, normal)?;
+fn push_counts(
+    alloc: Global,
+    text: &mut String,
+    normal: &Normal,
+    names: Option<&MessageNames>,
+) -> Result<(), AllocError> {
+    let all = all_texts(alloc, normal, names)?;
+    let lines = table_lines(alloc, all.as_slice())?;
     if lines.is_empty() {
         return writeln!(text, "\nno word count is legal at any subaddress");
     }
     let mut widths = (14, 14, 14);
     for line in lines.as_slice() {
         widths.0 = wider(widths.0, line.at.as_str());
-        widths.1 = wider(widths.1, line.receive.as_str());
-        widths.2 = wider(widths.2, line.transmit.as_str());
+        widths.1 = wider(widths.1, line.texts.receive.as_str());
+        widths.2 = wider(widths.2, line.texts.transmit.as_str());
     }
     text.push_str("\n")?;
     let heads = ("subaddresses", "receive", "transmit", "broadcast receive");
@@ -144,9 +188,9 @@ fn push_counts(alloc: Global, text: &mut String, normal: &Normal) -> Result<(), 
     for line in lines.as_slice() {
         let cells = (
             line.at.as_str(),
-            line.receive.as_str(),
-            line.transmit.as_str(),
-            line.broadcast.as_str(),
+            line.texts.receive.as_str(),
+            line.texts.transmit.as_str(),
+            line.texts.broadcast.as_str(),
         );
         push_line(text, widths, cells)?;
     }
@@ -176,15 +220,39 @@ fn push_words(text: &mut String, normal: &Normal) -> Result<(), AllocError> {
     Ok(())
 }
 
-/// Writes mode codes with their names.
-fn push_codes(text: &mut String, title: &str, codes: u32) -> Result<(), AllocError> {
+/// Writes a mode code with its name, and that of its message.
+fn push_code(
+    alloc: Global,
+    text: &mut String,
+    names: Option<&MessageNames>,
+    broadcast: bool,
+    code: u8,
+) -> Result<(), AllocError> {
+    write!(text, "{code:>2}: {}", mode_name(code))?;
+    push_name(alloc, text, name_in(names, code_cell(broadcast, code)))?;
+    text.push_str("\n")
+}
+
+/// Writes the mode codes of a mask below a title, if there are any.
+fn push_codes(
+    alloc: Global,
+    text: &mut String,
+    names: Option<&MessageNames>,
+    broadcast: bool,
+    codes: u32,
+) -> Result<(), AllocError> {
     if codes == 0 {
         return Ok(());
     }
+    let title = if broadcast {
+        "mode codes by broadcast"
+    } else {
+        "mode codes"
+    };
     writeln!(text, "\n{title}")?;
     for code in 0..32u8 {
         if has_code(codes, code) {
-            writeln!(text, "{code:>2}: {}", mode_name(code))?;
+            push_code(alloc, text, names, broadcast, code)?;
         }
     }
     Ok(())
@@ -220,15 +288,19 @@ fn push_settings(text: &mut String, normal: &Normal, codes: Codes) -> Result<(),
     Ok(())
 }
 
-/// What a terminal does, as a text that a person reads.
-pub fn explain(alloc: Global, normal: &Normal) -> Result<String, AllocError> {
+/// What a terminal does, as a text that a person reads; with the names of messages beside their numbers, where there are names.
+pub fn explain(
+    alloc: Global,
+    normal: &Normal,
+    names: Option<&MessageNames>,
+) -> Result<String, AllocError> {
     let mut text = String::new(alloc);
     let codes = codes_of(normal);
     push_settings(&mut text, normal, codes)?;
-    push_counts(alloc, &mut text, normal)?;
+    push_counts(alloc, &mut text, normal, names)?;
     push_words(&mut text, normal)?;
-    push_codes(&mut text, "mode codes", codes.own)?;
-    push_codes(&mut text, "mode codes by broadcast", codes.broadcast)?;
+    push_codes(alloc, &mut text, names, false, codes.own)?;
+    push_codes(alloc, &mut text, names, true, codes.broadcast)?;
     Ok(text)
 }
 
@@ -237,6 +309,17 @@ pub fn explain(alloc: Global, normal: &Normal) -> Result<String, AllocError> {
 struct Code {
     code: u8,
     name: &'static str,
+    /// The name of its message, null for none; left out where there are no names.
+    #[serde(skip_serializing_if = "Option::is_none")]
+    message: Option<Option<String>>,
+}
+
+/// The names of the messages of a subaddress as JSON: one for each word count, null for none.
+#[derive(Drop, Serialize)]
+struct SubaddressNames {
+    receive: Vec<Option<String>>,
+    transmit: Vec<Option<String>>,
+    broadcast_receive: Vec<Option<String>>,
 }
 
 /// A subaddress as JSON: the word counts that are legal, and the words that are held.
@@ -247,6 +330,9 @@ struct Subaddress {
     transmit: Vec<u8>,
     broadcast_receive: Vec<u8>,
     words: Vec<u16>,
+    /// Left out where there are no names.
+    #[serde(skip_serializing_if = "Option::is_none")]
+    names: Option<SubaddressNames>,
 }
 
 /// A terminal as JSON: null where no mode code asks for it, and where words come back nowhere.
@@ -263,22 +349,61 @@ struct Explanation {
     broadcast_mode_codes: Vec<Code>,
 }
 
+/// Gives the name of the message of a mode code, None where there are no names.
+fn code_message(
+    alloc: Global,
+    names: Option<&MessageNames>,
+    broadcast: bool,
+    code: u8,
+) -> Result<Option<Option<String>>, AllocError> {
+    match names {
+        Some(names) => Ok(Some(owned(alloc, names.name_of(code_cell(broadcast, code)))?)),
+        None => Ok(None),
+    }
+}
+
 /// Gives mode codes with their names.
-fn codes_list(alloc: Global, codes: u32) -> Result<Vec<Code>, AllocError> {
+fn codes_list(
+    alloc: Global,
+    names: Option<&MessageNames>,
+    broadcast: bool,
+    codes: u32,
+) -> Result<Vec<Code>, AllocError> {
     let mut list = Vec::new(alloc);
     for code in 0..32u8 {
         if has_code(codes, code) {
             list.push(Code {
                 code,
                 name: mode_name(code),
+                message: code_message(alloc, names, broadcast, code)?,
             })?;
         }
     }
     Ok(list)
 }
 
+/// Gives the names of the messages of a row, None where there are no names.
+fn row_names(
+    alloc: Global,
+    names: Option<&MessageNames>,
+    row: &SubaddressRow,
+) -> Result<Option<SubaddressNames>, AllocError> {
+    let Some(names) = names else {
+        return Ok(None);
+    };
+    Ok(Some(SubaddressNames {
+        receive: counts_of(MessageKind::Receive, row).list(alloc, names)?,
+        transmit: counts_of(MessageKind::Transmit, row).list(alloc, names)?,
+        broadcast_receive: counts_of(MessageKind::BroadcastReceive, row).list(alloc, names)?,
+    }))
+}
+
 /// Gives the subaddresses at which some word count is legal.
-fn rows_list(alloc: Global, normal: &Normal) -> Result<Vec<Subaddress>, AllocError> {
+fn rows_list(
+    alloc: Global,
+    normal: &Normal,
+    names: Option<&MessageNames>,
+) -> Result<Vec<Subaddress>, AllocError> {
     let mut list = Vec::new(alloc);
     for s in 1..31u8 {
         let row = row_of(normal, s);
@@ -289,6 +414,7 @@ fn rows_list(alloc: Global, normal: &Normal) -> Result<Vec<Subaddress>, AllocErr
                 transmit: numbers_list(alloc, row.transmit, 1)?,
                 broadcast_receive: numbers_list(alloc, row.broadcast, 1)?,
                 words: Vec::from_slice(alloc, &row.words[..words_in(&row)])?,
+                names: row_names(alloc, names, &row)?,
             })?;
         }
     }
@@ -307,8 +433,12 @@ where
     }
 }
 
-/// What a terminal does, as JSON; None where memory runs out.
-pub fn explain_json(alloc: Global, normal: &Normal) -> Option<String> {
+/// What a terminal does, as JSON, with the names of messages, where there are names; None where memory runs out.
+pub fn explain_json(
+    alloc: Global,
+    normal: &Normal,
+    names: Option<&MessageNames>,
+) -> Option<String> {
     let codes = codes_of(normal);
     let explanation = Explanation {
         address: normal.address(),
@@ -320,9 +450,9 @@ pub fn explain_json(alloc: Global, normal: &Normal) -> Option<String> {
         accept_bus_control: if_asked(codes, DYNAMIC_BUS_CONTROL, normal.accept()),
         vector: if_asked(codes, VECTOR_WORD, normal.vector()),
         bit: if_asked(codes, BIT_WORD, normal.bit()),
-        subaddresses: rows_list(alloc, normal).ok()?,
-        mode_codes: codes_list(alloc, codes.own).ok()?,
-        broadcast_mode_codes: codes_list(alloc, codes.broadcast).ok()?,
+        subaddresses: rows_list(alloc, normal, names).ok()?,
+        mode_codes: codes_list(alloc, names, false, codes.own).ok()?,
+        broadcast_mode_codes: codes_list(alloc, names, true, codes.broadcast).ok()?,
     };
     serde_json::to_string(alloc, &explanation).ok()
 }

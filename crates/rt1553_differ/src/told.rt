@@ -2,10 +2,12 @@
 use crate::columns::{push_column, wider};
 use crate::groups::Group;
 use crate::lines::{DifferenceLine, Label, Values, lines_of, word_at};
+use crate::named::names_of;
 use crate::scripts::{script_lines, script_of};
 use bus_canon::Difference;
 use bus_legal::{Legality, Normal};
 use bus_word::Cell;
+use message_names::MessageNames;
 use serde::Serialize;
 use std::alloc::{AllocError, Global};
 use std::format;
@@ -30,13 +32,35 @@ pub struct Pair<'a> {
     pub q: &'a Normal,
     pub first: &'a str,
     pub second: &'a str,
+    /// The names of messages, where there are names.
+    pub names: Option<&'a MessageNames>,
+}
+
+/// Gives the names of the messages of a line with a space before them, empty for none.
+fn line_names(alloc: Global, pair: &Pair<'_>, line: &DifferenceLine) -> Result<String, AllocError> {
+    let Some(names) = pair.names else {
+        return Ok(String::new(alloc));
+    };
+    let counts = match line.other {
+        Some(other) => line.group.counts | other.counts,
+        None => line.group.counts,
+    };
+    names_of(alloc, names, pair.p, &line.group, counts)?.text(alloc)
 }
 
 /// Gives what stands before the columns of the lines.
-fn labels_of(alloc: Global, lines: &[DifferenceLine]) -> Result<Vec<String>, AllocError> {
+fn labels_of(
+    alloc: Global,
+    pair: &Pair<'_>,
+    lines: &[DifferenceLine],
+) -> Result<Vec<String>, AllocError> {
     let mut labels = Vec::new(alloc);
     for line in lines {
-        let label = Label { group: line.group };
+        let names = line_names(alloc, pair, line)?;
+        let label = Label {
+            group: line.group,
+            names: names.as_str(),
+        };
         labels.push(format!(in alloc; "{label}")?)?;
     }
     Ok(labels)
@@ -95,7 +119,7 @@ pub fn differ_text(
 ) -> Result<String, AllocError> {
     let mut text = String::new(alloc);
     let lines = lines_of(alloc, groups)?;
-    let labels = labels_of(alloc, lines.as_slice())?;
+    let labels = labels_of(alloc, pair, lines.as_slice())?;
     let width = width_of(labels.as_slice());
     for (line, label) in lines.as_slice().iter().zip(labels.as_slice()) {
         push_line(&mut text, pair, line, label.as_str(), width)?;
@@ -114,6 +138,9 @@ struct DifferenceEntry {
     subaddresses: Vec<u8>,
     /// Word counts, a mode code, or the number of a word.
     numbers: Vec<u8>,
+    /// The names of its messages, each once; left out where there are no names.
+    #[serde(skip_serializing_if = "Option::is_none")]
+    names: Option<Vec<String>>,
     /// What is so in the first, and in the second.
     first: String,
     second: String,
@@ -209,6 +236,19 @@ fn places_of(alloc: Global, group: &Group) -> Result<(Vec<u8>, Vec<u8>), AllocEr
     Ok((subaddresses, numbers))
 }
 
+/// Gives the names of the messages of a group, None where there are no names.
+fn group_names(
+    alloc: Global,
+    pair: &Pair<'_>,
+    group: &Group,
+) -> Result<Option<Vec<String>>, AllocError> {
+    let Some(names) = pair.names else {
+        return Ok(None);
+    };
+    let list = names_of(alloc, names, pair.p, group, group.counts)?;
+    Ok(Some(list.list(alloc)?))
+}
+
 /// Gives a group as JSON has it.
 fn difference_entry(
     alloc: Global,
@@ -226,6 +266,7 @@ fn difference_entry(
         what: name_of(group.difference),
         subaddresses,
         numbers,
+        names: group_names(alloc, pair, group)?,
         first: value_text(alloc, pair.p, group.difference)?,
         second: value_text(alloc, pair.q, group.difference)?,
         script,

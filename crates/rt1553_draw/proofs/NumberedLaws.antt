@@ -1,12 +1,11 @@
 -- Laws of the events of a script and the numbers of their lines.
-use Rattle.std.proofs.Common.{ℕ, ◌≡◌, ◌≢◌, ◌∙◌, ◌+◌, ◌-◌, ◌<◌, ◌≤◌, true, false, List, [], ◌∷◌, ◌++◌, Option, Some, None, Result, Ok, Err, is_ok, length, map, get_or, take, drop, refl, sym, ap, arith, append_assoc, append-nil}
+use Rattle.std.proofs.Common.{ℕ, ◌≡◌, ◌∙◌, ◌+◌, ◌<◌, ◌≤◌, true, false, List, [], ◌∷◌, ◌++◌, Option, Some, None, Result, Ok, Err, is_ok, length, map, refl, sym, ap, arith, append_assoc, append-nil}
 use Rattle.std.proofs.lemmas.Bool.Decides.{nat_tests}
-use Rattle.std.proofs.lemmas.List.{take_all, drop_all, length-drop, map-append, length-map}
+use Rattle.std.proofs.lemmas.List.{map-append, length-map}
 use Rattle.terminal_rules.specs.declared.event.Event.{Event}
 use Rattle.script_lines.specs.declared.line.LineFault.{LineFault}
 use Rattle.script_lines.specs.Line.{meaning}
 use Rattle.script_lines.specs.Text.{lines_of}
-use Rattle.script_lines.proofs.LineLaws.{line_at, lines-line, lines-last, no_line_feed}
 use Rattle.bus_script.specs.declared.fault.RunFault.TheVariants.{Line, LongLine, TooLong}
 use Rattle.bus_script.specs.Reading.{Reading, reading, adds, nothing, stops, then_reads}
 use Rattle.bus_script.proofs.ReadingLaws.{reading-line, reading-too_long, reading-long_line, adds-adds}

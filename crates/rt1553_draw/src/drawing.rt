@@ -11,6 +11,7 @@ use crate::plan::plan;
 use crate::row::{Row, bottom_of, right_of, rows_of};
 use crate::shape::{push_head, push_row, push_style};
 use bus_legal::Normal;
+use message_names::MessageNames;
 use std::alloc::{AllocError, Global};
 use std::fmt;
 
@@ -70,12 +71,18 @@ fn drawing_of(
 
 /// Draws what comes to a terminal from power-up, by a script, and what it answers: an SVG in which each word is a box in
 /// the lane of its bus, and what the subsystem gives and is handed over a box in its own lane. Comments are left aside, also
-/// those that state answers. A script that has a fault, for which its run ends, and one of over 4,096 events are refused.
-pub fn draw(alloc: Global, normal: &Normal, script: &[u8]) -> Result<String, DrawFault>
+/// those that state answers. Where there are names, each message has its name. A script that has a fault, for which its run ends, and one of
+/// over 4,096 events are refused.
+pub fn draw(
+    alloc: Global,
+    normal: &Normal,
+    names: Option<&MessageNames>,
+    script: &[u8],
+) -> Result<String, DrawFault>
     ensures drawn { OnOk result (refusal (reading 0 (lines_of script.now)) ≡ None) }
     ensures refused { IfErr result (λ fault. fault ≢ DrawFault.Memory → refusal (reading 0 (lines_of script.now)) ≡ Some fault) }
 {
-    let parts = plan(alloc, normal, script)?;
+    let parts = plan(alloc, normal, names, script)?;
     Ok(drawing_of(alloc, normal, parts.as_slice())?)
 }
 
@@ -139,11 +146,16 @@ fn folds_of(alloc: Global, parts: &[DrawnMessage]) -> Result<String, AllocError>
 }
 
 /// Draws the same message by message, for a page: each stands below a line that says what it is, and can be folded.
-pub fn draw_folded(alloc: Global, normal: &Normal, script: &[u8]) -> Result<String, DrawFault>
+pub fn draw_folded(
+    alloc: Global,
+    normal: &Normal,
+    names: Option<&MessageNames>,
+    script: &[u8],
+) -> Result<String, DrawFault>
     ensures drawn { OnOk result (refusal (reading 0 (lines_of script.now)) ≡ None) }
     ensures refused { IfErr result (λ fault. fault ≢ DrawFault.Memory → refusal (reading 0 (lines_of script.now)) ≡ Some fault) }
 {
-    let parts = plan(alloc, normal, script)?;
+    let parts = plan(alloc, normal, names, script)?;
     Ok(folds_of(alloc, parts.as_slice())?)
 }
 
@@ -168,13 +180,14 @@ fn standing_in(
 pub fn draw_lines(
     alloc: Global,
     normal: &Normal,
+    names: Option<&MessageNames>,
     script: &[u8],
     lines: &[u64],
 ) -> Result<String, DrawFault>
     ensures drawn { OnOk result (refusal (reading 0 (lines_of script.now)) ≡ None) }
     ensures refused { IfErr result (λ fault. fault ≢ DrawFault.Memory → refusal (reading 0 (lines_of script.now)) ≡ Some fault) }
 {
-    let parts = plan(alloc, normal, script)?;
+    let parts = plan(alloc, normal, names, script)?;
     let kept = standing_in(alloc, parts, lines)?;
     Ok(folds_of(alloc, kept.as_slice())?)
 }

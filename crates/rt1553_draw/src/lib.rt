@@ -4,6 +4,7 @@
 mod column;
 mod course;
 mod drawing;
+mod drawn_name;
 mod fault;
 mod numbered;
 mod page;

@@ -3,9 +3,12 @@ ghost use Rattle.std.specs.Prelude.{◌≡◌, ◌∷◌, ◌++◌, [], OnOk};
 ghost use Rattle.rt1553_draw.specs.inner.Drawn.{drawn_of, stands_in};
 
 use crate::column::Column;
-use crate::course::Course;
+use crate::course::{Course, Heard};
+use crate::drawn_name::{DrawnName, name_after};
 use crate::numbered::Numbered;
+use bus_terminal::Event;
 use drawing_boxes::{Caption, InOneLine, Lanes, MARGIN, width_of};
+use message_names::MessageNames;
 use std::alloc::{AllocError, Global};
 use std::fmt;
 
@@ -16,13 +19,15 @@ pub struct DrawnMessage {
     pub number: u32,
     pub course: Course,
     pub columns: Vec<Column>,
+    /// Its name, where there are names and it has one.
+    pub name: Option<DrawnName>,
 }
 
-/// The name of the message of this number.
+/// What stands above the message of this number, but for its name.
 #[derive(Clone, Copy)]
-pub struct Name(pub u32);
+pub struct Heading(pub u32);
 
-impl fmt::Display for Name {
+impl fmt::Display for Heading {
     fn fmt<W: fmt::Write>(&self, f: &mut fmt::Formatter<W>) -> fmt::Result {
         let number = self.0;
         write!(f, "message {number}")
@@ -38,6 +43,33 @@ impl DrawnMessage {
             number,
             course: Course::BEGIN,
             columns: Vec::new(alloc),
+            name: None,
+        }
+    }
+
+    /// Gives it the name that it has after an event more, where there are names.
+    pub fn take_name(
+        &mut self,
+        alloc: Global,
+        names: Option<&MessageNames>,
+        heard: Heard,
+        event: Event,
+    ) -> Result<(), AllocError>
+        ensures { OnOk result (drawn_of self.new ≡ drawn_of self.old) }
+    {
+        if let Some(names) = names {
+            let before = self.name.take();
+            self.name = name_after(alloc, names, heard, before, event)?;
+        }
+        Ok(())
+    }
+
+    /// How wide what stands above it is.
+    fn heading_width(&self) -> u32 {
+        let width = width_of(&Heading(self.number));
+        match &self.name {
+            Some(name) => width.saturating_add(name.width),
+            None => width,
         }
     }
 
@@ -55,9 +87,7 @@ impl DrawnMessage {
         for column in self.columns.as_slice() {
             width = width.saturating_add(column.width);
         }
-        width
-            .max(width_of(&Name(self.number)))
-            .saturating_add(4 * MARGIN)
+        width.max(self.heading_width()).saturating_add(4 * MARGIN)
     }
 
     /// The lanes that it has something in.
@@ -140,18 +170,22 @@ impl DrawnMessage {
     }
 }
 
-/// A message in one line: its number, the line of the script in which it begins, what it is and how it is answered.
+/// A message in one line, as it stands in XML: its number, the line of the script in which it begins, what it is, its name if it has one,
+/// and how it is answered.
 #[derive(Clone, Copy)]
 pub struct MessageTitle<'a>(pub &'a DrawnMessage);
 
 impl fmt::Display for MessageTitle<'_> {
     fn fmt<W: fmt::Write>(&self, f: &mut fmt::Formatter<W>) -> fmt::Result {
-        let name = Name(self.0.number);
+        let heading = Heading(self.0.number);
         let line = self.0.first_line();
-        write!(f, "{name}, line {line}")?;
+        write!(f, "{heading}, line {line}")?;
         if let Some(caption) = self.0.what() {
             let what = InOneLine(caption);
             write!(f, ": {what}")?;
+        }
+        if let Some(name) = &self.0.name {
+            write!(f, " {}", name.whole.as_str())?;
         }
         if let Some(caption) = self.0.status() {
             let status = InOneLine(caption);

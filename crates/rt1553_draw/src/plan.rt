@@ -12,6 +12,7 @@ use crate::numbered::{Numbered, events_to_draw};
 use crate::part::DrawnMessage;
 use bus_legal::{Legality, Normal};
 use bus_terminal::{Event, Terminal};
+use message_names::MessageNames;
 use std::alloc::{AllocError, Global};
 
 /// The number of the message that follows.
@@ -80,6 +81,7 @@ fn add_event<L: Legality>(
 fn messages_of(
     alloc: Global,
     normal: &Normal,
+    names: Option<&MessageNames>,
     events: &[Numbered],
 ) -> Result<Vec<DrawnMessage>, AllocError>
     ensures { IfOk result (λ parts. drawn_in parts.items ≡ events.now) }
@@ -95,6 +97,7 @@ fn messages_of(
     for of in events {
         part = begin_another(alloc, &mut parts, part, heard, of.event)?;
         add_event(alloc, &mut terminal, heard, &mut part, *of)?;
+        part.take_name(alloc, names, heard, of.event)?;
     }
     parts.push(part)?;
     Ok(parts)
@@ -102,10 +105,15 @@ fn messages_of(
 
 /// The messages that are drawn of a script: each of its events has one column, in their order. A script is refused by
 /// its fault, for which its run ends too; or else for having over 4,096 events.
-pub fn plan(alloc: Global, normal: &Normal, script: &[u8]) -> Result<Vec<DrawnMessage>, DrawFault>
+pub fn plan(
+    alloc: Global,
+    normal: &Normal,
+    names: Option<&MessageNames>,
+    script: &[u8],
+) -> Result<Vec<DrawnMessage>, DrawFault>
     ensures drawn { IfOk result (λ parts. (refusal (reading 0 (lines_of script.now)) ≡ None) × (drawn_in parts.items ≡ events_on 0 (lines_of script.now))) }
     ensures refused { IfErr result (λ fault. fault ≢ DrawFault.Memory → refusal (reading 0 (lines_of script.now)) ≡ Some fault) }
 {
     let events = events_to_draw(alloc, script)?;
-    Ok(messages_of(alloc, normal, events.as_slice())?)
+    Ok(messages_of(alloc, normal, names, events.as_slice())?)
 }

@@ -1,7 +1,7 @@
 //! The shapes that a drawing is made of.
 use crate::column::{Column, Mark};
 use crate::numbered::Numbered;
-use crate::part::{DrawnMessage, MessageTitle, Name};
+use crate::part::{DrawnMessage, Heading, MessageTitle};
 use crate::row::Row;
 use crate::style::DRAWING_STYLE;
 use bus_script::write_event;
@@ -191,16 +191,20 @@ fn push_part(
     left: u32,
     part: &DrawnMessage,
 ) -> Result<(), AllocError> {
-    let name = Name(part.number);
+    let heading = Heading(part.number);
     let summary = MessageTitle(part);
     let name_left = left.saturating_add(2 * MARGIN);
     let names = frame.names();
     let top = frame.top;
     let bottom = frame.bottom();
-    writeln!(
+    write!(
         text,
-        "<g class=\"message\" role=\"img\"><title>{summary}</title><line class=\"edge\" x1=\"{left}\" y1=\"{top}\" x2=\"{left}\" y2=\"{bottom}\"/><text class=\"name\" x=\"{name_left}\" y=\"{names}\">{name}</text>"
+        "<g class=\"message\" role=\"img\"><title>{summary}</title><line class=\"edge\" x1=\"{left}\" y1=\"{top}\" x2=\"{left}\" y2=\"{bottom}\"/><text class=\"name\" x=\"{name_left}\" y=\"{names}\">{heading}"
     )?;
+    if let Some(name) = &part.name {
+        write!(text, " {}", name.short.as_str())?;
+    }
+    text.push_str("</text>\n")?;
     push_columns(text, frame, name_left, part)?;
     text.push_str("</g>\n")
 }

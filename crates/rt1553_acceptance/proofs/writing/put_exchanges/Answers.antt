@@ -7,7 +7,7 @@ use Rattle.rt1553_acceptance.proofs.writing.put_exchanges.Goals as goal
 
 pub loop-exchange-init : goal.loop-exchange-init
 loop-exchange-init g c =
-    ([], Puts-nil g.L.Legality.is_legal g.W.Sink.written (description_in c.args.p.now) c.args.terminal.now c.args.sink.now, c.new-exchanges.ensures.left, cc)
+    ([], Puts-nil g.L.Legality.is_legal g.W.Sink.written c.args.names.now (description_in c.args.p.now) c.args.terminal.now c.args.sink.now, c.new-exchanges.ensures.left, cc)
 
 pub loop-exchange-preserved : goal.loop-exchange-preserved
 loop-exchange-preserved g c =

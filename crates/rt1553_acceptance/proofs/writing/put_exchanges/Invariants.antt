@@ -9,7 +9,7 @@ use Rattle.rt1553_acceptance.proofs.writing.put_exchanges.Given as goal
 -- what was written, and what is left, is all
 abbrev pub invariant-loop-exchange : goal.invariant-loop-exchange
 invariant-loop-exchange g l = (xs : List Exchange)
-    × Puts g.L.Legality.is_legal g.W.Sink.written (description_in l.p) l.initial.terminal l.terminal l.initial.sink l.sink xs
+    × Puts g.L.Legality.is_legal g.W.Sink.written l.names (description_in l.p) l.initial.terminal l.terminal l.initial.sink l.sink xs
     × (xs ++ exchanges_left l.exchanges ≡ tried (description_in l.p))
     × (g.W.Sink.has_failed l.sink ≡ g.W.Sink.has_failed l.initial.sink)
 
