@@ -1,5 +1,5 @@
-mod TableLaws
-mod SetTexts
-mod TreeFaults
-mod TreeMeaning
-mod TreeText
+pub mod TableLaws
+pub mod SetTexts
+pub mod TreeFaults
+pub mod TreeMeaning
+pub mod TreeText

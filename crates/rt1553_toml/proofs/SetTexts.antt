@@ -10,7 +10,7 @@ use Rattle.bus_profile.proofs.RangesGrammar.{items_found}
 use Rattle.bus_profile.proofs.Bits.{bits_where-same, bits_where-whole}
 use Rattle.bus_legal.proofs.Bits.{same_mask}
 use Rattle.bus_legal.proofs.TopBit.{zero-bit}
-use Rattle.rt1553_toml.specs.inner.FullTree.{two_digits, more_numbers, numbers_below, numbers_text, said_set, set_text}
+use Rattle.rt1553_toml.specs.Sets.{two_digits, lone_range, more_numbers, numbers_below, numbers_text, said_set, set_text}
 
 -- ---- the items of the text: each is a number alone
 
@@ -48,6 +48,9 @@ two_number n l = record { before = []; digits = two_digits n; after = []; is = r
 two_item : (n : ℕ) → n < 100 → IsNumberItem (two_digits n) n
 two_item n l = inl (two_number n l, refl)
 
+lone_item : (n : ℕ) → n < 100 → IsNumberItem (lone_range n) n
+lone_item n l = inr (record { left = two_digits n; right = two_digits n; is = refl; first = two_number n l; last = two_number n l })
+
 more_denoted : (first mask k : ℕ) → first + k ≤ 100 → (part : List ℕ) (n : ℕ) → IsNumberItem part n → DenotesNumbers (part ++ more_numbers first mask k) (n ∷ numbers first mask k)
 more_denoted first mask zero small part n h = rw (append-nil part) h
 more_denoted first mask (suc k) small part n h = pick (has_bit mask k) (more_denoted first mask k (omega arith))
@@ -65,8 +68,8 @@ below_denoted first mask zero small = inr (λ i l. absurd (omega arith))
 below_denoted first mask (suc k) small = pick (has_bit mask k) refl (below_denoted first mask k (omega arith))
   where
     pick : (b : Bool) → has_bit mask k ≡ b → DenotesNumbers (numbers_below first mask k) (numbers first mask k) ⊎ HasNoBit mask k
-        → DenotesNumbers (cond b (two_digits (first + k) ++ more_numbers first mask k) (numbers_below first mask k)) (cond b ((first + k) ∷ numbers first mask k) (numbers first mask k)) ⊎ HasNoBit mask (suc k)
-    pick true set below = inl (more_denoted first mask k (omega arith) (two_digits (first + k)) (first + k) (two_item (first + k) (omega arith)))
+        → DenotesNumbers (cond b (lone_range (first + k) ++ more_numbers first mask k) (numbers_below first mask k)) (cond b ((first + k) ∷ numbers first mask k) (numbers first mask k)) ⊎ HasNoBit mask (suc k)
+    pick true set below = inl (more_denoted first mask k (omega arith) (lone_range (first + k)) (first + k) (lone_item (first + k) (omega arith)))
     pick false unset (inl d) = inl d
     pick false unset (inr none) = inr (λ i l. ⊎_elim (λ lt. none i lt) (λ le. let e : i ≡ k = omega arith in ap (has_bit mask) e ∙ unset) (cases_lt i k))
 
@@ -132,7 +135,7 @@ said_fits mask l = pick (mask == 0)
     pick true = omega arith
     pick false = l
 
-said_some : (mask : ℕ) → said_set mask ≢ 0
+pub said_some : (mask : ℕ) → said_set mask ≢ 0
 said_some mask = pick (mask == 0) refl
   where
     pick : (b : Bool) → (mask == 0) ≡ b → cond b 1 mask ≢ 0

@@ -8,7 +8,8 @@ use Rattle.toml.specs.Data.{Data, string, integer, boolean, Members, no_members}
 use Rattle.toml.specs.View.{view, members_view}
 use Rattle.toml.specs.declared.value.Value.{Value}
 use Rattle.bus_word.specs.Mask.{has_bit}
-use Rattle.rt1553_toml.specs.inner.FullTree.{put_member, from_number, two_digits, more_numbers, numbers_below, numbers_text, set_text, rule_members, mode_members}
+use Rattle.rt1553_toml.specs.Sets.{two_digits, lone_range, more_numbers, numbers_below, numbers_text, set_text}
+use Rattle.rt1553_toml.specs.inner.FullTree.{put_member, from_number, rule_members, mode_members}
 
 abbrev Entry : Type 0
 Entry = String Global × Value
@@ -33,7 +34,7 @@ pub map-last : {A B : Type 0} (f : A → B) (xs : List A) (x : A) → map f (xs 
 map-last f [] x = refl
 map-last f (y ∷ ys) x = ap (λ zs. f y ∷ zs) (map-last f ys x)
 
-from_number-last : {A B : Type 0} (f : ℕ → A → B) (n : ℕ) (xs : List A) (x : A) → from_number f n (xs ++ x ∷ []) ≡ from_number f n xs ++ f (n + length xs) x ∷ []
+pub from_number-last : {A B : Type 0} (f : ℕ → A → B) (n : ℕ) (xs : List A) (x : A) → from_number f n (xs ++ x ∷ []) ≡ from_number f n xs ++ f (n + length xs) x ∷ []
 from_number-last f n [] x = let e : n ≡ n + 0 = omega arith in ap (λ m. f m x ∷ []) e
 from_number-last f n (y ∷ ys) x =
     let e : suc n + length ys ≡ n + suc (length ys) = omega arith in
@@ -68,19 +69,18 @@ so_far_skip first mask left k started text e unset h = skip started (subst (λ l
   where
     skip : (started : Bool) → SoFar first mask (suc k) started text → SoFar first mask k started text
     skip true h = sym (ap (λ b. text ++ cond b (44 ∷ (two_digits (first + k) ++ more_numbers first mask k)) (more_numbers first mask k)) unset) ∙ h
-    skip false h = (h.0, sym (ap (λ b. cond b (two_digits (first + k) ++ more_numbers first mask k) (numbers_below first mask k)) unset) ∙ h.1)
+    skip false h = (h.0, sym (ap (λ b. cond b (lone_range (first + k) ++ more_numbers first mask k) (numbers_below first mask k)) unset) ∙ h.1)
 
 pub so_far_step : (first mask left k : ℕ) (started : Bool) (text new : List ℕ) → left ≡ suc k → has_bit mask k ≡ true → SoFar first mask left started text
-    → new ≡ cond started (text ++ 44 ∷ []) text ++ two_digits (first + k) → SoFar first mask k true new
+    → new ≡ text ++ cond started (44 ∷ two_digits (first + k)) (lone_range (first + k)) → SoFar first mask k true new
 so_far_step first mask left k started text new e set h written = ap (λ n. n ++ more_numbers first mask k) written ∙ step started (subst (λ l. SoFar first mask l started text) e h)
   where
-    step : (started : Bool) → SoFar first mask (suc k) started text → (cond started (text ++ 44 ∷ []) text ++ two_digits (first + k)) ++ more_numbers first mask k ≡ numbers_text first mask
+    step : (started : Bool) → SoFar first mask (suc k) started text → (text ++ cond started (44 ∷ two_digits (first + k)) (lone_range (first + k))) ++ more_numbers first mask k ≡ numbers_text first mask
     step true h =
-        append_assoc (text ++ 44 ∷ []) (two_digits (first + k)) (more_numbers first mask k)
-        ∙ append_assoc text (44 ∷ []) (two_digits (first + k) ++ more_numbers first mask k)
+        append_assoc text (44 ∷ two_digits (first + k)) (more_numbers first mask k)
         ∙ sym (ap (λ b. text ++ cond b (44 ∷ (two_digits (first + k) ++ more_numbers first mask k)) (more_numbers first mask k)) set) ∙ h
-    step false h = ap (λ t. (t ++ two_digits (first + k)) ++ more_numbers first mask k) h.0
-        ∙ sym (ap (λ b. cond b (two_digits (first + k) ++ more_numbers first mask k) (numbers_below first mask k)) set) ∙ h.1
+    step false h = ap (λ t. (t ++ lone_range (first + k)) ++ more_numbers first mask k) h.0
+        ∙ sym (ap (λ b. cond b (lone_range (first + k) ++ more_numbers first mask k) (numbers_below first mask k)) set) ∙ h.1
 
 pub so_far_end : (first mask : ℕ) (started : Bool) (text : List ℕ) → SoFar first mask 0 started text → text ≡ numbers_text first mask
 so_far_end first mask true text h = sym (append-nil text) ∙ h

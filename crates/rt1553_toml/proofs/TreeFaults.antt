@@ -36,7 +36,8 @@ use Rattle.bus_legal.proofs.SameNormals.{normal_in_range}
 use Rattle.bus_profile.proofs.Least.{HasNoFault-from}
 use Rattle.bus_profile.proofs.Tree.{key_fault, code_fault, tree_fault}
 use Rattle.bus_profile.proofs.Sections.{unknown_fault, row_fault, rule_fault, mode_fault, initial_fault}
-use Rattle.rt1553_toml.specs.inner.FullTree.{said_set, set_text, from_number, rules_by, modes_by, initials_by, wraparound_data, full_tree, rule_members, rule_data, mode_members, mode_data, word_data, initial_members, initial_data}
+use Rattle.rt1553_toml.specs.Sets.{said_set, set_text}
+use Rattle.rt1553_toml.specs.inner.FullTree.{from_number, rules_by, modes_by, initials_by, wraparound_data, full_tree, rule_members, rule_data, mode_members, mode_data, word_data, initial_members, initial_data}
 use Rattle.rt1553_toml.proofs.SetTexts.{set_read}
 
 -- ---- keys
@@ -164,7 +165,7 @@ items_pass : (checks : ℕ → Data → List Check) (n : ℕ) (ds : List Data) �
 items_pass checks n [] h = refl
 items_pass checks n (d ∷ ds) h = λ j. option_or (h.0 n j) (items_pass checks (suc n) ds h.1 j)
 
-from_number_in : {A B : Type 0} (P : A → Type 0) (Q : B → Type 0) (f : ℕ → A → B) → ((s : ℕ) (x : A) → 1 ≤ s → s ≤ 30 → P x → Q (f s x))
+pub from_number_in : {A B : Type 0} (P : A → Type 0) (Q : B → Type 0) (f : ℕ → A → B) → ((s : ℕ) (x : A) → 1 ≤ s → s ≤ 30 → P x → Q (f s x))
     → (s : ℕ) (xs : List A) → 1 ≤ s → s + length xs ≤ 31 → AllIn P xs → AllIn Q (from_number f s xs)
 from_number_in P Q f h s [] low room all = tt
 from_number_in P Q f h s (x ∷ xs) low room all = (h s x low (omega arith) all.0, from_number_in P Q f h (suc s) xs (omega arith) (omega arith) all.1)

@@ -36,7 +36,8 @@ use Rattle.bus_legal.proofs.Bools.{guarded}
 use Rattle.bus_legal.proofs.Descriptions.{same_description}
 use Rattle.bus_legal.proofs.InitialSteps.{initial_word-outside}
 use Rattle.bus_legal.proofs.NormalLaws.{reach-normal}
-use Rattle.rt1553_toml.specs.inner.FullTree.{said_set, set_text, from_number, rule_data, word_data, initial_data, rules_by, initials_by, wraparound_data, full_tree}
+use Rattle.rt1553_toml.specs.Sets.{said_set, set_text}
+use Rattle.rt1553_toml.specs.inner.FullTree.{from_number, rule_data, word_data, initial_data, rules_by, initials_by, wraparound_data, full_tree}
 use Rattle.rt1553_toml.proofs.SetTexts.{set_read}
 use Rattle.rt1553_toml.proofs.TreeFaults.{AllIn, IsMask32, all_masks, all_blocks, length-from_number, said_bit, broadcast_entry, entries_by, modes_given, own_codes_said, required_codes_given}
 

@@ -1,58 +1,12 @@
 //! The full tree of what can be reached of a terminal, as a TOML table.
-ghost use Rattle.std.specs.Prelude.{◌≡◌, ◌<◌, ◌≤◌, ◌++◌, IfOk, OnOk, [], ◌∷◌, map, string_bytes, if◌then◌else◌};
+ghost use Rattle.std.specs.Prelude.{◌≡◌, ◌++◌, IfOk, OnOk, map};
 ghost use Rattle.toml.specs.View.{table_view, view};
-ghost use Rattle.rt1553_toml.specs.inner.FullTree.{two_digits, said_set, set_text, put_member, from_number, rule_data, mode_data, initial_data, wraparound_data, rules_by, modes_by, initials_by, full_tree};
+ghost use Rattle.rt1553_toml.specs.inner.FullTree.{put_member, from_number, rule_data, mode_data, initial_data, wraparound_data, rules_by, modes_by, initials_by, full_tree};
 
+use crate::sets::set_text;
 use bus_legal::{Normal, Tables};
-use bus_word::has_bit;
 use std::alloc::{AllocError, Global};
 use toml::{Table, Value};
-
-/// Writes a number below 100 in two digits.
-fn push_number(text: &mut String, number: u8) -> Result<(), AllocError>
-    requires { number < 100 }
-    ensures { OnOk result (string_bytes text.new ≡ string_bytes text.old ++ two_digits number) }
-{
-    text.push(char::from(b'0' + number / 10))?;
-    text.push(char::from(b'0' + number % 10))
-}
-
-/// Writes a number of a set, with a comma before it where it isn't the first.
-fn push_item(text: &mut String, started: bool, number: u8) -> Result<(), AllocError>
-    requires { number < 100 }
-    ensures { OnOk result (string_bytes text.new ≡ (if started then string_bytes text.old ++ 44 ∷ [] else string_bytes text.old) ++ two_digits number) }
-{
-    if started {
-        text.push(',')?;
-    }
-    push_number(text, number)
-}
-
-/// The set that its text says: of an empty one the first number.
-fn said_set(mask: u32) -> u32
-    ensures { result ≡ said_set mask }
-{
-    if mask == 0 { 1 } else { mask }
-}
-
-/// The text of a set of numbers: bit `n - first` stands for `n`.
-fn set_text(alloc: Global, first: u8, mask: u32) -> Result<String, AllocError>
-    requires { first ≤ 1 }
-    ensures { IfOk result (λ text. string_bytes text ≡ set_text first mask) }
-{
-    let numbers = said_set(mask);
-    let mut text = String::new(alloc);
-    let mut started = false;
-    let mut left = 32;
-    while 0 < left {
-        left -= 1;
-        if has_bit(numbers, left) {
-            push_item(&mut text, started, first + left)?;
-            started = true;
-        }
-    }
-    Ok(text)
-}
 
 /// Puts a value at a key of a table.
 fn put(alloc: Global, members: &mut Table, key: &str, value: Value) -> Result<(), AllocError>

@@ -2,7 +2,9 @@
 #![tactic(auto)]
 
 mod full_tree;
+pub mod groups;
 mod profile_text;
+pub mod sets;
 mod written;
 
 pub use profile_text::{full_toml_of, toml_of};

@@ -1,84 +1,42 @@
 //! The text of a TOML profile.
-use bus_legal::{Normal, REQUIRED_CODES, Tables};
+use crate::groups::{RuleGroup, broadcast_groups, held_len, named_wrap, own_codes, own_groups};
+use bus_legal::Normal;
 use bus_word::mode_name;
 use profile_types::Numbers;
 use std::alloc::{AllocError, Global};
 use std::fmt;
 
-/// The wraparound subaddress of a profile that names none (Notice 2, 30.7).
-const STANDARD_WRAP: u8 = 30;
-
-/// Gives the subaddresses, bit `s - 1` for `s`, whose mask this is.
-fn with_mask(masks: &[u32; 30], mask: u32) -> u32 {
-    let mut bits = 0;
-    for (index, other) in masks.iter().enumerate() {
-        if *other == mask {
-            bits |= 1 << (index as u32);
-        }
-    }
-    bits
-}
-
 /// One rule of a profile.
 #[derive(Clone, Copy)]
-struct RuleText {
-    to: &'static str,
-    direction: &'static str,
-    subaddresses: u32,
-    counts: u32,
-}
+struct RuleText(RuleGroup);
 
 impl fmt::Display for RuleText {
     fn fmt<W: fmt::Write>(&self, f: &mut fmt::Formatter<W>) -> fmt::Result {
         let subaddresses = Numbers {
-            bits: self.subaddresses,
+            bits: self.0.subaddresses,
             first: 1,
         };
         let counts = Numbers {
-            bits: self.counts,
+            bits: self.0.counts,
             first: 1,
         };
         write!(f, "\n[[rule]]\n")?;
-        if self.to != "own" {
-            writeln!(f, "to = \"{}\"", self.to)?;
+        if self.0.to != "own" {
+            writeln!(f, "to = \"{}\"", self.0.to)?;
         }
-        writeln!(f, "direction = \"{}\"", self.direction)?;
+        writeln!(f, "direction = \"{}\"", self.0.direction)?;
         writeln!(f, "subaddresses = \"{subaddresses}\"")?;
-        if self.counts != u32::MAX {
+        if self.0.counts != u32::MAX {
             writeln!(f, "counts = \"{counts}\"")?;
         }
         Ok(())
     }
 }
 
-/// Writes the rules of one direction: one for each mask that some subaddress has. Where the other direction has the mask
-/// at just the same subaddresses, it is one rule for both, and the second time it is left out.
-fn push_rules(
-    text: &mut String,
-    to: &'static str,
-    direction: &'static str,
-    masks: &[u32; 30],
-    twin: Option<&[u32; 30]>,
-    second: bool,
-) -> Result<(), AllocError> {
-    for (index, mask) in masks.iter().enumerate() {
-        let subaddresses = with_mask(masks, *mask);
-        let is_first = subaddresses.trailing_zeros() == index as u32;
-        if *mask != 0 && is_first {
-            let alike = match twin {
-                Some(others) => with_mask(others, *mask) == subaddresses,
-                None => false,
-            };
-            if !(alike && second) {
-                let rule = RuleText {
-                    to,
-                    direction: if alike { "both" } else { direction },
-                    subaddresses,
-                    counts: *mask,
-                };
-                write!(text, "{rule}")?;
-            }
-        }
+/// Writes rules.
+fn push_rules(text: &mut String, groups: &[RuleGroup]) -> Result<(), AllocError> {
+    for group in groups {
+        write!(text, "{}", RuleText(*group))?;
     }
     Ok(())
 }
@@ -106,12 +64,7 @@ fn push_codes(text: &mut String, to: &'static str, codes: u32) -> Result<(), All
 
 /// Writes the words that are held for a subaddress, up to the last that is not 0.
 fn push_words(text: &mut String, subaddress: usize, row: &[u16; 32]) -> Result<(), AllocError> {
-    let mut len = 0;
-    for (index, word) in row.iter().enumerate() {
-        if *word != 0 {
-            len = index + 1;
-        }
-    }
+    let len = held_len(row);
     if len == 0 {
         return Ok(());
     }
@@ -131,11 +84,10 @@ fn push_words(text: &mut String, subaddress: usize, row: &[u16; 32]) -> Result<(
 
 /// Writes the wraparound subaddress, where it isn't the one that a profile has by default.
 fn push_wrap(text: &mut String, normal: &Normal) -> Result<(), AllocError> {
-    match normal.wrap() {
-        STANDARD_WRAP => Ok(()),
-        0 if !normal.tables().can_wrap(STANDARD_WRAP) => Ok(()),
-        0 => writeln!(text, "wraparound = false"),
-        subaddress => writeln!(text, "wraparound = {subaddress}"),
+    match named_wrap(normal) {
+        None => Ok(()),
+        Some(0) => writeln!(text, "wraparound = false"),
+        Some(subaddress) => writeln!(text, "wraparound = {subaddress}"),
     }
 }
 
@@ -161,42 +113,16 @@ fn push_settings(text: &mut String, normal: &Normal) -> Result<(), AllocError> {
     push_word(text, "bit", normal.bit())
 }
 
-/// Writes the rules of all three kinds.
-fn push_all_rules(text: &mut String, tables: &Tables) -> Result<(), AllocError> {
-    push_rules(
-        text,
-        "own",
-        "receive",
-        &tables.own_receive,
-        Some(&tables.own_transmit),
-        false,
-    )?;
-    push_rules(
-        text,
-        "own",
-        "transmit",
-        &tables.own_transmit,
-        Some(&tables.own_receive),
-        true,
-    )?;
-    push_rules(
-        text,
-        "broadcast",
-        "receive",
-        &tables.broadcast_receive,
-        None,
-        false,
-    )
-}
-
 /// Writes the text. That it means just this terminal isn't said here.
 pub fn write_profile(alloc: Global, normal: &Normal) -> Result<String, AllocError> {
     let mut text = String::new(alloc);
     let tables = normal.tables();
     push_settings(&mut text, normal)?;
-    push_all_rules(&mut text, tables)?;
-    // what is legal in each profile needs no entry
-    push_codes(&mut text, "own", tables.own_mode & !REQUIRED_CODES)?;
+    let own = own_groups(alloc, &tables.own_receive, &tables.own_transmit)?;
+    push_rules(&mut text, own.as_slice())?;
+    let broadcast = broadcast_groups(alloc, &tables.broadcast_receive)?;
+    push_rules(&mut text, broadcast.as_slice())?;
+    push_codes(&mut text, "own", own_codes(tables))?;
     push_codes(&mut text, "broadcast", tables.broadcast_mode)?;
     for (index, row) in normal.initial().iter().enumerate() {
         push_words(&mut text, index + 1, row)?;

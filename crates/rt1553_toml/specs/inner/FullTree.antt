@@ -1,39 +1,13 @@
 -- The full tree of what can be reached of a terminal: a profile with each setting, a rule for each subaddress, direction and
 -- addressee, and all the words held.
-use Rattle.std.specs.Prelude.{ℕ, zero, suc, ◌+◌, ◌/◌, ◌%◌, ◌==◌, false, not, if◌then◌else◌, pos, List, [], ◌∷◌, ◌++◌, map, codes}
+use Rattle.std.specs.Prelude.{ℕ, suc, ◌==◌, false, not, if◌then◌else◌, pos, List, [], ◌∷◌, ◌++◌, map, codes}
 use Rattle.std.specs.Ordering.{nat_cmp, match_ordering}
 use Rattle.std.specs.Cmp.Lexicographic.{slice_cmp}
 use Rattle.toml.specs.Data.{Data, string, integer, boolean, array, table, Members, no_members, member}
 use Rattle.toml.specs.View.{items_of}
-use Rattle.bus_word.specs.Mask.{has_bit}
 use Rattle.bus_legal.specs.declared.tables.Tables.{Tables}
 use Rattle.bus_legal.specs.Parts.{Parts}
-
--- ---- sets as texts: the numbers of the bits that are set, in two digits each, with commas between them
-
-abbrev pub two_digits : ℕ → List ℕ
-two_digits n = (48 + n / 10) ∷ (48 + n % 10) ∷ []
-
--- a comma and a number for each bit below k, the highest first; bit 0 stands for the number `first`
-abbrev pub more_numbers : ℕ → ℕ → ℕ → List ℕ
-more_numbers first mask zero = []
-more_numbers first mask (suc k) = if has_bit mask k then 44 ∷ (two_digits (first + k) ++ more_numbers first mask k) else more_numbers first mask k
-
--- the numbers of the bits below k
-abbrev pub numbers_below : ℕ → ℕ → ℕ → List ℕ
-numbers_below first mask zero = []
-numbers_below first mask (suc k) = if has_bit mask k then two_digits (first + k) ++ more_numbers first mask k else numbers_below first mask k
-
--- the text of a set that is not empty
-unfoldable pub numbers_text : ℕ → ℕ → List ℕ
-numbers_text first mask = numbers_below first mask 32
-
--- No text is that of the empty set: its text is that of the first number alone, which its entry then says isn't legal.
-abbrev pub said_set : ℕ → ℕ
-said_set mask = if mask == 0 then 1 else mask
-
-abbrev pub set_text : ℕ → ℕ → List ℕ
-set_text first mask = numbers_text first (said_set mask)
+use Rattle.rt1553_toml.specs.Sets.{set_text}
 
 -- ---- tables
 

@@ -1,6 +1,6 @@
 use Rattle.std.proofs.Common.{◌≤◌, string_bytes}
 use Rattle.rt1553_toml.proofs.TableLaws.{SoFar}
-use Rattle.rt1553_toml.proofs.full_tree.set_text.Given as goal
+use Rattle.rt1553_toml.proofs.sets.set_text.Given as goal
 
 abbrev pub invariant-loop-left : goal.invariant-loop-left
 invariant-loop-left l = record {

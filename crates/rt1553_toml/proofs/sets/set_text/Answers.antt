@@ -1,7 +1,7 @@
 use Rattle.std.proofs.Common.{arith, subst, string_bytes, sym, ◌≡◌, ◌∙◌, ◌-◌, ap}
-use Rattle.rt1553_toml.specs.inner.FullTree.{numbers_text}
+use Rattle.rt1553_toml.specs.Sets.{numbers_text}
 use Rattle.rt1553_toml.proofs.TableLaws.{SoFar, so_far_start, so_far_skip, so_far_step, so_far_end}
-use Rattle.rt1553_toml.proofs.full_tree.set_text.Goals as goal
+use Rattle.rt1553_toml.proofs.sets.set_text.Goals as goal
 
 pub loop-left-init : goal.loop-left-init
 loop-left-init c = record { within = omega arith; first = c.requires; so_far = so_far_start c.args.first c.said_set-numbers.result _ c.new-text.ensures.bytes }
