@@ -10,7 +10,7 @@ use Rattle.rt1553_import.specs.declared.sheet.Sheet.{Sheet}
 use Rattle.rt1553_import.specs.Tree.{table_tree}
 use Rattle.rt1553_import.specs.declared.fault.ImportFault.{ImportFault}
 use Rattle.rt1553_import.specs.declared.fault.ImportFault.TheVariants.{Faults, NotText, NotCsv, Memory}
-use Rattle.rt1553_import.specs.inner.NoTable.{IsNoTable}
+use Rattle.rt1553_import.specs.NoTable.{IsNoTable}
 use Rattle.rt1553_import.specs.Import.{SaysTable, IsTableRefused}
 
 some_same : (a b : Members) → Some a ≡ Some b → a ≡ b

@@ -3,5 +3,6 @@ pub mod FaultLaws
 pub mod FieldLaws
 pub mod ImportLaws
 pub mod SameLaws
+pub mod SheetLaws
 pub mod TableLaws
 pub mod TreeLaws

@@ -5,5 +5,6 @@ pub mod Tree
 pub mod TableFaults
 pub mod Places
 pub mod Reading
+pub mod NoTable
 pub mod Import
 pub mod inner

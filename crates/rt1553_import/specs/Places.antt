@@ -1,5 +1,6 @@
 -- Where in a table the faults of its profile stand.
-use Rattle.std.specs.Prelude.{ℕ, ◌-◌, List, map, Option, Some, None, slice_get}
+use Rattle.std.specs.Prelude.{ℕ, ◌-◌, ◌==◌, ◌||◌, ◌&&◌, not, Bool, true, false, List, ◌++◌, map, filter, Option, Some, None, slice_get}
+use Rattle.std.specs.List.{list_any}
 use Rattle.bus_profile.specs.declared.fault.Key.{Key}
 use Rattle.bus_profile.specs.declared.fault.Key.TheVariants as key
 use Rattle.bus_profile.specs.declared.fault.Part.{Part}
@@ -12,6 +13,7 @@ use Rattle.rt1553_import.specs.declared.column.TableColumn.TheVariants as column
 use Rattle.rt1553_import.specs.declared.kind.RowKind.TheVariants as kind
 use Rattle.rt1553_import.specs.declared.fault.CellPlace.{CellPlace}
 use Rattle.rt1553_import.specs.declared.fault.TableFault.{TableFault}
+use Rattle.rt1553_import.specs.declared.fault.TableFaultKind.{TableFaultKind}
 use Rattle.rt1553_import.specs.declared.fault.TableFaultKind.TheVariants as fault
 use Rattle.rt1553_import.specs.declared.sheet.Sheet.{Sheet}
 use Rattle.rt1553_import.specs.declared.sheet.TableRow.{TableRow}
@@ -19,7 +21,7 @@ use Rattle.rt1553_import.specs.declared.tree.Entry.{Entry}
 use Rattle.rt1553_import.specs.declared.tree.Entry.TheVariants as entry
 use Rattle.rt1553_import.specs.Columns.{row_place}
 use Rattle.rt1553_import.specs.Tree.{entry_rows, setting_row, table_tree}
-use Rattle.rt1553_import.specs.TableFaults.{or_others, table_faults}
+use Rattle.rt1553_import.specs.TableFaults.{table_faults}
 
 -- the row that became the entry of this number, from 1
 abbrev pub entry_row : Sheet → Entry → ℕ → Option TableRow
@@ -81,6 +83,28 @@ fault_place sheet _ = place_or_header sheet None column.Kind
 abbrev pub placed : Sheet → ProfileFault → TableFault
 placed sheet f = record { place = fault_place sheet f; kind = fault.Profile f }
 
--- all that is told of a table: the faults of the table itself, or if it has none those of the profile that it says
+-- With such a fault of the header no row says anything.
+abbrev pub hides_all : TableFaultKind → Bool
+hides_all fault.NoKind = true
+hides_all (fault.TwoColumns c) = true
+hides_all _ = false
+
+-- With such a fault of a row it is not known which of its fields is which.
+abbrev pub hides_row : TableFaultKind → Bool
+hides_row fault.Fields = true
+hides_row _ = false
+
+-- A fault of the table hides the faults of the profile in its own cell, in its row, or all of them.
+abbrev pub hides : TableFault → TableFault → Bool
+hides t f = hides_all t.kind || ((t.place.row == f.place.row) && (hides_row t.kind || (t.place.column == f.place.column)))
+
+abbrev pub is_hidden : List TableFault → TableFault → Bool
+is_hidden ts f = list_any (λ t. hides t f) ts
+
+-- the faults of the profile that the table says, each at its place, but for those that these hide
+abbrev pub profile_faults : Sheet → List TableFault → List TableFault
+profile_faults sheet ts = filter (λ f. not (is_hidden ts f)) (map (placed sheet) (told_faults (table_tree sheet)))
+
+-- all that is told of a table: its own faults, and then those of the profile that it says
 abbrev pub told : Sheet → List TableFault
-told sheet = or_others (table_faults sheet) (map (placed sheet) (told_faults (table_tree sheet)))
+told sheet = table_faults sheet ++ profile_faults sheet (table_faults sheet)

@@ -34,7 +34,7 @@ pub enum TableFaultKind {
     #[error("table: an earlier row has this setting")]
     Twice,
     /// There is text in a column that rows of this kind don't have.
-    #[error("table: a row of this kind has nothing in the column {0}")]
+    #[error("table: a row of this kind takes no text in the column {0}")]
     NotTaken(TableColumn),
     /// There are initial words, and the subaddress is not one number.
     #[error("table: initial words want one subaddress, a number")]

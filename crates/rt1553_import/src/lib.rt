@@ -12,12 +12,14 @@ mod reading;
 mod same;
 mod sheet;
 mod table_faults;
-#[cfg(test)]
-mod tests;
 mod tree;
 mod warnings;
 
+pub use cells::cell_number;
 pub use column::TableColumn;
 pub use fault::{CellPlace, ImportFault, TableFault, TableFaultKind};
 pub use importing::{Imported, import_table};
+pub use kind::RowKind;
+pub use reading::read_sheet;
+pub use sheet::{Sheet, TableRow};
 pub use warnings::ColumnWarning;

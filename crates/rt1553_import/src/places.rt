@@ -1,9 +1,9 @@
 //! Where in a table the faults of its profile stand.
-ghost use Rattle.std.specs.Prelude.{◌≡◌, ◌≤◌, IfOk, map, option_map};
+ghost use Rattle.std.specs.Prelude.{◌≡◌, ◌≤◌, ◌++◌, IfOk, OnOk, filter, map, not, option_map};
 ghost use Rattle.bus_profile.specs.AllFaults.{told_faults};
 ghost use Rattle.toml.specs.View.{table_view};
 ghost use Rattle.rt1553_import.specs.Tree.{table_tree};
-ghost use Rattle.rt1553_import.specs.Places.{entry_row, root_row, part_row, key_column, key_place, fault_place, placed, told};
+ghost use Rattle.rt1553_import.specs.Places.{entry_row, root_row, part_row, key_column, key_place, fault_place, placed, hides, is_hidden, told};
 
 use crate::column::TableColumn;
 use crate::fault::{CellPlace, TableFault, TableFaultKind};
@@ -28,6 +28,43 @@ fn key_column(key: Key) -> TableColumn
         Key::Codes => TableColumn::Code,
         _ => TableColumn::Value,
     }
+}
+
+impl TableFault {
+    /// Whether a fault of the profile is not told beside this one, of the table.
+    fn hides(&self, fault: &TableFault) -> bool
+        ensures { result ≡ hides self.now fault.now }
+    {
+        let hides_row = matches!(self.kind, TableFaultKind::Fields);
+        let is_in_row = self.place.row == fault.place.row;
+        match self.kind {
+            TableFaultKind::NoKind | TableFaultKind::TwoColumns(_) => true,
+            _ => is_in_row && (hides_row || self.place.column == fault.place.column),
+        }
+    }
+}
+
+/// Whether one of the faults of the table hides a fault of the profile.
+fn is_hidden(own: &[TableFault], fault: &TableFault) -> bool
+    ensures { result ≡ is_hidden own.now fault.now }
+{
+    own.iter().any(|one| one.hides(fault))
+}
+
+/// Adds the faults of the profile that none of the faults of the table hides.
+fn push_apparent(
+    faults: &mut Vec<TableFault>,
+    own: &[TableFault],
+    placed: &[TableFault],
+) -> Result<(), AllocError>
+    ensures { OnOk result (faults.new.items ≡ faults.old.items ++ filter (λ f. not (is_hidden own.now f)) placed.now) }
+{
+    for fault in placed {
+        if !is_hidden(own, fault) {
+            faults.push(*fault)?;
+        }
+    }
+    Ok(())
 }
 
 impl Sheet {
@@ -112,7 +149,7 @@ impl Sheet {
     }
 
     /// The faults of the profile with their places.
-    fn profile_faults(&self, alloc: Global, root: &Table) -> Result<Vec<TableFault>, AllocError>
+    fn placed_faults(&self, alloc: Global, root: &Table) -> Result<Vec<TableFault>, AllocError>
         ensures { IfOk result (λ faults. faults.items ≡ map (placed self.now) (told_faults (table_view root.now))) }
     {
         let faults = all_faults(alloc, root)?;
@@ -123,15 +160,16 @@ impl Sheet {
         Ok(placed)
     }
 
-    /// All that is told of the table, whose tree this is.
+    /// All that is told of the table, whose tree this is: its own faults, and those of the profile that these do not hide.
     pub fn told(&self, alloc: Global, root: &Table) -> Result<Vec<TableFault>, AllocError>
         requires { table_view root.now ≡ table_tree self.now }
         ensures { IfOk result (λ faults. faults.items ≡ told self.now) }
     {
-        let faults = self.table_faults(alloc)?;
-        if !faults.is_empty() {
-            return Ok(faults);
-        }
-        self.profile_faults(alloc, root)
+        let own = self.table_faults(alloc)?;
+        let placed = self.placed_faults(alloc, root)?;
+        let mut faults = Vec::new(alloc);
+        faults.extend_from_slice(own.as_slice())?;
+        push_apparent(&mut faults, own.as_slice(), placed.as_slice())?;
+        Ok(faults)
     }
 }

@@ -2,7 +2,7 @@
 ghost use Rattle.std.specs.Prelude.{◌≡◌, IfOk, IfErr, map};
 ghost use Rattle.csv.specs.declared.parser.State.TheVariants.{StartRecord};
 ghost use Rattle.csv.specs.Reading.{AreRecords, strip_bom};
-ghost use Rattle.rt1553_import.specs.inner.NoTable.{IsNoTable};
+ghost use Rattle.rt1553_import.specs.NoTable.{IsNoTable};
 ghost use Rattle.rt1553_import.specs.Reading.{delimiter_of, table_config, row_fields, HasRecords, IsSheetOf};
 
 use crate::fault::ImportFault;

@@ -1,0 +1,11 @@
+pub mod CellValues
+pub mod FullAscii
+pub mod FullEntries
+pub mod FullFaults
+pub mod FullSheet
+pub mod FullTable
+pub mod FullText
+pub mod NotCanon
+pub mod RowLaws
+pub mod TableLaws
+pub mod Trimmed
