@@ -1,4 +1,5 @@
 pub mod Message
 pub mod Events
 pub mod Expansion
+pub mod Sources
 pub mod inner

@@ -79,7 +79,7 @@ fn read_message_line(line: &[u8]) -> Result<ReadLine, ExpandFault>
 }
 
 /// LinesRead a line.
-fn read_line(line: &[u8]) -> Result<ReadLine, ExpandFault>
+pub fn read_line(line: &[u8]) -> Result<ReadLine, ExpandFault>
     ensures said { IfOk result (λ read. expansion_of line.now ≡ Ok (expansion_by line.now read)) }
     ensures refused { IfErr result (λ fault. expansion_of line.now ≡ Err fault) }
     ensures sound { IfOk result (IsWritable line.now) }
@@ -95,7 +95,7 @@ fn read_line(line: &[u8]) -> Result<ReadLine, ExpandFault>
 }
 
 /// How many lines of a script stand for a line that was read, 1 to 70.
-fn lines_for(read: &ReadLine, line: &[u8]) -> usize
+pub fn lines_for(read: &ReadLine, line: &[u8]) -> usize
     requires { IsWritable line.now read.now }
     ensures value { result ≡ (expansion_by line.now read.now).lines }
     ensures few { result ≤ 70 }

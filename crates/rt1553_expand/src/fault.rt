@@ -16,7 +16,7 @@ pub enum ExpandFault {
     #[error("neither a line of a script nor a message, which begins with A or B and a space")]
     Neither,
     /// Something in a message is marked as a comment by `#`.
-    #[error("a comment behind a message: a comment is a line of its own")]
+    #[error("a comment after a message: a comment is a line of its own")]
     Comment,
     /// What stands behind the bus, up to `from` or the colon, says no word.
     #[error("{}", word_fault_text(*.0))]
@@ -25,10 +25,10 @@ pub enum ExpandFault {
     #[error("a message names its fields, by rx, tx, mode, status or data")]
     ByDigits,
     /// `from` stands behind something else than `rx`.
-    #[error("from stands behind rx alone: the terminal of rx receives what another sends")]
+    #[error("from follows rx alone: the terminal of rx receives what another sends")]
     NotReceive,
     /// What stands behind `from` is not the address and the subaddress of another terminal.
-    #[error("wanted behind from: the address of another terminal, 0 to 30, and its subaddress, 1 to 30")]
+    #[error("after from, the address of another terminal, 0 to 30, and its subaddress, 1 to 30, are expected")]
     Sender,
     /// A data word is missing, or is none.
     #[error("a data word is wanted: one space and four hexadecimal digits, with small letters")]
@@ -43,14 +43,14 @@ fn word_fault_text(fault: WordLineFault) -> &'static str {
     match fault {
         WordLineFault::Long => "a word is said in at most 128 bytes",
         WordLineFault::Name => {
-            "wanted behind a bus: rx, tx, mode, status or data for a message; c, d, gap or noise for an event"
+            "after a bus, rx, tx, mode, status or data is expected for a message, and c, d, gap or noise for an event"
         }
         WordLineFault::Address => "an address is 0 to 30, or all for a command",
         WordLineFault::Subaddress => "a subaddress is 1 to 30",
         WordLineFault::Count => "a count is 1 to 32",
         WordLineFault::Code => "a mode code is 0 to 31",
         WordLineFault::Direction => {
-            "tx or rx is wanted behind a mode code that has no row in the table"
+            "tx or rx is expected after a mode code that has no row in the table"
         }
         WordLineFault::ModeSubaddress => "the subaddress of a mode code is 0 or 31",
         WordLineFault::Bit => {
@@ -58,6 +58,6 @@ fn word_fault_text(fault: WordLineFault) -> &'static str {
         }
         WordLineFault::Digits => "a word is four hexadecimal digits",
         WordLineFault::Parity => "a parity bit is 0 or 1",
-        WordLineFault::Much => "nothing stands behind the last field",
+        WordLineFault::Much => "nothing may follow the last field",
     }
 }

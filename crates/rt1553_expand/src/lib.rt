@@ -5,9 +5,9 @@ mod column;
 mod expanding;
 mod fault;
 mod message;
-#[cfg(test)]
-mod tests;
+mod source;
 mod writing;
 
 pub use expanding::{Expanded, UnexpandedLine, expand};
 pub use fault::ExpandFault;
+pub use source::source_lines;

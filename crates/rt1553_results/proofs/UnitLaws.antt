@@ -162,7 +162,7 @@ sent_alike P Q xs (y ∷ ys) whole a b (s, ss) e =
 -- ---- what is told of results
 
 abbrev told_if : Bool → Description → ℕ → Answered → List ℕ → List ToldReply
-told_if same P n row came = if same then [] else record { number = n; label = label_of P row.exchange.command; expected = row.reply; came = came } ∷ []
+told_if same P n row came = if same then [] else record { number = n; command = row.exchange.command; label = label_of P row.exchange.command; expected = row.reply; came = came } ∷ []
 
 told_none : (P : Description) (n : ℕ) (row : Answered) (came : List ℕ) (more : List ToldReply) → replies_told P n row (Some came) ++ more ≡ [] → (came ≡ row.reply) × (more ≡ [])
 told_none P n row came more e = pick (pointwise nat_eq came row.reply) refl e

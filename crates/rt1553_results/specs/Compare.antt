@@ -16,19 +16,20 @@ use Rattle.rt1553_results.specs.Results.{line_in}
 -- the exchange of this number was to be answered by these words, and was answered by others
 pub record ToldReply : Type 0 where
   pub number : ℕ
+  pub command : ℕ
   pub label : List ℕ
   pub expected : List ℕ
   pub came : List ℕ
 
 abbrev pub told_reply : WrongReply → ToldReply
-told_reply d = record { number = d.number; label = d.label.bytes; expected = d.expected.items; came = d.came.items }
+told_reply d = record { number = d.number; command = d.command; label = d.label.bytes; expected = d.expected.items; came = d.came.items }
 
 -- what is told of exchange number n, of the terminal of P, by the reply that came, if there is a result
 abbrev pub replies_told : Description → ℕ → Answered → Option (List ℕ) → List ToldReply
 replies_told P n row None = []
 replies_told P n row (Some came) =
     if pointwise nat_eq came row.reply then []
-    else record { number = n; label = label_of P row.exchange.command; expected = row.reply; came = came } ∷ []
+    else record { number = n; command = row.exchange.command; label = label_of P row.exchange.command; expected = row.reply; came = came } ∷ []
 
 -- what is told of rows, in their order, of which the first has number n
 unfoldable pub wrong_replies : Description → (ℕ → Option (List ℕ)) → ℕ → List Answered → List ToldReply

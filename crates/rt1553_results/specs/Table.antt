@@ -1,5 +1,5 @@
 -- The table of the acceptance test: CSV (RFC 4180), a record for each row.
-use Rattle.std.specs.Prelude.{ℕ, ◌-◌, Option, Some, None, List, [], ◌∷◌, ◌++◌, length, take, drop, codes, decimal}
+use Rattle.std.specs.Prelude.{ℕ, ◌-◌, Bool, true, false, Option, Some, None, List, [], ◌∷◌, ◌++◌, length, take, drop, codes, decimal}
 use Rattle.std.specs.List.{flat_map}
 use Rattle.csv.specs.declared.parser.Terminator.TheVariants.{CRLF}
 use Rattle.csv.specs.declared.writer.WriterBuilder.{WriterBuilder}
@@ -49,9 +49,19 @@ csv_fields P n row =
     ∷ handed_text row.handed
     ∷ []
 
--- the bytes of the header, and of a row
-abbrev pub csv_header : List ℕ
-csv_header = row_text table_writer columns
+-- one field more for the name of the message, where there are names
+abbrev pub name_field : Option (List ℕ) → List (List ℕ)
+name_field None = []
+name_field (Some name) = name ∷ []
 
-abbrev pub csv_row : Description → ℕ → Answered → List ℕ
-csv_row P n row = row_text table_writer (csv_fields P n row)
+-- the column of the names of messages, where there are names
+abbrev pub name_column : Bool → Option (List ℕ)
+name_column true = Some (codes "name")
+name_column false = None
+
+-- the bytes of the header, and of a row
+abbrev pub csv_header : Bool → List ℕ
+csv_header with_names = row_text table_writer (columns ++ name_field (name_column with_names))
+
+abbrev pub csv_row : Description → ℕ → Answered → Option (List ℕ) → List ℕ
+csv_row P n row name = row_text table_writer (csv_fields P n row ++ name_field name)

@@ -76,6 +76,7 @@ fn differ(
     }
     wrong.push(WrongReply {
         number: row.number,
+        command: row.exchange.command,
         label: label_of(normal, row.exchange.command),
         expected: row.reply,
         came: copied(came),

@@ -8,6 +8,8 @@ use arrayvec::{ArrayString, ArrayVec};
 pub struct WrongReply {
     /// The number of the exchange, from 1.
     pub number: u32,
+    /// Its command word.
+    pub command: u16,
     /// What it tries.
     pub label: ArrayString<64>,
     /// The words with which the terminal replies; empty for no reply.

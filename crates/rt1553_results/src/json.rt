@@ -18,6 +18,9 @@ struct JsonRow {
     reply: Option<Vec<String>>,
     /// Null where nothing is handed over.
     handed: Option<String>,
+    /// The name of its message, null for none; left out where there are no names.
+    #[serde(skip_serializing_if = "Option::is_none")]
+    name: Option<Option<String>>,
 }
 
 /// The four hexadecimal digits of a word.
@@ -57,8 +60,25 @@ fn handed_string(alloc: Global, row: &TestRow) -> Result<Option<String>, AllocEr
     }
 }
 
+/// The name of a message, None where there are no names.
+fn name_string(
+    alloc: Global,
+    name: Option<Option<&str>>,
+) -> Result<Option<Option<String>>, AllocError> {
+    match name {
+        Some(Some(name)) => Ok(Some(Some(String::from_str(alloc, name)?))),
+        Some(None) => Ok(Some(None)),
+        None => Ok(None),
+    }
+}
+
 /// The row as it is written.
-fn line_of(alloc: Global, normal: &Normal, row: &TestRow) -> Result<JsonRow, AllocError> {
+fn line_of(
+    alloc: Global,
+    normal: &Normal,
+    row: &TestRow,
+    name: Option<Option<&str>>,
+) -> Result<JsonRow, AllocError> {
     let label = label_of(normal, row.exchange.command);
     Ok(JsonRow {
         number: row.number,
@@ -67,11 +87,18 @@ fn line_of(alloc: Global, normal: &Normal, row: &TestRow) -> Result<JsonRow, All
         data: word_strings(alloc, data_words(alloc, &row.exchange)?.as_slice())?,
         reply: reply_strings(alloc, row.reply.as_slice())?,
         handed: handed_string(alloc, row)?,
+        name: name_string(alloc, name)?,
     })
 }
 
-/// A row of the table of this terminal as one line of JSON, without a line feed; None where memory runs out.
-pub fn json_row(alloc: Global, normal: &Normal, row: &TestRow) -> Option<String> {
-    let line = line_of(alloc, normal, row).ok()?;
+/// A row of the table of this terminal as one line of JSON, without a line feed; with the name of its message, which may have none, where
+/// there are names. None where memory runs out.
+pub fn json_row(
+    alloc: Global,
+    normal: &Normal,
+    row: &TestRow,
+    name: Option<Option<&str>>,
+) -> Option<String> {
+    let line = line_of(alloc, normal, row, name).ok()?;
     serde_json::to_string(alloc, &line).ok()
 }

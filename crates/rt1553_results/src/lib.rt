@@ -10,8 +10,6 @@ mod playing;
 mod results;
 mod rows;
 mod table;
-#[cfg(test)]
-mod tests;
 mod texts;
 mod told;
 
@@ -23,3 +21,4 @@ pub use playing::{Handed, TestRow};
 pub use results::{GivenReply, Results, ResultsFault, TablePlace, read_results};
 pub use rows::Rows;
 pub use table::{csv_header, csv_row};
+pub use told::NamedReply;

@@ -1,5 +1,5 @@
 //! The table of the acceptance test as CSV.
-ghost use Rattle.std.specs.Prelude.{◌≡◌, map, IfOk};
+ghost use Rattle.std.specs.Prelude.{◌≡◌, map, IfOk, option_map};
 ghost use Rattle.csv.specs.Writing.{row_text};
 ghost use Rattle.bus_legal.specs.Parts.{description_in};
 ghost use Rattle.rt1553_results.specs.Handed.{answered_in};
@@ -30,41 +30,53 @@ fn record(alloc: Global, fields: &[&[u8]]) -> Result<Vec<u8>, AllocError>
     }
 }
 
-/// The header of the table, with CR and LF behind it.
-pub fn csv_header(alloc: Global) -> Result<Vec<u8>, AllocError>
-    ensures { IfOk result (λ bytes. bytes.items ≡ csv_header) }
+/// The header of the table, with CR and LF behind it: with a last column for the names of messages, where there are names.
+pub fn csv_header(alloc: Global, with_names: bool) -> Result<Vec<u8>, AllocError>
+    ensures { IfOk result (λ bytes. bytes.items ≡ csv_header with_names) }
 {
-    record(
-        alloc,
-        &[
-            b"number".as_slice(),
-            b"tries".as_slice(),
-            b"command".as_slice(),
-            b"data".as_slice(),
-            b"reply".as_slice(),
-            b"handed".as_slice(),
-        ],
-    )
+    let columns = [
+        b"number".as_slice(),
+        b"tries".as_slice(),
+        b"command".as_slice(),
+        b"data".as_slice(),
+        b"reply".as_slice(),
+        b"handed".as_slice(),
+        b"name".as_slice(),
+    ];
+    if with_names {
+        record(alloc, &columns)
+    } else {
+        record(alloc, &columns[..6])
+    }
 }
 
-/// A row of the table of this terminal, with CR and LF behind it.
-pub fn csv_row(alloc: Global, normal: &Normal, row: &TestRow) -> Result<Vec<u8>, AllocError>
-    ensures { IfOk result (λ bytes. bytes.items ≡ csv_row (description_in normal.now) row.now.number (answered_in row.now)) }
+/// A row of the table of this terminal, with CR and LF behind it: with the name of its message in a last column, where there are names.
+pub fn csv_row(
+    alloc: Global,
+    normal: &Normal,
+    row: &TestRow,
+    name: Option<&[u8]>,
+) -> Result<Vec<u8>, AllocError>
+    ensures { IfOk result (λ bytes. bytes.items ≡ csv_row (description_in normal.now) row.now.number (answered_in row.now) (option_map (λ n. n.now) name.entry)) }
 {
     let mut number = Buffer::new();
     let label = label_of(normal, row.exchange.command);
     let data = words_text(alloc, data_words(alloc, &row.exchange)?.as_slice())?;
     let reply = reply_text(alloc, row.reply.as_slice())?;
     let handed = handed_text(alloc, &row.handed)?;
-    record(
-        alloc,
-        &[
-            number.format(row.number).as_bytes(),
-            label.as_str().as_bytes(),
-            &digits_of(row.exchange.command),
-            data.as_slice(),
-            reply.as_slice(),
-            handed.as_slice(),
-        ],
-    )
+    let command = digits_of(row.exchange.command);
+    let fields = [
+        number.format(row.number).as_bytes(),
+        label.as_str().as_bytes(),
+        command.as_slice(),
+        data.as_slice(),
+        reply.as_slice(),
+        handed.as_slice(),
+        name.unwrap_or(b""),
+    ];
+    if name.is_some() {
+        record(alloc, &fields)
+    } else {
+        record(alloc, &fields[..6])
+    }
 }

@@ -19,17 +19,38 @@ impl fmt::Display for ReplyText<'_> {
     }
 }
 
-/// As `12: receive 3, 2 words: legal: expected 2800, came none`.
-impl fmt::Display for WrongReply {
-    fn fmt<W: fmt::Write>(&self, f: &mut fmt::Formatter<W>) -> fmt::Result {
+impl WrongReply {
+    /// Writes what follows its number and a colon.
+    fn put_reply<W: fmt::Write>(&self, f: &mut fmt::Formatter<W>) -> fmt::Result {
         write!(
             f,
-            "{}: {}: expected {}, came {}",
-            self.number,
+            "{}: expected {}, came {}",
             self.label.as_str(),
             ReplyText(self.expected.as_slice()),
             ReplyText(self.came.as_slice())
         )
+    }
+}
+
+/// As `12: receive 3, 2 words: legal: expected 2800, came none`.
+impl fmt::Display for WrongReply {
+    fn fmt<W: fmt::Write>(&self, f: &mut fmt::Formatter<W>) -> fmt::Result {
+        write!(f, "{}: ", self.number)?;
+        self.put_reply(f)
+    }
+}
+
+/// The same with the name of its message, as it is printed: `12: "speed": receive 3, 2 words: legal: expected 2800, came none`.
+#[derive(Clone, Copy)]
+pub struct NamedReply<'a> {
+    pub reply: &'a WrongReply,
+    pub name: &'a str,
+}
+
+impl fmt::Display for NamedReply<'_> {
+    fn fmt<W: fmt::Write>(&self, f: &mut fmt::Formatter<W>) -> fmt::Result {
+        write!(f, "{}: {}: ", self.reply.number, self.name)?;
+        self.reply.put_reply(f)
     }
 }
 

@@ -1,3 +1,4 @@
 pub mod HeadingLaws
 pub mod StatedLaws
 pub mod VerifyLaws
+pub mod CommandLaws

@@ -1,8 +1,8 @@
 -- Laws of what a script says that states its answers.
-use Rattle.std.proofs.Common.{ℕ, ◌≡◌, ◌≢◌, ◌∙◌, ◌+◌, ◌-◌, ◌<◌, ◌≤◌, Bool, true, false, ◌&&◌, cond, List, [], ◌∷◌, ◌++◌, Option, Some, None, Result, Ok, Err, length, map, get_or, take, drop, refl, sym, ap, arith, append_assoc, append-nil, codes, ⊎_elim}
+use Rattle.std.proofs.Common.{ℕ, ◌≡◌, ◌∙◌, ◌+◌, ◌<◌, ◌≤◌, Bool, true, false, ◌&&◌, cond, List, [], ◌∷◌, ◌++◌, Option, Some, None, Result, Ok, Err, length, map, refl, sym, ap, arith, append_assoc, append-nil, codes, ⊎_elim}
 use Rattle.std.proofs.lemmas.Bool.{cases_lt}
 use Rattle.std.proofs.lemmas.Bool.Decides.{nat_tests}
-use Rattle.std.proofs.lemmas.List.{take_all, drop_all, length-drop, map-append}
+use Rattle.std.proofs.lemmas.List.{map-append}
 use Rattle.terminal_rules.specs.declared.event.Event.{Event}
 use Rattle.line_format.specs.Front.{after}
 use Rattle.line_format.proofs.Digits.{after-is}
@@ -10,7 +10,6 @@ use Rattle.script_lines.specs.declared.line.LineFault.{LineFault}
 use Rattle.script_lines.specs.Line.{meaning}
 use Rattle.script_lines.specs.Text.{lines_of}
 use Rattle.bus_script.specs.Reading.{Reading, reading, adds, nothing, then_reads}
-use Rattle.script_lines.proofs.LineLaws.{line_at, lines-line, lines-last, no_line_feed}
 use Rattle.bus_script.proofs.ReadingLaws.{reading-line, adds-adds}
 use Rattle.rt1553_verify.specs.declared.stated.StatedFault.{StatedFault}
 use Rattle.rt1553_verify.specs.declared.stated.StatedFault.TheVariants.{LongLine, TooLong}

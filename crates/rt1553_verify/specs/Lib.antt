@@ -1,4 +1,5 @@
 pub mod Heading
 pub mod Stated
 pub mod Verify
+pub mod Commands
 pub mod inner

@@ -1,11 +1,13 @@
 //! Scripts that state their answers: read, played to a terminal, and what differs told.
 #![tactic(auto)]
 
+mod commands;
 mod heading;
 mod matching;
 mod stated;
 mod verifying;
 
+pub use commands::message_commands;
 pub use heading::named;
 pub use matching::Matching;
 pub use stated::{Stated, StatedFault, answers_in, read_stated, stated_on_bus};

@@ -46,7 +46,7 @@ pub enum StatedFault {
     #[error("script: too many lines")]
     TooLong,
     /// This line states an answer, or goes on with one, and doesn't stand behind an event that it can answer.
-    #[error("script: line {0}: not behind the event that it answers")]
+    #[error("script: line {0}: the event before it cannot have this answer")]
     Misplaced(u64),
     /// A growth of memory was refused, which says nothing of the script.
     #[error("out of memory")]
