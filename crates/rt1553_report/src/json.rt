@@ -4,7 +4,7 @@ ghost use Rattle.std.specs.String.{string_bytes};
 ghost use Rattle.rt1553_report.specs.Ascii.{IsPlainText};
 
 use crate::ascii::in_ascii;
-use crate::result::{ScriptOutcome, ScriptResult};
+use crate::result::{AnswerNames, ScriptOutcome, ScriptResult};
 use crate::told::answer_told;
 use rt1553_files::escaped;
 use rt1553_verify::WrongAnswer;
@@ -15,6 +15,9 @@ use std::alloc::{AllocError, Global};
 #[derive(Drop, Serialize)]
 struct WrongEntry {
     line: u64,
+    /// The name of its message, null for none; left out where there are no names.
+    #[serde(skip_serializing_if = "Option::is_none")]
+    name: Option<Option<String>>,
     expected: Option<String>,
     came: Option<String>,
 }
@@ -43,12 +46,32 @@ fn clauses_told(alloc: Global, clauses: &[Vec<u8>]) -> Result<Vec<String>, Alloc
     Ok(told)
 }
 
+/// The name of the message of an event, None where there are no names.
+fn name_entry(
+    alloc: Global,
+    names: &Option<AnswerNames>,
+    index: usize,
+) -> Result<Option<Option<String>>, AllocError> {
+    match names {
+        Some(names) => match names.at(index) {
+            Some(name) => Ok(Some(Some(String::from_str(alloc, name)?))),
+            None => Ok(Some(None)),
+        },
+        None => Ok(None),
+    }
+}
+
 /// Each event that was not answered as stated.
-fn wrong_lines(alloc: Global, wrong: &[WrongAnswer]) -> Result<Vec<WrongEntry>, AllocError> {
+fn wrong_lines(
+    alloc: Global,
+    wrong: &[WrongAnswer],
+    names: &Option<AnswerNames>,
+) -> Result<Vec<WrongEntry>, AllocError> {
     let mut lines = Vec::new(alloc);
-    for one in wrong {
+    for (index, one) in wrong.iter().enumerate() {
         lines.push(WrongEntry {
             line: one.line,
+            name: name_entry(alloc, names, index)?,
             expected: answer_told(alloc, one.expected.as_slice())?,
             came: answer_told(alloc, one.came.as_slice())?,
         })?;
@@ -59,9 +82,16 @@ fn wrong_lines(alloc: Global, wrong: &[WrongAnswer]) -> Result<Vec<WrongEntry>, 
 /// The result of a script as it is written.
 fn line_of<'a>(alloc: Global, of: &'a ScriptResult) -> Result<ResultLine<'a>, AllocError> {
     let (answers, differences, fault) = match &of.outcome {
-        ScriptOutcome::Played { answers, wrong, .. } => {
-            (Some(*answers), wrong_lines(alloc, wrong.as_slice())?, None)
-        }
+        ScriptOutcome::Played {
+            answers,
+            wrong,
+            names,
+            ..
+        } => (
+            Some(*answers),
+            wrong_lines(alloc, wrong.as_slice(), names)?,
+            None,
+        ),
         ScriptOutcome::NotPlayed(reason) => (None, Vec::new(alloc), Some(reason.as_str())),
     };
     Ok(ResultLine {

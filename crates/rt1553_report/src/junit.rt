@@ -1,5 +1,5 @@
 //! Results as JUnit reports them, XML.
-use crate::result::{ScriptOutcome, ScriptResult, Totals, totals_of};
+use crate::result::{AnswerNames, ScriptOutcome, ScriptResult, Totals, name_at, totals_of};
 use crate::told::{difference_told, push_shown};
 use rt1553_draw::push_escaped;
 use rt1553_verify::WrongAnswer;
@@ -42,11 +42,15 @@ fn push_wrong(
     text: &mut String,
     file: &str,
     wrong: &[WrongAnswer],
+    names: &Option<AnswerNames>,
 ) -> Result<(), AllocError> {
-    for one in wrong {
+    for (index, one) in wrong.iter().enumerate() {
         push_shown(alloc, text, file.as_bytes())?;
         write!(text, ":{}: ", one.line)?;
-        push_escaped(text, difference_told(alloc, one)?.as_str())?;
+        push_escaped(
+            text,
+            difference_told(alloc, one, name_at(names, index))?.as_str(),
+        )?;
         text.push_str("\n")?;
     }
     Ok(())
@@ -60,12 +64,12 @@ fn push_outcome(alloc: Global, text: &mut String, of: &ScriptResult) -> Result<(
             push_escaped(text, reason.as_str())?;
             text.push_str("\"/>\n")
         }
-        ScriptOutcome::Played { wrong, .. } => {
+        ScriptOutcome::Played { wrong, names, .. } => {
             if wrong.is_empty() {
                 return Ok(());
             }
-            write!(text, "<failure message=\"{} differ\">", wrong.len())?;
-            push_wrong(alloc, text, of.file.as_str(), wrong.as_slice())?;
+            write!(text, "<failure message=\"differences: {}\">", wrong.len())?;
+            push_wrong(alloc, text, of.file.as_str(), wrong.as_slice(), names)?;
             text.push_str("</failure>\n")
         }
     }

@@ -16,6 +16,6 @@ pub use clauses::{Scope, ScopeRow, ScriptCount, TriedScript, clause_rows, clause
 pub use json::result_json;
 pub use junit::junit_report;
 pub use page::results_page;
-pub use result::{ScriptOutcome, ScriptResult, Totals, totals_of};
+pub use result::{AnswerNames, ScriptOutcome, ScriptResult, Totals, name_at, totals_of};
 pub use sarif::{LintedFile, rule_of, sarif_report};
 pub use told::{answer_told, difference_told};

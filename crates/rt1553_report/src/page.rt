@@ -3,9 +3,10 @@ ghost use Rattle.std.specs.Prelude.{◌≡◌, IfOk, map};
 ghost use Rattle.rt1553_report.specs.Results.{outcome_passes};
 
 use crate::clauses::{Scope, ScopeRow, TriedScript, clause_rows};
-use crate::result::{ScriptOutcome, ScriptResult, totals_of};
+use crate::result::{AnswerNames, ScriptOutcome, ScriptResult, name_at, totals_of};
 use crate::style::RESULTS_STYLE;
 use crate::told::{answer_told, push_shown};
+use message_names::quoted;
 use rt1553_draw::{push_escaped, push_front, push_keys};
 use rt1553_verify::WrongAnswer;
 use std::alloc::{AllocError, Global};
@@ -145,13 +146,45 @@ fn push_answer(alloc: Global, page: &mut String, answer: &[u8]) -> Result<(), Al
     page.push_str("</td>")
 }
 
-/// Writes each event that was not answered as stated.
-fn push_wrong(alloc: Global, page: &mut String, wrong: &[WrongAnswer]) -> Result<(), AllocError> {
+/// Writes the head of the table of events.
+fn push_wrong_head(page: &mut String, has_names: bool) -> Result<(), AllocError> {
+    page.push_str("<table>\n<thead><tr><th scope=\"col\">line</th>")?;
+    if has_names {
+        page.push_str("<th scope=\"col\">message</th>")?;
+    }
     page.push_str(
-        "<table>\n<thead><tr><th scope=\"col\">line</th><th scope=\"col\">expected</th><th scope=\"col\">came</th></tr></thead>\n<tbody>\n",
-    )?;
-    for one in wrong {
+        "<th scope=\"col\">expected</th><th scope=\"col\">came</th></tr></thead>\n<tbody>\n",
+    )
+}
+
+/// Writes the name of the message of an event, where there are names.
+fn push_message(
+    alloc: Global,
+    page: &mut String,
+    names: &Option<AnswerNames>,
+    index: usize,
+) -> Result<(), AllocError> {
+    if names.is_none() {
+        return Ok(());
+    }
+    page.push_str("<td>")?;
+    if let Some(name) = name_at(names, index) {
+        push_escaped(page, quoted(alloc, name)?.as_str())?;
+    }
+    page.push_str("</td>")
+}
+
+/// Writes each event that was not answered as stated.
+fn push_wrong(
+    alloc: Global,
+    page: &mut String,
+    wrong: &[WrongAnswer],
+    names: &Option<AnswerNames>,
+) -> Result<(), AllocError> {
+    push_wrong_head(page, names.is_some())?;
+    for (index, one) in wrong.iter().enumerate() {
         write!(page, "<tr><td class=\"count\">{}</td>", one.line)?;
+        push_message(alloc, page, names, index)?;
         push_answer(alloc, page, one.expected.as_slice())?;
         push_answer(alloc, page, one.came.as_slice())?;
         page.push_str("</tr>\n")?;
@@ -181,14 +214,15 @@ fn push_result(alloc: Global, page: &mut String, of: &ScriptResult) -> Result<()
         ScriptOutcome::Played {
             answers,
             wrong,
+            names,
             drawing,
         } => {
             writeln!(
                 page,
-                "<p>{} differ; answers stated: {answers}</p>",
+                "<p>differences: {}; answers stated: {answers}</p>",
                 wrong.len()
             )?;
-            push_wrong(alloc, page, wrong.as_slice())?;
+            push_wrong(alloc, page, wrong.as_slice(), names)?;
             push_drawing(page, drawing)
         }
     }
@@ -200,7 +234,7 @@ fn push_results(
     page: &mut String,
     results: &[ScriptResult],
 ) -> Result<(), AllocError> {
-    page.push_str("<h2>What does not pass</h2>\n")?;
+    page.push_str("<h2>Failures</h2>\n")?;
     let mut is_clean = true;
     for of in results {
         if !of.outcome.passes() {
@@ -212,7 +246,7 @@ fn push_results(
         }
     }
     if is_clean {
-        page.push_str("<p>Every script passes.</p>\n")?;
+        page.push_str("<p>None: every script passes.</p>\n")?;
     }
     Ok(())
 }

@@ -4,6 +4,30 @@ ghost use Rattle.rt1553_report.specs.Results.{outcome_passes, outcome_fails, out
 
 use rt1553_verify::WrongAnswer;
 
+/// The names of the messages to which events belong that were not answered as stated, in their order; None where one has none.
+#[derive(Drop)]
+pub struct AnswerNames {
+    pub names: Vec<Option<String>>,
+}
+
+impl AnswerNames {
+    /// The name of the message of the event at this index, from 0.
+    pub fn at(&self, index: usize) -> Option<&str> {
+        match self.names.as_slice().get(index) {
+            Some(Some(name)) => Some(name.as_str()),
+            _ => None,
+        }
+    }
+}
+
+/// The name of the message of the event at an index, where there are names and it has one.
+pub fn name_at(names: &Option<AnswerNames>, index: usize) -> Option<&str> {
+    match names {
+        Some(names) => names.at(index),
+        None => None,
+    }
+}
+
 /// What came of a script.
 #[derive(Drop)]
 pub enum ScriptOutcome {
@@ -13,6 +37,8 @@ pub enum ScriptOutcome {
         answers: usize,
         /// Each event that was not answered as stated.
         wrong: Vec<WrongAnswer>,
+        /// The name of the message of each of these events, where there are names.
+        names: Option<AnswerNames>,
         /// The messages in which these events stand, drawn for a page; None where they were not drawn.
         drawing: Option<String>,
     },
@@ -78,17 +104,26 @@ pub struct Totals {
 fn failures_in(results: &[ScriptResult]) -> usize
     ensures { result ≡ length (filter (λ r. outcome_fails r.outcome) results.now) }
 {
-    results.iter().filter(|it| it.outcome.fails()).count()
+    let mut count = 0;
+    for of in results {
+        if of.outcome.fails() {
+            count += 1;
+        }
+    }
+    count
 }
 
 /// How many scripts were not played.
 fn errors_in(results: &[ScriptResult]) -> usize
     ensures { result ≡ length (filter (λ r. outcome_is_missing r.outcome) results.now) }
 {
-    results
-        .iter()
-        .filter(|it| it.outcome.is_not_played())
-        .count()
+    let mut count = 0;
+    for of in results {
+        if of.outcome.is_not_played() {
+            count += 1;
+        }
+    }
+    count
 }
 
 /// Counts scripts by what came of them.

@@ -4,6 +4,7 @@ ghost use Rattle.std.specs.String.{string_bytes};
 ghost use Rattle.rt1553_files.specs.Printable.{PrintsOnOneLine};
 ghost use Rattle.rt1553_draw.specs.Escaped.{Escapes};
 
+use message_names::quoted;
 use rt1553_draw::push_escaped;
 use rt1553_files::escaped;
 use rt1553_verify::WrongAnswer;
@@ -26,9 +27,18 @@ fn push_answer(alloc: Global, text: &mut String, answer: &[u8]) -> Result<(), Al
     }
 }
 
-/// What follows the number of the line in which an event is not answered as stated: what was expected, and what came. One line.
-pub fn difference_told(alloc: Global, wrong: &WrongAnswer) -> Result<String, AllocError> {
+/// What follows the number of the line in which an event is not answered as stated: the name of its message, if it has one, what was
+/// expected, and what came. One line.
+pub fn difference_told(
+    alloc: Global,
+    wrong: &WrongAnswer,
+    name: Option<&str>,
+) -> Result<String, AllocError> {
     let mut text = String::new(alloc);
+    if let Some(name) = name {
+        text.push_str(quoted(alloc, name)?.as_str())?;
+        text.push_str(": ")?;
+    }
     text.push_str("expected ")?;
     push_answer(alloc, &mut text, wrong.expected.as_slice())?;
     text.push_str(", came ")?;
