@@ -1,0 +1,9 @@
+pub mod Among
+pub mod Writes
+pub mod Steps
+pub mod Moves
+pub mod Finds
+pub mod Items
+pub mod Stays
+pub mod Laws
+pub mod Indices

@@ -1,0 +1,4 @@
+pub mod Besides
+pub mod Places
+pub mod Search
+pub mod Statements

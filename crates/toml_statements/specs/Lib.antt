@@ -1,0 +1,4 @@
+pub mod Statements
+pub mod Found
+pub mod Law
+pub mod inner
