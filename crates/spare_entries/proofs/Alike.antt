@@ -1,13 +1,10 @@
 -- Profiles whose `Normal`s are equal have the same in reach.
-use Rattle.std.proofs.Common.{◌≡◌, ◌≤◌, ◌↔◌, ℕ, [], Bool, true, false, IsTrue, ap, ◌∙◌, sym}
-use Rattle.profile_types.specs.declared.profile.Profile.{Profile}
-use Rattle.profile_types.specs.OwnCodes.{has_required_codes}
+use Rattle.std.proofs.Common.{◌≡◌, ◌≤◌, ◌↔◌, [], Bool, IsTrue, ap, ◌∙◌, sym}
 use Rattle.bus_legal.specs.Reach.{reach}
 use Rattle.terminal_rules.specs.Out.{outs}
 use Rattle.terminal_rules.specs.Same.{Same}
 use Rattle.terminal_rules.proofs.Reach.Same.{same_where_reached, outs_from-reach}
 use Rattle.bus_canon.proofs.SameLaws.{equal_where_same}
-use Rattle.spare_entries.specs.Without.{without, IsSpareMode}
 use Rattle.bus_legal.specs.Description.{Description}
 use Rattle.bus_legal.specs.Parts.{Parts, description_in, IsNormal}
 
@@ -18,7 +15,3 @@ alike b v w P Q lp lq nv nw ev ew same = (
   (λ s. same.1 (equal_where_same v w nv nw (λ es proper.
       ap (λ (D : Description). outs D es) ev ∙ (outs_from-reach P [] es lp ∙ (s es proper ∙ (sym (outs_from-reach Q [] es lq) ∙ sym (ap (λ (D : Description). outs D es) ew))))))),
 )
-
--- Without a mode entry the codes that must be legal are not, or they are.
-pub has_effect : (p : Profile) (k : ℕ) → false ≡ has_required_codes (without k p.modes) → IsTrue false ↔ IsSpareMode p k
-has_effect p k missing = ((λ (h : false ≡ true). absurd (cc)), (λ s. let both : false ≡ true = missing ∙ s.0 in absurd (cc)))

@@ -1,2 +1,12 @@
 pub mod Alike
 pub mod Zeroed
+pub mod Bits
+pub mod LastOf
+pub mod Reached
+pub mod SaidLaws
+pub mod Tests
+pub mod Marks
+pub mod RuleLaws
+pub mod ModeLaws
+pub mod WordLaws
+pub mod WordSteps

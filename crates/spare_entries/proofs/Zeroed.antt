@@ -1,5 +1,5 @@
 -- An initial entry with 0 at a word is one.
-use Rattle.std.proofs.Common.{◌≡◌, ◌≤◌, ◌+◌, ℕ, List, length, subst, sym, ◌∙◌, ap, refl}
+use Rattle.std.proofs.Common.{◌≡◌, ◌≤◌, ◌+◌, ℕ, List, length, set, length-set, subst, sym, ◌∙◌, ap, refl}
 use Rattle.std.proofs.Props.{props}
 use Rattle.profile_types.specs.declared.entries.InitialWords.{InitialWords}
 use Rattle.spare_entries.specs.Without.{IsZeroed}
@@ -30,3 +30,10 @@ zeroed_once old word a b za zb =
     ∙ (made_same a.subaddress a.first a.len a.words b.subaddress b.first b.len b.words (bounds_of a) (bounds_of b)
     (za.subaddress ∙ sym zb.subaddress) (za.first ∙ sym zb.first) (za.len ∙ sym zb.len) (za.words ∙ sym zb.words)
     ∙ made_of b)
+
+pub zeroed_of : InitialWords → ℕ → InitialWords
+zeroed_of e word = record e { words = set e.words word 0; whole = length-set e.words word 0 ∙ e.whole }
+
+pub zeroed-is : (e : InitialWords) (word : ℕ) → IsZeroed e word (zeroed_of e word)
+unfolding zeroed_of
+zeroed-is e word = record { subaddress = refl; first = refl; len = refl; words = refl }

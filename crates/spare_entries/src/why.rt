@@ -1,59 +1,58 @@
 //! Why an entry of a profile has no effect, in a few words.
-ghost use Rattle.std.specs.Prelude.{◌<◌};
+ghost use Rattle.std.specs.Prelude.{◌≡◌, IfOk, length};
 
+use crate::rules::{Table, all_counts_said};
+use crate::said::last_bits;
 use crate::spare::Setting;
 use bus_legal::{BROADCAST_CODES, Normal, OWN_CODES, largest_count};
 use bus_profile::{InitialWords, ModeRule, Profile, Rule};
+use std::alloc::{AllocError, Global};
 
-/// The counts of a rule at a subaddress of which no later rule speaks too.
-fn left_at(rule: &Rule, later: &[Rule], broadcast: bool, transmit: bool, bit: u32) -> u32
-    requires { bit < 32 }
+/// Takes the marks from the rules that are the last to speak of some command: those that still have bits here.
+fn unmark_last(covered: &mut [bool], last: &[u32]) {
+    for (k, bits) in last.iter().enumerate() {
+        if let Some(mark) = covered.get_mut(k) {
+            *mark &= *bits == 0;
+        }
+    }
+}
+
+/// Takes the marks from the rules that are the last to speak of a command of the table.
+fn unmark_table(
+    alloc: Global,
+    covered: &mut [bool],
+    rules: &[Rule],
+    table: Table,
+) -> Result<(), AllocError> {
+    for subaddress in 0..30u8 {
+        let said = all_counts_said(alloc, rules, table, subaddress)?;
+        unmark_last(covered, &last_bits(alloc, &said)?);
+    }
+    Ok(())
+}
+
+/// Tells of each rule whether later rules speak of all commands of which it speaks and that the terminal hears. The only error is
+/// out of memory.
+pub fn covered_rules(alloc: Global, profile: &Profile) -> Result<Vec<bool>, AllocError>
+    ensures { IfOk result (λ covered. length covered.items ≡ length profile.now.rules) }
 {
-    let mut counts = rule.counts;
-    for other in later {
-        let addressed = if broadcast {
-            other.broadcast
-        } else {
-            other.own
-        };
-        let directed = if transmit {
-            other.transmit
-        } else {
-            other.receive
-        };
-        if addressed && directed && (other.subaddresses >> bit) & 1 == 1 {
-            counts &= !other.counts;
-        }
+    let rules = profile.rules.as_slice();
+    let mut covered = vec![in alloc; true; rules.len()]?;
+    unmark_table(alloc, &mut covered, rules, Table::OwnReceive)?;
+    unmark_table(alloc, &mut covered, rules, Table::OwnTransmit)?;
+    if profile.broadcast {
+        unmark_table(alloc, &mut covered, rules, Table::BroadcastReceive)?;
     }
-    counts
+    Ok(covered)
 }
 
-/// Whether later rules speak of all commands of a kind of which the rule speaks.
-fn is_covered_for(rule: &Rule, later: &[Rule], broadcast: bool, transmit: bool) -> bool {
-    for bit in 0..30u32 {
-        if (rule.subaddresses >> bit) & 1 == 1
-            && left_at(rule, later, broadcast, transmit, bit) != 0
-        {
-            return false;
-        }
-    }
-    true
-}
-
-/// Whether later rules speak of all commands of which the rule speaks.
-fn is_covered(rule: &Rule, later: &[Rule], heard: bool) -> bool {
-    (!rule.own || !rule.receive || is_covered_for(rule, later, false, false))
-        && (!rule.own || !rule.transmit || is_covered_for(rule, later, false, true))
-        && (!heard || !rule.broadcast || !rule.receive || is_covered_for(rule, later, true, false))
-}
-
-/// Why a rule has no effect, by those after it.
-pub fn why_rule(profile: &Profile, rule: &Rule, later: &[Rule]) -> &'static str {
+/// Why a rule has no effect; `is_covered` says whether later rules speak of all its commands.
+pub fn why_rule(profile: &Profile, rule: &Rule, is_covered: bool) -> &'static str {
     if !rule.own && !profile.broadcast {
         "broadcast is false"
     } else if !rule.own && !rule.receive {
         "a broadcast command to transmit is never legal"
-    } else if is_covered(rule, later, profile.broadcast) {
+    } else if is_covered {
         "later rules decide all its commands"
     } else if rule.legal {
         "its commands are legal without it"

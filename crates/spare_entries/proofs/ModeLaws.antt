@@ -1,0 +1,142 @@
+-- A mode entry has no effect exactly if the tables of the codes that the terminal hears are the same without it.
+use Rattle.std.proofs.Common.{◌≡◌, ◌<◌, ◌↔◌, ℕ, Bool, true, false, ◌&&◌, cond, List, map, length, get_or, Option, Some, None, IsTrue, refl, ap, subst, sym, ◌∙◌, arith}
+use Rattle.std.proofs.lemmas.List.{length-map}
+use Rattle.bus_word.specs.declared.cell.Cell.{Cell}
+use Rattle.bus_word.specs.declared.cell.Cell.TheVariants as cell
+use Rattle.bus_word.specs.Mask.{has_bit}
+use Rattle.profile_types.specs.declared.entries.ModeRule.{ModeRule}
+use Rattle.profile_types.specs.declared.profile.Profile.{Profile}
+use Rattle.profile_types.specs.Last.{last_of}
+use Rattle.profile_types.specs.OwnCodes.{mode_says, is_own_code_legal, has_required_codes}
+use Rattle.bus_legal.specs.Legal.{is_legal}
+use Rattle.bus_legal.specs.Meaning.{description_of}
+use Rattle.bus_legal.specs.Reach.{is_heard}
+use Rattle.bus_legal.proofs.LegalLaws.{legal_allowed, own_codes}
+use Rattle.bus_legal.proofs.ModeMasks.{each_required}
+use Rattle.bus_legal.proofs.TableSteps.{row_below, broadcast_row_below}
+use Rattle.bus_legal.proofs.TopBit.{zero-bit}
+use Rattle.spare_entries.specs.declared.said.Said.{Said}
+use Rattle.spare_entries.specs.declared.modes.CodeTable.{CodeTable}
+use Rattle.spare_entries.specs.declared.modes.CodeTable.TheVariants.{Own, Broadcast}
+use Rattle.spare_entries.specs.Without.{without, without_mode, IsSpareMode}
+use Rattle.spare_entries.specs.inner.Says.{what_is_said, bit_after, SameBits}
+use Rattle.spare_entries.specs.inner.Codes.{addresses, codes_said, is_first_legal, may_be_legal, is_code_legal, SameCodes, SameModes}
+use Rattle.spare_entries.proofs.LastOf.{over, last_of-map, without-map}
+use Rattle.spare_entries.proofs.Marks.{two}
+use Rattle.spare_entries.proofs.Reached.{IsAsked, same_in_reach, same_cells}
+use Rattle.spare_entries.proofs.RuleLaws.{asked}
+use Rattle.spare_entries.proofs.Tests.{behind}
+
+-- ---- one table
+
+said_over : (table : CodeTable) (default : Bool) (o : Option ModeRule) → what_is_said default (over (codes_said table) o) ≡ mode_says default o
+said_over table default None = refl
+said_over table default (Some m) = refl
+
+speaks : (a : Bool) (mask i : ℕ) → has_bit (cond a mask 0) i ≡ (a && has_bit mask i)
+speaks true mask i = refl
+speaks false mask i = zero-bit i
+
+-- the bit that the masks of the entries make is what the entries say
+bit_after-modes : (table : CodeTable) (modes : List ModeRule) (start c : ℕ) → has_bit start c ≡ is_first_legal table c →
+    bit_after (has_bit start c) (map (codes_said table) modes) c ≡ mode_says (is_first_legal table c) (last_of (λ m. addresses table m && has_bit m.codes c) modes)
+bit_after-modes table modes start c first =
+    (λ j. what_is_said (first j) (last_of-map (λ (e : Said). has_bit e.bits c) (codes_said table) modes j))
+    ∙ (said_over table (is_first_legal table c) (last_of (λ m. has_bit (codes_said table m).bits c) modes)
+    ∙ (λ j. mode_says (is_first_legal table c) (last_of (λ (m : ModeRule). speaks (addresses table m) m.codes c j) modes)))
+
+pub same_codes-said : (table : CodeTable) (modes : List ModeRule) (k start codes : ℕ) →
+    ((c : ℕ) → c < 32 → has_bit start c ≡ is_first_legal table c) → ((c : ℕ) → c < 32 → has_bit codes c ≡ may_be_legal table c) →
+    SameBits start codes (map (codes_said table) modes) k ↔ SameCodes table modes k
+same_codes-said table modes k start codes first may =
+    let says = λ (some : List ModeRule) (c : ℕ). mode_says (is_first_legal table c) (last_of (λ m. addresses table m && has_bit m.codes c) some) in
+    let all : (c : ℕ) → c < 32 → bit_after (has_bit start c) (map (codes_said table) modes) c ≡ says modes c = (λ c l. bit_after-modes table modes start c (first c l)) in
+    let less : (c : ℕ) → c < 32 → bit_after (has_bit start c) (without k (map (codes_said table) modes)) c ≡ says (without k modes) c =
+    (λ c l. ap (λ said. bit_after (has_bit start c) said c) (without-map (codes_said table) k modes) ∙ bit_after-modes table (without k modes) start c (first c l)) in
+    let law = λ (c : ℕ). behind (may_be_legal table c) (says modes c) (says (without k modes) c) in (
+      λ same c l. (law c).0 (λ e. sym (all c l) ∙ (same c l (may c l ∙ e) ∙ less c l)),
+      λ same c l e. all c l ∙ ((law c).1 (same c l) (sym (may c l) ∙ e) ∙ sym (less c l)),
+    )
+
+pub length-said : (table : CodeTable) (modes : List ModeRule) → length (map (codes_said table) modes) ≡ length modes
+length-said table modes = length-map modes (codes_said table)
+
+-- ---- the tables and the legal cells
+
+abbrev heard_alike : Profile → ℕ → Cell → Type 0
+heard_alike p k c = (is_heard p.broadcast c && is_legal p.rules p.modes c) ≡ (is_heard p.broadcast c && is_legal p.rules (without k p.modes) c)
+
+below : (table : CodeTable) (c : ℕ) → may_be_legal table c ≡ true → c < 32
+below Own c e = row_below c e
+below Broadcast c e = broadcast_row_below c e
+
+-- a code past the table is not legal
+every_code : (table : CodeTable) (modes : List ModeRule) (k : ℕ) → SameCodes table modes k → (c : ℕ) → is_code_legal table modes c ≡ is_code_legal table (without k modes) c
+every_code table modes k same c =
+    let law = behind (may_be_legal table c) (mode_says (is_first_legal table c) (last_of (λ m. addresses table m && has_bit m.codes c) modes)) (mode_says (is_first_legal table c) (last_of (λ m. addresses table m && has_bit m.codes c) (without k modes))) in
+    law.0 (λ e. law.1 (same c (below table c e)) e)
+
+cells_alike : (p : Profile) (k : ℕ) → SameModes p k → (c : Cell) → heard_alike p k c
+unfolding is_legal
+cells_alike p k same (cell.OwnReceive s n) = refl
+cells_alike p k same (cell.OwnTransmit s n) = refl
+cells_alike p k same (cell.BroadReceive s n) = refl
+cells_alike p k same (cell.OwnMode c) = every_code Own p.modes k same.0 c
+cells_alike p k same (cell.BroadMode c) = (behind p.broadcast _ _).0 (λ hears. every_code Broadcast p.modes k (same.1 hears) c)
+
+tables_alike : (p : Profile) (k : ℕ) → ((c : Cell) → heard_alike p k c) → SameModes p k
+unfolding is_legal
+tables_alike p k alike = (
+  (λ c l. alike (cell.OwnMode c)),
+  (λ hears c l. (behind p.broadcast _ _).1 (alike (cell.BroadMode c)) hears),
+)
+
+-- ---- the terminal
+
+asked_without : (p : Profile) (k : ℕ) → IsTrue (has_required_codes (without k p.modes)) → IsAsked (without_mode p k)
+asked_without p k required = record {
+  low = p.own_address;
+  asks = own_codes p.rules (without k p.modes) 2 ∙ each_required (is_own_code_legal (without k p.modes)) required 2 refl;
+  allowed = legal_allowed p.rules (without k p.modes);
+}
+
+-- where the own codes are the same without the entry, those are legal that must be
+still_required : (p : Profile) (k : ℕ) → SameCodes Own p.modes k → IsTrue (has_required_codes (without k p.modes))
+still_required p k same =
+    let two : is_own_code_legal p.modes 2 ≡ is_own_code_legal (without k p.modes) 2 = same 2 (omega arith) in
+    let four : is_own_code_legal p.modes 4 ≡ is_own_code_legal (without k p.modes) 4 = same 4 (omega arith) in
+    let five : is_own_code_legal p.modes 5 ≡ is_own_code_legal (without k p.modes) 5 = same 5 (omega arith) in
+    let eight : is_own_code_legal p.modes 8 ≡ is_own_code_legal (without k p.modes) 8 = same 8 (omega arith) in
+    let all : has_required_codes p.modes ≡ has_required_codes (without k p.modes) = (λ j. two j && (four j && (five j && (eight j && true)))) in
+    sym all ∙ p.required_codes
+
+pub spare_mode : (p : Profile) (k : ℕ) → SameModes p k ↔ IsSpareMode p k
+spare_mode p k =
+    let cells = same_cells (description_of p) (is_legal p.rules (without k p.modes)) in
+    let same = λ (required : IsTrue (has_required_codes (without k p.modes))). same_in_reach (description_of p) (without_mode p k) (asked p) (asked_without p k required) in (
+      λ tables. (let required = still_required p k tables.0 in (required, (same required).1 (cells.1 (cells_alike p k tables)))),
+      λ spare. tables_alike p k (cells.0 ((same spare.0).0 spare.1)),
+    )
+
+-- ---- marks
+
+-- the marks were taken from the entries without which the table is another
+abbrev pub Made : CodeTable → List ModeRule → List Bool → List Bool → Type 0
+Made table modes old new = (k : ℕ) → k < length modes → IsTrue (get_or new k false) ↔ (IsTrue (get_or old k false) × SameCodes table modes k)
+
+pub made_all : (p : Profile) (modes : List ModeRule) (old one last : List Bool) → modes ≡ p.modes → Made Own modes old one →
+    (p.broadcast ≡ true → Made Broadcast modes one last) → (p.broadcast ≡ false → last ≡ one) →
+    (k : ℕ) → k < length p.modes → IsTrue (get_or last k false) ↔ (IsTrue (get_or old k false) × SameModes p k)
+made_all p modes old one last is a hears deaf k l = by_option p.broadcast refl
+  where
+    first : Made Own p.modes old one
+    first = subst (λ ms. Made Own ms old one) is a
+
+    by_option : (t : Bool) → p.broadcast ≡ t → IsTrue (get_or last k false) ↔ (IsTrue (get_or old k false) × SameModes p k)
+    by_option true e =
+        let second : Made Broadcast p.modes one last = subst (λ ms. Made Broadcast ms one last) is (hears e) in
+        two _ (get_or one k false) _ (SameCodes Own p.modes k) (SameCodes Broadcast p.modes k) (p.broadcast ≡ true → SameCodes Broadcast p.modes k) (first k l) (second k l) (λ same _. same, λ same. same e)
+    by_option false e =
+        let same : get_or last k false ≡ get_or one k false = ap (λ marks. get_or marks k false) (deaf e) in
+        two _ (get_or one k false) _ (SameCodes Own p.modes k) (Unit {0}) (p.broadcast ≡ true → SameCodes Broadcast p.modes k)
+        (first k l) (λ h. (sym same ∙ h, tt), λ h. same ∙ h.0) (λ _ h. (let wrong : true ≡ false = sym h ∙ e in cc), λ _. tt)
