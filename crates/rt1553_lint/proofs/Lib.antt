@@ -1,5 +1,4 @@
-mod Back
 mod Columns
-mod Empty
+mod PlaceLaws
 mod Told
 mod Warned

@@ -1,5 +1,5 @@
 -- The warnings of some places, and then of more.
-use Rattle.std.proofs.Common.{◌≡◌, inl, inr, ℕ, zero, suc, ◌+◌, ◌<◌, length, Bool, true, false, IsTrue, ◌↔◌, List, get_or, subst, arith, [], ◌∷◌, ◌++◌, map, flat_map, refl, ap, ◌∙◌, sym, append_assoc, append-nil}
+use Rattle.std.proofs.Common.{◌≡◌, inl, inr, ℕ, zero, suc, ◌+◌, ◌<◌, length, Bool, true, false, not, IsTrue, ◌↔◌, List, get_or, subst, arith, [], ◌∷◌, ◌++◌, map, flat_map, refl, ap, ◌∙◌, sym, append_assoc, append-nil}
 use Rattle.std.specs.List.{range_with_len}
 use Rattle.std.proofs.lemmas.List.{map-append, get_or_default}
 use Rattle.std.proofs.lemmas.List.FromFn.{map-range_with_len_more}
@@ -61,6 +61,9 @@ warns_unless b p place fs test fails = warns_no p place fs (λ is. let holds : b
 no_words : (p : Profile) (k : ℕ) (words : List ℕ) → IsSpareInitial p k → Picks (IsSpare p) (map (Word k) words) []
 no_words p k [] spare = refl
 no_words p k (word ∷ words) spare = inr ((λ is. is.2 spare), no_words p k words spare)
+
+pub not_spare : (b : Bool) (p : Profile) (k : ℕ) → (IsTrue b ↔ IsSpareInitial p k) → not b ≡ true → IsSpareInitial p k → ⊥
+not_spare b p k test fails spare = let yes : b ≡ true = test.1 spare in absurd (cc)
 
 pub warns_entry : (b : Bool) (p : Profile) (k : ℕ) (old new : List Finding) → (IsTrue b ↔ IsSpareInitial p k) → b ≡ true → subjects new ≡ subjects old ++ warning_of (Initial k) ∷ [] → Warns p (initial_places k) old new
 warns_entry b p k old new test is added =

@@ -1,4 +1,3 @@
 pub mod Findings
 pub mod Places
-pub mod KeyPaths
 pub mod Positions

@@ -1,57 +1,55 @@
--- The lines of a text at which it gets what is looked for.
-use Rattle.std.specs.Prelude.{◌≡◌, ℕ, ◌-◌, ◌<◌, ◌≤◌, Bool, true, false, List, take, length, slice_index}
+-- Where in a profile text its parts stand, and their keys.
+use Rattle.std.specs.Prelude.{◌≡◌, ℕ, ◌-◌, Bool, false, List, map, length, get_or, codes, Option, Some, None, IsSome}
 use Rattle.toml.specs.Data.{Members}
+use Rattle.toml.specs.Parse.{parse_document}
+use Rattle.toml_statements.specs.declared.statement.Statement.{Statement}
+use Rattle.toml_statements.specs.Found.{seen, statement_view}
+use Rattle.toml_statements.specs.Law.{expressions}
+use Rattle.toml_statements.specs.Statements.{statements_of}
+use Rattle.toml_places.specs.Besides.{key_besides, item_besides}
+use Rattle.toml_places.specs.Places.{is_there, IsGivenBy}
+use Rattle.toml_places.specs.Statements.{whole_names}
 use Rattle.bus_profile.specs.Read.{IsTree}
+use Rattle.bus_profile.specs.declared.fault.Part.{Part}
+use Rattle.bus_profile.specs.declared.fault.Part.TheVariants.{Root, Rule, Mode, Initial}
 use Rattle.rt1553_lint.specs.declared.finding.Position.{Position}
-use Rattle.rt1553_lint.specs.Positions.{line_of_place, column_at, first_unblank}
-use Rattle.rt1553_lint.specs.declared.place.Look.{Look}
-use Rattle.rt1553_lint.specs.declared.place.Look.TheVariants.{With, Without, NoDocument, TooMuch}
-
--- the text is a document, and this is whether its tree has what is looked for
-pub record IsDocument (sought : Members → Bool) (text : List ℕ) (has : Bool) : Type 0 where
-  pub tree : Members
-  pub is : IsTree text tree
-  pub there : sought tree ≡ has
+use Rattle.rt1553_lint.specs.Positions.{position_in}
 
 -- the text is no document
 abbrev pub IsNone : List ℕ → Type 0
 IsNone text = (tree : Members) → IsTree text tree → ⊥
 
--- a line ends before this place
-abbrev pub IsLineEnd : List ℕ → ℕ → Type 0
-IsLineEnd text k = slice_index text (k - 1) ≡ 10
+-- these are the statements of the text, if it is a document
+abbrev pub AreStatementsOf : List ℕ → List Statement → Type 0
+AreStatementsOf text statements = IsSome (parse_document text) → map statement_view statements ≡ map (seen (length text)) (statements_of text)
 
--- The lines from `start` to `end`: the text up to `end` is a document that has what is looked for, up to `start` it is one
--- that doesn't have it, and up to no end of a line in between it is a document.
-pub record IsTextRange (sought : Members → Bool) (text : List ℕ) (start end : ℕ) : Type 0 where
-  pub ordered : start ≤ end
-  pub within : end ≤ length text
-  pub with : IsDocument sought (take end text) true
-  pub without : IsDocument sought (take start text) false
-  pub between : (k : ℕ) → start < k → k < end → IsLineEnd text k → IsNone (take k text)
+-- where the statement of this index begins, by the bytes before it
+abbrev pub statement_place : List ℕ → ℕ → ℕ
+statement_place text j = get_or (map (λ p. length text - p.1) (statements_of text)) j 0
 
--- the position is that of this place of the text
-pub record IsAt (text : List ℕ) (place : ℕ) (position : Position) : Type 0 where
-  pub line : position.line ≡ line_of_place text place
-  pub column : position.column ≡ column_at text place
-
--- The position of what is looked for: of the first character that is no blank in the lines at which the text gets it.
+-- The position of what is sought: of the statement by which the text gets it.
 pub record IsPositionOf (sought : Members → Bool) (text : List ℕ) (position : Position) : Type 0 where
-  pub start : ℕ
-  pub end : ℕ
-  pub range : IsTextRange sought text start end
-  pub at : IsAt text (first_unblank text start) position
+  pub statement : ℕ
+  pub gives : IsGivenBy sought (expressions (statements_of text)) statement
+  pub at : position ≡ position_in text (statement_place text statement)
 
--- What a look at a text answers: nothing of it where it was too much to read.
-abbrev pub Sees : (Members → Bool) → List ℕ → Look → Type 0
-Sees sought text With = IsDocument sought text true
-Sees sought text Without = IsDocument sought text false
-Sees sought text NoDocument = IsNone text
-Sees sought text TooMuch = Unit {0}
+-- the tree has the entry; the root is none
+abbrev pub has_entry : Part → Members → Bool
+has_entry Root tree = false
+has_entry (Rule n) tree = is_there (codes "rule") (Some (n - 1)) None tree
+has_entry (Mode n) tree = is_there (codes "mode") (Some (n - 1)) None tree
+has_entry (Initial n) tree = is_there (codes "initial") (Some (n - 1)) None tree
 
--- the same of the text up to a place, of which nothing is said where no line ends there
-abbrev pub SeesBack : (Members → Bool) → List ℕ → ℕ → Look → Type 0
-SeesBack sought text at With = IsDocument sought (take at text) true
-SeesBack sought text at Without = IsDocument sought (take at text) false
-SeesBack sought text at NoDocument = IsLineEnd text at → IsNone (take at text)
-SeesBack sought text at TooMuch = Unit {0}
+-- the tree has a key of this name, of the root or of an entry
+abbrev pub has_key : Part → List ℕ → Members → Bool
+has_key Root name tree = is_there name None None tree
+has_key (Rule n) name tree = is_there (codes "rule") (Some (n - 1)) (Some name) tree
+has_key (Mode n) name tree = is_there (codes "mode") (Some (n - 1)) (Some name) tree
+has_key (Initial n) name tree = is_there (codes "initial") (Some (n - 1)) (Some name) tree
+
+-- the first key of a part, in the order of these statements, that is none of those which are known
+abbrev pub first_besides : Part → List (List ℕ) → List Statement → Option (List ℕ)
+first_besides Root known statements = key_besides known (whole_names statements)
+first_besides (Rule n) known statements = item_besides (codes "rule") (n - 1) known statements
+first_besides (Mode n) known statements = item_besides (codes "mode") (n - 1) known statements
+first_besides (Initial n) known statements = item_besides (codes "initial") (n - 1) known statements

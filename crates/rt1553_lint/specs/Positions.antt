@@ -1,6 +1,6 @@
 -- Lines and columns of a text.
-use Rattle.std.specs.Prelude.{ℕ, ◌+◌, Bool, not, ◌||◌, ◌==◌, nat_lt, nat_le, List, take, drop, reverse, take_while, count_by}
-use Rattle.std.specs.List.{prefix_len}
+use Rattle.std.specs.Prelude.{ℕ, ◌+◌, Bool, not, ◌||◌, ◌==◌, nat_lt, nat_le, List, take, reverse, take_while, count_by}
+use Rattle.rt1553_lint.specs.declared.finding.Position.{Position}
 
 abbrev pub is_feed : ℕ → Bool
 is_feed byte = byte == 10
@@ -8,10 +8,6 @@ is_feed byte = byte == 10
 -- a character begins with this byte: it is no continuation byte of UTF-8
 abbrev pub begins_character : ℕ → Bool
 begins_character byte = nat_lt byte 0x80 || nat_le 0xC0 byte
-
--- a space or a tab
-abbrev pub is_blank : ℕ → Bool
-is_blank byte = byte == 32 || byte == 9
 
 -- the bytes before a place, the nearest first, up to a line feed
 abbrev pub back_to_feed : List ℕ → ℕ → List ℕ
@@ -25,6 +21,6 @@ line_of_place text place = count_by is_feed (take place text) + 1
 abbrev pub column_at : List ℕ → ℕ → ℕ
 column_at text place = count_by begins_character (back_to_feed text place) + 1
 
--- the first place from this one on whose byte is no blank, or the end of the text
-abbrev pub first_unblank : List ℕ → ℕ → ℕ
-first_unblank text place = place + prefix_len is_blank (drop place text)
+-- the line and the column of a place
+abbrev pub position_in : List ℕ → ℕ → Position
+position_in text place = record { line = line_of_place text place; column = column_at text place }

@@ -1,27 +1,17 @@
 //! The findings of a tree's faults: for each its place, the value as it is written, and what would be allowed.
-ghost use Rattle.std.specs.Prelude.{◌≡◌, ◌++◌, true, IfOk, IfSome, IsSome, IsNone, IsSomeAnd, OnOk, Some, None, ◌≤◌, length, map};
+ghost use Rattle.std.specs.Prelude.{◌≡◌, ◌++◌, IfOk, OnOk, Some, None, map};
 ghost use Rattle.toml.specs.View.{table_view};
 ghost use Rattle.bus_profile.specs.AllFaults.{told_faults};
 ghost use Rattle.rt1553_lint.specs.declared.finding.LintFault.TheVariants as LintFault;
-ghost use Rattle.rt1553_lint.specs.KeyPaths.{has};
-ghost use Rattle.rt1553_lint.specs.Places.{IsAt, IsPositionOf, IsDocument};
 ghost use Rattle.rt1553_lint.specs.Findings.{subjects, profile_error};
 
 use crate::finding::{Finding, LintFault, Position};
-use crate::guess::guessed_unknown;
-use crate::key_path::KeyPath;
-use crate::lines::{after_blanks, position_at};
-use crate::place::place_of;
+use crate::places::Places;
 use crate::shown::{Quoted, Shown};
-use crate::tree::{
-    entry_of, is_of_word, last_mode, path_of_name, path_of_part, table_of, value_of, wrong_word,
-};
+use crate::tree::{is_of_word, last_mode, numbered, table_of, value_of, wrong_word};
 use bus_profile::{Key, Part, ProfileFault, all_faults, known_keys, unknown_keys};
 use std::alloc::{AllocError, Global};
 use toml::Table;
-
-/// How many bytes of beginnings of the text are read, at most, to find where the findings stand.
-pub const MOST_BYTES: usize = 67_108_864;
 
 /// How many unknown keys a message names.
 const MOST_NAMES: usize = 10;
@@ -47,32 +37,19 @@ fn allowed(key: Key) -> &'static str {
     }
 }
 
-/// Where what was found stands: the first character of its first line that is no blank; where there is nothing to look for,
-/// the beginning of the text.
-pub fn position_of(
-    alloc: Global,
-    text: &[u8],
-    path: Option<KeyPath<'_>>,
-    left: &mut usize,
-) -> Result<Option<Position>, AllocError>
-    ensures root { IfOk result (λ found. IsNone path.entry → IsSomeAnd found (IsAt text.now 0)) }
-    ensures place { IfOk result (λ found. IfSome path.entry (λ path. IfSome found (IsPositionOf (has path) text.now))) }
-    ensures found { IfOk result (λ found. IfSome path.entry (λ path. IsDocument (has path) text.now true → length text.now ≤ left.new → IsSome found)) }
-{
-    let Some(path) = path else {
-        return Ok(Some(position_at(text, 0)));
-    };
-    let Some(place) = place_of(alloc, text, &path, left)? else {
-        return Ok(None);
-    };
-    let at = after_blanks(text, place.start);
-    Ok(Some(position_at(text, at)))
+/// The names that the keys of a part may have.
+fn known_names(alloc: Global, part: Part) -> Result<Vec<&'static str>, AllocError> {
+    let mut names = Vec::new(alloc);
+    for key in known_keys(part) {
+        names.push(key.name())?;
+    }
+    Ok(names)
 }
 
-/// The keys of a part that it may not have, of which that comes first that seems to be first in the text.
+/// The keys of a part that it may not have, of which that comes first that is first in the text.
 fn unknown_names<'a>(
     alloc: Global,
-    text: &[u8],
+    places: &Places<'_>,
     table: &'a Table,
     part: Part,
 ) -> Result<Vec<&'a str>, AllocError> {
@@ -80,23 +57,34 @@ fn unknown_names<'a>(
         return Ok(Vec::new(alloc));
     };
     let mut names = unknown_keys(alloc, inner, part)?;
-    let first = guessed_unknown(text, part, names.as_slice());
-    if first < names.len() {
-        let name = names.remove(first);
-        names.insert(0, name)?;
+    let known = known_names(alloc, part)?;
+    if let Some(first) = places.first_besides(part, known.as_slice()) {
+        move_to_front(&mut names, first)?;
     }
     Ok(names)
+}
+
+/// Moves a name before the others, if it is among them.
+fn move_to_front(names: &mut Vec<&str>, first: &str) -> Result<(), AllocError> {
+    for index in 0..names.len() {
+        if names[index] == first {
+            let name = names.remove(index);
+            names.insert(0, name)?;
+            break;
+        }
+    }
+    Ok(())
 }
 
 /// Adds the keys of a table that it may not have, and those that it may.
 fn push_unknown(
     alloc: Global,
     message: &mut String,
-    text: &[u8],
+    places: &Places<'_>,
     table: &Table,
     part: Part,
 ) -> Result<(), AllocError> {
-    let names = unknown_names(alloc, text, table, part)?;
+    let names = unknown_names(alloc, places, table, part)?;
     for (index, name) in names.as_slice().iter().enumerate() {
         if index == MOST_NAMES {
             write!(
@@ -162,7 +150,7 @@ fn push_required(message: &mut String, table: &Table, code: u8) -> Result<(), Al
 /// The message of a fault; `word` is the index of the word that has it.
 fn message_of(
     alloc: Global,
-    text: &[u8],
+    places: &Places<'_>,
     table: &Table,
     fault: ProfileFault,
     word: Option<usize>,
@@ -170,7 +158,7 @@ fn message_of(
     let mut message = String::new(alloc);
     write!(message, "{fault}")?;
     match fault {
-        ProfileFault::UnknownKey(part) => push_unknown(alloc, &mut message, text, table, part)?,
+        ProfileFault::UnknownKey(part) => push_unknown(alloc, &mut message, places, table, part)?,
         ProfileFault::Missing(_, key) => write!(message, "; allowed is {}", allowed(key))?,
         ProfileFault::WrongKind(part, key)
         | ProfileFault::OutOfRange(part, key)
@@ -182,103 +170,67 @@ fn message_of(
     Ok(message)
 }
 
-/// The place of the word, of an item of the words of an initial entry.
-fn path_of_word<'a>(part: Part, key: Key, word: Option<usize>) -> Option<KeyPath<'a>> {
-    let name = key.name();
-    match entry_of(part) {
-        Some((array, index)) => Some(KeyPath {
-            key: array.name(),
-            entry: Some(index),
-            name: Some(name),
-            word,
-        }),
-        None => Some(KeyPath {
-            key: name,
-            entry: None,
-            name: None,
-            word,
-        }),
-    }
-}
-
-/// The place of a key of a part; of an entry that is no table that of the entry.
-fn path_of_key<'a>(part: Part, key: Key, word: Option<usize>) -> Option<KeyPath<'a>> {
+/// Where a key of a part stands; of an entry that is no table the entry.
+fn position_of_key(places: &Places<'_>, part: Part, key: Key) -> Option<Position> {
     match key {
-        Key::Rule | Key::Mode | Key::Initial if part != Part::Root => path_of_part(part),
-        _ => path_of_word(part, key, word),
+        Key::Rule | Key::Mode | Key::Initial if part != Part::Root => places.part_position(part),
+        _ => places.key_position(part, key.name()),
     }
-}
-
-/// The place of an entry, by the key of its array.
-pub fn path_of_entry<'a>(key: Key, index: usize) -> Option<KeyPath<'a>> {
-    Some(KeyPath {
-        key: key.name(),
-        entry: Some(index),
-        name: None,
-        word: None,
-    })
 }
 
 /// Where the first unknown key of a part stands.
 fn position_of_unknown(
     alloc: Global,
-    text: &[u8],
+    places: &Places<'_>,
     table: &Table,
     part: Part,
-    left: &mut usize,
 ) -> Result<Option<Position>, AllocError> {
-    let names = unknown_names(alloc, text, table, part)?;
-    if let Some(name) = names.as_slice().first() {
-        return position_of(alloc, text, Some(path_of_name(part, name)), left);
-    }
-    position_of(alloc, text, path_of_part(part), left)
+    let names = unknown_names(alloc, places, table, part)?;
+    Ok(match names.as_slice().first() {
+        Some(name) => places.key_position(part, name),
+        None => places.part_position(part),
+    })
 }
 
-/// Where a fault stands; `word` is the index of the word that has it.
+/// Where a fault stands.
 fn position_of_fault(
     alloc: Global,
-    text: &[u8],
+    places: &Places<'_>,
     table: &Table,
     fault: ProfileFault,
-    word: Option<usize>,
-    left: &mut usize,
 ) -> Result<Option<Position>, AllocError> {
-    let path = match fault {
-        ProfileFault::UnknownKey(part) => {
-            return position_of_unknown(alloc, text, table, part, left);
-        }
-        ProfileFault::Missing(part, _) => path_of_part(part),
-        ProfileFault::TooMany(Part::Root, key) => path_of_entry(key, 256),
+    Ok(match fault {
+        ProfileFault::UnknownKey(part) => position_of_unknown(alloc, places, table, part)?,
+        ProfileFault::Missing(part, _) => places.part_position(part),
+        ProfileFault::TooMany(Part::Root, key) => places.part_position(numbered(key, 256)),
         ProfileFault::WrongKind(part, key)
         | ProfileFault::OutOfRange(part, key)
         | ProfileFault::BadRanges(part, key)
-        | ProfileFault::TooMany(part, key) => path_of_key(part, key, word),
+        | ProfileFault::TooMany(part, key) => position_of_key(places, part, key),
         ProfileFault::RequiredCode(code) => match last_mode(table, code) {
-            Some(index) => path_of_entry(Key::Mode, index),
-            None => None,
+            Some(index) => places.part_position(numbered(Key::Mode, index)),
+            None => places.part_position(Part::Root),
         },
-        ProfileFault::NotToml | ProfileFault::Memory => None,
-    };
-    position_of(alloc, text, path, left)
+        ProfileFault::NotToml | ProfileFault::Memory => places.part_position(Part::Root),
+    })
 }
 
 /// The finding of a fault; `word` is the index of the word that has it.
 fn finding_of(
     alloc: Global,
-    text: &[u8],
+    places: &Places<'_>,
     table: &Table,
     fault: ProfileFault,
     word: Option<usize>,
-    left: &mut usize,
 ) -> Result<Finding, AllocError>
     ensures fault { IfOk result (λ finding. finding.fault ≡ Some (LintFault.Profile fault)) }
     ensures spare { IfOk result (λ finding. finding.spare ≡ None) }
 {
     Ok(Finding {
-        position: position_of_fault(alloc, text, table, fault, word, left)?,
+        position: position_of_fault(alloc, places, table, fault)?,
         fault: Some(LintFault::Profile(fault)),
         spare: None,
-        message: message_of(alloc, text, table, fault, word)?,
+        message: message_of(alloc, places, table, fault, word)?,
     })
 }
 
@@ -286,10 +238,9 @@ fn finding_of(
 fn push_faults(
     alloc: Global,
     findings: &mut Vec<Finding>,
-    text: &[u8],
+    places: &Places<'_>,
     table: &Table,
     faults: &[ProfileFault],
-    left: &mut usize,
 ) -> Result<(), AllocError>
     ensures { OnOk result (subjects findings.new.items ≡ subjects findings.old.items ++ map profile_error faults.now) }
 {
@@ -303,7 +254,7 @@ fn push_faults(
             Some(index) => index.saturating_add(1),
             None => 0,
         };
-        findings.push(finding_of(alloc, text, table, *fault, word, left)?)?;
+        findings.push(finding_of(alloc, places, table, *fault, word)?)?;
     }
     Ok(())
 }
@@ -311,14 +262,13 @@ fn push_faults(
 /// The findings of the faults of a tree.
 pub fn errors_of(
     alloc: Global,
-    text: &[u8],
+    places: &Places<'_>,
     table: &Table,
-    left: &mut usize,
 ) -> Result<Vec<Finding>, AllocError>
     ensures { IfOk result (λ found. subjects found.items ≡ map profile_error (told_faults (table_view table.now))) }
 {
     let faults = all_faults(alloc, table)?;
     let mut findings = Vec::new(alloc);
-    push_faults(alloc, &mut findings, text, table, faults.as_slice(), left)?;
+    push_faults(alloc, &mut findings, places, table, faults.as_slice())?;
     Ok(findings)
 }

@@ -1,16 +1,17 @@
 //! All that is wrong with a text, or has no effect in it.
-ghost use Rattle.std.specs.Prelude.{◌≡◌, [], ◌∷◌, Some, None, IfOk};
+ghost use Rattle.std.specs.Prelude.{◌≡◌, ◌≤◌, [], ◌∷◌, Some, None, All, IfOk, length};
 ghost use Rattle.toml.specs.Data.{Members};
 ghost use Rattle.toml.specs.View.{table_view};
 ghost use Rattle.toml.specs.Errors.{IsWithin};
 ghost use Rattle.bus_profile.specs.Read.{IsTree};
 ghost use Rattle.rt1553_lint.specs.declared.finding.LintFault.TheVariants as lint_fault;
 ghost use Rattle.rt1553_lint.specs.Findings.{subjects, FindsInTree, FindsInOther};
-ghost use Rattle.rt1553_lint.specs.Places.{IsNone};
+ghost use Rattle.rt1553_lint.specs.Places.{IsNone, AreStatementsOf};
 
-use crate::errors::{MOST_BYTES, errors_of};
+use crate::errors::errors_of;
 use crate::finding::{Finding, LintFault};
 use crate::lines::{position_at, position_of_line};
+use crate::places::places_of;
 use crate::shown::ShownMessage;
 use crate::warnings::warnings_of;
 use bus_canon::CanonFault;
@@ -19,20 +20,39 @@ use rt1553::{LoadFault, load};
 use std::alloc::{AllocError, Global};
 use toml::Table;
 use toml::de::Error;
+use toml_statements::{Statement, StatementsFault, statements_of};
+
+/// The statements of a document. The only error is out of memory.
+fn statements_in(alloc: Global, text: &[u8]) -> Result<Vec<Statement>, AllocError>
+    requires { (tree : Members) × IsTree text.now tree }
+    ensures read { IfOk result (λ found. AreStatementsOf text.now found.items) }
+    ensures within { IfOk result (λ found. All (λ s. s.at ≤ length text.now) found.items) }
+{
+    let Ok(source) = str::from_utf8(text) else {
+        unreachable!();
+    };
+    match statements_of(alloc, source) {
+        Ok(statements) => Ok(statements),
+        Err(StatementsFault::Memory) => Err(AllocError),
+        Err(StatementsFault::NotToml) => unreachable!(),
+    }
+}
 
 /// The findings of a text that is TOML: its faults, or where it has none what has no effect.
 fn lint_table(alloc: Global, text: &[u8], table: &Table) -> Result<Vec<Finding>, AllocError>
+    requires { IsTree text.now (table_view table.now) }
     ensures { IfOk result (λ found. FindsInTree text.now (table_view table.now) found.items) }
 {
-    let mut left = MOST_BYTES;
-    let findings = errors_of(alloc, text, table, &mut left)?;
+    let statements = statements_in(alloc, text)?;
+    let places = places_of(alloc, text, statements.as_slice())?;
+    let findings = errors_of(alloc, &places, table)?;
     if !findings.is_empty() {
         return Ok(findings);
     }
     let Ok(profile) = read_profile(alloc, text) else {
         return Err(AllocError);
     };
-    let warnings = warnings_of(alloc, text, &profile, &mut left)?;
+    let warnings = warnings_of(alloc, &places, &profile)?;
     Ok(warnings)
 }
 

@@ -1,10 +1,9 @@
 //! The parts of a profile's tree.
-use crate::key_path::KeyPath;
 use bus_profile::{Key, Part, ProfileFault, parse_ranges, word_fault};
 use toml::{Table, Value};
 
 /// The key of the array and the index of the entry that a part is.
-pub fn entry_of(part: Part) -> Option<(Key, usize)> {
+fn entry_of(part: Part) -> Option<(Key, usize)> {
     match part {
         Part::Root => None,
         Part::Rule(number) => Some((Key::Rule, usize::from(number).saturating_sub(1))),
@@ -13,34 +12,17 @@ pub fn entry_of(part: Part) -> Option<(Key, usize)> {
     }
 }
 
-/// The place of a part: None for the root.
-pub fn path_of_part<'a>(part: Part) -> Option<KeyPath<'a>> {
-    match entry_of(part) {
-        Some((key, index)) => Some(KeyPath {
-            key: key.name(),
-            entry: Some(index),
-            name: None,
-            word: None,
-        }),
-        None => None,
-    }
-}
-
-/// The place of a key of a part, as it is written.
-pub fn path_of_name<'a>(part: Part, name: &'a str) -> KeyPath<'a> {
-    match entry_of(part) {
-        Some((key, index)) => KeyPath {
-            key: key.name(),
-            entry: Some(index),
-            name: Some(name),
-            word: None,
-        },
-        None => KeyPath {
-            key: name,
-            entry: None,
-            name: None,
-            word: None,
-        },
+/// The entry of this index of an array; the root where the key is of no array.
+pub fn numbered(array: Key, index: usize) -> Part {
+    let number = match u16::try_from(index) {
+        Ok(index) => index.saturating_add(1),
+        Err(_) => u16::MAX,
+    };
+    match array {
+        Key::Rule => Part::Rule(number),
+        Key::Mode => Part::Mode(number),
+        Key::Initial => Part::Initial(number),
+        _ => Part::Root,
     }
 }
 

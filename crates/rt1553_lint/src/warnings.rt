@@ -1,21 +1,31 @@
 //! The warnings of a profile: entries, keys and words that have no effect.
-ghost use Rattle.std.specs.Prelude.{◌≡◌, ◌<◌, ◌↔◌, [], ◌∷◌, ◌++◌, IsTrue, OnOk, IfOk, length, map, flat_map};
+ghost use Rattle.std.specs.Prelude.{◌≡◌, ◌<◌, ◌↔◌, ℕ, [], ◌∷◌, ◌++◌, IsTrue, OnOk, IfOk, length, map, flat_map};
 ghost use Rattle.std.specs.List.{range_with_len};
 ghost use Rattle.spare_entries.specs.declared.spare.SparePlace.TheVariants as SparePlace;
-ghost use Rattle.spare_entries.specs.Spares.{is_default, GivesWord, IsSpareInitial, initial_places, places_of, setting_places};
+ghost use Rattle.bus_word.specs.Mask.{has_bit};
+ghost use Rattle.spare_entries.specs.Without.{SparesWord};
+ghost use Rattle.spare_entries.specs.Spares.{is_default, GivesWord, IsSpare, IsSpareInitial, initial_places, places_of, setting_places};
 ghost use Rattle.rt1553_lint.specs.Findings.{Warns, subjects, warning_of};
 
-use crate::errors::{path_of_entry, position_of};
-use crate::finding::Finding;
-use crate::key_path::KeyPath;
-use bus_legal::normalise;
-use bus_profile::{InitialWords, Key, Profile};
-use bus_word::WRAPAROUND_SUBADDRESS;
+use crate::finding::{Finding, Position};
+use crate::places::Places;
+use crate::tree::numbered;
+use bus_legal::{Normal, normalise};
+use bus_profile::{InitialWords, Key, Part, Profile};
+use bus_word::{WRAPAROUND_SUBADDRESS, has_bit};
 use spare_entries::{
-    Setting, SparePlace, is_spare_initial, is_spare_mode, is_spare_rule, is_spare_setting,
-    is_spare_word, why_initial, why_mode, why_rule, why_setting, why_word,
+    InitialSpares, Setting, SparePlace, covered_rules, is_spare_setting, spare_initials,
+    spare_modes, spare_rules, why_initial, why_mode, why_rule, why_setting, why_word,
 };
 use std::alloc::{AllocError, Global};
+
+/// A profile that is judged: where its text has what, and what it means.
+#[derive(Clone, Copy)]
+struct Judged<'a> {
+    places: &'a Places<'a>,
+    profile: &'a Profile,
+    normal: &'a Normal,
+}
 
 /// The key that a setting is.
 fn key_of(setting: Setting) -> Key {
@@ -43,17 +53,13 @@ fn is_default(profile: &Profile, setting: Setting) -> bool
 
 /// Adds a warning.
 fn push_warning(
-    alloc: Global,
     findings: &mut Vec<Finding>,
-    text: &[u8],
-    path: Option<KeyPath<'_>>,
+    position: Option<Position>,
     spare: SparePlace,
     message: String,
-    left: &mut usize,
 ) -> Result<(), AllocError>
     ensures { OnOk result (subjects findings.new.items ≡ subjects findings.old.items ++ warning_of spare ∷ []) }
 {
-    let position = position_of(alloc, text, path, left)?;
     findings.push(Finding {
         position,
         fault: None,
@@ -67,29 +73,21 @@ fn push_warning(
 fn push_setting(
     alloc: Global,
     findings: &mut Vec<Finding>,
-    text: &[u8],
-    profile: &Profile,
+    judged: &Judged<'_>,
     setting: Setting,
-    left: &mut usize,
 ) -> Result<(), AllocError>
-    ensures { OnOk result (Warns profile.now (SparePlace.Key setting ∷ []) findings.old.items findings.new.items) }
+    ensures { OnOk result (Warns judged.now.profile.now (SparePlace.Key setting ∷ []) findings.old.items findings.new.items) }
 {
-    if is_default(profile, setting) {
+    if is_default(judged.profile, setting) {
         return Ok(());
     }
-    if !is_spare_setting(alloc, profile, setting)? {
+    if !is_spare_setting(alloc, judged.profile, setting)? {
         return Ok(());
     }
     let key = key_of(setting);
     let message = format!(in alloc; "{key} has no effect: {}", why_setting(setting))?;
-    let path = KeyPath {
-        key: key.name(),
-        entry: None,
-        name: None,
-        word: None,
-    };
-    let spare = SparePlace::Key(setting);
-    push_warning(alloc, findings, text, Some(path), spare, message, left)?;
+    let position = judged.places.key_position(Part::Root, key.name());
+    push_warning(findings, position, SparePlace::Key(setting), message)?;
     Ok(())
 }
 
@@ -97,24 +95,15 @@ fn push_setting(
 fn push_settings(
     alloc: Global,
     findings: &mut Vec<Finding>,
-    text: &[u8],
-    profile: &Profile,
-    left: &mut usize,
+    judged: &Judged<'_>,
 ) -> Result<(), AllocError>
-    ensures { OnOk result (Warns profile.now setting_places findings.old.items findings.new.items) }
+    ensures { OnOk result (Warns judged.now.profile.now setting_places findings.old.items findings.new.items) }
 {
-    push_setting(alloc, findings, text, profile, Setting::Broadcast, left)?;
-    push_setting(alloc, findings, text, profile, Setting::Wraparound, left)?;
-    push_setting(
-        alloc,
-        findings,
-        text,
-        profile,
-        Setting::AcceptBusControl,
-        left,
-    )?;
-    push_setting(alloc, findings, text, profile, Setting::Vector, left)?;
-    push_setting(alloc, findings, text, profile, Setting::Bit, left)?;
+    push_setting(alloc, findings, judged, Setting::Broadcast)?;
+    push_setting(alloc, findings, judged, Setting::Wraparound)?;
+    push_setting(alloc, findings, judged, Setting::AcceptBusControl)?;
+    push_setting(alloc, findings, judged, Setting::Vector)?;
+    push_setting(alloc, findings, judged, Setting::Bit)?;
     Ok(())
 }
 
@@ -122,31 +111,27 @@ fn push_settings(
 fn push_rule(
     alloc: Global,
     findings: &mut Vec<Finding>,
-    text: &[u8],
-    profile: &Profile,
+    judged: &Judged<'_>,
     index: usize,
-    left: &mut usize,
+    is_spare: bool,
+    is_covered: bool,
 ) -> Result<(), AllocError>
-    requires { index < length profile.now.rules }
-    ensures { OnOk result (Warns profile.now (SparePlace.Rule index ∷ []) findings.old.items findings.new.items) }
+    requires index { index < length judged.now.profile.now.rules }
+    requires spare { IsTrue is_spare ↔ IsSpare judged.now.profile.now (SparePlace.Rule index) }
+    ensures { OnOk result (Warns judged.now.profile.now (SparePlace.Rule index ∷ []) findings.old.items findings.new.items) }
 {
-    if !is_spare_rule(alloc, profile, index)? {
+    if !is_spare {
         return Ok(());
     }
-    let rules = profile.rules.as_slice();
     let number = index.saturating_add(1);
-    let why = why_rule(profile, &rules[index], &rules[index + 1..]);
+    let why = why_rule(
+        judged.profile,
+        &judged.profile.rules.as_slice()[index],
+        is_covered,
+    );
     let message = format!(in alloc; "rule {number} has no effect: {why}")?;
-    let path = path_of_entry(Key::Rule, index);
-    push_warning(
-        alloc,
-        findings,
-        text,
-        path,
-        SparePlace::Rule(index),
-        message,
-        left,
-    )?;
+    let position = judged.places.part_position(numbered(Key::Rule, index));
+    push_warning(findings, position, SparePlace::Rule(index), message)?;
     Ok(())
 }
 
@@ -154,14 +139,21 @@ fn push_rule(
 fn push_rules(
     alloc: Global,
     findings: &mut Vec<Finding>,
-    text: &[u8],
-    profile: &Profile,
-    left: &mut usize,
+    judged: &Judged<'_>,
 ) -> Result<(), AllocError>
-    ensures { OnOk result (Warns profile.now (map SparePlace.Rule (range_with_len 0 (length profile.now.rules))) findings.old.items findings.new.items) }
+    ensures { OnOk result (Warns judged.now.profile.now (map SparePlace.Rule (range_with_len 0 (length judged.now.profile.now.rules))) findings.old.items findings.new.items) }
 {
-    for index in 0..profile.rules.as_slice().len() {
-        push_rule(alloc, findings, text, profile, index, left)?;
+    let spares = spare_rules(alloc, judged.profile)?;
+    let covered = covered_rules(alloc, judged.profile)?;
+    for index in 0..judged.profile.rules.as_slice().len() {
+        push_rule(
+            alloc,
+            findings,
+            judged,
+            index,
+            spares[index],
+            covered[index],
+        )?;
     }
     Ok(())
 }
@@ -170,31 +162,23 @@ fn push_rules(
 fn push_mode(
     alloc: Global,
     findings: &mut Vec<Finding>,
-    text: &[u8],
-    profile: &Profile,
+    judged: &Judged<'_>,
     index: usize,
-    left: &mut usize,
+    is_spare: bool,
 ) -> Result<(), AllocError>
-    requires { index < length profile.now.modes }
-    ensures { OnOk result (Warns profile.now (SparePlace.Mode index ∷ []) findings.old.items findings.new.items) }
+    requires index { index < length judged.now.profile.now.modes }
+    requires spare { IsTrue is_spare ↔ IsSpare judged.now.profile.now (SparePlace.Mode index) }
+    ensures { OnOk result (Warns judged.now.profile.now (SparePlace.Mode index ∷ []) findings.old.items findings.new.items) }
 {
-    if !is_spare_mode(alloc, profile, index)? {
+    if !is_spare {
         return Ok(());
     }
-    let modes = profile.modes.as_slice();
+    let modes = judged.profile.modes.as_slice();
     let number = index.saturating_add(1);
-    let why = why_mode(profile, &modes[index], &modes[index + 1..]);
+    let why = why_mode(judged.profile, &modes[index], &modes[index + 1..]);
     let message = format!(in alloc; "mode {number} has no effect: {why}")?;
-    let path = path_of_entry(Key::Mode, index);
-    push_warning(
-        alloc,
-        findings,
-        text,
-        path,
-        SparePlace::Mode(index),
-        message,
-        left,
-    )?;
+    let position = judged.places.part_position(numbered(Key::Mode, index));
+    push_warning(findings, position, SparePlace::Mode(index), message)?;
     Ok(())
 }
 
@@ -202,14 +186,13 @@ fn push_mode(
 fn push_modes(
     alloc: Global,
     findings: &mut Vec<Finding>,
-    text: &[u8],
-    profile: &Profile,
-    left: &mut usize,
+    judged: &Judged<'_>,
 ) -> Result<(), AllocError>
-    ensures { OnOk result (Warns profile.now (map SparePlace.Mode (range_with_len 0 (length profile.now.modes))) findings.old.items findings.new.items) }
+    ensures { OnOk result (Warns judged.now.profile.now (map SparePlace.Mode (range_with_len 0 (length judged.now.profile.now.modes))) findings.old.items findings.new.items) }
 {
-    for index in 0..profile.modes.as_slice().len() {
-        push_mode(alloc, findings, text, profile, index, left)?;
+    let spares = spare_modes(alloc, judged.profile)?;
+    for index in 0..judged.profile.modes.as_slice().len() {
+        push_mode(alloc, findings, judged, index, spares[index])?;
     }
     Ok(())
 }
@@ -226,38 +209,34 @@ fn gives_word(entry: &InitialWords, word: usize) -> bool
 fn push_word(
     alloc: Global,
     findings: &mut Vec<Finding>,
-    text: &[u8],
-    profile: &Profile,
+    judged: &Judged<'_>,
     index: usize,
     word: usize,
-    left: &mut usize,
+    is_spare: bool,
 ) -> Result<(), AllocError>
-    requires index { index < length profile.now.initials }
+    requires index { index < length judged.now.profile.now.initials }
     requires word { word < 32 }
-    requires needed { IsSpareInitial profile.now index → ⊥ }
-    ensures { OnOk result (Warns profile.now (SparePlace.Word index word ∷ []) findings.old.items findings.new.items) }
+    requires needed { IsSpareInitial judged.now.profile.now index → ⊥ }
+    requires spare { SparesWord judged.now.profile.now index word is_spare }
+    ensures { OnOk result (Warns judged.now.profile.now (SparePlace.Word index word ∷ []) findings.old.items findings.new.items) }
 {
-    let entry = profile.initials.as_slice()[index];
+    let entry = judged.profile.initials.as_slice()[index];
     if !gives_word(&entry, word) {
         return Ok(());
     }
-    if !is_spare_word(alloc, profile, index, word)? {
+    if !is_spare {
         return Ok(());
     }
-    let why = why_word(&normalise(profile), &entry, word);
+    let why = why_word(judged.normal, &entry, word);
     let message = format!(in alloc;
         "initial {}: word {} has no effect: {why}",
         index.saturating_add(1),
         word.saturating_add(1)
     )?;
-    let path = KeyPath {
-        key: Key::Initial.name(),
-        entry: Some(index),
-        name: Some(Key::Words.name()),
-        word: Some(word),
-    };
-    let spare = SparePlace::Word(index, word);
-    push_warning(alloc, findings, text, Some(path), spare, message, left)?;
+    let position = judged
+        .places
+        .key_position(numbered(Key::Initial, index), Key::Words.name());
+    push_warning(findings, position, SparePlace::Word(index, word), message)?;
     Ok(())
 }
 
@@ -265,17 +244,18 @@ fn push_word(
 fn push_words(
     alloc: Global,
     findings: &mut Vec<Finding>,
-    text: &[u8],
-    profile: &Profile,
+    judged: &Judged<'_>,
     index: usize,
-    left: &mut usize,
+    spares: u32,
 ) -> Result<(), AllocError>
-    requires index { index < length profile.now.initials }
-    requires needed { IsSpareInitial profile.now index → ⊥ }
-    ensures { OnOk result (Warns profile.now (map (SparePlace.Word index) (range_with_len 0 32)) findings.old.items findings.new.items) }
+    requires index { index < length judged.now.profile.now.initials }
+    requires needed { IsSpareInitial judged.now.profile.now index → ⊥ }
+    requires spares { (w : ℕ) → w < 32 → SparesWord judged.now.profile.now index w (has_bit spares w) }
+    ensures { OnOk result (Warns judged.now.profile.now (map (SparePlace.Word index) (range_with_len 0 32)) findings.old.items findings.new.items) }
 {
     for word in 0..32usize {
-        push_word(alloc, findings, text, profile, index, word, left)?;
+        let is_spare = has_bit(spares, word as u8);
+        push_word(alloc, findings, judged, index, word, is_spare)?;
     }
     Ok(())
 }
@@ -284,25 +264,25 @@ fn push_words(
 fn push_initial(
     alloc: Global,
     findings: &mut Vec<Finding>,
-    text: &[u8],
-    profile: &Profile,
+    judged: &Judged<'_>,
     index: usize,
-    left: &mut usize,
+    spares: InitialSpares,
 ) -> Result<(), AllocError>
-    requires { index < length profile.now.initials }
-    ensures { OnOk result (Warns profile.now (initial_places index) findings.old.items findings.new.items) }
+    requires index { index < length judged.now.profile.now.initials }
+    requires entry { IsTrue spares.entry ↔ IsSpareInitial judged.now.profile.now index }
+    requires words { (w : ℕ) → w < 32 → SparesWord judged.now.profile.now index w (has_bit spares.words w) }
+    ensures { OnOk result (Warns judged.now.profile.now (initial_places index) findings.old.items findings.new.items) }
 {
-    if !is_spare_initial(alloc, profile, index)? {
-        push_words(alloc, findings, text, profile, index, left)?;
+    if !spares.entry {
+        push_words(alloc, findings, judged, index, spares.words)?;
         return Ok(());
     }
-    let entry = profile.initials.as_slice()[index];
-    let why = why_initial(&normalise(profile), &entry);
+    let entry = judged.profile.initials.as_slice()[index];
+    let why = why_initial(judged.normal, &entry);
     let number = index.saturating_add(1);
     let message = format!(in alloc; "initial {number} has no effect: {why}")?;
-    let path = path_of_entry(Key::Initial, index);
-    let spare = SparePlace::Initial(index);
-    push_warning(alloc, findings, text, path, spare, message, left)?;
+    let position = judged.places.part_position(numbered(Key::Initial, index));
+    push_warning(findings, position, SparePlace::Initial(index), message)?;
     Ok(())
 }
 
@@ -310,14 +290,13 @@ fn push_initial(
 fn push_initials(
     alloc: Global,
     findings: &mut Vec<Finding>,
-    text: &[u8],
-    profile: &Profile,
-    left: &mut usize,
+    judged: &Judged<'_>,
 ) -> Result<(), AllocError>
-    ensures { OnOk result (Warns profile.now (flat_map initial_places (range_with_len 0 (length profile.now.initials))) findings.old.items findings.new.items) }
+    ensures { OnOk result (Warns judged.now.profile.now (flat_map initial_places (range_with_len 0 (length judged.now.profile.now.initials))) findings.old.items findings.new.items) }
 {
-    for index in 0..profile.initials.as_slice().len() {
-        push_initial(alloc, findings, text, profile, index, left)?;
+    let spares = spare_initials(alloc, judged.profile)?;
+    for index in 0..judged.profile.initials.as_slice().len() {
+        push_initial(alloc, findings, judged, index, spares[index])?;
     }
     Ok(())
 }
@@ -325,16 +304,20 @@ fn push_initials(
 /// The warnings of a profile, in the order of its keys and entries.
 pub fn warnings_of(
     alloc: Global,
-    text: &[u8],
+    places: &Places<'_>,
     profile: &Profile,
-    left: &mut usize,
 ) -> Result<Vec<Finding>, AllocError>
     ensures { IfOk result (λ found. Warns profile.now (places_of profile.now) [] found.items) }
 {
+    let judged = Judged {
+        places,
+        profile,
+        normal: &normalise(profile),
+    };
     let mut findings = Vec::new(alloc);
-    push_settings(alloc, &mut findings, text, profile, left)?;
-    push_rules(alloc, &mut findings, text, profile, left)?;
-    push_modes(alloc, &mut findings, text, profile, left)?;
-    push_initials(alloc, &mut findings, text, profile, left)?;
+    push_settings(alloc, &mut findings, &judged)?;
+    push_rules(alloc, &mut findings, &judged)?;
+    push_modes(alloc, &mut findings, &judged)?;
+    push_initials(alloc, &mut findings, &judged)?;
     Ok(findings)
 }

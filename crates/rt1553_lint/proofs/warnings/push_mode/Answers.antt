@@ -3,8 +3,8 @@ use Rattle.spare_entries.specs.declared.spare.SparePlace.TheVariants.{Mode}
 use Rattle.rt1553_lint.proofs.Warned.{warns_unless, warns_if}
 use Rattle.rt1553_lint.proofs.warnings.push_mode.Goals as goal
 
-pub returns-then-not-branch : goal.returns-then-not-branch
-returns-then-not-branch c = warns_unless _ _ (Mode c.args.index) _ c.in_ok-is_spare_mode.ensures (search rules)
+pub returns-then-not-is_spare : goal.returns-then-not-is_spare
+returns-then-not-is_spare c = warns_unless _ _ (Mode c.args.index) _ c.requires.spare (search rules)
 
 pub returns : goal.returns
-returns c = warns_if _ _ (Mode c.args.index) _ _ c.in_ok-is_spare_mode.ensures (search rules) c.in_ok-push_warning.ensures
+returns c = warns_if _ _ (Mode c.args.index) _ _ c.requires.spare (search rules) c.in_ok-push_warning.ensures

@@ -5,4 +5,4 @@ use Rattle.rt1553_lint.specs.Findings.{Warns}
 use Rattle.rt1553_lint.proofs.warnings.push_modes.Given as goal
 
 abbrev pub invariant-loop-index : goal.invariant-loop-index
-invariant-loop-index l = Warns l.profile (map Mode (range_with_len 0 l.index)) l.initial.findings.items l.findings.items
+invariant-loop-index l = Warns l.judged.profile.now (map Mode (range_with_len 0 l.index)) l.initial.findings.items l.findings.items
