@@ -243,7 +243,7 @@ fn text_of(fault: WordLineFault) -> &'static str
         WordLineFault::Count => "a count is 1 to 32",
         WordLineFault::Code => "a mode code is 0 to 31",
         WordLineFault::Direction => {
-            "tx or rx is wanted behind a mode code that has no row in the table"
+            "tx or rx is expected after a mode code that has no row in the table"
         }
         WordLineFault::ModeSubaddress => "the subaddress of a mode code is 0 or 31",
         WordLineFault::Bit => {

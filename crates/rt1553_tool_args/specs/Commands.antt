@@ -8,7 +8,7 @@ use Rattle.clap.specs.Walk.{rows_of}
 use Rattle.clap.specs.declared.parser.matches.Found.{Found}
 use Rattle.clap.specs.declared.parser.matches.ArgMatches.{ArgMatches}
 use Rattle.rt1553_tool_args.specs.declared.command.ToolCommand.{ToolCommand}
-use Rattle.rt1553_tool_args.specs.declared.command.ToolCommand.TheVariants.{Lint, CheckScript, Verify, Import, Expand, Toml, Explain, Differ, Acceptance, Against, Draw, Words, Live}
+use Rattle.rt1553_tool_args.specs.declared.command.ToolCommand.TheVariants.{Lint, CheckScript, Verify, Import, Export, Expand, Toml, Explain, Differ, Acceptance, Against, Draw, Words, Live}
 use Rattle.rt1553_tool_args.specs.declared.command.Profiles.{Profiles}
 use Rattle.rt1553_tool_args.specs.declared.command.Profiles.TheVariants.{One, Folder}
 use Rattle.rt1553_tool_args.specs.declared.command.LintFormat.{LintFormat}
@@ -34,6 +34,14 @@ is_value text (Some v) = bytes_eq v text
 -- the argument has this value
 abbrev pub HasValue : Found → Text → Text → Type 0
 HasValue f id v = first_value f id ≡ Some v
+
+-- what is said of an option with a value: its value, where it is given
+abbrev pub HasOption : Found → Text → Option (Bor Text) → Type 0
+HasOption f id value = first_value f id ≡ option_map (λ v. v.now) value
+
+-- the table with the names of messages
+abbrev pub HasNames : Found → Option (Bor Text) → Type 0
+HasNames f names = HasOption f (codes "names") names
 
 -- the flag is given
 abbrev pub is_given : Found → Text → Bool
@@ -79,15 +87,16 @@ AsksReport f format summary =
 abbrev pub command_name : ToolCommand → Text
 command_name (Lint files format) = codes "lint"
 command_name (CheckScript scripts) = codes "check-script"
-command_name (Verify profiles scripts bus_only format summary) = codes "verify"
+command_name (Verify profiles scripts bus_only expand format summary names) = codes "verify"
 command_name (Import table) = codes "import"
+command_name (Export p) = codes "export"
 command_name (Expand messages) = codes "expand"
 command_name (Toml p) = codes "toml"
-command_name (Explain p json) = codes "explain"
-command_name (Differ p q scripts json) = codes "differ"
-command_name (Acceptance p format) = codes "acceptance"
-command_name (Against p results) = codes "acceptance"
-command_name (Draw p script html) = codes "draw"
+command_name (Explain p json names) = codes "explain"
+command_name (Differ p q scripts json names) = codes "differ"
+command_name (Acceptance p format names) = codes "acceptance"
+command_name (Against p results names) = codes "acceptance"
+command_name (Draw p script expand html names) = codes "draw"
 command_name Words = codes "words"
 command_name (Live p) = codes "live"
 
@@ -95,16 +104,23 @@ command_name (Live p) = codes "live"
 abbrev pub Asks : Found → ToolCommand → Type 0
 Asks f (Lint files format) = (texts_of files.items ≡ all_values f (codes "file")) × (format ≡ lint_format_of (first_value f (codes "format")))
 Asks f (CheckScript scripts) = texts_of scripts.items ≡ all_values f (codes "script")
-Asks f (Verify profiles scripts bus_only format summary) =
-    PlaysTo f profiles (texts_of scripts.items) × (scripts.items ≢ []) × (bus_only ≡ is_given f (codes "bus-only")) × AsksReport f format summary
+Asks f (Verify profiles scripts bus_only expand format summary names) =
+    PlaysTo f profiles (texts_of scripts.items) × (scripts.items ≢ []) × (bus_only ≡ is_given f (codes "bus-only")) × (expand ≡ is_given f (codes "expand"))
+    × AsksReport f format summary × HasNames f names
 Asks f (Import table) = HasValue f (codes "table") table.now
+Asks f (Export p) = HasValue f (codes "profile") p.now
 Asks f (Expand messages) = HasValue f (codes "messages") messages.now
 Asks f (Toml p) = HasValue f (codes "profile") p.now
-Asks f (Explain p json) = HasValue f (codes "profile") p.now × (json ≡ is_json f)
-Asks f (Differ p q scripts json) = HasValue f (codes "profile") p.now × HasValue f (codes "other") q.now × (scripts ≡ is_given f (codes "scripts")) × (json ≡ is_json f)
-Asks f (Acceptance p format) = HasValue f (codes "profile") p.now × (first_value f (codes "against") ≡ None) × (format ≡ format_of (first_value f (codes "format")))
-Asks f (Against p results) = HasValue f (codes "profile") p.now × HasValue f (codes "against") results.now × (format_of (first_value f (codes "format")) ≡ Script)
-Asks f (Draw p script html) = HasValue f (codes "profile") p.now × HasValue f (codes "script") script.now × (html ≡ is_given f (codes "html"))
+Asks f (Explain p json names) = HasValue f (codes "profile") p.now × (json ≡ is_json f) × HasNames f names
+Asks f (Differ p q scripts json names) =
+    HasValue f (codes "profile") p.now × HasValue f (codes "other") q.now × (scripts ≡ is_given f (codes "scripts")) × (json ≡ is_json f) × HasNames f names
+Asks f (Acceptance p format names) =
+    HasValue f (codes "profile") p.now × (first_value f (codes "against") ≡ None) × (format ≡ format_of (first_value f (codes "format"))) × HasNames f names
+Asks f (Against p results names) =
+    HasValue f (codes "profile") p.now × HasValue f (codes "against") results.now × (format_of (first_value f (codes "format")) ≡ Script) × HasNames f names
+Asks f (Draw p script expand html names) =
+    HasValue f (codes "profile") p.now × HasValue f (codes "script") script.now × (expand ≡ is_given f (codes "expand")) × (html ≡ is_given f (codes "html"))
+    × HasNames f names
 Asks f Words = Unit {0}
 Asks f (Live p) = HasValue f (codes "profile") p.now
 

@@ -1,7 +1,7 @@
 //! What the command line asks for.
 ghost use Rattle.std.specs.Prelude.{◌≡◌, IfOk, codes, option_map};
 ghost use Rattle.clap.specs.Words.{first_value, found_of};
-ghost use Rattle.rt1553_tool_args.specs.Commands.{Asks, AsksReport, HasValue, IsAskedBy, all_values, command_name, format_of, is_given, is_json, lint_format_of, report_format_of, texts_of};
+ghost use Rattle.rt1553_tool_args.specs.Commands.{Asks, AsksReport, HasOption, HasValue, IsAskedBy, all_values, command_name, format_of, is_given, is_json, lint_format_of, report_format_of, texts_of};
 
 use crate::args::NoCommand;
 use clap::ArgMatches;
@@ -67,12 +67,18 @@ pub enum ToolCommand<'a> {
         scripts: Vec<&'a str>,
         /// Hand-overs that a script doesn't state are left aside.
         bus_only: bool,
+        /// The files have messages, which are expanded first.
+        expand: bool,
         format: ReportFormat,
         /// What passes, too, clause by clause; only as text.
         summary: bool,
+        /// The table with the names of messages, as in the commands below.
+        names: Option<&'a str>,
     },
     /// The profile that a table means.
     Import(&'a str),
+    /// The table of a document that a terminal has.
+    Export(&'a str),
     /// Messages as the lines of a script.
     Expand(&'a str),
     /// A small profile that means the same terminal.
@@ -81,6 +87,7 @@ pub enum ToolCommand<'a> {
     Explain {
         profile: &'a str,
         as_json: bool,
+        names: Option<&'a str>,
     },
     /// All in which two terminals differ.
     Differ {
@@ -88,22 +95,28 @@ pub enum ToolCommand<'a> {
         other: &'a str,
         scripts: bool,
         as_json: bool,
+        names: Option<&'a str>,
     },
     /// The acceptance test of a terminal.
     Acceptance {
         profile: &'a str,
         format: TestFormat,
+        names: Option<&'a str>,
     },
     /// The results of a unit compared with the acceptance test of a terminal.
     Against {
         profile: &'a str,
         results: &'a str,
+        names: Option<&'a str>,
     },
     /// A run as a drawing.
     Draw {
         profile: &'a str,
         script: &'a str,
+        /// The file has messages, which are expanded first.
+        expand: bool,
         html: bool,
+        names: Option<&'a str>,
     },
     /// Words of the bus by their fields, and fields by words.
     Words,
@@ -129,6 +142,13 @@ fn all_of<'a>(alloc: Global, given: &ArgMatches<'a>, id: &str) -> Result<Vec<&'a
         Some(values) => Ok(Vec::from_slice(alloc, values)?),
         None => Ok(Vec::new(alloc)),
     }
+}
+
+/// The table with the names of messages, where it is given.
+fn names_of<'a>(given: &ArgMatches<'a>) -> Option<&'a str>
+    ensures { HasOption (found_of given.now) (codes "names") result }
+{
+    given.get_str("names")
 }
 
 /// Whether an option without a value is given.
@@ -202,8 +222,10 @@ fn verify_command<'a>(alloc: Global, given: &ArgMatches<'a>) -> Result<ToolComma
         profiles,
         scripts,
         bus_only: is_flag_given(given, "bus-only"),
+        expand: is_flag_given(given, "expand"),
         format,
         summary,
+        names: names_of(given),
     })
 }
 
@@ -216,6 +238,7 @@ fn differ_command<'a>(given: &ArgMatches<'a>) -> Result<ToolCommand<'a>, NoComma
         other: required(given, "other")?,
         scripts: is_flag_given(given, "scripts"),
         as_json: as_json(given),
+        names: names_of(given),
     })
 }
 
@@ -235,9 +258,18 @@ fn acceptance_command<'a>(given: &ArgMatches<'a>) -> Result<ToolCommand<'a>, NoC
     ensures { IfOk result (λ command. (command_name command ≡ codes "acceptance") × Asks (found_of given.now) command) }
 {
     let profile = required(given, "profile")?;
+    let names = names_of(given);
     match (given.get_str("against"), test_format(given)) {
-        (None, format) => Ok(ToolCommand::Acceptance { profile, format }),
-        (Some(results), TestFormat::Script) => Ok(ToolCommand::Against { profile, results }),
+        (None, format) => Ok(ToolCommand::Acceptance {
+            profile,
+            format,
+            names,
+        }),
+        (Some(results), TestFormat::Script) => Ok(ToolCommand::Against {
+            profile,
+            results,
+            names,
+        }),
         (Some(_), _) => Err(NoCommand::Usage),
     }
 }
@@ -249,7 +281,9 @@ fn draw_command<'a>(given: &ArgMatches<'a>) -> Result<ToolCommand<'a>, NoCommand
     Ok(ToolCommand::Draw {
         profile: required(given, "profile")?,
         script: required(given, "script")?,
+        expand: is_flag_given(given, "expand"),
         html: is_flag_given(given, "html"),
+        names: names_of(given),
     })
 }
 
@@ -270,11 +304,13 @@ fn command_of<'a>(
         "check-script" => Ok(ToolCommand::CheckScript(all_of(alloc, given, "script")?)),
         "verify" => verify_command(alloc, given),
         "import" => Ok(ToolCommand::Import(required(given, "table")?)),
+        "export" => Ok(ToolCommand::Export(required(given, "profile")?)),
         "expand" => Ok(ToolCommand::Expand(required(given, "messages")?)),
         "toml" => Ok(ToolCommand::Toml(required(given, "profile")?)),
         "explain" => Ok(ToolCommand::Explain {
             profile: required(given, "profile")?,
             as_json: as_json(given),
+            names: names_of(given),
         }),
         "differ" => differ_command(given),
         "acceptance" => acceptance_command(given),

@@ -61,6 +61,13 @@ const FORMAT: Argument = Argument {
     help: "the output format",
 };
 
+const NAMES: Argument = Argument {
+    id: "names",
+    given: Occurrence::Value,
+    value: "TABLE",
+    help: "puts the names of messages in TABLE beside their numbers",
+};
+
 const LINT: [Argument; 2] = [
     Argument {
         id: "file",
@@ -83,7 +90,14 @@ const CHECK_SCRIPT: [Argument; 1] = [Argument {
     help: "scripts",
 }];
 
-const VERIFY: [Argument; 6] = [
+const EXPANDED: Argument = Argument {
+    id: "expand",
+    given: Occurrence::Flag,
+    value: "",
+    help: "takes messages, too, as `expand` does",
+};
+
+const VERIFY: [Argument; 8] = [
     Argument {
         id: "profile",
         given: Occurrence::OnceOr("profiles"),
@@ -106,8 +120,9 @@ const VERIFY: [Argument; 6] = [
         id: "bus-only",
         given: Occurrence::Flag,
         value: "",
-        help: "leaves hand-overs aside that a script does not state",
+        help: "ignores hand-overs that a script does not state",
     },
+    EXPANDED,
     Argument {
         id: "profiles",
         given: Occurrence::Value,
@@ -120,6 +135,7 @@ const VERIFY: [Argument; 6] = [
         value: "FORMAT",
         help: "the output format",
     },
+    NAMES,
 ];
 
 const IMPORT: [Argument; 1] = [Argument {
@@ -136,9 +152,9 @@ const EXPAND: [Argument; 1] = [Argument {
     help: "messages, and lines of a script",
 }];
 
-const EXPLAIN: [Argument; 2] = [PROFILE, FORMAT];
+const EXPLAIN: [Argument; 3] = [PROFILE, FORMAT, NAMES];
 
-const DIFFER: [Argument; 4] = [
+const DIFFER: [Argument; 5] = [
     PROFILE,
     Argument {
         id: "other",
@@ -153,9 +169,10 @@ const DIFFER: [Argument; 4] = [
         help: "prints the script that shows each difference, if there is one",
     },
     FORMAT,
+    NAMES,
 ];
 
-const DRAW: [Argument; 3] = [
+const DRAW: [Argument; 5] = [
     PROFILE,
     Argument {
         id: "script",
@@ -163,15 +180,17 @@ const DRAW: [Argument; 3] = [
         value: "SCRIPT",
         help: "a script",
     },
+    EXPANDED,
     Argument {
         id: "html",
         given: Occurrence::Flag,
         value: "",
         help: "writes an HTML page, with the table of legal commands",
     },
+    NAMES,
 ];
 
-const ACCEPTANCE: [Argument; 3] = [
+const ACCEPTANCE: [Argument; 4] = [
     PROFILE,
     Argument {
         id: "against",
@@ -185,12 +204,13 @@ const ACCEPTANCE: [Argument; 3] = [
         value: "FORMAT",
         help: "the output format",
     },
+    NAMES,
 ];
 
 const ONE_PROFILE: [Argument; 1] = [PROFILE];
 
 /// The commands, in the order of the help.
-pub const COMMANDS: [CommandRow; 12] = [
+pub const COMMANDS: [CommandRow; 13] = [
     CommandRow {
         name: "lint",
         about: "Prints all faults of profiles, and what has no effect",
@@ -214,6 +234,12 @@ pub const COMMANDS: [CommandRow; 12] = [
         about: "Writes the profile that a table means",
         example: "Example: rt1553-tool import pump.csv > pump.toml",
         arguments: &IMPORT,
+    },
+    CommandRow {
+        name: "export",
+        about: "Writes the table of a profile",
+        example: "Example: rt1553-tool export pump.toml > pump.csv",
+        arguments: &ONE_PROFILE,
     },
     CommandRow {
         name: "expand",

@@ -1,2 +1,4 @@
 pub mod Status
 pub mod Passing
+pub mod Loaded
+pub mod Named

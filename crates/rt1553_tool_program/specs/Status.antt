@@ -18,13 +18,14 @@ use Rattle.rt1553_import.specs.declared.fault.TableFault.{TableFault}
 use Rattle.rt1553_import.specs.declared.fault.ImportFault.TheVariants as table
 use Rattle.rt1553_import.specs.Import.{IsImported, HasFaults}
 use Rattle.rt1553_tool_program.specs.declared.fault.ToolFault.{ToolFault}
-use Rattle.rt1553_tool_program.specs.declared.fault.ToolFault.TheVariants.{Memory, File, NoName, Input, Output, Profile, Line, Script, NoProfile, Outside, Drawing, Results, Comparison, Table, NotText, Usage}
+use Rattle.rt1553_tool_program.specs.declared.fault.ToolFault.TheVariants.{Memory, File, NoName, Input, Output, Profile, Line, Message, Script, NoProfile, Outside, Drawing, Results, Comparison, Table, NotText, Usage}
 
 -- 2 for a text that is refused, 3 for arguments that the program does not accept, 4 where a file, a stream or memory failed
 abbrev pub tool_status : ToolFault → ℕ
 tool_status (Profile name load.Memory) = 4
 tool_status (Profile name fault) = 2
 tool_status (Line name line) = 2
+tool_status (Message name line) = 2
 tool_status (Script name stated.Memory) = 4
 tool_status (Script name fault) = 2
 tool_status (NoProfile name) = 2
@@ -62,16 +63,17 @@ lines_status (n ∷ ns) = 2
 -- those that go through files with the highest of these.
 abbrev pub CanEnd : ToolCommand → ℕ → Type 0
 CanEnd (tool.Toml p) status = status ≡ 0
-CanEnd (tool.Explain p json) status = status ≡ 0
-CanEnd (tool.Acceptance p format) status = status ≡ 0
-CanEnd (tool.Draw p script html) status = status ≡ 0
+CanEnd (tool.Export p) status = status ≡ 0
+CanEnd (tool.Explain p json names) status = status ≡ 0
+CanEnd (tool.Acceptance p format names) status = status ≡ 0
+CanEnd (tool.Draw p script expand html names) status = status ≡ 0
 CanEnd (tool.Live p) status = status ≡ 0
-CanEnd (tool.Differ p q scripts json) status = status ≤ 1
-CanEnd (tool.Against p results) status = status ≤ 1
+CanEnd (tool.Differ p q scripts json names) status = status ≤ 1
+CanEnd (tool.Against p results names) status = status ≤ 1
 CanEnd tool.Words status = status ≤ 1
 CanEnd (tool.Lint files format) status = status ≤ 4
 CanEnd (tool.CheckScript files) status = status ≤ 4
-CanEnd (tool.Verify profiles scripts bus_only format summary) status = status ≤ 4
+CanEnd (tool.Verify profiles scripts bus_only expand format summary names) status = status ≤ 4
 CanEnd (tool.Import table) status = status ≤ 2
 CanEnd (tool.Expand messages) status = status ≤ 2
 

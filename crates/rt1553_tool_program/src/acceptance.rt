@@ -2,15 +2,19 @@
 ghost use Rattle.std.specs.Prelude.{◌≡◌, IfOk, ◌≤◌};
 
 use crate::fault::{DIFFERENT, ToolFault};
-use crate::files::{json_line, load_profile, read_script_file, shown, write_bytes};
+use crate::files::{load_profile, named_json, read_script_file, shown, write_bytes};
+use crate::names::{load_names, name_of_command};
 use bus_legal::Normal;
 use bus_script::{FromWrite, Sink};
+use message_names::{MessageNames, quoted};
 use rt1553_acceptance::{Progress, write_acceptance};
+use rt1553_files::escaped;
 use rt1553_results::{
-    Comparison, Results, Rows, compare_results, csv_header, csv_row, json_row, read_results,
+    Comparison, NamedReply, Results, Rows, WrongReply, compare_results, csv_header, csv_row,
+    json_row, read_results,
 };
 use rt1553_tool_args::TestFormat;
-use std::alloc::Global;
+use std::alloc::{AllocError, Global};
 use std::io::Write;
 use std::rt::Files;
 
@@ -47,43 +51,71 @@ impl<R: Eprint> Counter<'_, R> {
 
 /// Writes the test as a script that states its answers.
 fn put_script<P: Progress, W: Write>(
+    alloc: Global,
     normal: &Normal,
+    names: Option<&MessageNames>,
     progress: &mut P,
     output: &mut W,
 ) -> Result<(), ToolFault> {
+    let names = match names {
+        Some(names) => names.printed(alloc)?,
+        None => MessageNames::new(alloc),
+    };
     let mut sink = FromWrite::new(output);
-    if write_acceptance(normal, &mut sink, progress).is_err() || sink.flush().is_err() {
+    if write_acceptance(normal, &names, &mut sink, progress).is_err() || sink.flush().is_err() {
         return Err(ToolFault::Output);
     }
     Ok(())
+}
+
+/// The name of the message of a command as it stands in a table: escaped, and empty for none; None where there are no names.
+fn csv_name(
+    alloc: Global,
+    names: Option<&MessageNames>,
+    command: u16,
+) -> Result<Option<String>, AllocError> {
+    let Some(names) = names else {
+        return Ok(None);
+    };
+    let name = name_of_command(names, command).unwrap_or("");
+    Ok(Some(escaped(alloc, name.as_bytes())?))
 }
 
 /// Writes the test as a table in CSV.
 fn put_csv<P: Progress, W: Write>(
     alloc: Global,
     normal: &Normal,
+    names: Option<&MessageNames>,
     progress: &mut P,
     output: &mut W,
 ) -> Result<(), ToolFault> {
-    write_bytes(output, csv_header(alloc)?.as_slice())?;
+    write_bytes(output, csv_header(alloc, names.is_some())?.as_slice())?;
     let mut rows = Rows::new(normal);
     while let Some(row) = rows.next() {
-        write_bytes(output, csv_row(alloc, normal, &row)?.as_slice())?;
+        let name = csv_name(alloc, names, row.exchange.command)?;
+        let name = name.as_ref().map(|name| name.as_str().as_bytes());
+        write_bytes(output, csv_row(alloc, normal, &row, name)?.as_slice())?;
         progress.exchange_written();
     }
     Ok(())
 }
 
 /// Writes the test as a table, an object of JSON a line.
-fn put_json<P: Progress, W: Write>(
-    alloc: Global,
+fn put_json<R: AllocGlobal, P: Progress, W: Write>(
+    rt: &R,
     normal: &Normal,
+    names: Option<&MessageNames>,
     progress: &mut P,
     output: &mut W,
 ) -> Result<(), ToolFault> {
     let mut rows = Rows::new(normal);
     while let Some(row) = rows.next() {
-        let line = json_line(json_row(alloc, normal, &row))?;
+        let name = names.map(|names| name_of_command(names, row.exchange.command));
+        let line = named_json(
+            rt,
+            json_row(rt.alloc(), normal, &row, name),
+            names.is_some(),
+        )?;
         write_bytes(output, line.as_str().as_bytes())?;
         progress.exchange_written();
     }
@@ -94,6 +126,7 @@ fn put_json<P: Progress, W: Write>(
 pub fn write_test<R: Files + AllocGlobal + Eprint, W: Write>(
     rt: &R,
     profile: &str,
+    names: Option<&str>,
     format: TestFormat,
     shows_progress: bool,
     output: &mut W,
@@ -101,15 +134,17 @@ pub fn write_test<R: Files + AllocGlobal + Eprint, W: Write>(
     ensures { IfOk result (λ status. status ≡ 0) }
 {
     let normal = load_profile(rt, profile)?;
+    let names = load_names(rt, names)?;
+    let names = names.as_ref();
     let mut progress = Counter {
         rt,
         is_shown: shows_progress,
         written: 0,
     };
     let outcome = match format {
-        TestFormat::Script => put_script(&normal, &mut progress, output),
-        TestFormat::Csv => put_csv(rt.alloc(), &normal, &mut progress, output),
-        TestFormat::Json => put_json(rt.alloc(), &normal, &mut progress, output),
+        TestFormat::Script => put_script(rt.alloc(), &normal, names, &mut progress, output),
+        TestFormat::Csv => put_csv(rt.alloc(), &normal, names, &mut progress, output),
+        TestFormat::Json => put_json(rt, &normal, names, &mut progress, output),
     };
     progress.end();
     outcome?;
@@ -125,12 +160,37 @@ fn load_results<R: Files + AllocGlobal>(rt: &R, name: &str) -> Result<Results, T
     }
 }
 
-/// Writes what a comparison tells, and the verdict.
-fn put_comparison<W: Write>(comparison: &Comparison, output: &mut W) -> Result<(), ToolFault> {
-    for difference in comparison.wrong_replies.as_slice() {
-        if writeln!(output, "{difference}").is_err() {
-            return Err(ToolFault::Output);
+/// Writes a reply that is not that of the terminal, with the name of its message, where it has one.
+fn put_reply<W: Write>(
+    alloc: Global,
+    names: Option<&MessageNames>,
+    reply: &WrongReply,
+    output: &mut W,
+) -> Result<(), ToolFault> {
+    let name = match names {
+        Some(names) => name_of_command(names, reply.command),
+        None => None,
+    };
+    let done = match name {
+        Some(name) => {
+            let name = quoted(alloc, name)?;
+            let name = name.as_str();
+            writeln!(output, "{}", NamedReply { reply, name })
         }
+        None => writeln!(output, "{reply}"),
+    };
+    done.map_err(|_| ToolFault::Output)
+}
+
+/// Writes what a comparison tells, and the verdict.
+fn put_comparison<W: Write>(
+    alloc: Global,
+    names: Option<&MessageNames>,
+    comparison: &Comparison,
+    output: &mut W,
+) -> Result<(), ToolFault> {
+    for reply in comparison.wrong_replies.as_slice() {
+        put_reply(alloc, names, reply, output)?;
     }
     for numbers in comparison.missing.as_slice() {
         if writeln!(output, "{numbers}").is_err() {
@@ -146,16 +206,18 @@ pub fn against<R: Files + AllocGlobal, W: Write>(
     rt: &R,
     profile: &str,
     results: &str,
+    names: Option<&str>,
     output: &mut W,
 ) -> Result<u8, ToolFault>
     ensures { IfOk result (λ status. status ≤ 1) }
 {
     let normal = load_profile(rt, profile)?;
+    let names = load_names(rt, names)?;
     let given = load_results(rt, results)?;
     let comparison = match compare_results(rt.alloc(), &normal, &given) {
         Ok(comparison) => comparison,
         Err(fault) => return Err(ToolFault::Comparison(shown(rt, results)?, fault)),
     };
-    put_comparison(&comparison, output)?;
+    put_comparison(rt.alloc(), names.as_ref(), &comparison, output)?;
     Ok(if comparison.passes() { 0 } else { DIFFERENT })
 }

@@ -5,7 +5,8 @@ ghost use Rattle.rt1553_tool_program.specs.Passing.{SaysOf, scoped};
 
 use bus_legal::Normal;
 use rt1553_verify::{
-    Stated, StatedFault, WrongAnswer, answers_in, read_stated, stated_on_bus, wrong_answers,
+    Stated, StatedFault, WrongAnswer, answers_in, message_commands, read_stated, stated_on_bus,
+    wrong_answers,
 };
 use std::alloc::{AllocError, Global};
 
@@ -15,6 +16,8 @@ pub struct Compared {
     /// How many answers it states.
     pub answers: usize,
     pub wrong: Vec<WrongAnswer>,
+    /// The command word of the message to which each event belongs that was answered otherwise.
+    pub commands: Vec<Option<u16>>,
 }
 
 /// Gives what is compared of what a script states: all, or what the bus alone shows.
@@ -41,5 +44,10 @@ pub fn compare_script(
     let answers = answers_in(stated.as_slice());
     let seen = scoped(alloc, bus_only, stated)?;
     let wrong = wrong_answers(alloc, normal, seen.as_slice())?;
-    Ok(Compared { answers, wrong })
+    let commands = message_commands(alloc, normal.address(), seen.as_slice(), wrong.as_slice())?;
+    Ok(Compared {
+        answers,
+        wrong,
+        commands,
+    })
 }

@@ -5,25 +5,26 @@ ghost use Rattle.rt1553_tool_program.specs.Status.{IsLoaded};
 
 use crate::colours::put_lines;
 use crate::fault::{DIFFERENT, ToolFault};
-use crate::files::{json_line, load_profile, shown};
+use crate::files::{load_profile, named_json, shown};
+use crate::names::load_names;
 use crate::work::Screen;
 use rt1553_differ::{Group, Pair, differ_json, differ_text, differences, groups_of};
-use std::alloc::Global;
 use std::io::Write;
 use std::rt::Files;
 
 /// What is written of the groups of differences of two profiles.
-fn text_of(
-    alloc: Global,
+fn text_of<R: AllocGlobal>(
+    rt: &R,
     pair: &Pair<'_>,
     groups: &[Group],
     scripts: bool,
     as_json: bool,
 ) -> Result<String, ToolFault> {
     if as_json {
-        return json_line(differ_json(alloc, pair, groups, scripts));
+        let json = differ_json(rt.alloc(), pair, groups, scripts);
+        return named_json(rt, json, pair.names.is_some());
     }
-    Ok(differ_text(alloc, pair, groups, scripts)?)
+    Ok(differ_text(rt.alloc(), pair, groups, scripts)?)
 }
 
 /// Writes in what two profiles differ. The status tells whether they do.
@@ -40,7 +41,7 @@ fn put_pair<R: AllocGlobal, W: Write>(
 {
     let found = differences(rt.alloc(), pair.p, pair.q)?;
     let groups = groups_of(rt.alloc(), found.as_slice(), pair.p, pair.q)?;
-    let text = text_of(rt.alloc(), pair, groups.as_slice(), scripts, as_json)?;
+    let text = text_of(rt, pair, groups.as_slice(), scripts, as_json)?;
     put_lines(
         output,
         screen.has_colours && !as_json,
@@ -55,6 +56,7 @@ pub fn differ_profiles<R: Files + AllocGlobal, W: Write>(
     rt: &R,
     first: &str,
     second: &str,
+    names: Option<&str>,
     scripts: bool,
     as_json: bool,
     screen: Screen,
@@ -65,12 +67,15 @@ pub fn differ_profiles<R: Files + AllocGlobal, W: Write>(
 {
     let p = load_profile(rt, first)?;
     let q = load_profile(rt, second)?;
+    let names = load_names(rt, names)?;
+    let names = names.as_ref();
     let (first, second) = (shown(rt, first)?, shown(rt, second)?);
     let pair = Pair {
         p: &p,
         q: &q,
         first: first.as_str(),
         second: second.as_str(),
+        names,
     };
     put_pair(rt, &pair, scripts, as_json, screen, output)
 }

@@ -2,10 +2,13 @@
 ghost use Rattle.std.specs.Prelude.{◌≡◌, IfOk};
 
 use crate::fault::ToolFault;
-use crate::files::{load_profile, read_script_file, shown, write_bytes};
+use crate::files::{load_profile, shown, write_bytes};
+use crate::loaded::load_script;
+use crate::names::load_names;
 use crate::script_file::first_refused;
 use bus_legal::Normal;
 use bus_script::RunFault;
+use message_names::MessageNames;
 use rt1553_differ::explain;
 use rt1553_draw::{DrawFault, draw, draw_folded, page_of};
 use std::io::Write;
@@ -15,15 +18,17 @@ use std::rt::Files;
 fn draw_file<R: Files + AllocGlobal>(
     rt: &R,
     normal: &Normal,
+    names: Option<&MessageNames>,
     name: &str,
+    expand: bool,
     folded: bool,
 ) -> Result<String, ToolFault> {
-    let script = read_script_file(rt, name)?;
-    let script = script.as_slice();
+    let script = load_script(rt, name, expand)?;
+    let script = script.text.as_slice();
     let drawn = if folded {
-        draw_folded(rt.alloc(), normal, script)
+        draw_folded(rt.alloc(), normal, names, script)
     } else {
-        draw(rt.alloc(), normal, script)
+        draw(rt.alloc(), normal, names, script)
     };
     match drawn {
         Ok(drawing) => Ok(drawing),
@@ -43,29 +48,35 @@ fn draw_file<R: Files + AllocGlobal>(
 fn page<R: AllocGlobal>(
     rt: &R,
     normal: &Normal,
+    names: Option<&MessageNames>,
     title: &str,
     drawings: &str,
 ) -> Result<String, ToolFault> {
-    let table = explain(rt.alloc(), normal)?;
+    let table = explain(rt.alloc(), normal, names)?;
     Ok(page_of(rt.alloc(), title, drawings, table.as_str())?)
 }
 
-/// Writes the drawing of a run; as a page of its own where `html` asks for it. The status is 0.
+/// Writes the drawing of a run, of a script or, where `expand` asks for it, of messages; as a page of its own where `html` asks for it.
+/// The status is 0.
 pub fn draw_run<R: Files + AllocGlobal, W: Write>(
     rt: &R,
     profile: &str,
     script: &str,
+    names: Option<&str>,
+    expand: bool,
     html: bool,
     output: &mut W,
 ) -> Result<u8, ToolFault>
     ensures { IfOk result (λ status. status ≡ 0) }
 {
     let normal = load_profile(rt, profile)?;
-    let drawing = draw_file(rt, &normal, script, html)?;
+    let names = load_names(rt, names)?;
+    let names = names.as_ref();
+    let drawing = draw_file(rt, &normal, names, script, expand, html)?;
     if html {
         let (profile, script) = (shown(rt, profile)?, shown(rt, script)?);
         let title = format!(in rt.alloc(); "{profile}: {script}")?;
-        let page = page(rt, &normal, title.as_str(), drawing.as_str())?;
+        let page = page(rt, &normal, names, title.as_str(), drawing.as_str())?;
         write_bytes(output, page.as_str().as_bytes())?;
     } else {
         write_bytes(output, drawing.as_str().as_bytes())?;

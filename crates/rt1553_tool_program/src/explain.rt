@@ -3,26 +3,34 @@ ghost use Rattle.std.specs.Prelude.{◌≡◌, IfOk};
 
 use crate::colours::put_lines;
 use crate::fault::ToolFault;
-use crate::files::{json_line, load_profile};
+use crate::files::{load_profile, named_json};
+use crate::names::load_names;
 use crate::work::Screen;
 use bus_legal::Normal;
+use message_names::MessageNames;
 use rt1553_differ::{explain, explain_json};
-use std::alloc::Global;
 use std::io::Write;
 use std::rt::Files;
 
 /// The table of what a terminal does.
-fn text_of(alloc: Global, normal: &Normal, as_json: bool) -> Result<String, ToolFault> {
+fn text_of<R: AllocGlobal>(
+    rt: &R,
+    normal: &Normal,
+    names: Option<&MessageNames>,
+    as_json: bool,
+) -> Result<String, ToolFault> {
     if as_json {
-        return json_line(explain_json(alloc, normal));
+        let json = explain_json(rt.alloc(), normal, names);
+        return named_json(rt, json, names.is_some());
     }
-    Ok(explain(alloc, normal)?)
+    Ok(explain(rt.alloc(), normal, names)?)
 }
 
 /// Writes what the terminal of a profile does, as a table. The status is 0.
 pub fn explain_profile<R: Files + AllocGlobal, W: Write>(
     rt: &R,
     profile: &str,
+    names: Option<&str>,
     as_json: bool,
     screen: Screen,
     output: &mut W,
@@ -30,7 +38,8 @@ pub fn explain_profile<R: Files + AllocGlobal, W: Write>(
     ensures { IfOk result (λ status. status ≡ 0) }
 {
     let normal = load_profile(rt, profile)?;
-    let text = text_of(rt.alloc(), &normal, as_json)?;
+    let names = load_names(rt, names)?;
+    let text = text_of(rt, &normal, names.as_ref(), as_json)?;
     put_lines(
         output,
         screen.has_colours && !as_json,

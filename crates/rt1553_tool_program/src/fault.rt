@@ -5,8 +5,9 @@ ghost use Rattle.rt1553_tool_program.specs.Status.{tool_status};
 use refused_lines::RefusedLine;
 use rt1553::LoadFault;
 use rt1553_draw::DrawFault;
+use rt1553_expand::UnexpandedLine;
 use rt1553_files::FileFault;
-use rt1553_import::ImportFault;
+use rt1553_import::{ImportFault, TableFault};
 use rt1553_results::{CompareFault, ResultsFault};
 use rt1553_verify::StatedFault;
 use std::alloc::{AllocError, AllocFailed};
@@ -54,8 +55,10 @@ pub enum ToolFault {
     NotText,
     /// A word is missing.
     Usage,
-    /// The table of a document can't be read.
+    /// The table of a document has faults, or can't be read.
     Table(String, ImportFault),
+    /// A line of events and messages is refused.
+    Message(String, UnexpandedLine),
 }
 
 /// The line of a script that is refused, and why.
@@ -74,6 +77,22 @@ impl fmt::Display for RefusedText {
     }
 }
 
+/// All faults of the table in a file of this name, a line each but for the last line feed.
+#[derive(Clone, Copy)]
+struct TableText<'a>(&'a str, &'a [TableFault]);
+
+impl fmt::Display for TableText<'_> {
+    fn fmt<W: fmt::Write>(&self, f: &mut fmt::Formatter<W>) -> fmt::Result {
+        for (index, fault) in self.1.iter().enumerate() {
+            if index > 0 {
+                f.write_str("\n")?;
+            }
+            write!(f, "{}:{fault}", self.0)?;
+        }
+        Ok(())
+    }
+}
+
 impl fmt::Display for ToolFault {
     fn fmt<W: fmt::Write>(&self, f: &mut fmt::Formatter<W>) -> fmt::Result {
         match self {
@@ -84,10 +103,18 @@ impl fmt::Display for ToolFault {
             ToolFault::Output => f.write_str("output: write failed"),
             ToolFault::Profile(name, fault) => write!(f, "{name}: {fault}"),
             ToolFault::Line(name, line) => write!(f, "{name}: {}", RefusedText(*line)),
+            ToolFault::Message(name, line) => write!(
+                f,
+                "{name}: messages: line {}, column {}: {}",
+                line.line, line.column, line.fault
+            ),
             ToolFault::Script(name, fault) => write!(f, "{name}: {fault}"),
             ToolFault::Drawing(name, fault) => write!(f, "{name}: {fault}"),
             ToolFault::Results(name, fault) => write!(f, "{name}: {fault}"),
             ToolFault::Comparison(name, fault) => write!(f, "{name}: {fault}"),
+            ToolFault::Table(name, ImportFault::Faults(faults)) => {
+                write!(f, "{}", TableText(name.as_str(), faults.as_slice()))
+            }
             ToolFault::Table(name, fault) => write!(f, "{name}: {fault}"),
             ToolFault::NoProfile(name) => write!(
                 f,
@@ -119,6 +146,7 @@ impl ToolFault {
             | ToolFault::Table(_, ImportFault::Memory) => 4,
             ToolFault::Profile(_, _)
             | ToolFault::Line(_, _)
+            | ToolFault::Message(_, _)
             | ToolFault::Script(_, _)
             | ToolFault::Drawing(_, _)
             | ToolFault::Results(_, _)

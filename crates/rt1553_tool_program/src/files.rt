@@ -6,6 +6,7 @@ use crate::fault::ToolFault;
 use bus_legal::Normal;
 use rt1553::load;
 use rt1553_files::{PROFILE_BYTES, SCRIPT_BYTES, escaped, read_file};
+use rt1553_report::in_ascii;
 use std::io::Write;
 use std::rt::Files;
 
@@ -48,6 +49,22 @@ pub fn read_script_file<R: Files + AllocGlobal>(rt: &R, name: &str) -> Result<Ve
     ensures { IfOk result (λ bytes. length bytes.items ≤ 68157440) }
 {
     read_named(rt, name, SCRIPT_BYTES)
+}
+
+/// A text of JSON as it is written: with each character escaped that is none of ASCII, where there are names of messages in it; None means
+/// out of memory.
+pub fn named_json<R: AllocGlobal>(
+    rt: &R,
+    text: Option<String>,
+    has_names: bool,
+) -> Result<String, ToolFault> {
+    let line = json_line(text)?;
+    if !has_names {
+        return Ok(line);
+    }
+    let mut plain = in_ascii(rt.alloc(), line.as_str().trim_end_matches('\n'))?;
+    plain.push('\n')?;
+    Ok(plain)
 }
 
 /// A text that is written as a line of JSON; None means out of memory.

@@ -1,13 +1,15 @@
 //! The command `verify` in the formats that machines and managers read.
-ghost use Rattle.std.specs.Prelude.{◌≡◌, ◌≤◌, ◌↔◌, IfOk, true};
+ghost use Rattle.std.specs.Prelude.{◌≡◌, ◌≤◌, ◌↔◌, IfOk, length, true};
 ghost use Rattle.bus_legal.specs.Parts.{Parts};
 ghost use Rattle.rt1553_report.specs.Results.{outcome_passes};
 ghost use Rattle.rt1553_tool_program.specs.Passing.{IsPlayedTo, SaysOf};
 
 use crate::fault::{DIFFERENT, ToolFault};
-use crate::files::{json_line, read_script_file, shown, write_bytes};
+use crate::files::{json_line, shown, write_bytes};
+use crate::loaded::{LoadedScript, load_script};
 use crate::verify::{AskedReport, Played, PlayedScript, clauses_of, play_script};
 use crate::worst::{status_or_stop, worst};
+use message_names::MessageNames;
 use rt1553_draw::{DrawFault, draw_lines};
 use rt1553_report::{
     ScriptOutcome, ScriptResult, clauses_in, junit_report, result_json, results_page,
@@ -38,6 +40,7 @@ fn lines_of_wrong(alloc: Global, wrong: &[WrongAnswer]) -> Result<Vec<u64>, Allo
 /// The drawing of the messages in which something differs; None where nothing does, or where the script has too many events to draw.
 fn drawing_of<R: AllocGlobal>(
     rt: &R,
+    names: Option<&MessageNames>,
     name: &str,
     script: &[u8],
     it: &PlayedScript,
@@ -46,11 +49,27 @@ fn drawing_of<R: AllocGlobal>(
         return Ok(None);
     }
     let lines = lines_of_wrong(rt.alloc(), it.wrong.as_slice())?;
-    match draw_lines(rt.alloc(), &it.normal, script, lines.as_slice()) {
+    match draw_lines(rt.alloc(), &it.normal, names, script, lines.as_slice()) {
         Ok(drawing) => Ok(Some(drawing)),
         Err(DrawFault::TooMany) => Ok(None),
         Err(fault) => Err(ToolFault::Drawing(shown(rt, name)?, fault)),
     }
+}
+
+/// What differs in a script, by the lines of its file.
+fn in_file(
+    alloc: Global,
+    script: &LoadedScript,
+    wrong: Vec<WrongAnswer>,
+) -> Result<Vec<WrongAnswer>, AllocError>
+    ensures { IfOk result (λ told. length told.items ≡ length wrong.items) }
+{
+    let mut told = Vec::new(alloc);
+    for mut one in wrong {
+        one.line = script.line_in_file(one.line);
+        told.push(one)?;
+    }
+    Ok(told)
 }
 
 /// Plays a script of this name, and gives what came of it; with a drawing of what differs, where it is `drawn`.
@@ -58,20 +77,21 @@ fn outcome_of_script<R: Files + AllocGlobal>(
     rt: &R,
     played: &Played<'_>,
     name: &str,
-    script: &[u8],
+    script: &LoadedScript,
     drawn: bool,
 ) -> Result<ScriptOutcome, ToolFault>
-    ensures { IfOk result (λ outcome. (value : Parts) × IsPlayedTo played.now.to value × SaysOf played.now.bus_only value script.now (outcome_passes outcome)) }
+    ensures { IfOk result (λ outcome. (value : Parts) × IsPlayedTo played.now.to value × SaysOf played.now.bus_only value script.now.text.items (outcome_passes outcome)) }
 {
     let it = play_script(rt, played, name, script)?;
     let drawing = if drawn {
-        drawing_of(rt, name, script, &it)?
+        drawing_of(rt, played.names.as_ref(), name, script.text.as_slice(), &it)?
     } else {
         None
     };
     Ok(ScriptOutcome::Played {
         answers: it.answers,
-        wrong: it.wrong,
+        wrong: in_file(rt.alloc(), script, it.wrong)?,
+        names: it.names,
         drawing,
     })
 }
@@ -130,11 +150,11 @@ fn report_file<R: Files + AllocGlobal + Eprint>(
     ensures passes { IfOk result (λ r. (r.1 ≡ 0) ↔ (outcome_passes r.0.outcome ≡ true)) }
     ensures most { IfOk result (λ r. r.1 ≤ 4) }
 {
-    let (script, outcome) = match read_script_file(rt, name) {
+    let (script, outcome) = match load_script(rt, name, asked.expand) {
         Ok(script) => {
             let drawn = matches!(asked.format, ReportFormat::Html);
-            let outcome = outcome_of_script(rt, played, name, script.as_slice(), drawn);
-            (script, outcome)
+            let outcome = outcome_of_script(rt, played, name, &script, drawn);
+            (script.text, outcome)
         }
         Err(fault) => (Vec::new(rt.alloc()), Err(fault)),
     };

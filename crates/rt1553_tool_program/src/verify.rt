@@ -7,14 +7,17 @@ ghost use Rattle.rt1553_tool_program.specs.Status.{IsLoaded};
 use crate::colours::{Ink, put_in};
 use crate::compared::compare_script;
 use crate::fault::{DIFFERENT, ToolFault};
-use crate::files::{load_profile, read_script_file, shown, write_bytes};
+use crate::files::{load_profile, shown, write_bytes};
+use crate::loaded::{LoadedScript, load_script};
+use crate::names::{load_names, name_of_command};
 use crate::report::report_files;
 use crate::script_file::first_refused;
 use crate::summary::put_summary;
 use crate::work::Screen;
 use crate::worst::{status_or_stop, worst};
 use bus_legal::Normal;
-use rt1553_report::{TriedScript, clauses_in, difference_told};
+use message_names::{MessageNames, owned};
+use rt1553_report::{AnswerNames, TriedScript, clauses_in, difference_told, name_at};
 use rt1553_tool_args::{Profiles, ReportFormat};
 use rt1553_verify::{StatedFault, WrongAnswer, named};
 use std::alloc::{AllocError, Global};
@@ -35,8 +38,12 @@ pub enum PlayedTo<'a> {
 #[derive(Drop)]
 pub struct Played<'a> {
     pub to: PlayedTo<'a>,
+    /// The names of messages, where there are names.
+    pub names: Option<MessageNames>,
     /// Hand-overs that a script doesn't state are left aside.
     pub bus_only: bool,
+    /// The files have messages, which are expanded first.
+    pub expand: bool,
 }
 
 /// What is asked for of the scripts.
@@ -44,6 +51,10 @@ pub struct Played<'a> {
 pub struct AskedReport<'a> {
     pub profiles: Profiles<'a>,
     pub bus_only: bool,
+    /// The files have messages, which are expanded first.
+    pub expand: bool,
+    /// The table with the names of messages, where one is given.
+    pub names: Option<&'a str>,
     pub format: ReportFormat,
     /// What passes, too, clause by clause, as text.
     pub summary: bool,
@@ -106,10 +117,11 @@ fn put_wrong_answer<W: Write>(
     alloc: Global,
     output: &mut W,
     name: &str,
+    line: u64,
     wrong: &WrongAnswer,
+    message: Option<&str>,
 ) -> Result<(), ToolFault> {
-    let line = wrong.line;
-    let told = difference_told(alloc, wrong)?;
+    let told = difference_told(alloc, wrong, message)?;
     let told = told.as_str();
     writeln!(output, "{name}:{line}: {told}").map_err(|_| ToolFault::Output)
 }
@@ -124,9 +136,12 @@ fn put_count<W: Write>(
     report: ScriptReport,
 ) -> Result<(), ToolFault> {
     let (ink, text) = if count > 0 {
-        (Ink::Red, format!(in alloc; "{count} differ")?)
+        (Ink::Red, format!(in alloc; "differences: {count}")?)
     } else if report.each {
-        (Ink::Green, format!(in alloc; "passed ({answers} answers)")?)
+        (
+            Ink::Green,
+            format!(in alloc; "passed (answers: {answers})")?,
+        )
     } else {
         return Ok(());
     };
@@ -140,15 +155,21 @@ fn put_count<W: Write>(
 fn script_fault<R: AllocGlobal>(
     rt: &R,
     name: &str,
-    script: &[u8],
+    script: &LoadedScript,
     fault: StatedFault,
 ) -> ToolFault {
+    let fault = match fault {
+        StatedFault::Misplaced(line) => StatedFault::Misplaced(script.line_in_file(line)),
+        other => other,
+    };
     let told = match shown(rt, name) {
         Ok(name) => ToolFault::Script(name, fault),
         Err(fault) => return fault,
     };
     match fault {
-        StatedFault::Line(_) | StatedFault::LongLine(_) => first_refused(rt, name, script, told),
+        StatedFault::Line(_) | StatedFault::LongLine(_) => {
+            first_refused(rt, name, script.text.as_slice(), told)
+        }
         _ => told,
     }
 }
@@ -161,6 +182,28 @@ pub struct PlayedScript {
     /// How many answers it states.
     pub answers: usize,
     pub wrong: Vec<WrongAnswer>,
+    /// The names of the messages of these events, where there are names.
+    pub names: Option<AnswerNames>,
+}
+
+/// The names of the messages of commands, where there are names.
+fn names_of(
+    alloc: Global,
+    names: &Option<MessageNames>,
+    commands: &[Option<u16>],
+) -> Result<Option<AnswerNames>, AllocError> {
+    let Some(names) = names else {
+        return Ok(None);
+    };
+    let mut list = Vec::new(alloc);
+    for command in commands {
+        let name = match command {
+            Some(word) => name_of_command(names, *word),
+            None => None,
+        };
+        list.push(owned(alloc, name)?)?;
+    }
+    Ok(Some(AnswerNames { names: list }))
 }
 
 /// Plays a script of this name.
@@ -168,17 +211,22 @@ pub fn play_script<R: Files + AllocGlobal>(
     rt: &R,
     played: &Played<'_>,
     name: &str,
-    script: &[u8],
+    script: &LoadedScript,
 ) -> Result<PlayedScript, ToolFault>
-    ensures { IfOk result (λ it. (value : Parts) × IsPlayedTo played.now.to value × SaysOf played.now.bus_only value script.now (length it.wrong.items == 0)) }
+    ensures { IfOk result (λ it. (value : Parts) × IsPlayedTo played.now.to value × SaysOf played.now.bus_only value script.now.text.items (length it.wrong.items == 0)) }
 {
-    let normal = played.of_script(rt, name, script)?;
-    match compare_script(rt.alloc(), &normal, script, played.bus_only) {
-        Ok(compared) => Ok(PlayedScript {
-            normal,
-            answers: compared.answers,
-            wrong: compared.wrong,
-        }),
+    let text = script.text.as_slice();
+    let normal = played.of_script(rt, name, text)?;
+    match compare_script(rt.alloc(), &normal, text, played.bus_only) {
+        Ok(compared) => {
+            let names = names_of(rt.alloc(), &played.names, compared.commands.as_slice())?;
+            Ok(PlayedScript {
+                normal,
+                answers: compared.answers,
+                wrong: compared.wrong,
+                names,
+            })
+        }
         Err(fault) => Err(script_fault(rt, name, script, fault)),
     }
 }
@@ -188,16 +236,18 @@ fn tell_script<R: Files + AllocGlobal, W: Write>(
     rt: &R,
     played: &Played<'_>,
     name: &str,
-    script: &[u8],
+    script: &LoadedScript,
     report: ScriptReport,
     output: &mut W,
 ) -> Result<bool, ToolFault>
-    ensures { IfOk result (λ passes. (value : Parts) × IsPlayedTo played.now.to value × SaysOf played.now.bus_only value script.now passes) }
+    ensures { IfOk result (λ passes. (value : Parts) × IsPlayedTo played.now.to value × SaysOf played.now.bus_only value script.now.text.items passes) }
 {
     let it = play_script(rt, played, name, script)?;
     let name = shown(rt, name)?;
-    for wrong in it.wrong.as_slice() {
-        put_wrong_answer(rt.alloc(), output, name.as_str(), wrong)?;
+    for (index, wrong) in it.wrong.as_slice().iter().enumerate() {
+        let line = script.line_in_file(wrong.line);
+        let message = name_at(&it.names, index);
+        put_wrong_answer(rt.alloc(), output, name.as_str(), line, wrong, message)?;
     }
     put_count(
         rt.alloc(),
@@ -241,19 +291,19 @@ fn play_file<R: Files + AllocGlobal, W: Write>(
 ) -> Result<u8, ToolFault>
     ensures { IfOk result (λ status. status ≤ 1) }
 {
-    let script = match read_script_file(rt, name) {
+    let script = match load_script(rt, name, played.expand) {
         Ok(script) => script,
         Err(fault) => {
             keep(rt.alloc(), tried, b"", false)?;
             return Err(fault);
         }
     };
-    let outcome = tell_script(rt, played, name, script.as_slice(), report, output);
+    let outcome = tell_script(rt, played, name, &script, report, output);
     let passes = match &outcome {
         Ok(passes) => *passes,
         Err(_) => false,
     };
-    keep(rt.alloc(), tried, script.as_slice(), passes)?;
+    keep(rt.alloc(), tried, script.text.as_slice(), passes)?;
     Ok(if outcome? { 0 } else { DIFFERENT })
 }
 
@@ -294,8 +344,13 @@ pub fn verify_scripts<R: Files + AllocGlobal + Eprint, W: Write>(
         Profiles::One(name) => PlayedTo::One(load_profile(rt, name)?),
         Profiles::Folder(folder) => PlayedTo::Folder(folder),
     };
-    let bus_only = asked.bus_only;
-    let played = Played { to, bus_only };
+    let names = load_names(rt, asked.names)?;
+    let played = Played {
+        to,
+        names,
+        bus_only: asked.bus_only,
+        expand: asked.expand,
+    };
     let report = ScriptReport {
         each: asked.summary,
         has_colours: screen.has_colours,

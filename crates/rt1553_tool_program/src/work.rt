@@ -8,6 +8,7 @@ use crate::differ::differ_profiles;
 use crate::draw::draw_run;
 use crate::expand::expand_file;
 use crate::explain::explain_profile;
+use crate::export::export_file;
 use crate::fault::{ToolFault, USAGE};
 use crate::import::import_file;
 use crate::lint::lint_files;
@@ -46,38 +47,56 @@ fn do_command<R: Files + AllocGlobal + Eprint, I: Read + Drop, W: Write>(
             profiles,
             scripts,
             bus_only,
+            expand,
             format,
             summary,
+            names,
         } => {
             let asked = AskedReport {
                 profiles: *profiles,
                 bus_only: *bus_only,
+                expand: *expand,
+                names: *names,
                 format: *format,
                 summary: *summary,
             };
             verify_scripts(rt, asked, scripts.as_slice(), screen, output)
         }
         ToolCommand::Import(table) => import_file(rt, table, output),
+        ToolCommand::Export(profile) => export_file(rt, profile, output),
         ToolCommand::Expand(messages) => expand_file(rt, messages, output),
         ToolCommand::Toml(profile) => write_toml(rt, profile, output),
-        ToolCommand::Explain { profile, as_json } => explain_profile(
-            rt, profile, *as_json, screen, output,
-        ),
+        ToolCommand::Explain {
+            profile,
+            as_json,
+            names,
+        } => explain_profile(rt, profile, *names, *as_json, screen, output),
         ToolCommand::Differ {
             profile,
             other,
             scripts,
             as_json,
-        } => differ_profiles(rt, profile, other, *scripts, *as_json, screen, output),
-        ToolCommand::Acceptance { profile, format } => {
-            write_test(rt, profile, *format, screen.has_progress, output)
-        }
-        ToolCommand::Against { profile, results } => against(rt, profile, results, output),
+            names,
+        } => differ_profiles(
+            rt, profile, other, *names, *scripts, *as_json, screen, output,
+        ),
+        ToolCommand::Acceptance {
+            profile,
+            format,
+            names,
+        } => write_test(rt, profile, *names, *format, screen.has_progress, output),
+        ToolCommand::Against {
+            profile,
+            results,
+            names,
+        } => against(rt, profile, results, *names, output),
         ToolCommand::Draw {
             profile,
             script,
+            expand,
             html,
-        } => draw_run(rt, profile, script, *html, output),
+            names,
+        } => draw_run(rt, profile, script, *names, *expand, *html, output),
         ToolCommand::Words => bus_words(rt, input, output),
         ToolCommand::Live(profile) => play_live(rt, profile, input, output),
     }
