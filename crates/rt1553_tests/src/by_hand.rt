@@ -2,6 +2,8 @@
 //! profiles.
 use bus_profile::parse_ranges;
 use rt1553::{Answer, Bus, Event, Kind, Raw, Terminal, canonical, load};
+use rt1553_export::full_table_of;
+use rt1553_import::import_table;
 use rt1553_toml::full_toml_of;
 use std::test::Fail;
 
@@ -59,6 +61,20 @@ fn full_profiles_mean_the_same(rt: HostRuntime) -> Result<(), Fail> {
         let normal = load(rt.alloc(), *profile)?;
         let full = full_toml_of(rt.alloc(), &normal)?;
         let back = load(rt.alloc(), full.as_str().as_bytes())?;
+        assert!(rt; back.is_same(&normal), "{profile:?}");
+    }
+    Ok(())
+}
+
+#[test]
+fn full_tables_mean_the_same(rt: HostRuntime) -> Result<(), Fail> {
+    for profile in &PROFILES {
+        let normal = load(rt.alloc(), *profile)?;
+        let full = full_table_of(rt.alloc(), &normal)?;
+        let Ok(imported) = import_table(rt.alloc(), full.as_str().as_bytes()) else {
+            panic!(rt; "the table is refused");
+        };
+        let back = load(rt.alloc(), imported.profile.as_str().as_bytes())?;
         assert!(rt; back.is_same(&normal), "{profile:?}");
     }
     Ok(())

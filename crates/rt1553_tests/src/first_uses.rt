@@ -7,6 +7,7 @@ use bus_terminal::{Answer, Event, Terminal, WordPlace};
 use bus_word::{Bus, Cell, Command, Kind, Raw, cell_of};
 use drawing_boxes::Caption;
 use line_format::{FieldKind, Lines, bit_line, put_number_line};
+use message_names::{MessageNames, NamedCells};
 use profile_types::{Entries, Numbers, Rule};
 use refused_lines::{misfit_of, refused_lines};
 use rt1553::{canonical, load};
@@ -14,9 +15,11 @@ use rt1553_acceptance::label_of;
 use rt1553_differ::{differences, explain};
 use rt1553_draw::draw;
 use rt1553_expand::{Expanded, expand};
+use rt1553_export::export_table;
 use rt1553_files::escaped;
 use rt1553_import::import_table;
 use rt1553_lint::lint;
+use rt1553_names::names_in;
 use rt1553_results::{compare_results, read_results};
 use rt1553_toml::toml_of;
 use rt1553_tool::read_word_line;
@@ -25,6 +28,8 @@ use spare_entries::{Setting, is_spare_setting};
 use std::test::Fail;
 use terminal_exchanges::{events_of, transmit};
 use terminal_state::{Decoded, GapEnd, InProgress};
+use toml_places::{array_places, key_place};
+use toml_statements::statements_of;
 
 #[test]
 fn words_of_the_bus(rt: HostRuntime) {
@@ -161,7 +166,7 @@ fn the_acceptance_test(rt: HostRuntime) -> Result<(), Fail> {
 fn two_profiles(rt: HostRuntime) -> Result<(), Fail> {
     let normal = load(rt.alloc(), b"address = 5")?;
     let other = load(rt.alloc(), b"address = 6")?;
-    let table = explain(rt.alloc(), &normal)?;
+    let table = explain(rt.alloc(), &normal, None)?;
     let found = differences(rt.alloc(), &normal, &other)?;
     assert!(rt; !table.as_str().is_empty());
     assert_eq!(rt; found.len(), 1);
@@ -205,6 +210,14 @@ fn a_profile_in_toml(rt: HostRuntime) -> Result<(), Fail> {
 }
 
 #[test]
+fn a_table_of_a_terminal(rt: HostRuntime) -> Result<(), Fail> {
+    let normal = load(rt.alloc(), b"address = 5")?;
+    let table = export_table(rt.alloc(), &normal)?;
+    assert!(rt; !table.as_str().is_empty());
+    Ok(())
+}
+
+#[test]
 fn a_word_by_its_fields(rt: HostRuntime) -> Result<(), Fail> {
     let line = read_word_line(b"c 2c22");
     assert!(rt; line.is_ok());
@@ -221,7 +234,7 @@ fn what_is_wrong(rt: HostRuntime) -> Result<(), Fail> {
 #[test]
 fn a_drawing(rt: HostRuntime) -> Result<(), Fail> {
     let normal = load(rt.alloc(), b"address = 5")?;
-    let svg = draw(rt.alloc(), &normal, b"A c 2c02\nA gap\nslot\n")?;
+    let svg = draw(rt.alloc(), &normal, None, b"A c 2c02\nA gap\nslot\n")?;
     assert!(rt; !svg.as_str().is_empty());
     Ok(())
 }
@@ -283,4 +296,62 @@ fn a_table_of_a_document(rt: HostRuntime) {
         panic!(rt; "the table is refused");
     };
     assert!(rt; read_profile(rt.alloc(), imported.profile.as_str().as_bytes()).is_ok());
+}
+
+#[test]
+fn a_name(rt: HostRuntime) -> Result<(), Fail> {
+    let mut names = MessageNames::new(rt.alloc());
+    let cells = NamedCells {
+        own: true,
+        broadcast: false,
+        receive: 0b100,
+        transmit: 0,
+        counts: 0b10,
+        codes: 0,
+    };
+    names.add(String::from_str(rt.alloc(), "settings")?, cells)?;
+    let name = names.name_of(Cell::OwnReceive(3, 2));
+    assert_eq!(rt; name, Some("settings"));
+    assert_eq!(rt; names.name_of(Cell::OwnReceive(3, 7)), Some("settings"));
+    assert_eq!(rt; names.name_of(Cell::OwnReceive(2, 2)), None);
+    Ok(())
+}
+
+#[test]
+fn the_names_of_a_table(rt: HostRuntime) -> Result<(), Fail> {
+    let names = names_in(
+        rt.alloc(),
+        b"kind,value,subaddress,words,code,name\naddress,5,,,,\nreceive,,1-3,2,,speed\nmode,,,,1,time tick\n",
+    )?;
+    let name = names.name_of(Cell::OwnReceive(3, 2));
+    assert_eq!(rt; name, Some("speed"));
+    assert_eq!(rt; names.name_of(Cell::OwnMode(1)), Some("time tick"));
+    assert_eq!(rt; names.name_of(Cell::BroadMode(1)), None);
+    Ok(())
+}
+
+#[test]
+fn statements_of_a_text(rt: HostRuntime) -> Result<(), Fail> {
+    let text = "a = [1, 2]\n[b.c]\n[[d]]\n";
+    let found = statements_of(rt.alloc(), text)?;
+    let mut places = Vec::new(rt.alloc());
+    for statement in &found {
+        places.push(statement.at)?;
+    }
+    assert_eq!(rt; places.as_slice(), [0usize, 11, 17].as_slice());
+    Ok(())
+}
+
+#[test]
+fn statements_that_give(rt: HostRuntime) -> Result<(), Fail> {
+    let text = "[[rule]]\n[[rule]]\ntitle = 1\n[[rule]]\nwords = 2\n[title]\n";
+    let statements = statements_of(rt.alloc(), text)?;
+    let title = key_place(&statements, "title");
+    let rules = array_places(rt.alloc(), &statements, "rule")?;
+    let third = rules.entry(2);
+    let words = rules.name(2, "words");
+    assert_eq!(rt; title, Some(5));
+    assert_eq!(rt; third, Some(3));
+    assert_eq!(rt; words, Some(4));
+    Ok(())
 }

@@ -6,11 +6,19 @@
 #[cfg(test)]
 mod by_hand;
 #[cfg(test)]
+mod comparing;
+#[cfg(test)]
+mod expanding;
+#[cfg(test)]
+mod exporting;
+#[cfg(test)]
 mod faults;
 #[cfg(test)]
 mod first_uses;
 #[cfg(test)]
 mod formats;
+#[cfg(test)]
+mod importing;
 #[cfg(test)]
 mod saved;
 #[cfg(test)]

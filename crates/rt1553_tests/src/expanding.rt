@@ -1,0 +1,342 @@
+//! What only calls show: worked messages, columns, and texts of faults.
+use rt1553_expand::{ExpandFault, Expanded, UnexpandedLine, expand};
+use std::alloc::{AllocError, Global};
+use std::format;
+use std::test::Fail;
+
+/// The script of a text; nothing where there is none.
+fn script_of(alloc: Global, text: &[u8]) -> Result<Vec<u8>, AllocError> {
+    match expand(alloc, text)? {
+        Expanded::Script(script) => Ok(script),
+        _ => Ok(Vec::new(alloc)),
+    }
+}
+
+/// Whether this is the script of a text.
+fn expands(alloc: Global, text: &str, script: &str) -> Result<bool, AllocError> {
+    let found = script_of(alloc, text.as_bytes())?;
+    Ok(found.as_slice() == script.as_bytes())
+}
+
+/// The lines of a text that are refused.
+fn refused_of(alloc: Global, text: &[u8]) -> Result<Vec<UnexpandedLine>, AllocError> {
+    match expand(alloc, text)? {
+        Expanded::Refused(lines) => Ok(lines),
+        _ => Ok(Vec::new(alloc)),
+    }
+}
+
+#[test]
+fn forms(rt: HostRuntime) -> Result<(), Fail> {
+    let forms: [(&str, &str); 14] = [
+        (
+            "A rx 5 3 2: 0001 0002",
+            "A c 2862\nA d 0001\nA d 0002\nA gap\nslot\n",
+        ),
+        ("B rx all 3 1: 00ff", "B c f861\nB d 00ff\nB gap\n"),
+        ("A tx 5 14 2", "A c 2dc2\nA gap\nslot\nslot\nslot\n"),
+        ("A tx 5 14 2:", "A c 2dc2\nA gap\nslot\nslot\nslot\n"),
+        ("A tx  5\t14 1 ", "A c 2dc1\nA gap\nslot\nslot\n"),
+        ("A tx all 14 2", "A c fdc2\nA gap\n"),
+        ("A mode 5 17: 1234", "A c 2811\nA d 1234\nA gap\nslot\n"),
+        (
+            "A mode 5 17 rx 31: 1234",
+            "A c 2bf1\nA d 1234\nA gap\nslot\n",
+        ),
+        ("A mode all 17: 1234", "A c f811\nA d 1234\nA gap\n"),
+        (
+            "A rx 5 3 2 from 6 4: 0001 0002",
+            "A c 2862\nA c 3482\nA gap\nA c 3000\nA d 0001\nA d 0002\nA gap\nslot\n",
+        ),
+        (
+            "B rx all 3 1 from 6 30: abcd",
+            "B c f861\nB c 37c1\nB gap\nB c 3000\nB d abcd\nB gap\n",
+        ),
+        ("B status 6 busy", "B c 3008\n"),
+        ("B data 00ff", "B d 00ff\n"),
+        (
+            "# to 5, from 6\nA rx 5 3 2 from 6 4: 0011 0022\nA mode 5 18\n",
+            "# to 5, from 6\nA c 2862\nA c 3482\nA gap\nA c 3000\nA d 0011\nA d 0022\nA gap\nslot\nA c 2c12\nA gap\nslot\nslot\n",
+        ),
+    ];
+    for (text, script) in forms {
+        assert!(rt; expands(rt.alloc(), text, script)?, "{text}");
+    }
+    Ok(())
+}
+
+#[test]
+fn mode_codes(rt: HostRuntime) -> Result<(), Fail> {
+    let bare = [0u16, 1, 2, 3, 4, 5, 6, 7, 8];
+    for code in bare {
+        let text = format!(in rt.alloc(); "A mode 5 {code}")?;
+        let want = format!(in rt.alloc(); "A c {:04x}\nA gap\nslot\n", 0x2c00 + code)?;
+        assert!(rt;
+            expands(rt.alloc(), text.as_str(), want.as_str())?,
+            "{text}"
+        );
+    }
+    let answered = [16u16, 18, 19];
+    for code in answered {
+        let text = format!(in rt.alloc(); "A mode 5 {code}")?;
+        let want = format!(in rt.alloc(); "A c {:04x}\nA gap\nslot\nslot\n", 0x2c00 + code)?;
+        assert!(rt;
+            expands(rt.alloc(), text.as_str(), want.as_str())?,
+            "{text}"
+        );
+    }
+    Ok(())
+}
+
+#[test]
+fn reserved_codes(rt: HostRuntime) -> Result<(), Fail> {
+    let codes = [
+        9u16, 10, 11, 12, 13, 14, 15, 20, 21, 22, 23, 24, 25, 26, 27, 28, 29, 30, 31,
+    ];
+    for code in codes {
+        let slots = if code < 16 { "slot\n" } else { "slot\nslot\n" };
+        let text = format!(in rt.alloc(); "A mode 5 {code} tx")?;
+        let want = format!(in rt.alloc(); "A c {:04x}\nA gap\n{slots}", 0x2c00 + code)?;
+        assert!(rt;
+            expands(rt.alloc(), text.as_str(), want.as_str())?,
+            "{text}"
+        );
+        let word = if code < 16 { "" } else { ": 0001" };
+        let data = if code < 16 { "" } else { "A d 0001\n" };
+        let text = format!(in rt.alloc(); "A mode 5 {code} rx{word}")?;
+        let want = format!(in rt.alloc(); "A c {:04x}\n{data}A gap\nslot\n", 0x2800 + code)?;
+        assert!(rt;
+            expands(rt.alloc(), text.as_str(), want.as_str())?,
+            "{text}"
+        );
+    }
+    Ok(())
+}
+
+#[test]
+fn counts(rt: HostRuntime) -> Result<(), Fail> {
+    for count in 1..=32u16 {
+        let text = format!(in rt.alloc(); "A tx 5 1 {count}")?;
+        let found = script_of(rt.alloc(), text.as_bytes())?;
+        let slots = usize::from(count) + 1;
+        assert_eq!(rt; found.len(), 9 + 6 + 5 * slots, "{count}");
+        let mut text = format!(in rt.alloc(); "A rx 5 1 {count}:")?;
+        for _ in 0..count {
+            text.push_str(" 00ff")?;
+        }
+        let found = script_of(rt.alloc(), text.as_bytes())?;
+        assert_eq!(rt; found.len(), 9 + 9 * usize::from(count) + 6 + 5, "{count}");
+    }
+    Ok(())
+}
+
+#[test]
+fn kept_lines(rt: HostRuntime) -> Result<(), Fail> {
+    let text = "# a comment: of 2 # marks\n\n#> A s 2800\n#~ x\n#+ y\nA c 2862\nA D\0\nslot\n";
+    let lines = refused_of(rt.alloc(), text.as_bytes())?;
+    assert_eq!(rt; lines.len(), 1);
+    let text =
+        "# a comment: of 2 # marks\n\n#> A s 2800\n#~ \x7f\n#+ y\nA c 2862\nA d 00FF\nA d 0001 1\nB noise\nB gap\nslot\nwrite 01 32 00aB\nvector 0001\nbit 0002\nflag busy 1\n#";
+    let want = format!(in rt.alloc(); "{text}\n")?;
+    assert!(rt; expands(rt.alloc(), text, want.as_str())?);
+    assert!(rt; expands(rt.alloc(), "", "")?);
+    Ok(())
+}
+
+#[test]
+fn columns(rt: HostRuntime) -> Result<(), Fail> {
+    let lines: [(&str, usize, &str); 32] = [
+        (
+            "wrte 01 01 0000",
+            1,
+            "neither a line of a script nor a message, which begins with A or B and a space",
+        ),
+        (
+            "write 01 1 0000",
+            10,
+            "neither a line of a script nor a message, which begins with A or B and a space",
+        ),
+        (
+            "a rx 5 3 1: 0001",
+            1,
+            "neither a line of a script nor a message, which begins with A or B and a space",
+        ),
+        (
+            "A tx 5 3 1 # x",
+            12,
+            "a comment after a message: a comment is a line of its own",
+        ),
+        (
+            "A rx 5 3 1: 0001 # x",
+            18,
+            "a comment after a message: a comment is a line of its own",
+        ),
+        (
+            "A",
+            2,
+            "neither a line of a script nor a message, which begins with A or B and a space",
+        ),
+        (
+            "A ",
+            3,
+            "after a bus, rx, tx, mode, status or data is expected for a message, and c, d, gap or noise for an event",
+        ),
+        (
+            "A gpa",
+            3,
+            "after a bus, rx, tx, mode, status or data is expected for a message, and c, d, gap or noise for an event",
+        ),
+        (
+            "A s 2800",
+            3,
+            "a message names its fields, by rx, tx, mode, status or data",
+        ),
+        ("A c 286", 5, "a word is four hexadecimal digits"),
+        (
+            "A rx 31 3 2: 0001 0002",
+            6,
+            "an address is 0 to 30, or all for a command",
+        ),
+        ("A rx", 5, "an address is 0 to 30, or all for a command"),
+        ("A  rx  5 31 2: 0001 0002", 10, "a subaddress is 1 to 30"),
+        ("A rx 5 3: 0001", 9, "a count is 1 to 32"),
+        ("A rx 5 3 33: 0001", 10, "a count is 1 to 32"),
+        (
+            "A rx 5 3 1 1: 0001",
+            12,
+            "nothing may follow the last field",
+        ),
+        ("A mode 5 32", 10, "a mode code is 0 to 31"),
+        (
+            "A mode 5 20",
+            12,
+            "tx or rx is expected after a mode code that has no row in the table",
+        ),
+        (
+            "A mode 5 2 tx 3",
+            15,
+            "the subaddress of a mode code is 0 or 31",
+        ),
+        (
+            "A mode 5 2 tx 31 x",
+            18,
+            "nothing may follow the last field",
+        ),
+        (
+            "A status 5 busy bsy error",
+            17,
+            "a status has error, instrumentation, service, reserved1 to 3, broadcast, busy, subsystem, accept, terminal",
+        ),
+        (
+            "A tx 5 3 1 from 6 4",
+            11,
+            "from follows rx alone: the terminal of rx receives what another sends",
+        ),
+        (
+            "A rx 5 3 1 from 5 4: 0001",
+            17,
+            "after from, the address of another terminal, 0 to 30, and its subaddress, 1 to 30, are expected",
+        ),
+        (
+            "A rx 5 3 1 from all 4: 0001",
+            17,
+            "after from, the address of another terminal, 0 to 30, and its subaddress, 1 to 30, are expected",
+        ),
+        (
+            "A rx 5 3 1 from 6: 0001",
+            17,
+            "after from, the address of another terminal, 0 to 30, and its subaddress, 1 to 30, are expected",
+        ),
+        (
+            "A rx 5 3 1 from 6 4 1: 0001",
+            17,
+            "after from, the address of another terminal, 0 to 30, and its subaddress, 1 to 30, are expected",
+        ),
+        (
+            "A rx 5 3 2: 0001",
+            17,
+            "a data word is wanted: one space and four hexadecimal digits, with small letters",
+        ),
+        (
+            "A rx 5 3 2",
+            11,
+            "a data word is wanted: one space and four hexadecimal digits, with small letters",
+        ),
+        (
+            "A rx 5 3 2: 0001  0002",
+            17,
+            "a data word is wanted: one space and four hexadecimal digits, with small letters",
+        ),
+        (
+            "A rx 5 3 2: 0001 000A",
+            17,
+            "a data word is wanted: one space and four hexadecimal digits, with small letters",
+        ),
+        (
+            "A rx 5 3 1: 0001 0002",
+            17,
+            "nothing more is wanted: the message has all its data words",
+        ),
+        (
+            "A tx 5 3 1: 0001",
+            12,
+            "nothing more is wanted: the message has all its data words",
+        ),
+    ];
+    for (text, column, reason) in lines {
+        let found = refused_of(rt.alloc(), text.as_bytes())?;
+        assert_eq!(rt; found.len(), 1, "{text}");
+        assert_eq!(rt; (found[0].line, found[0].column), (1, column), "{text}");
+        let told = format!(in rt.alloc(); "{}", found[0].fault)?;
+        assert_eq!(rt; told.as_str(), reason, "{text}");
+    }
+    Ok(())
+}
+
+#[test]
+fn lengths(rt: HostRuntime) -> Result<(), Fail> {
+    let mut comment = Vec::new(rt.alloc());
+    for _ in 0..64 {
+        comment.push(b'#')?;
+    }
+    assert_eq!(rt; script_of(rt.alloc(), comment.as_slice())?.len(), 65);
+    comment.push(b'#')?;
+    let found = refused_of(rt.alloc(), comment.as_slice())?;
+    assert_eq!(rt; found.len(), 1);
+    assert_eq!(rt; found[0].column, 65);
+    assert!(rt; found[0].fault == ExpandFault::LongComment);
+    for _ in 65..257 {
+        comment.push(b'#')?;
+    }
+    let found = refused_of(rt.alloc(), comment.as_slice())?;
+    assert_eq!(rt; found.len(), 1);
+    assert_eq!(rt; found[0].column, 257);
+    assert!(rt; found[0].fault == ExpandFault::Long);
+    Ok(())
+}
+
+#[test]
+fn all_refused_lines(rt: HostRuntime) -> Result<(), Fail> {
+    let found = refused_of(rt.alloc(), b"x\nslot\nA rx\n\nA tx 5 3 1\ny")?;
+    assert_eq!(rt; found.len(), 3);
+    assert_eq!(rt; found[0].line, 1);
+    assert_eq!(rt; found[1].line, 3);
+    assert_eq!(rt; found[2].line, 6);
+    Ok(())
+}
+
+#[test]
+fn too_many_lines(rt: HostRuntime) -> Result<(), Fail> {
+    let mut text = Vec::new(rt.alloc());
+    for _ in 0..29_959 {
+        text.extend_from_slice(b"A tx 5 3 32\n")?;
+    }
+    // 35 lines for each message
+    for _ in 0..11 {
+        text.push(b'\n')?;
+    }
+    assert!(rt; matches!(expand(rt.alloc(), text.as_slice())?, Expanded::Script(_)));
+    text.push(b'\n')?;
+    assert!(rt; matches!(expand(rt.alloc(), text.as_slice())?, Expanded::TooLong));
+    Ok(())
+}
