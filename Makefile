@@ -2,7 +2,7 @@
 PREFIX ?= /usr/local
 export PREFIX DESTDIR
 # the toolchain with which this release was proved: what `rt version` prints
-export KIT = rattle-kit-13f logic dac8208d650f15bf
+export KIT = rattle-kit-13b logic dac8208d650f15bf
 
 build: ## proves and builds the two programs, one line a crate: bin/rt1553, bin/rt1553-tool
 	@bash scripts/need.sh rt python3

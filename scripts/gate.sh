@@ -1,11 +1,12 @@
 #!/usr/bin/env bash
 # The gate: every proof and test; that public contracts cite nothing of specs/inner, that nothing is there to which nothing refers,
 # that one name stands for one thing, and that the pages of crates speak of what is there; then the built programs from end to end,
-# texts with known answers, the protocol tests, the acceptance tests, the library in C, C++, Python and Rust, the archive of all, links,
-# lines, spelling and sessions of the pages, and what is installed; and beside all this the must-fail edits.
-# What an earlier run on this machine proved over the same files, and the edits that it refused, are taken from there; every test and
-# program runs each time. With ANEW=1 all is proved and tried. The line before the last says how long it took. The last line,
-# 'N passed, M failed', adds the counts of the parts.
+# texts with known answers, the protocol tests, random tables, the acceptance tests, the library in C, C++, Python and Rust, the archive
+# of all, links, lines, spelling and sessions of the pages, and what is installed; and beside all this the must-fail edits.
+# What an earlier run on this machine proved over the same files, if the toolchain keeps that, and the edits that it refused, are taken
+# from there; every test and program runs each time. With ANEW=1 all is proved and tried. With EDIT_MINUTES=N no edit is tried
+# later than N minutes after the start: a line tells of each crate how many are left. The line before the last says how long it took.
+# The last line, 'N passed, M failed', adds the counts of the parts.
 set -uo pipefail
 cd "$(dirname "$0")/.." || exit 1
 work=$(mktemp -d) || exit 1
@@ -18,16 +19,18 @@ built=$work/built
 mkdir "$built" || exit 1
 tar -c --exclude='crates/*/out' --exclude='crates/*/must-fail' HANDLES crates.txt crates | tar -x -C "$built" || exit 1
 
-# proves, tests and builds the copy: two checks side by side, each in one process. More processes for a check would read the
-# libraries again, and what is idle is the edits'
-proved() { (cd "$built" && RT_JOBS=2 rt ci ${ANEW:+--anew}) 2>&1 | tee "$work/proofs"; }
+# proves, tests and builds the copy: it has the processors first, and what is idle is the edits'
+proved() { (cd "$built" && rt ci $(anew_word)) 2>&1 | tee "$work/proofs"; }
+
+# the word by which a toolchain that keeps proofs takes none of them, where ANEW asks for it
+anew_word() { if [[ -n ${ANEW:-} ]] && rt --help 2>&1 | grep -q -e '--anew'; then echo --anew; fi; }
 
 # begins with the edits, in a group of processes of their own, which get what all else leaves of the processors: in one session
 # with the rest, since between sessions Linux shares the processors alike, however nice they are
 start_edits() {
     : >"$work/proofs"
     set -m
-    TMPDIR=$work nice -n 19 python3 scripts/must-fail.py ${ANEW:+--anew} --beside "$work/proofs" "$built" >"$work/edits" 2>&1 </dev/null &
+    TMPDIR=$work nice -n 19 python3 scripts/must-fail.py ${ANEW:+--anew} ${EDIT_MINUTES:+--minutes "$EDIT_MINUTES"} --beside "$work/proofs" "$built" >"$work/edits" 2>&1 </dev/null &
     edits=$!
     set +m
 }
@@ -53,10 +56,11 @@ took() {
 # runs a part, whose last line is to be a count, and adds it; a part with another last line has failed
 part() {
     local status line
-    "$@" </dev/null 2>&1 | tee "$work/log" | sed -E 's/^([0-9]+ passed, [0-9]+ failed)$/so far: \1 in this part/'
+    "$@" </dev/null 2>&1 | tee "$work/log" | sed -E '/^[0-9]+ passed, [0-9]+ failed$/d'
     status=${PIPESTATUS[0]}
     line=$(tail -n 1 "$work/log")
     if [[ $line =~ ^([0-9]+)\ passed,\ ([0-9]+)\ failed$ ]]; then
+        echo "so far: $line in this part, $((SECONDS / 60)) minutes after the start"
         passed=$((passed + BASH_REMATCH[1])) failed=$((failed + BASH_REMATCH[2]))
         [[ $status -eq 0 || ${BASH_REMATCH[2]} -gt 0 ]] || failed=$((failed + 1))
     else
@@ -78,6 +82,7 @@ if [[ $failed -eq 0 ]]; then
     part python3 scripts/texts.py "${programs[@]}"
     part python3 scripts/validation.py "${programs[@]}"
     part bash scripts/tool.sh "${tools[@]}"
+    part python3 scripts/tables.py "${programs[0]}" "${tools[@]}"
     part python3 scripts/acceptance.py "${programs[0]}" "${tools[@]}"
     part bash scripts/callers.sh "$built"
     part bash scripts/unpacked.sh "$built"

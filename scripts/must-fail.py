@@ -1,11 +1,13 @@
 #!/usr/bin/env python3
 """Tries the must-fail edits of the crates, many of them in one check.
 
-    scripts/must-fail.py [--anew] [--beside LOG] BUILT [NAME..]
+    scripts/must-fail.py [--anew] [--minutes N] [--beside LOG] BUILT [NAME..]
 
 BUILT is a copy of this repository in which `rt ci` or `rt all check` has passed, or this one; the libraries
 are taken from there. Or `rt ci` is still at work there, and LOG is the file of what it prints: then a crate's turn comes
-when what it stands on is proved. With no NAME the edits of all crates are tried. The last line is 'N passed, M failed'.
+when what it stands on is proved. With no NAME the edits of all crates are tried. With --minutes all checks end that long after the
+start: a line tells of each crate how many edits are left, which count neither as passed nor as failed. The last line is
+'N passed, M failed'.
 
 A refusal is kept outside the checkout, in ~/.cache/rt1553/refused, by a sum of all that it depends on: the edit, the
 crate and the crates below it with their lines of crates.txt, this script and the toolchain. An edit of which one is kept is not
@@ -282,8 +284,10 @@ class Refused:
 class Crate:
     """A crate, its edits, and a room in which the prover keeps what it checked from one check to the next."""
 
-    def __init__(self, name, deps, built, kit, room, refused):
+    def __init__(self, name, deps, built, kit, room, refused, ends):
         self.name, self.deps, self.built, self.kit, self.room, self.refused = name, deps, built, kit, room, refused
+        # when no check may go on, by the clock that only goes forward; None where each may take its time
+        self.ends = ends
         # how many checks there were so far
         self.checks = 0
         self.folder = f"{TOP}/crates/{name}"
@@ -342,7 +346,8 @@ class Crate:
             with open(f"{place}/{file}", "w", encoding="utf-8") as it:
                 it.write(text)
         how = {"stdin": subprocess.DEVNULL, "stdout": subprocess.PIPE, "stderr": subprocess.STDOUT, "errors": "replace"}
-        return Answer(subprocess.run(self.words(only), cwd=place, **how))
+        left = self.ends and max(0, self.ends - time.monotonic())
+        return Answer(subprocess.run(self.words(only), cwd=place, timeout=left, **how))
 
     def refused_by_contracts(self, given, only=()):
         """What the prover says of the crate, or of some of it, with these texts, once the answers by hand that don't fit
@@ -452,14 +457,17 @@ class Crate:
 def tried(crate):
     """Tries the edits of a crate and prints a line for each. Returns how many were refused, and how many were not."""
     began = time.monotonic()
-    lines = list(crate.tried())
-    for edit, (label, is_refused, why) in zip(crate.edits, lines):
-        if is_refused:
-            crate.refused.keep(crate.name, edit)
-        print(f"must-fail {label}: {'refused: ' if is_refused else ''}{why[:240]}", flush=True)
-    print(f"note: {crate.name}: {len(lines)} edits in {crate.checks} checks, {time.monotonic() - began:.0f} s", flush=True)
-    passed = sum(is_refused for _, is_refused, _ in lines)
-    return passed, len(lines) - passed
+    verdicts = []
+    try:
+        for edit, (label, is_refused, why) in zip(crate.edits, crate.tried()):
+            if is_refused:
+                crate.refused.keep(crate.name, edit)
+            print(f"must-fail {label}: {'refused: ' if is_refused else ''}{why[:240]}", flush=True)
+            verdicts.append(is_refused)
+    except subprocess.TimeoutExpired:
+        print(f"note: {crate.name}: {len(crate.edits) - len(verdicts)} edits NOT TRIED: no time was left", flush=True)
+    print(f"note: {crate.name}: {len(verdicts)} edits in {crate.checks} checks, {time.monotonic() - began:.0f} s", flush=True)
+    return sum(verdicts), len(verdicts) - sum(verdicts)
 
 
 def listed_crates():
@@ -470,10 +478,12 @@ def listed_crates():
 
 
 class Work:
-    """The crates whose edits are still to be tried, the longest first, and the file of what `rt ci` prints meanwhile, or ''."""
+    """The crates whose edits are still to be tried, the longest first, or where not all may have time the shortest first; and the file
+    of what `rt ci` prints meanwhile, or ''."""
 
-    def __init__(self, crates, log):
-        self.left, self.log, self.lock = sorted(crates, key=Crate.size, reverse=True), log, threading.Lock()
+    def __init__(self, crates, log, ends):
+        self.left, self.log, self.lock = sorted(crates, key=Crate.size, reverse=not ends), log, threading.Lock()
+        self.ends = ends
 
     def is_ready(self, crate):
         """Whether the libraries that a crate stands on are there, or will never be."""
@@ -483,8 +493,8 @@ class Work:
         return all(f"\nrt: {it} proved\n" in said for it in crate.deps[crate.name] if it in crate.deps)
 
     def taken(self):
-        """The longest of those that are ready, once there is one; or None, where no crate is left."""
-        while self.left:
+        """The first of those that are ready, once there is one; or None, where no crate is left or no time."""
+        while self.left and not (self.ends and time.monotonic() > self.ends):
             with self.lock:
                 if crate := next((it for it in self.left if self.is_ready(it)), None):
                     self.left.remove(crate)
@@ -510,6 +520,7 @@ def lanes():
 def main():
     words = argparse.ArgumentParser(description=__doc__.split("\n", maxsplit=1)[0])
     words.add_argument("--anew", action="store_true")
+    words.add_argument("--minutes", type=float, metavar="N")
     words.add_argument("--beside", metavar="LOG", default="")
     words.add_argument("built")
     words.add_argument("names", nargs="*")
@@ -518,12 +529,15 @@ def main():
     # the toolchain's first page stands at its top
     kit = os.path.dirname(subprocess.check_output(["rt", "doc"], text=True).strip())
     refused = Refused(deps, kit, asked.anew)
+    ends = asked.minutes and time.monotonic() + 60 * asked.minutes
     with tempfile.TemporaryDirectory() as room:
-        crates = [Crate(it, deps, os.path.realpath(asked.built), kit, f"{room}/{it}", refused) for it in asked.names or deps]
-        work = Work([it for it in crates if it.edits], asked.beside)
+        crates = [Crate(it, deps, os.path.realpath(asked.built), kit, f"{room}/{it}", refused, ends) for it in asked.names or deps]
+        work = Work([it for it in crates if it.edits], asked.beside, ends)
         with ThreadPoolExecutor(lanes()) as pool:
             counts = [pool.submit(work.done) for _ in range(lanes())]
         passed, failed = (sum(it) for it in zip(*(it.result() for it in counts)))
+        for crate in work.left:
+            print(f"note: {crate.name}: {len(crate.edits)} edits NOT TRIED: no time was left")
     print(f"{passed} passed, {failed} failed")
     return 1 if failed or not passed else 0
 
