@@ -386,7 +386,7 @@ def told_by(exchanges, events, other, name):
         reply = tuple(answer[-4:] for answer in (take(("slot",)) for _ in it.sent) if answer)
         results.append((number, reply, number + 1))
     if lines:
-        lines.append(f"{name}: {len(lines)} differ\n")
+        lines.append(f"{name}: differences: {len(lines)}\n")
     return Given(1 if lines else 0, "".join(lines), ""), results
 
 
@@ -555,7 +555,7 @@ def verify_fault(given, one, same):
         if not found or found[1] != str(one.script) or number <= last or one.stated(number) != found[3] or found[3] == found[4]:
             return f"it tells {line}"
         last = number
-    return None if lines[-1:] in ([], [f"{one.script}: {len(lines) - 1} differ"]) else f"it ends by {lines[-1]}"
+    return None if lines[-1:] in ([], [f"{one.script}: differences: {len(lines) - 1}"]) else f"it ends by {lines[-1]}"
 
 
 def against_fault(given, one, other):
@@ -577,7 +577,7 @@ def planted_verdicts(it, one, other):
         "another status": given._replace(status=0),
         "a line less": given._replace(output="".join(lines[1:])),
         "a line twice": given._replace(output="".join([lines[0], *lines])),
-        "a line of no event": given._replace(output=f"{one.script}:1: expected nothing, came A s 2800\n{one.script}: 1 differ\n".replace(":1:", ":0:")),
+        "a line of no event": given._replace(output=f"{one.script}:1: expected nothing, came A s 2800\n{one.script}: differences: 1\n".replace(":1:", ":0:")),
         "another answer": given._replace(output=given.output.replace("expected ", "expected A", 1)),
     }.items():
         it.count.row(f"planted in what verify tells: {name}", None if verify_fault(changed, one, False) else "not found")
@@ -852,7 +852,7 @@ def planted(it, profile, exchanges, text, table, lines):
     script = it.file("planted.script", other_answer)
     event = next(number for number in range(middle, 0, -1) if not other_answer.split("\n")[number - 1].startswith("#"))
     came = text.split("\n")[middle].removeprefix("#> ")
-    it.count.equal("planted: verify", it.verify(profile, script), Given(1, f"{script}:{event}: expected A s 2804, came {came}\n{script}: 1 differ\n", ""))
+    it.count.equal("planted: verify", it.verify(profile, script), Given(1, f"{script}:{event}: expected A s 2804, came {came}\n{script}: differences: 1\n", ""))
 
 
 def main(rt1553, *tools):

@@ -5,8 +5,8 @@
     scripts/build.py library    the library for C, C++, Python and Rust: bin/library
 
 It copies the crates that are needed and runs `rt ci` on the copy: one process a crate, and as many crates side by side as
-there are processors and 2 GB of memory for each, those with the longest chain above them first. `rt ci` keeps what passed
-on this machine, by the checksums of all that it read: a later build, and the gate, prove only what changed and the crates above it.
+there are processors and 2 GB of memory for each, those with the longest chain above them first. Where `rt ci`
+keeps what passed on this machine, a later build and the gate prove only what changed and the crates above it.
 
 A line for each crate tells that it is proved and how long that took. Meanwhile a terminal shows what is being proved; where
 the output is no terminal, a line tells it every 25 seconds. All that the tools print stands in out/build.log.

@@ -7,7 +7,7 @@
 Looks at the drawing and the page of each protocol test, of each example, and of scripts made here, with all status bits, all mode
 codes, long messages and much that looks random: they are well-formed; each event has a column, in its order, with the number of its
 line and a title that says it; each word that comes, is sent or is handed over has a box, with its digits; a status word that the
-terminal waits for is drawn as one; no text leaves its box, in a font wider than most; no message is broken, and what has room stands
+terminal waits for is drawn as one; no text leaves its box, in a font wider than most, nor the name of a message its place; no message is broken, and what has room stands
 on a page of paper; each colour has another one in the dark. `--write` draws examples/messages anew. The last line is 'N passed, M failed'.
 """
 import pathlib
@@ -17,6 +17,7 @@ import subprocess
 import sys
 import tempfile
 import tomllib
+import unicodedata
 import xml.etree.ElementTree as xml
 
 TOP = pathlib.Path(__file__).resolve().parent.parent
@@ -33,6 +34,10 @@ SANS = [int(it) for it in """
     500 613 635 550 635 615 352 635 634 278 278 579 278 974 634 612 635 635 411 521 392 634 592 818 592 592 525 636 337 636 838
 """.split()]
 MONO, SIZE = 602, 12
+# the same for others: those of a double width in a terminal, those that combine with the one before, and the widest letters of DejaVu Sans
+DOUBLE, COMBINING, WIDEST = 1000, 0, 1480
+# how many characters of a name stand in a drawing at most
+MOST_OF_NAME = 40
 # a row is at most as wide as the paper, but where one message alone is wider; and a message has no more events
 PAPER, LONGEST = 960, 64
 # how many messages are folded together where there are more
@@ -60,10 +65,19 @@ def classes(it):
     return it.get("class", "").split()
 
 
+def width_of_char(it):
+    """How wide a character is at most."""
+    if it <= "~":
+        return SANS[ord(it) - 32]
+    if unicodedata.combining(it):
+        return COMBINING
+    return DOUBLE if unicodedata.east_asian_width(it) in "WF" else WIDEST
+
+
 def width_of(text):
     """How wide a `text` is that stands in a drawing."""
     said = text.text or ""
-    each = (MONO if "digits" in classes(text) else SANS[ord(it) - 32] for it in said)
+    each = (MONO if "digits" in classes(text) else width_of_char(it) for it in said)
     return sum(each) * SIZE / 1000
 
 
@@ -138,7 +152,7 @@ def look_at_message(message, right):
                 left, end = look_at_box(group)
                 must(at <= left and end <= right, "a box goes into another column")
         at = max(end, column.span[1])
-    return int(name.text.removeprefix("message ")), message.find(f"{SVG}title").text, columns
+    return int(re.match(r"message (\d+)", name.text)[1]), message.find(f"{SVG}title").text, columns
 
 
 def middle_of(shape):
@@ -459,6 +473,43 @@ def made_runs(folder):
         yield profile, script
 
 
+# names of messages: long ones, wide ones, and such as mean something else in a page
+NAMES = ["speed", "a \"b\" \\ c", "<b>&amp;</b>'", "W" * 90, "m" * 40, "m" * 41, "\u901f" * 60, "\u901f" * 40, "\u00e4\u01c4" * 30, "e\u0301" * 20, "\u2026" * 41,
+         "\U0001f600" * 12]
+
+
+def shown(name):
+    """A name as it is printed, without the quotes around it."""
+    return re.sub(r"""(["'\\])""", r"\\\1", name)
+
+
+def named_drawing(tool, folder):
+    """A table of names, and a message at each of its subaddresses and one without a name: each name stands above its message, cut where it is
+    long, and all of it in the title; with `--html` also in the summary. Nothing else is drawn otherwise than without names."""
+    quoted = (name.replace('"', '""') for name in NAMES)
+    rows = "".join(f'receive,,{at},2,"{name}"\n' for at, name in enumerate(quoted, 1))
+    table, script, profile = folder / "names.csv", folder / "named.script", folder / "all.toml"
+    table.write_text("kind,value,subaddress,words,name\naddress,5,,,\n" + rows)
+    messages = [(f"A c {5 << 11 | at << 5 | 2:04x}", "A d 0001", "A d 0002", "A gap", "slot") for at in range(1, len(NAMES) + 2)]
+    script.write_text("".join(f"{line}\n" for message in messages for line in message))
+    svg = xml.fromstring(printed(tool, "draw", "--names", table, profile, script))
+    drawn = [message for message in svg.iter(f"{SVG}g") if "message" in classes(message)]
+    must(len(drawn) == len(messages), "not each message is drawn")
+    look_at_drawing(svg)
+    pages = list(xml.fromstring(printed(tool, "draw", "--html", "--names", table, profile, script)).iter(f"{HTML}summary"))
+    for at, (message, page, name) in enumerate(zip(drawn, pages, [*NAMES, None]), 1):
+        heading, title = next(it for it in message if "name" in classes(it)).text, message.find(f"{SVG}title").text
+        whole = "" if name is None else f' "{shown(name)}"'
+        short = whole if len(whole) <= MOST_OF_NAME + 3 else f' "{shown(name)[:MOST_OF_NAME]}\u2026"'
+        must(heading == f"message {at}{short}", f"message {at} has another heading: {heading}")
+        must(title == f"message {at}, line {5 * at - 4}: to 5: receive {at}, 2 words{whole}; status of 5", f"message {at} has another title: {title}")
+        must(page.text == title, "the summary on the page is not the title")
+    plain = printed(tool, "draw", profile, script)
+    empty = folder / "empty.csv"
+    empty.write_text("kind,value\naddress,5\n")
+    must(printed(tool, "draw", "--names", empty, profile, script) == plain, "a table without names changes a drawing")
+
+
 def write(tool):
     """Draws the examples of messages anew."""
     for script in sorted(TOP.glob("examples/messages/*.script")):
@@ -476,6 +527,12 @@ def main(tool, program):
                 fine = False
                 print(f"FAILED: draw {profile.name} {script.name}: {fault}")
             passed, failed = passed + fine, failed + (not fine)
+        try:
+            named_drawing(tool, pathlib.Path(folder))
+            passed += 1
+        except (subprocess.CalledProcessError, xml.ParseError, UnicodeDecodeError, Wrong) as fault:
+            failed += 1
+            print(f"FAILED: draw --names: {fault}")
     print(f"{passed} passed, {failed} failed")
     return 1 if failed or not passed else 0
 

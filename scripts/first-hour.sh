@@ -88,10 +88,10 @@ make_rows() {
     make --silent check CRATE=none >"$work/told" 2>&1
     [[ $? -ne 0 ]] && grep -q 'bus_word' "$work/told"
     count 'make check tells the names of crates' $?
-    # the line of `rt version` stands in the makefile and in the README
+    # the line of `rt version` stands in the makefile and in the README; another version may be at hand, of the same logic
     word=$(sed -n 's/^export KIT = //p' Makefile)
-    [[ -n $word ]] && grep -qF "\`$word\`" README.md && [[ $(rt version) == "$word" ]]
-    count 'the toolchain is that of the README' $?
+    [[ $word == *' logic '* ]] && grep -qF "\`$word\`" README.md && [[ $(rt version) == *"${word#* }" ]]
+    count "the toolchain's logic is that of the README" $?
 }
 
 # man pages: no warning, and text in each
@@ -140,20 +140,20 @@ rt1553 check .|a.toml b.rt1553 sub
 rt1553 run a.toml .|c.script sub
 rt1553 run a.toml c.script .|
 rt1553 compare a.toml .|a.toml b.rt1553 sub
-rt1553-tool .|--help --version acceptance check-script differ draw expand explain import lint live toml verify words
+rt1553-tool .|--help --version acceptance check-script differ draw expand explain export import lint live toml verify words
 rt1553-tool l|lint live
 rt1553-tool lint a.toml .|a.toml b.rt1553 sub
 rt1553-tool lint --|--format --help
 rt1553-tool lint --format .|json sarif text
 rt1553-tool lint --format json .|a.toml b.rt1553 sub
-rt1553-tool verify --|--bus-only --format --help --profiles --summary
+rt1553-tool verify --|--bus-only --expand --format --help --names --profiles --summary
 rt1553-tool verify .|a.toml b.rt1553 sub
 rt1553-tool verify a.toml c.script .|c.script sub
 rt1553-tool verify --summary a.toml .|c.script sub
 rt1553-tool verify --profiles .|sub
 rt1553-tool verify --profiles sub .|c.script sub
 rt1553-tool acceptance .|a.toml b.rt1553 sub
-rt1553-tool acceptance --|--against --format --help
+rt1553-tool acceptance --|--against --format --help --names
 rt1553-tool acceptance --format .|csv json text
 rt1553-tool acceptance --against .|e.csv sub
 rt1553-tool acceptance --against e.csv .|a.toml b.rt1553 sub
@@ -281,6 +281,8 @@ workflow_rows() {
     PATH=$work/tools:$PATH bash examples/ci/check-profiles.sh "$work/none" >"$work/told"
     [[ $? -eq 1 ]] && grep -q "^::error file=$work/none/alone.toml::cannot read it" "$work/told"
     count 'check-profiles.sh tells of a script without its profile' $?
+    grep -qx "::warning file=$work/none/one.toml::it has neither a script nor a canonical text of its name" "$work/told"
+    count 'check-profiles.sh warns of a profile that nothing tests' $?
 }
 
 # what the pages say of versions

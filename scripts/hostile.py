@@ -80,7 +80,7 @@ def names(rows, c):
     rows.write(script, "kind\nA gup\n")
     for word in ["import", "expand"]:
         rows.row(f"{word}: absent {c!r}", rows.run(rows.tool, [word, absent]), 1, {4})
-    rows.row(f"import: refused {c!r}", rows.run(rows.tool, ["import", script]), 1, {2})
+    rows.row(f"import: refused {c!r}", rows.run(rows.tool, ["import", script]), 2, {2})
     rows.row(f"expand: refused {c!r}", rows.run(rows.tool, ["expand", script]), 2, {2})
     for word in ["check", "canon"]:
         rows.row(f"rt1553 {word}: absent {c!r}", rows.run(rows.rt1553, [word, absent]), 1, {4})
@@ -108,6 +108,15 @@ def tables(rows, c):
     """Names of columns and rows, kinds and values of a table."""
     rows.write("table", f'kind,name,value,"col{c}umn",words,subaddress\naddress,,5,,,\nreceive,"na{c}me",,,2,1\n')
     rows.row(f"import: names {c!r}", rows.run(rows.tool, ["import", "table"]), 1, {0})
+    rows.write("one", "address = 5\n[[rule]]\ndirection = \"receive\"\nsubaddresses = 1\ncounts = 2\n")
+    rows.write("stated", "A c 2822\nA d 0001\nA d 0002\nA gap\nslot\n#> A s 2801\n")
+    for words, statuses in [
+        (["explain", "one"], {0}), (["explain", "--format", "json", "one"], {0}), (["differ", "five", "one"], {1}),
+        (["differ", "--format", "json", "five", "one"], {1}), (["verify", "one", "stated"], {1}), (["verify", "--format", "json", "one", "stated"], {1}),
+        (["verify", "--format", "junit", "one", "stated"], {1}), (["verify", "--format", "html", "one", "stated"], {1}), (["draw", "one", "stated"], {0}),
+        (["draw", "--html", "one", "stated"], {0}),
+    ]:
+        rows.row(f"--names: {words!r} {c!r}", rows.run(rows.tool, [words[0], "--names", "table", *words[1:]]), 0, statuses)
     for kind, value in [(f"ki{c}nd", ""), ("address", f"5{c}6")]:
         rows.write("table", f'kind,value\n"{kind}","{value}"\n')
         rows.row(f"import: {kind!r} {value!r}", rows.run(rows.tool, ["import", "table"]), None, {2})
@@ -131,6 +140,17 @@ def scripts(rows, c):
     line = f"# {c}\nrx {c}\nx{c}\nc 2862 {c}\n".encode()
     rows.row(f"words {c!r}", rows.run(rows.tool, ["words"], line), 0)
     rows.row(f"live {c!r}", rows.run(rows.tool, ["live", "five"], f"A{c}\n# {c}\n".encode()), 0, {0})
+
+
+def acceptance(rows, c):
+    """Names in an acceptance test and in what is compared with it."""
+    rows.write("table", f'kind,name,value,words,subaddress\naddress,,5,,\nreceive,"na{c}me",,2,1\n')
+    rows.write("replies", "number,reply\n" + "".join(f"{number},2c00\n" for number in range(1, 1936)))
+    for words, statuses in [([], {0}), (["--format", "csv"], {0}), (["--format", "json"], {0}), (["--against", "replies"], {1})]:
+        done = rows.run(rows.tool, ["acceptance", "--names", "table", *words, "five"])
+        # a table ends its lines as RFC 4180 has it
+        done.stdout = done.stdout.replace(b"\r\n", b"\n")
+        rows.row(f"acceptance --names {words!r} {c!r}", done, 0, statuses)
 
 
 def others(rows):
@@ -157,6 +177,8 @@ def main():
             tables(rows, c)
             profiles(rows, c)
             scripts(rows, c)
+        for c in ["\x1b", "\x85", "\u202e", "\n"]:
+            acceptance(rows, c)
         others(rows)
     print(f"{rows.passed} passed, {rows.failed} failed")
     return 0 if rows.passed and not rows.failed else 1

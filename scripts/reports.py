@@ -65,14 +65,14 @@ class Told:
         for line in lines:
             name = next((name for name in sorted(names, key=len, reverse=True) if line.startswith(f"{name}:")), None)
             rest = line[len(name or ""):]
-            if name and (found := re.fullmatch(r": passed \((\d+) answers\)", rest)):
+            if name and (found := re.fullmatch(r": passed \(answers: (\d+)\)", rest)):
                 self.passed[name] = int(found[1])
             elif name and (found := re.fullmatch(r":(\d+): expected (.*), came (.*)", rest)):
                 self.wrong[name].append((int(found[1]), *(None if it == "nothing" else it for it in found.groups()[1:])))
             elif found := re.fullmatch(r"(?:clause (.*)|(no clause|all)): (\d+) of (\d+) scripts pass", line):
                 self.clauses.append((found[1] or found[2], int(found[3]), int(found[4])))
             else:
-                must(name and rest == f": {len(self.wrong[name])} differ", f"the text has {line!r}")
+                must(name and rest == f": differences: {len(self.wrong[name])}", f"the text has {line!r}")
 
 
 def shown(text):
@@ -156,7 +156,7 @@ def look_at_junit(text, found):
         same([it.tag for it in case], kinds, "the elements of a test case")
         if one["differences"]:
             failure = case.find("failure")
-            same(failure.get("message"), f"{len(one['differences'])} differ", "the message of a failure")
+            same(failure.get("message"), f"differences: {len(one['differences'])}", "the message of a failure")
             same(failure.text, "".join(f"{name}:{it['line']}: {in_words(it)}\n" for it in one["differences"]), "the text of a failure")
         if one["fault"]:
             same(case.find("error").attrib, {"message": one["fault"]}, "an error")
@@ -325,7 +325,7 @@ def plain(rows):
              '{"file":"wrong","profile":"five","passes":false,"answers":3,"clauses":["5.2.1"],"differences":['
              '{"line":4,"expected":"A s 2c00","came":"A s 2800"},{"line":6,"expected":"A d 0000","came":null},{"line":15,"expected":null,"came":"A s 2800"}],"fault":null}\n'
              '{"file":"broken","profile":"five","passes":false,"answers":null,"clauses":[],"differences":[],'
-             '"fault":"broken: script: line 3, column 5: a space at the end: nothing stands behind the last field"}\n'
+             '"fault":"broken: script: line 3, column 5: a space at the end: nothing may follow the last field"}\n'
              '{"file":"none","profile":"five","passes":false,"answers":null,"clauses":[],"differences":[],"fault":"file: cannot read none"}\n', "the text")
 
     def junit_to_the_byte():
@@ -334,7 +334,7 @@ def plain(rows):
              '<testsuite name="rt1553-tool verify" tests="3" failures="1" errors="1" skipped="0" time="0">\n'
              '<testcase name="good" classname="five" time="0">\n<properties>\n<property name="clause" value="5.2.1"/>\n<property name="clause" value="5.2.1.1"/>\n'
              '</properties>\n</testcase>\n<testcase name="wrong" classname="five" time="0">\n<properties>\n<property name="clause" value="5.2.1"/>\n</properties>\n'
-             '<failure message="3 differ">wrong:4: expected A s 2c00, came A s 2800\nwrong:6: expected A d 0000, came nothing\nwrong:15: expected nothing, came A s 2800\n'
+             '<failure message="differences: 3">wrong:4: expected A s 2c00, came A s 2800\nwrong:6: expected A d 0000, came nothing\nwrong:15: expected nothing, came A s 2800\n'
              '</failure>\n</testcase>\n<testcase name="none" classname="five" time="0">\n<error message="file: cannot read none"/>\n</testcase>\n</testsuite>\n</testsuites>\n', "the text")
 
     rows.row("JSON to the byte", json_to_the_byte)

@@ -27,7 +27,7 @@ NOT_PLAYED = {
     r"make test\b": "is what plays this",
     r"(sudo )?make (un)?install\b": "writes into the system; scripts/first-hour.sh installs into a folder of its own",
     r"make library\b": "proves for many minutes",
-    r"make bench\b|bash bench/": "measures for minutes",
+    r"make bench\b|(bash|python3) bench/": "measures for minutes",
     r"tar -xf rt1553-": "needs the archive, which scripts/unpacked.sh unpacks",
 }
 # pages whose sessions another script plays

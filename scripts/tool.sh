@@ -57,7 +57,7 @@ passes() {
 differs() {
     "$program" verify "$profile" "$work/broken.script" </dev/null >"$work/stdout" 2>"$work/stderr"
     [[ $? -eq 1 && ! -s $work/stderr && $(head -n 1 "$work/stdout") == "$work/broken.script:$3: expected $4, came $5" &&
-        $(tail -n +2 "$work/stdout") == "$work/broken.script: 1 differ" ]]
+        $(tail -n +2 "$work/stdout") == "$work/broken.script: differences: 1" ]]
     count "$1: ${2##*/}" $?
 }
 
@@ -109,22 +109,22 @@ summary_rows() {
     script strange '# Profile: seven.toml\nA gap\n'
     script broken '# Profile: five.toml\n# Plan: 5.2.3\nslot \n'
     input ''
-    row 'a summary' 0 'one: passed (1 answers)\nclause 5.2.2: 1 of 1 scripts pass\nclause 5.2.10: 1 of 1 scripts pass\nall: 1 of 1 scripts pass\n' '' \
+    row 'a summary' 0 'one: passed (answers: 1)\nclause 5.2.2: 1 of 1 scripts pass\nclause 5.2.10: 1 of 1 scripts pass\nall: 1 of 1 scripts pass\n' '' \
         verify --summary folder/five.toml one
     row 'each script names its profile' 0 '' '' verify --profiles folder one two
     row 'a summary over two profiles' 1 \
-        'one: passed (1 answers)\ntwo: passed (2 answers)\nwrong:5: expected A s 2c00, came A s 2800\nwrong: 1 differ\nclause 5.2.2: 1 of 2 scripts pass\nclause 5.2.10: 1 of 1 scripts pass\nclause 30.1: 1 of 1 scripts pass\nall: 2 of 3 scripts pass\n' '' \
+        'one: passed (answers: 1)\ntwo: passed (answers: 2)\nwrong:5: expected A s 2c00, came A s 2800\nwrong: differences: 1\nclause 5.2.2: 1 of 2 scripts pass\nclause 5.2.10: 1 of 1 scripts pass\nclause 30.1: 1 of 1 scripts pass\nall: 2 of 3 scripts pass\n' '' \
         verify --summary --profiles folder one two wrong
     row 'a script that names no profile' 2 '' "bare: script: no line '# Profile: NAME' at its front\n" verify --profiles folder bare one
     row 'a profile that is named behind an event' 2 '' "late: script: no line '# Profile: NAME' at its front\n" verify --profiles folder late
     row 'a named profile that is not there' 4 '' 'file: cannot read folder/seven.toml\n' verify --profiles folder strange
     row 'a summary of scripts that are refused' 4 \
         'clause 5.2.3: 0 of 1 scripts pass\nno clause: 0 of 1 scripts pass\nall: 0 of 2 scripts pass\n' \
-        'broken: script: line 3, column 5: a space at the end: nothing stands behind the last field\nfile: cannot read none\n' verify --summary --profiles folder broken none
+        'broken: script: line 3, column 5: a space at the end: nothing may follow the last field\nfile: cannot read none\n' verify --summary --profiles folder broken none
     row 'no script is named' 3 '' 'arguments: see --help\n' verify --profiles folder
     script list '# Profile: five.toml\n# Plan: 1, 1, 2, ,all\n'
     row 'a clause named twice, an empty one, and one called all' 0 \
-        'list: passed (0 answers)\nclause 1: 1 of 1 scripts pass\nclause 2: 1 of 1 scripts pass\nclause all: 1 of 1 scripts pass\nall: 1 of 1 scripts pass\n' '' \
+        'list: passed (answers: 0)\nclause 1: 1 of 1 scripts pass\nclause 2: 1 of 1 scripts pass\nclause all: 1 of 1 scripts pass\nall: 1 of 1 scripts pass\n' '' \
         verify --summary --profiles folder list
     script outside '# Profile: ../five\n'
     row 'a profile outside of the folder' 2 '' 'outside: script: the profile that it names is outside the folder\n' verify --profiles folder outside
@@ -162,6 +162,85 @@ import_rows() {
     row 'a table that is not there' 4 '' 'file: cannot read none\n' import none
 }
 
+# the files of the rows on names: a table with names in ASCII and in Unicode, with quotes, a control character and one that turns the
+# direction of writing, its profile, and another one
+names_files() {
+    printf 'kind,value,subaddress,words,code,to,legal,initial,name\naddress,5,,,,,,,unit\nbroadcast,yes,,,,,,,\nreceive,,1,2,,,,,speed\nreceive,,2,2,,,,,Höhe über NN\nreceive,,3,"1-4, 8",,,,,settings\nreceive,,4,2,,,,,"a ""b"" \\ c"\nreceive,,1,2,,broadcast,,,"e\033[2Kf\342\200\256g"\ntransmit,,2,4,,,,0001 0002,速度\ntransmit,,6,1-2,,,,,short\ntransmit,,6,4,,,,,long\nmode,,,,1,both,,,time tick\nmode,,,,"16,19",,,,words\n' >"$work/names.csv"
+    (cd "$work" && "$program" import names.csv >named.toml </dev/null)
+    sed 's/counts = 4/counts = 3/; s/"1-4, 8"/"1-3, 5"/; s/codes = "16,19"/codes = 16/; s/words = \[1, 2\]/words = [1, 3]/' "$work/named.toml" >"$work/changed.toml"
+    printf 'kind,value,words\naddress,31,\nrecieve,,2\n' >"$work/wrong.csv"
+    printf 'kind,value\naddress,5\n' >"$work/nameless.csv"
+    printf 'number,reply,name\n1,none,x\n2,2c00,\n1028,2800,settings\n1030,2c00,settings\n' >"$work/replies"
+    script v 'A c 2862\nA d 0001\nA d 0002\nA gap\nslot\n#> A s 2c00\nA c 2c22\nA gap\nslot\n#> A s 2800\nA c 2c02 1\nB c 3462\nA c fc01\nA gap\n'
+}
+
+# the names of messages beside their numbers
+names_rows() {
+    local word words
+    input ''
+    names_files
+    row 'explain with names' 0 \
+        'remote terminal 5\nbroadcast:   heard\nwraparound:  none\nvector word: 0000\nBIT word:    0000\n\nsubaddresses    receive           transmit               broadcast receive\n1               2 "speed"         -                      2 "e\\u{1b}[2Kf\\u{202e}g"\n2               2 "Höhe über NN"  4 "速度"               -\n3               1-4,8 "settings"  -                      -\n4               2 "a \\"b\\" \\\\ c"  -                      -\n6               -                 1-2 "short", 4 "long"  -\n\nwords at power-up\n 2: 0001 0002\n\nmode codes\n 1: synchronize "time tick"\n 2: transmit status word\n 4: transmitter shutdown\n 5: override transmitter shutdown\n 8: reset remote terminal\n16: transmit vector word "words"\n19: transmit BIT word "words"\n\nmode codes by broadcast\n 1: synchronize "time tick"\n' '' \
+        explain --names names.csv named.toml
+    row 'differ with names' 1 \
+        'receive 3 "settings":                     counts 4,8 in named.toml, 5 in changed.toml\ntransmit 2,6 "速度", "short", "long":     counts 4 → 3\nmode code 19 (transmit BIT word) "words": legal in named.toml alone\nword 2 of subaddress 2 "速度":            0002 in named.toml, 0003 in changed.toml\n' '' \
+        differ --names names.csv named.toml changed.toml
+    row 'verify with names' 1 \
+        'v:4: "settings": expected nothing, came hand receive own 03 0001 0002\nv:5: "settings": expected A s 2c00, came A s 2800\nv:9: expected A s 2800, came A s 2c00\nv: differences: 3\n' '' \
+        verify --names names.csv named.toml v
+    row 'verify with names, as JSON' 1 \
+        '{"file":"v","profile":"named.toml","passes":false,"answers":2,"clauses":[],"differences":[{"line":4,"name":"settings","expected":null,"came":"hand receive own 03 0001 0002"},{"line":5,"name":"settings","expected":"A s 2c00","came":"A s 2800"},{"line":9,"name":null,"expected":"A s 2800","came":"A s 2c00"}],"fault":null}\n' '' \
+        verify --names names.csv --format json named.toml v
+    row 'verify with names, as JUnit' 1 \
+        '<?xml version="1.0" encoding="UTF-8"?>\n<testsuites tests="1" failures="1" errors="0" skipped="0" time="0">\n<testsuite name="rt1553-tool verify" tests="1" failures="1" errors="0" skipped="0" time="0">\n<testcase name="v" classname="named.toml" time="0">\n<failure message="differences: 3">v:4: &quot;settings&quot;: expected nothing, came hand receive own 03 0001 0002\nv:5: &quot;settings&quot;: expected A s 2c00, came A s 2800\nv:9: expected A s 2800, came A s 2c00\n</failure>\n</testcase>\n</testsuite>\n</testsuites>\n' '' \
+        verify --names names.csv --format junit named.toml v
+    row 'results compared, with names' 1 \
+        '2: transmit status word: legal: expected 2c10, came 2c00\n1030: "settings": receive 3, 4 words: legal: expected 2800, came 2c00\nno result for 3 to 1027\nno result for 1029\nno result for 1031 to 3873\n2 of 3873 exchanges are answered otherwise: it is another terminal\n' '' \
+        acceptance --names names.csv --against replies named.toml
+    row 'a table of names with faults' 2 \
+        '' 'wrong.csv:3:1: error: table: not a kind; known are address, broadcast, wraparound, accept_bus_control, vector, bit, receive, transmit, both, mode\nwrong.csv:2:2: error: profile: root: address is out of range\n' \
+        explain --names wrong.csv named.toml
+    row 'a table of names that is not there' 4 \
+        '' 'file: cannot read none\n' \
+        verify --names none named.toml v
+    mkdir -p "$work/folder"
+    cp "$work/named.toml" "$work/folder"
+    script own '# Profile: named.toml\nA c f822\nA d 0001\nA d 0002\nA gap\n#> hand receive broadcast 01 0001\n'
+    row 'verify with names, each script with its profile' 1 \
+        'own:5: "e\\u{1b}[2Kf\\u{202e}g": expected hand receive broadcast 01 0001, came hand receive broadcast 01 0001 0002\nown: differences: 1\n' '' \
+        verify --names names.csv --profiles folder own
+    {
+        printf 'kind,value,subaddress,words,name\naddress,5,,,\n'
+        for word in 1 2 3 4 5 6; do echo "receive,,$word,1,name $word"; done
+    } >"$work/six.csv"
+    (cd "$work" && "$program" import six.csv >six.toml && printf 'address = 5\n' >none.toml) </dev/null
+    row 'a line with more than five names' 1 \
+        'receive 1-6 "name 1", "name 2", "name 3", "name 4", "name 5", ..: count 1 legal in six.toml alone\n' '' differ --names six.csv six.toml none.toml
+    for words in 'explain named.toml' 'differ named.toml changed.toml' 'verify named.toml v' 'draw --html named.toml v' 'acceptance named.toml'; do
+        row "faults of a table: $words" 2 '' \
+            'wrong.csv:3:1: error: table: not a kind; known are address, broadcast, wraparound, accept_bus_control, vector, bit, receive, transmit, both, mode\nwrong.csv:2:2: error: profile: root: address is out of range\n' \
+            ${words%% *} --names wrong.csv ${words#* }
+        # a table without names leaves all as it is
+        cmp -s <(cd "$work" && "$program" ${words%% *} --names nameless.csv ${words#* } </dev/null) <(cd "$work" && "$program" $words </dev/null)
+        count "no names: $words" $?
+    done
+    # the acceptance test with names is one, no line is too long, and but for its comments it is the one without names
+    (cd "$work" && "$program" acceptance named.toml >plain && "$program" acceptance --names names.csv named.toml >with &&
+        "$program" verify named.toml with && cmp -s <(grep -v '^# ' plain) <(grep -v '^# ' with) && grep -q '^# receive 3, 5 words: illegal "settings"$' with &&
+        grep -q '^# receive 2, 2 words: legal "Höhe über NN"$' with && ! LC_ALL=C grep -q '.\{65\}' with) </dev/null
+    count 'an acceptance test with names' $?
+    (cd "$work" && "$program" acceptance --format csv --names names.csv named.toml | sed -n '1p;1028p' | tr -d '\r' | cmp -s - <(printf '%s\n' 'number,tries,command,data,reply,handed,name' \
+        '1027,"receive 3, 1 word: legal",2861,0000,2800,receive own 03 0000,settings')) </dev/null
+    count 'an acceptance test with names, as a table' $?
+    for words in 'explain' 'differ changed.toml' 'acceptance'; do
+        (cd "$work" && "$program" ${words%% *} --names names.csv --format json named.toml ${words#"${words%% *}"}) </dev/null >"$work/json"
+        python3 scripts/schema.py "docs/${words%% *}.schema.json" $([[ $words == acceptance ]] && echo --lines) <"$work/json" && ! LC_ALL=C grep -q '[^ -~]' "$work/json"
+        count "${words%% *} with names: schema" $?
+    done
+    (cd "$work" && "$program" verify --names names.csv --format json named.toml v) </dev/null | python3 scripts/schema.py docs/verify.schema.json --lines
+    count 'verify with names: schema' $?
+}
+
 # what `expand` makes of messages
 expand_rows() {
     input ''
@@ -178,6 +257,22 @@ expand_rows() {
     yes 'A rx 5 3 1: 0001' | head -n 262145 >"$work/many"
     row 'an expanded script that would be too long' 2 '' 'many: script: too many lines\n' expand many
     row 'messages that are not there' 4 '' 'file: cannot read none\n' expand none
+    script five 'address = 5\n'
+    script check 'A mode 5 2\n#> A s 2800\n\nA mode 5 2\n#> A s 2c00\nA c 2c02\nA gap\nslot\n'
+    row 'messages that are verified, by the lines of their file' 1 \
+        'check:4: expected A s 2c00, came A s 2800\ncheck:8: expected nothing, came A s 2800\ncheck: differences: 2\n' '' verify --expand five check
+    (cd "$work" && "$program" verify --expand --format json five check | grep -o '"line":[0-9]*' | paste -s -d, >stdout)
+    [[ $(cat "$work/stdout") == '"line":4,"line":8' ]]
+    count 'a report of messages has the lines of their file' $?
+    row 'messages that verify refuses' 2 '' \
+        'refused: messages: line 1, column 17: a data word is wanted: one space and four hexadecimal digits, with small letters\n' verify --expand five refused
+    row 'messages that draw refuses' 2 '' \
+        'refused: messages: line 1, column 17: a data word is wanted: one space and four hexadecimal digits, with small letters\n' draw --expand five refused
+    script misplaced '# one\nA rx 5 3 1: 0001\n#> hand receive own 03 0001\n'
+    row 'an answer that the last event of a message cannot have' 2 '' 'misplaced: script: line 3: the event before it cannot have this answer\n' verify --expand five misplaced
+    row 'too many messages to verify' 2 '' 'many: script: too many lines\n' verify --expand five many
+    (cd "$work" && "$program" draw --expand five messages | cmp -s - <("$program" draw five expanded))
+    count 'messages are drawn as their script' $?
 }
 
 # answers stated by masks, and on the bus alone: over the profile `address = 5`, which hands over what is received
@@ -201,22 +296,22 @@ mask_rows() {
     script silent_bus "${received}"'slot\n'
     input ''
     row 'a mask' 0 '' '' verify receiver masked some going
-    row 'a dot stands for no letter but a to f' 1 'dots:3: expected A . 2800, came A s 2800\ndots: 1 differ\n' '' verify receiver dots
-    row 'a mask of more bytes' 1 'longer:3: expected A s 2...0, came A s 2800\nlonger: 1 differ\n' '' verify receiver longer
-    row 'a mask of fewer bytes' 1 'shorter:3: expected A s 2.., came A s 2800\nshorter: 1 differ\n' '' verify receiver shorter
-    row 'no line where some line is stated' 1 'missing:2: expected *, came nothing\nmissing:6: expected *, came nothing\nmissing: 2 differ\n' '' \
+    row 'a dot stands for no letter but a to f' 1 'dots:3: expected A . 2800, came A s 2800\ndots: differences: 1\n' '' verify receiver dots
+    row 'a mask of more bytes' 1 'longer:3: expected A s 2...0, came A s 2800\nlonger: differences: 1\n' '' verify receiver longer
+    row 'a mask of fewer bytes' 1 'shorter:3: expected A s 2.., came A s 2800\nshorter: differences: 1\n' '' verify receiver shorter
+    row 'no line where some line is stated' 1 'missing:2: expected *, came nothing\nmissing:6: expected *, came nothing\nmissing: differences: 2\n' '' \
         verify receiver missing
-    row 'a dot in an answer without a mask' 1 'literal:3: expected A s ...., came A s 2800\nliteral: 1 differ\n' '' verify receiver literal
-    row 'a mask counts as an answer' 0 'masked: passed (1 answers)\nno clause: 1 of 1 scripts pass\nall: 1 of 1 scripts pass\n' '' verify --summary receiver masked
-    row 'any line that goes on' 2 '' 'star_goes: script: line 6: not behind the event that it answers\n' verify receiver star_goes
-    row 'a mask behind an answer' 2 '' 'twice_masked: script: line 5: not behind the event that it answers\n' verify receiver twice_masked
-    row 'any line behind a word' 2 '' 'word_masked: script: line 2: not behind the event that it answers\n' verify receiver word_masked
-    row 'a mask of a word behind a gap' 2 '' 'hand_masked: script: line 3: not behind the event that it answers\n' verify receiver hand_masked
-    row 'a hand-over that is not stated' 1 'bus:4: expected nothing, came hand receive own 03 0001 00af\nbus: 1 differ\n' '' verify receiver bus
+    row 'a dot in an answer without a mask' 1 'literal:3: expected A s ...., came A s 2800\nliteral: differences: 1\n' '' verify receiver literal
+    row 'a mask counts as an answer' 0 'masked: passed (answers: 1)\nno clause: 1 of 1 scripts pass\nall: 1 of 1 scripts pass\n' '' verify --summary receiver masked
+    row 'any line that goes on' 2 '' 'star_goes: script: line 6: the event before it cannot have this answer\n' verify receiver star_goes
+    row 'a mask behind an answer' 2 '' 'twice_masked: script: line 5: the event before it cannot have this answer\n' verify receiver twice_masked
+    row 'any line behind a word' 2 '' 'word_masked: script: line 2: the event before it cannot have this answer\n' verify receiver word_masked
+    row 'a mask of a word behind a gap' 2 '' 'hand_masked: script: line 3: the event before it cannot have this answer\n' verify receiver hand_masked
+    row 'a hand-over that is not stated' 1 'bus:4: expected nothing, came hand receive own 03 0001 00af\nbus: differences: 1\n' '' verify receiver bus
     row 'the same on the bus alone' 0 '' '' verify --bus-only receiver bus
     row 'a hand-over that is stated, on the bus alone' 1 \
-        'stated:4: expected hand receive own 03 0001 00ae, came hand receive own 03 0001 00af\nstated: 1 differ\n' '' verify --bus-only receiver stated
-    row 'a word that is not stated, on the bus alone' 1 'silent_bus:5: expected nothing, came A s 2800\nsilent_bus: 1 differ\n' '' \
+        'stated:4: expected hand receive own 03 0001 00ae, came hand receive own 03 0001 00af\nstated: differences: 1\n' '' verify --bus-only receiver stated
+    row 'a word that is not stated, on the bus alone' 1 'silent_bus:5: expected nothing, came A s 2800\nsilent_bus: differences: 1\n' '' \
         verify --bus-only receiver silent_bus
 }
 
@@ -238,18 +333,18 @@ verify_rows() {
     input ''
     row 'nothing differs' 0 '' '' verify five good
     row 'an answer in two parts' 0 '' '' verify five halves
-    row 'two events differ' 1 'wrong:3: expected A s 2c00, came A s 2800\nwrong:5: expected A d 0000, came nothing\nwrong: 2 differ\n' '' \
+    row 'two events differ' 1 'wrong:3: expected A s 2c00, came A s 2800\nwrong:5: expected A d 0000, came nothing\nwrong: differences: 2\n' '' \
         verify five good wrong good
-    row 'an answer that is not stated' 1 'silent:3: expected nothing, came A s 2800\nsilent: 1 differ\n' '' verify five silent
-    row 'a line of no script' 2 '' 'refused: script: line 3, column 5: a space at the end: nothing stands behind the last field\n' verify five refused
+    row 'an answer that is not stated' 1 'silent:3: expected nothing, came A s 2800\nsilent: differences: 1\n' '' verify five silent
+    row 'a line of no script' 2 '' 'refused: script: line 3, column 5: a space at the end: nothing may follow the last field\n' verify five refused
     row 'a line that is too long' 2 '' 'long: script: line 2, column 65: over 64 bytes before the line feed\n' verify five long
-    row 'an answer without an event' 2 '' 'first: script: line 1: not behind the event that it answers\n' verify five first
-    row 'two answers to an event' 2 '' 'twice: script: line 5: not behind the event that it answers\n' verify five twice
-    row 'an answer to a word' 2 '' 'word: script: line 2: not behind the event that it answers\n' verify five word
-    row 'a word that is sent at a gap' 2 '' 'hand: script: line 3: not behind the event that it answers\n' verify five hand
-    row 'what is handed over in a slot' 2 '' 'slot: script: line 4: not behind the event that it answers\n' verify five slot
-    row 'an answer goes on that was not begun' 2 '' 'on: script: line 4: not behind the event that it answers\n' verify five on
-    row 'a refused script, and others' 2 'silent:3: expected nothing, came A s 2800\nsilent: 1 differ\n' 'refused: script: line 3, column 5: a space at the end: nothing stands behind the last field\n' \
+    row 'an answer without an event' 2 '' 'first: script: line 1: the event before it cannot have this answer\n' verify five first
+    row 'two answers to an event' 2 '' 'twice: script: line 5: the event before it cannot have this answer\n' verify five twice
+    row 'an answer to a word' 2 '' 'word: script: line 2: the event before it cannot have this answer\n' verify five word
+    row 'a word that is sent at a gap' 2 '' 'hand: script: line 3: the event before it cannot have this answer\n' verify five hand
+    row 'what is handed over in a slot' 2 '' 'slot: script: line 4: the event before it cannot have this answer\n' verify five slot
+    row 'an answer goes on that was not begun' 2 '' 'on: script: line 4: the event before it cannot have this answer\n' verify five on
+    row 'a refused script, and others' 2 'silent:3: expected nothing, came A s 2800\nsilent: differences: 1\n' 'refused: script: line 3, column 5: a space at the end: nothing may follow the last field\n' \
         verify five refused silent
     row 'a script that is not there' 4 '' 'file: cannot read none\n' verify five none good
     row 'a profile that is not there' 4 '' 'file: cannot read none\n' verify none good
@@ -277,11 +372,11 @@ check_script_rows() {
     refused_row 'A gap\r' 6 'a carriage return: a line ends in a line feed alone'
     refused_row '\r' 1 'a carriage return: a line ends in a line feed alone'
     refused_row '\xef\xbb\xbfA gap' 1 'a byte order mark: save the file as UTF-8 without it'
-    refused_row 'A gap ' 6 'a space at the end: nothing stands behind the last field'
+    refused_row 'A gap ' 6 'a space at the end: nothing may follow the last field'
     refused_row 'A  gap' 3 'a second space: fields are separated by exactly one'
     refused_row ' A gap' 1 'a space at the front: a line begins with its first field'
     refused_row 'A\tgap' 2 'a tab: fields are separated by one space'
-    refused_row 'A gap # the end' 7 'a comment behind a field: a comment is a line of its own'
+    refused_row 'A gap # the end' 7 'a comment after a field: a comment is a line of its own'
     refused_row 'A c 0x2862' 6 'a word is four hexadecimal digits, without a mark'
     refused_row 'A c 2862h' 9 'a word is four hexadecimal digits, without a mark'
     refused_row 'A c 862' 8 'a word is four hexadecimal digits, without a mark'
@@ -296,14 +391,14 @@ check_script_rows() {
     refused_row 'a c 2862' 1 'names have one spelling: A, B, slot, write, vector, bit, flag, c, d, gap, noise'
     refused_row 'A C 2862' 3 'names have one spelling: A, B, slot, write, vector, bit, flag, c, d, gap, noise'
     refused_row 'A Gap' 3 'names have one spelling: A, B, slot, write, vector, bit, flag, c, d, gap, noise'
-    refused_row 'C gap' 1 'no event begins so: A, B, slot, write, vector, bit, flag'
-    refused_row 'A' 2 'wanted behind a bus: c, d, gap or noise'
-    refused_row 'A gup' 3 'wanted behind a bus: c, d, gap or noise'
+    refused_row 'C gap' 1 'no event begins like this: it is A, B, slot, write, vector, bit or flag'
+    refused_row 'A' 2 'after a bus, c, d, gap or noise is expected'
+    refused_row 'A gup' 3 'after a bus, c, d, gap or noise is expected'
     refused_row 'A s 2800' 3 "the terminal's own words are no events; the status word of another terminal is written as a word with c"
     refused_row 'A c 2862 2' 10 'a parity bit is 0 or 1'
-    refused_row 'A c 2862 1 1' 11 'nothing stands behind the last field'
-    refused_row 'slot 1' 5 'nothing stands behind the last field'
-    refused_row 'bit 0001 0' 9 'nothing stands behind the last field'
+    refused_row 'A c 2862 1 1' 11 'nothing may follow the last field'
+    refused_row 'slot 1' 5 'nothing may follow the last field'
+    refused_row 'bit 0001 0' 9 'nothing may follow the last field'
     refused_row 'flag' 5 'a flag is service, busy, subsystem or terminal'
     refused_row 'flag bussy 1' 6 'a flag is service, busy, subsystem or terminal'
     refused_row 'flag busy' 10 'a flag is set by 1 and taken back by 0'
@@ -314,7 +409,7 @@ check_script_rows() {
     script more 'A gup\nslot\nB gap \nslot'
     row 'check-script: no line is refused' 0 '' '' check-script good
     row 'check-script: each line, each script' 4 \
-        'more:1:3: error: wanted behind a bus: c, d, gap or noise\nmore:3:6: error: a space at the end: nothing stands behind the last field\n' \
+        'more:1:3: error: after a bus, c, d, gap or noise is expected\nmore:3:6: error: a space at the end: nothing may follow the last field\n' \
         'file: cannot read none\n' check-script good none more
     # it refuses what `run` refuses
     for line in examples/scripts/*.script examples/validation/scripts/*.script tests/vectors/scripts/*.script; do
@@ -355,7 +450,7 @@ colour_rows() {
     count 'colours: differ' $?
     [[ $(seen_on_terminal explain five | head -n 2) == "${bold}remote terminal 5${plain}"$'\n'"${bold}broadcast${plain}:   not heard" ]]
     count 'colours: explain' $?
-    [[ $(seen_on_terminal verify --summary five right wrong | tail -n 4) == "wrong: ${red}1 differ${plain}"$'\n'"clause 1: ${green}1 of 1 scripts pass${plain}"$'\n'"clause 2: ${red}0 of 1 scripts pass${plain}"$'\n'"all: ${red}1 of 2 scripts pass${plain}" ]]
+    [[ $(seen_on_terminal verify --summary five right wrong | tail -n 4) == "wrong: ${red}differences: 1${plain}"$'\n'"clause 1: ${green}1 of 1 scripts pass${plain}"$'\n'"clause 2: ${red}0 of 1 scripts pass${plain}"$'\n'"all: ${red}1 of 2 scripts pass${plain}" ]]
     count 'colours: verify --summary' $?
     ! (seen_on_terminal explain --format json five; NO_COLOR=1 seen_on_terminal explain five) | grep -q $'\033'
     count 'no colours where NO_COLOR is set, and none in JSON' $?
@@ -402,13 +497,13 @@ live_rows() {
     input 'A c 2c02\nA gap\nslot\n'
     row 'live: a status' 0 '.\n.\nA s 2800\n.\n' '' live five
     input 'A c 2c02\nA gap \n# so\n\nA gap\nslot'
-    row 'live: a refused line changes nothing' 0 '.\n? column 6: a space at the end: nothing stands behind the last field\n.\n.\n.\n.\nA s 2800\n.\n' '' live five
+    row 'live: a refused line changes nothing' 0 '.\n? column 6: a space at the end: nothing may follow the last field\n.\n.\n.\n.\nA s 2800\n.\n' '' live five
     input 'A c 2c02\nA g\377p\nA gap\nslot\n'
-    row 'live: a line that is no text' 0 '.\n? column 3: wanted behind a bus: c, d, gap or noise\n.\n.\nA s 2800\n.\n' '' live five
+    row 'live: a line that is no text' 0 '.\n? column 3: after a bus, c, d, gap or noise is expected\n.\n.\nA s 2800\n.\n' '' live five
     { printf '#%63s\n' ''; printf '#%64s\nA c 2c02\nA gap\nslot\n' ''; } >"$work/stdin"
     row 'live: lines of 64 and of 65 bytes' 0 '.\n? column 65: over 64 bytes before the line feed\n.\n.\n.\nA s 2800\n.\n' '' live five
     row_of_one_long_line 'live: a line of 200 MB takes no memory' \
-        '? column 65: over 64 bytes before the line feed\n.\n? column 1: no event begins so: A, B, slot, write, vector, bit, flag\n.\n' live five
+        '? column 65: over 64 bytes before the line feed\n.\n? column 1: no event begins like this: it is A, B, slot, write, vector, bit or flag\n.\n' live five
     input ''
     row 'live: no lines' 0 '' '' live five
     yes 'slot' | head -n 1500000 | "$program" live "$work/five" | cksum >"$work/given"
@@ -448,7 +543,7 @@ bus_word_rows() {
         '# so\n\nrx 5 3 2\nrx 5 3 2\nmode 5 19 tx # transmit BIT word\nmode all 1 tx # synchronize\nmode 5 1 tx 31 # synchronize\nmode 5 9 rx # always illegal\nstatus 5 error busy\nstatus 5 instrumentation reserved1 reserved2 reserved3 terminal\ndata 1234\nc fbc1 1\n' '' words
     input 'c 2862 1\nrx 32 3 2\nrx 5 31 2\nrx 5 3 33\nrx 5 3\nmode 5 9\nmode 5 32\nmode 5 1 tx 30\nstatus 5 none\nx\nc 286\nc 2862 0 x\nrx 5 3 2\n\377\n'
     row 'words that are refused' 1 \
-        "? the parity bit is wrong: the word isn't valid\n? an address is 0 to 30, or all for a command\n? a subaddress is 1 to 30\n? a count is 1 to 32\n? a count is 1 to 32\n? tx or rx is wanted behind a mode code that has no row in the table\n? a mode code is 0 to 31\n? the subaddress of a mode code is 0 or 31\n? a status has error, instrumentation, service, reserved1 to 3, broadcast, busy, subsystem, accept, terminal\n? a line begins with rx, tx, mode, status, data, c, s or d\n? a word is four hexadecimal digits\n? too much in a line\nc 2862 0\n? a line begins with rx, tx, mode, status, data, c, s or d\n" '' words
+        "? the parity bit is wrong: the word isn't valid\n? an address is 0 to 30, or all for a command\n? a subaddress is 1 to 30\n? a count is 1 to 32\n? a count is 1 to 32\n? tx or rx is expected after a mode code that has no row in the table\n? a mode code is 0 to 31\n? the subaddress of a mode code is 0 or 31\n? a status has error, instrumentation, service, reserved1 to 3, broadcast, busy, subsystem, accept, terminal\n? a line begins with rx, tx, mode, status, data, c, s or d\n? a word is four hexadecimal digits\n? too much in a line\nc 2862 0\n? a line begins with rx, tx, mode, status, data, c, s or d\n" '' words
     input 'rx 31 3 2\nstatus 31\nstatus all\nmode 31 2\ns f800\ns f801 1\nstatus 31 # no terminal has this address\nstatus 5 busy busy\nrx\t5 3  2\r\n'
     row 'words: the address 31' 1 \
         '? an address is 0 to 30, or all for a command\n? an address is 0 to 30, or all for a command\n? an address is 0 to 30, or all for a command\n? an address is 0 to 30, or all for a command\nstatus 31 # no terminal has this address\nstatus 31 terminal # no terminal has this address\n? an address is 0 to 30, or all for a command\ns 2808 0\nc 2862 0\n' '' words
@@ -548,6 +643,9 @@ lint_rows() {
     row 'lint: more unknown keys than are told' 2 'lot:4:1: error: profile: mode 1: unknown key "m", "a", "b", "c", "d", "e", "f", "g", "h", "i", .. and 3 more; known are to, codes, legal\n' '' lint lot
     printf 'address = 5\n\t broadcast = 3\n' >"$work/blanks"
     row 'lint: blanks before a key' 2 'blanks:2:3: error: profile: root: broadcast has the wrong kind: 3; allowed is true or false\n' '' lint blanks
+    { echo 'address = 5' && yes $'[[rule]]\ndirection = 7\ncounts = 33' | head -n 768; } >"$work/each"
+    (cd "$work" && "$program" lint each </dev/null; true) | cut -d : -f 2 | sort -n | cmp -s - <(seq 2 769)
+    count 'lint: 768 findings, each on its line' $?
     python3 tests/tool/lint/shown.py "$program"
     count 'lint: nothing raw is shown' $?
     printf 'address = 5\nvector = 7\n' >"$work/idle"
@@ -591,7 +689,7 @@ draw_rows() {
     [[ $line == *' passed, 0 failed' ]]
     count 'drawings' $?
     script refused 'A c 2c02\nA gap\nslot \n'
-    row 'draw: a script that is refused' 2 '' 'refused: script: line 3, column 5: a space at the end: nothing stands behind the last field\n' draw five refused
+    row 'draw: a script that is refused' 2 '' 'refused: script: line 3, column 5: a space at the end: nothing may follow the last field\n' draw five refused
     yes 'slot' | head -n 4096 >"$work/stdin"
     cp "$work/stdin" "$work/most"
     (cd "$work" && "$program" draw five most >stdout 2>stderr) && [[ ! -s $work/stderr ]] && tail -n 1 "$work/stdout" | grep -q '</svg>'
@@ -638,7 +736,7 @@ word_rows() {
     input ''
     (cd "$work" && "$program" --version >stdout 2>stderr) && [[ $(cat "$work/stdout") == 'rt1553-tool 0.1 (canonical text 2)' && ! -s $work/stderr ]]
     count '--version' $?
-    for word in lint check-script verify toml explain differ acceptance draw words live; do
+    for word in lint check-script verify import export expand toml explain differ acceptance draw words live; do
         "$program" "$word" --help >"$work/stdout" 2>"$work/stderr" </dev/null && grep -q '^Example: ' "$work/stdout" && [[ ! -s $work/stderr ]]
         count "$word --help" $?
         [[ $word == words ]] && continue
@@ -664,6 +762,7 @@ for program in "$@"; do
     mask_rows
     import_rows
     expand_rows
+    names_rows
     summary_rows
     check_script_rows
     hostile_row

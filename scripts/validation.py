@@ -46,7 +46,7 @@ def read(path):
     for number, line in enumerate(lines, 3):
         if line.startswith("#> "):
             if event[-4:] != (" gap" if line.startswith("#> hand ") else "slot"):
-                raise ValueError(f"{path}: line {number}: not behind the event that it answers")
+                raise ValueError(f"{path}: line {number}: the event before it cannot have this answer")
             script.answers.append((number, line[3:]))
             event = ""
         elif line.startswith("#+ "):
