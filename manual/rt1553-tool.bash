@@ -3,29 +3,35 @@ _rt1553_tool() {
     local now=${COMP_WORDS[COMP_CWORD]} before=${COMP_WORDS[COMP_CWORD - 1]} flags='' kinds=() many='' count=0 index kind
     COMPREPLY=()
     if ((COMP_CWORD == 1)); then
-        mapfile -t COMPREPLY < <(compgen -W 'lint check-script verify import expand toml explain differ acceptance draw words live --help --version' -- "$now")
+        mapfile -t COMPREPLY < <(compgen -W 'lint check-script verify import export expand toml explain differ acceptance draw words live --help --version' -- "$now")
         return
     fi
     case ${COMP_WORDS[1]}:$before in
         lint:--format) mapfile -t COMPREPLY < <(compgen -W 'text json sarif' -- "$now"); return ;;
         verify:--profiles) mapfile -t COMPREPLY < <(compgen -d -- "$now"); return ;;
         verify:--format) mapfile -t COMPREPLY < <(compgen -W 'text json junit html' -- "$now"); return ;;
+        verify:--names) mapfile -t COMPREPLY < <(compgen -f -X '!*.csv' -- "$now"; compgen -d -- "$now"); return ;;
         explain:--format) mapfile -t COMPREPLY < <(compgen -W 'text json' -- "$now"); return ;;
+        explain:--names) mapfile -t COMPREPLY < <(compgen -f -X '!*.csv' -- "$now"; compgen -d -- "$now"); return ;;
         differ:--format) mapfile -t COMPREPLY < <(compgen -W 'text json' -- "$now"); return ;;
+        differ:--names) mapfile -t COMPREPLY < <(compgen -f -X '!*.csv' -- "$now"; compgen -d -- "$now"); return ;;
         acceptance:--against) mapfile -t COMPREPLY < <(compgen -f -X '!*.csv' -- "$now"; compgen -d -- "$now"); return ;;
         acceptance:--format) mapfile -t COMPREPLY < <(compgen -W 'text csv json' -- "$now"); return ;;
+        acceptance:--names) mapfile -t COMPREPLY < <(compgen -f -X '!*.csv' -- "$now"; compgen -d -- "$now"); return ;;
+        draw:--names) mapfile -t COMPREPLY < <(compgen -f -X '!*.csv' -- "$now"; compgen -d -- "$now"); return ;;
     esac
     case ${COMP_WORDS[1]} in
         lint) flags='--format --help' kinds=(profile) many='profile' ;;
         check-script) flags='--help' kinds=(script) many='script' ;;
-        verify) flags='--summary --bus-only --profiles --format --help' kinds=(profile script) many='script' ;;
+        verify) flags='--summary --bus-only --expand --profiles --format --names --help' kinds=(profile script) many='script' ;;
         import) flags='--help' kinds=(table) many='' ;;
+        export) flags='--help' kinds=(profile) many='' ;;
         expand) flags='--help' kinds=(messages) many='' ;;
         toml) flags='--help' kinds=(profile) many='' ;;
-        explain) flags='--format --help' kinds=(profile) many='' ;;
-        differ) flags='--scripts --format --help' kinds=(profile profile) many='' ;;
-        acceptance) flags='--against --format --help' kinds=(profile) many='' ;;
-        draw) flags='--html --help' kinds=(profile script) many='' ;;
+        explain) flags='--format --names --help' kinds=(profile) many='' ;;
+        differ) flags='--scripts --format --names --help' kinds=(profile profile) many='' ;;
+        acceptance) flags='--against --format --names --help' kinds=(profile) many='' ;;
+        draw) flags='--expand --html --names --help' kinds=(profile script) many='' ;;
         words) flags='--help' kinds=() many='' ;;
         live) flags='--help' kinds=(profile) many='' ;;
     esac
@@ -35,10 +41,15 @@ _rt1553_tool() {
             lint:--format) index=$((index + 1)) ;;
             verify:--profiles) kinds=("${kinds[@]:1}") index=$((index + 1)) ;;
             verify:--format) index=$((index + 1)) ;;
+            verify:--names) index=$((index + 1)) ;;
             explain:--format) index=$((index + 1)) ;;
+            explain:--names) index=$((index + 1)) ;;
             differ:--format) index=$((index + 1)) ;;
+            differ:--names) index=$((index + 1)) ;;
             acceptance:--against) index=$((index + 1)) ;;
             acceptance:--format) index=$((index + 1)) ;;
+            acceptance:--names) index=$((index + 1)) ;;
+            draw:--names) index=$((index + 1)) ;;
             *:-*) ;;
             *) count=$((count + 1)) ;;
         esac

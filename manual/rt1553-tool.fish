@@ -9,29 +9,38 @@ complete -c rt1553-tool -n __fish_use_subcommand -a check-script -d 'Prints whic
 complete -c rt1553-tool -n '__fish_seen_subcommand_from check-script' -F
 complete -c rt1553-tool -n __fish_use_subcommand -a verify -d 'Prints where a terminal does not answer as scripts state'
 complete -c rt1553-tool -n '__fish_seen_subcommand_from verify' -l summary -d 'prints what passes, too, clause by clause'
-complete -c rt1553-tool -n '__fish_seen_subcommand_from verify' -l bus-only -d 'leaves hand-overs aside that a script does not state'
+complete -c rt1553-tool -n '__fish_seen_subcommand_from verify' -l bus-only -d 'ignores hand-overs that a script does not state'
+complete -c rt1553-tool -n '__fish_seen_subcommand_from verify' -l expand -d 'takes messages, too, as `expand` does'
 complete -c rt1553-tool -n '__fish_seen_subcommand_from verify' -l profiles -x -a '(__fish_complete_directories)' -d 'in place of P: each script names its profile in FOLDER'
 complete -c rt1553-tool -n '__fish_seen_subcommand_from verify' -l format -x -a 'text json junit html' -d 'the output format'
+complete -c rt1553-tool -n '__fish_seen_subcommand_from verify' -l names -r -F -d 'puts the names of messages in TABLE beside their numbers'
 complete -c rt1553-tool -n '__fish_seen_subcommand_from verify' -F
 complete -c rt1553-tool -n __fish_use_subcommand -a import -d 'Writes the profile that a table means'
 complete -c rt1553-tool -n '__fish_seen_subcommand_from import' -F
+complete -c rt1553-tool -n __fish_use_subcommand -a export -d 'Writes the table of a profile'
+complete -c rt1553-tool -n '__fish_seen_subcommand_from export' -F
 complete -c rt1553-tool -n __fish_use_subcommand -a expand -d 'Writes messages as the lines of a script'
 complete -c rt1553-tool -n '__fish_seen_subcommand_from expand' -F
 complete -c rt1553-tool -n __fish_use_subcommand -a toml -d 'Writes a small profile that means the same terminal'
 complete -c rt1553-tool -n '__fish_seen_subcommand_from toml' -F
 complete -c rt1553-tool -n __fish_use_subcommand -a explain -d 'Prints what a terminal does, as a table'
 complete -c rt1553-tool -n '__fish_seen_subcommand_from explain' -l format -x -a 'text json' -d 'the output format'
+complete -c rt1553-tool -n '__fish_seen_subcommand_from explain' -l names -r -F -d 'puts the names of messages in TABLE beside their numbers'
 complete -c rt1553-tool -n '__fish_seen_subcommand_from explain' -F
 complete -c rt1553-tool -n __fish_use_subcommand -a differ -d 'Prints all differences between two terminals'
 complete -c rt1553-tool -n '__fish_seen_subcommand_from differ' -l scripts -d 'prints the script that shows each difference, if there is one'
 complete -c rt1553-tool -n '__fish_seen_subcommand_from differ' -l format -x -a 'text json' -d 'the output format'
+complete -c rt1553-tool -n '__fish_seen_subcommand_from differ' -l names -r -F -d 'puts the names of messages in TABLE beside their numbers'
 complete -c rt1553-tool -n '__fish_seen_subcommand_from differ' -F
 complete -c rt1553-tool -n __fish_use_subcommand -a acceptance -d 'Writes the test that distinguishes a terminal from every other'
 complete -c rt1553-tool -n '__fish_seen_subcommand_from acceptance' -l against -r -F -d 'compares the replies of a unit, a CSV table, with the test'
 complete -c rt1553-tool -n '__fish_seen_subcommand_from acceptance' -l format -x -a 'text csv json' -d 'the output format'
+complete -c rt1553-tool -n '__fish_seen_subcommand_from acceptance' -l names -r -F -d 'puts the names of messages in TABLE beside their numbers'
 complete -c rt1553-tool -n '__fish_seen_subcommand_from acceptance' -F
 complete -c rt1553-tool -n __fish_use_subcommand -a draw -d 'Draws a run: the words on the buses, and what is handed over'
+complete -c rt1553-tool -n '__fish_seen_subcommand_from draw' -l expand -d 'takes messages, too, as `expand` does'
 complete -c rt1553-tool -n '__fish_seen_subcommand_from draw' -l html -d 'writes an HTML page, with the table of legal commands'
+complete -c rt1553-tool -n '__fish_seen_subcommand_from draw' -l names -r -F -d 'puts the names of messages in TABLE beside their numbers'
 complete -c rt1553-tool -n '__fish_seen_subcommand_from draw' -F
 complete -c rt1553-tool -n __fish_use_subcommand -a words -d 'Converts between words of the bus and their fields'
 complete -c rt1553-tool -n __fish_use_subcommand -a live -d 'Plays lines as they come, and ends each answer with a dot'

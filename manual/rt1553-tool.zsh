@@ -7,6 +7,7 @@ _rt1553_tool() {
         'check-script:Prints which lines of scripts are refused, where and why'
         'verify:Prints where a terminal does not answer as scripts state'
         'import:Writes the profile that a table means'
+        'export:Writes the table of a profile'
         'expand:Writes messages as the lines of a script'
         'toml:Writes a small profile that means the same terminal'
         'explain:Prints what a terminal does, as a table'
@@ -27,14 +28,15 @@ _rt1553_tool() {
     case $command in
         lint) _arguments '--help[prints what the command takes]' '--format[the output format]:format:(text json sarif)' '*:P:_files -g "*.(toml|rt1553)(-.)"' ;;
         check-script) _arguments '--help[prints what the command takes]' '*:SCRIPT:_files -g "*.(script)(-.)"' ;;
-        verify) _arguments '--help[prints what the command takes]' '--summary[prints what passes, too, clause by clause]' '--bus-only[leaves hand-overs aside that a script does not state]' '(1)--profiles[in place of P\: each script names its profile in FOLDER]:FOLDER:_files -/' '--format[the output format]:format:(text json junit html)' '(--profiles)1:P:_files -g "*.(toml|rt1553)(-.)"' '*:SCRIPT:_files -g "*.(script)(-.)"' ;;
+        verify) _arguments '--help[prints what the command takes]' '--summary[prints what passes, too, clause by clause]' '--bus-only[ignores hand-overs that a script does not state]' '--expand[takes messages, too, as `expand` does]' '(1)--profiles[in place of P\: each script names its profile in FOLDER]:FOLDER:_files -/' '--format[the output format]:format:(text json junit html)' '--names[puts the names of messages in TABLE beside their numbers]:TABLE:_files -g "*.(csv)(-.)"' '(--profiles)1:P:_files -g "*.(toml|rt1553)(-.)"' '*:SCRIPT:_files -g "*.(script)(-.)"' ;;
         import) _arguments '--help[prints what the command takes]' '1:TABLE:_files -g "*.(csv)(-.)"' ;;
+        export) _arguments '--help[prints what the command takes]' '1:P:_files -g "*.(toml|rt1553)(-.)"' ;;
         expand) _arguments '--help[prints what the command takes]' '1:MESSAGES:_files -g "*.(messages)(-.)"' ;;
         toml) _arguments '--help[prints what the command takes]' '1:P:_files -g "*.(toml|rt1553)(-.)"' ;;
-        explain) _arguments '--help[prints what the command takes]' '--format[the output format]:format:(text json)' '1:P:_files -g "*.(toml|rt1553)(-.)"' ;;
-        differ) _arguments '--help[prints what the command takes]' '--scripts[prints the script that shows each difference, if there is one]' '--format[the output format]:format:(text json)' '1:P:_files -g "*.(toml|rt1553)(-.)"' '2:Q:_files -g "*.(toml|rt1553)(-.)"' ;;
-        acceptance) _arguments '--help[prints what the command takes]' '--against[compares the replies of a unit, a CSV table, with the test]:RESULTS:_files -g "*.(csv)(-.)"' '--format[the output format]:format:(text csv json)' '1:P:_files -g "*.(toml|rt1553)(-.)"' ;;
-        draw) _arguments '--help[prints what the command takes]' '--html[writes an HTML page, with the table of legal commands]' '1:P:_files -g "*.(toml|rt1553)(-.)"' '2:SCRIPT:_files -g "*.(script)(-.)"' ;;
+        explain) _arguments '--help[prints what the command takes]' '--format[the output format]:format:(text json)' '--names[puts the names of messages in TABLE beside their numbers]:TABLE:_files -g "*.(csv)(-.)"' '1:P:_files -g "*.(toml|rt1553)(-.)"' ;;
+        differ) _arguments '--help[prints what the command takes]' '--scripts[prints the script that shows each difference, if there is one]' '--format[the output format]:format:(text json)' '--names[puts the names of messages in TABLE beside their numbers]:TABLE:_files -g "*.(csv)(-.)"' '1:P:_files -g "*.(toml|rt1553)(-.)"' '2:Q:_files -g "*.(toml|rt1553)(-.)"' ;;
+        acceptance) _arguments '--help[prints what the command takes]' '--against[compares the replies of a unit, a CSV table, with the test]:RESULTS:_files -g "*.(csv)(-.)"' '--format[the output format]:format:(text csv json)' '--names[puts the names of messages in TABLE beside their numbers]:TABLE:_files -g "*.(csv)(-.)"' '1:P:_files -g "*.(toml|rt1553)(-.)"' ;;
+        draw) _arguments '--help[prints what the command takes]' '--expand[takes messages, too, as `expand` does]' '--html[writes an HTML page, with the table of legal commands]' '--names[puts the names of messages in TABLE beside their numbers]:TABLE:_files -g "*.(csv)(-.)"' '1:P:_files -g "*.(toml|rt1553)(-.)"' '2:SCRIPT:_files -g "*.(script)(-.)"' ;;
         words) _arguments '--help[prints what the command takes]' ;;
         live) _arguments '--help[prints what the command takes]' '1:P:_files -g "*.(toml|rt1553)(-.)"' ;;
     esac

@@ -5,6 +5,8 @@
 # - verify: each script NAME.script, which states its answers, passes with the profile of its name;
 # - differ: each canonical text NAME.rt1553 that is kept means the same terminal as the profile of its name.
 #
+# A profile with neither a script nor a canonical text gets a warning: nothing but its faults is checked.
+#
 # It prints what it finds as annotations with file and line, which GitHub Actions shows beside the text.
 # It needs rt1553-tool. The status is 0 if nothing fails, else 1. A folder without a profile fails.
 set -uo pipefail
@@ -40,6 +42,9 @@ fi
 for profile in "${profiles[@]}"; do
     rt1553-tool lint "$profile" 2>&1 | annotate
     failed_from 2 "${PIPESTATUS[0]}"
+    if [[ ! -e ${profile%.toml}.script && ! -e ${profile%.toml}.rt1553 ]]; then
+        echo "::warning file=$profile::it has neither a script nor a canonical text of its name"
+    fi
 done
 for script in "$folder"/*.script; do
     rt1553-tool verify "${script%.script}.toml" "$script" 2>&1 | annotate
@@ -47,7 +52,8 @@ for script in "$folder"/*.script; do
 done
 for kept in "$folder"/*.rt1553; do
     profile=${kept%.rt1553}.toml
-    rt1553-tool differ "$kept" "$profile" 2>&1 | sed "s|^|$profile: |" | annotate
+    # in one line, without the blanks that align a table
+    rt1553-tool differ "$kept" "$profile" 2>&1 | sed -E "s|:  +|: |; s|^|$profile: |" | annotate
     failed_from 1 "${PIPESTATUS[0]}"
 done
 exit "$status"
