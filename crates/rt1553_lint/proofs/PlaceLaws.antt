@@ -1,9 +1,7 @@
 -- The statement that is found is where the text gets what is sought.
-use Rattle.std.proofs.Common.{◌≡◌, ℕ, ◌-◌, ◌<◌, zero, suc, Bool, true, List, [], ◌∷◌, map, length, get_or, Option, Some, None, option_map, refl, sym, ap, ◌∙◌, subst, arith}
+use Rattle.std.proofs.Common.{◌≡◌, ◌⊎◌, inl, inr, ℕ, ◌-◌, ◌<◌, zero, suc, Bool, true, List, [], ◌∷◌, map, length, get_or, Option, option_map, refl, sym, ap, ◌∙◌, subst, arith}
 use Rattle.std.specs.Option.{IsSomeAnd, IsSome}
 use Rattle.toml.specs.Data.{Members}
-use Rattle.toml.specs.Parse.{parse_document}
-use Rattle.toml.specs.Tables.{close}
 use Rattle.toml_statements.specs.declared.statement.Statement.{Statement}
 use Rattle.toml_statements.specs.Found.{Seen, seen, statement_view}
 use Rattle.toml_statements.specs.Law.{expressions}
@@ -12,9 +10,14 @@ use Rattle.toml_statements.proofs.TreeLaws.{document_law}
 use Rattle.toml_places.specs.Places.{head}
 use Rattle.toml_places.specs.Statements.{head_of, IsPlace}
 use Rattle.bus_profile.specs.Read.{IsTree}
+use Rattle.bus_profile.specs.declared.fault.Key.{Key}
+use Rattle.bus_profile.specs.declared.fault.Part.{Part}
+use Rattle.bus_profile.specs.declared.fault.ProfileFault.{ProfileFault}
+use Rattle.bus_profile.specs.declared.fault.ProfileFault.TheVariants.{WrongKind, OutOfRange, BadRanges}
 use Rattle.rt1553_lint.specs.declared.finding.Position.{Position}
-use Rattle.rt1553_lint.specs.Places.{AreStatementsOf, IsPositionOf, statement_place}
+use Rattle.rt1553_lint.specs.Places.{AreStatementsOf, IsPositionOf}
 use Rattle.rt1553_lint.specs.Positions.{position_in}
+use Rattle.rt1553_lint.specs.Standing.{IsAtValue, IsAtFault}
 
 fused : {A B C : Type 0} (f : B → C) (g : A → B) (xs : List A) → map f (map g xs) ≡ map (λ x. f (g x)) xs
 fused f g [] = refl
@@ -56,3 +59,10 @@ pub placed_at : (text : List ℕ) (statements : List Statement) (j : ℕ) (d : P
 placed_at text [] j d within = absurd (omega arith)
 placed_at text (s ∷ statements) zero d within = refl
 placed_at text (s ∷ statements) (suc j) d within = placed_at text statements j d (omega arith)
+
+-- a fault of a value
+pub fault_of_value : (fault : ProfileFault) (part : Part) (key : Key) (text : List ℕ) (position : Option Position)
+    → (fault ≡ WrongKind part key) ⊎ ((fault ≡ OutOfRange part key) ⊎ (fault ≡ BadRanges part key)) → IsAtValue part key text position → IsAtFault fault text position
+fault_of_value fault part key text position (inl is) at = subst (λ f. IsAtFault f text position) (sym is) at
+fault_of_value fault part key text position (inr (inl is)) at = subst (λ f. IsAtFault f text position) (sym is) at
+fault_of_value fault part key text position (inr (inr is)) at = subst (λ f. IsAtFault f text position) (sym is) at

@@ -1,3 +1,4 @@
 pub mod Findings
 pub mod Places
 pub mod Positions
+pub mod Standing

@@ -12,6 +12,13 @@ use Rattle.toml_places.specs.Statements.{whole_names}
 use Rattle.bus_profile.specs.Read.{IsTree}
 use Rattle.bus_profile.specs.declared.fault.Part.{Part}
 use Rattle.bus_profile.specs.declared.fault.Part.TheVariants.{Root, Rule, Mode, Initial}
+use Rattle.bus_profile.specs.declared.fault.Key.{Key}
+use Rattle.bus_profile.specs.declared.fault.Key.TheVariants as key
+use Rattle.bus_profile.specs.Keys.{key_name}
+use Rattle.spare_entries.specs.declared.spare.Setting.{Setting}
+use Rattle.spare_entries.specs.declared.spare.Setting.TheVariants.{Broadcast, Wraparound, AcceptBusControl, Vector, Bit}
+use Rattle.spare_entries.specs.declared.spare.SparePlace.{SparePlace}
+use Rattle.spare_entries.specs.declared.spare.SparePlace.TheVariants as spare
 use Rattle.rt1553_lint.specs.declared.finding.Position.{Position}
 use Rattle.rt1553_lint.specs.Positions.{position_in}
 
@@ -46,6 +53,22 @@ has_key Root name tree = is_there name None None tree
 has_key (Rule n) name tree = is_there (codes "rule") (Some (n - 1)) (Some name) tree
 has_key (Mode n) name tree = is_there (codes "mode") (Some (n - 1)) (Some name) tree
 has_key (Initial n) name tree = is_there (codes "initial") (Some (n - 1)) (Some name) tree
+
+-- the key that a setting is
+abbrev pub setting_key : Setting → Key
+setting_key Broadcast = key.Broadcast
+setting_key Wraparound = key.Wraparound
+setting_key AcceptBusControl = key.AcceptBusControl
+setting_key Vector = key.Vector
+setting_key Bit = key.Bit
+
+-- The tree has what may have no effect: a key of the root, an entry, or of a word the words of its entry.
+abbrev pub has_spare : SparePlace → Members → Bool
+has_spare (spare.Key setting) tree = is_there (key_name (setting_key setting)) None None tree
+has_spare (spare.Rule k) tree = is_there (codes "rule") (Some k) None tree
+has_spare (spare.Mode k) tree = is_there (codes "mode") (Some k) None tree
+has_spare (spare.Initial k) tree = is_there (codes "initial") (Some k) None tree
+has_spare (spare.Word k word) tree = is_there (codes "initial") (Some k) (Some (codes "words")) tree
 
 -- the first key of a part, in the order of these statements, that is none of those which are known
 abbrev pub first_besides : Part → List (List ℕ) → List Statement → Option (List ℕ)

@@ -1,14 +1,14 @@
-//! The findings of a tree's faults: for each its place, the value as it is written, and what would be allowed.
-ghost use Rattle.std.specs.Prelude.{◌≡◌, ◌++◌, IfOk, OnOk, Some, None, map};
+//! The findings of a tree's faults: for each the value as it is written, and what would be allowed.
+ghost use Rattle.std.specs.Prelude.{◌≡◌, ◌<◌, ◌++◌, IfOk, OnOk, Some, None, length, map};
 ghost use Rattle.toml.specs.View.{table_view};
 ghost use Rattle.bus_profile.specs.AllFaults.{told_faults};
 ghost use Rattle.rt1553_lint.specs.declared.finding.LintFault.TheVariants as LintFault;
 ghost use Rattle.rt1553_lint.specs.Findings.{subjects, profile_error};
 
-use crate::finding::{Finding, LintFault, Position};
+use crate::finding::{Finding, LintFault};
 use crate::places::Places;
 use crate::shown::{Quoted, Shown};
-use crate::tree::{is_of_word, last_mode, numbered, table_of, value_of, wrong_word};
+use crate::tree::{is_of_word, last_mode, table_of, value_of, wrong_word};
 use bus_profile::{Key, Part, ProfileFault, all_faults, known_keys, unknown_keys};
 use std::alloc::{AllocError, Global};
 use toml::Table;
@@ -46,6 +46,28 @@ fn known_names(alloc: Global, part: Part) -> Result<Vec<&'static str>, AllocErro
     Ok(names)
 }
 
+/// Which of these keys of a part, that it may not have, comes first in the text.
+pub fn first_unknown(
+    alloc: Global,
+    places: &Places<'_>,
+    part: Part,
+    names: &[&str],
+) -> Result<usize, AllocError>
+    requires { 0 < length names.now }
+    ensures { IfOk result (λ i. i < length names.now) }
+{
+    let known = known_names(alloc, part)?;
+    let Some(first) = places.first_besides(part, known.as_slice()) else {
+        return Ok(0);
+    };
+    for index in 0..names.len() {
+        if names[index] == first {
+            return Ok(index);
+        }
+    }
+    Ok(0)
+}
+
 /// The keys of a part that it may not have, of which that comes first that is first in the text.
 fn unknown_names<'a>(
     alloc: Global,
@@ -57,23 +79,12 @@ fn unknown_names<'a>(
         return Ok(Vec::new(alloc));
     };
     let mut names = unknown_keys(alloc, inner, part)?;
-    let known = known_names(alloc, part)?;
-    if let Some(first) = places.first_besides(part, known.as_slice()) {
-        move_to_front(&mut names, first)?;
+    if !names.is_empty() {
+        let first = first_unknown(alloc, places, part, names.as_slice())?;
+        let name = names.remove(first);
+        names.insert(0, name)?;
     }
     Ok(names)
-}
-
-/// Moves a name before the others, if it is among them.
-fn move_to_front(names: &mut Vec<&str>, first: &str) -> Result<(), AllocError> {
-    for index in 0..names.len() {
-        if names[index] == first {
-            let name = names.remove(index);
-            names.insert(0, name)?;
-            break;
-        }
-    }
-    Ok(())
 }
 
 /// Adds the keys of a table that it may not have, and those that it may.
@@ -170,52 +181,7 @@ fn message_of(
     Ok(message)
 }
 
-/// Where a key of a part stands; of an entry that is no table the entry.
-fn position_of_key(places: &Places<'_>, part: Part, key: Key) -> Option<Position> {
-    match key {
-        Key::Rule | Key::Mode | Key::Initial if part != Part::Root => places.part_position(part),
-        _ => places.key_position(part, key.name()),
-    }
-}
-
-/// Where the first unknown key of a part stands.
-fn position_of_unknown(
-    alloc: Global,
-    places: &Places<'_>,
-    table: &Table,
-    part: Part,
-) -> Result<Option<Position>, AllocError> {
-    let names = unknown_names(alloc, places, table, part)?;
-    Ok(match names.as_slice().first() {
-        Some(name) => places.key_position(part, name),
-        None => places.part_position(part),
-    })
-}
-
-/// Where a fault stands.
-fn position_of_fault(
-    alloc: Global,
-    places: &Places<'_>,
-    table: &Table,
-    fault: ProfileFault,
-) -> Result<Option<Position>, AllocError> {
-    Ok(match fault {
-        ProfileFault::UnknownKey(part) => position_of_unknown(alloc, places, table, part)?,
-        ProfileFault::Missing(part, _) => places.part_position(part),
-        ProfileFault::TooMany(Part::Root, key) => places.part_position(numbered(key, 256)),
-        ProfileFault::WrongKind(part, key)
-        | ProfileFault::OutOfRange(part, key)
-        | ProfileFault::BadRanges(part, key)
-        | ProfileFault::TooMany(part, key) => position_of_key(places, part, key),
-        ProfileFault::RequiredCode(code) => match last_mode(table, code) {
-            Some(index) => places.part_position(numbered(Key::Mode, index)),
-            None => places.part_position(Part::Root),
-        },
-        ProfileFault::NotToml | ProfileFault::Memory => places.part_position(Part::Root),
-    })
-}
-
-/// The finding of a fault; `word` is the index of the word that has it.
+/// The finding of a fault, without its position; `word` is the index of the word that has it.
 fn finding_of(
     alloc: Global,
     places: &Places<'_>,
@@ -227,14 +193,14 @@ fn finding_of(
     ensures spare { IfOk result (λ finding. finding.spare ≡ None) }
 {
     Ok(Finding {
-        position: position_of_fault(alloc, places, table, fault)?,
+        position: None,
         fault: Some(LintFault::Profile(fault)),
         spare: None,
         message: message_of(alloc, places, table, fault, word)?,
     })
 }
 
-/// Adds the findings of these faults.
+/// Adds the findings of these faults, without their positions.
 fn push_faults(
     alloc: Global,
     findings: &mut Vec<Finding>,
@@ -259,7 +225,7 @@ fn push_faults(
     Ok(())
 }
 
-/// The findings of the faults of a tree.
+/// The findings of the faults of a tree, without their positions.
 pub fn errors_of(
     alloc: Global,
     places: &Places<'_>,

@@ -48,7 +48,7 @@ impl LintFault {
 /// An error, or a warning.
 #[derive(Drop)]
 pub struct Finding {
-    /// Where it stands; None where that was too much to look for.
+    /// Where it stands; None for a key or an entry that the text hasn't.
     pub position: Option<Position>,
     /// The fault; None for a warning.
     pub fault: Option<LintFault>,

@@ -6,6 +6,7 @@ mod finding;
 mod lines;
 mod linting;
 mod places;
+mod positions;
 mod shown;
 mod tree;
 mod warnings;

@@ -2,16 +2,19 @@
 ghost use Rattle.std.specs.Prelude.{◌≡◌, ◌≤◌, [], ◌∷◌, Some, None, All, IfOk, length};
 ghost use Rattle.toml.specs.Data.{Members};
 ghost use Rattle.toml.specs.View.{table_view};
-ghost use Rattle.toml.specs.Errors.{IsWithin};
+ghost use Rattle.toml.specs.Errors.{IsMemory, IsWithin};
 ghost use Rattle.bus_profile.specs.Read.{IsTree};
+ghost use Rattle.bus_profile.specs.declared.fault.ProfileFault.TheVariants.{NotToml};
 ghost use Rattle.rt1553_lint.specs.declared.finding.LintFault.TheVariants as lint_fault;
-ghost use Rattle.rt1553_lint.specs.Findings.{subjects, FindsInTree, FindsInOther};
+ghost use Rattle.rt1553_lint.specs.Findings.{FindsInTree, FindsInOther};
 ghost use Rattle.rt1553_lint.specs.Places.{IsNone, AreStatementsOf};
+ghost use Rattle.rt1553_lint.specs.Standing.{IsPlaced};
 
 use crate::errors::errors_of;
 use crate::finding::{Finding, LintFault};
-use crate::lines::{position_at, position_of_line};
-use crate::places::places_of;
+use crate::lines::position_at;
+use crate::places::{Places, places_of};
+use crate::positions::{canon_position, with_positions};
 use crate::shown::ShownMessage;
 use crate::warnings::warnings_of;
 use bus_canon::CanonFault;
@@ -38,35 +41,48 @@ fn statements_in(alloc: Global, text: &[u8]) -> Result<Vec<Statement>, AllocErro
     }
 }
 
-/// The findings of a text that is TOML: its faults, or where it has none what has no effect.
-fn lint_table(alloc: Global, text: &[u8], table: &Table) -> Result<Vec<Finding>, AllocError>
+/// The findings of a text that is TOML, without their positions: its faults, or where it has none what has no effect.
+fn found_in(
+    alloc: Global,
+    text: &[u8],
+    table: &Table,
+    places: &Places<'_>,
+) -> Result<Vec<Finding>, AllocError>
     requires { IsTree text.now (table_view table.now) }
     ensures { IfOk result (λ found. FindsInTree text.now (table_view table.now) found.items) }
 {
-    let statements = statements_in(alloc, text)?;
-    let places = places_of(alloc, text, statements.as_slice())?;
-    let findings = errors_of(alloc, &places, table)?;
+    let findings = errors_of(alloc, places, table)?;
     if !findings.is_empty() {
         return Ok(findings);
     }
     let Ok(profile) = read_profile(alloc, text) else {
         return Err(AllocError);
     };
-    let warnings = warnings_of(alloc, &places, &profile)?;
+    let warnings = warnings_of(alloc, &profile)?;
     Ok(warnings)
+}
+
+/// The findings of a text that is TOML.
+fn lint_table(alloc: Global, text: &[u8], table: &Table) -> Result<Vec<Finding>, AllocError>
+    requires { IsTree text.now (table_view table.now) }
+    ensures found { IfOk result (λ found. FindsInTree text.now (table_view table.now) found.items) }
+    ensures placed { IfOk result (λ found. All (IsPlaced text.now) found.items) }
+{
+    let statements = statements_in(alloc, text)?;
+    let places = places_of(alloc, text, statements.as_slice())?;
+    let found = found_in(alloc, text, table, &places)?;
+    let placed = with_positions(alloc, &places, table, found)?;
+    Ok(placed)
 }
 
 /// The finding of a canonical text that is refused.
 fn canon_finding(alloc: Global, text: &[u8], fault: CanonFault) -> Result<Finding, AllocError>
     ensures fault { IfOk result (λ finding. finding.fault ≡ Some (lint_fault.Canon fault)) }
     ensures spare { IfOk result (λ finding. finding.spare ≡ None) }
+    ensures placed { IfOk result (IsPlaced text.now) }
 {
-    let position = match fault {
-        CanonFault::Line(line) => position_of_line(line),
-        CanonFault::Trailing => position_at(text, text.len()),
-    };
     Ok(Finding {
-        position: Some(position),
+        position: Some(canon_position(text, fault)),
         fault: Some(LintFault::Canon(fault)),
         spare: None,
         message: format!(in alloc; "{fault}")?,
@@ -74,22 +90,19 @@ fn canon_finding(alloc: Global, text: &[u8], fault: CanonFault) -> Result<Findin
 }
 
 /// The finding of a text that is no TOML.
-fn syntax_finding(
-    alloc: Global,
-    text: &[u8],
-    fault: ProfileFault,
-    error: &Error,
-) -> Result<Finding, AllocError>
-    requires { IsWithin text.now error.now }
-    ensures fault { IfOk result (λ finding. finding.fault ≡ Some (lint_fault.Profile fault)) }
+fn syntax_finding(alloc: Global, text: &[u8], error: &Error) -> Result<Finding, AllocError>
+    requires memory { ¬ IsMemory error.now }
+    requires within { IsWithin text.now error.now }
+    ensures fault { IfOk result (λ finding. finding.fault ≡ Some (lint_fault.Profile NotToml)) }
     ensures spare { IfOk result (λ finding. finding.spare ≡ None) }
+    ensures placed { IfOk result (IsPlaced text.now) }
 {
-    let position = match error.span() {
-        Some(span) => Some(position_at(text, span.start)),
-        None => None,
+    let Some(span) = error.span() else {
+        unreachable!();
     };
+    let fault = ProfileFault::NotToml;
     Ok(Finding {
-        position,
+        position: Some(position_at(text, span.start)),
         fault: Some(LintFault::Profile(fault)),
         spare: None,
         message: format!(in alloc; "{fault}: {}", ShownMessage(error.message()))?,
@@ -98,7 +111,7 @@ fn syntax_finding(
 
 /// This finding alone.
 fn only(alloc: Global, finding: Finding) -> Result<Vec<Finding>, AllocError>
-    ensures { IfOk result (λ found. subjects found.items ≡ (finding.fault, finding.spare) ∷ []) }
+    ensures { IfOk result (λ found. found.items ≡ finding ∷ []) }
 {
     let mut found = Vec::new(alloc);
     found.push(finding)?;
@@ -107,8 +120,11 @@ fn only(alloc: Global, finding: Finding) -> Result<Vec<Finding>, AllocError>
 
 /// The findings of a text that is no TOML: none where it is a canonical text that is accepted.
 fn lint_other(alloc: Global, text: &[u8], error: &Error) -> Result<Vec<Finding>, AllocError>
-    requires { IsWithin text.now error.now }
-    ensures { IfOk result (λ found. FindsInOther text.now found.items) }
+    requires none { IsNone text.now }
+    requires memory { ¬ IsMemory error.now }
+    requires within { IsWithin text.now error.now }
+    ensures found { IfOk result (λ found. FindsInOther text.now found.items) }
+    ensures placed { IfOk result (λ found. All (IsPlaced text.now) found.items) }
 {
     match load(alloc, text) {
         Ok(_) => Ok(Vec::new(alloc)),
@@ -117,8 +133,8 @@ fn lint_other(alloc: Global, text: &[u8], error: &Error) -> Result<Vec<Finding>,
             let found = only(alloc, finding)?;
             Ok(found)
         }
-        Err(LoadFault::Profile(fault)) => {
-            let finding = syntax_finding(alloc, text, fault, error)?;
+        Err(LoadFault::Profile(_)) => {
+            let finding = syntax_finding(alloc, text, error)?;
             let found = only(alloc, finding)?;
             Ok(found)
         }
@@ -133,6 +149,7 @@ fn lint_other(alloc: Global, text: &[u8], error: &Error) -> Result<Vec<Finding>,
 pub fn lint(alloc: Global, text: &[u8]) -> Result<Vec<Finding>, AllocError>
     ensures tree { IfOk result (λ found. (tree : Members) → IsTree text.now tree → FindsInTree text.now tree found.items) }
     ensures other { IfOk result (λ found. IsNone text.now → FindsInOther text.now found.items) }
+    ensures placed { IfOk result (λ found. All (IsPlaced text.now) found.items) }
 {
     match toml::table_from_slice(alloc, text) {
         Ok(table) => lint_table(alloc, text, &table),

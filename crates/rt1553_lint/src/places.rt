@@ -1,15 +1,15 @@
 //! Where in a profile text its entries stand, and their keys.
-ghost use Rattle.std.specs.Prelude.{◌≡◌, ◌≤◌, ◌<◌, ◌-◌, true, All, IfOk, IfSome, IsSomeAnd, Some, codes, get_or, length, map, option_copied, option_map};
-ghost use Rattle.toml.specs.Data.{Members};
+ghost use Rattle.std.specs.Prelude.{◌≡◌, ◌≤◌, ◌<◌, All, IfOk, IfSome, codes, get_or, length, map, option_copied, option_map};
 ghost use Rattle.toml_places.specs.Statements.{IsPlace};
-ghost use Rattle.bus_profile.specs.Read.{IsTree};
-ghost use Rattle.bus_profile.specs.declared.fault.Part.TheVariants.{Root};
-ghost use Rattle.rt1553_lint.specs.Places.{AreStatementsOf, IsPositionOf, has_entry, has_key, first_besides};
+ghost use Rattle.rt1553_lint.specs.Places.{AreStatementsOf, has_entry, has_key, has_spare, setting_key, first_besides};
 ghost use Rattle.rt1553_lint.specs.Positions.{position_in};
+ghost use Rattle.rt1553_lint.specs.Standing.{IsAt, IsAtPart, IsAtKey};
 
 use crate::finding::Position;
 use crate::lines::{position_at, positions_of};
+use crate::tree::index_of;
 use bus_profile::{Key, Part};
+use spare_entries::{Setting, SparePlace};
 use std::alloc::{AllocError, Global};
 use toml_places::{ArrayPlaces, array_places, key_besides, key_place};
 use toml_statements::Statement;
@@ -17,7 +17,7 @@ use toml_statements::Statement;
 /// Where the statements of a profile text stand, and which of them give it its entries.
 #[derive(Drop)]
 pub struct Places<'a> {
-    text: &'a [u8],
+    pub text: &'a [u8],
     statements: &'a [Statement],
     /// Those of the statements.
     positions: Vec<Position>,
@@ -51,11 +51,17 @@ pub fn places_of<'a>(
     })
 }
 
-/// The index of the entry of this number.
-fn index_of(number: u16) -> usize
-    ensures { result ≡ number - 1 }
+/// The key that a setting is.
+pub fn key_of(setting: Setting) -> Key
+    ensures { result ≡ setting_key setting }
 {
-    usize::from(number).saturating_sub(1)
+    match setting {
+        Setting::Broadcast => Key::Broadcast,
+        Setting::Wraparound => Key::Wraparound,
+        Setting::AcceptBusControl => Key::AcceptBusControl,
+        Setting::Vector => Key::Vector,
+        Setting::Bit => Key::Bit,
+    }
 }
 
 impl Places<'_> {
@@ -85,6 +91,20 @@ impl Places<'_> {
         }
     }
 
+    /// The statement that gives the text what may have no effect.
+    fn spare_statement(&self, spare: SparePlace) -> Option<usize>
+        ensures gives { IsPlace (has_spare spare) self.now.statements.now result }
+        ensures within { IfSome result (λ j. j < length self.now.statements.now) }
+    {
+        match spare {
+            SparePlace::Key(setting) => key_place(self.statements, key_of(setting).name()),
+            SparePlace::Rule(index) => self.rules.entry(index),
+            SparePlace::Mode(index) => self.modes.entry(index),
+            SparePlace::Initial(index) => self.initials.entry(index),
+            SparePlace::Word(index, _) => self.initials.name(index, Key::Words.name()),
+        }
+    }
+
     /// Where the statement of this index begins.
     fn statement_position(&self, statement: Option<usize>) -> Option<Position>
         requires { IfSome statement (λ j. j < length self.now.statements.now) }
@@ -98,8 +118,7 @@ impl Places<'_> {
 
     /// Where an entry begins; the root begins with the text.
     pub fn part_position(&self, part: Part) -> Option<Position>
-        ensures root { part ≡ Root → result ≡ Some (position_in self.now.text.now 0) }
-        ensures entry { (tree : Members) → IsTree self.now.text.now tree → has_entry part tree ≡ true → IsSomeAnd result (IsPositionOf (has_entry part) self.now.text.now) }
+        ensures { IsAtPart part self.now.text.now result }
     {
         if part == Part::Root {
             return Some(position_at(self.text, 0));
@@ -109,9 +128,16 @@ impl Places<'_> {
 
     /// Where a key of the root or of an entry stands: the statement that gives it.
     pub fn key_position(&self, part: Part, name: &str) -> Option<Position>
-        ensures { (tree : Members) → IsTree self.now.text.now tree → has_key part name.now tree ≡ true → IsSomeAnd result (IsPositionOf (has_key part name.now) self.now.text.now) }
+        ensures { IsAtKey part name.now self.now.text.now result }
     {
         self.statement_position(self.key_statement(part, name))
+    }
+
+    /// Where what may have no effect stands: a key of the root, an entry, or of a word the words of its entry.
+    pub fn spare_position(&self, spare: SparePlace) -> Option<Position>
+        ensures { IsAt (has_spare spare) self.now.text.now result }
+    {
+        self.statement_position(self.spare_statement(spare))
     }
 
     /// The first key of a part, in the order of the text, that is none of these; None where there is none, or where an array is

@@ -7,11 +7,10 @@ ghost use Rattle.spare_entries.specs.Without.{SparesWord};
 ghost use Rattle.spare_entries.specs.Spares.{is_default, GivesWord, IsSpare, IsSpareInitial, initial_places, places_of, setting_places};
 ghost use Rattle.rt1553_lint.specs.Findings.{Warns, subjects, warning_of};
 
-use crate::finding::{Finding, Position};
-use crate::places::Places;
-use crate::tree::numbered;
+use crate::finding::Finding;
+use crate::places::key_of;
 use bus_legal::{Normal, normalise};
-use bus_profile::{InitialWords, Key, Part, Profile};
+use bus_profile::{InitialWords, Profile};
 use bus_word::{WRAPAROUND_SUBADDRESS, has_bit};
 use spare_entries::{
     InitialSpares, Setting, SparePlace, covered_rules, is_spare_setting, spare_initials,
@@ -19,23 +18,11 @@ use spare_entries::{
 };
 use std::alloc::{AllocError, Global};
 
-/// A profile that is judged: where its text has what, and what it means.
+/// A profile that is judged, and what it means.
 #[derive(Clone, Copy)]
 struct Judged<'a> {
-    places: &'a Places<'a>,
     profile: &'a Profile,
     normal: &'a Normal,
-}
-
-/// The key that a setting is.
-fn key_of(setting: Setting) -> Key {
-    match setting {
-        Setting::Broadcast => Key::Broadcast,
-        Setting::Wraparound => Key::Wraparound,
-        Setting::AcceptBusControl => Key::AcceptBusControl,
-        Setting::Vector => Key::Vector,
-        Setting::Bit => Key::Bit,
-    }
 }
 
 /// Whether the setting has its default.
@@ -51,17 +38,16 @@ fn is_default(profile: &Profile, setting: Setting) -> bool
     }
 }
 
-/// Adds a warning.
+/// Adds a warning, without its position.
 fn push_warning(
     findings: &mut Vec<Finding>,
-    position: Option<Position>,
     spare: SparePlace,
     message: String,
 ) -> Result<(), AllocError>
     ensures { OnOk result (subjects findings.new.items ≡ subjects findings.old.items ++ warning_of spare ∷ []) }
 {
     findings.push(Finding {
-        position,
+        position: None,
         fault: None,
         spare: Some(spare),
         message,
@@ -86,8 +72,7 @@ fn push_setting(
     }
     let key = key_of(setting);
     let message = format!(in alloc; "{key} has no effect: {}", why_setting(setting))?;
-    let position = judged.places.key_position(Part::Root, key.name());
-    push_warning(findings, position, SparePlace::Key(setting), message)?;
+    push_warning(findings, SparePlace::Key(setting), message)?;
     Ok(())
 }
 
@@ -130,8 +115,7 @@ fn push_rule(
         is_covered,
     );
     let message = format!(in alloc; "rule {number} has no effect: {why}")?;
-    let position = judged.places.part_position(numbered(Key::Rule, index));
-    push_warning(findings, position, SparePlace::Rule(index), message)?;
+    push_warning(findings, SparePlace::Rule(index), message)?;
     Ok(())
 }
 
@@ -177,8 +161,7 @@ fn push_mode(
     let number = index.saturating_add(1);
     let why = why_mode(judged.profile, &modes[index], &modes[index + 1..]);
     let message = format!(in alloc; "mode {number} has no effect: {why}")?;
-    let position = judged.places.part_position(numbered(Key::Mode, index));
-    push_warning(findings, position, SparePlace::Mode(index), message)?;
+    push_warning(findings, SparePlace::Mode(index), message)?;
     Ok(())
 }
 
@@ -233,10 +216,7 @@ fn push_word(
         index.saturating_add(1),
         word.saturating_add(1)
     )?;
-    let position = judged
-        .places
-        .key_position(numbered(Key::Initial, index), Key::Words.name());
-    push_warning(findings, position, SparePlace::Word(index, word), message)?;
+    push_warning(findings, SparePlace::Word(index, word), message)?;
     Ok(())
 }
 
@@ -281,8 +261,7 @@ fn push_initial(
     let why = why_initial(judged.normal, &entry);
     let number = index.saturating_add(1);
     let message = format!(in alloc; "initial {number} has no effect: {why}")?;
-    let position = judged.places.part_position(numbered(Key::Initial, index));
-    push_warning(findings, position, SparePlace::Initial(index), message)?;
+    push_warning(findings, SparePlace::Initial(index), message)?;
     Ok(())
 }
 
@@ -301,16 +280,11 @@ fn push_initials(
     Ok(())
 }
 
-/// The warnings of a profile, in the order of its keys and entries.
-pub fn warnings_of(
-    alloc: Global,
-    places: &Places<'_>,
-    profile: &Profile,
-) -> Result<Vec<Finding>, AllocError>
+/// The warnings of a profile, in the order of its keys and entries, without their positions.
+pub fn warnings_of(alloc: Global, profile: &Profile) -> Result<Vec<Finding>, AllocError>
     ensures { IfOk result (λ found. Warns profile.now (places_of profile.now) [] found.items) }
 {
     let judged = Judged {
-        places,
         profile,
         normal: &normalise(profile),
     };

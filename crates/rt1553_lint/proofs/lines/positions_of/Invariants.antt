@@ -1,4 +1,4 @@
-use Rattle.std.proofs.Common.{◌≡◌, ◌≤◌, take, map, length}
+use Rattle.std.proofs.Common.{◌≡◌, take, map}
 use Rattle.rt1553_lint.specs.Positions.{position_in}
 use Rattle.rt1553_lint.proofs.lines.positions_of.Given as goal
 

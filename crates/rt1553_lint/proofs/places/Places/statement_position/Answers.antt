@@ -1,4 +1,4 @@
-use Rattle.std.proofs.Common.{Some, IfSome, ◌<◌, length, get_or, ap, subst, sym, ◌∙◌}
+use Rattle.std.proofs.Common.{Some, IfSome, ◌<◌, length, get_or, ap, subst, ◌∙◌}
 use Rattle.rt1553_lint.proofs.PlaceLaws.{placed_at}
 use Rattle.rt1553_lint.proofs.places.Places.statement_position.Goals as goal
 
