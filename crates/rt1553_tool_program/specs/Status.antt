@@ -1,5 +1,5 @@
 -- The statuses that the program ends with.
-use Rattle.std.specs.Prelude.{ℕ, ◌≡◌, ◌≤◌, ◌⊎◌, ◌==◌, if◌then◌else◌, List, [], ◌∷◌, is_some, length}
+use Rattle.std.specs.Prelude.{ℕ, ◌≡◌, ◌≤◌, ◌⊎◌, ◌==◌, if◌then◌else◌, List, [], ◌∷◌, Option, Some, None, is_some, length}
 use Rattle.std.specs.List.{list_any}
 use Rattle.bus_legal.specs.Parts.{Parts}
 use Rattle.rt1553.specs.Load.{Reaches}
@@ -8,7 +8,10 @@ use Rattle.rt1553_draw.specs.declared.fault.DrawFault.TheVariants as draw
 use Rattle.rt1553_lint.specs.declared.finding.Finding.{Finding}
 use Rattle.rt1553_results.specs.declared.comparing.CompareFault.TheVariants as compare
 use Rattle.rt1553_results.specs.declared.results.ResultsFault.TheVariants as results
+use Rattle.rt1553_verify.specs.declared.stated.StatedFault.{StatedFault}
 use Rattle.rt1553_verify.specs.declared.stated.StatedFault.TheVariants as stated
+use Rattle.script_lines.specs.Text.{lines_of}
+use Rattle.refused_lines.specs.Refused.{refused_from}
 use Rattle.rt1553_tool_args.specs.declared.command.ToolCommand.{ToolCommand}
 use Rattle.rt1553_tool_args.specs.declared.command.ToolCommand.TheVariants as tool
 use Rattle.rt1553_expand.specs.declared.expanding.Expanded.{Expanded}
@@ -89,3 +92,22 @@ expansion_status _ = 2
 -- `expand` ends with the status of what a text is expanded to
 abbrev pub EndsExpansion : List ℕ → ℕ → Type 0
 EndsExpansion text status = (expanded : Expanded) × IsExpansion text expanded × (status ≡ expansion_status expanded)
+
+-- the line of which a fault tells that it is refused
+abbrev pub line_told : ToolFault → Option ℕ
+line_told (Line name line) = Some line.line
+line_told _ = None
+
+-- of the lines of a script that are refused the first is told; where there is none, the fault is the other one
+abbrev pub TellsFirst : List ℕ → ToolFault → ToolFault → Type 0
+TellsFirst [] other fault = fault ≡ other
+TellsFirst (n ∷ ns) other fault = line_told fault ≡ Some n
+
+-- the same of a script, where memory may run out
+abbrev pub TellsRefused : List ℕ → ToolFault → ToolFault → Type 0
+TellsRefused script other fault = (fault ≡ Memory) ⊎ TellsFirst (refused_from 1 (lines_of script)) other fault
+
+-- the status of a script that is not read
+abbrev pub stated_status : StatedFault → ℕ
+stated_status stated.Memory = 4
+stated_status _ = 2

@@ -1,5 +1,6 @@
 //! The command `acceptance`: the test that tells a terminal from every other, and what a unit answered to it.
-ghost use Rattle.std.specs.Prelude.{◌≡◌, IfOk, ◌≤◌};
+ghost use Rattle.std.specs.Prelude.{◌≡◌, IfOk, ◌≤◌, List, ℕ};
+ghost use Rattle.rt1553_results.specs.Results.{SaysResults};
 
 use crate::fault::{DIFFERENT, ToolFault};
 use crate::files::{load_profile, named_json, read_script_file, shown, write_bytes};
@@ -152,7 +153,9 @@ pub fn write_test<R: Files + AllocGlobal + Eprint, W: Write>(
 }
 
 /// The results of a unit, of the file of this name.
-fn load_results<R: Files + AllocGlobal>(rt: &R, name: &str) -> Result<Results, ToolFault> {
+fn load_results<R: Files + AllocGlobal>(rt: &R, name: &str) -> Result<Results, ToolFault>
+    ensures { IfOk result (λ results. (text : List ℕ) × SaysResults text results) }
+{
     let bytes = read_script_file(rt, name)?;
     match read_results(rt.alloc(), bytes.as_slice()) {
         Ok(results) => Ok(results),
@@ -160,44 +163,43 @@ fn load_results<R: Files + AllocGlobal>(rt: &R, name: &str) -> Result<Results, T
     }
 }
 
-/// Writes a reply that is not that of the terminal, with the name of its message, where it has one.
-fn put_reply<W: Write>(
+/// Adds a reply that is not that of the terminal, with the name of its message, where it has one.
+fn push_reply(
     alloc: Global,
+    text: &mut String,
     names: Option<&MessageNames>,
     reply: &WrongReply,
-    output: &mut W,
-) -> Result<(), ToolFault> {
+) -> Result<(), AllocError> {
     let name = match names {
         Some(names) => name_of_command(names, reply.command),
         None => None,
     };
-    let done = match name {
+    match name {
         Some(name) => {
             let name = quoted(alloc, name)?;
             let name = name.as_str();
-            writeln!(output, "{}", NamedReply { reply, name })
+            writeln!(text, "{}", NamedReply { reply, name })
         }
-        None => writeln!(output, "{reply}"),
-    };
-    done.map_err(|_| ToolFault::Output)
+        None => writeln!(text, "{reply}"),
+    }
 }
 
-/// Writes what a comparison tells, and the verdict.
+/// Writes what a comparison tells, and the verdict, at once.
 fn put_comparison<W: Write>(
     alloc: Global,
     names: Option<&MessageNames>,
     comparison: &Comparison,
     output: &mut W,
 ) -> Result<(), ToolFault> {
+    let mut text = String::new(alloc);
     for reply in comparison.wrong_replies.as_slice() {
-        put_reply(alloc, names, reply, output)?;
+        push_reply(alloc, &mut text, names, reply)?;
     }
     for numbers in comparison.missing.as_slice() {
-        if writeln!(output, "{numbers}").is_err() {
-            return Err(ToolFault::Output);
-        }
+        writeln!(text, "{numbers}")?;
     }
-    writeln!(output, "{comparison}").map_err(|_| ToolFault::Output)
+    writeln!(text, "{comparison}")?;
+    write_bytes(output, text.as_str().as_bytes())
 }
 
 /// Compares the results of a unit with the acceptance test of the terminal of a profile. The status tells whether the unit is

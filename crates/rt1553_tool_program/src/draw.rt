@@ -1,5 +1,10 @@
 //! The command `draw`: a run as a drawing.
-ghost use Rattle.std.specs.Prelude.{◌≡◌, IfOk};
+ghost use Rattle.std.specs.Prelude.{◌≡◌, IfOk, List, ℕ, None};
+ghost use Rattle.script_lines.specs.Text.{lines_of};
+ghost use Rattle.bus_script.specs.Reading.{reading};
+ghost use Rattle.rt1553_draw.specs.Refused.{refusal};
+ghost use Rattle.rt1553_tool_program.specs.declared.loaded.LoadedScript.{LoadedScript};
+ghost use Rattle.rt1553_tool_program.specs.Loaded.{IsScriptOf};
 
 use crate::fault::ToolFault;
 use crate::files::{load_profile, shown, write_bytes};
@@ -22,7 +27,9 @@ fn draw_file<R: Files + AllocGlobal>(
     name: &str,
     expand: bool,
     folded: bool,
-) -> Result<String, ToolFault> {
+) -> Result<String, ToolFault>
+    ensures { IfOk result (λ drawing. (text : List ℕ) × (script : LoadedScript) × IsScriptOf expand text script × (refusal (reading 0 (lines_of script.text.items)) ≡ None)) }
+{
     let script = load_script(rt, name, expand)?;
     let script = script.text.as_slice();
     let drawn = if folded {

@@ -1,5 +1,5 @@
 //! What all commands need of files and of the output.
-ghost use Rattle.std.specs.Prelude.{◌≤◌, IfOk, length};
+ghost use Rattle.std.specs.Prelude.{◌≡◌, ◌≤◌, IfErr, IfOk, length};
 ghost use Rattle.rt1553_tool_program.specs.Status.{IsLoaded};
 
 use crate::fault::ToolFault;
@@ -10,8 +10,10 @@ use rt1553_report::in_ascii;
 use std::io::Write;
 use std::rt::Files;
 
-/// A name as it is printed.
-pub fn shown<R: AllocGlobal>(rt: &R, name: &str) -> Result<String, ToolFault> {
+/// A name as it is printed. The only error is out of memory.
+pub fn shown<R: AllocGlobal>(rt: &R, name: &str) -> Result<String, ToolFault>
+    ensures { IfErr result (λ fault. fault ≡ ToolFault.Memory) }
+{
     Ok(escaped(rt.alloc(), name.as_bytes())?)
 }
 

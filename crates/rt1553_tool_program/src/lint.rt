@@ -13,26 +13,25 @@ use std::alloc::Global;
 use std::io::Write;
 use std::rt::Files;
 
-/// Writes what was found in the file of this name, or of this name as it is printed.
-fn put_finding<R: AllocGlobal, W: Write>(
+/// Adds the line of a finding in the file of this name, or of this name as it is printed.
+fn push_finding<R: AllocGlobal>(
     rt: &R,
+    text: &mut String,
     name: &str,
     shown_name: &str,
     finding: &Finding,
     as_json: bool,
-    output: &mut W,
 ) -> Result<(), ToolFault> {
     if as_json {
         let Some(json) = finding.to_json(rt.alloc(), name) else {
             return Err(ToolFault::Memory);
         };
         let line = json_line(in_ascii(rt.alloc(), json.as_str()).ok())?;
-        return write_bytes(output, line.as_str().as_bytes());
+        text.push_str(line.as_str())?;
+    } else {
+        writeln!(text, "{shown_name}:{finding}")?;
     }
-    match writeln!(output, "{shown_name}:{finding}") {
-        Ok(()) => Ok(()),
-        Err(_) => Err(ToolFault::Output),
-    }
+    Ok(())
 }
 
 /// Whether one of them is an error.
@@ -60,7 +59,7 @@ fn status_of_findings(findings: &[Finding]) -> u8
     }
 }
 
-/// Writes what was found in the file of this name, each in a line.
+/// Writes what was found in the file of this name, each in a line, at once.
 fn put_findings<R: AllocGlobal, W: Write>(
     rt: &R,
     name: &str,
@@ -69,10 +68,11 @@ fn put_findings<R: AllocGlobal, W: Write>(
     output: &mut W,
 ) -> Result<(), ToolFault> {
     let shown_name = shown(rt, name)?;
+    let mut text = String::new(rt.alloc());
     for finding in findings {
-        put_finding(rt, name, shown_name.as_str(), finding, as_json, output)?;
+        push_finding(rt, &mut text, name, shown_name.as_str(), finding, as_json)?;
     }
-    Ok(())
+    write_bytes(output, text.as_str().as_bytes())
 }
 
 /// Writes what is found in a file, or keeps it for a document of all files, and gives the status to end with.

@@ -1,6 +1,6 @@
 //! Scripts of files: as they stand there, or expanded.
-ghost use Rattle.std.specs.Prelude.{◌≡◌, IfOk, List, ℕ, option_map, true};
-ghost use Rattle.rt1553_tool_program.specs.Loaded.{IsScriptOf, line_in_file};
+ghost use Rattle.std.specs.Prelude.{◌≡◌, ◌⊎◌, IfOk, List, ℕ, option_map, true};
+ghost use Rattle.rt1553_tool_program.specs.Loaded.{IsScriptOf, TellsMessage, line_in_file};
 
 use crate::fault::ToolFault;
 use crate::files::{read_script_file, shown};
@@ -33,7 +33,9 @@ impl LoadedScript {
 }
 
 /// The fault of the first line of events and messages that is refused.
-fn message_fault<R: AllocGlobal>(rt: &R, name: &str, refused: &[UnexpandedLine]) -> ToolFault {
+fn message_fault<R: AllocGlobal>(rt: &R, name: &str, refused: &[UnexpandedLine]) -> ToolFault
+    ensures { (result ≡ ToolFault.Memory) ⊎ TellsMessage refused.now result }
+{
     let Some(line) = refused.first() else {
         return ToolFault::Memory;
     };

@@ -2,12 +2,13 @@
 ghost use Rattle.std.specs.Prelude.{◌≡◌, ◌≤◌, IfOk, List, ℕ};
 ghost use Rattle.script_lines.specs.Text.{lines_of};
 ghost use Rattle.refused_lines.specs.Refused.{refused_from};
-ghost use Rattle.rt1553_tool_program.specs.Status.{lines_status};
+ghost use Rattle.rt1553_tool_program.specs.Status.{TellsRefused, lines_status};
 
 use crate::fault::{REFUSED, ToolFault};
-use crate::files::{read_script_file, shown};
+use crate::files::{read_script_file, shown, write_bytes};
 use crate::worst::{status_or_stop, worst};
 use refused_lines::{RefusedLine, refused_lines};
+use std::alloc::AllocError;
 use std::io::Write;
 use std::rt::Files;
 
@@ -17,7 +18,9 @@ pub fn first_refused<R: AllocGlobal>(
     name: &str,
     script: &[u8],
     other: ToolFault,
-) -> ToolFault {
+) -> ToolFault
+    ensures { TellsRefused script.now other result }
+{
     let found = match refused_lines(rt.alloc(), script) {
         Ok(found) => found,
         Err(_) => return ToolFault::Memory,
@@ -31,19 +34,14 @@ pub fn first_refused<R: AllocGlobal>(
     }
 }
 
-/// Writes a line of the file of this name that is refused, and why.
-fn put_refused<W: Write>(
-    name: &str,
-    refused: &RefusedLine,
-    output: &mut W,
-) -> Result<(), ToolFault> {
+/// Adds a line of the file of this name that is refused, and why.
+fn push_refused(text: &mut String, name: &str, refused: &RefusedLine) -> Result<(), AllocError> {
     let (line, column) = (refused.line, refused.misfit.column);
     writeln!(
-        output,
+        text,
         "{name}:{line}:{column}: error: {}",
         refused.misfit.reason
     )
-    .map_err(|_| ToolFault::Output)
 }
 
 /// Writes each line of a script that is refused, and gives the status to end with.
@@ -57,9 +55,11 @@ fn check_script<R: Files + AllocGlobal, W: Write>(
     let script = read_script_file(rt, name)?;
     let found = refused_lines(rt.alloc(), script.as_slice())?;
     let name = shown(rt, name)?;
+    let mut text = String::new(rt.alloc());
     for refused in found.as_slice() {
-        put_refused(name.as_str(), refused, output)?;
+        push_refused(&mut text, name.as_str(), refused)?;
     }
+    write_bytes(output, text.as_str().as_bytes())?;
     Ok(if found.is_empty() { 0 } else { REFUSED })
 }
 

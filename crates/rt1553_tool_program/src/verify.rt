@@ -1,8 +1,8 @@
 //! The command `verify`: scripts that state their answers are played.
-ghost use Rattle.std.specs.Prelude.{◌≤◌, ◌==◌, IfOk, length};
+ghost use Rattle.std.specs.Prelude.{◌≡◌, ◌⊎◌, ◌≤◌, ◌==◌, IfOk, length};
 ghost use Rattle.bus_legal.specs.Parts.{Parts};
 ghost use Rattle.rt1553_tool_program.specs.Passing.{IsPlayedTo, SaysOf};
-ghost use Rattle.rt1553_tool_program.specs.Status.{IsLoaded};
+ghost use Rattle.rt1553_tool_program.specs.Status.{IsLoaded, stated_status, tool_status};
 
 use crate::colours::{Ink, put_in};
 use crate::compared::compare_script;
@@ -123,7 +123,8 @@ fn put_wrong_answer<W: Write>(
 ) -> Result<(), ToolFault> {
     let told = difference_told(alloc, wrong, message)?;
     let told = told.as_str();
-    writeln!(output, "{name}:{line}: {told}").map_err(|_| ToolFault::Output)
+    let text = format!(in alloc; "{name}:{line}: {told}\n")?;
+    write_bytes(output, text.as_str().as_bytes())
 }
 
 /// Writes how many answers of a file differ, or, where it is asked for, that it passes with so many.
@@ -157,7 +158,9 @@ fn script_fault<R: AllocGlobal>(
     name: &str,
     script: &LoadedScript,
     fault: StatedFault,
-) -> ToolFault {
+) -> ToolFault
+    ensures { (result ≡ ToolFault.Memory) ⊎ (tool_status result ≡ stated_status fault) }
+{
     let fault = match fault {
         StatedFault::Misplaced(line) => StatedFault::Misplaced(script.line_in_file(line)),
         other => other,
