@@ -8,7 +8,7 @@ use crate::fault::{REFUSED, ToolFault};
 use crate::files::{read_script_file, shown, write_bytes};
 use crate::worst::{status_or_stop, worst};
 use refused_lines::{RefusedLine, refused_lines};
-use std::alloc::AllocError;
+use std::alloc::Global;
 use std::io::Write;
 use std::rt::Files;
 
@@ -34,14 +34,16 @@ pub fn first_refused<R: AllocGlobal>(
     }
 }
 
-/// Adds a line of the file of this name that is refused, and why.
-fn push_refused(text: &mut String, name: &str, refused: &RefusedLine) -> Result<(), AllocError> {
-    let (line, column) = (refused.line, refused.misfit.column);
-    writeln!(
-        text,
-        "{name}:{line}:{column}: error: {}",
-        refused.misfit.reason
-    )
+/// Writes a line of the file of this name that is refused, and why.
+fn put_refused<W: Write>(
+    alloc: Global,
+    name: &str,
+    refused: &RefusedLine,
+    output: &mut W,
+) -> Result<(), ToolFault> {
+    let (line, column, reason) = (refused.line, refused.misfit.column, refused.misfit.reason);
+    let text = format!(in alloc; "{name}:{line}:{column}: error: {reason}\n")?;
+    write_bytes(output, text.as_str().as_bytes())
 }
 
 /// Writes each line of a script that is refused, and gives the status to end with.
@@ -55,11 +57,9 @@ fn check_script<R: Files + AllocGlobal, W: Write>(
     let script = read_script_file(rt, name)?;
     let found = refused_lines(rt.alloc(), script.as_slice())?;
     let name = shown(rt, name)?;
-    let mut text = String::new(rt.alloc());
     for refused in found.as_slice() {
-        push_refused(&mut text, name.as_str(), refused)?;
+        put_refused(rt.alloc(), name.as_str(), refused, output)?;
     }
-    write_bytes(output, text.as_str().as_bytes())?;
     Ok(if found.is_empty() { 0 } else { REFUSED })
 }
 
