@@ -4,3 +4,4 @@ mod WroteLaws
 mod FeedLaws
 mod ReadLaws
 mod ExpandLaws
+mod SlotLaws

@@ -16,6 +16,7 @@ use Rattle.rt1553_expand.specs.Message.{SaidMessage}
 abbrev pub word_event : Bus → WordFields → Event
 word_event bus f = event.Word bus (valid_word (sync_of f) (bits_with f))
 
+-- the valid data words of these bits come on the bus, one after another
 abbrev pub data_events : Bus → List ℕ → List Event
 data_events bus words = map (λ word. word_event bus (fields.Data word)) words
 

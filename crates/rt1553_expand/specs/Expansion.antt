@@ -21,6 +21,7 @@ pub record Expansion : Type 0 where
   pub events : List Event
   pub lines : ℕ
 
+-- the event that a line of a script says; an empty line and a comment say none
 abbrev pub events_said : Option Event → List Event
 events_said None = []
 events_said (Some e) = e ∷ []
@@ -33,14 +34,17 @@ kept line said = record { text = line ++ 10 ∷ []; events = events_said said; l
 abbrev pub from_events : List Event → Expansion
 from_events es = record { text = script_text es; events = es; lines = length es }
 
+-- a message on the bus gives the lines of its events, unless it has a fault
 abbrev pub message_expansion : Bus → Result SaidMessage ExpandFault → Result Expansion ExpandFault
 message_expansion bus (Err fault) = Err fault
 message_expansion bus (Ok message) = Ok (from_events (message_events bus message))
 
+-- a message begins with the letter of a bus; a line without one is no message
 abbrev pub by_bus_letter : Option Bus → List ℕ → Result Expansion ExpandFault
 by_bus_letter None text = Err Neither
 by_bus_letter (Some bus) text = message_expansion bus (message_in text)
 
+-- a line of a script stays, unless it is a comment too long for a script; any other line is read as a message
 abbrev pub by_meaning : List ℕ → Result (Option Event) LineFault → Result Expansion ExpandFault
 by_meaning line (Ok said) = if nat_lt 64 (length line) then Err LongComment else Ok (kept line said)
 by_meaning line (Err fault) = by_bus_letter (bus_first line) (drop 2 line)
@@ -49,14 +53,17 @@ by_meaning line (Err fault) = by_bus_letter (bus_first line) (drop 2 line)
 abbrev pub expansion_of : List ℕ → Result Expansion ExpandFault
 expansion_of line = if nat_lt 256 (length line) then Err Long else by_meaning line (meaning line)
 
+-- the lines that a line of the text adds to the script: none where it is refused
 abbrev pub expanded_text : Result Expansion ExpandFault → List ℕ
 expanded_text (Ok expansion) = expansion.text
 expanded_text (Err fault) = []
 
+-- the events that it adds: none where it is refused
 abbrev pub expanded_events : Result Expansion ExpandFault → List Event
 expanded_events (Ok expansion) = expansion.events
 expanded_events (Err fault) = []
 
+-- how many lines it adds: none where it is refused
 abbrev pub expanded_lines : Result Expansion ExpandFault → ℕ
 expanded_lines (Ok expansion) = expansion.lines
 expanded_lines (Err fault) = 0
@@ -78,6 +85,7 @@ pub record Refusal : Type 0 where
   pub line : ℕ
   pub fault : ExpandFault
 
+-- the line of this number, if it is refused
 abbrev pub refusal_at : ℕ → Result Expansion ExpandFault → List Refusal
 refusal_at n (Ok expansion) = []
 refusal_at n (Err fault) = record { line = n; fault = fault } ∷ []
@@ -91,6 +99,7 @@ refusals_from n (line ∷ lines) = refusal_at n (expansion_of line) ++ refusals_
 abbrev pub refusals_in : List ℕ → List Refusal
 refusals_in text = refusals_from 1 (lines_of text)
 
+-- the number and the fault of a line that is returned as refused; its column is left out
 abbrev pub refusal_of : UnexpandedLine → Refusal
 refusal_of line = record { line = line.line; fault = line.fault }
 

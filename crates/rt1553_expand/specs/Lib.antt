@@ -1,5 +1,6 @@
 pub mod Message
 pub mod Events
+pub mod Slots
 pub mod Expansion
 pub mod Sources
 pub mod inner

@@ -14,8 +14,8 @@ use Rattle.rt1553_tool.specs.WordLines.{SaidWord, word_line}
 use Rattle.rt1553_expand.specs.declared.fault.ExpandFault.{ExpandFault}
 use Rattle.rt1553_expand.specs.declared.fault.ExpandFault.TheVariants.{Comment, Word, ByDigits, NotReceive, Sender, DataWord, Much}
 
--- what follows, unless there is a fault
 infixl 10 ◌>>=◌
+-- what follows, unless there is a fault
 abbrev pub ◌>>=◌ : {A B : Type 0} → Result A ExpandFault → (A → Result B ExpandFault) → Result B ExpandFault
 Err fault >>= f = Err fault
 Ok x >>= f = f x
@@ -30,6 +30,7 @@ abbrev pub cut_here : ℕ → Option (List ℕ) → Cut → Cut
 cut_here b (Some rest) later = record { front = []; behind = Some rest }
 cut_here b None later = record { front = b ∷ later.front; behind = later.behind }
 
+-- a text, cut where the mark comes first
 unfoldable pub cut : List ℕ → List ℕ → Cut
 cut mark [] = record { front = []; behind = None }
 cut mark (b ∷ bytes) = cut_here b (after mark (b ∷ bytes)) (cut mark bytes)
@@ -56,6 +57,7 @@ not_itself receiver (fields.Command sender) = if (sender.address == 31) || (send
 not_itself receiver (fields.Status f) = Err Sender
 not_itself receiver (fields.Data bits) = Err Sender
 
+-- the command to the terminal that sends: any fault in its words is the fault of the sender
 abbrev pub another_terminal : CommandFields → Result SaidWord WordLineFault → Result (Option CommandFields) ExpandFault
 another_terminal receiver (Err fault) = Err Sender
 another_terminal receiver (Ok said) = not_itself receiver said.fields
@@ -74,6 +76,7 @@ words_wanted (fields.Command f) = expected (bits_with (fields.Command f))
 words_wanted (fields.Status f) = 0
 words_wanted (fields.Data bits) = 0
 
+-- the data words, where the text ends behind the last of them
 abbrev pub nothing_behind : Option (List ℕ × List ℕ) → Result (List ℕ) ExpandFault
 nothing_behind None = Err DataWord
 nothing_behind (Some (words, [])) = Ok words
@@ -83,6 +86,7 @@ nothing_behind (Some (words, b ∷ rest)) = Err Much
 abbrev pub data_in : ℕ → List ℕ → Result (List ℕ) ExpandFault
 data_in count text = nothing_behind (fields_at (replicate count word) text)
 
+-- a message without a colon has an empty list of data words
 abbrev pub or_nothing : Option (List ℕ) → List ℕ
 or_nothing None = []
 or_nothing (Some text) = text
@@ -95,6 +99,7 @@ message_of text from colon = do
   words ← data_in (words_wanted first) (or_nothing colon)
   Ok (record { first = first; sender = sender; words = words })
 
+-- the parts of a message: the first cut is at `from`, the second at the colon
 abbrev pub message_by_cuts : Cut → Cut → Result SaidMessage ExpandFault
 message_by_cuts head whole = message_of head.front head.behind whole.behind
 

@@ -64,7 +64,7 @@ pub struct ScriptSoFar {
     pub lines: usize,
 }
 
-/// LinesRead a line that is no line of a script.
+/// Reads a line that is no line of a script.
 fn read_message_line(line: &[u8]) -> Result<ReadLine, ExpandFault>
     requires { length line.now ≤ 256 }
     ensures said { IfOk result (λ read. by_bus_letter (bus_first line.now) (drop 2 line.now) ≡ Ok (expansion_by line.now read)) }
@@ -78,7 +78,7 @@ fn read_message_line(line: &[u8]) -> Result<ReadLine, ExpandFault>
     Ok(ReadLine::Written(bus, message))
 }
 
-/// LinesRead a line.
+/// Reads a line.
 pub fn read_line(line: &[u8]) -> Result<ReadLine, ExpandFault>
     ensures said { IfOk result (λ read. expansion_of line.now ≡ Ok (expansion_by line.now read)) }
     ensures refused { IfErr result (λ fault. expansion_of line.now ≡ Err fault) }

@@ -4,6 +4,7 @@
 mod column;
 mod expanding;
 mod fault;
+pub mod laws;
 mod message;
 mod source;
 mod writing;

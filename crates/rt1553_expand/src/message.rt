@@ -51,7 +51,7 @@ pub fn cut<'a>(text: &'a [u8], mark: &[u8]) -> (&'a [u8], Option<&'a [u8]>)
     (text, None)
 }
 
-/// LinesRead the word that a message begins with.
+/// Reads the word that a message begins with.
 fn read_first(text: &[u8]) -> Result<WordFields, ExpandFault>
     ensures value { result ≡ named_word (word_line text.now) }
     ensures width { IfOk result AreOfWidth }
@@ -79,7 +79,7 @@ fn sender_line(receiver: CommandFields, text: &[u8]) -> ArrayVec<u8, 320>
     line
 }
 
-/// LinesRead what stands behind `from`, where this terminal receives.
+/// Reads what stands behind `from`, where this terminal receives.
 fn read_another(receiver: CommandFields, text: &[u8]) -> Result<Option<CommandFields>, ExpandFault>
     requires short { length text.now ≤ 256 }
     requires width { AreOfTheirWidth (in_word receiver) }
@@ -99,7 +99,7 @@ fn read_another(receiver: CommandFields, text: &[u8]) -> Result<Option<CommandFi
     }
 }
 
-/// LinesRead what stands behind `from`, and behind this word.
+/// Reads what stands behind `from`, and behind this word.
 fn read_sender(first: WordFields, text: Option<&[u8]>) -> Result<Option<CommandFields>, ExpandFault>
     requires short { IfSome text (λ t. length t.now ≤ 256) }
     requires width { AreOfWidth first }
@@ -129,7 +129,7 @@ pub fn words_wanted(first: WordFields) -> u8
     }
 }
 
-/// LinesRead so many data words, each behind a space, and nothing else.
+/// Reads this many data words, each behind a space, and nothing else.
 fn read_data(count: u8, text: &[u8]) -> Result<Words, ExpandFault>
     requires { count ≤ 32 }
     ensures said { IfOk result (λ words. data_in count text.entry.now ≡ Ok words.items) }
@@ -150,7 +150,7 @@ fn read_data(count: u8, text: &[u8]) -> Result<Words, ExpandFault>
     Ok(words)
 }
 
-/// LinesRead a message by its parts: up to `from` or the colon, behind `from`, and behind a colon.
+/// Reads a message by its parts: up to `from` or the colon, behind `from`, and behind a colon.
 fn read_parts(
     text: &[u8],
     from: Option<&[u8]>,
@@ -172,7 +172,7 @@ fn read_parts(
     })
 }
 
-/// LinesRead a message, of which this stands behind the bus and its space.
+/// Reads a message, of which this stands behind the bus and its space.
 pub fn read_message(text: &[u8]) -> Result<BusMessage, ExpandFault>
     requires { length text.now ≤ 256 }
     ensures said { IfOk result (λ message. message_in text.now ≡ Ok (said_message message)) }

@@ -9,7 +9,10 @@ use Rattle.csv.proofs.RoundTrip.{read-write}
 use Rattle.bus_profile.specs.Gives.{profile_of}
 use Rattle.bus_legal.specs.Parts.{Parts, IsNormal}
 use Rattle.rt1553_import.specs.declared.sheet.Sheet.{Sheet}
-use Rattle.rt1553_import.specs.Reading.{table_config, row_fields, IsSheetOf}
+use Rattle.csv_rows.specs.Csv.{IsCsv}
+use Rattle.csv_rows.specs.Rows.{AreRows}
+use Rattle.csv_rows.proofs.WrittenLaws.{no_rows, written_row}
+use Rattle.rt1553_import.specs.Reading.{delimiter_of, row_fields, IsSheetOf}
 use Rattle.rt1553_toml.specs.inner.FullTree.{from_number}
 use Rattle.rt1553_toml.proofs.TreeFaults.{AllIn, AllIn-append, length-map, length-from_number}
 use Rattle.rt1553_toml.proofs.TreeMeaning.{full_tree_gives}
@@ -71,8 +74,8 @@ header_line : row_bytes header_cells ≡ codes "kind,value,subaddress,words,code
 unfolding row_bytes fields_text is_blank
 header_line = refl
 
-commas : (v : Parts) → table_config (full_text v) ≡ default_config
-commas v = ap (λ line. table_config (line ++ rows_text (full_rows v))) header_line
+commas : (v : Parts) → delimiter_of (full_text v) ≡ 44
+commas v = ap (λ line. delimiter_of (line ++ rows_text (full_rows v))) header_line
 
 no_mark : (v : Parts) → strip_bom (full_text v) ≡ full_text v
 unfolding strip_bom
@@ -83,11 +86,19 @@ ends : next_record default_config StartRecord [] [] [] ≡ None
 unfolding next_record
 ends = refl
 
-records_are : (v : Parts) → AreRecords (table_config (full_text v)) StartRecord (strip_bom (full_text v)) (header_cells ∷ full_rows v)
-records_are v =
-    let plain : AreRecords default_config StartRecord (full_text v) (header_cells ∷ full_rows v) = (StartRecord, [], rows_read (header_cells ∷ full_rows v) (all_read v), ends) in
-    subst (λ cfg. AreRecords cfg StartRecord (strip_bom (full_text v)) (header_cells ∷ full_rows v)) (sym (commas v))
-    (subst (λ t. AreRecords default_config StartRecord t (header_cells ∷ full_rows v)) (sym (no_mark v)) plain)
+rows_csv : (rows : List (List (List ℕ))) → IsCsv 44 (rows_text rows)
+unfolding row_bytes
+rows_csv [] = no_rows
+rows_csv (row ∷ rows) = written_row row (rows_text rows) (rows_csv rows)
+
+rows_are : (v : Parts) → AreRows (delimiter_of (full_text v)) (full_text v) (header_cells ∷ full_rows v)
+rows_are v =
+    let rows = header_cells ∷ full_rows v in
+    let plain : AreRecords default_config StartRecord (full_text v) rows = (StartRecord, [], rows_read rows (all_read v), ends) in
+    subst (λ d. AreRows d (full_text v) rows) (sym (commas v)) (record {
+      csv = subst (IsCsv 44) (sym (no_mark v)) (rows_csv rows);
+      records = subst (λ t. AreRecords default_config StartRecord t rows) (sym (no_mark v)) plain;
+    })
 
 -- ---- a sheet with these rows
 
@@ -132,7 +143,7 @@ sheet_of block v is = record {
 
 sheet_read : (block : Vec ℕ Global) (v : Parts) (is : IsNormal v) → IsSheetOf (full_text v) (sheet_of block v is)
 unfolding sheet_of
-sheet_read block v is = record { records = header_cells ∷ full_rows v; read = records_are v; has = (row_made header_cells, rows_made (full_rows v)) }
+sheet_read block v is = record { records = header_cells ∷ full_rows v; read = rows_are v; has = (row_made header_cells, rows_made (full_rows v)) }
 
 -- the text is a table of the terminal
 pub full_is_table : (block : Vec ℕ Global) (v : Parts) → IsNormal v → IsTableOf (full_text v) v

@@ -26,8 +26,8 @@ text_says s text p reads accepts = record { profile = p; accepts = accepts; give
 pub same_says : (s : Sheet) (text named : List ℕ) (p q : Profile) → parse_document text ≡ Some (table_tree s) → Accepts text p → Accepts named q → plain q ≡ plain p → SaysTable s named
 same_says s text named p q reads accepts back same = record { profile = q; accepts = back; gives = same ∙ tree_same s text p reads accepts }
 
-pub no_table : (text : List ℕ) (f : ImportFault) → IsNoTable f → IsTableRefused text f
+pub no_table : (text : List ℕ) (f : ImportFault) → IsNoTable text f → IsTableRefused text f
 no_table text (Faults faults) is = absurd is
-no_table text (NotText line) is = tt
-no_table text NotCsv is = tt
-no_table text Memory is = tt
+no_table text (NotText line) is = is
+no_table text (NotCsv place) is = is
+no_table text Memory is = is

@@ -6,3 +6,4 @@ pub mod SameLaws
 pub mod SheetLaws
 pub mod TableLaws
 pub mod TreeLaws
+pub mod TextLaws

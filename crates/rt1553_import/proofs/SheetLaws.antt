@@ -20,7 +20,8 @@ use Rattle.rt1553_import.specs.declared.tree.Entry.TheVariants as entry
 use Rattle.rt1553_import.specs.Columns.{column_name, place_from, field_text, cell}
 use Rattle.rt1553_import.specs.Kinds.{kind_name}
 use Rattle.rt1553_import.specs.Cells.{has_no_text}
-use Rattle.rt1553_import.specs.Reading.{table_config, row_fields, HasRecords, IsSheetOf}
+use Rattle.csv_rows.specs.Rows.{csv_config}
+use Rattle.rt1553_import.specs.Reading.{delimiter_of, row_fields, HasRecords, IsSheetOf}
 use Rattle.rt1553_import.specs.Tree.{member_put, with_text, with_entries, words_data, is_kind, is_entry, entry_data, entries_of, value_in, setting_text, table_tree}
 
 -- ---- a text has no other records
@@ -134,5 +135,5 @@ parts_alike a b (p ∷ ps) (q ∷ qs) e x y =
 
 pub one_table : (text : List ℕ) (a b : Sheet) → IsSheetOf text a → IsSheetOf text b → table_tree a ≡ table_tree b
 one_table text a b x y =
-    let parts = parts_alike a b x.records y.records (records_one (table_config text) StartRecord (strip_bom text) x.records y.records x.read y.read) x.has y.has in
+    let parts = parts_alike a b x.records y.records (records_one (csv_config (delimiter_of text)) StartRecord (strip_bom text) x.records y.records x.read.records y.read.records) x.has y.has in
     tree_alike a b parts.0 (alike_from a.rows.items b.rows.items parts.1)

@@ -6,6 +6,7 @@ use Rattle.std.specs.Str.{bytes_eq}
 use Rattle.std.specs.Str.Parse.{digits_value}
 use Rattle.toml.specs.Data.{Data, string, integer, boolean}
 
+-- the text is empty
 abbrev pub has_no_text : List ℕ → Bool
 has_no_text [] = true
 has_no_text (b ∷ bs) = false
@@ -28,9 +29,11 @@ is_hexadecimal _ = false
 abbrev pub cell_number : List ℕ → Option ℕ
 cell_number text = if is_hexadecimal text then number_in 16 (drop 2 text) else number_in 10 text
 
+-- a spelling of true: `yes`, `true` or `TRUE`
 abbrev pub is_yes : List ℕ → Bool
 is_yes text = bytes_eq text (codes "yes") || bytes_eq text (codes "true") || bytes_eq text (codes "TRUE")
 
+-- a spelling of false: `no`, `false` or `FALSE`
 abbrev pub is_no : List ℕ → Bool
 is_no text = bytes_eq text (codes "no") || bytes_eq text (codes "false") || bytes_eq text (codes "FALSE")
 
@@ -42,6 +45,7 @@ cell_truth text = if is_yes text then Some true else if is_no text then Some fal
 abbrev pub cell_word : List ℕ → Option ℕ
 cell_word text = if nat_le (length text) 4 then number_in 16 text else None
 
+-- a word before others, if it is one and they are
 abbrev pub word_before : Option ℕ → Option (List ℕ) → Option (List ℕ)
 word_before (Some word) (Some words) = Some (word ∷ words)
 word_before _ _ = None
@@ -55,10 +59,12 @@ words_of_parts (part ∷ parts) = if has_no_text part then words_of_parts parts 
 abbrev pub cell_words : List ℕ → Option (List ℕ)
 cell_words text = words_of_parts (slice_split (λ b. b == 32) text)
 
+-- a boolean, or else the text itself
 abbrev pub value_or : Option Bool → List ℕ → Data
 value_or (Some b) text = boolean b
 value_or None text = string text
 
+-- a number, or else a boolean or the text itself
 abbrev pub value_from : Option ℕ → List ℕ → Data
 value_from (Some n) text = integer (pos n)
 value_from None text = value_or (cell_truth text) text

@@ -5,7 +5,7 @@ use Rattle.std.specs.Str.{bytes_eq, trim}
 use Rattle.csv.specs.Records.{fields_of, field_at}
 use Rattle.rt1553_import.specs.declared.column.TableColumn.{TableColumn}
 use Rattle.rt1553_import.specs.declared.column.TableColumn.TheVariants as column
-use Rattle.rt1553_import.specs.declared.fault.CellPlace.{CellPlace}
+use Rattle.csv_rows.specs.declared.place.CellPlace.{CellPlace}
 use Rattle.rt1553_import.specs.declared.sheet.Sheet.{Sheet}
 use Rattle.rt1553_import.specs.declared.sheet.TableRow.{TableRow}
 
@@ -21,6 +21,7 @@ column_name column.Initial = codes "initial"
 column_name column.Legal = codes "legal"
 column_name column.Name = codes "name"
 
+-- the known columns, in the order in which faults of a row are reported
 abbrev pub all_columns : List TableColumn
 all_columns = column.Kind ∷ column.Value ∷ column.Subaddress ∷ column.Words ∷ column.Code ∷ column.To ∷ column.Initial ∷ column.Legal ∷ column.Name ∷ []
 
@@ -42,6 +43,7 @@ abbrev pub trimmed_field : Option (List ℕ) → List ℕ
 trimmed_field None = []
 trimmed_field (Some field) = trim field
 
+-- the trimmed field at a place of a row; empty without a place
 abbrev pub field_text : List (List ℕ) → Option ℕ → List ℕ
 field_text fields None = []
 field_text fields (Some place) = trimmed_field (field_at fields place)

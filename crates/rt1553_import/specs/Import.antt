@@ -6,8 +6,9 @@ use Rattle.bus_profile.specs.Gives.{profile_of}
 use Rattle.bus_profile.specs.Read.{Accepts}
 use Rattle.rt1553_import.specs.declared.fault.TableFault.{TableFault}
 use Rattle.rt1553_import.specs.declared.fault.ImportFault.{ImportFault}
-use Rattle.rt1553_import.specs.declared.fault.ImportFault.TheVariants.{Faults, NotText, NotCsv, Memory}
+use Rattle.rt1553_import.specs.declared.fault.ImportFault.TheVariants.{Faults}
 use Rattle.rt1553_import.specs.declared.sheet.Sheet.{Sheet}
+use Rattle.rt1553_import.specs.NoTable.{IsNoTable}
 use Rattle.rt1553_import.specs.Reading.{IsSheetOf}
 use Rattle.rt1553_import.specs.Tree.{table_tree}
 use Rattle.rt1553_import.specs.Places.{told}
@@ -32,9 +33,7 @@ pub record HasFaults (table : List ℕ) (faults : List TableFault) : Type 0 wher
   pub all : faults ≡ told sheet
   pub some : 0 < length faults
 
--- Why a table is refused: its faults, or that it is no table; memory says nothing of it.
+-- why a table is refused: its faults, or that it is no table; want of memory says nothing of it
 abbrev pub IsTableRefused : List ℕ → ImportFault → Type 0
 IsTableRefused table (Faults faults) = HasFaults table faults.items
-IsTableRefused table (NotText line) = Unit {0}
-IsTableRefused table NotCsv = Unit {0}
-IsTableRefused table Memory = Unit {0}
+IsTableRefused table fault = IsNoTable table fault

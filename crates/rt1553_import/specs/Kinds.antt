@@ -20,6 +20,7 @@ kind_name kind.Transmit = codes "transmit"
 kind_name kind.Both = codes "both"
 kind_name kind.Mode = codes "mode"
 
+-- the words that the column `kind` may have
 abbrev pub all_kinds : List RowKind
 all_kinds = kind.Address ∷ kind.Broadcast ∷ kind.Wraparound ∷ kind.AcceptBusControl ∷ kind.Vector ∷ kind.Bit ∷ kind.Receive ∷ kind.Transmit ∷ kind.Both ∷ kind.Mode ∷ []
 
@@ -42,10 +43,12 @@ is_setting kind.Both = false
 is_setting kind.Mode = false
 is_setting _ = true
 
+-- a row of mode codes
 abbrev pub is_mode_kind : RowKind → Bool
 is_mode_kind kind.Mode = true
 is_mode_kind _ = false
 
+-- a row of messages that the terminal transmits
 abbrev pub is_transmit : RowKind → Bool
 is_transmit kind.Transmit = true
 is_transmit _ = false

@@ -11,7 +11,7 @@ use Rattle.bus_profile.specs.AllFaults.{told_faults}
 use Rattle.rt1553_import.specs.declared.column.TableColumn.{TableColumn}
 use Rattle.rt1553_import.specs.declared.column.TableColumn.TheVariants as column
 use Rattle.rt1553_import.specs.declared.kind.RowKind.TheVariants as kind
-use Rattle.rt1553_import.specs.declared.fault.CellPlace.{CellPlace}
+use Rattle.csv_rows.specs.declared.place.CellPlace.{CellPlace}
 use Rattle.rt1553_import.specs.declared.fault.TableFault.{TableFault}
 use Rattle.rt1553_import.specs.declared.fault.TableFaultKind.{TableFaultKind}
 use Rattle.rt1553_import.specs.declared.fault.TableFaultKind.TheVariants as fault
@@ -68,6 +68,7 @@ abbrev pub place_or_header : Sheet → Option TableRow → TableColumn → CellP
 place_or_header sheet None c = row_place sheet sheet.header column.Kind
 place_or_header sheet (Some row) c = row_place sheet row c
 
+-- where a key of a part of the profile comes from
 abbrev pub key_place : Sheet → Part → Key → CellPlace
 key_place sheet p k = place_or_header sheet (part_row sheet p k) (key_column k)
 
@@ -80,6 +81,7 @@ fault_place sheet (BadRanges p k) = key_place sheet p k
 fault_place sheet (TooMany p k) = key_place sheet p k
 fault_place sheet _ = place_or_header sheet None column.Kind
 
+-- a fault of the profile as a fault of the table, at its place
 abbrev pub placed : Sheet → ProfileFault → TableFault
 placed sheet f = record { place = fault_place sheet f; kind = fault.Profile f }
 
@@ -98,6 +100,7 @@ hides_row _ = false
 abbrev pub hides : TableFault → TableFault → Bool
 hides t f = hides_all t.kind || ((t.place.row == f.place.row) && (hides_row t.kind || (t.place.column == f.place.column)))
 
+-- one of these faults hides it
 abbrev pub is_hidden : List TableFault → TableFault → Bool
 is_hidden ts f = list_any (λ t. hides t f) ts
 

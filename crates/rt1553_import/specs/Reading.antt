@@ -1,9 +1,7 @@
 -- How a text is read as a table.
 use Rattle.std.specs.Prelude.{◌≡◌, ℕ, ◌==◌, if◌then◌else◌, List, [], ◌∷◌, map}
-use Rattle.csv.specs.declared.parser.Config.{Config}
-use Rattle.csv.specs.declared.parser.State.TheVariants.{StartRecord}
-use Rattle.csv.specs.Reading.{AreRecords, default_config, strip_bom}
 use Rattle.csv.specs.Records.{fields_of}
+use Rattle.csv_rows.specs.Rows.{AreRows}
 use Rattle.rt1553_import.specs.declared.sheet.Sheet.{Sheet}
 use Rattle.rt1553_import.specs.declared.sheet.TableRow.{TableRow}
 
@@ -12,10 +10,7 @@ abbrev pub delimiter_of : List ℕ → ℕ
 delimiter_of [] = 44
 delimiter_of (b ∷ bs) = if b == 10 then 44 else if b == 59 then 59 else delimiter_of bs
 
--- how the library `csv` reads the text
-abbrev pub table_config : List ℕ → Config
-table_config text = record default_config { delimiter = delimiter_of text }
-
+-- the fields of a row
 abbrev pub row_fields : TableRow → List (List ℕ)
 row_fields row = fields_of row.fields
 
@@ -24,8 +19,8 @@ abbrev pub HasRecords : List (List (List ℕ)) → Sheet → Type 0
 HasRecords [] sheet = (row_fields sheet.header ≡ []) × (sheet.rows.items ≡ [])
 HasRecords (header ∷ rows) sheet = (row_fields sheet.header ≡ header) × (map row_fields sheet.rows.items ≡ rows)
 
--- the records of the text are those of the table
+-- the text is CSV, and its records are those of the table
 pub record IsSheetOf (text : List ℕ) (sheet : Sheet) : Type 0 where
   pub records : List (List (List ℕ))
-  pub read : AreRecords (table_config text) StartRecord (strip_bom text) records
+  pub read : AreRows (delimiter_of text) text records
   pub has : HasRecords records sheet

@@ -5,7 +5,7 @@ use Rattle.csv.specs.Records.{fields_of}
 use Rattle.rt1553_import.specs.declared.column.TableColumn.{TableColumn}
 use Rattle.rt1553_import.specs.declared.column.TableColumn.TheVariants as column
 use Rattle.rt1553_import.specs.declared.kind.RowKind.{RowKind}
-use Rattle.rt1553_import.specs.declared.fault.CellPlace.{CellPlace}
+use Rattle.csv_rows.specs.declared.place.CellPlace.{CellPlace}
 use Rattle.rt1553_import.specs.declared.fault.TableFault.{TableFault}
 use Rattle.rt1553_import.specs.declared.fault.TableFaultKind.{TableFaultKind}
 use Rattle.rt1553_import.specs.declared.fault.TableFaultKind.TheVariants as fault
@@ -16,15 +16,18 @@ use Rattle.rt1553_import.specs.Kinds.{row_kind, is_setting, takes}
 use Rattle.rt1553_import.specs.Cells.{has_no_text, cell_number, cell_words}
 use Rattle.rt1553_import.specs.Tree.{is_kind}
 
+-- a fault of this kind at this place
 abbrev pub fault_where : CellPlace → TableFaultKind → TableFault
 fault_where place k = record { place = place; kind = k }
 
+-- a list of the fault, or no fault
 abbrev pub fault_if_any : Option TableFault → List TableFault
 fault_if_any None = []
 fault_if_any (Some f) = f ∷ []
 
 -- ---- the header
 
+-- the place of a field of the header, which is counted from 0
 abbrev pub header_place : Sheet → ℕ → CellPlace
 header_place sheet place = record { row = sheet.header.line; column = place + 1 }
 
@@ -33,6 +36,7 @@ abbrev pub second_place : Sheet → TableColumn → Option ℕ → Option ℕ
 second_place sheet c None = None
 second_place sheet c (Some first) = place_from (column_name c) (first + 1) (fields_of sheet.header.fields)
 
+-- the fault of a second column of the same name, where there is one
 abbrev pub second_fault : Sheet → TableColumn → Option ℕ → Option TableFault
 second_fault sheet c None = None
 second_fault sheet c (Some place) = Some (fault_where (header_place sheet place) (fault.TwoColumns c))
@@ -45,6 +49,7 @@ column_fault sheet c = second_fault sheet c (second_place sheet c (place_of shee
 abbrev pub no_kind_fault : Sheet → Option TableFault
 no_kind_fault sheet = if is_none (place_of sheet column.Kind) then Some (fault_where (header_place sheet 0) fault.NoKind) else None
 
+-- all faults of the header: the missing column first, then each column that is there twice
 abbrev pub header_faults : Sheet → List TableFault
 header_faults sheet = fault_if_any (no_kind_fault sheet) ++ flat_map (λ c. fault_if_any (column_fault sheet c)) all_columns
 
@@ -105,6 +110,7 @@ rows_faults sheet before (row ∷ rows) = row_faults sheet before row ++ rows_fa
 
 -- ---- the table
 
+-- these faults, or if there are none the others
 abbrev pub or_others : List TableFault → List TableFault → List TableFault
 or_others [] others = others
 or_others (f ∷ fs) others = f ∷ fs

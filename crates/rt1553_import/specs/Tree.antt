@@ -44,6 +44,7 @@ member_put k d (member l e ms) = match_ordering (slice_cmp nat_cmp k l) (member 
 abbrev pub with_text : List ℕ → List ℕ → Members → Members
 with_text key text ms = if has_no_text text then ms else member_put key (cell_value text) ms
 
+-- the list is empty
 abbrev pub has_none : List Data → Bool
 has_none [] = true
 has_none (d ∷ ds) = false
@@ -71,9 +72,11 @@ abbrev pub mode_entry_data : Sheet → TableRow → Data
 mode_entry_data sheet row =
     table (with_scope sheet row (with_text (codes "codes") (cell sheet row column.Code) no_members))
 
+-- a word as an integer of TOML
 abbrev pub word_value : ℕ → Data
 word_value word = integer (pos word)
 
+-- each of the words as an integer; none where there is no list of words
 abbrev pub each_word : Option (List ℕ) → List Data
 each_word None = []
 each_word (Some words) = map word_value words
@@ -88,6 +91,7 @@ initial_entry_data sheet row =
     table (member_put (codes "words") (array (items_of (words_data (cell sheet row column.Initial))))
     (with_text (codes "subaddress") (cell sheet row column.Subaddress) no_members))
 
+-- what a row becomes as an entry of this kind
 abbrev pub entry_data : Sheet → Entry → TableRow → Data
 entry_data sheet entry.Rule row = rule_entry_data sheet row
 entry_data sheet entry.Mode row = mode_entry_data sheet row
@@ -97,6 +101,7 @@ entry_data sheet entry.Initial row = initial_entry_data sheet row
 abbrev pub entry_rows : Sheet → Entry → List TableRow
 entry_rows sheet e = filter (is_entry sheet e) sheet.rows.items
 
+-- all entries of this kind, in the order of their rows
 abbrev pub entries_of : Sheet → Entry → List Data
 entries_of sheet e = map (entry_data sheet e) (entry_rows sheet e)
 
@@ -106,6 +111,7 @@ entries_of sheet e = map (entry_data sheet e) (entry_rows sheet e)
 abbrev pub setting_row : Sheet → RowKind → Option TableRow
 setting_row sheet k = find (is_kind sheet k) sheet.rows.items
 
+-- the text of a row in the column `value`; empty without a row
 abbrev pub value_in : Sheet → Option TableRow → List ℕ
 value_in sheet None = []
 value_in sheet (Some row) = cell sheet row column.Value
@@ -118,11 +124,13 @@ setting_text sheet k = value_in sheet (setting_row sheet k)
 abbrev pub with_setting : Sheet → RowKind → Members → Members
 with_setting sheet k ms = with_text (kind_name k) (setting_text sheet k) ms
 
+-- all settings, each at its key
 abbrev pub with_settings : Sheet → Members → Members
 with_settings sheet ms =
     with_setting sheet kind.Bit (with_setting sheet kind.Vector (with_setting sheet kind.AcceptBusControl
     (with_setting sheet kind.Wraparound (with_setting sheet kind.Broadcast (with_setting sheet kind.Address ms)))))
 
+-- all entries, in their three arrays
 abbrev pub with_arrays : Sheet → Members → Members
 with_arrays sheet ms =
     with_entries (codes "initial") (entries_of sheet entry.Initial) (with_entries (codes "mode") (entries_of sheet entry.Mode)

@@ -1,19 +1,14 @@
 //! What is wrong with a table, and where.
 ghost use Rattle.std.specs.Prelude.{◌≡◌};
 ghost use Rattle.rt1553_import.specs.declared.fault.ImportFault.TheVariants.{Memory};
+ghost use Rattle.rt1553_import.specs.NoTable.{table_fault_of};
 
 use crate::column::TableColumn;
 use bus_profile::ProfileFault;
+use csv_rows::{CellPlace, CsvFault};
 use std::alloc::{AllocError, AllocFailed};
 use std::fmt;
 use thiserror::Error;
-
-/// A place in a table: a line of its text and the number of a field, each from 1.
-#[derive(Clone, Copy, Debug)]
-pub struct CellPlace {
-    pub row: u64,
-    pub column: u64,
-}
 
 /// What is wrong at a place of a table.
 #[derive(Clone, Copy, Debug, Error)]
@@ -74,9 +69,9 @@ pub enum ImportFault {
     /// A field is not in UTF-8; the line on which its record begins, from 1.
     #[error("table: not UTF-8")]
     NotText(u64),
-    /// The text can't be read as CSV.
-    #[error("table: not CSV")]
-    NotCsv,
+    /// The text is no CSV: the place of the first field with a misplaced quote, or without its closing quote.
+    #[error("table: {0}: not CSV, a quote is misplaced or missing")]
+    NotCsv(CellPlace),
     /// A growth of memory was refused, which says nothing of the table.
     #[error("out of memory")]
     Memory,
@@ -95,5 +90,16 @@ impl<T: Drop> From<AllocFailed<T>> for ImportFault {
 
     fn from(_failed: AllocFailed<T>) -> ImportFault {
         ImportFault::Memory
+    }
+}
+
+impl From<CsvFault> for ImportFault {
+    ghost from_gives = { λ rows fault. fault ≡ table_fault_of rows };
+
+    fn from(fault: CsvFault) -> ImportFault {
+        match fault {
+            CsvFault::NotCsv(place) => ImportFault::NotCsv(place),
+            CsvFault::Memory => ImportFault::Memory,
+        }
     }
 }

@@ -17,7 +17,7 @@ mod warnings;
 
 pub use cells::cell_number;
 pub use column::TableColumn;
-pub use fault::{CellPlace, ImportFault, TableFault, TableFaultKind};
+pub use fault::{ImportFault, TableFault, TableFaultKind};
 pub use importing::{Imported, import_table};
 pub use kind::RowKind;
 pub use reading::read_sheet;

@@ -6,11 +6,12 @@ ghost use Rattle.rt1553_import.specs.Tree.{table_tree};
 ghost use Rattle.rt1553_import.specs.Places.{entry_row, root_row, part_row, key_column, key_place, fault_place, placed, hides, is_hidden, told};
 
 use crate::column::TableColumn;
-use crate::fault::{CellPlace, TableFault, TableFaultKind};
+use crate::fault::{TableFault, TableFaultKind};
 use crate::kind::RowKind;
 use crate::sheet::{Sheet, TableRow};
 use crate::tree::Entry;
 use bus_profile::{Key, Part, ProfileFault, all_faults};
+use csv_rows::CellPlace;
 use std::alloc::{AllocError, Global};
 use toml::Table;
 

@@ -4,8 +4,8 @@ ghost use Rattle.csv.specs.Records.{fields_of, field_at};
 ghost use Rattle.rt1553_import.specs.Columns.{is_field, place_from, place_of, field_text, cell, row_place};
 
 use crate::column::TableColumn;
-use crate::fault::CellPlace;
 use csv::StringRecord;
+use csv_rows::CellPlace;
 
 /// A record of a table.
 #[derive(Drop)]

@@ -7,10 +7,11 @@ ghost use Rattle.rt1553_import.specs.TableFaults.{fault_if_any, header_place, co
 
 use crate::cells::{cell_number, cell_words};
 use crate::column::{COLUMNS, TableColumn};
-use crate::fault::{CellPlace, TableFault, TableFaultKind};
+use crate::fault::{TableFault, TableFaultKind};
 use crate::kind::RowKind;
 use crate::sheet::{Sheet, TableRow, place_from};
 use csv::StringRecord;
+use csv_rows::CellPlace;
 use std::alloc::{AllocError, Global};
 
 /// Adds a fault if there is one.

@@ -1,7 +1,7 @@
 //! The columns that are left out.
 use crate::column::{COLUMNS, TableColumn};
-use crate::fault::CellPlace;
 use crate::sheet::Sheet;
+use csv_rows::CellPlace;
 use rt1553_files::escaped;
 use std::alloc::{AllocError, Global};
 use std::fmt;

@@ -12,6 +12,7 @@ set_of_number low high n = if nat_le low n && nat_le n high then 2 ^ (n - low) e
 abbrev pub set_of_ranges : ℕ → ℕ → List ℕ → ℕ
 set_of_ranges low high text = result_unwrap_or (ranges_of low high text) 0
 
+-- the set of a cell: of the number that it is, or else of the ranges that it names
 abbrev pub set_named : ℕ → ℕ → List ℕ → Option ℕ → ℕ
 set_named low high text (Some n) = set_of_number low high n
 set_named low high text None = set_of_ranges low high text

@@ -14,12 +14,13 @@ use Rattle.rt1553_import.specs.Columns.{cell}
 use Rattle.rt1553_import.specs.Kinds.{row_kind, is_setting, is_mode_kind}
 use Rattle.rt1553_names.specs.Numbers.{numbers_named, counts_in}
 
--- a row of this kind speaks of words that are received, or transmitted
+-- a row of this kind speaks of words that the terminal receives
 abbrev pub is_received : RowKind → Bool
 is_received kind.Receive = true
 is_received kind.Both = true
 is_received _ = false
 
+-- a row of this kind speaks of words that the terminal transmits
 abbrev pub is_transmitted : RowKind → Bool
 is_transmitted kind.Transmit = true
 is_transmitted kind.Both = true
@@ -33,6 +34,7 @@ goes_to_own to = (has_no_text to || bytes_eq to (codes "own")) || bytes_eq to (c
 abbrev pub goes_by_broadcast : List ℕ → Bool
 goes_by_broadcast to = bytes_eq to (codes "broadcast") || bytes_eq to (codes "both")
 
+-- the set, or no number at all
 abbrev pub if_so : Bool → ℕ → ℕ
 if_so so set = if so then set else 0
 
@@ -51,6 +53,7 @@ cells_of sheet row k = record {
 abbrev pub with_kind : List NameRow → Sheet → TableRow → RowKind → List NameRow
 with_kind names sheet row k = if is_setting k then names else with_row names (cell sheet row column.Name) (cells_of sheet row k)
 
+-- the same, where the kind of the row is known; else no name is added
 abbrev pub with_kind_if : List NameRow → Sheet → TableRow → Option RowKind → List NameRow
 with_kind_if names sheet row None = names
 with_kind_if names sheet row (Some k) = with_kind names sheet row k

@@ -1,5 +1,5 @@
 -- The fields of a table of results: numbers, replies, and the columns of a header.
-use Rattle.std.proofs.Common.{◌≡◌, ◌≢◌, ℕ, ◌-◌, ◌<◌, ◌≤◌, ◌==◌, nat_le, Bool, true, false, if◌then◌else◌, Option, Some, None, option_map, take, List, [], ◌∷◌, ◌++◌, length, drop, get_or, refl, sym, ap, subst, ◌∙◌, append_assoc, arith}
+use Rattle.std.proofs.Common.{◌≡◌, ◌≢◌, ℕ, zero, suc, ◌-◌, ◌<◌, ◌≤◌, ◌==◌, nat_le, Bool, true, false, if◌then◌else◌, Option, Some, None, option_map, take, List, [], ◌∷◌, ◌++◌, length, drop, get_or, refl, sym, ap, subst, ◌∙◌, append_assoc, arith}
 use Rattle.std.proofs.Math.Logic.{⊎_elim}
 use Rattle.std.specs.Str.{IsUtf8}
 use Rattle.std.specs.Str.Parse.{IsNumeral}
@@ -11,7 +11,9 @@ use Rattle.std.proofs.lemmas.List.{length-append, length-drop, take_all}
 use Rattle.csv.specs.Records.{field_at}
 use Rattle.csv.proofs.RecordFacts.{field-none}
 use Rattle.script_lines.specs.Digits.{word_of}
-use Rattle.rt1553_results.specs.Results.{word_then, words_said, at_most_33, IsColumn}
+use Rattle.rt1553_results.specs.declared.results.Columns.{Columns}
+use Rattle.rt1553_results.specs.Results.{word_then, words_said, at_most_33, IsColumn, AreColumns}
+use Rattle.rt1553_results.specs.Refused.{IsMissing, HasPlaces}
 
 pub numeral_is_text : (bs : List ℕ) → IsNumeral 10 bs → IsUtf8 bs
 numeral_is_text bs is = IsUtf8-from_ascii bs (IsAscii-from_digits bs is.1)
@@ -140,13 +142,33 @@ next_word_of words rest all word is long there space =
 -- what is found of a name in the fields before a place
 abbrev pub Found : List (List ℕ) → List ℕ → ℕ → Option ℕ → Type 0
 Found header name place None = (k : ℕ) → k < place → field_at header k ≡ Some name → ⊥
-Found header name place (Some found) = (field_at header found ≡ Some name) × ((k : ℕ) → k < place → field_at header k ≡ Some name → k ≡ found)
+Found header name place (Some found) = (field_at header found ≡ Some name) × ((k : ℕ) → k < place → field_at header k ≡ Some name → k ≡ found) × (found < place)
+
+none_past : (header : List (List ℕ)) (name : List ℕ) (place k : ℕ) → length header ≤ place → place ≤ k → field_at header k ≡ Some name → ⊥
+none_past header name place k all past there = let no : field_at header k ≡ None = field-none header k (omega (arith, all, past)) in cc (sym no ∙ there)
 
 pub found_column : (header : List (List ℕ)) (name : List ℕ) (place found : ℕ) → length header ≤ place → Found header name place (Some found) → IsColumn name header found
 found_column header name place found all before = record {
   there = before.0;
-  alone = (λ k there. ⊎_elim (λ below. before.1 k below there) (λ past. absurd (none k past there)) (cases_lt k place));
+  alone = (λ k there. ⊎_elim (λ below. before.1 k below there) (λ past. absurd (none_past header name place k all past there)) (cases_lt k place));
 }
-  where
-    none : (k : ℕ) → place ≤ k → field_at header k ≡ Some name → ⊥
-    none k past there = let no : field_at header k ≡ None = field-none header k (omega arith) in cc (sym no ∙ there)
+
+pub found_none : (header : List (List ℕ)) (name : List ℕ) (place : ℕ) → length header ≤ place → Found header name place None → IsMissing name header
+found_none header name place all before k there = ⊎_elim (λ below. before k below there) (λ past. none_past header name place k all past there) (cases_lt k place)
+
+-- ---- the fields of a row
+
+field_in : (fields : List (List ℕ)) (k : ℕ) (field : List ℕ) → field_at fields k ≡ Some field → k < length fields
+field_in fields k field there = ⊎_elim (λ below. below) (λ past. absurd (none_past fields field (length fields) k (omega arith) past there)) (cases_lt k (length fields))
+
+pub has_places : (header : List (List ℕ)) (columns : Columns) → AreColumns header columns → HasPlaces columns
+has_places header columns are = (
+  subst (λ n. columns.number < n) (sym are.width) (field_in header columns.number _ are.number.there),
+  subst (λ n. columns.reply < n) (sym are.width) (field_in header columns.reply _ are.reply.there),
+)
+
+pub field_there : (fields : List (List ℕ)) (k : ℕ) → k < length fields → field_at fields k ≡ None → ⊥
+unfolding field_at
+field_there [] k few none = omega (arith, few)
+field_there (f ∷ fields) zero few none = cc none
+field_there (f ∷ fields) (suc k) few none = field_there fields k (omega (arith, few)) none

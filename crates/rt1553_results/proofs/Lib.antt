@@ -3,6 +3,7 @@ pub mod RowLaws
 pub mod TextLaws
 pub mod FieldLaws
 pub mod ResultLaws
+pub mod AskedLaws
 pub mod CompareLaws
 pub mod SlotLaws
 pub mod UnitLaws

@@ -1,17 +1,21 @@
 -- Rows of a table of results, one more after others.
-use Rattle.std.proofs.Common.{◌≡◌, ℕ, ◌+◌, ◌<◌, nat_eq, Bool, true, false, ◌||◌, cond, Option, Some, None, option_map, List, [], ◌∷◌, ◌++◌, length, map, take, drop, ◌-◌, ◌≤◌, get_or, refl, sym, ap, subst, ◌∙◌, arith}
+use Rattle.std.proofs.Common.{◌≡◌, ℕ, ◌+◌, ◌<◌, nat_eq, Bool, true, false, ◌||◌, cond, Option, Some, None, option_map, List, [], ◌∷◌, ◌++◌, length, map, take, drop, ◌-◌, get_or, refl, sym, ap, subst, ◌∙◌, ⊎_elim, arith}
 use Rattle.std.specs.List.{IsDistinct, list_any}
 use Rattle.std.specs.Map.{lookup}
 use Rattle.std.specs.BTreeMap as tree
 use Rattle.std.specs.Ordering.{nat_cmp}
 use Rattle.std.proofs.lemmas.Cmp.{nat_eq_equiv}
 use Rattle.std.proofs.lemmas.Bool.Decides.{nat_tests}
-use Rattle.std.proofs.lemmas.List.{map-append, take_more, take_all, length-drop}
+use Rattle.std.proofs.lemmas.List.{map-append, take_more, take_all, length-drop, drop_more, take-append-drop}
 use Rattle.std.proofs.lemmas.Map.Keys.{IsDistinct-push}
-use Rattle.csv.specs.Records.{Row, fields_of}
+use Rattle.csv_rows.specs.declared.rows.CsvRow.{CsvRow}
+use Rattle.csv_rows.specs.Rows.{record_fields, AreRows}
+use Rattle.rt1553_results.specs.declared.results.ResultsFault.{ResultsFault}
+use Rattle.rt1553_results.specs.declared.results.ResultsFault.TheVariants as fault
 use Rattle.rt1553_results.specs.declared.results.Columns.{Columns}
 use Rattle.rt1553_results.specs.declared.results.Results.{Results}
-use Rattle.rt1553_results.specs.Results.{IsRead, AreResultsRead, answer}
+use Rattle.rt1553_results.specs.Results.{IsRead, AreColumns, AreResultsRead, answer}
+use Rattle.rt1553_results.specs.Refused.{IsWrongRow, HasWrongRow, AreNoResults}
 
 -- what some rows say, and that the results have just that
 pub record SoFar (columns : Columns) (rows : List (List (List ℕ))) (results : Results) : Type 0 where
@@ -88,15 +92,56 @@ so_far_more columns rows row k v old new before read fresh grown = record {
 }
 
 -- the header, and the rows under it
-pub under_header : (rows : List Row) (first : Row) → 0 < length rows → first ≡ get_or rows 0 first → map fields_of rows ≡ fields_of first ∷ map fields_of (drop 1 rows)
+pub under_header : (rows : List CsvRow) (first : CsvRow) → 0 < length rows → first ≡ get_or rows 0 first → map record_fields rows ≡ record_fields first ∷ map record_fields (drop 1 rows)
 under_header [] first some is = absurd (omega arith)
-under_header (row ∷ rows) first some is = ap (λ r. fields_of r ∷ map fields_of rows) (sym is)
+under_header (row ∷ rows) first some is = ap (λ r. record_fields r ∷ map record_fields rows) (sym is)
 
-pub row_more : (rows : List Row) (i : ℕ) (row : Row) → i < length rows → row ≡ get_or rows i row → map fields_of (take i rows) ++ fields_of row ∷ [] ≡ map fields_of (take (i + 1) rows)
+pub row_more : (rows : List CsvRow) (i : ℕ) (row : CsvRow) → i < length rows → row ≡ get_or rows i row → map record_fields (take i rows) ++ record_fields row ∷ [] ≡ map record_fields (take (i + 1) rows)
 row_more rows i row few is =
-    sym (ap (map fields_of) (take_more rows i row few ∙ ap (λ r. take i rows ++ r ∷ []) (sym is)) ∙ map-append fields_of (take i rows) (row ∷ []))
+    sym (ap (map record_fields) (take_more rows i row few ∙ ap (λ r. take i rows ++ r ∷ []) (sym is)) ∙ map-append record_fields (take i rows) (row ∷ []))
 
--- all rows under the header
-pub all_under : (rows : List Row) (i : ℕ) → length (take (length rows - 1) (drop 1 rows)) ≤ i → take i (take (length rows - 1) (drop 1 rows)) ≡ drop 1 rows
-all_under rows i over =
-    take_all i (take (length rows - 1) (drop 1 rows)) over ∙ take_all (length rows - 1) (drop 1 rows) (omega (arith, length-drop 1 rows))
+-- ---- why a table is refused
+
+pub wrong_row : (text : List ℕ) (f : ResultsFault) → HasWrongRow text f → AreNoResults text f
+wrong_row text (fault.Fields place) has = has
+wrong_row text (fault.Number place) has = has
+wrong_row text (fault.Twice place) has = has
+wrong_row text (fault.Reply place) has = has
+wrong_row text fault.Memory has = tt
+wrong_row text (fault.NoHeader place) has = absurd (⊎_elim (λ no. no) (λ kept. kept.2) has.wrong)
+wrong_row text (fault.NoColumn place name) has = absurd (⊎_elim (λ no. no) (λ kept. kept.2) has.wrong)
+wrong_row text (fault.TwoColumns place name) has = absurd (⊎_elim (λ no. no) (λ kept. kept.2) has.wrong)
+wrong_row text (fault.NotCsv place) has = absurd (⊎_elim (λ no. no) (λ kept. kept.2) has.wrong)
+
+split_at : (rows : List CsvRow) (i : ℕ) (row : CsvRow) → i < length rows → row ≡ get_or rows i row → rows ≡ take i rows ++ row ∷ drop (i + 1) rows
+split_at rows i row few is = sym (take-append-drop i rows) ∙ ap (λ rest. take i rows ++ rest) (drop_more rows i row few ∙ ap (λ r. r ∷ drop (i + 1) rows) (sym is))
+
+-- the table as its header, the rows before one, that row, and those after it
+pub around_row : (rows : List CsvRow) (first : CsvRow) (i : ℕ) (row : CsvRow) → 0 < length rows → first ≡ get_or rows 0 first
+    → i < length (take (length rows - 1) (drop 1 rows)) → row ≡ get_or (take (length rows - 1) (drop 1 rows)) i row
+    → map record_fields rows
+    ≡ record_fields first ∷ map record_fields (take i (take (length rows - 1) (drop 1 rows))) ++ record_fields row ∷ map record_fields (drop (i + 1) (take (length rows - 1) (drop 1 rows)))
+around_row rows first i row some is few here =
+    let under = take (length rows - 1) (drop 1 rows) in
+    let whole : under ≡ drop 1 rows = take_all (length rows - 1) (drop 1 rows) (omega (arith, length-drop 1 rows)) in
+    under_header rows first some is
+    ∙ ap (λ rest. record_fields first ∷ map record_fields rest) (sym whole ∙ split_at under i row few here)
+    ∙ ap (λ rest. record_fields first ∷ rest) (map-append record_fields (take i under) (row ∷ drop (i + 1) under))
+
+-- a row that is wrong, behind rows that were read
+pub first_wrong : (text : List ℕ) (all : List (List (List ℕ))) (header : List (List ℕ)) (before : List (List (List ℕ))) (row : List (List ℕ)) (after : List (List (List ℕ)))
+    (columns : Columns) (results : Results) (f : ResultsFault) → AreRows 44 text all → all ≡ header ∷ before ++ row ∷ after → AreColumns header columns → (so_far : SoFar columns before results)
+    → IsWrongRow columns so_far.pairs row f → AreNoResults text f
+first_wrong text all header before row after columns results f records parts found so_far wrong = wrong_row text f (record {
+  header = header;
+  before = before;
+  row = row;
+  after = after;
+  columns = columns;
+  pairs = so_far.pairs;
+  records = subst (AreRows 44 text) parts records;
+  found = found;
+  read = so_far.read;
+  once = so_far.once;
+  wrong = wrong;
+})

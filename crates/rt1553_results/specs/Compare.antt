@@ -8,7 +8,7 @@ use Rattle.rt1553_results.specs.declared.comparison.WrongReply.{WrongReply}
 use Rattle.rt1553_results.specs.declared.comparison.NumberRange.{NumberRange}
 use Rattle.rt1553_results.specs.declared.comparison.Comparison.{Comparison}
 use Rattle.rt1553_results.specs.declared.comparing.CompareFault.{CompareFault}
-use Rattle.rt1553_results.specs.declared.comparing.CompareFault.TheVariants.{Beyond, Memory}
+use Rattle.rt1553_results.specs.declared.comparing.CompareFault.TheVariants.{Beyond, Other, Memory}
 use Rattle.rt1553_results.specs.declared.results.Results.{Results}
 use Rattle.rt1553_results.specs.Rows.{Answered, rows_of}
 use Rattle.rt1553_results.specs.Results.{line_in}
@@ -21,6 +21,7 @@ pub record ToldReply : Type 0 where
   pub expected : List ℕ
   pub came : List ℕ
 
+-- a wrong reply as these definitions speak of it
 abbrev pub told_reply : WrongReply → ToldReply
 told_reply d = record { number = d.number; command = d.command; label = d.label.bytes; expected = d.expected.items; came = d.came.items }
 
@@ -51,6 +52,7 @@ unfoldable pub counted : ℕ → ℕ → List ℕ
 counted first zero = []
 counted first (suc n) = first ∷ counted (first + 1) n
 
+-- the numbers that ranges have, in their order
 abbrev pub numbers_in : List NumberRange → List ℕ
 numbers_in ranges = flat_map (λ range. counted range.first range.count) ranges
 
@@ -66,7 +68,9 @@ pub record Compares (P : Description) (came : ℕ → Option (List ℕ)) (c : Co
   pub tells : TellsResults P came c
   pub within : (n : ℕ) → length (rows_of P) < n → came n ≡ None
 
--- Why results are not compared with the terminal of P: the row at this line has a number that no exchange has; or memory.
+-- Why results are not compared with the terminal of P: the row at this line has a number that no exchange has; or memory. Commands are
+-- not looked at.
 abbrev pub AreNotCompared : Description → Results → CompareFault → Type 0
 AreNotCompared P results (Beyond line) = (n : ℕ) × (length (rows_of P) < n) × (line_in results n ≡ Some line)
+AreNotCompared P results (Other place) = ⊥
 AreNotCompared P results Memory = Unit {0}

@@ -7,6 +7,7 @@ use Rattle.rt1553_results.specs.declared.playing.Handed.TheVariants.{Received, S
 use Rattle.rt1553_results.specs.declared.playing.TestRow.{TestRow}
 use Rattle.rt1553_results.specs.Rows.{Answered}
 
+-- what the code says of a hand-over, as the rules of the terminal say it
 abbrev pub handing_in : Handed → Handing
 handing_in (Received broadcast subaddress words) = HandsReceived broadcast subaddress words.items
 handing_in Synchronize = HandsSynchronize
@@ -14,5 +15,6 @@ handing_in (SynchronizeWith word) = HandsSynchronizeWith word
 handing_in SelfTest = HandsSelfTest
 handing_in BusControl = HandsBusControl
 
+-- a row of the code, as these definitions speak of it
 abbrev pub answered_in : TestRow → Answered
 answered_in row = record { exchange = exchange_in row.exchange; reply = row.reply.items; handed = option_map handing_in row.handed }

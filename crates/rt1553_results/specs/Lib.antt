@@ -4,5 +4,7 @@ pub mod Handed
 pub mod Left
 pub mod Table
 pub mod Results
+pub mod Refused
+pub mod Asked
 pub mod Compare
 pub mod Unit

@@ -6,9 +6,8 @@ use Rattle.std.specs.Map.{lookup}
 use Rattle.std.specs.BTreeMap as tree
 use Rattle.std.specs.Str.{bytes_eq}
 use Rattle.std.specs.Str.Parse.{IsNumeral, digits_value}
-use Rattle.csv.specs.declared.parser.State.TheVariants.{StartRecord}
-use Rattle.csv.specs.Reading.{AreRecords, default_config, strip_bom}
 use Rattle.csv.specs.Records.{field_at}
+use Rattle.csv_rows.specs.Rows.{AreRows}
 use Rattle.script_lines.specs.Digits.{word_of}
 use Rattle.rt1553_results.specs.declared.results.Results.{Results}
 use Rattle.rt1553_results.specs.declared.results.NumberedReply.{NumberedReply}
@@ -78,14 +77,14 @@ answer results n = option_map (λ given. given.reply.items) (tree.get nat_cmp re
 abbrev pub line_in : Results → ℕ → Option ℕ
 line_in results n = option_map (λ given. given.line) (tree.get nat_cmp results.given n)
 
--- The records of the text are a header with the columns that are looked for, and rows, of which no two have the same
+-- The text is CSV, and its records are a header with the columns that are looked for, and rows, of which no two have the same
 -- number. The results have for each number the reply that the row of this number says, and none for any other.
 pub record SaysResults (text : List ℕ) (results : Results) : Type 0 where
   pub header : List (List ℕ)
   pub rows : List (List (List ℕ))
   pub columns : Columns
   pub pairs : List (ℕ × List ℕ)
-  pub records : AreRecords default_config StartRecord (strip_bom text) (header ∷ rows)
+  pub records : AreRows 44 text (header ∷ rows)
   pub found : AreColumns header columns
   pub read : AreResultsRead columns rows pairs
   pub once : IsDistinct nat_eq (map (λ pair. pair.0) pairs)

@@ -19,6 +19,7 @@ abbrev pub sent_word : Out → List ℕ
 sent_word (SendsWord sending) = sending.bits ∷ []
 sent_word _ = []
 
+-- what an answer hands over, if it hands over something
 abbrev pub handing_of : Out → Option Handing
 handing_of (HandsOver handing) = Some handing
 handing_of _ = None

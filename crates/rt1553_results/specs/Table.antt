@@ -63,5 +63,6 @@ name_column false = None
 abbrev pub csv_header : Bool → List ℕ
 csv_header with_names = row_text table_writer (columns ++ name_field (name_column with_names))
 
+-- the bytes of row number n, with the name of its message where there is one
 abbrev pub csv_row : Description → ℕ → Answered → Option (List ℕ) → List ℕ
 csv_row P n row name = row_text table_writer (csv_fields P n row ++ name_field name)

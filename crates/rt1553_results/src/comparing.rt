@@ -10,6 +10,7 @@ use crate::playing::{TestRow, copied};
 use crate::results::Results;
 use crate::rows::Rows;
 use bus_legal::Normal;
+use csv_rows::CellPlace;
 use rt1553_acceptance::label_of;
 use std::alloc::{AllocError, Global};
 use thiserror::Error;
@@ -20,6 +21,9 @@ pub enum CompareFault {
     /// The row at this line has a number beyond that of the last exchange.
     #[error("results: row {0}: no exchange has this number")]
     Beyond(u64),
+    /// The row at this place says another command than the test has for its number: `other_command` finds it.
+    #[error("results: {0}: another command than that of this exchange")]
+    Other(CellPlace),
     /// A growth of memory was refused.
     #[error("out of memory")]
     Memory,

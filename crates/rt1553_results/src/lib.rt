@@ -1,6 +1,7 @@
 //! The acceptance test of a terminal as a table, and the results of a unit compared with it.
 #![tactic(auto)]
 
+mod asked;
 mod comparing;
 mod comparison;
 mod fields;
@@ -13,12 +14,13 @@ mod table;
 mod texts;
 mod told;
 
+pub use asked::other_command;
 pub use bus_complete_test::Exchange;
 pub use comparing::{CompareFault, compare_results};
 pub use comparison::{Comparison, NumberRange, WrongReply};
 pub use json::json_row;
 pub use playing::{Handed, TestRow};
-pub use results::{GivenReply, Results, ResultsFault, TablePlace, read_results};
+pub use results::{GivenReply, Results, ResultsFault, read_results};
 pub use rows::Rows;
 pub use table::{csv_header, csv_row};
 pub use told::NamedReply;

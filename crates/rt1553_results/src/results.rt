@@ -1,80 +1,73 @@
 //! The results of a unit: a table in CSV, read.
-ghost use Rattle.std.specs.Prelude.{◌≡◌, ◌↔◌, ◌<◌, ◌≤◌, ℕ, List, [], length, map, option_map, cond, nat_eq, Some, None, IsTrue, IfOk, IfSome, MatchOption, OnOk};
-ghost use Rattle.csv.specs.declared.parser.State.TheVariants.{StartRecord};
-ghost use Rattle.csv.specs.Reading.{AreRecords, default_config, strip_bom};
+ghost use Rattle.std.specs.Prelude.{◌≡◌, ◌↔◌, ◌<◌, ◌≤◌, ℕ, List, [], length, option_map, cond, nat_eq, Some, None, IsTrue, IfOk, IfErr, IfSome, MatchOption, OnOk};
 ghost use Rattle.csv.specs.Records.{fields_of, field_at};
+ghost use Rattle.rt1553_results.specs.declared.results.ResultsFault.TheVariants.{Memory};
+ghost use Rattle.rt1553_results.specs.Refused.{results_fault_of, IsNoColumn, AreNoColumns, HasPlaces, IsNotRead, IsNotKept, AreNoResults};
 ghost use Rattle.rt1553_results.specs.Results.{IsColumn, AreColumns, pair_in, IsRead, answer, line_in, SaysResults};
 
 use crate::fields::{read_exchange_number, read_reply};
 use arrayvec::ArrayVec;
-use csv::{ByteRecord, ErrorKind, ReaderBuilder};
+use csv::ByteRecord;
+use csv_rows::{CellPlace, CsvFault, read_rows};
 use std::alloc::{AllocError, AllocFailed, Global};
 use std::collections::BTreeMap;
-use std::fmt;
 use thiserror::Error;
-
-/// A place in a table: a line of its text and a field of it, each from 1.
-#[derive(Clone, Copy, Debug, PartialEq, Eq)]
-pub struct TablePlace {
-    pub row: u64,
-    pub column: u64,
-}
-
-impl fmt::Display for TablePlace {
-    fn fmt<W: fmt::Write>(&self, f: &mut fmt::Formatter<W>) -> fmt::Result {
-        write!(f, "row {}, column {}", self.row, self.column)
-    }
-}
 
 /// Why a table of results is refused.
 #[derive(Clone, Copy, Debug, PartialEq, Eq, Error)]
 pub enum ResultsFault {
     /// There is no header.
     #[error("results: {0}: no header")]
-    NoHeader(TablePlace),
+    NoHeader(CellPlace),
     /// No column of the header has this name: the place is behind the last.
     #[error("results: {0}: no column is named {1}")]
-    NoColumn(TablePlace, &'static str),
+    NoColumn(CellPlace, &'static str),
     /// A second column of the header has this name.
     #[error("results: {0}: a second column is named {1}")]
-    TwoColumns(TablePlace, &'static str),
+    TwoColumns(CellPlace, &'static str),
     /// A row has not as many fields as the header.
     #[error("results: {0}: not as many fields as the header")]
-    Fields(TablePlace),
+    Fields(CellPlace),
     /// The field is no number from 1 to 4,294,967,295 in decimal digits.
     #[error("results: {0}: not the number of an exchange")]
-    Number(TablePlace),
+    Number(CellPlace),
     /// An earlier row has the same number.
     #[error("results: {0}: the number of an earlier row")]
-    Twice(TablePlace),
+    Twice(CellPlace),
     /// The field is no reply.
     #[error("results: {0}: not `none`, or 1 to 33 words of four hexadecimal digits")]
-    Reply(TablePlace),
-    /// The text can't be read as CSV.
-    #[error("results: not CSV")]
-    NotCsv,
+    Reply(CellPlace),
+    /// The text is no CSV: the place of the first field with a misplaced quote, or without its closing quote.
+    #[error("results: {0}: not CSV, a quote is misplaced or missing")]
+    NotCsv(CellPlace),
     /// A growth of memory was refused, which says nothing of the table.
     #[error("out of memory")]
     Memory,
 }
 
 impl From<AllocError> for ResultsFault {
+    ghost from_gives = { λ _ fault. fault ≡ Memory };
+
     fn from(_error: AllocError) -> ResultsFault {
         ResultsFault::Memory
     }
 }
 
 impl<T: Drop> From<AllocFailed<T>> for ResultsFault {
+    ghost from_gives = { λ _ fault. fault ≡ Memory };
+
     fn from(_failed: AllocFailed<T>) -> ResultsFault {
         ResultsFault::Memory
     }
 }
 
-impl From<csv::Error> for ResultsFault {
-    fn from(error: csv::Error) -> ResultsFault {
-        match error.kind() {
-            ErrorKind::OutOfMemory => ResultsFault::Memory,
-            _ => ResultsFault::NotCsv,
+impl From<CsvFault> for ResultsFault {
+    ghost from_gives = { λ rows fault. fault ≡ results_fault_of rows };
+
+    fn from(fault: CsvFault) -> ResultsFault {
+        match fault {
+            CsvFault::NotCsv(place) => ResultsFault::NotCsv(place),
+            CsvFault::Memory => ResultsFault::Memory,
         }
     }
 }
@@ -108,53 +101,9 @@ struct Columns {
     reply: usize,
 }
 
-/// The records of a text.
-fn records(alloc: Global, text: &[u8]) -> Result<Vec<ByteRecord>, ResultsFault>
-    ensures { IfOk result (λ rows. AreRecords default_config StartRecord (strip_bom text.now) (map fields_of rows.items)) }
-{
-    let reader = ReaderBuilder::new()
-        .has_headers(false)
-        .flexible(true)
-        .from_reader(alloc, text);
-    let mut rows = Vec::new(alloc);
-    for row in reader.into_byte_records() {
-        rows.push(row?)?;
-    }
-    Ok(rows)
-}
-
-/// A place in a text: how many bytes come before it, and its line, from 1.
-#[derive(Clone, Copy)]
-struct Cursor {
-    at: usize,
-    line: u64,
-}
-
-/// Moves on to a byte, and over the line ends there: so far a reader of CSV skips empty lines before a record.
-fn moved(text: &[u8], from: Cursor, to: usize) -> Cursor {
-    let mut cursor = from;
-    while cursor.at < text.len()
-        && (cursor.at < to || text[cursor.at] == b'\n' || text[cursor.at] == b'\r')
-    {
-        if text[cursor.at] == b'\n' {
-            cursor.line = cursor.line.saturating_add(1);
-        }
-        cursor.at += 1;
-    }
-    cursor
-}
-
-/// Moves on to a record.
-fn at_record(text: &[u8], from: Cursor, row: &ByteRecord) -> Cursor {
-    match row.position() {
-        Some(position) => moved(text, from, position.byte() as usize),
-        None => from,
-    }
-}
-
 /// A field of a row, by its place from 0.
-fn place_of(line: u64, field: usize) -> TablePlace {
-    TablePlace {
+fn place_of(line: u64, field: usize) -> CellPlace {
+    CellPlace {
         row: line,
         column: (field as u64).saturating_add(1),
     }
@@ -171,8 +120,13 @@ fn is_field(row: &ByteRecord, place: usize, bytes: &[u8]) -> bool
 }
 
 /// The place of the column of this name.
-fn column_of(header: &ByteRecord, line: u64, name: &'static str) -> Result<usize, ResultsFault>
-    ensures { IfOk result (IsColumn name.now (fields_of header.now)) }
+pub(crate) fn column_of(
+    header: &ByteRecord,
+    line: u64,
+    name: &'static str,
+) -> Result<usize, ResultsFault>
+    ensures found { IfOk result (IsColumn name.now (fields_of header.now)) }
+    ensures refused { IfErr result (IsNoColumn name.now (fields_of header.now)) }
 {
     let mut found = None;
     for place in 0..header.len() {
@@ -191,7 +145,8 @@ fn column_of(header: &ByteRecord, line: u64, name: &'static str) -> Result<usize
 
 /// The columns of a header that are looked for.
 fn columns_of(header: &ByteRecord, line: u64) -> Result<Columns, ResultsFault>
-    ensures { IfOk result (AreColumns (fields_of header.now)) }
+    ensures found { IfOk result (AreColumns (fields_of header.now)) }
+    ensures refused { IfErr result (AreNoColumns (fields_of header.now)) }
 {
     Ok(Columns {
         width: header.len(),
@@ -202,13 +157,15 @@ fn columns_of(header: &ByteRecord, line: u64) -> Result<Columns, ResultsFault>
 
 /// What a row says.
 fn read_row(columns: &Columns, row: &ByteRecord, line: u64) -> Result<NumberedReply, ResultsFault>
-    ensures { IfOk result (λ entry. IsRead columns.now (fields_of row.now) (pair_in entry)) }
+    requires { HasPlaces columns.now }
+    ensures read { IfOk result (λ entry. IsRead columns.now (fields_of row.now) (pair_in entry)) }
+    ensures refused { IfErr result (IsNotRead columns.now (fields_of row.now)) }
 {
     if row.len() != columns.width {
         return Err(ResultsFault::Fields(place_of(line, row.len().min(columns.width))));
     }
     let (Some(number), Some(reply)) = (row.get(columns.number), row.get(columns.reply)) else {
-        return Err(ResultsFault::Fields(place_of(line, row.len())));
+        unreachable!();
     };
     let Some(number) = read_exchange_number(number) else {
         return Err(ResultsFault::Number(place_of(line, columns.number)));
@@ -249,6 +206,7 @@ impl Results {
     fn keep(&mut self, columns: &Columns, entry: NumberedReply) -> Result<(), ResultsFault>
         ensures new { OnOk result (answer self.old entry.number ≡ None) }
         ensures kept { OnOk result ((n : ℕ) → answer self.new n ≡ cond (nat_eq entry.number n) (Some entry.reply.items) (answer self.old n)) }
+        ensures refused { IfErr result (IsNotKept (answer self.old entry.number)) }
     {
         let given = GivenReply {
             line: entry.line,
@@ -261,26 +219,24 @@ impl Results {
     }
 }
 
-/// Reads the results of a unit: CSV with a header, in which the columns `number` and `reply` stand in any place. Other columns
-/// are ignored. Rows stand in any order.
+/// Reads the results of a unit: CSV with a header, in which the columns `number` and `reply` may have any place. Other columns
+/// are ignored. Rows may have any order. The first fault refuses the table, the header's before those of the rows.
 pub fn read_results(alloc: Global, text: &[u8]) -> Result<Results, ResultsFault>
-    ensures { IfOk result (SaysResults text.now) }
+    ensures said { IfOk result (SaysResults text.now) }
+    ensures refused { IfErr result (AreNoResults text.now) }
 {
-    let records = records(alloc, text)?;
+    let records = read_rows(alloc, text, b',')?;
     let rows = records.as_slice();
     if rows.is_empty() {
-        return Err(ResultsFault::NoHeader(TablePlace { row: 1, column: 1 }));
+        return Err(ResultsFault::NoHeader(CellPlace { row: 1, column: 1 }));
     }
-    let start = Cursor { at: 0, line: 1 };
     let header = &rows[0];
-    let mut cursor = at_record(text, start, header);
-    let columns = columns_of(header, cursor.line)?;
+    let columns = columns_of(&header.fields, header.line)?;
     let mut results = Results {
         given: BTreeMap::new(alloc),
     };
     for row in &rows[1..] {
-        cursor = at_record(text, cursor, row);
-        let entry = read_row(&columns, row, cursor.line)?;
+        let entry = read_row(&columns, &row.fields, row.line)?;
         results.keep(&columns, entry)?;
     }
     Ok(results)

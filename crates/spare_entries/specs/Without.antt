@@ -16,9 +16,11 @@ use Rattle.spare_entries.specs.declared.spare.Setting.TheVariants.{Broadcast, Wr
 abbrev pub without : {A : Type 0} → ℕ → List A → List A
 without k xs = take k xs ++ drop (suc k) xs
 
+-- what the profile describes without rule k, counted from 0
 abbrev pub without_rule : Profile → ℕ → Description
 without_rule p k = record (description_of p) { legal = is_legal (without k p.rules) p.modes }
 
+-- what the profile describes without mode entry k, counted from 0
 abbrev pub without_mode : Profile → ℕ → Description
 without_mode p k = record (description_of p) { legal = is_legal p.rules (without k p.modes) }
 
@@ -26,6 +28,7 @@ without_mode p k = record (description_of p) { legal = is_legal p.rules (without
 abbrev pub IsSpareMode : Profile → ℕ → Type 0
 IsSpareMode p k = IsTrue (has_required_codes (without k p.modes)) × Same (description_of p) (without_mode p k)
 
+-- what the profile describes without initial entry k, counted from 0
 abbrev pub without_initial : Profile → ℕ → Description
 without_initial p k = record (description_of p) { initial = initial_word (without k p.initials) }
 

@@ -11,6 +11,7 @@ use Rattle.rt1553_expand.specs.Events.{message_events}
 use Rattle.rt1553_expand.specs.Expansion.{Expansion, kept, from_events}
 use Rattle.rt1553_expand.specs.inner.Said.{said_message}
 
+-- what a line that was read gives in the script
 abbrev pub expansion_by : List ℕ → ReadLine → Expansion
 expansion_by line (Kept said) = kept line said
 expansion_by line (Written bus message) = from_events (message_events bus (said_message message))

@@ -11,6 +11,7 @@ use Rattle.rt1553_export.specs.inner.Rows.{header_cells, setting_cells, message_
 
 -- ---- cells
 
+-- a truth value as a cell
 abbrev pub yes_no : Bool → List ℕ
 yes_no b = if b then codes "yes" else codes "no"
 
@@ -18,9 +19,11 @@ yes_no b = if b then codes "yes" else codes "no"
 abbrev pub is_said : ℕ → List ℕ
 is_said mask = yes_no (not (mask == 0))
 
+-- a word as a cell: 0x and four hexadecimal digits
 abbrev pub word_cell : ℕ → List ℕ
 word_cell word = 48 ∷ 120 ∷ digits_of word
 
+-- the cell of the wraparound subaddress: `no`, or its two digits
 abbrev pub wrap_cell : ℕ → List ℕ
 wrap_cell wrap = if wrap == 0 then codes "no" else two_digits wrap
 
@@ -34,6 +37,7 @@ words_cell words = drop 1 (spaced words)
 
 -- ---- rows
 
+-- which receive commands to this addressee are legal at a subaddress
 abbrev pub receive_row : List ℕ → ℕ → ℕ → List (List ℕ)
 receive_row to subaddress mask = message_cells (codes "receive") (two_digits subaddress) (set_text 1 mask) to [] (is_said mask)
 
@@ -41,9 +45,11 @@ receive_row to subaddress mask = message_cells (codes "receive") (two_digits sub
 abbrev pub transmit_row : ℕ → ℕ × List ℕ → List (List ℕ)
 transmit_row subaddress held = message_cells (codes "transmit") (two_digits subaddress) (set_text 1 held.0) (codes "own") (words_cell held.1) (is_said held.0)
 
+-- which mode codes to this addressee are legal
 abbrev pub mode_codes_row : List ℕ → ℕ → List (List ℕ)
 mode_codes_row to mask = mode_cells (set_text 0 mask) to (is_said mask) []
 
+-- a row for each value of the profile's root
 abbrev pub all_settings : Parts → List (List (List ℕ))
 all_settings v =
     setting_cells (codes "address") (two_digits v.address)
@@ -54,19 +60,23 @@ all_settings v =
     ∷ setting_cells (codes "bit") (word_cell v.bit)
     ∷ []
 
+-- the rows of data: own receive commands first, then own transmit commands, then those by broadcast
 abbrev pub all_messages : Parts → List (List (List ℕ))
 all_messages v =
     from_number (receive_row (codes "own")) 1 v.tables.own_receive
     ++ (from_number transmit_row 1 (zip v.tables.own_transmit v.initial)
     ++ from_number (receive_row (codes "broadcast")) 1 v.tables.broadcast_receive)
 
+-- two rows of mode codes, those to the own address and those by broadcast
 abbrev pub all_codes : Tables → List (List (List ℕ))
 all_codes t = mode_codes_row (codes "own") t.own_mode ∷ mode_codes_row (codes "broadcast") t.broadcast_mode ∷ []
 
+-- all rows below the header
 abbrev pub full_rows : Parts → List (List (List ℕ))
 full_rows v = all_settings v ++ (all_messages v ++ all_codes v.tables)
 
 -- ---- the text
 
+-- the whole table as text, with its header
 abbrev pub full_text : Parts → List ℕ
 full_text v = rows_text (header_cells ∷ full_rows v)

@@ -1,0 +1,4 @@
+-- Rows of tables in CSV.
+pub mod Csv
+pub mod Rows
+pub mod inner
