@@ -10,6 +10,7 @@ use Rattle.line_format.specs.Format.{Field, Format, done, and_then, Spells}
 use Rattle.line_format.specs.Shapes.{number_field, decimal, word, mask, number_line, bit_line, numbered_line, words_line}
 
 infixl 10 ◌>>=◌
+-- the lines of one format, then those of the format that depends on what they mean
 abbrev pub ◌>>=◌ : {A B : Type 0} → Format A → (A → Format B) → Format B
 f >>= g = and_then f g
 
@@ -74,6 +75,7 @@ may_wrap tables s = (s == 0) || (nat_le s 30 && masks_wrap tables s)
 unfoldable pub wrap_name : Tables → Format ℕ
 wrap_name tables = when (any_wraps tables) 0 (number_line (codes "wraparound") decimal (may_wrap tables))
 
+-- what the text of this version says of the wraparound subaddress
 unfoldable pub wrap_lines : ℕ → Tables → Format ℕ
 wrap_lines version tables = if version == 1 then wrap_switch tables else wrap_name tables
 
@@ -81,10 +83,11 @@ wrap_lines version tables = if version == 1 then wrap_switch tables else wrap_na
 abbrev pub version_field : Field
 version_field = number_field 10 1
 
--- the version that is written, and those that are read
+-- the version that is written
 abbrev pub is_written : ℕ → Bool
 is_written version = version == 2
 
+-- a version that can be read
 abbrev pub is_read : ℕ → Bool
 is_read version = (version == 1) || (version == 2)
 

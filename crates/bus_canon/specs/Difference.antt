@@ -25,7 +25,7 @@ rank BitWord = 10
 rank (InitialWord s i) = 11
 rank Wraparound = 12
 
--- Within a kind: the subaddress or the mode code, and then the word count or the number of the word.
+-- Within a kind the subaddress or the mode code comes first; 0 where there is neither.
 abbrev pub first_number : Difference → ℕ
 first_number (ReceiveCell s n) = s
 first_number (TransmitCell s n) = s
@@ -35,6 +35,7 @@ first_number (BroadcastCode code) = code
 first_number (InitialWord s i) = s
 first_number _ = 0
 
+-- Then the word count, or the number of the word; 0 where there is neither.
 abbrev pub second_number : Difference → ℕ
 second_number (ReceiveCell s n) = n
 second_number (TransmitCell s n) = n

@@ -39,6 +39,7 @@ tried_from P (BroadcastReceive s n) = from_place (broadcast_receive_tried P) s n
 tried_from P (BroadcastCode code) = from_code (broadcast_code_tried P) code ++ each_subaddress (wraparound_tried P)
 tried_from P (Wraparound s) = each_in s (31 - s) (wraparound_tried P)
 
+-- the exchanges of the next trial, if there is one, and of all later ones
 abbrev pub tried_after : Description → Option Trial → List Exchange
 tried_after P None = []
 tried_after P (Some trial) = tried_from P trial

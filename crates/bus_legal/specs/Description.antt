@@ -4,6 +4,7 @@ use Rattle.bus_word.specs.declared.cell.Cell.{Cell}
 use Rattle.bus_word.specs.Cell.{is_data_place, is_allowed}
 use Rattle.bus_legal.specs.declared.setup.Setup.{Setup}
 
+-- What a terminal answers depends on these fields, on its history, and on nothing else.
 pub record Description : Type 0 where
   -- the address, 0 to 30, and the broadcast option
   pub address : ℕ

@@ -21,6 +21,7 @@ pub record Parts : Type 0 where
   pub initial : List (List ℕ)
   pub tables : Tables
 
+-- the parts of a terminal that is set up so, with these tables of its legal cells
 abbrev pub parts_of : Setup → Tables → Parts
 parts_of setup tables = record {
   address = setup.address;

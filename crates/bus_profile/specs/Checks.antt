@@ -46,6 +46,7 @@ check fault fails = record { place = []; fault = fault; fails = fails } ∷ []
 abbrev pub under : ℕ → List Check → List Check
 under n checks = map (λ c. record { place = n ∷ c.place; fault = c.fault; fails = c.fails }) checks
 
+-- the checks of several parts, those of each under its number, from n
 abbrev pub numbered : ℕ → List (List Check) → List Check
 numbered n [] = []
 numbered n (part ∷ parts) = under n part ++ numbered (suc n) parts

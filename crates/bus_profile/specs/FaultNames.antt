@@ -3,6 +3,7 @@ use Rattle.std.specs.Prelude.{ℕ, List, codes}
 use Rattle.bus_profile.specs.declared.fault.ProfileFault.{ProfileFault}
 use Rattle.bus_profile.specs.declared.fault.ProfileFault.TheVariants.{NotToml, UnknownKey, Missing, WrongKind, OutOfRange, BadRanges, TooMany, RequiredCode, Memory}
 
+-- the number of the kind of fault; its part, its key and its code make no difference
 abbrev pub profile_fault_number : ProfileFault → ℕ
 profile_fault_number NotToml = 1
 profile_fault_number (UnknownKey part) = 2
@@ -14,6 +15,7 @@ profile_fault_number (TooMany part key) = 7
 profile_fault_number (RequiredCode code) = 8
 profile_fault_number Memory = 9
 
+-- the name of the kind of fault; its part, its key and its code make no difference
 abbrev pub profile_fault_name : ProfileFault → List ℕ
 profile_fault_name NotToml = codes "NotToml"
 profile_fault_name (UnknownKey part) = codes "UnknownKey"

@@ -17,6 +17,7 @@ use Rattle.bus_profile.specs.Gives.{modes_of}
 
 -- ---- one key
 
+-- the key must be there: it has no default
 abbrev pub is_required : Presence → Bool
 is_required required = true
 is_required (optional default) = false
@@ -34,6 +35,7 @@ key_checks part row d = in_order (
     ∷ check (OutOfRange part row.key) (if_there (is_out_of_range row.kind) d)
     ∷ [])
 
+-- the checks of a key in a table that may have it
 abbrev pub row_checks : Part → Members → KeyRow → List Check
 row_checks part ms row = key_checks part row (found row.key ms)
 
@@ -66,9 +68,11 @@ entry_checks part row rows keys _ = in_order (check (WrongKind part row.key) tru
 
 -- ---- the entries
 
+-- the checks of rule n
 abbrev pub rule_checks : ℕ → Data → List Check
 rule_checks n = entry_checks (part.Rule n) rules_key rule_rows (λ ms. map (row_checks (part.Rule n) ms) rule_rows)
 
+-- the checks of mode entry n
 abbrev pub mode_checks : ℕ → Data → List Check
 mode_checks n = entry_checks (part.Mode n) modes_key mode_rows (λ ms. map (row_checks (part.Mode n) ms) mode_rows)
 
@@ -84,9 +88,11 @@ abbrev pub goes_beyond : Option Data → Items → Bool
 goes_beyond (Some (integer z)) ds = is_some (in_range 1 32 z) && nat_lt 32 (whole_in (Some (integer z)) - 1 + count_items ds)
 goes_beyond _ ds = false
 
+-- the checks of the words of an initial entry
 abbrev pub words_checks : Part → Members → List Check
 words_checks part ms = array_checks part words_row (goes_beyond (value at_row ms)) (λ _. word_checks part) ms
 
+-- the checks of initial entry n
 abbrev pub initial_checks : ℕ → Data → List Check
 initial_checks n = entry_checks (part.Initial n) initials_key initial_rows (λ ms.
     row_checks (part.Initial n) ms subaddress_row
@@ -118,6 +124,7 @@ all_pass checks = list_all (λ c. not c.fails) checks
 abbrev pub code_check : Members → ℕ → List Check
 code_check ms code = check (RequiredCode code) (all_pass (key_faults ms) && not (is_own_code_legal (modes_of ms) code))
 
+-- the checks of the own mode codes that must be legal, one for each
 unfoldable pub code_faults : Members → List Check
 code_faults ms = in_order (map (code_check ms) required_codes)
 

@@ -21,6 +21,7 @@ abbrev pub members : Data → Members
 members (table ms) = ms
 members _ = no_members
 
+-- the rule that a table of these keys gives
 abbrev pub rule_from : Members → PlainRule
 rule_from ms = record {
   own = says (codes "own") (text (value to_row ms));
@@ -32,6 +33,7 @@ rule_from ms = record {
   legal = truth_value (value legal_row ms);
 }
 
+-- the mode entry that a table of these keys gives
 abbrev pub mode_from : Members → ModeRule
 mode_from ms = record {
   own = says (codes "own") (text (value to_row ms));
@@ -40,9 +42,11 @@ mode_from ms = record {
   legal = truth_value (value legal_row ms);
 }
 
+-- the word that an item of an array of words gives
 abbrev pub initial_word_in : Data → ℕ
 initial_word_in d = whole_in (Some d)
 
+-- the initial entry that a table of these keys gives
 abbrev pub initial_from : Members → PlainInitial
 initial_from ms = record {
   subaddress = whole_in (value subaddress_row ms);
@@ -50,24 +54,31 @@ initial_from ms = record {
   words = each_of initial_word_in (items (value words_row ms));
 }
 
+-- the rule that an item of the array of rules gives
 abbrev pub rule_in : Data → PlainRule
 rule_in d = rule_from (members d)
 
+-- the rules of the tree, in their order
 abbrev pub rules_of : Members → List PlainRule
 rules_of ms = each_of rule_in (items (value rules_key ms))
 
+-- the mode entry that an item of the array of mode entries gives
 abbrev pub mode_in : Data → ModeRule
 mode_in d = mode_from (members d)
 
+-- the mode entries of the tree, in their order
 abbrev pub modes_of : Members → List ModeRule
 modes_of ms = each_of mode_in (items (value modes_key ms))
 
+-- the initial entry that an item of the array of initial entries gives
 abbrev pub initial_in : Data → PlainInitial
 initial_in d = initial_from (members d)
 
+-- the initial entries of the tree, in their order
 abbrev pub initials_of : Members → List PlainInitial
 initials_of ms = each_of initial_in (items (value initials_key ms))
 
+-- the whole profile that the tree gives
 abbrev pub profile_of : Members → PlainProfile
 profile_of ms = record {
   address = whole_in (value address_row ms);

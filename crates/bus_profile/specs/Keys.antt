@@ -32,9 +32,11 @@ pub record KeyRow : Type 0 where
   pub kind : ValueKind
   pub presence : Presence
 
+-- the line of the table for this key: what it holds, and whether it must be there
 abbrev pub key_row : Key → ValueKind → Presence → KeyRow
 key_row key kind presence = record { key = key; kind = kind; presence = presence }
 
+-- the keys of these lines of the table
 abbrev pub keys_of : List KeyRow → List Key
 keys_of rows = map (λ r. r.key) rows
 
@@ -61,37 +63,47 @@ key_name Words = codes "words"
 
 -- ---- the root
 
+-- the terminal's address, which must be given
 abbrev pub address_row : KeyRow
 address_row = key_row Address (whole 0 30) required
 
+-- whether the terminal hears commands to all terminals: false, unless it is given
 abbrev pub broadcast_row : KeyRow
 broadcast_row = key_row Broadcast truth (optional (boolean false))
 
+-- the wraparound subaddress, or true for 30 and false for none: true, unless it is given
 abbrev pub wraparound_row : KeyRow
 wraparound_row = key_row Wraparound (truth_or_whole 1 30) (optional (boolean true))
 
+-- whether the terminal accepts dynamic bus control: false, unless it is given
 abbrev pub accept_row : KeyRow
 accept_row = key_row AcceptBusControl truth (optional (boolean false))
 
+-- the vector word at power-up: 0, unless it is given
 abbrev pub vector_row : KeyRow
 vector_row = key_row Vector (whole 0 65535) (optional (integer (pos 0)))
 
+-- the BIT word at power-up: 0, unless it is given
 abbrev pub bit_row : KeyRow
 bit_row = key_row Bit (whole 0 65535) (optional (integer (pos 0)))
 
+-- the array of rules: at most 256, none unless it is given
 abbrev pub rules_key : KeyRow
 rules_key = key_row Rule (tables 256) (optional (array no_items))
 
+-- the array of mode entries: at most 256, none unless it is given
 abbrev pub modes_key : KeyRow
 modes_key = key_row Mode (tables 256) (optional (array no_items))
 
+-- the array of initial entries: at most 256, none unless it is given
 abbrev pub initials_key : KeyRow
 initials_key = key_row Initial (tables 256) (optional (array no_items))
 
--- the keys of the root that hold one value, and all its keys
+-- the keys of the root that hold one value
 abbrev pub setting_rows : List KeyRow
 setting_rows = address_row ∷ broadcast_row ∷ wraparound_row ∷ accept_row ∷ vector_row ∷ bit_row ∷ []
 
+-- all the keys of the root
 abbrev pub root_rows : List KeyRow
 root_rows = setting_rows ++ rules_key ∷ modes_key ∷ initials_key ∷ []
 
@@ -101,39 +113,50 @@ root_rows = setting_rows ++ rules_key ∷ modes_key ∷ initials_key ∷ []
 abbrev pub to_row : KeyRow
 to_row = key_row To (choice (codes "own" ∷ codes "broadcast" ∷ codes "both" ∷ [])) (optional (string (codes "own")))
 
+-- whether the rule is of words that the terminal receives, transmits, or both
 abbrev pub direction_row : KeyRow
 direction_row = key_row Direction (choice (codes "receive" ∷ codes "transmit" ∷ codes "both" ∷ [])) required
 
+-- the subaddresses of the rule
 abbrev pub subaddresses_row : KeyRow
 subaddresses_row = key_row Subaddresses (ranges 1 30) required
 
+-- the word counts of the rule: all, unless they are given
 abbrev pub counts_row : KeyRow
 counts_row = key_row Counts (ranges 1 32) (optional (string (codes "1-32")))
 
+-- whether the rule or mode entry makes its commands legal or illegal: legal, unless it is given
 abbrev pub legal_row : KeyRow
 legal_row = key_row Legal truth (optional (boolean true))
 
+-- all the keys of a rule
 abbrev pub rule_rows : List KeyRow
 rule_rows = to_row ∷ direction_row ∷ subaddresses_row ∷ counts_row ∷ legal_row ∷ []
 
 -- ---- a mode entry
 
+-- the mode codes of the entry
 abbrev pub codes_row : KeyRow
 codes_row = key_row Codes (ranges 0 31) required
 
+-- all the keys of a mode entry
 abbrev pub mode_rows : List KeyRow
 mode_rows = to_row ∷ codes_row ∷ legal_row ∷ []
 
 -- ---- an initial entry
 
+-- the subaddress that holds the words at power-up
 abbrev pub subaddress_row : KeyRow
 subaddress_row = key_row Subaddress (whole 1 30) required
 
+-- the number of the first of the words in their subaddress: 1, unless it is given
 abbrev pub at_row : KeyRow
 at_row = key_row At (whole 1 32) (optional (integer (pos 1)))
 
+-- the words, in their order
 abbrev pub words_row : KeyRow
 words_row = key_row Words (numbers 0 65535) required
 
+-- all the keys of an initial entry
 abbrev pub initial_rows : List KeyRow
 initial_rows = subaddress_row ∷ at_row ∷ words_row ∷ []

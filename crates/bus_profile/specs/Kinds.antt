@@ -18,6 +18,7 @@ use Rattle.bus_profile.specs.RangesOf.{ranges_of}
 abbrev pub found : Key → Members → Option Data
 found key ms = get_member (key_name key) ms
 
+-- the names of all keys of a table, as they are written
 abbrev pub names_of : Members → List (List ℕ)
 names_of no_members = []
 names_of (member name d ms) = name ∷ names_of ms
@@ -32,6 +33,7 @@ has_unknown keys ms = list_any (λ name. not (is_known keys name)) (names_of ms)
 
 -- ---- the values of a kind
 
+-- the value is of the type that the key takes, whatever its range
 abbrev pub is_of_kind : ValueKind → Data → Bool
 is_of_kind truth (boolean b) = true
 is_of_kind (whole low high) (integer z) = true
@@ -49,10 +51,12 @@ abbrev pub in_range : ℕ → ℕ → ℤ → Option ℕ
 in_range low high (pos n) = if nat_le low n && nat_le n high then Some n else None
 in_range low high (negsuc n) = None
 
+-- the text was refused since it is no list of ranges
 abbrev pub is_syntax : Result ℕ RangeFault → Bool
 is_syntax (Err Syntax) = true
 is_syntax _ = false
 
+-- the text was refused since some range falls or leaves the bounds
 abbrev pub is_bounds : Result ℕ RangeFault → Bool
 is_bounds (Err Bounds) = true
 is_bounds _ = false
@@ -76,6 +80,7 @@ abbrev pub item_kind : ValueKind → ValueKind
 item_kind (numbers low high) = whole low high
 item_kind kind = kind
 
+-- how many items an array has
 abbrev pub count_items : Items → ℕ
 count_items no_items = 0
 count_items (item d ds) = suc (count_items ds)
@@ -92,13 +97,16 @@ abbrev pub or_default : Presence → Option Data → Option Data
 or_default required d = d
 or_default (optional default) d = option_or d (Some default)
 
+-- the value that holds for a key in this table: its own, or the default
 abbrev pub value : KeyRow → Members → Option Data
 value row ms = or_default row.presence (found row.key ms)
 
+-- the whole number; 0 where there is no number, or one below 0
 abbrev pub whole_in : Option Data → ℕ
 whole_in (Some (integer (pos n))) = n
 whole_in _ = 0
 
+-- the truth value; false where there is none
 abbrev pub truth_value : Option Data → Bool
 truth_value (Some (boolean b)) = b
 truth_value _ = false
@@ -108,6 +116,7 @@ abbrev pub wrap_value : Option Data → ℕ
 wrap_value (Some (boolean b)) = if b then wraparound_subaddress else 0
 wrap_value d = whole_in d
 
+-- the bytes of a text; none where there is no text
 abbrev pub text : Option Data → List ℕ
 text (Some (string s)) = s
 text _ = []

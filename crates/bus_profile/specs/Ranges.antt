@@ -5,13 +5,15 @@ use Rattle.bus_profile.specs.declared.ranges.RangeFault.{RangeFault}
 use Rattle.bus_profile.specs.declared.ranges.RangeFault.TheVariants.{Syntax, Bounds}
 use Rattle.bus_word.specs.Mask.{has_bit}
 
--- the bytes of a space, a comma and a minus sign
+-- the byte of a space
 abbrev pub space : ℕ
 space = 32
 
+-- the byte of a comma
 abbrev pub comma : ℕ
 comma = 44
 
+-- the byte of a minus sign
 abbrev pub minus : ℕ
 minus = 45
 
@@ -63,6 +65,7 @@ Denotes text (i ∷ j ∷ more) = (part : List ℕ) × (rest : List ℕ) × (tex
 abbrev pub IsWithin : ℕ → ℕ → Item → Type 0
 IsWithin low high i = (low ≤ i.first) × (i.first ≤ i.last) × (i.last ≤ high)
 
+-- no item falls, and all numbers are in the range
 abbrev pub AreWithin : ℕ → ℕ → List Item → Type 0
 AreWithin low high [] = Unit {0}
 AreWithin low high (i ∷ more) = IsWithin low high i × AreWithin low high more

@@ -75,9 +75,11 @@ bits_where (suc k) p = (if p k then 1 else 0) * 2 ^ k + bits_where k p
 unfoldable pub mask_of : ℕ → List Item → ℕ
 mask_of low items = bits_where 32 (λ i. is_named items (low + i))
 
+-- the set of these items, or which fault there is: no items, or one that falls or leaves the range
 abbrev pub mask_within : ℕ → ℕ → Option (List Item) → Result ℕ RangeFault
 mask_within low high None = Err Syntax
 mask_within low high (Some items) = if list_all (is_within low high) items then Ok (mask_of low items) else Err Bounds
 
+-- what a text of ranges from low to high answers: the set of its numbers, or its fault
 unfoldable pub ranges_of : ℕ → ℕ → List ℕ → Result ℕ RangeFault
 ranges_of low high text = mask_within low high (items_of text)

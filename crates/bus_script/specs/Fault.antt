@@ -3,6 +3,7 @@ use Rattle.std.specs.Prelude.{ℕ, Bool, true, false, List, codes}
 use Rattle.bus_script.specs.declared.fault.RunFault.{RunFault}
 use Rattle.bus_script.specs.declared.fault.RunFault.TheVariants.{Line, LongLine, TooLong, Read, Write}
 
+-- the number of the kind of fault, whatever the line
 abbrev pub run_fault_number : RunFault → ℕ
 run_fault_number (Line n) = 1
 run_fault_number (LongLine n) = 2
@@ -10,6 +11,7 @@ run_fault_number TooLong = 3
 run_fault_number Read = 4
 run_fault_number Write = 5
 
+-- the name of the kind of fault, whatever the line
 abbrev pub run_fault_name : RunFault → List ℕ
 run_fault_name (Line n) = codes "Line"
 run_fault_name (LongLine n) = codes "LongLine"

@@ -19,6 +19,7 @@ nothing = record { events = []; fault = None }
 abbrev pub adds : List Event → Reading → Reading
 adds es r = record { events = es ++ r.events; fault = r.fault }
 
+-- no event is said any more, for this fault
 abbrev pub stops : RunFault → Reading
 stops f = record { events = []; fault = Some f }
 

@@ -21,10 +21,10 @@ use Rattle.terminal_rules.specs.Ends.{at_gap, unless_ignored}
 use Rattle.terminal_rules.specs.SinceReset.{held_now}
 use Rattle.terminal_rules.specs.Past.{past}
 use Rattle.terminal_rules.specs.Out.{Out, handing_over, sending_out, sending, hands, reply_word, sends, out}
-use Rattle.terminal_state.specs.inner.Standing.{gap_ends}
-use Rattle.terminal_state.specs.inner.Registers.{registers_now}
-use Rattle.terminal_state.specs.inner.Places.{has_place}
-use Rattle.terminal_state.specs.inner.Replies.{shown_reply, can_send}
+use Rattle.terminal_state.specs.Standing.{gap_ends}
+use Rattle.terminal_state.specs.Registers.{registers_now}
+use Rattle.terminal_state.specs.Places.{has_place}
+use Rattle.terminal_state.specs.Replies.{shown_reply, can_send}
 use Rattle.bus_terminal.specs.Stands.{StandsAt, held_word, own_description}
 use Rattle.bus_terminal.specs.inner.Terminal.{reply_word_from, sends_from, ends_at_gap, IsSameSetup}
 use Rattle.terminal_state.proofs.CollectedLaw.{gap_ends_law}

@@ -24,12 +24,12 @@ use Rattle.terminal_rules.specs.Ends.{data_of, at_gap, verdict, unless_ignored}
 use Rattle.terminal_rules.specs.SinceReset.{nth_word, wrapped_at, wrapped, held_now}
 use Rattle.terminal_rules.specs.Past.{past, open_at, history_after}
 use Rattle.terminal_rules.specs.Out.{handing_over, hands, HandsReceived}
-use Rattle.terminal_rules.specs.inner.Steps.{replies_on}
+use Rattle.terminal_rules.specs.Steps.{replies_on}
 use Rattle.terminal_state.specs.declared.decoded.Decoded.{Decoded}
 use Rattle.terminal_state.specs.declared.message.InProgress.{InProgress}
-use Rattle.terminal_state.specs.inner.Standing.{Standing, Words, Spoilt, standing_of, next, next_word, gap_end_of, ending_at, gap_ends, gap_leaves, entry_leaves, entry_fails, fresh_in}
-use Rattle.terminal_state.specs.inner.Message.{standing_on, command_in}
-use Rattle.terminal_state.specs.inner.Registers.{registers_now, failed_by}
+use Rattle.terminal_state.specs.Standing.{Standing, Words, Spoilt, standing_of, next, next_word, gap_end_of, ending_at, gap_ends, gap_leaves, entry_leaves, entry_fails, fresh_in}
+use Rattle.terminal_state.specs.Message.{standing_on, command_in}
+use Rattle.terminal_state.specs.Registers.{registers_now, failed_by}
 use Rattle.terminal_state.proofs.CollectedLaw.{expected-le, gap_ends_law, fresh_open, fresh_law}
 use Rattle.bus_terminal.specs.declared.answer.Receiving.{Receiving}
 use Rattle.bus_terminal.specs.declared.terminal.Terminal.{Terminal}

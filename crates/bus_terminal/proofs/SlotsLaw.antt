@@ -18,14 +18,14 @@ use Rattle.terminal_rules.specs.SinceReset.{is_status_of_reset, held_now}
 use Rattle.terminal_rules.specs.Status.{kept_now}
 use Rattle.terminal_rules.specs.Past.{past, history_after}
 use Rattle.terminal_rules.specs.Out.{sending, sending_out, sends, SendsWord, out}
-use Rattle.terminal_rules.specs.inner.Steps.{sent_one, resets_next}
+use Rattle.terminal_rules.specs.Steps.{sent_one, resets_next}
 use Rattle.terminal_rules.proofs.OpenLaw.{slot_law}
 use Rattle.terminal_rules.proofs.ReplyLaw.{reply_slot_law}
 use Rattle.terminal_state.specs.declared.reply.Reply.{Reply}
-use Rattle.terminal_state.specs.inner.Standing.{standing_of}
-use Rattle.terminal_state.specs.inner.Registers.{registers_now, reset_if}
-use Rattle.terminal_state.specs.inner.Held.{block_in}
-use Rattle.terminal_state.specs.inner.Replies.{shown_reply, sent_many}
+use Rattle.terminal_state.specs.Standing.{standing_of}
+use Rattle.terminal_state.specs.Registers.{registers_now, reset_if}
+use Rattle.terminal_state.specs.Held.{block_in}
+use Rattle.terminal_state.specs.Replies.{shown_reply, sent_many}
 use Rattle.terminal_state.proofs.SentLaw.{sent_none, sent_law}
 use Rattle.bus_terminal.specs.declared.terminal.Terminal.{Terminal}
 use Rattle.bus_terminal.specs.Stands.{StandsAt, heard_on_buses}

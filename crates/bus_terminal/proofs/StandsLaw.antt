@@ -25,13 +25,13 @@ use Rattle.terminal_rules.specs.Ends.{at_gap, at_entry, unless_ignored}
 use Rattle.terminal_rules.specs.SinceReset.{resets, is_reset, off_now, wrapped, written, either_word, held_now}
 use Rattle.terminal_rules.specs.Status.{spares, adds_error}
 use Rattle.terminal_rules.specs.Past.{note, past}
-use Rattle.terminal_state.specs.inner.Standing.{Standing, Words, standing_of, word_bits, word_leaves, entry_fails, fails, gap_leaves, gap_ends, starts_by}
-use Rattle.terminal_state.specs.inner.Registers.{registers_now, registers_after, failed_by, started_if, settled, reset_if}
-use Rattle.terminal_rules.specs.inner.Steps.{replies_on, unless_reset, resets_at_gap, sent_one, resets_next, begun_if, dropped_if}
-use Rattle.terminal_state.specs.inner.Replies.{shown_reply}
-use Rattle.terminal_state.specs.inner.Buses.{on_bus, with_bus}
-use Rattle.terminal_state.specs.inner.Message.{standing_on}
-use Rattle.terminal_state.specs.inner.Held.{word_in}
+use Rattle.terminal_state.specs.Standing.{Standing, Words, standing_of, word_bits, word_leaves, entry_fails, fails, gap_leaves, gap_ends, starts_by}
+use Rattle.terminal_state.specs.Registers.{registers_now, registers_after, failed_by, started_if, settled, reset_if}
+use Rattle.terminal_rules.specs.Steps.{replies_on, unless_reset, resets_at_gap, sent_one, resets_next, begun_if, dropped_if}
+use Rattle.terminal_state.specs.Replies.{shown_reply}
+use Rattle.terminal_state.specs.Buses.{on_bus, with_bus}
+use Rattle.terminal_state.specs.Message.{standing_on}
+use Rattle.terminal_state.specs.Held.{word_in}
 use Rattle.bus_terminal.specs.Stands.{StandsAt, heard_on_buses}
 use Rattle.bus_terminal.specs.inner.Terminal.{heard_after_word, ends_at_gap, begins_in, TakesWord, TakesGap, TakesSlot}
 use Rattle.terminal_rules.proofs.OpenLaw.{word_law, noise_law, gap_law, slot_law, after_word, after_gap, after_entry, unheard}

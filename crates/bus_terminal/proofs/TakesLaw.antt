@@ -9,13 +9,13 @@ use Rattle.terminal_rules.specs.History.{Ending}
 use Rattle.terminal_rules.specs.Status.{spares, adds_error}
 use Rattle.terminal_rules.specs.SinceReset.{wrapped}
 use Rattle.terminal_rules.specs.Turn.{done_cell}
-use Rattle.terminal_rules.specs.inner.Steps.{dropped_if, begun_if, resets_at_gap, unless_reset}
-use Rattle.terminal_state.specs.inner.Standing.{word_leaves, entry_fails}
-use Rattle.terminal_state.specs.inner.Message.{standing_on}
-use Rattle.terminal_state.specs.inner.Registers.{failed_by, started_if, settled}
-use Rattle.terminal_state.specs.inner.Buses.{with_bus}
-use Rattle.terminal_state.specs.inner.Held.{held_after}
-use Rattle.terminal_state.specs.inner.Replies.{shown_reply}
+use Rattle.terminal_rules.specs.Steps.{dropped_if, begun_if, resets_at_gap, unless_reset}
+use Rattle.terminal_state.specs.Standing.{word_leaves, entry_fails}
+use Rattle.terminal_state.specs.Message.{standing_on}
+use Rattle.terminal_state.specs.Registers.{failed_by, started_if, settled}
+use Rattle.terminal_state.specs.Buses.{with_bus}
+use Rattle.terminal_state.specs.Held.{held_after}
+use Rattle.terminal_state.specs.Replies.{shown_reply}
 use Rattle.bus_terminal.specs.declared.terminal.Terminal.{Terminal}
 use Rattle.bus_terminal.specs.Stands.{own_description, held_word}
 use Rattle.bus_terminal.specs.inner.Terminal.{heard_after_word, starts_in, begins_in, IsSameSetup, TakesStart, TakesWord, Settles}

@@ -18,15 +18,15 @@ use Rattle.terminal_rules.specs.SinceReset.{wrapped}
 use Rattle.terminal_rules.specs.Open.{Idle, Collects, is_on}
 use Rattle.terminal_rules.specs.Starts.{is_for_terminal}
 use Rattle.terminal_rules.specs.Reply.{reply_bus}
-use Rattle.terminal_state.specs.inner.Buses.{with_bus}
-use Rattle.terminal_state.specs.inner.Standing.{Words, Complete, starts_by, entry_fails, fresh_in, gap_end, gap_end_of, ending_at}
+use Rattle.terminal_state.specs.Buses.{with_bus}
+use Rattle.terminal_state.specs.Standing.{Words, Complete, starts_by, entry_fails, fresh_in, gap_end, gap_end_of, ending_at}
 use Rattle.terminal_state.specs.declared.decoded.Decoded.{Decoded}
 use Rattle.terminal_state.specs.declared.ended.Ended.{Ended}
 use Rattle.terminal_state.specs.declared.message.InProgress.{InProgress}
-use Rattle.terminal_state.specs.inner.Ended.{ending_of}
-use Rattle.terminal_state.specs.inner.Replies.{shown_reply}
-use Rattle.terminal_state.specs.inner.Message.{standing_on}
-use Rattle.terminal_state.specs.inner.Registers.{failed_by}
+use Rattle.terminal_state.specs.Ended.{ending_of}
+use Rattle.terminal_state.specs.Replies.{shown_reply}
+use Rattle.terminal_state.specs.Message.{standing_on}
+use Rattle.terminal_state.specs.Registers.{failed_by}
 use Rattle.bus_terminal.specs.declared.answer.Receiving.{Receiving}
 use Rattle.bus_terminal.specs.declared.terminal.Terminal.{Terminal}
 use Rattle.bus_terminal.specs.Stands.{StandsAt, own_description}

@@ -7,9 +7,11 @@ use Rattle.bus_terminal.specs.declared.answer.Answer.{Answer}
 use Rattle.bus_terminal.specs.declared.answer.Answer.TheVariants.{Silent, Sends, Hands}
 use Rattle.terminal_rules.specs.Out.{Sending, Handing, HandsReceived, HandsSynchronize, HandsSynchronizeWith, HandsSelfTest, HandsBusControl, Out, Silence, SendsWord, HandsOver}
 
+-- a word that is sent, in the words of the rules
 abbrev pub shown_word : Sent → Sending
 shown_word s = record { bus = s.bus; kind = s.kind; bits = s.bits }
 
+-- what is handed over, in the words of the rules
 abbrev pub shown_handing : Hand → Handing
 shown_handing (Received broadcast subaddress words) = HandsReceived broadcast subaddress words.now
 shown_handing Synchronize = HandsSynchronize

@@ -26,6 +26,7 @@ abbrev pub words_left_of : Option Cell → ℕ → ℕ
 words_left_of (Some (OwnTransmit s n)) (suc m) = n - m
 words_left_of _ _ = 0
 
+-- the same of the reply in progress, where there is one
 abbrev pub words_left : Option Replying → ℕ
 words_left None = 0
 words_left (Some r) = words_left_of r.cell r.number

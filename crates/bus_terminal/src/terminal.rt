@@ -47,15 +47,15 @@ impl<L: Legality> Terminal<L> {
     ghost use Rattle.terminal_rules.specs.Open.{is_on};
     ghost use Rattle.terminal_rules.specs.SinceReset.{wrapped};
     ghost use Rattle.terminal_rules.specs.Turn.{done_cell};
-    ghost use Rattle.terminal_state.specs.inner.Places.{can_reply};
+    ghost use Rattle.terminal_state.specs.Places.{can_reply};
     ghost use Rattle.terminal_rules.specs.Out.{out};
     ghost use Rattle.terminal_state.specs.declared.message.InProgress.{InProgress};
-    ghost use Rattle.terminal_state.specs.inner.Replies.{shown_reply, can_send};
-    ghost use Rattle.terminal_state.specs.inner.Standing.{ending_at, starts_by};
-    ghost use Rattle.terminal_state.specs.inner.Message.{standing_on, gap_end_with};
-    ghost use Rattle.terminal_state.specs.inner.Ended.{ending_of};
-    ghost use Rattle.terminal_state.specs.inner.Registers.{failed_by};
-    ghost use Rattle.terminal_state.specs.inner.Buses.{on_bus, with_bus};
+    ghost use Rattle.terminal_state.specs.Replies.{shown_reply, can_send};
+    ghost use Rattle.terminal_state.specs.Standing.{ending_at, starts_by};
+    ghost use Rattle.terminal_state.specs.Message.{standing_on, gap_end_with};
+    ghost use Rattle.terminal_state.specs.Ended.{ending_of};
+    ghost use Rattle.terminal_state.specs.Registers.{failed_by};
+    ghost use Rattle.terminal_state.specs.Buses.{on_bus, with_bus};
     ghost use Rattle.bus_terminal.specs.Answer.{shown_answer, IsSmall};
     ghost use Rattle.bus_terminal.specs.inner.Answer.{shown_sent};
     ghost use Rattle.bus_terminal.specs.Stands.{StandsAt, TakesEvent, AnswersEvent, own_description, held_word};
@@ -88,7 +88,7 @@ impl<L: Legality> Terminal<L> {
     #[inline(always)]
     pub fn step(&mut self, event: Event) -> Answer<'_>
         ensures answer { AnswersEvent L.is_legal event self.old (shown_answer result) }
-        ensures* stands { sem 𝓛 (Rests (the_row L.row) self.entry (λ new. TakesEvent L.is_legal event self.old new × (new.legality ≡ self.old.legality))) }
+        ensures* stands { sem 𝓛 (Rests (the_row L.row) self.entry (λ new. TakesEvent L.is_legal event self.old new × (new.legality ≡ self.old.legality) × (own_description L.is_legal new ≡ own_description L.is_legal self.old))) }
         ensures small { IsSmall (shown_answer result) }
     {
         match event {
@@ -140,6 +140,7 @@ impl<L: Legality> Terminal<L> {
     fn hear(&mut self, bus: Bus, word: Raw)
         ensures takes { TakesEvent L.is_legal (WordEvent bus word) self.old self.new }
         ensures legality { self.new.legality ≡ self.old.legality }
+        ensures description { own_description L.is_legal self.new ≡ own_description L.is_legal self.old }
     {
         if !self.replies_on(bus) {
             let ours = word.is_for(self.settings.address, self.settings.broadcast);
@@ -152,6 +153,7 @@ impl<L: Legality> Terminal<L> {
     fn take_any(&mut self, event: Event)
         ensures takes { TakesEvent L.is_legal event self.old self.new }
         ensures legality { self.new.legality ≡ self.old.legality }
+        ensures description { own_description L.is_legal self.new ≡ own_description L.is_legal self.old }
     {
         match event {
             Event::Word(bus, word) => self.hear(bus, word),

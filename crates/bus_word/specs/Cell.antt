@@ -13,6 +13,7 @@ data_cell command =
     then (if is_broadcast command then None else Some (OwnTransmit (subaddress_of command) (count_of command)))
     else (if is_broadcast command then Some (BroadReceive (subaddress_of command) (count_of command)) else Some (OwnReceive (subaddress_of command) (count_of command)))
 
+-- the two truth values are equal
 abbrev pub same_bool : Bool → Bool → Bool
 same_bool true b = b
 same_bool false b = not b

@@ -29,6 +29,7 @@ fields_of command = record {
   low = command % 32;
 }
 
+-- the address field: in a command the terminal that it is for, in a status word the one that sent it
 abbrev pub address_of : ℕ → ℕ
 address_of command = (fields_of command).address
 
@@ -36,6 +37,7 @@ address_of command = (fields_of command).address
 abbrev pub transmits : ℕ → Bool
 transmits command = (fields_of command).tr == 1
 
+-- the subaddress field: 1 to 30 for data, 0 and 31 for mode codes
 abbrev pub subaddress_of : ℕ → ℕ
 subaddress_of command = (fields_of command).subaddress
 
@@ -59,6 +61,7 @@ count_of command = count_in (fields_of command).low
 abbrev pub is_mode : ℕ → Bool
 is_mode command = (subaddress_of command == 0) || (subaddress_of command == 31)
 
+-- the command is for all terminals: its address is 31
 abbrev pub is_broadcast : ℕ → Bool
 is_broadcast command = address_of command == 31
 

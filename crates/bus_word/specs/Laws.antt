@@ -35,6 +35,7 @@ pub record HasStatusBits (status address : ℕ) (parts : StatusParts) : Type 0 w
   pub accept : status / 0x0002 % 2 ≡ bit_of parts.accept
   pub terminal : status % 2 ≡ bit_of parts.terminal
 
+-- each status word has its parts at these bits, and no bit besides
 abbrev pub StatusHasBits : Type 0
 StatusHasBits = (address : ℕ) (parts : StatusParts) → HasStatusBits (status_word address parts) address parts
 
@@ -43,13 +44,15 @@ abbrev pub mask_where : ℕ → (ℕ → Bool) → ℕ
 mask_where zero test = 0
 mask_where (suc n) test = mask_where n test + (if test n then 2 ^ n else 0)
 
--- the own mode codes that may be legal, those that must be, and those that may be by broadcast
+-- the own mode codes that may be legal, as a mask
 abbrev pub OwnCodes : Type 0
 OwnCodes = mask_where 32 (λ code. is_some (mode_row code)) ≡ 0x000f01ff
 
+-- the own mode codes that every profile must leave legal
 abbrev pub RequiredCodes : Type 0
 RequiredCodes = mask_where 32 is_required_code ≡ 0x00000134
 
+-- the mode codes that may be legal by broadcast
 abbrev pub BroadcastCodes : Type 0
 BroadcastCodes = mask_where 32 (λ code. allows_broadcast (mode_row code)) ≡ 0x000201fa
 
@@ -69,5 +72,6 @@ pub record HasCommand (cell : Cell) : Type 0 where
 abbrev pub AllowedHaveCommands : Type 0
 AllowedHaveCommands = (cell : Cell) → is_allowed cell ≡ true → HasCommand cell
 
+-- and the cell of each command is an allowed one
 abbrev pub CommandsHaveAllowed : Type 0
 CommandsHaveAllowed = (cell : Cell) → HasCommand cell → is_allowed cell ≡ true

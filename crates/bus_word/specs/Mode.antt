@@ -3,53 +3,68 @@ use Rattle.std.specs.Prelude.{ℕ, Bool, true, false, ◌==◌, if◌then◌else
 use Rattle.std.specs.List.{list_any}
 use Rattle.bus_word.specs.declared.mode.ModeRow.{ModeRow}
 
--- The mode codes by their names.
+-- The mode codes by their names. Code 0: the terminal is offered control of the bus.
 abbrev pub dynamic_bus_control : ℕ
 dynamic_bus_control = 0
 
+-- code 1: the subsystem is to synchronize itself
 abbrev pub synchronize : ℕ
 synchronize = 1
 
+-- code 2: the terminal sends the status word that it has kept
 abbrev pub transmit_status : ℕ
 transmit_status = 2
 
+-- code 3: the subsystem is to begin its self test
 abbrev pub self_test : ℕ
 self_test = 3
 
+-- code 4: the transmitter of the other bus is shut down
 abbrev pub shutdown : ℕ
 shutdown = 4
 
+-- code 5: the transmitter of the other bus is enabled again
 abbrev pub override_shutdown : ℕ
 override_shutdown = 5
 
+-- code 6: the terminal flag bit of status words is 0, whatever the flag
 abbrev pub inhibit_flag : ℕ
 inhibit_flag = 6
 
+-- code 7: the terminal flag bit shows the flag again
 abbrev pub override_inhibit : ℕ
 override_inhibit = 7
 
+-- code 8: what the terminal keeps is again that of power-up, except for the flags and the runs
 abbrev pub reset : ℕ
 reset = 8
 
+-- code 16: the terminal sends its vector word
 abbrev pub vector_word : ℕ
 vector_word = 16
 
+-- code 17: the subsystem is to synchronize itself, by a data word that is received
 abbrev pub synchronize_with_word : ℕ
 synchronize_with_word = 17
 
+-- code 18: the terminal sends the last command that it recorded
 abbrev pub last_command : ℕ
 last_command = 18
 
+-- code 19: the terminal sends its BIT word, the report of its built-in test
 abbrev pub bit_word : ℕ
 bit_word = 19
 
+-- what is said of a code: the T/R of its command, whether a data word goes with it, whether it may be broadcast
 abbrev pub row : Bool → Bool → Bool → ModeRow
 row transmit word broadcast = record { transmit = transmit; word = word; broadcast = broadcast }
 
+-- a line of the table of mode codes
 pub record ModeEntry : Type 0 where
   pub code : ℕ
   pub row : ModeRow
 
+-- the line of this code
 abbrev pub entry : ℕ → ModeRow → ModeEntry
 entry code row = record { code = code; row = row }
 
@@ -72,6 +87,7 @@ mode_table =
     ∷ entry bit_word (row true true false)
     ∷ []
 
+-- what the first line with this code says, or none
 abbrev pub row_in : List ModeEntry → ℕ → Option ModeRow
 row_in [] code = None
 row_in (e ∷ entries) code = if code == e.code then Some e.row else row_in entries code
@@ -85,6 +101,7 @@ mode_row code = row_in mode_table code
 abbrev pub required_codes : List ℕ
 required_codes = transmit_status ∷ shutdown ∷ override_shutdown ∷ reset ∷ []
 
+-- every profile must leave this own mode code legal
 abbrev pub is_required_code : ℕ → Bool
 is_required_code code = list_any (λ c. c == code) required_codes
 

@@ -33,10 +33,12 @@ is_valid w = ones (parity_bits w) % 2 == 1
 abbrev pub valid_word : Kind → ℕ → Raw
 valid_word kind bits = record { kind = kind; bits = bits; parity = ones (low_bits 16 bits) % 2 == 0 }
 
+-- the sync of command words and status words
 abbrev pub is_command_sync : Kind → Bool
 is_command_sync Com = true
 is_command_sync Dat = false
 
+-- the sync of data words
 abbrev pub is_data_sync : Kind → Bool
 is_data_sync Com = false
 is_data_sync Dat = true

@@ -27,6 +27,7 @@ pub data LineAnswer (A : Type 0) : Type 0 where
   More : LineAnswer A
   Wrong : (line : ℕ) → LineAnswer A
 
+-- the answer is right: a whole text of this value, a text with more after it, or the first wrong line
 abbrev pub LineAnswers : {A : Type 0} → Format A → List ℕ → LineAnswer A → Type 0
 LineAnswers F bytes (Whole v) = Spells F v bytes
 LineAnswers F bytes More = Trails F bytes

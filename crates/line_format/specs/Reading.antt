@@ -43,6 +43,7 @@ content_at name fields bytes = do
   end ← after (10 ∷ []) xs.1
   Some (xs.0, end)
 
+-- what was read, if the test passes its numbers
 abbrev pub only : (List ℕ → Bool) → List ℕ × List ℕ → Option (List ℕ × List ℕ)
 only allowed p = if allowed p.0 then Some p else None
 

@@ -2,6 +2,7 @@
 use Rattle.std.specs.Prelude.{ℕ, Bool, true, ◌==◌, List, [], ◌∷◌, replicate}
 use Rattle.line_format.specs.Format.{Field, Format, done, line}
 
+-- the field of this base, with this number of digits
 abbrev pub number_field : ℕ → ℕ → Field
 number_field base width = record { base = base; width = width }
 
@@ -17,10 +18,12 @@ word = number_field 16 4
 abbrev pub mask : Field
 mask = number_field 16 8
 
+-- the first number of a line; 0 where there is none
 abbrev pub first : List ℕ → ℕ
 first [] = 0
 first (x ∷ xs) = x
 
+-- the numbers of a line after the first
 abbrev pub others : List ℕ → List ℕ
 others [] = []
 others (x ∷ xs) = xs

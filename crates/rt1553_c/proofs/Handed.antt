@@ -24,9 +24,9 @@ use Rattle.std.specs.contracts.boxed.Box as box
 use Rattle.std.proofs.boxed.Box.TheLaws as box_laws
 use Rattle.std.specs.contracts.result.Result as result
 use Rattle.std.proofs.result.Result.TheLaws as result_laws
-use Rattle.rt1553_live.specs.declared.live.Live.{Live}
-use Rattle.rt1553_live.specs.contracts.live.Live.{the_row}
-use Rattle.rt1553_live.proofs.live.Live.TheLaws.{the_row_laws}
+use Rattle.rt1553_live.specs.declared.terminal.Live.{Live}
+use Rattle.rt1553_live.specs.contracts.terminal.Live.{the_row}
+use Rattle.rt1553_live.proofs.terminal.Live.TheLaws.{the_row_laws}
 use Rattle.rt1553_c.specs.Told.{when_done, when_ok}
 use Rattle.rt1553_c.specs.declared.TheConstants.{DONE}
 

@@ -15,7 +15,7 @@ use Rattle.rt1553.specs.Report.{exit_status_of}
 use Rattle.saved_states.specs.State.{State}
 use Rattle.saved_states.specs.Text.{StateText}
 use Rattle.rt1553_live.specs.Live.{IsNew}
-use Rattle.rt1553_live.specs.declared.live.Live.{Live}
+use Rattle.rt1553_live.specs.declared.terminal.Live.{Live}
 use Rattle.rt1553_live.specs.PlainFault.{TellsFault}
 use Rattle.rt1553_live.specs.Restored.{IsNotRestored, TellsRestoreFault, restore_status}
 use Rattle.rt1553_live.specs.declared.live.RestoreFault.{RestoreFault}

@@ -9,7 +9,7 @@ use Rattle.bus_terminal.specs.declared.terminal.Terminal.{Terminal}
 use Rattle.bus_terminal.specs.Stands.{StandsAt}
 use Rattle.saved_states.specs.State.{state_of, IsMade}
 use Rattle.saved_states.specs.Text.{StateText}
-use Rattle.rt1553_live.specs.declared.live.Live.{Live}
+use Rattle.rt1553_live.specs.declared.terminal.Live.{Live}
 use Rattle.rt1553_live.specs.PlainEvent.{plain_event}
 use Rattle.rt1553_live.specs.PlainAnswer.{answer_in}
 

@@ -13,16 +13,19 @@ use Rattle.terminal_rules.specs.declared.event.Event.{Event}
 use Rattle.terminal_rules.specs.declared.event.Event.TheVariants.{Word, Noise, Gap, Write, Vector, Bit, Flag as FlagIs, Slot}
 use Rattle.rt1553_live.specs.declared.event.PlainEvent.{PlainEvent}
 
+-- by the number of a bus: 0 is A, 1 is B
 abbrev pub bus_of_number : ℕ → Option Bus
 bus_of_number n = if n == 0 then Some A else if n == 1 then Some B else None
 
--- by the sync of a word
+-- by the sync of a word: 0 is that of commands, 1 that of data
 abbrev pub sync_of_number : ℕ → Option Kind
 sync_of_number n = if n == 0 then Some Com else if n == 1 then Some Dat else None
 
+-- by the number of a flag
 abbrev pub flag_of_number : ℕ → Option Flag
 flag_of_number n = if n == 0 then Some Service else if n == 1 then Some Busy else if n == 2 then Some Subsystem else if n == 3 then Some Terminal else None
 
+-- by a truth value: 0 is false, 1 is true
 abbrev pub truth_of_number : ℕ → Option Bool
 truth_of_number n = if n == 0 then Some false else if n == 1 then Some true else None
 

@@ -17,6 +17,7 @@ abbrev pub restore_fault_kind : RestoreFault → ℕ
 restore_fault_kind (State fault) = 5
 restore_fault_kind Memory = 3
 
+-- its number among the faults of saved states; 0 where memory ran out
 abbrev pub restore_fault_number : RestoreFault → ℕ
 restore_fault_number (State (Line n)) = 1
 restore_fault_number (State Trailing) = 2

@@ -6,8 +6,10 @@ mod answer;
 mod event;
 mod fault;
 mod live;
+mod terminal;
 
 pub use answer::PlainAnswer;
 pub use event::{PlainEvent, plain_event};
 pub use fault::{PlainFault, tell_fault, tell_restore_fault};
-pub use live::{Live, RestoreFault, copy_live, new_live, restore_live, save_live, step_live};
+pub use live::{RestoreFault, copy_live, new_live, restore_live, save_live, step_live};
+pub use terminal::Live;

@@ -1,11 +1,11 @@
-//! A terminal with a place for the event that is played next and one for what was answered last.
+//! Terminals are made, stepped, copied, saved and restored.
 ghost use Rattle.std.specs.Prelude.{◌≡◌, ◌≤◌, ◌⊎◌, [], Some, length, IfSome, IfOk, IfErr};
 ghost use Rattle.bus_legal.specs.Description.{Description};
 ghost use Rattle.bus_legal.specs.Parts.{description_in};
 ghost use Rattle.bus_legal.specs.Reach.{reach};
 ghost use Rattle.rt1553.specs.Load.{Of, IsNotLoaded};
 ghost use Rattle.terminal_rules.specs.Out.{Silence};
-ghost use Rattle.saved_states.specs.State.{state_of};
+ghost use Rattle.saved_states.specs.State.{state_of, IsMade};
 ghost use Rattle.saved_states.specs.Text.{StateText};
 ghost use Rattle.rt1553_live.specs.PlainAnswer.{answer_in};
 ghost use Rattle.rt1553_live.specs.Live.{AnswersAs, IsNew, Steps, IsCopy, IsRestored};
@@ -13,20 +13,12 @@ ghost use Rattle.rt1553_live.specs.Restored.{IsNotRestored};
 
 use crate::answer::{PlainAnswer, show};
 use crate::event::{PlainEvent, plain_event};
+use crate::terminal::Live;
 use bus_legal::Normal;
 use bus_terminal::Terminal;
 use rt1553::{LoadFault, load};
 use saved_states::{StateFault, restore, save};
 use std::alloc::{AllocError, Global};
-
-/// A terminal, behind the event that is played next and what was answered last.
-#[repr(C)]
-#[derive(Drop)]
-pub struct Live {
-    pub event: PlainEvent,
-    pub answer: PlainAnswer,
-    pub terminal: Terminal<Normal>,
-}
 
 /// Why no terminal is made of a text.
 #[derive(Clone, Copy, Debug, PartialEq, Eq)]
@@ -54,7 +46,8 @@ pub fn step_live(live: &mut Live) -> u8
 
 /// The terminal at power-up of which this can be reached.
 fn at_power_up(normal: Normal) -> Terminal<Normal>
-    ensures { (P : Description) → description_in normal ≡ reach P → AnswersAs P [] result }
+    ensures answers { (P : Description) → description_in normal ≡ reach P → AnswersAs P [] result }
+    ensures made { IsMade result }
 {
     let setup = normal.setup();
     Terminal::power_up(setup, normal)
@@ -62,6 +55,7 @@ fn at_power_up(normal: Normal) -> Terminal<Normal>
 
 /// A terminal of which nothing was asked yet.
 fn unasked(terminal: Terminal<Normal>) -> Live
+    requires { IsMade terminal }
     ensures silent { answer_in result.answer ≡ Some Silence }
     ensures terminal { result.terminal ≡ terminal }
 {

@@ -9,7 +9,7 @@ use Rattle.line_format.proofs.SizeLaws.{HasSize, size_done, size_words}
 use Rattle.bus_canon.proofs.Several.{one_and, one_and_spelled, one_and_sound, one_and_one, one_and_size}
 use Rattle.bus_canon.proofs.Steps.{with_front, one_more, one_err}
 use Rattle.terminal_state.specs.declared.held.HeldWords.{HeldWords}
-use Rattle.terminal_state.specs.inner.Held.{block_in}
+use Rattle.terminal_state.specs.Held.{block_in}
 use Rattle.saved_states.specs.State.{held_from}
 use Rattle.saved_states.specs.Text.{held_lines}
 

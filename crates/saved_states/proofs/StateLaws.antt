@@ -13,9 +13,9 @@ use Rattle.terminal_state.specs.declared.message.Phase.{Phase}
 use Rattle.terminal_state.specs.declared.message.Phase.TheVariants.{Collects, Waits, Resumes}
 use Rattle.terminal_state.specs.declared.message.Message.{Message}
 use Rattle.terminal_state.specs.declared.held.HeldWords.{HeldWords}
-use Rattle.terminal_state.specs.inner.Held.{block_in}
-use Rattle.terminal_state.specs.inner.Message.{standing_in, standing_by}
-use Rattle.terminal_state.specs.inner.Standing.{Standing}
+use Rattle.terminal_state.specs.Held.{block_in}
+use Rattle.terminal_state.specs.Message.{standing_in, standing_by}
+use Rattle.terminal_state.specs.Standing.{Standing}
 use Rattle.bus_terminal.specs.declared.terminal.Terminal.{Terminal}
 use Rattle.bus_terminal.specs.Stands.{StandsAt, own_description}
 use Rattle.saved_states.specs.declared.message.SavedMessage.{SavedMessage}

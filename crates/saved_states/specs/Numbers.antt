@@ -9,7 +9,7 @@ use Rattle.terminal_rules.specs.History.{Replying}
 use Rattle.terminal_state.specs.declared.message.Collected.TheVariants.{Words, Transmitter, Spoilt}
 use Rattle.terminal_state.specs.declared.message.Phase.{Phase}
 use Rattle.terminal_state.specs.declared.message.Phase.TheVariants.{Collects, Waits, Resumes}
-use Rattle.terminal_state.specs.inner.Replies.{reply_at}
+use Rattle.terminal_state.specs.Replies.{reply_at}
 use Rattle.saved_states.specs.declared.bits.Bits.{Bits}
 use Rattle.saved_states.specs.declared.message.SavedMessage.{SavedMessage}
 
@@ -17,13 +17,16 @@ use Rattle.saved_states.specs.declared.message.SavedMessage.{SavedMessage}
 abbrev pub bit : Bool → ℕ
 bit b = if b then 1 else 0
 
+-- only 1 reads as true
 abbrev pub is_set : ℕ → Bool
 is_set n = n == 1
 
+-- 0 for bus A, 1 for bus B
 abbrev pub bus_number : Bus → ℕ
 bus_number A = 0
 bus_number B = 1
 
+-- 1 reads as bus B, and any other number as bus A
 abbrev pub bus_from : ℕ → Bus
 bus_from n = if n == 1 then B else A
 
@@ -37,6 +40,7 @@ at i xs = get_or xs i 0
 
 -- ---- truth values
 
+-- the words of the line `bits`, in their order: the runs, the flags, the inhibited terminal flag, the transmitters, the kept status
 abbrev pub bit_numbers : Bits → List ℕ
 bit_numbers b =
     bit b.heard.a ∷ bit b.heard.b
@@ -45,6 +49,7 @@ bit_numbers b =
     ∷ bit b.status.error ∷ bit b.status.service ∷ bit b.status.broadcast ∷ bit b.status.busy ∷ bit b.status.subsystem ∷ bit b.status.accept ∷ bit b.status.terminal
     ∷ []
 
+-- the truth values that these words mean
 abbrev pub bits_from : List ℕ → Bits
 bits_from xs = record {
   heard = record { a = is_set (at 0 xs); b = is_set (at 1 xs) };
@@ -81,6 +86,7 @@ cell_count (Some (OwnTransmit s n)) = n
 cell_count (Some (BroadReceive s n)) = n
 cell_count _ = 0
 
+-- the cell that a kind, a place and a word count mean; none for a kind without a cell
 abbrev pub cell_from : ℕ → ℕ → ℕ → Option Cell
 cell_from kind place count =
     if kind == 2 then Some (OwnReceive place count)
@@ -95,14 +101,17 @@ abbrev pub reply_numbers : Option Replying → List ℕ
 reply_numbers None = 0 ∷ 0 ∷ 0 ∷ 0 ∷ 0 ∷ []
 reply_numbers (Some r) = cell_kind r.cell ∷ bus_number r.bus ∷ cell_place r.cell ∷ cell_count r.cell ∷ r.number ∷ []
 
+-- the reply in progress that these words mean: kind, bus, place, word count, number of the next word
 abbrev pub reply_by : ℕ → ℕ → ℕ → ℕ → ℕ → Option Replying
 reply_by kind bus place count next = if kind == 0 then None else reply_at (bus_from bus) (cell_from kind (byte place) (byte count)) (byte next)
 
+-- the reply in progress that the words of the line `reply` mean
 abbrev pub reply_from : List ℕ → Option Replying
 reply_from xs = reply_by (at 0 xs) (at 1 xs) (at 2 xs) (at 3 xs) (at 4 xs)
 
 -- ---- the message in progress
 
+-- the number of a phase: 1 to 3 while data words are collected, 4 while a transfer waits for a status word, 5 to 7 after that word
 abbrev pub phase_number : Phase → ℕ
 phase_number (Collects Words) = 1
 phase_number (Collects (Transmitter a)) = 2
@@ -125,6 +134,7 @@ has_words (Collects Words) = true
 has_words (Resumes Words) = true
 has_words _ = false
 
+-- the phase that a number means, with the address of the other terminal
 abbrev pub phase_from : ℕ → ℕ → Option Phase
 phase_from n a =
     if n == 1 then Some (Collects Words)
@@ -145,10 +155,12 @@ abbrev pub message_numbers : Option SavedMessage → List ℕ
 message_numbers None = 0 ∷ 0 ∷ 0 ∷ 0 ∷ 0 ∷ []
 message_numbers (Some m) = phase_number m.phase ∷ bus_number m.bus ∷ m.command ∷ phase_address m.phase ∷ m.count ∷ []
 
+-- the message in progress that these words mean: phase, bus, command, address of the other terminal, number of words collected
 abbrev pub message_by : ℕ → ℕ → ℕ → ℕ → ℕ → Option SavedMessage
 message_by phase bus command address count =
     option_map (λ p. record { bus = bus_from bus; command = command; phase = p; count = words_collected p count }) (phase_from phase (byte address))
 
+-- the message in progress that the words of the line `message` mean
 abbrev pub message_from : List ℕ → Option SavedMessage
 message_from xs = message_by (at 0 xs) (at 1 xs) (at 2 xs) (at 3 xs) (at 4 xs)
 

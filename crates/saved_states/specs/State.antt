@@ -5,14 +5,15 @@ use Rattle.bus_legal.specs.Tables.{tables_say}
 use Rattle.terminal_rules.specs.History.{Replying}
 use Rattle.terminal_state.specs.declared.message.Message.{Message}
 use Rattle.terminal_state.specs.declared.held.HeldWords.{HeldWords}
-use Rattle.terminal_state.specs.inner.Held.{block_in}
-use Rattle.terminal_state.specs.inner.Replies.{shown_reply}
+use Rattle.terminal_state.specs.Held.{block_in}
+use Rattle.terminal_state.specs.Replies.{shown_reply}
 use Rattle.bus_terminal.specs.declared.terminal.Terminal.{Terminal}
 use Rattle.bus_terminal.specs.Stands.{own_description}
 use Rattle.saved_states.specs.declared.bits.Bits.{Bits}
 use Rattle.saved_states.specs.declared.message.SavedMessage.{SavedMessage}
 use Rattle.saved_states.specs.Numbers.{has_words}
 
+-- the state of a terminal, as its text has it
 pub record State : Type 0 where
   pub bits : Bits
   -- the vector word, the BIT word and the last command
@@ -26,10 +27,12 @@ pub record State : Type 0 where
   -- what can be reached of its profile
   pub parts : Parts
 
+-- what a text has of the message in progress, whose buffer holds these words
 abbrev pub saved_message : Option Message → List ℕ → Option SavedMessage
 saved_message None ds = None
 saved_message (Some m) ds = Some (record { bus = m.bus; command = m.decoded.command; phase = m.phase; count = if has_words m.phase then length ds else 0 })
 
+-- the data words that a text has of it
 abbrev pub saved_words : Option Message → List ℕ → List ℕ
 saved_words None ds = []
 saved_words (Some m) ds = if has_words m.phase then ds else []
@@ -39,6 +42,7 @@ abbrev pub held_from : HeldWords → ℕ → ℕ → List (List ℕ)
 held_from held s zero = []
 held_from held s (suc k) = block_in held s ∷ held_from held (suc s) k
 
+-- the truth values that a terminal keeps
 abbrev pub kept_bits : {L : Type 0} → Terminal L → Bits
 kept_bits t = record { heard = t.heard; flags = t.registers.flags; inhibited = t.registers.inhibited; off = t.registers.off; status = t.registers.kept }
 

@@ -3,7 +3,7 @@ ghost use Rattle.std.specs.Prelude.{◌≡◌, IfOk, OnOk};
 ghost use Rattle.line_format.specs.Reading.{read};
 ghost use Rattle.line_format.specs.Views.{Gives, spot};
 ghost use Rattle.line_format.specs.Writing.{Adds};
-ghost use Rattle.terminal_state.specs.inner.Replies.{shown_reply};
+ghost use Rattle.terminal_state.specs.Replies.{shown_reply};
 ghost use Rattle.saved_states.specs.Numbers.{IsCounted};
 ghost use Rattle.saved_states.specs.Text.{bits_line, reply_line, message_line};
 

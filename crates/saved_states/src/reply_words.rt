@@ -1,6 +1,6 @@
 //! The words that stand for the reply in progress.
 ghost use Rattle.std.specs.Prelude.{◌≡◌, ◌==◌, false, [], ◌∷◌};
-ghost use Rattle.terminal_state.specs.inner.Replies.{shown_reply};
+ghost use Rattle.terminal_state.specs.Replies.{shown_reply};
 ghost use Rattle.saved_states.specs.Numbers.{byte, cell_kind, cell_place, cell_count, cell_from, reply_numbers, reply_from};
 
 use crate::numbers::{bus_from, bus_number, byte, wide};

@@ -3,7 +3,7 @@ ghost use Rattle.std.specs.Prelude.{◌≡◌, ◌≤◌, [], ◌∷◌, codes, 
 ghost use Rattle.line_format.specs.Reading.{read};
 ghost use Rattle.line_format.specs.Shapes.{words_line};
 ghost use Rattle.line_format.specs.Views.{Gives, spot};
-ghost use Rattle.terminal_state.specs.inner.Replies.{shown_reply};
+ghost use Rattle.terminal_state.specs.Replies.{shown_reply};
 ghost use Rattle.saved_states.specs.Numbers.{IsCounted};
 ghost use Rattle.saved_states.specs.State.{saved_message, saved_words, state_of, IsMade};
 ghost use Rattle.saved_states.specs.Text.{version_line, registers_line, word_number, saved, StateText, IsNoState};

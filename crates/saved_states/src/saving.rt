@@ -1,8 +1,8 @@
 //! The state of a terminal is written.
 ghost use Rattle.std.specs.Prelude.{◌≡◌, ◌≤◌, [], ◌∷◌, length, IfOk, OnOk};
 ghost use Rattle.line_format.specs.Writing.{Adds};
-ghost use Rattle.saved_states.specs.State.{state_of, kept_bits};
-ghost use Rattle.saved_states.specs.Text.{saved, StateText};
+ghost use Rattle.saved_states.specs.State.{state_of, kept_bits, IsMade};
+ghost use Rattle.saved_states.specs.Text.{saved, StateText, Resumes};
 
 use crate::bits::Bits;
 use crate::coded_lines::{put_bits, put_message, put_reply};
@@ -59,9 +59,12 @@ fn put_state(out: &mut Vec<u8>, terminal: &Terminal<Normal>) -> Result<(), Alloc
     Ok(())
 }
 
-/// Writes the state of a terminal, asking once for the room of the longest.
+/// Writes the state of a terminal, asking once for the room of the longest. The terminal must be set up as its own profile says: of
+/// what it was set up with, the text has the profile alone.
 pub fn save(alloc: Global, terminal: &Terminal<Normal>) -> Result<Vec<u8>, AllocError>
+    requires { IsMade terminal.now }
     ensures text { IfOk result (λ bytes. StateText (state_of terminal.now) bytes.items) }
+    ensures resumes { IfOk result (λ bytes. Resumes terminal.now bytes.items) }
     ensures size { IfOk result (λ bytes. length bytes.items ≤ 13028) }
 {
     let mut out = Vec::with_capacity(alloc, LONGEST)?;

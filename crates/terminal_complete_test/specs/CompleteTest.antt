@@ -16,15 +16,16 @@ use Rattle.terminal_exchanges.specs.Exchanges.{Exchange, script_of}
 use Rattle.terminal_exchanges.specs.Sent.{sent}
 use Rattle.terminal_exchanges.specs.Distinguish.{all_terminals, receive_zeros, transmit, mode_code, mode_code_with, ask, sent_back}
 
--- the exchanges of so many numbers, from the first number on
+-- the exchanges of n numbers, from the first number on
 unfoldable pub each_in : ℕ → ℕ → (ℕ → List Exchange) → List Exchange
 each_in first zero f = []
 each_in first (suc n) f = f first ++ each_in (suc first) n f
 
--- those of each subaddress of data, and of each word count at each
+-- those of each subaddress of data
 abbrev pub each_subaddress : (ℕ → List Exchange) → List Exchange
 each_subaddress f = each_in 1 30 f
 
+-- those of each word count at each subaddress of data
 abbrev pub each_place : (ℕ → ℕ → List Exchange) → List Exchange
 each_place f = each_subaddress (λ s. each_in 1 32 (f s))
 
@@ -62,6 +63,7 @@ broadcast_receive_tried P s n = receive_zeros all_terminals s n ∷ ask P.addres
 abbrev pub broadcast_code_tried : Description → ℕ → List Exchange
 broadcast_code_tried P code = if allows_broadcast (mode.mode_row code) then mode_code all_terminals code ∷ ask P.address ∷ [] else []
 
+-- Every broadcast, where the terminal has the broadcast option. Without it, it hears none.
 abbrev pub broadcasts_tried : Description → List Exchange
 broadcasts_tried P = if P.broadcast then each_place (broadcast_receive_tried P) ++ each_code (broadcast_code_tried P) else []
 
@@ -69,7 +71,7 @@ broadcasts_tried P = if P.broadcast then each_place (broadcast_receive_tried P) 
 abbrev pub wraparound_tried : Description → ℕ → List Exchange
 wraparound_tried P s = if can_wrap P s then sent_back P s else []
 
--- the complete test, as exchanges and as events
+-- the complete test as exchanges
 abbrev pub tried : Description → List Exchange
 tried P =
     option_tried P
@@ -79,6 +81,7 @@ tried P =
     ++ (broadcasts_tried P
     ++ each_subaddress (wraparound_tried P)))))
 
+-- the complete test as events
 abbrev pub complete_test : Description → List Event
 complete_test P = script_of (tried P)
 

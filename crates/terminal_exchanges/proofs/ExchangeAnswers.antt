@@ -9,7 +9,7 @@ use Rattle.terminal_rules.specs.Reply.{words_after_status, reply_after, reply_no
 use Rattle.terminal_rules.specs.Turn.{is_answered, done_cell}
 use Rattle.terminal_rules.specs.Past.{past}
 use Rattle.terminal_rules.specs.Out.{Out, Silence, hands, handing_over, sends, sending_out, outs_from}
-use Rattle.terminal_rules.specs.inner.Steps.{sent_one, begun_if}
+use Rattle.terminal_rules.specs.Steps.{sent_one, begun_if}
 use Rattle.terminal_rules.proofs.ReplyLaw.{no_words, next_of, reply_slot_law}
 use Rattle.terminal_exchanges.specs.Exchanges.{Exchange, command_event, exchange_then, slots_then}
 use Rattle.terminal_exchanges.specs.ExchangeLaws.{AreWhole, AreAnswered, after_slots, before_its_gap, history_of, end_of, ending_of_exchange, silent_then, silent_slots, reply_to, reply_then, MeantExchangeLaw, UnmeantExchangeLaw}

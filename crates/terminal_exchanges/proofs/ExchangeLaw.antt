@@ -31,7 +31,7 @@ use Rattle.terminal_rules.specs.Out.{Silence, hands, handing_over, out, outs_fro
 use Rattle.terminal_exchanges.specs.Exchanges.{Exchange, command_event, data_event, words_then, slots_then}
 use Rattle.terminal_exchanges.specs.ExchangeLaws.{IsWhole, AreWhole, after_words, after_slots, before_its_gap, history_of, ending_of_exchange, slots_needed, AreAnswered, silent_then}
 use Rattle.terminal_exchanges.proofs.Notes.{word_note, word_notes, command_note, gap_note, slot_note, slot_notes, notes_before_gap, notes_at_gap, exchange_notes, gap_answer, slot_answer, slots_answered, NotedExchangeLaw}
-use Rattle.terminal_rules.specs.inner.Steps.{replies_on, sent_one, begun_if, dropped_if}
+use Rattle.terminal_rules.specs.Steps.{replies_on, sent_one, begun_if, dropped_if}
 use Rattle.terminal_rules.proofs.OpenLaw.{word_law, gap_law, slot_law, after_word, after_gap, after_entry, waits, unheard}
 use Rattle.terminal_rules.proofs.ReplyLaw.{no_words, next_of, reply_word_law, reply_gap_law, reply_slot_law}
 

@@ -29,6 +29,7 @@ least_count p = least_to 32 p
 abbrev pub all_terminals : ℕ
 all_terminals = 31
 
+-- the command word of these fields
 abbrev pub command_of : ℕ → ℕ → ℕ → ℕ → ℕ
 command_of address tr subaddress low = command_bits (record { address = address; tr = tr; subaddress = subaddress; low = low })
 
@@ -40,6 +41,7 @@ slots_for address n = if address == all_terminals then 0 else n
 abbrev pub receive : ℕ → ℕ → ℕ → List ℕ → Exchange
 receive address s n words = record { command = command_of address 0 s (n % 32); words = words; slots = slots_for address 1 }
 
+-- the same with data words of 0
 abbrev pub receive_zeros : ℕ → ℕ → ℕ → Exchange
 receive_zeros address s n = receive address s n (replicate n 0)
 
@@ -108,9 +110,11 @@ initial_script P s =
     let m : ℕ = largest_count (transmits_at P s) in
     script_of (transmit P.address s m (m + 1) ∷ [])
 
+-- a receive command of n words to the own address is legal
 abbrev pub receives_own : Description → ℕ → ℕ → Bool
 receives_own P s n = P.legal (OwnReceive s n)
 
+-- one to all terminals is legal
 abbrev pub receives_broadcast : Description → ℕ → ℕ → Bool
 receives_broadcast P s n = P.legal (BroadReceive s n)
 

@@ -14,22 +14,25 @@ use Rattle.terminal_rules.specs.Past.{past}
 use Rattle.terminal_rules.specs.Out.{Out, Silence, hands, handing_over, sends, sending_out, outs_from}
 use Rattle.terminal_exchanges.specs.Exchanges.{Exchange, command_event, data_event, exchange_then}
 
--- each command has just the data words that it expects
+-- an exchange has just the data words that its command expects
 abbrev pub IsWhole : Exchange → Type 0
 IsWhole x = length x.words ≡ expected x.command
 
+-- each exchange of a list has just those words
 abbrev pub AreWhole : List Exchange → Type 0
 AreWhole [] = Unit {0}
 AreWhole (x ∷ xs) = IsWhole x × AreWhole xs
 
--- a history after data words, after an exchange up to its gap, and after slots: the latest event first
+-- a history after data words, the latest event first
 abbrev pub after_words : List ℕ → List Event → List Event
 after_words [] h = h
 after_words (d ∷ ds) h = after_words ds (data_event d ∷ h)
 
+-- a history after the command of an exchange and its data words
 abbrev pub before_its_gap : Exchange → List Event → List Event
 before_its_gap x h = after_words x.words (command_event x.command ∷ h)
 
+-- a history after slots
 abbrev pub after_slots : ℕ → List Event → List Event
 after_slots zero h = h
 after_slots (suc n) h = after_slots n (Slot ∷ h)
@@ -57,11 +60,12 @@ abbrev pub AreAnswered : Description → List Exchange → Type 0
 AreAnswered P [] = Unit {0}
 AreAnswered P (x ∷ xs) = (slots_needed (ending_of_exchange P x) ≤ x.slots) × AreAnswered P xs
 
--- nothing, at each data word and in each slot
+-- nothing is answered at each data word
 abbrev pub silent_then : List ℕ → List Out → List Out
 silent_then [] os = os
 silent_then (d ∷ ds) os = Silence ∷ silent_then ds os
 
+-- nothing is answered in each slot
 abbrev pub silent_slots : ℕ → List Out → List Out
 silent_slots zero os = os
 silent_slots (suc n) os = Silence ∷ silent_slots n os

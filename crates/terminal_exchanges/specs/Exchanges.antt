@@ -12,21 +12,25 @@ pub record Exchange : Type 0 where
   pub words : List ℕ
   pub slots : ℕ
 
+-- a valid command word on bus A
 abbrev pub command_event : ℕ → Event
 command_event c = Word A (valid_word Com c)
 
+-- a valid data word on bus A
 abbrev pub data_event : ℕ → Event
 data_event d = Word A (valid_word Dat d)
 
--- the events of data words, and of an exchange, before others: the first first
+-- the events of data words, in order, before others
 abbrev pub words_then : List ℕ → List Event → List Event
 words_then [] es = es
 words_then (d ∷ ds) es = data_event d ∷ words_then ds es
 
+-- slots, before other events
 abbrev pub slots_then : ℕ → List Event → List Event
 slots_then zero es = es
 slots_then (suc n) es = Slot ∷ slots_then n es
 
+-- the events of an exchange, before others
 abbrev pub exchange_then : Exchange → List Event → List Event
 exchange_then x es = command_event x.command ∷ words_then x.words (Gap A ∷ slots_then x.slots es)
 

@@ -7,7 +7,7 @@ use Rattle.terminal_rules.specs.LookBack.{latest, or_else, since}
 use Rattle.terminal_rules.specs.History.{Noted}
 use Rattle.terminal_rules.specs.Flags.{flag_set, flag_now}
 use Rattle.terminal_rules.specs.SinceReset.{is_reset, since_reset, inhibits, inhibited_now, shuts, off_now, vector_word_set, vector_now, bit_word_set, bit_now, held_set, held_now, recorded_by, start_bits, last_now}
-use Rattle.terminal_rules.specs.inner.Steps.{unless_reset}
+use Rattle.terminal_rules.specs.Steps.{unless_reset}
 
 -- the latest answer, or that of the newest element
 pub newest : {Y : Type 0} (f : Noted → Option Y) (d : Y) (p : Noted) (h : List Noted) → or_else (latest f (p ∷ h)) d ≡ or_else (f p) (or_else (latest f h) d)

@@ -6,7 +6,7 @@ use Rattle.terminal_rules.specs.LookBack.{or_else, some, latest_with, since_with
 use Rattle.terminal_rules.specs.History.{Noted, Turn, Ending, Nothing, Badly, Illegal, Blocked, Done}
 use Rattle.terminal_rules.specs.SinceReset.{start_bits, resets_by_broadcast, resets_in_silence, resets_in_slot, resets, is_reset}
 use Rattle.terminal_rules.specs.Status.{no_parts, with_error_if, resets_at_end, kept_by_end, kept_by_slot, kept_by_start, later_or, adds_error, kept_set, kept_now}
-use Rattle.terminal_rules.specs.inner.Steps.{reset_first, kept_after}
+use Rattle.terminal_rules.specs.Steps.{reset_first, kept_after}
 
 -- message error that is added twice
 twice : (a b : Bool) (s : StatusParts) → with_error_if (a || b) s ≡ with_error_if a (with_error_if b s)

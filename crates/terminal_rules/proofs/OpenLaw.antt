@@ -17,7 +17,7 @@ use Rattle.terminal_rules.specs.Turn.{is_answered, done_cell, turn_of_gap, turn_
 use Rattle.terminal_rules.specs.Past.{note}
 use Rattle.terminal_rules.specs.History.{Replying, NoTurn, Noted, noted_as, Entry, Ending, Nothing, run}
 use Rattle.terminal_rules.specs.Open.{Open, Idle, Collects, Waits, Resumes, transfer, is_status_of, first_message, awaited_of, open_of, open_now, waits_or_resumes, started_by, is_latest, before_gap}
-use Rattle.terminal_rules.specs.inner.Steps.{replies_on}
+use Rattle.terminal_rules.specs.Steps.{replies_on}
 
 -- what a gap leaves of a message in progress
 abbrev pub waits : Option (ℕ × ℕ) → Open

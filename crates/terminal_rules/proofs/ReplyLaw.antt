@@ -12,7 +12,7 @@ use Rattle.terminal_rules.specs.History.{Noted, noted_as, Replying, Turn, NoTurn
 use Rattle.terminal_rules.specs.Open.{is_on}
 use Rattle.terminal_rules.specs.Reply.{words_after_status, begun, begins_reply, reply_after, reply_of, reply_now, reply_bus, supersedes, slots_in}
 use Rattle.terminal_rules.specs.Turn.{turn_of_gap, turn_of_slot}
-use Rattle.terminal_rules.specs.inner.Steps.{replies_on, sent_one, begun_if, dropped_if}
+use Rattle.terminal_rules.specs.Steps.{replies_on, sent_one, begun_if, dropped_if}
 
 -- a start on the other bus drops it, and there is none on its own
 drops : (c b : Bus) (cell : Option Cell) (superseded : Bool) (m : ℕ) → is_on c (reply_bus (reply_after b cell superseded m)) ≡ false →

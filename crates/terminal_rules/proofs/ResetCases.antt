@@ -20,7 +20,7 @@ use Rattle.terminal_rules.specs.SinceReset.{begins, does_own_reset, resets_by_br
 use Rattle.terminal_rules.specs.Turn.{is_answered, done_cell, turn_of_gap, turn_of_slot, unless_ignored_turn}
 use Rattle.terminal_rules.specs.Past.{past}
 use Rattle.terminal_rules.specs.ResetLaws.{status_of_reset_is_next, ResetLaw}
-use Rattle.terminal_rules.specs.inner.Steps.{replies_on}
+use Rattle.terminal_rules.specs.Steps.{replies_on}
 
 -- no command by broadcast has the cell of an own mode code
 abbrev is_own_code : Option Cell → Bool

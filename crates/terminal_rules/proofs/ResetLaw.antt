@@ -5,7 +5,7 @@ use Rattle.terminal_rules.specs.declared.event.Event.TheVariants.{Gap, Slot}
 use Rattle.terminal_rules.specs.History.{Noted, noted_as, Replying, Ending, Nothing}
 use Rattle.terminal_rules.specs.SinceReset.{resets_by_broadcast, does_own_reset, is_reset}
 use Rattle.terminal_rules.specs.Turn.{done_cell, turn_of_gap, turn_of_slot}
-use Rattle.terminal_rules.specs.inner.Steps.{resets_at_gap, resets_next}
+use Rattle.terminal_rules.specs.Steps.{resets_at_gap, resets_next}
 
 -- a gap that isn't ignored, by whether a reply begins and what it ends
 abbrev pub gap_as : Bus → Bool → Ending → Noted

@@ -32,6 +32,7 @@ abbrev pub data_words : List Entry → Option (List ℕ)
 data_words [] = Some []
 data_words (x ∷ xs) = with_word (data_words xs) (data_of x.word)
 
+-- the data words, where there are as many as the command expects
 abbrev pub if_expected : ℕ → Option (List ℕ) → Option (List ℕ)
 if_expected c None = None
 if_expected c (Some ds) = if length ds == expected c then Some ds else None
@@ -47,6 +48,7 @@ is_blocked_by_busy (OwnMode code) = (code == mode.vector_word) || (code == mode.
 is_blocked_by_busy (BroadMode code) = (code == mode.vector_word) || (code == mode.synchronize_with_word)
 is_blocked_by_busy _ = true
 
+-- how a message that has its words ends, by its cell and by whether that is legal and the busy flag is set
 abbrev pub verdict : (Cell → Bool) → Bool → ℕ → List ℕ → Option Cell → Ending
 verdict legal busy c ds None = Illegal c
 verdict legal busy c ds (Some cell) =

@@ -7,6 +7,7 @@ use Rattle.terminal_rules.specs.declared.event.Event.TheVariants.{Flag as FlagIs
 use Rattle.terminal_rules.specs.LookBack.{latest, or_else}
 use Rattle.terminal_rules.specs.History.{Noted}
 
+-- both are the same flag
 abbrev pub same_flag : Flag → Flag → Bool
 same_flag Service Service = true
 same_flag Busy Busy = true

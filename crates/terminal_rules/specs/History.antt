@@ -53,6 +53,7 @@ of_word f _ = None
 abbrev pub of_start : {X : Type 0} → (Bus → Raw → X) → Noted → Option X
 of_start f p = if p.starts then of_word f p.event else None
 
+-- the event came on the bus of a reply in progress, so it was not heard
 abbrev pub is_ignored : Turn → Bool
 is_ignored Ignored = true
 is_ignored _ = false
@@ -62,6 +63,7 @@ pub record Entry : Type 0 where
   pub word : Option Raw
   pub starts : Bool
 
+-- a gap on this bus
 abbrev pub is_gap_on : Bus → Event → Bool
 is_gap_on b (Gap c) = same_bus b c
 is_gap_on b _ = false
@@ -70,11 +72,13 @@ is_gap_on b _ = false
 abbrev pub ends_run : Bus → Noted → Bool
 ends_run b p = if is_ignored p.turn then false else is_gap_on b p.event
 
+-- what an event adds to the run of a bus: a word or noise on it, and nothing else
 abbrev pub entry_of : Bus → Event → Bool → Option Entry
 entry_of b (Word c w) starts = if same_bus b c then Some (record { word = Some w; starts = starts }) else None
 entry_of b (Noise c) starts = if same_bus b c then Some (record { word = None; starts = starts }) else None
 entry_of b _ starts = None
 
+-- the same, with nothing added by what was ignored
 abbrev pub entry_on : Bus → Noted → Option Entry
 entry_on b p = if is_ignored p.turn then None else entry_of b p.event p.starts
 

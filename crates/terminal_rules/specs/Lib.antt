@@ -19,4 +19,4 @@ pub mod OpenLaws
 pub mod ReplyLaws
 pub mod ResetLaws
 pub mod WorkedExamples
-pub mod inner
+pub mod Steps

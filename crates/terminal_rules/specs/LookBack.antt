@@ -6,6 +6,7 @@ abbrev pub latest : {X Y : Type 0} → (X → Option Y) → List X → Option Y
 latest f [] = None
 latest f (x ∷ xs) = elim (f x) [ None ↦ latest f xs | Some y ↦ Some y ]
 
+-- the value that there is, or else this one
 abbrev pub or_else : {X : Type 0} → Option X → X → X
 or_else None d = d
 or_else (Some x) d = x

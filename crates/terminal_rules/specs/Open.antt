@@ -26,15 +26,18 @@ Open = MessageState (List Entry)
 abbrev pub start_bus : Noted → Option Bus
 start_bus p = of_start (λ b w. b) p
 
+-- there is a bus, and it is this one
 abbrev pub is_on : Bus → Option Bus → Bool
 is_on b None = false
 is_on b (Some c) = same_bus b c
 
--- The latest start of all is on this bus: so no start on the other bus came after the latest on this one.
--- A command on one bus supersedes what is in progress on the other (4.4.3.2, 4.6.3.2).
+-- The latest start of all is on this bus: so no start on the other bus came after the latest on this one. The message
+-- in progress on a bus is always that of the latest start there. So this asks of the whole history what the rule asks
+-- of the time since that start: a command on one bus supersedes what is in progress on the other (4.4.3.2, 4.6.3.2).
 abbrev pub is_latest : List Noted → Bus → Bool
 is_latest h b = is_on b (latest start_bus h)
 
+-- the bits of a word; noise has none
 abbrev pub bits_of : Option Raw → Option ℕ
 bits_of None = None
 bits_of (Some w) = Some w.bits
@@ -48,6 +51,7 @@ abbrev pub first_message : Bool → List Entry → Option (ℕ × List Entry)
 first_message is_latest r =
     if is_latest then (elim (latest started_by r) [ None ↦ None | Some c ↦ Some (c, since (λ x. x.starts) r) ]) else None
 
+-- the message that started in the run of this bus, with what followed it, unless the other bus has had a start since
 abbrev pub first_open : List Noted → Bus → Option (ℕ × List Entry)
 first_open h b = first_message (is_latest h b) (run h b)
 
@@ -58,6 +62,7 @@ transmitter_at own (Some w) =
     if is_command w && (transmits w.bits && (not (address_of w.bits == own) && not (is_broadcast w.bits)))
     then Some (address_of w.bits) else None
 
+-- the address of the other terminal that an entry of a run has transmit
 abbrev pub transmitter : Description → Entry → Option ℕ
 transmitter P x = transmitter_at P.address x.word
 
@@ -71,6 +76,7 @@ transfer P _ = None
 abbrev pub before_gap : List Noted → Bus → Option (List Noted)
 before_gap h b = before (ends_run b) h
 
+-- the transfer in progress when a gap came, by the history before that gap
 abbrev pub transfer_at : Description → Bus → Option (List Noted) → Option (ℕ × ℕ)
 transfer_at P b None = None
 transfer_at P b (Some g) = transfer P (first_open g b)
@@ -84,6 +90,7 @@ abbrev pub status_at : ℕ → Option Raw → Bool
 status_at a None = false
 status_at a (Some w) = is_command w && (address_of w.bits == a)
 
+-- an entry of a run is the status word of this address
 abbrev pub is_status_of : ℕ → Entry → Bool
 is_status_of a x = status_at a x.word
 
@@ -92,6 +99,7 @@ abbrev pub waits_or_resumes : ℕ → ℕ → Option (Entry × List Entry) → O
 waits_or_resumes c a None = Waits c a
 waits_or_resumes c a (Some (x, after)) = if is_status_of a x then Resumes c after else Idle
 
+-- the message in progress: one that started in this run, or a transfer that began before its gap, or none
 abbrev pub open_of : List Entry → Option (ℕ × List Entry) → Option (ℕ × ℕ) → Open
 open_of r (Some f) t = Collects f.0 f.1
 open_of r None None = Idle

@@ -51,6 +51,7 @@ reply_word P h (Some (OwnTransmit s n)) m = held_now P h s m
 reply_word P h (Some (OwnMode code)) m = code_word P h code
 reply_word P h _ m = 0
 
+-- a word of this sync and these bits, on this bus
 abbrev pub sending : Bus → Kind → ℕ → Sending
 sending b kind bits = record { bus = b; kind = kind; bits = bits }
 
@@ -62,14 +63,17 @@ next_sent P h r =
     then sending r.bus Com (status_word P.address (kept_now P h))
     else sending r.bus Dat (reply_word P h r.cell r.number)
 
+-- what a slot sends: the next word of the reply in progress, where there is one
 abbrev pub sends : Description → List Noted → Option Replying → Option Sending
 sends P h None = None
 sends P h (Some r) = Some (next_sent P h r)
 
+-- the data word that is handed over with mode code 17; a message of it that is done has just one
 abbrev pub first_word : List ℕ → ℕ
 first_word [] = 0
 first_word (d ∷ ds) = d
 
+-- what a mode code that is done hands over: codes 0 (only where it is accepted), 1, 3 and 17, and no other
 abbrev pub code_hands : ℕ → Bool → List ℕ → Option Handing
 code_hands code accepts ds =
     if code == mode.dynamic_bus_control then (if accepts then Some HandsBusControl else None)
@@ -86,10 +90,12 @@ hands P (Done c (OwnMode code) ds) = code_hands code P.accept ds
 hands P (Done c (BroadMode code) ds) = code_hands code false ds
 hands P _ = None
 
+-- the answer to a gap
 abbrev pub handing_over : Option Handing → Out
 handing_over None = Silence
 handing_over (Some handing) = HandsOver handing
 
+-- the answer to a slot
 abbrev pub sending_out : Option Sending → Out
 sending_out None = Silence
 sending_out (Some sending) = SendsWord sending

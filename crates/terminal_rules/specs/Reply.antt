@@ -27,6 +27,7 @@ abbrev pub begun : Turn → Option (Bus × Option Cell)
 begun (Begins b cell) = Some (b, cell)
 begun _ = None
 
+-- a reply began with this event
 abbrev pub begins_reply : Noted → Bool
 begins_reply p = is_some (begun p.turn)
 
@@ -35,9 +36,11 @@ abbrev pub is_other : Bus → Option Bus → Bool
 is_other b None = false
 is_other b (Some c) = not (same_bus b c)
 
+-- an event that starts a message on the other bus than this one
 abbrev pub supersedes : Bus → Noted → Bool
 supersedes b p = is_other b (start_bus p)
 
+-- the event is the time of one word of a reply
 abbrev pub is_slot : Event → Bool
 is_slot Slot = true
 is_slot _ = false
@@ -53,14 +56,18 @@ reply_after b cell superseded m =
     if superseded then None
     else (if nat_le m (words_after_status cell) then Some (record { bus = b; cell = cell; number = m }) else None)
 
+-- the reply that began so, as it is after these events, where it is neither over nor dropped
 abbrev pub reply_of : List Noted → Option (Bus × Option Cell) → Option Replying
 reply_of after None = None
 reply_of after (Some r) = reply_after r.0 r.1 (some (supersedes r.0) after) (slots_in after)
 
--- the reply in progress: the latest that began, by what came after it
+-- The reply in progress: the latest that began, on either bus, by what came after it. No earlier one is in progress
+-- when it begins: while a reply is in progress, nothing is heard on its bus, so no message ends there; and a message
+-- that ends on the other bus started after that reply began, and its start dropped the reply.
 abbrev pub reply_now : List Noted → Option Replying
 reply_now h = reply_of (since begins_reply h) (latest (λ p. begun p.turn) h)
 
+-- the bus on which the terminal replies
 abbrev pub reply_bus : Option Replying → Option Bus
 reply_bus None = None
 reply_bus (Some r) = Some r.bus

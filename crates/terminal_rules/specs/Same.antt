@@ -14,6 +14,7 @@ IsProper (Vector v) = v < 2 ^ 16
 IsProper (Bit v) = v < 2 ^ 16
 IsProper _ = Unit {0}
 
+-- each of these events can come
 abbrev pub AreProper : List Event → Type 0
 AreProper [] = Unit {0}
 AreProper (e ∷ es) = IsProper e × AreProper es

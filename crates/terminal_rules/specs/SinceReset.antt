@@ -59,6 +59,7 @@ resets_in_slot _ = false
 abbrev pub resets : Turn → Ending → Bool
 resets turn x = resets_by_broadcast x || (resets_in_silence turn x || resets_in_slot turn)
 
+-- the terminal was reset with this event
 abbrev pub is_reset : Noted → Bool
 is_reset p = resets p.turn p.ends
 
@@ -75,6 +76,7 @@ switched on off (Some code) = if code == on then Some true else (if code == off 
 abbrev pub inhibits : Noted → Option Bool
 inhibits p = switched mode.inhibit_flag mode.override_inhibit (done_code p.ends)
 
+-- the terminal flag is inhibited: the latest code 6 or 7 done since the last reset was 6
 abbrev pub inhibited_now : List Noted → Bool
 inhibited_now h = or_else (latest inhibits (since_reset h)) false
 
@@ -83,6 +85,7 @@ inhibited_now h = or_else (latest inhibits (since_reset h)) false
 abbrev pub shuts : Bus → Noted → Option Bool
 shuts b p = if is_gap_on (other b) p.event then switched mode.shutdown mode.override_shutdown (done_code p.ends) else None
 
+-- the transmitter is shut down: the latest code 4 or 5 done on the other bus since the last reset was 4
 abbrev pub off_now : List Noted → Bus → Bool
 off_now h b = or_else (latest (shuts b) (since_reset h)) false
 
@@ -91,6 +94,7 @@ abbrev pub vector_word_set : Event → Option ℕ
 vector_word_set (Vector v) = Some v
 vector_word_set _ = None
 
+-- the latest vector word since the last reset, or that of the profile
 abbrev pub vector_now : Description → List Noted → ℕ
 vector_now P h = or_else (latest (λ p. vector_word_set p.event) (since_reset h)) P.vector
 
@@ -99,14 +103,17 @@ abbrev pub bit_word_set : Event → Option ℕ
 bit_word_set (Bit v) = Some v
 bit_word_set _ = None
 
+-- the latest BIT word since the last reset, or that of the profile
 abbrev pub bit_now : Description → List Noted → ℕ
 bit_now P h = or_else (latest (λ p. bit_word_set p.event) (since_reset h)) P.bit
 
--- word number i of a list, from 1
+-- Word number i of a list, from 1: in the list without its first word it has number i - 1. There is no word 0: for i of
+-- 0, where i - 1 is 0 too, none is found.
 abbrev pub nth_word : ℕ → List ℕ → Option ℕ
 nth_word i [] = None
 nth_word i (d ∷ ds) = if i == 1 then Some d else nth_word (i - 1) ds
 
+-- what words received at subaddress t leave as word i of subaddress s, by wraparound alone
 abbrev pub wrapped_at : ℕ → ℕ → ℕ → ℕ → List ℕ → Option ℕ
 wrapped_at wrap s i t ds = if (s == t) && (t == wrap) then nth_word i ds else None
 
@@ -116,10 +123,12 @@ wrapped wrap s i (Done c (OwnReceive t n) ds) = wrapped_at wrap s i t ds
 wrapped wrap s i (Done c (BroadReceive t n) ds) = wrapped_at wrap s i t ds
 wrapped wrap s i _ = None
 
+-- what a write of the subsystem leaves as word i of subaddress s
 abbrev pub written : ℕ → ℕ → Event → Option ℕ
 written s i (Write place v) = if (place.subaddress == s) && (place.number == i) then Some v else None
 written s i _ = None
 
+-- the word that one of the two gives; no event gives both
 abbrev pub either_word : Option ℕ → Option ℕ → Option ℕ
 either_word (Some v) w = Some v
 either_word None w = w
@@ -136,10 +145,12 @@ held_now P h s i = or_else (latest (held_set P s i) (since_reset h)) (P.initial 
 abbrev pub start_bits : Noted → Option ℕ
 start_bits p = of_start (λ b w. w.bits) p
 
+-- the cell of own mode code 18, transmit last command
 abbrev pub is_last_command_code : Option Cell → Bool
 is_last_command_code (Some (OwnMode code)) = code == mode.last_command
 is_last_command_code _ = false
 
+-- what a start records as last command: its command, unless that is transmit last command
 abbrev pub recorded_by : Option ℕ → Option ℕ
 recorded_by None = None
 recorded_by (Some c) = if is_last_command_code (cell_of c) then None else Some c

@@ -20,6 +20,7 @@ is_meant P c = is_addressed_to P.address P.broadcast c
 abbrev pub is_for_terminal : Description → Raw → Bool
 is_for_terminal P w = is_for_address P.address P.broadcast w
 
+-- the same of an entry of a run: noise is never for the terminal
 abbrev pub is_word_for : Description → Option Raw → Bool
 is_word_for P None = false
 is_word_for P (Some w) = is_for_terminal P w

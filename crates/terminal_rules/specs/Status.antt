@@ -25,6 +25,7 @@ no_parts = record {
   terminal = false;
 }
 
+-- these bits, with message error besides where it is added
 abbrev pub with_error_if : Bool → StatusParts → StatusParts
 with_error_if true s = record s { error = true }
 with_error_if false s = s
@@ -68,6 +69,7 @@ abbrev pub reports_kept : Cell → Bool
 reports_kept (OwnMode code) = (code == mode.transmit_status) || (code == mode.last_command)
 reports_kept _ = false
 
+-- the cell of a legal own mode code 2 or 18: its message leaves the kept status as it is
 abbrev pub spares_kept : Description → Option Cell → Bool
 spares_kept P None = false
 spares_kept P (Some cell) = reports_kept cell && P.legal cell
@@ -100,6 +102,7 @@ kept_by_end P h resets (Done c cell ds) = kept_by_done P h resets c cell
 abbrev pub kept_by_slot : Turn → Option StatusParts
 kept_by_slot turn = if resets_in_slot turn then Some no_parts else None
 
+-- what a command that starts a message sets the kept status to
 abbrev pub kept_by_command : Bool → ℕ → Option StatusParts
 kept_by_command spares c = if spares then None else Some (record no_parts { broadcast = is_broadcast c })
 

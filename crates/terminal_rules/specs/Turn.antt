@@ -26,6 +26,7 @@ done_cell _ = None
 abbrev pub turn_of_gap : Bus → Bool → Option Cell → Turn
 turn_of_gap b answered cell = if answered then Begins b cell else NoTurn
 
+-- in a slot the next word of the reply in progress is sent, where there is one
 abbrev pub turn_of_slot : Option Replying → Turn
 turn_of_slot None = NoTurn
 turn_of_slot (Some r) = Sends r

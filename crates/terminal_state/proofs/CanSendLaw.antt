@@ -6,8 +6,8 @@ use Rattle.bus_word.specs.declared.cell.Cell.TheVariants.{OwnReceive, OwnTransmi
 use Rattle.bus_word.specs.Cell.{is_data_place}
 use Rattle.terminal_rules.proofs.CellLaw.{none_or_allowed}
 use Rattle.terminal_state.specs.declared.reply.Reply.{Reply}
-use Rattle.terminal_state.specs.inner.Places.{has_place, can_reply}
-use Rattle.terminal_state.specs.inner.Replies.{shown_reply, can_send}
+use Rattle.terminal_state.specs.Places.{has_place, can_reply}
+use Rattle.terminal_state.specs.Replies.{shown_reply, can_send}
 
 -- the last word that goes with the cell of a command is there
 pub last_place : (cell : Option Cell) → none_or_allowed cell ≡ true → can_reply cell ≡ true

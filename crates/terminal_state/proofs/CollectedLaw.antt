@@ -13,7 +13,7 @@ use Rattle.terminal_rules.specs.History.{Entry}
 use Rattle.terminal_rules.specs.Open.{Open, Idle, Collects, Waits, Resumes, transmitter, is_status_of, transfer}
 use Rattle.terminal_rules.specs.Starts.{is_free, is_fresh_broadcast}
 use Rattle.terminal_rules.specs.Ends.{data_words, with_word, data_of, if_expected, complete, at_gap, at_entry, ends_with}
-use Rattle.terminal_state.specs.inner.Standing.{Collected, Words, Transmitter, Spoilt, lone_transmitter, transmitter_or_spoilt, few, collected_by, collected_of, standing_of, next, whole_of, transfer_of, gap_ends, gap_end_of, ending_at, waits_for, gap_leaves, entry_leaves, entry_fails, fails, fresh_in, is_broadcast_receive, stands_fresh}
+use Rattle.terminal_state.specs.Standing.{Collected, Words, Transmitter, Spoilt, lone_transmitter, transmitter_or_spoilt, few, collected_by, collected_of, standing_of, next, whole_of, transfer_of, gap_ends, gap_end_of, ending_at, waits_for, gap_leaves, entry_leaves, entry_fails, fails, fresh_in, is_broadcast_receive, stands_fresh}
 use Rattle.terminal_rules.proofs.OpenLaw.{after_gap, after_entry, waits}
 
 few_more : (ds : List ℕ) (d : ℕ) (a : Option ℕ) → few (ds ++ d ∷ []) ≡ next (few ds) (Some d) a

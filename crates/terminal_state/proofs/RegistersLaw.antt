@@ -12,13 +12,13 @@ use Rattle.terminal_rules.specs.declared.event.Event.TheVariants.{Word, Noise, G
 use Rattle.terminal_state.specs.declared.ended.Ended.{Ended}
 use Rattle.terminal_state.specs.declared.ended.Ended.TheVariants.{Nothing as EndedNothing, Badly as EndedBadly, Illegal as EndedIllegal, Blocked as EndedBlocked, Done as EndedDone}
 use Rattle.terminal_state.specs.declared.registers.Registers.{Registers}
-use Rattle.terminal_state.specs.inner.Ended.{ending_of}
+use Rattle.terminal_state.specs.Ended.{ending_of}
 use Rattle.terminal_rules.specs.History.{NoTurn, Noted, Ending, Nothing, Badly, Illegal, Blocked, Done}
 use Rattle.terminal_rules.specs.Status.{spares, adds_error, reports_kept, no_parts, with_error_if, kept_by_start, kept_by_command, kept_by_end, later_or}
 use Rattle.terminal_rules.specs.SinceReset.{start_bits, resets, is_reset, done_code}
-use Rattle.terminal_state.specs.inner.Standing.{fails}
-use Rattle.terminal_state.specs.inner.Registers.{registers_now, registers_after, kept_from, error_from, done_from, failed, failed_by, started, started_if, keeping, status_from, carried, settled, reset_if}
-use Rattle.terminal_rules.specs.inner.Steps.{reset_first, kept_after, resets_at_gap}
+use Rattle.terminal_state.specs.Standing.{fails}
+use Rattle.terminal_state.specs.Registers.{registers_now, registers_after, kept_from, error_from, done_from, failed, failed_by, started, started_if, keeping, status_from, carried, settled, reset_if}
+use Rattle.terminal_rules.specs.Steps.{reset_first, kept_after, resets_at_gap}
 use Rattle.terminal_rules.proofs.KeptLaw.{kept_step}
 use Rattle.terminal_rules.proofs.BackLaw.{flag_step, inhibited_step, off_step, vector_step, bit_step, last_step}
 

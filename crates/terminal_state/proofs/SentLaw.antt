@@ -3,7 +3,7 @@ use Rattle.std.proofs.Common.{◌≡◌, ℕ, zero, suc, ◌+◌, ◌-◌, Bool,
 use Rattle.std.proofs.lemmas.Bool.Decides.{nat_tests}
 use Rattle.terminal_rules.specs.History.{Replying}
 use Rattle.terminal_rules.specs.Reply.{words_after_status}
-use Rattle.terminal_state.specs.inner.Replies.{sent_many}
+use Rattle.terminal_state.specs.Replies.{sent_many}
 
 pub sent_none : (k : ℕ) → (let none : Option Replying = None in sent_many k none ≡ none)
 sent_none zero = refl

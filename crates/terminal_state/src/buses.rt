@@ -1,7 +1,7 @@
 //! What is kept for each of the two buses.
 ghost use Rattle.std.specs.Prelude.{◌≡◌};
 ghost use Rattle.terminal_rules.specs.Buses.{same_bus};
-ghost use Rattle.terminal_state.specs.inner.Buses.{on_bus, with_bus, with_other_bus};
+ghost use Rattle.terminal_state.specs.Buses.{on_bus, with_bus, with_other_bus};
 
 use bus_word::Bus;
 

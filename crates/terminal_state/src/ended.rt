@@ -3,8 +3,8 @@ ghost use Rattle.std.specs.Prelude.{◌≡◌, List, ℕ, Some};
 ghost use Rattle.terminal_rules.specs.Ends.{is_blocked_by_busy, verdict};
 ghost use Rattle.terminal_rules.specs.SinceReset.{code_in, done_code};
 ghost use Rattle.terminal_rules.specs.Turn.{is_answered, done_cell};
-ghost use Rattle.terminal_rules.specs.inner.Steps.{resets_at_gap};
-ghost use Rattle.terminal_state.specs.inner.Ended.{ending_of};
+ghost use Rattle.terminal_rules.specs.Steps.{resets_at_gap};
+ghost use Rattle.terminal_state.specs.Ended.{ending_of};
 ghost use Rattle.terminal_rules.specs.Status.{reports_kept};
 
 use bus_word::{Cell, Command, mode};

@@ -3,8 +3,8 @@ ghost use Rattle.std.specs.Prelude.{◌≡◌, ℕ, ◌<◌, ◌≤◌, ◌-◌,
 ghost use Rattle.bus_word.specs.Cell.{is_data_place};
 ghost use Rattle.terminal_rules.specs.LookBack.{or_else};
 ghost use Rattle.terminal_rules.specs.SinceReset.{wrapped, wrapped_at};
-ghost use Rattle.terminal_state.specs.inner.Ended.{ending_of};
-ghost use Rattle.terminal_state.specs.inner.Held.{block_in, word_in, held_after};
+ghost use Rattle.terminal_state.specs.Ended.{ending_of};
+ghost use Rattle.terminal_state.specs.Held.{block_in, word_in, held_after};
 
 use crate::ended::Ended;
 use bus_word::Cell;

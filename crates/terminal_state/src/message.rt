@@ -6,9 +6,9 @@ ghost use Rattle.terminal_rules.specs.Buses.{same_bus};
 ghost use Rattle.terminal_rules.specs.Open.{Idle, Collects, transmitter_at, status_at};
 ghost use Rattle.terminal_rules.specs.Starts.{is_free};
 ghost use Rattle.terminal_rules.specs.Ends.{data_of};
-ghost use Rattle.terminal_state.specs.inner.Standing.{Words, next, entry_leaves, entry_fails, gap_leaves, gap_end, fresh_in, stands_fresh};
+ghost use Rattle.terminal_state.specs.Standing.{Words, next, entry_leaves, entry_fails, gap_leaves, gap_end, fresh_in, stands_fresh};
 ghost use Rattle.terminal_rules.specs.Out.{first_word};
-ghost use Rattle.terminal_state.specs.inner.Message.{collected_in, standing_on, command_in, gap_end_with, in_phase};
+ghost use Rattle.terminal_state.specs.Message.{collected_in, standing_on, command_in, gap_end_with, in_phase};
 
 use crate::buses::same_bus;
 use crate::decoded::Decoded;

@@ -1,8 +1,8 @@
 //! What a terminal remembers besides the message in progress and the words held ready.
 ghost use Rattle.std.specs.Prelude.{◌≡◌, Bool, true, List, ℕ};
 ghost use Rattle.terminal_rules.specs.declared.event.Event.TheVariants.{Flag as FlagIs};
-ghost use Rattle.terminal_state.specs.inner.Ended.{ending_of};
-ghost use Rattle.terminal_state.specs.inner.Registers.{power_up_registers, formed_from, error_from, done_from, status_from, flags_after, failed, started, keeping, carried, settled, reset_if};
+ghost use Rattle.terminal_state.specs.Ended.{ending_of};
+ghost use Rattle.terminal_state.specs.Registers.{power_up_registers, formed_from, error_from, done_from, status_from, flags_after, failed, started, keeping, carried, settled, reset_if};
 
 use crate::buses::OnBuses;
 use crate::decoded::Decoded;

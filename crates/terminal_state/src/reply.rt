@@ -1,7 +1,7 @@
 //! The reply in progress.
 ghost use Rattle.std.specs.Prelude.{◌≡◌, ◌≤◌, true};
 ghost use Rattle.terminal_rules.specs.Reply.{words_after_status};
-ghost use Rattle.terminal_state.specs.inner.Places.{has_place};
+ghost use Rattle.terminal_state.specs.Places.{has_place};
 
 mod steps;
 

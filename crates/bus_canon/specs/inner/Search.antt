@@ -11,6 +11,7 @@ pub record IsFirstNumber {X : Type 0} (below : ℕ) (f g : ℕ → X) (i : ℕ) 
   pub differ : f i ≡ g i → ⊥
   pub alike : (k : ℕ) → k < i → f k ≡ g k
 
+-- the answer is the first such number; None means that the functions do not differ
 abbrev pub FindsNumber : {X : Type 0} → ℕ → (ℕ → X) → (ℕ → X) → Option ℕ → Type 0
 FindsNumber below f g None = (k : ℕ) → k < below → f k ≡ g k
 FindsNumber below f g (Some i) = IsFirstNumber below f g i
@@ -21,6 +22,7 @@ pub record IsFirstPlace {X : Type 0} (f g : ℕ → ℕ → X) (s n : ℕ) : Typ
   pub differ : f s n ≡ g s n → ⊥
   pub alike : (t m : ℕ) → is_data_place t m ≡ true → IsLower t m s n → f t m ≡ g t m
 
+-- the answer is the first such place; None means that the functions do not differ
 abbrev pub FindsPlace : {X : Type 0} → (ℕ → ℕ → X) → (ℕ → ℕ → X) → Option (ℕ × ℕ) → Type 0
 FindsPlace f g None = (s n : ℕ) → is_data_place s n ≡ true → f s n ≡ g s n
 FindsPlace f g (Some p) = IsFirstPlace f g p.0 p.1

@@ -25,6 +25,7 @@ inside_of v = record {
 
 -- ---- the fields come back
 
+-- the fields of a `Normal`, with these two numbers and the proofs of their ranges in place of those of the set-up
 abbrev inside_by : Setup → (address : ℕ) → address ≤ 30 → (wrap : ℕ) → wrap ≤ 30 → Tables → Inside
 inside_by setup address own_address wrap own_wrap tables = record {
   setup = record {
@@ -48,6 +49,7 @@ same_inside setup tables a b pa pb w x pw px e f =
     subst (λ n. (p : n ≤ 30) → inside_by setup a pa w pw tables ≡ inside_by setup n p w pw tables) e (λ p. ap (λ q. inside_by setup a q w pw tables) (le_prop pa p)) pb
     ∙ subst (λ n. (p : n ≤ 30) → inside_by setup b pb w pw tables ≡ inside_by setup b pb n p tables) f (λ p. ap (λ q. inside_by setup b pb w q tables) (le_prop pw p)) px
 
+-- the fields of a `Normal` are those of its parts
 pub inside_again : (n : Inside) → IsNormal (parts_of n.setup n.tables) → inside_of (parts_of n.setup n.tables) ≡ n
 inside_again n is = same_inside n.setup n.tables (min n.setup.address 30) n.setup.address _ n.setup.own_address (min n.setup.wrap 30) n.setup.wrap _ n.setup.own_wrap
     (let small : n.setup.address ≤ 30 = is.address in omega arith) (let small : n.setup.wrap ≤ 30 = is.wrap in omega arith)

@@ -23,6 +23,7 @@ abbrev pub failing_parts : List (List Check) → List ProfileFault
 failing_parts [] = []
 failing_parts (part ∷ parts) = failing part ++ failing_parts parts
 
+-- a list of the fault, where there is one
 abbrev pub present : Option ProfileFault → List ProfileFault
 present None = []
 present (Some f) = f ∷ []
@@ -67,16 +68,19 @@ keys_told part ms keys = failing_parts (map (λ key. row_checks part ms (row_of 
 
 -- ---- the entries of the three arrays
 
+-- the key of the array that holds entries of this kind
 abbrev pub array_row : EntryKind → KeyRow
 array_row kind.Rule = rules_key
 array_row kind.Mode = modes_key
 array_row kind.Initial = initials_key
 
+-- the entry of this kind with this number, as a part of the profile
 abbrev pub part_of : EntryKind → ℕ → Part
 part_of kind.Rule n = part.Rule n
 part_of kind.Mode n = part.Mode n
 part_of kind.Initial n = part.Initial n
 
+-- the keys that an entry of this kind may have
 abbrev pub key_rows_of : EntryKind → List KeyRow
 key_rows_of kind.Rule = rule_rows
 key_rows_of kind.Mode = mode_rows
@@ -98,5 +102,6 @@ checks_of k n = entry_checks (part_of k n) (array_row k) (key_rows_of k) (λ ms.
 abbrev pub code_told : List ModeRule → ℕ → List ProfileFault
 code_told modes code = if not (is_own_code_legal modes code) then RequiredCode code ∷ [] else []
 
+-- the faults of all own mode codes that must be legal and are not
 abbrev pub codes_told : List ModeRule → List ProfileFault
 codes_told modes = flat_map (code_told modes) required_codes

@@ -26,13 +26,13 @@ use Rattle.terminal_rules.specs.Reply.{reply_bus}
 use Rattle.terminal_rules.specs.Status.{spares, adds_error}
 use Rattle.terminal_rules.specs.Turn.{is_answered, done_cell}
 use Rattle.terminal_rules.specs.Out.{Sending, sending}
-use Rattle.terminal_state.specs.inner.Standing.{Words, word_bits, word_leaves, entry_fails, gap_leaves, gap_ends, fresh_in, starts_by}
-use Rattle.terminal_state.specs.inner.Message.{standing_on}
-use Rattle.terminal_state.specs.inner.Registers.{failed_by, started, started_if, settled, reset_if}
-use Rattle.terminal_rules.specs.inner.Steps.{resets_at_gap, dropped_if, begun_if, sent_one, resets_next}
-use Rattle.terminal_state.specs.inner.Buses.{on_bus, with_bus}
-use Rattle.terminal_state.specs.inner.Held.{held_after}
-use Rattle.terminal_state.specs.inner.Replies.{shown_reply}
+use Rattle.terminal_state.specs.Standing.{Words, word_bits, word_leaves, entry_fails, gap_leaves, gap_ends, fresh_in, starts_by}
+use Rattle.terminal_state.specs.Message.{standing_on}
+use Rattle.terminal_state.specs.Registers.{failed_by, started, started_if, settled, reset_if}
+use Rattle.terminal_rules.specs.Steps.{resets_at_gap, dropped_if, begun_if, sent_one, resets_next}
+use Rattle.terminal_state.specs.Buses.{on_bus, with_bus}
+use Rattle.terminal_state.specs.Held.{held_after}
+use Rattle.terminal_state.specs.Replies.{shown_reply}
 use Rattle.bus_terminal.specs.Stands.{own_description, held_word}
 use Rattle.bus_terminal.specs.Received.{receiving_by}
 
@@ -57,6 +57,7 @@ next_sent_from address r held reply =
     then sending reply.bus Com (status_word address r.kept)
     else sending reply.bus Dat (reply_word_from r held reply.cell reply.number)
 
+-- the same of the reply in progress, where there is one
 abbrev pub sends_from : ℕ → Registers → (ℕ → ℕ → ℕ) → Option Replying → Option Sending
 sends_from address r held None = None
 sends_from address r held (Some reply) = Some (next_sent_from address r held reply)
@@ -82,6 +83,7 @@ abbrev pub receives_from : Description → Option ℕ → Option Receiving
 receives_from P None = None
 receives_from P (Some c) = receiving_by P c (cell_of c)
 
+-- the same from what the terminal keeps: nothing while it replies on this bus, or while the busy flag is set
 abbrev pub receives_in : {L : Type 0} → (L → Cell → Bool) → Terminal L → Bus → Option Receiving
 receives_in is_legal t b =
     if is_on b (reply_bus (shown_reply t.reply)) || t.registers.flags.busy then None

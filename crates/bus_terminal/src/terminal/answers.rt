@@ -8,9 +8,9 @@ use terminal_state::{Ended, Reply};
 impl<L: Legality> Terminal<L> {
     ghost use Rattle.std.specs.Prelude.{◌≡◌, true, Some};
     ghost use Rattle.terminal_rules.specs.Out.{hands, code_hands, handing_over, HandsReceived};
-    ghost use Rattle.terminal_state.specs.inner.Ended.{ending_of};
-    ghost use Rattle.terminal_state.specs.inner.Places.{has_place};
-    ghost use Rattle.terminal_state.specs.inner.Replies.{shown_reply, can_send};
+    ghost use Rattle.terminal_state.specs.Ended.{ending_of};
+    ghost use Rattle.terminal_state.specs.Places.{has_place};
+    ghost use Rattle.terminal_state.specs.Replies.{shown_reply, can_send};
     ghost use Rattle.bus_terminal.specs.inner.Terminal.{reply_word_from, sends_from};
     ghost use Rattle.bus_terminal.specs.Answer.{shown_answer, AreFew, IsSmall};
     ghost use Rattle.bus_terminal.specs.inner.Answer.{shown_sent, shown_hand};

@@ -34,6 +34,7 @@ impl<L: Legality> Terminal<L> {
         L: Copy,
         ensures stands { (P : Description) (h : List Event) → StandsAt L.is_legal P h self.now → StandsAt L.is_legal P h result }
         ensures legality { result.legality ≡ self.now.legality }
+        ensures description { own_description L.is_legal result ≡ own_description L.is_legal self.now }
     {
         Terminal {
             settings: self.settings,

@@ -8,7 +8,7 @@ impl<L: Legality> Terminal<L> {
     ghost use Rattle.std.specs.Prelude.{◌≡◌, List};
     ghost use Rattle.bus_legal.specs.Description.{Description};
     ghost use Rattle.terminal_rules.specs.declared.event.Event.{Event};
-    ghost use Rattle.terminal_state.specs.inner.Message.{standing_on};
+    ghost use Rattle.terminal_state.specs.Message.{standing_on};
     ghost use Rattle.bus_terminal.specs.Stands.{StandsAt};
     ghost use Rattle.bus_terminal.specs.Waiting.{awaited, awaited_in};
 

@@ -1,7 +1,7 @@
 //! Messages of which nothing but their own words comes before their gap: what their command means is found once, and none of them
 //! is ever in progress.
 ghost use Rattle.std.specs.Prelude.{◌≡◌, true, Some};
-ghost use Rattle.terminal_state.specs.inner.Places.{can_reply};
+ghost use Rattle.terminal_state.specs.Places.{can_reply};
 
 use super::Terminal;
 use crate::answer::{Answer, Receiving};

@@ -42,8 +42,8 @@ use Rattle.std.specs.contracts.alloc.Global as heap
 use Rattle.std.proofs.alloc.Global.TheLaws as heap_laws
 use Rattle.std.specs.contracts.impls.GlobalAllocator.TheImpl.{ghosts}
 use Rattle.std.proofs.boxed.Box.TheLaws as box_laws
-use Rattle.rt1553_live.specs.contracts.live.Live.{the_row}
-use Rattle.rt1553_live.proofs.live.Live.TheLaws.{the_row_laws}
+use Rattle.rt1553_live.specs.contracts.terminal.Live.{the_row}
+use Rattle.rt1553_live.proofs.terminal.Live.TheLaws.{the_row_laws}
 use Rattle.rt1553_c.proofs.Handed.{Boxed as B, Made, made_lawful}
 use Rattle.rt1553_c.specs.declared.TheConstants.{DONE}
 use Rattle.rt1553_c.specs.contracts.hand_over as f

@@ -40,8 +40,8 @@ use Rattle.std.proofs.impls.GlobalAllocator.TheImpl.Met as heap_met
 use Rattle.std.proofs.boxed.Box.TheLaws as box_laws
 use Rattle.std.specs.contracts.boxed.Box.into_raw as g
 use Rattle.std.proofs.boxed.Box.into_raw.Met.{met}
-use Rattle.rt1553_live.specs.contracts.live.Live.{the_row}
-use Rattle.rt1553_live.proofs.live.Live.TheLaws.{the_row_laws}
+use Rattle.rt1553_live.specs.contracts.terminal.Live.{the_row}
+use Rattle.rt1553_live.proofs.terminal.Live.TheLaws.{the_row_laws}
 use Rattle.rt1553_c.proofs.Handed.{Boxed as B}
 use Rattle.rt1553_c.proofs.Destruct++none.drop.Code as forgotten
 use Rattle.rt1553_c.specs.contracts.put_live as f

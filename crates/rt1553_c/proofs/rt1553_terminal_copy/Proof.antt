@@ -33,8 +33,8 @@ use denote.Triple.Walked.{Stays, walk_of, stay_dropped, gave_ref, Goes-dropped, 
 use denote.Triple.Table.{framed}
 use Rattle.std.specs.contracts.alloc.Global as heap
 use Rattle.rt1553_live.specs.Live.{IsCopy}
-use Rattle.rt1553_live.specs.declared.live.Live.{Live}
-use Rattle.rt1553_live.specs.contracts.live.Live.{the_row}
+use Rattle.rt1553_live.specs.declared.terminal.Live.{Live}
+use Rattle.rt1553_live.specs.contracts.terminal.Live.{the_row}
 use Rattle.rt1553_live.specs.contracts.fault.PlainFault as fault
 use Rattle.rt1553_c.proofs.Handle.{heap_val, heap_Tells}
 use Rattle.rt1553_c.proofs.Handed.{Made, made_lawful, lies, on_done, on_refused, lies_when_done}

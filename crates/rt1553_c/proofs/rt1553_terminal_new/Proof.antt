@@ -29,7 +29,7 @@ use denote.Triple.Table.{framed}
 use Rattle.std.specs.contracts.alloc.Global as heap
 use Rattle.bus_legal.specs.Description.{Description}
 use Rattle.rt1553.specs.Load.{Of}
-use Rattle.rt1553_live.specs.contracts.live.Live.{the_row}
+use Rattle.rt1553_live.specs.contracts.terminal.Live.{the_row}
 use Rattle.rt1553_live.specs.contracts.fault.PlainFault as fault
 use Rattle.rt1553_c.proofs.Handle.{heap_val, heap_Tells}
 use Rattle.rt1553_c.proofs.Handed.{Made, made_lawful, lies, on_done, on_refused, lies_when_done}

@@ -36,8 +36,8 @@ use denote.Triple.Table.{framed}
 use Rattle.std.specs.contracts.alloc.Global as heap
 use Rattle.saved_states.specs.State.{state_of}
 use Rattle.saved_states.specs.Text.{StateText}
-use Rattle.rt1553_live.specs.declared.live.Live.{Live}
-use Rattle.rt1553_live.specs.contracts.live.Live.{the_row}
+use Rattle.rt1553_live.specs.declared.terminal.Live.{Live}
+use Rattle.rt1553_live.specs.contracts.terminal.Live.{the_row}
 use Rattle.rt1553_live.specs.contracts.fault.PlainFault as fault
 use Rattle.rt1553_c.proofs.Handle.{heap_val, heap_Tells}
 use Rattle.rt1553_c.specs.Told.{IsTold, IsNoMemory, IsLongState}

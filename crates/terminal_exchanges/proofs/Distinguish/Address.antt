@@ -9,7 +9,7 @@ use Rattle.terminal_rules.specs.History.{Noted, Replying}
 use Rattle.terminal_rules.specs.Reply.{reply_now}
 use Rattle.terminal_rules.specs.SinceReset.{off_now}
 use Rattle.terminal_rules.specs.Turn.{is_answered, done_cell}
-use Rattle.terminal_rules.specs.inner.Steps.{begun_if}
+use Rattle.terminal_rules.specs.Steps.{begun_if}
 use Rattle.terminal_rules.specs.Out.{sends}
 use Rattle.terminal_rules.specs.Starts.{is_meant}
 use Rattle.terminal_exchanges.specs.Exchanges.{Exchange}

@@ -16,7 +16,7 @@ use Rattle.terminal_rules.specs.Ends.{verdict, well}
 use Rattle.terminal_rules.specs.SinceReset.{resets as resets_turn, inhibited_now, off_now}
 use Rattle.terminal_rules.specs.Turn.{is_answered, done_cell, turn_of_gap}
 use Rattle.terminal_rules.specs.Status.{no_parts, inhibited_after, formed_done, kept_by_end, adds_error, kept_now}
-use Rattle.terminal_rules.specs.inner.Steps.{reset_first, kept_after}
+use Rattle.terminal_rules.specs.Steps.{reset_first, kept_after}
 use Rattle.terminal_rules.specs.Starts.{is_meant}
 use Rattle.terminal_exchanges.specs.Exchanges.{Exchange, script_of, command_event}
 use Rattle.terminal_exchanges.specs.ExchangeLaws.{ending_of_exchange, slots_needed, AreAnswered}

@@ -22,7 +22,7 @@ use Rattle.terminal_exchanges.specs.Exchanges.{Exchange, script_of}
 use Rattle.terminal_exchanges.specs.ExchangeLaws.{ending_of_exchange, slots_needed, AreAnswered}
 use Rattle.terminal_exchanges.proofs.Notes.{gap_note, slot_notes, notes_at_gap, exchange_notes}
 use Rattle.terminal_exchanges.specs.Distinguish.{TellsApart, all_terminals, transmit, receive_complement}
-use Rattle.terminal_rules.specs.inner.Steps.{unless_reset, begun_if}
+use Rattle.terminal_rules.specs.Steps.{unless_reset, begun_if}
 use Rattle.terminal_rules.proofs.BackLaw.{held_step}
 use Rattle.bus_word.proofs.Places.{place_count, place_from}
 use Rattle.terminal_rules.proofs.ResetLaw.{gap_as, gap_resets}

@@ -19,7 +19,7 @@ use Rattle.terminal_rules.specs.Ends.{verdict, well}
 use Rattle.terminal_rules.specs.SinceReset.{inhibited_now, since_reset, is_status_of_reset, resets_by_broadcast, does_own_reset, is_reset}
 use Rattle.terminal_rules.specs.Turn.{is_answered, done_cell, turn_of_gap}
 use Rattle.terminal_rules.specs.Status.{no_parts, accepts, inhibited_after, formed_error, formed_done, reports_kept, spares, spares_kept, kept_by_command, later_or, kept_now}
-use Rattle.terminal_rules.specs.inner.Steps.{reset_first, kept_after, sent_one, begun_if, resets_next}
+use Rattle.terminal_rules.specs.Steps.{reset_first, kept_after, sent_one, begun_if, resets_next}
 use Rattle.terminal_rules.specs.Out.{next_sent, sends}
 use Rattle.terminal_rules.specs.Starts.{is_meant}
 use Rattle.terminal_exchanges.specs.Exchanges.{Exchange, command_event}

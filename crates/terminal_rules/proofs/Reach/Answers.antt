@@ -26,7 +26,7 @@ use Rattle.terminal_rules.proofs.Reach.Agrees.{Agrees, addressed}
 use Rattle.terminal_rules.proofs.Reach.Past.{at_gap_alike, past_alike}
 use Rattle.terminal_rules.proofs.Reach.Kept.{legal_at, kept_alike}
 use Rattle.terminal_rules.proofs.Reach.Held.{held_alike}
-use Rattle.terminal_rules.specs.inner.Steps.{replies_on}
+use Rattle.terminal_rules.specs.Steps.{replies_on}
 
 -- the data word that goes with a mode code, by the code
 chosen_word : (is_16 is_18 is_19 : Bool) (v w last b d : ℕ) → (is_16 ≡ true → v ≡ w) → (is_19 ≡ true → b ≡ d) →

@@ -25,7 +25,7 @@ use Rattle.terminal_rules.specs.Past.{past}
 use Rattle.terminal_rules.specs.OpenLaws.{start_of, command_open}
 use Rattle.terminal_rules.proofs.CellLaw.{none_or_allowed, cell_of-allowed}
 use Rattle.terminal_rules.proofs.LatestLaw.{latest_start_law}
-use Rattle.terminal_rules.specs.inner.Steps.{replies_on}
+use Rattle.terminal_rules.specs.Steps.{replies_on}
 
 -- the cell, if there is one, is one of commands that are meant for the terminal
 abbrev IsHeard : Bool → Option Cell → Type 0

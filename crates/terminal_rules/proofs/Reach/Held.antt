@@ -8,7 +8,7 @@ use Rattle.bus_legal.specs.Description.{Description}
 use Rattle.bus_legal.specs.Reach.{transmits_at, receives_at}
 use Rattle.terminal_rules.specs.History.{Noted, Ending, Nothing, Badly, Illegal, Blocked, Done}
 use Rattle.terminal_rules.specs.SinceReset.{is_reset, nth_word, wrapped, written, either_word, held_now}
-use Rattle.terminal_rules.specs.inner.Steps.{unless_reset}
+use Rattle.terminal_rules.specs.Steps.{unless_reset}
 use Rattle.terminal_rules.proofs.BackLaw.{held_step}
 use Rattle.terminal_rules.proofs.Reach.Heard.{DoesWhatItCan, AllDoWhatTheyCan}
 use Rattle.terminal_rules.proofs.Reach.Agrees.{Agrees, addressed}

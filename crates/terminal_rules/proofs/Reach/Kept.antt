@@ -9,7 +9,7 @@ use Rattle.bus_legal.specs.Description.{Description}
 use Rattle.terminal_rules.specs.History.{Noted, Ending, Nothing, Badly, Illegal, Blocked, Done}
 use Rattle.terminal_rules.specs.SinceReset.{inhibited_now, start_bits, is_reset}
 use Rattle.terminal_rules.specs.Status.{formed, formed_error, accepts, inhibited_after, formed_done, reports_kept, spares_kept, kept_by_end, kept_by_command, kept_by_start, later_or, adds_error, kept_now}
-use Rattle.terminal_rules.specs.inner.Steps.{reset_first, kept_after}
+use Rattle.terminal_rules.specs.Steps.{reset_first, kept_after}
 use Rattle.terminal_rules.proofs.KeptLaw.{kept_step}
 use Rattle.terminal_rules.proofs.Reach.Heard.{DoesWhatItCan, AllDoWhatTheyCan}
 use Rattle.terminal_rules.proofs.Reach.Agrees.{Agrees, addressed}

@@ -16,7 +16,7 @@ use Rattle.terminal_rules.specs.Past.{note, past}
 use Rattle.terminal_rules.specs.Starts.{is_meant}
 use Rattle.terminal_rules.proofs.Reach.Heard.{CanBeAsked, meant_cell, IsMeant, open_meant}
 use Rattle.terminal_rules.proofs.Reach.Agrees.{Agrees, addressed}
-use Rattle.terminal_rules.specs.inner.Steps.{replies_on}
+use Rattle.terminal_rules.specs.Steps.{replies_on}
 
 verdict_alike : (P R : Description) → Agrees P R → (busy : Bool) (c : ℕ) (ds : List ℕ) (o : Option Cell) → CanBeAsked P o → verdict R.legal busy c ds o ≡ verdict P.legal busy c ds o
 verdict_alike P R a busy c ds None q = refl

@@ -7,9 +7,11 @@ use Rattle.terminal_rules.specs.declared.event.Flag.TheVariants.{Service, Busy, 
 use Rattle.terminal_rules.specs.Out.{HandsReceived}
 use Rattle.terminal_rules.specs.WorkedExamples.Words.{five, five_hearing_all, command, data_word, write, quiet, gap, idle_slot, gap_sends, gap_hands, gap_sends_and_hands, Answers}
 
+-- words at power-up: 000a is the first of subaddress 1
 abbrev pub ten_at_one : ℕ → ℕ → ℕ
 ten_at_one s i = if (s == 1) && (i == 1) then 0x000a else 0
 
+-- scripts in which a later answer shows what a message left
 pub record EffectRows : Type 0 where
   -- transmit status word that ends in error adds message error to the kept status, which keeps its other bits
   pub spared_status_keeps_its_bits : Answers (five_hearing_all [])

@@ -6,10 +6,12 @@ use Rattle.terminal_rules.specs.declared.event.Event.TheVariants.{Noise}
 use Rattle.terminal_rules.specs.Out.{HandsReceived}
 use Rattle.terminal_rules.specs.WorkedExamples.Words.{five, five_hearing_all, command, data_word, data_run, invalid, quiet, gap, idle_slot, gap_sends, gap_sends_and_hands, Answers}
 
+-- 32 data words, each the number of its place
 abbrev pub one_to_32 : List ℕ
 one_to_32 = 1 ∷ 2 ∷ 3 ∷ 4 ∷ 5 ∷ 6 ∷ 7 ∷ 8 ∷ 9 ∷ 10 ∷ 11 ∷ 12 ∷ 13 ∷ 14 ∷ 15 ∷ 16
     ∷ 17 ∷ 18 ∷ 19 ∷ 20 ∷ 21 ∷ 22 ∷ 23 ∷ 24 ∷ 25 ∷ 26 ∷ 27 ∷ 28 ∷ 29 ∷ 30 ∷ 31 ∷ 32 ∷ []
 
+-- scripts of one message, or of one and what follows from it
 pub record MessageRows : Type 0 where
   -- transmit status word is answered by the status
   pub transmit_status : Answers (five []) (quiet (command A 0x2c02) ∷ gap_sends A 0x2800 [] ∷ [])

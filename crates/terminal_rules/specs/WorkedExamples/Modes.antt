@@ -7,9 +7,11 @@ use Rattle.terminal_rules.specs.declared.event.Flag.TheVariants.{Busy, Subsystem
 use Rattle.terminal_rules.specs.Out.{HandsReceived, HandsSynchronizeWith, HandsSelfTest, HandsBusControl}
 use Rattle.terminal_rules.specs.WorkedExamples.Words.{five, five_hearing_all, command, data_word, write, quiet, gap, idle_slot, gap_sends, gap_hands, gap_sends_and_hands, Answers}
 
+-- words at power-up: 000a is the first of subaddress 3
 abbrev pub ten_first : ℕ → ℕ → ℕ
 ten_first s i = if (s == 3) && (i == 1) then 0x000a else 0
 
+-- scripts of mode codes, flags and words held
 pub record ModeCodeRows : Type 0 where
   -- what is received at the wraparound subaddress is sent from there
   pub wraparound : Answers (five (OwnReceive 30 1 ∷ OwnTransmit 30 1 ∷ []))

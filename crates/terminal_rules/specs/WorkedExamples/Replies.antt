@@ -8,16 +8,19 @@ use Rattle.terminal_rules.specs.declared.event.Flag.TheVariants.{Service, Busy}
 use Rattle.terminal_rules.specs.Out.{HandsReceived}
 use Rattle.terminal_rules.specs.WorkedExamples.Words.{five, command, data_word, write, quiet, gap, idle_slot, slot_status, slot_word, gap_sends, gap_hands, Answers}
 
--- two words are held ready, and may be asked for
+-- words at power-up: 000a and 000b are the first two of subaddress 3
 abbrev pub ten_eleven : ℕ → ℕ → ℕ
 ten_eleven s i = if (s == 3) && (i == 1) then 0x000a else (if (s == 3) && (i == 2) then 0x000b else 0)
 
+-- a terminal that holds these words, and may be asked for both
 abbrev pub two_ready : Description
 two_ready = record (five (OwnTransmit 3 2 ∷ [])) { initial = ten_eleven }
 
+-- a terminal with vector word 00aa, which may be asked for it
 abbrev pub vector_ready : Description
 vector_ready = record (five (OwnMode 16 ∷ [])) { vector = 0x00aa }
 
+-- scripts that show in which slot each word of a reply is sent, and what drops a reply
 pub record ReplyRows : Type 0 where
   -- a gap sends nothing
   pub no_slot : Answers (five []) (quiet (command A 0x2c02) ∷ gap A ∷ [])

@@ -4,6 +4,7 @@ use Rattle.bus_word.specs.declared.word.Bus.TheVariants.{A}
 use Rattle.bus_word.specs.declared.cell.Cell.TheVariants.{OwnReceive, OwnTransmit, BroadReceive, BroadMode}
 use Rattle.terminal_rules.specs.WorkedExamples.Words.{five, five_hearing_all, command, data_word, invalid_data, quiet, gap, idle_slot, gap_sends, Answers}
 
+-- scripts in which something other than its data words follows a command
 pub record RunRows : Type 0 where
   -- a data word of wrong parity
   pub invalid_data : Answers (five (OwnReceive 3 1 ∷ []))

@@ -6,6 +6,7 @@ use Rattle.terminal_rules.specs.declared.event.Event.TheVariants.{Noise}
 use Rattle.terminal_rules.specs.Out.{HandsReceived}
 use Rattle.terminal_rules.specs.WorkedExamples.Words.{five, five_hearing_all, command, data_word, invalid, quiet, gap, idle_slot, gap_sends, gap_hands, gap_sends_and_hands, Answers}
 
+-- scripts of transfers, from another terminal to this one and from this one to all
 pub record TransferRows : Type 0 where
   -- the words come from another terminal, after its status
   pub rt_to_rt : Answers (five (OwnReceive 3 1 ∷ []))
@@ -53,6 +54,7 @@ pub record TransferRows : Type 0 where
       (quiet (command A 0xf861) ∷ quiet (data_word A 0) ∷ quiet (command A 0x2c81) ∷ gap A ∷ idle_slot
       ∷ quiet (command A 0x2c02) ∷ gap_sends A 0x2c10 [] ∷ [])
 
+-- scripts with events on both buses
 pub record TwoBusRows : Type 0 where
   -- a command on one bus drops the message on the other
   pub superseded : Answers (five (OwnReceive 3 2 ∷ []))

@@ -7,6 +7,7 @@ use Rattle.terminal_rules.specs.declared.event.Flag.TheVariants.{Service}
 use Rattle.terminal_rules.specs.Out.{HandsReceived}
 use Rattle.terminal_rules.specs.WorkedExamples.Words.{five, command, data_word, invalid, quiet, gap, idle_slot, gap_sends, gap_sends_and_hands, Answers}
 
+-- scripts of transfers that wait for a status word, and of messages that don't come to wait
 pub record WaitingRows : Type 0 where
   -- after the time-out a status is no longer awaited
   pub time_out_ends_waiting : Answers (five (OwnReceive 3 1 ∷ []))

@@ -12,6 +12,7 @@ use Rattle.terminal_rules.specs.declared.event.Event.{Event}
 use Rattle.terminal_rules.specs.declared.event.Event.TheVariants.{Word, Gap, Write, Slot}
 use Rattle.terminal_rules.specs.Out.{Handing, Out, Silence, SendsWord, HandsOver, sending, outs}
 
+-- both are the same cell
 abbrev pub same_cell : Cell → Cell → Bool
 same_cell (OwnReceive s n) (OwnReceive t m) = (s == t) && (n == m)
 same_cell (OwnTransmit s n) (OwnTransmit t m) = (s == t) && (n == m)
@@ -43,9 +44,11 @@ five cells = record {
 abbrev pub five_hearing_all : List Cell → Description
 five_hearing_all cells = record (five cells) { broadcast = true }
 
+-- a valid word of command sync
 abbrev pub command : Bus → ℕ → Event
 command b bits = Word b (valid_word Com bits)
 
+-- a valid word of data sync
 abbrev pub data_word : Bus → ℕ → Event
 data_word b bits = Word b (valid_word Dat bits)
 
@@ -74,6 +77,7 @@ unanswered e = record { event = e; answer = Silence }
 abbrev pub slot_sends : Bus → Kind → ℕ → Step
 slot_sends b kind bits = record { event = Slot; answer = SendsWord (sending b kind bits) }
 
+-- slots in which data words are sent
 abbrev pub slots_send : Bus → List ℕ → List Step
 slots_send b [] = []
 slots_send b (d ∷ ds) = slot_sends b Dat d ∷ slots_send b ds
@@ -82,6 +86,7 @@ slots_send b (d ∷ ds) = slot_sends b Dat d ∷ slots_send b ds
 abbrev pub reply : Bus → ℕ → List ℕ → List Step
 reply b status words = slot_sends b Com status ∷ slots_send b words
 
+-- a gap, at which something is handed over, as one step
 abbrev pub hands_at_gap : Bus → Handing → Step
 hands_at_gap b handing = record { event = Gap b; answer = HandsOver handing }
 
@@ -94,16 +99,19 @@ data_run b (d ∷ ds) = unanswered (data_word b d) ∷ data_run b ds
 abbrev pub quiet : Event → List Step
 quiet e = unanswered e ∷ []
 
+-- a gap that isn't answered
 abbrev pub gap : Bus → List Step
 gap b = quiet (Gap b)
 
--- a slot without a reply, and one in which a status or a data word is sent
+-- a slot without a reply
 abbrev pub idle_slot : List Step
 idle_slot = quiet Slot
 
+-- a slot in which a status word is sent
 abbrev pub slot_status : Bus → ℕ → List Step
 slot_status b status = slot_sends b Com status ∷ []
 
+-- a slot in which a data word is sent
 abbrev pub slot_word : Bus → ℕ → List Step
 slot_word b word = slot_sends b Dat word ∷ []
 
@@ -119,14 +127,17 @@ gap_hands b handing = hands_at_gap b handing ∷ []
 abbrev pub gap_sends_and_hands : Bus → ℕ → Handing → List Step
 gap_sends_and_hands b status handing = hands_at_gap b handing ∷ reply b status []
 
+-- the steps of all lines, in order
 abbrev pub steps_of : List (List Step) → List Step
 steps_of [] = []
 steps_of (line ∷ lines) = line ++ steps_of lines
 
+-- what the terminal is given
 abbrev pub events_of : List Step → List Event
 events_of [] = []
 events_of (s ∷ steps) = s.event ∷ events_of steps
 
+-- what it answers
 abbrev pub answers_of : List Step → List Out
 answers_of [] = []
 answers_of (s ∷ steps) = s.answer ∷ answers_of steps

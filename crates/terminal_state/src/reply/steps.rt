@@ -1,8 +1,8 @@
 //! How a reply begins and goes on.
 ghost use Rattle.std.specs.Prelude.{◌≡◌, true, Some};
-ghost use Rattle.terminal_state.specs.inner.Places.{has_place, can_reply};
-ghost use Rattle.terminal_state.specs.inner.Replies.{shown_reply, reply_at, sent_many};
-ghost use Rattle.terminal_rules.specs.inner.Steps.{begun_if, sent_one, resets_next};
+ghost use Rattle.terminal_state.specs.Places.{has_place, can_reply};
+ghost use Rattle.terminal_state.specs.Replies.{shown_reply, reply_at, sent_many};
+ghost use Rattle.terminal_rules.specs.Steps.{begun_if, sent_one, resets_next};
 
 use super::{Reply, words_after_status};
 use bus_word::{Bus, Cell, is_data_place, mode};

@@ -7,7 +7,7 @@ pub returns-in-Some : goal.returns-in-Some
 returns-in-Some c =
     let x = c.args.live.now in
     let rests = c.step.follows.holds-at-none in
-    subst (λ e. StepsBy e x 0 (record { event = x.event; answer = c.show.new.to; terminal = c.step.follows.lender-at-none })) c.in-Some.ensures (
+    subst (λ e. StepsBy e x 0 (record { event = x.event; answer = c.show.new.to; terminal = c.step.follows.lender-at-none; made = c.live-in-Some-2-1.given.0 })) c.in-Some.ensures (
       refl,
       record {
         answers = λ P h a. c.show.ensures ∙ ap Some (c.step.ensures.answer a.own h a.stands ∙ a.alike h c.in-Some.event);
@@ -15,7 +15,7 @@ returns-in-Some c =
           own = a.own;
           stands = further;
           alike = a.alike;
-          made = further.description ∙ sym a.stands.description ∙ a.made ∙ ap description_in (sym rests.1);
+          made = rests.2 ∙ a.made ∙ ap description_in (sym rests.1);
         });
         event = refl;
       },

@@ -2,7 +2,7 @@ use Rattle.std.proofs.Common.{codes, length, subst, ap, sym, ◌∙◌}
 use Rattle.std.proofs.lemmas.Result.{on_ok_weaker}
 use Rattle.line_format.specs.Format.{Spells}
 use Rattle.line_format.specs.Shapes.{words_line}
-use Rattle.terminal_state.specs.inner.Replies.{shown_reply}
+use Rattle.terminal_state.specs.Replies.{shown_reply}
 use Rattle.saved_states.specs.Numbers.{reply_numbers, reply_from}
 use Rattle.saved_states.proofs.CodedLaws.{coded_spelled}
 use Rattle.saved_states.proofs.NumberLaws.{reply_five}

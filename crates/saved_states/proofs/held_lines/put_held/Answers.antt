@@ -1,7 +1,7 @@
 use Rattle.std.proofs.Common.{◌≡◌, ◌+◌, ◌-◌, ◌++◌, [], codes, arith, subst, ap, append_assoc, append-nil, refl, ◌∙◌, sym}
 use Rattle.line_format.specs.Format.{Spells}
 use Rattle.line_format.specs.Shapes.{words_line}
-use Rattle.terminal_state.specs.inner.Held.{block_in}
+use Rattle.terminal_state.specs.Held.{block_in}
 use Rattle.saved_states.specs.State.{held_from}
 use Rattle.saved_states.specs.Text.{held_lines}
 use Rattle.saved_states.proofs.HeldLaws.{held_on, held_none, held_from-suc}

@@ -2,7 +2,7 @@ use Rattle.std.proofs.Common.{◌∙◌, ap, sym, Ok}
 use Rattle.std.proofs.lemmas.Result.{err_from_is_err_and}
 use Rattle.line_format.proofs.Steps.{then_ok, then_err}
 use Rattle.line_format.specs.Views.{spot}
-use Rattle.terminal_state.specs.inner.Replies.{shown_reply}
+use Rattle.terminal_state.specs.Replies.{shown_reply}
 use Rattle.saved_states.specs.State.{State}
 use Rattle.saved_states.specs.Text.{saved}
 use Rattle.saved_states.proofs.restoring.state_lines.Goals as goal

@@ -1,5 +1,5 @@
 use Rattle.std.proofs.Common.{◌≡◌, ◌+◌, ◌-◌, [], ◌∷◌, length, get_or, ap, ◌∙◌, arith}
-use Rattle.terminal_state.specs.inner.Replies.{shown_reply}
+use Rattle.terminal_state.specs.Replies.{shown_reply}
 use Rattle.saved_states.specs.State.{saved_message, saved_words, held_from}
 use Rattle.saved_states.proofs.StateLaws.{held_all}
 use Rattle.saved_states.proofs.restoring.terminal_of.Goals as goal

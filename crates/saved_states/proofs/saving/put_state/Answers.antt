@@ -3,7 +3,7 @@ use Rattle.line_format.specs.Format.{Spells}
 use Rattle.line_format.specs.Shapes.{number_field, words_line}
 use Rattle.line_format.proofs.Writes.{number_text, number_spelled}
 use Rattle.bus_canon.specs.Canon.{is_written, canon}
-use Rattle.terminal_state.specs.inner.Replies.{shown_reply}
+use Rattle.terminal_state.specs.Replies.{shown_reply}
 use Rattle.saved_states.specs.State.{state_of, saved_message, saved_words, held_from}
 use Rattle.saved_states.specs.Text.{bits_line, reply_line, message_line, held_lines}
 use Rattle.saved_states.proofs.TextLaws.{StateLines, state_spelled}

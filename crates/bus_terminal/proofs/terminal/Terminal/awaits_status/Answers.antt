@@ -2,7 +2,7 @@ use Rattle.std.proofs.Common.{◌≡◌, ◌∙◌, refl, ap}
 use Rattle.bus_legal.specs.Description.{Description}
 use Rattle.terminal_rules.specs.Open.{Open, Idle, Collects, Waits, Resumes, open_now}
 use Rattle.terminal_rules.specs.Past.{past}
-use Rattle.terminal_state.specs.inner.Standing.{standing_of}
+use Rattle.terminal_state.specs.Standing.{standing_of}
 use Rattle.bus_terminal.specs.Waiting.{awaited_in}
 use Rattle.bus_terminal.proofs.terminal.Terminal.awaits_status.Goals as goal
 

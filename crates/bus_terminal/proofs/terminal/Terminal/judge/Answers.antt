@@ -2,7 +2,7 @@ use Rattle.std.proofs.Common.{◌≡◌, [], List, ℕ, ap, sym, ◌∙◌}
 use Rattle.terminal_rules.specs.Ends.{well}
 use Rattle.terminal_rules.specs.Turn.{done_cell}
 use Rattle.terminal_rules.proofs.CellLaw.{none_or_allowed, well_law, well_allowed}
-use Rattle.terminal_state.specs.inner.Ended.{ending_of}
+use Rattle.terminal_state.specs.Ended.{ending_of}
 use Rattle.terminal_state.proofs.CanSendLaw.{last_place}
 use Rattle.bus_terminal.specs.Stands.{own_description}
 use Rattle.bus_terminal.proofs.terminal.Terminal.judge.Goals as goal

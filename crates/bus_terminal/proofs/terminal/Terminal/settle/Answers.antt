@@ -1,9 +1,9 @@
 use Rattle.std.proofs.Common.{refl, ap, ◌∙◌}
 use Rattle.terminal_rules.specs.Turn.{is_answered}
-use Rattle.terminal_rules.specs.inner.Steps.{begun_if}
-use Rattle.terminal_state.specs.inner.Ended.{ending_of}
-use Rattle.terminal_state.specs.inner.Held.{held_after}
-use Rattle.terminal_state.specs.inner.Replies.{shown_reply}
+use Rattle.terminal_rules.specs.Steps.{begun_if}
+use Rattle.terminal_state.specs.Ended.{ending_of}
+use Rattle.terminal_state.specs.Held.{held_after}
+use Rattle.terminal_state.specs.Replies.{shown_reply}
 use Rattle.bus_terminal.proofs.TakesLaw.{same_setup, settled_gap}
 use Rattle.bus_terminal.proofs.terminal.Terminal.settle.Goals as goal
 

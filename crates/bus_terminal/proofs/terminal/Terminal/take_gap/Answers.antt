@@ -1,8 +1,8 @@
 use Rattle.std.proofs.Common.{ap, subst, ◌∙◌}
 use Rattle.terminal_rules.specs.SinceReset.{wrapped}
-use Rattle.terminal_state.specs.inner.Ended.{ending_of}
-use Rattle.terminal_state.specs.inner.Message.{standing_on}
-use Rattle.terminal_state.specs.inner.Standing.{ending_at}
+use Rattle.terminal_state.specs.Ended.{ending_of}
+use Rattle.terminal_state.specs.Message.{standing_on}
+use Rattle.terminal_state.specs.Standing.{ending_at}
 use Rattle.bus_terminal.specs.Stands.{own_description}
 use Rattle.bus_terminal.specs.inner.Terminal.{Settles}
 use Rattle.bus_terminal.proofs.terminal.Terminal.take_gap.Goals as goal

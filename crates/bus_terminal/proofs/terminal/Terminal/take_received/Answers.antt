@@ -1,6 +1,6 @@
 use Rattle.std.proofs.Common.{◌≡◌, Some, ap, sym, ◌∙◌}
 use Rattle.bus_terminal.specs.Received.{receiving_by}
-use Rattle.terminal_state.specs.inner.Message.{standing_on, command_in}
+use Rattle.terminal_state.specs.Message.{standing_on, command_in}
 use Rattle.bus_terminal.proofs.ReceivedLaw.{received_begins, receives_words, received_stands}
 use Rattle.bus_terminal.proofs.terminal.Terminal.take_received.Goals as goal
 

@@ -2,7 +2,7 @@ use Rattle.std.proofs.Common.{◌≡◌, [], refl, ap, ◌∙◌}
 use Rattle.bus_word.specs.declared.word.Bus.{Bus}
 use Rattle.terminal_rules.specs.Open.{Idle}
 use Rattle.bus_terminal.specs.Answer.{shown_answer}
-use Rattle.terminal_state.specs.inner.Message.{standing_on}
+use Rattle.terminal_state.specs.Message.{standing_on}
 use Rattle.bus_terminal.proofs.WholeLaw.{bare_stands, bare_answers}
 use Rattle.bus_terminal.proofs.terminal.Terminal.take_with_gap.Goals as goal
 

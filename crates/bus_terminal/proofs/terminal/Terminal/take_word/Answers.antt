@@ -1,6 +1,6 @@
 use Rattle.std.proofs.Common.{sym, ◌∙◌, subst, if◌then◌else◌, true}
-use Rattle.terminal_state.specs.inner.Buses.{with_bus}
-use Rattle.terminal_state.specs.inner.Registers.{failed_by}
+use Rattle.terminal_state.specs.Buses.{with_bus}
+use Rattle.terminal_state.specs.Registers.{failed_by}
 use Rattle.bus_terminal.specs.Stands.{own_description}
 use Rattle.bus_terminal.specs.inner.Terminal.{TakesStart}
 use Rattle.bus_terminal.proofs.TakesLaw.{starting_word}

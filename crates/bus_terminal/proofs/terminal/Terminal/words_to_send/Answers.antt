@@ -1,6 +1,6 @@
 use Rattle.std.proofs.Common.{◌≡◌, ◌-◌, Some, ap, sym, ◌∙◌, arith}
 use Rattle.bus_word.specs.declared.cell.Cell.TheVariants.{OwnTransmit}
-use Rattle.terminal_state.specs.inner.Places.{has_place}
+use Rattle.terminal_state.specs.Places.{has_place}
 use Rattle.bus_terminal.proofs.SlotsLaw.{of_reply, words_sent, words_counted}
 use Rattle.bus_terminal.proofs.terminal.Terminal.words_to_send.Goals as goal
 

@@ -1,5 +1,5 @@
 use Rattle.std.proofs.Common.{◌∙◌}
-use Rattle.terminal_state.specs.inner.Held.{word_in}
+use Rattle.terminal_state.specs.Held.{word_in}
 use Rattle.terminal_state.proofs.HeldLaw.{wrapped_law}
 use Rattle.terminal_state.proofs.held.HeldWords.wrap_around.Goals as goal
 

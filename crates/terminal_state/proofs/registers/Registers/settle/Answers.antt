@@ -1,5 +1,5 @@
 use Rattle.std.proofs.Common.{[], ap, ◌∙◌}
-use Rattle.terminal_state.specs.inner.Registers.{carried}
+use Rattle.terminal_state.specs.Registers.{carried}
 use Rattle.terminal_state.proofs.RegistersLaw.{settled_well}
 use Rattle.terminal_state.proofs.registers.Registers.settle.Goals as goal
 
