@@ -1,8 +1,9 @@
 -- Why a line is no line of a script, in words.
 use Rattle.std.specs.Prelude.{ℕ, List, codes}
 use Rattle.refused_lines.specs.declared.reason.LineReason.{LineReason}
-use Rattle.refused_lines.specs.declared.reason.LineReason.TheVariants.{Long, Mark, Return, Tab, Front, Spaces, End, Comment, Name, Spelling, OnBus, Sent, Digits, Parity, Subaddress, Number, Flag, Value, Much}
+use Rattle.refused_lines.specs.declared.reason.LineReason.TheVariants.{Long, Mark, Return, Tab, Front, Spaces, End, Comment, Name, Spelling, OnBus, Sent, Digits, Parity, Subaddress, Number, Flag, Value, Much, Many, Answer}
 
+-- the words of a reason
 abbrev pub reason_text : LineReason → List ℕ
 reason_text Long = codes "over 64 bytes before the line feed"
 reason_text Mark = codes "a byte order mark: save the file as UTF-8 without it"
@@ -23,3 +24,5 @@ reason_text Number = codes "the number of a word is two digits, 01 to 32"
 reason_text Flag = codes "a flag is service, busy, subsystem or terminal"
 reason_text Value = codes "a flag is set by 1 and taken back by 0"
 reason_text Much = codes "nothing may follow the last field"
+reason_text Many = codes "a script has at most 1,048,576 lines"
+reason_text Answer = codes "looks like a stated answer and is a comment: one space comes after #>, #~ or #+, and none before it"

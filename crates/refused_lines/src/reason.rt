@@ -33,6 +33,8 @@ pub enum LineReason {
     Flag,
     Value,
     Much,
+    Many,
+    Answer,
 }
 
 impl LineReason {
@@ -64,6 +66,9 @@ impl LineReason {
             LineReason::Flag => "a flag is service, busy, subsystem or terminal",
             LineReason::Value => "a flag is set by 1 and taken back by 0",
             LineReason::Much => "nothing may follow the last field",
+            LineReason::Many => "a script has at most 1,048,576 lines",
+            LineReason::Answer =>
+                "looks like a stated answer and is a comment: one space comes after #>, #~ or #+, and none before it",
         }
     }
 }

@@ -1,10 +1,13 @@
 -- The text of events with what is stated of their answers, read: it says these events, and just these answers.
-use Rattle.std.proofs.Common.{ℕ, ◌≡◌, ◌∙◌, ◌+◌, ◌*◌, ◌<◌, ◌≤◌, Bool, true, false, if◌then◌else◌, List, [], ◌∷◌, ◌++◌, Option, Some, None, Result, Ok, length, map, flat_map, refl, sym, ap, subst, arith, append_assoc, append-nil, length-append, codes}
+use Rattle.std.proofs.Common.{ℕ, ◌≡◌, ◌∙◌, ◌+◌, ◌*◌, ◌<◌, ◌≤◌, ◌==◌, Bool, true, false, if◌then◌else◌, List, [], ◌∷◌, ◌++◌, Option, Some, None, Result, Ok, length, map, flat_map, refl, sym, ap, subst, arith, append_assoc, append-nil, length-append, codes}
 use Rattle.std.proofs.lemmas.List.{map-append}
 use Rattle.bus_word.specs.declared.word.Bus.{Bus}
 use Rattle.bus_word.specs.declared.word.Bus.TheVariants.{A, B}
 use Rattle.bus_word.specs.declared.word.Kind.{Kind}
 use Rattle.bus_word.specs.declared.word.Kind.TheVariants.{Com, Dat}
+use Rattle.bus_word.specs.Cell.{cell_of}
+use Rattle.bus_word.specs.Command.{transmits, code_of, is_mode, is_broadcast}
+use Rattle.bus_word.specs.Mode.{mode_name}
 use Rattle.bus_legal.specs.Description.{Description}
 use Rattle.terminal_rules.specs.declared.event.Event.{Event}
 use Rattle.terminal_rules.specs.declared.event.Event.TheVariants as event
@@ -21,12 +24,13 @@ use Rattle.script_lines.specs.EventLine.{event_text}
 use Rattle.script_lines.specs.Transcript.{bus_letter, sent_kind, sent_text, word_field, received_by, answer_text, transcript}
 use Rattle.script_lines.proofs.RoundTrip.{event_read}
 use Rattle.line_format.specs.Front.{after}
+use Rattle.refused_lines.specs.Refused.{mistyped}
 use Rattle.rt1553_verify.specs.declared.stated.StatedFault.{StatedFault}
 use Rattle.rt1553_verify.specs.declared.matching.Matching.TheVariants.{Exact}
-use Rattle.rt1553_verify.specs.Stated.{StatedEvent, Latest, After, can_answer, ended, stays, or_misplaced, unstated_line, by_going_on, by_mask, by_answer, with_line_feed, is_empty, line_says}
+use Rattle.rt1553_verify.specs.Stated.{StatedEvent, Latest, After, can_answer, ended, stays, or_misplaced, silent_line, unstated_line, by_going_on, by_mask, by_answer, with_line_feed, is_empty, line_says}
 use Rattle.rt1553_verify.proofs.StatedLaws.{stated-means}
 use Rattle.message_names.specs.NameRow.{NameRow}
-use Rattle.rt1553_acceptance.specs.Label.{label_of}
+use Rattle.rt1553_acceptance.specs.Label.{data_asked, asked, is_legal_by, label_of}
 use Rattle.rt1553_acceptance.specs.Remark.{remark_of}
 use Rattle.rt1553_acceptance.specs.Text.{answer_stated, event_stated, comment_of, exchanges_stated, fields_stated}
 use Rattle.rt1553_acceptance.specs.Law.{AreStatedAnswers}
@@ -46,7 +50,7 @@ says-event n latest line e means = first (after (codes "#> ") line) refl
     Said said = said ≡ Ok (record { events = ended latest; latest = Some (record { line = n; event = e; matching = Exact; answer = [] }) })
 
     third : (o : Option (List ℕ)) → after (codes "#+ ") line ≡ o → Said (by_going_on n latest line o)
-    third None is = ap (unstated_line n latest) means
+    third None is = ap (unstated_line n latest line) means
     third (Some rest) is = let no = sym (stated-means 43 line rest is) ∙ means in absurd (cc)
 
     second : (o : Option (List ℕ)) → after (codes "#~ ") line ≡ o → Said (by_mask n latest line o)
@@ -258,6 +262,39 @@ some_events P n h (e ∷ es) latest proper fits few =
 
 -- ---- exchanges, each behind its comment
 
+-- a comment that begins so does not look like a stated answer
+abbrev Front : List ℕ → Type 0
+Front text = (more : List ℕ) → mistyped (codes "# " ++ (text ++ more)) ≡ None
+
+front-more : (text rest : List ℕ) → Front text → Front (text ++ rest)
+front-more text rest front more = ap (λ xs. mistyped (codes "# " ++ xs)) (append_assoc text rest more) ∙ front (rest ++ more)
+
+front-if : (b : Bool) (text other : List ℕ) → Front text → Front other → Front (if b then text else other)
+front-if true text other a b = a
+front-if false text other a b = b
+
+mode-front : (code : ℕ) → Front (mode_name code)
+mode-front code =
+    front-if (code == 0) _ _ (λ more. refl) (front-if (code == 1) _ _ (λ more. refl) (front-if (code == 2) _ _ (λ more. refl)
+    (front-if (code == 3) _ _ (λ more. refl) (front-if (code == 4) _ _ (λ more. refl) (front-if (code == 5) _ _ (λ more. refl)
+    (front-if (code == 6) _ _ (λ more. refl) (front-if (code == 7) _ _ (λ more. refl) (front-if (code == 8) _ _ (λ more. refl)
+    (front-if (code == 16) _ _ (λ more. refl) (front-if (code == 17) _ _ (λ more. refl) (front-if (code == 18) _ _ (λ more. refl)
+    (front-if (code == 19) _ _ (λ more. refl) (front-if (code == 20) _ _ (λ more. refl) (front-if (code == 21) _ _ (λ more. refl) (λ more. refl)))))))))))))))
+
+asked-front : (c : ℕ) → Front (asked c)
+asked-front c = front-if (is_mode c) (mode_name (code_of c)) (data_asked c) (mode-front (code_of c))
+    (front-more (if transmits c then codes "transmit " else codes "receive ") _ (front-if (transmits c) _ _ (λ more. refl) (λ more. refl)))
+
+label-front : (P : Description) (c : ℕ) → Front (label_of P c)
+label-front P c = by (is_broadcast c)
+  where
+    verdict : List ℕ
+    verdict = if is_legal_by P (cell_of c) then codes ": legal" else codes ": illegal"
+
+    by : (b : Bool) → Front ((if b then codes "broadcast " else []) ++ (asked c ++ verdict))
+    by true = front-more (codes "broadcast ") (asked c ++ verdict) (λ more. refl)
+    by false = front-more (asked c) verdict (asked-front c)
+
 comment_said : (rows : List NameRow) (P : Description) (n : ℕ) (h : List Event) (x : Exchange) (latest : Latest) → n < 1048576
     → Chain P n (n + 1) h (comment_of rows P x) latest latest []
 unfolding meaning
@@ -269,7 +306,7 @@ comment_said rows P n h x latest few =
       said = [];
       stated = [];
       tells = Tells-same (comment_of rows P x) (ap (λ text. codes "# " ++ text) (sym (append_assoc label remark (10 ∷ []))) ∙ sym (append_assoc (codes "# ") (label ++ remark) (10 ∷ [])))
-          (Tells-line n (codes "# " ++ (label ++ remark)) latest latest [] few line.short line.feeds refl);
+          (Tells-line n (codes "# " ++ (label ++ remark)) latest latest [] few line.short line.feeds (ap (silent_line (n + 1) latest) (label-front P x.command remark)));
       splits = sym (append-nil (ended latest));
       events = refl;
       answers = tt;

@@ -7,9 +7,11 @@ use Rattle.clap.specs.declared.builder.ArgAction.TheVariants.{Set}
 abbrev pub file_rule : List ℕ → Rule
 file_rule id = record (new_rule id) { required = true; action = Some Set }
 
+-- a subcommand of this name that takes one file
 abbrev pub one_file_app : List ℕ → App
 one_file_app name = with_rule (new_app name) (file_rule (codes "first"))
 
+-- a subcommand of this name that takes two files
 abbrev pub two_files_app : List ℕ → App
 two_files_app name = with_rule (one_file_app name) (file_rule (codes "second"))
 

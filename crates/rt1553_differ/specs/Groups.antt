@@ -42,10 +42,11 @@ group_says kind first s n g = ((rank g.difference == rank (of_count kind s n)) &
 abbrev pub single : Parts → Difference → Group
 single v d = record { difference = d; subaddresses = 0; counts = 0; in_first = is_so v d }
 
--- the differences before those in word counts, and those behind them
+-- the difference comes before all those in word counts
 abbrev pub is_before_counts : Difference → Bool
 is_before_counts d = nat_le (rank d) 2
 
+-- the difference comes after all those in word counts
 abbrev pub is_behind_counts : Difference → Bool
 is_behind_counts d = nat_le 6 (rank d)
 

@@ -65,11 +65,12 @@ abbrev pub of_code : Bool → ℕ → Difference
 of_code true code = BroadcastCode code
 of_code false code = OwnCode code
 
--- k possible differences from number n on; and those of k subaddresses from s on, each with 32 numbers
+-- k possible differences, from number n on
 unfoldable pub in_row : (ℕ → Difference) → ℕ → ℕ → List Difference
 in_row kind n zero = []
 in_row kind n (suc k) = kind n ∷ in_row kind (suc n) k
 
+-- those of k subaddresses from s on, each with the numbers 1 to 32
 unfoldable pub in_rows : (ℕ → ℕ → Difference) → ℕ → ℕ → List Difference
 in_rows kind s zero = []
 in_rows kind s (suc k) = in_row (kind s) 1 32 ++ in_rows kind (suc s) k

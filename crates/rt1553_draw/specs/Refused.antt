@@ -20,6 +20,7 @@ unfoldable pub events_on : ℕ → List (List ℕ) → List Numbered
 events_on n [] = []
 events_on n (line ∷ lines) = event_said (n + 1) (meaning line) ++ events_on (n + 1) lines
 
+-- the fault of the script; or, with over 4,096 events, that there are too many
 abbrev pub by_fault : Option RunFault → ℕ → Option DrawFault
 by_fault (Some fault) n = Some (Script fault)
 by_fault None n = if nat_lt 4096 n then Some TooMany else None

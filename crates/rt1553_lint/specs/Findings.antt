@@ -21,15 +21,19 @@ use Rattle.spare_entries.specs.Spares.{IsSpare, Picks, places_of}
 abbrev pub Subject : Type 0
 Subject = Option LintFault × Option SparePlace
 
+-- what each finding is of, in their order
 abbrev pub subjects : List Finding → List Subject
 subjects fs = map (λ f. (f.fault, f.spare)) fs
 
+-- the subject of an error
 abbrev pub error_of : LintFault → Subject
 error_of fault = (Some fault, None)
 
+-- the subject of an error in a profile
 abbrev pub profile_error : ProfileFault → Subject
 profile_error fault = error_of (lint_fault.Profile fault)
 
+-- the subject of a warning
 abbrev pub warning_of : SparePlace → Subject
 warning_of place = (None, Some place)
 
@@ -64,11 +68,12 @@ pub record FindsRefused (text : List ℕ) (found : List Finding) : Type 0 where
 abbrev pub FindsInOther : List ℕ → List Finding → Type 0
 FindsInOther text found = ((P : Description) × Of text P × (found ≡ [])) ⊎ FindsRefused text found
 
--- the number and the name of a fault, among those of its type
+-- the number of a fault among those of its type
 abbrev pub lint_fault_number : LintFault → ℕ
 lint_fault_number (lint_fault.Profile fault) = profile_fault_number fault
 lint_fault_number (lint_fault.Canon fault) = canon.canon_fault_number fault
 
+-- the name of a fault among those of its type
 abbrev pub lint_fault_name : LintFault → List ℕ
 lint_fault_name (lint_fault.Profile fault) = profile_fault_name fault
 lint_fault_name (lint_fault.Canon fault) = canon.canon_fault_name fault

@@ -2,6 +2,7 @@
 use Rattle.std.specs.Prelude.{ℕ, ◌+◌, Bool, not, ◌||◌, ◌==◌, nat_lt, nat_le, List, take, reverse, take_while, count_by}
 use Rattle.rt1553_lint.specs.declared.finding.Position.{Position}
 
+-- the byte is a line feed
 abbrev pub is_feed : ℕ → Bool
 is_feed byte = byte == 10
 

@@ -61,10 +61,11 @@ pub record IsAtExcess (part : Part) (key : Key) (text : List ℕ) (position : Op
   pub entries : part ≡ Root → IsAtPart (part_numbered key 257) text position
   pub words : (part ≡ Root → ⊥) → IsAtValue part key text position
 
--- an item of an array, and the table that it is
+-- the item of the array at a key of the root, counted from 0
 abbrev pub array_item : List ℕ → ℕ → Members → Option Data
 array_item key i tree = option_and_then (at i) (get_member key tree)
 
+-- the table that this item is, if it is one
 abbrev pub item_table : List ℕ → ℕ → Members → Option Members
 item_table key i tree = option_and_then as_table (array_item key i tree)
 

@@ -21,6 +21,7 @@ TellsVerdict first second old new status =
     ((status ≡ 0) × AreSame first second × Appends old new (codes "same\n"))
     ⊎ ((status ≡ 1) × (script : List Event) × AreDifferent first second script × Appends old new (script_text script))
 
+-- the job compares two profiles
 abbrev pub IsComparison : Job → Type 0
 IsComparison (job.Compare p q) = Unit {0}
 IsComparison job.Standard = ⊥

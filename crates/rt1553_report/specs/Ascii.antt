@@ -7,6 +7,7 @@ use Rattle.std.specs.Char.Escape.{encode_utf16}
 abbrev pub is_printable : ℕ → Bool
 is_printable c = nat_le 32 c && nat_lt c 127
 
+-- all bytes are printable characters of ASCII
 abbrev pub IsPlainText : List ℕ → Type 0
 IsPlainText bytes = list_all is_printable bytes ≡ true
 

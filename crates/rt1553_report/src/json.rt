@@ -31,6 +31,8 @@ struct ResultLine<'a> {
     passes: bool,
     /// Null where the script was not played.
     answers: Option<usize>,
+    /// Null where there is nothing to warn of.
+    warning: Option<&'static str>,
     clauses: Vec<String>,
     differences: Vec<WrongEntry>,
     /// Null where the script was played.
@@ -99,6 +101,7 @@ fn line_of<'a>(alloc: Global, of: &'a ScriptResult) -> Result<ResultLine<'a>, Al
         profile: of.profile.as_ref().map(|name| name.as_str()),
         passes: of.outcome.passes(),
         answers,
+        warning: of.outcome.warning(),
         clauses: clauses_told(alloc, of.clauses.as_slice())?,
         differences,
         fault,

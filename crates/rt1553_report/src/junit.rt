@@ -75,6 +75,14 @@ fn push_outcome(alloc: Global, text: &mut String, of: &ScriptResult) -> Result<(
     }
 }
 
+/// Writes why what came of a script shows nothing, where it does.
+fn push_warning(text: &mut String, of: &ScriptResult) -> Result<(), AllocError> {
+    match of.outcome.warning() {
+        Some(warning) => writeln!(text, "<system-err>warning: {warning}</system-err>"),
+        None => Ok(()),
+    }
+}
+
 /// Writes a script as a test case.
 fn push_case(alloc: Global, text: &mut String, of: &ScriptResult) -> Result<(), AllocError> {
     text.push_str("<testcase name=\"")?;
@@ -87,6 +95,7 @@ fn push_case(alloc: Global, text: &mut String, of: &ScriptResult) -> Result<(), 
     text.push_str("\" time=\"0\">\n")?;
     push_properties(alloc, text, of.clauses.as_slice())?;
     push_outcome(alloc, text, of)?;
+    push_warning(text, of)?;
     text.push_str("</testcase>\n")
 }
 

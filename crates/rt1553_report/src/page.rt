@@ -216,6 +216,7 @@ fn push_result(alloc: Global, page: &mut String, of: &ScriptResult) -> Result<()
             wrong,
             names,
             drawing,
+            ..
         } => {
             writeln!(
                 page,
@@ -251,6 +252,25 @@ fn push_results(
     Ok(())
 }
 
+/// Writes which scripts show nothing, or little, of a terminal, and why.
+fn push_warnings(
+    alloc: Global,
+    page: &mut String,
+    results: &[ScriptResult],
+) -> Result<(), AllocError> {
+    let mut is_first = true;
+    for of in results {
+        if let Some(warning) = of.outcome.warning() {
+            page.push_str(if is_first { "<h2>Warnings</h2>\n" } else { "" })?;
+            is_first = false;
+            page.push_str("<p class=\"differs\">")?;
+            push_shown(alloc, page, of.file.as_str().as_bytes())?;
+            writeln!(page, ": {warning}</p>")?;
+        }
+    }
+    Ok(())
+}
+
 /// Whether something is drawn.
 fn has_drawing(results: &[ScriptResult]) -> bool {
     for of in results {
@@ -266,7 +286,7 @@ fn has_drawing(results: &[ScriptResult]) -> bool {
 }
 
 /// The results of scripts as a page of its own: HTML without code, and well-formed XML too. What was tested; how many scripts pass,
-/// clause by clause; and each script that does not pass, with each event that was not answered as stated, and its drawing.
+/// clause by clause; which scripts show nothing; and each script that does not pass, with each event that was not answered as stated, and its drawing.
 pub fn results_page(alloc: Global, results: &[ScriptResult]) -> Result<String, AllocError> {
     let totals = totals_of(results);
     let failed = totals.failures.saturating_add(totals.errors);
@@ -279,6 +299,7 @@ pub fn results_page(alloc: Global, results: &[ScriptResult]) -> Result<String, A
     push_front(&mut page, title.as_str(), RESULTS_STYLE)?;
     push_tested(alloc, &mut page, results)?;
     push_clauses(alloc, &mut page, results)?;
+    push_warnings(alloc, &mut page, results)?;
     push_results(alloc, &mut page, results)?;
     page.push_str("</body></html>\n")?;
     Ok(page)

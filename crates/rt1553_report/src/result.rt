@@ -2,7 +2,7 @@
 ghost use Rattle.std.specs.Prelude.{◌≡◌, length, filter};
 ghost use Rattle.rt1553_report.specs.Results.{outcome_passes, outcome_fails, outcome_is_missing, totals_of};
 
-use rt1553_verify::WrongAnswer;
+use rt1553_verify::{ScriptWarning, WrongAnswer};
 
 /// The names of the messages to which events belong that were not answered as stated, in their order; None where one has none.
 #[derive(Drop)]
@@ -35,6 +35,8 @@ pub enum ScriptOutcome {
     Played {
         /// How many answers it states.
         answers: usize,
+        /// Why that shows nothing, or little, where it does.
+        warning: Option<ScriptWarning>,
         /// Each event that was not answered as stated.
         wrong: Vec<WrongAnswer>,
         /// The name of the message of each of these events, where there are names.
@@ -64,6 +66,17 @@ impl ScriptOutcome {
         match self {
             ScriptOutcome::Played { wrong, .. } => !wrong.is_empty(),
             ScriptOutcome::NotPlayed(_) => false,
+        }
+    }
+
+    /// Why what came of it shows nothing, or little, in words.
+    pub fn warning(&self) -> Option<&'static str> {
+        match self {
+            ScriptOutcome::Played {
+                warning: Some(warning),
+                ..
+            } => Some(warning.text()),
+            _ => None,
         }
     }
 

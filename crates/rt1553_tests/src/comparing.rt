@@ -2,7 +2,8 @@
 use bus_legal::Normal;
 use rt1553::load;
 use rt1553_results::{
-    Comparison, Rows, TestRow, compare_results, csv_header, csv_row, json_row, read_results,
+    Comparison, Rows, TestRow, compare_results, csv_header, csv_row, json_row, other_command,
+    read_results,
 };
 use std::alloc::{AllocError, Global};
 use std::format;
@@ -159,7 +160,15 @@ fn number_beyond_the_last(rt: HostRuntime) -> Result<(), Fail> {
 }
 
 /// Tables that are refused, and by which fault.
-const REFUSED: [(&[u8], &str); 20] = [
+const REFUSED: [(&[u8], &str); 22] = [
+    (
+        b"number,reply\n1,\"28\"00\n",
+        "results: row 2, column 2: not CSV, a quote is misplaced or missing",
+    ),
+    (
+        b"number,reply\n1,2800\n2,\"none\n",
+        "results: row 3, column 2: not CSV, a quote is misplaced or missing",
+    ),
     (
         b"\xef\xbb\xbfnumber,reply\r\n1,none\r\n0,none\r\n",
         "results: row 3, column 1: not the number of an exchange",
@@ -247,6 +256,33 @@ fn refused_tables(rt: HostRuntime) -> Result<(), Fail> {
             return Err("read")?;
         };
         assert_eq!(rt; format!(in alloc; "{fault}")?.as_str(), wanted);
+    }
+    Ok(())
+}
+
+/// Tables with a column of commands, and the place of the first that is of another exchange.
+const COMMANDED: [(&[u8], Option<(u64, u64)>); 6] = [
+    (b"number,reply,command\n1,none,fc02\n2,2c00,2C02\n", None),
+    (b"number,reply\n1,none\n", None),
+    (
+        b"command,number,reply\nfc02,1,none\n2c03,2,2c00\n",
+        Some((3, 1)),
+    ),
+    (b"number,reply,command\n1,none,\n", Some((2, 3))),
+    (b"number,reply,command\n9999,none,0000\n", None),
+    (b"", None),
+];
+
+#[test]
+fn commands_of_results(rt: HostRuntime) -> Result<(), Fail> {
+    let alloc = rt.alloc();
+    let normal = load(alloc, b"address = 5")?;
+    for (text, wanted) in COMMANDED {
+        let found = match other_command(alloc, &normal, text)? {
+            Some(place) => Some((place.row, place.column)),
+            None => None,
+        };
+        assert_eq!(rt; found, wanted);
     }
     Ok(())
 }

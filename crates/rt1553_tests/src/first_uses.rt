@@ -5,6 +5,7 @@ use bus_legal::{Legality, RuleList, normalise, setup_of};
 use bus_profile::read_profile;
 use bus_terminal::{Answer, Event, Terminal, WordPlace};
 use bus_word::{Bus, Cell, Command, Kind, Raw, cell_of};
+use csv_rows::{CsvFault, read_rows};
 use drawing_boxes::Caption;
 use line_format::{FieldKind, Lines, bit_line, put_number_line};
 use message_names::{MessageNames, NamedCells};
@@ -188,6 +189,16 @@ fn what_an_exchange_tries(rt: HostRuntime) -> Result<(), Fail> {
     // what the transmit command 2c22 of address 5 tries
     let label = label_of(&normal, 0x2c22);
     assert!(rt; !label.as_str().is_empty());
+    Ok(())
+}
+
+#[test]
+fn rows_of_csv(rt: HostRuntime) -> Result<(), Fail> {
+    let rows = read_rows(rt.alloc(), b"number,reply\n1,\"28\"00\n", b',');
+    let Err(CsvFault::NotCsv(place)) = rows else {
+        return Err("read")?;
+    };
+    assert_eq!(rt; (place.row, place.column), (2, 2));
     Ok(())
 }
 

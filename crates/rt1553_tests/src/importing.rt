@@ -27,7 +27,7 @@ to = \"own\"
 ";
 
 /// A table with commas, initial words, a column that is left out, and a name that would end its comment.
-const RECORDER: &[u8] = b"kind,value,subaddress,words,initial,name,my \"notes\"
+const RECORDER: &[u8] = b"kind,value,subaddress,words,initial,name,\"my \"\"notes\"\"\"
 address,0x13,,,,,
 wraparound,FALSE,,,,,x
 transmit,, 2 ,4,0001  a 00ff,\"state\n[[rule]]\",
@@ -94,7 +94,24 @@ fn told(alloc: Global, text: &[u8]) -> Result<String, AllocError> {
 }
 
 /// Tables that are refused, and what is told.
-const REFUSED: [(&[u8], &str); 11] = [
+const REFUSED: [(&[u8], &str); 16] = [
+    (
+        b"kind,value\naddress,\"1\"2\n",
+        "table: row 2, column 2: not CSV, a quote is misplaced or missing",
+    ),
+    (
+        b"kind;value\naddress;1\"\n",
+        "table: row 2, column 2: not CSV, a quote is misplaced or missing",
+    ),
+    (
+        b"kind,name\naddress,\"a\"\"b\"\n\nbit,\"c\nd\"\nbit,\"open,1\nbit,2\n",
+        "table: row 6, column 2: not CSV, a quote is misplaced or missing",
+    ),
+    (
+        b"\xef\xbb\xbf\"kind\"\r\n\"address\" ,1\r\n",
+        "table: row 2, column 1: not CSV, a quote is misplaced or missing",
+    ),
+    (b"kind,value\naddress,\xff\n", "table: not UTF-8"),
     (b"", "1:1: error: table: no column is named kind\n"),
     (
         b"\nvalue,to,value\n",

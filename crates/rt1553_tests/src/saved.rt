@@ -1,4 +1,7 @@
 //! Saved states: what is written of a terminal, and that it goes on from there.
+ghost use Rattle.saved_states.specs.State.{IsMade};
+
+use bus_legal::Normal;
 use bus_terminal::{Answer, Event, Terminal};
 use bus_word::{Bus, Kind, Raw};
 use rt1553::load;
@@ -9,11 +12,30 @@ use std::test::Fail;
 const COLLECTING: &[u8] =
     b"rt1553-state 1\nbits 01 0000 0001 0000 0000 0000 0000 0000 0000 0000 0000 0000 0000 0000 0000 0000 0000\nregisters 01 0000 0000 2864\nreply 01 0000 0000 0000 0000 0000\nmessage 01 0001 0001 2864 0000 0002\nwords 01 0011 abcd\nheld 01 ";
 
+/// The terminal of a profile at power-up.
+fn powered_up(normal: Normal) -> Terminal<Normal>
+    ensures { IsMade result }
+{
+    let setup = normal.setup();
+    Terminal::power_up(setup, normal)
+}
+
+/// Plays an event whose answer nobody wants.
+fn play(terminal: &mut Terminal<Normal>, event: Event)
+    requires { IsMade terminal.old }
+    ensures { IsMade terminal.new }
+{
+    let _ = terminal.step(event);
+}
+
 #[test]
 fn a_saved_state(rt: HostRuntime) -> Result<(), Fail> {
     let normal = load(rt.alloc(), b"address = 5")?;
-    let mut terminal = Terminal::power_up(normal.setup(), normal);
-    terminal.take(Event::Word(Bus::A, Raw::of(Kind::Com, 0x2c02)));
+    let mut terminal = powered_up(normal);
+    play(
+        &mut terminal,
+        Event::Word(Bus::A, Raw::of(Kind::Com, 0x2c02)),
+    );
     let state = save(rt.alloc(), &terminal)?;
     let mut again = restore(state.as_slice())?;
     again.take(Event::Gap(Bus::A));
@@ -28,10 +50,19 @@ fn a_saved_state(rt: HostRuntime) -> Result<(), Fail> {
 #[test]
 fn a_state_in_the_middle_of_a_message(rt: HostRuntime) -> Result<(), Fail> {
     let normal = load(rt.alloc(), b"address = 5")?;
-    let mut terminal = Terminal::power_up(normal.setup(), normal);
-    terminal.take(Event::Word(Bus::B, Raw::of(Kind::Com, 0x2864)));
-    terminal.take(Event::Word(Bus::B, Raw::of(Kind::Dat, 0x0011)));
-    terminal.take(Event::Word(Bus::B, Raw::of(Kind::Dat, 0xabcd)));
+    let mut terminal = powered_up(normal);
+    play(
+        &mut terminal,
+        Event::Word(Bus::B, Raw::of(Kind::Com, 0x2864)),
+    );
+    play(
+        &mut terminal,
+        Event::Word(Bus::B, Raw::of(Kind::Dat, 0x0011)),
+    );
+    play(
+        &mut terminal,
+        Event::Word(Bus::B, Raw::of(Kind::Dat, 0xabcd)),
+    );
     let state = save(rt.alloc(), &terminal)?;
     assert!(rt; state.as_slice().starts_with(COLLECTING));
     Ok(())

@@ -3,6 +3,7 @@
 use Rattle.std.specs.Prelude.{ℕ, zero, suc, ◌+◌, ◌/◌, ◌%◌, ◌==◌, if◌then◌else◌, List, [], ◌∷◌, ◌++◌}
 use Rattle.bus_word.specs.Mask.{has_bit}
 
+-- the two decimal digits of a number below 100
 abbrev pub two_digits : ℕ → List ℕ
 two_digits n = (48 + n / 10) ∷ (48 + n % 10) ∷ []
 
@@ -28,5 +29,6 @@ numbers_text first mask = numbers_below first mask 32
 abbrev pub said_set : ℕ → ℕ
 said_set mask = if mask == 0 then 1 else mask
 
+-- the text that an entry has for this set, empty or not
 abbrev pub set_text : ℕ → ℕ → List ℕ
 set_text first mask = numbers_text first (said_set mask)

@@ -24,8 +24,8 @@ pub record SaidWord : Type 0 where
   pub fields : WordFields
   pub by_fields : Bool
 
--- what follows, unless there is a fault
 infixl 10 ◌>>=◌
+-- what follows, unless there is a fault
 abbrev pub ◌>>=◌ : {A B : Type 0} → Result A WordLineFault → (A → Result B WordLineFault) → Result B WordLineFault
 Err fault >>= f = Err fault
 Ok x >>= f = f x
@@ -55,6 +55,7 @@ number_part least most fault (Some part) = within least most fault (small_number
 abbrev pub address_part : Option (List ℕ) → Result ℕ WordLineFault
 address_part part = if is_word (codes "all") part then Ok 31 else number_part 0 30 Address part
 
+-- the word; or a fault, where no four hexadecimal digits are there
 abbrev pub or_digits : Option ℕ → Result ℕ WordLineFault
 or_digits None = Err Digits
 or_digits (Some bits) = Ok bits

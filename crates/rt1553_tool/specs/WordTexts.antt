@@ -25,6 +25,7 @@ short_decimal n = if nat_lt n 10 then (48 + n) ∷ [] else (48 + n / 10) ∷ (48
 abbrev pub address_text : ℕ → List ℕ
 address_text address = if address == 31 then codes "all" else short_decimal address
 
+-- the T/R bit: whether the terminal is to transmit or to receive
 abbrev pub tr_text : Bool → List ℕ
 tr_text transmit = if transmit then codes "tx" else codes "rx"
 
@@ -134,6 +135,7 @@ word_answer line = (if is_passed line then flat_map shown_byte line else answer_
 abbrev pub word_answers : List (List ℕ) → List ℕ
 word_answers lines = flat_map word_answer lines
 
+-- the line is refused
 abbrev pub is_fault : Result SaidWord WordLineFault → Bool
 is_fault (Ok s) = false
 is_fault (Err fault) = true

@@ -1,5 +1,7 @@
 //! The command `acceptance`: the test that tells a terminal from every other, and what a unit answered to it.
 ghost use Rattle.std.specs.Prelude.{◌≡◌, IfOk, ◌≤◌, List, ℕ};
+ghost use Rattle.bus_legal.specs.Parts.{description_in};
+ghost use Rattle.rt1553_results.specs.Asked.{AsksTheTest};
 ghost use Rattle.rt1553_results.specs.Results.{SaysResults};
 
 use crate::fault::{DIFFERENT, ToolFault};
@@ -11,8 +13,8 @@ use message_names::{MessageNames, quoted};
 use rt1553_acceptance::{Progress, write_acceptance};
 use rt1553_files::escaped;
 use rt1553_results::{
-    Comparison, NamedReply, Results, Rows, WrongReply, compare_results, csv_header, csv_row,
-    json_row, read_results,
+    CompareFault, Comparison, NamedReply, Results, Rows, WrongReply, compare_results, csv_header,
+    csv_row, json_row, other_command, read_results,
 };
 use rt1553_tool_args::TestFormat;
 use std::alloc::{AllocError, Global};
@@ -135,7 +137,7 @@ pub fn write_test<R: Files + AllocGlobal + Eprint, W: Write>(
     ensures { IfOk result (λ status. status ≡ 0) }
 {
     let normal = load_profile(rt, profile)?;
-    let names = load_names(rt, names)?;
+    let names = load_names(rt, names, &[normal.address()])?;
     let names = names.as_ref();
     let mut progress = Counter {
         rt,
@@ -152,13 +154,26 @@ pub fn write_test<R: Files + AllocGlobal + Eprint, W: Write>(
     Ok(0)
 }
 
-/// The results of a unit, of the file of this name.
-fn load_results<R: Files + AllocGlobal>(rt: &R, name: &str) -> Result<Results, ToolFault>
-    ensures { IfOk result (λ results. (text : List ℕ) × SaysResults text results) }
+/// The results of a unit for the test of this terminal, of the file of this name: refused where they say another command than the
+/// test has for the number of their row.
+fn load_results<R: Files + AllocGlobal>(
+    rt: &R,
+    normal: &Normal,
+    name: &str,
+) -> Result<Results, ToolFault>
+    ensures { IfOk result (λ results. (text : List ℕ) × SaysResults text results × AsksTheTest (description_in normal.now) text) }
 {
     let bytes = read_script_file(rt, name)?;
-    match read_results(rt.alloc(), bytes.as_slice()) {
-        Ok(results) => Ok(results),
+    let results = match read_results(rt.alloc(), bytes.as_slice()) {
+        Ok(results) => results,
+        Err(fault) => return Err(ToolFault::Results(shown(rt, name)?, fault)),
+    };
+    match other_command(rt.alloc(), normal, bytes.as_slice()) {
+        Ok(None) => Ok(results),
+        Ok(Some(place)) => {
+            let fault = CompareFault::Other(place);
+            Err(ToolFault::Comparison(shown(rt, name)?, fault))
+        }
         Err(fault) => Err(ToolFault::Results(shown(rt, name)?, fault)),
     }
 }
@@ -204,7 +219,7 @@ fn put_comparison<W: Write>(
 
 /// Compares the results of a unit with the acceptance test of the terminal of a profile. The status tells whether the unit is
 /// this terminal.
-pub fn against<R: Files + AllocGlobal, W: Write>(
+pub fn against<R: Files + AllocGlobal + Eprint, W: Write>(
     rt: &R,
     profile: &str,
     results: &str,
@@ -214,8 +229,8 @@ pub fn against<R: Files + AllocGlobal, W: Write>(
     ensures { IfOk result (λ status. status ≤ 1) }
 {
     let normal = load_profile(rt, profile)?;
-    let names = load_names(rt, names)?;
-    let given = load_results(rt, results)?;
+    let names = load_names(rt, names, &[normal.address()])?;
+    let given = load_results(rt, &normal, results)?;
     let comparison = match compare_results(rt.alloc(), &normal, &given) {
         Ok(comparison) => comparison,
         Err(fault) => return Err(ToolFault::Comparison(shown(rt, results)?, fault)),

@@ -5,8 +5,8 @@ ghost use Rattle.rt1553_tool_program.specs.Passing.{SaysOf, scoped};
 
 use bus_legal::Normal;
 use rt1553_verify::{
-    Stated, StatedFault, WrongAnswer, answers_in, message_commands, read_stated, stated_on_bus,
-    wrong_answers,
+    ScriptWarning, Stated, StatedFault, WrongAnswer, answers_in, message_commands, read_stated,
+    script_warning, stated_on_bus, wrong_answers,
 };
 use std::alloc::{AllocError, Global};
 
@@ -15,6 +15,8 @@ use std::alloc::{AllocError, Global};
 pub struct Compared {
     /// How many answers it states.
     pub answers: usize,
+    /// Why that shows nothing, or little, where it does.
+    pub warning: Option<ScriptWarning>,
     pub wrong: Vec<WrongAnswer>,
     /// The command word of the message to which each event belongs that was answered otherwise.
     pub commands: Vec<Option<u16>>,
@@ -42,11 +44,13 @@ pub fn compare_script(
 {
     let stated = read_stated(alloc, script)?;
     let answers = answers_in(stated.as_slice());
+    let warning = script_warning(stated.as_slice());
     let seen = scoped(alloc, bus_only, stated)?;
     let wrong = wrong_answers(alloc, normal, seen.as_slice())?;
     let commands = message_commands(alloc, normal.address(), seen.as_slice(), wrong.as_slice())?;
     Ok(Compared {
         answers,
+        warning,
         wrong,
         commands,
     })

@@ -52,7 +52,7 @@ fn put_pair<R: AllocGlobal, W: Write>(
 
 /// Writes all in which the terminals of two profiles differ, with scripts that show it where they are asked for. The status
 /// tells whether they differ.
-pub fn differ_profiles<R: Files + AllocGlobal, W: Write>(
+pub fn differ_profiles<R: Files + AllocGlobal + Eprint, W: Write>(
     rt: &R,
     first: &str,
     second: &str,
@@ -67,7 +67,7 @@ pub fn differ_profiles<R: Files + AllocGlobal, W: Write>(
 {
     let p = load_profile(rt, first)?;
     let q = load_profile(rt, second)?;
-    let names = load_names(rt, names)?;
+    let names = load_names(rt, names, &[p.address(), q.address()])?;
     let names = names.as_ref();
     let (first, second) = (shown(rt, first)?, shown(rt, second)?);
     let pair = Pair {

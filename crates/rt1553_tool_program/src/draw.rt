@@ -65,7 +65,7 @@ fn page<R: AllocGlobal>(
 
 /// Writes the drawing of a run, of a script or, where `expand` asks for it, of messages; as a page of its own where `html` asks for it.
 /// The status is 0.
-pub fn draw_run<R: Files + AllocGlobal, W: Write>(
+pub fn draw_run<R: Files + AllocGlobal + Eprint, W: Write>(
     rt: &R,
     profile: &str,
     script: &str,
@@ -77,7 +77,7 @@ pub fn draw_run<R: Files + AllocGlobal, W: Write>(
     ensures { IfOk result (λ status. status ≡ 0) }
 {
     let normal = load_profile(rt, profile)?;
-    let names = load_names(rt, names)?;
+    let names = load_names(rt, names, &[normal.address()])?;
     let names = names.as_ref();
     let drawing = draw_file(rt, &normal, names, script, expand, html)?;
     if html {

@@ -27,7 +27,7 @@ fn text_of<R: AllocGlobal>(
 }
 
 /// Writes what the terminal of a profile does, as a table. The status is 0.
-pub fn explain_profile<R: Files + AllocGlobal, W: Write>(
+pub fn explain_profile<R: Files + AllocGlobal + Eprint, W: Write>(
     rt: &R,
     profile: &str,
     names: Option<&str>,
@@ -38,7 +38,7 @@ pub fn explain_profile<R: Files + AllocGlobal, W: Write>(
     ensures { IfOk result (λ status. status ≡ 0) }
 {
     let normal = load_profile(rt, profile)?;
-    let names = load_names(rt, names)?;
+    let names = load_names(rt, names, &[normal.address()])?;
     let text = text_of(rt, &normal, names.as_ref(), as_json)?;
     put_lines(
         output,

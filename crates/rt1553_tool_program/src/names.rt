@@ -6,13 +6,40 @@ use crate::fault::ToolFault;
 use crate::files::{read_tool_profile, shown};
 use bus_word::{Command, cell_of};
 use message_names::MessageNames;
+use rt1553::load;
+use rt1553_import::import_table;
 use rt1553_names::names_in;
 use std::rt::Files;
 
-/// The names of messages of the table in the file of this name, where one is given.
-pub fn load_names<R: Files + AllocGlobal>(
+/// Warns, on the standard error, of a table in a file of this name that is for none of these addresses, if there are some.
+fn warn_of_address<R: AllocGlobal + Eprint>(
+    rt: &R,
+    name: &str,
+    table: &[u8],
+    addresses: &[u8],
+) -> Result<(), ToolFault> {
+    let Ok(imported) = import_table(rt.alloc(), table) else {
+        return Ok(());
+    };
+    let Ok(normal) = load(rt.alloc(), imported.profile.as_str().as_bytes()) else {
+        return Ok(());
+    };
+    let address = normal.address();
+    if !addresses.is_empty() && !addresses.contains(&address) {
+        let name = shown(rt, name)?;
+        let _ = eprintln!(rt;
+            "{name}: warning: a table for address {address}, and a profile for another"
+        );
+    }
+    Ok(())
+}
+
+/// The names of messages of the table in the file of this name, where one is given. A table for none of these addresses of profiles is
+/// warned of.
+pub fn load_names<R: Files + AllocGlobal + Eprint>(
     rt: &R,
     table: Option<&str>,
+    addresses: &[u8],
 ) -> Result<Option<MessageNames>, ToolFault>
     ensures { IfOk result (AreLoadedNames table.entry) }
 {
@@ -21,7 +48,10 @@ pub fn load_names<R: Files + AllocGlobal>(
     };
     let bytes = read_tool_profile(rt, name)?;
     match names_in(rt.alloc(), bytes.as_slice()) {
-        Ok(names) => Ok(Some(names)),
+        Ok(names) => {
+            warn_of_address(rt, name, bytes.as_slice(), addresses)?;
+            Ok(Some(names))
+        }
         Err(fault) => Err(ToolFault::Table(shown(rt, name)?, fault)),
     }
 }

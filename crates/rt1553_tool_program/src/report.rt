@@ -73,7 +73,7 @@ fn in_file(
 }
 
 /// Plays a script of this name, and gives what came of it; with a drawing of what differs, where it is `drawn`.
-fn outcome_of_script<R: Files + AllocGlobal>(
+fn outcome_of_script<R: Files + AllocGlobal + Eprint>(
     rt: &R,
     played: &Played<'_>,
     name: &str,
@@ -90,6 +90,7 @@ fn outcome_of_script<R: Files + AllocGlobal>(
     };
     Ok(ScriptOutcome::Played {
         answers: it.answers,
+        warning: it.warning,
         wrong: in_file(rt.alloc(), script, it.wrong)?,
         names: it.names,
         drawing,

@@ -7,7 +7,7 @@ ghost use Rattle.rt1553_tool_program.specs.Status.{TellsRefused, lines_status};
 use crate::fault::{REFUSED, ToolFault};
 use crate::files::{read_script_file, shown, write_bytes};
 use crate::worst::{status_or_stop, worst};
-use refused_lines::{RefusedLine, refused_lines};
+use refused_lines::{RefusedLine, mistyped_answers, refused_lines};
 use std::alloc::Global;
 use std::io::Write;
 use std::rt::Files;
@@ -34,19 +34,24 @@ pub fn first_refused<R: AllocGlobal>(
     }
 }
 
-/// Writes a line of the file of this name that is refused, and why.
-fn put_refused<W: Write>(
+/// Writes lines of the file of this name, each with what is found there: an error, or what a warning is of.
+fn put_lines<W: Write>(
     alloc: Global,
     name: &str,
-    refused: &RefusedLine,
+    found: &[RefusedLine],
+    kind: &str,
     output: &mut W,
 ) -> Result<(), ToolFault> {
-    let (line, column, reason) = (refused.line, refused.misfit.column, refused.misfit.reason);
-    let text = format!(in alloc; "{name}:{line}:{column}: error: {reason}\n")?;
-    write_bytes(output, text.as_str().as_bytes())
+    for of in found {
+        let (line, column, reason) = (of.line, of.misfit.column, of.misfit.reason);
+        let text = format!(in alloc; "{name}:{line}:{column}: {kind}: {reason}\n")?;
+        write_bytes(output, text.as_str().as_bytes())?;
+    }
+    Ok(())
 }
 
-/// Writes each line of a script that is refused, and gives the status to end with.
+/// Writes each line of a script that is refused, then each comment that looks like a stated answer, and gives the status to end with:
+/// of the refused lines alone, so that it is 0 for just the scripts that a run reads to their end.
 fn check_script<R: Files + AllocGlobal, W: Write>(
     rt: &R,
     name: &str,
@@ -56,10 +61,11 @@ fn check_script<R: Files + AllocGlobal, W: Write>(
 {
     let script = read_script_file(rt, name)?;
     let found = refused_lines(rt.alloc(), script.as_slice())?;
+    let mistyped = mistyped_answers(rt.alloc(), script.as_slice())?;
     let name = shown(rt, name)?;
-    for refused in found.as_slice() {
-        put_refused(rt.alloc(), name.as_str(), refused, output)?;
-    }
+    let name = name.as_str();
+    put_lines(rt.alloc(), name, found.as_slice(), "error", output)?;
+    put_lines(rt.alloc(), name, mistyped.as_slice(), "warning", output)?;
     Ok(if found.is_empty() { 0 } else { REFUSED })
 }
 

@@ -19,7 +19,7 @@ use bus_legal::Normal;
 use message_names::{MessageNames, owned};
 use rt1553_report::{AnswerNames, TriedScript, clauses_in, difference_told, name_at};
 use rt1553_tool_args::{Profiles, ReportFormat};
-use rt1553_verify::{StatedFault, WrongAnswer, named};
+use rt1553_verify::{ScriptWarning, StatedFault, WrongAnswer, named};
 use std::alloc::{AllocError, Global};
 use std::format;
 use std::io::Write;
@@ -163,6 +163,9 @@ fn script_fault<R: AllocGlobal>(
 {
     let fault = match fault {
         StatedFault::Misplaced(line) => StatedFault::Misplaced(script.line_in_file(line)),
+        StatedFault::Mistyped(line, column) => {
+            StatedFault::Mistyped(script.line_in_file(line), column)
+        }
         other => other,
     };
     let told = match shown(rt, name) {
@@ -184,6 +187,8 @@ pub struct PlayedScript {
     pub normal: Normal,
     /// How many answers it states.
     pub answers: usize,
+    /// Why that shows nothing, or little, where it does.
+    pub warning: Option<ScriptWarning>,
     pub wrong: Vec<WrongAnswer>,
     /// The names of the messages of these events, where there are names.
     pub names: Option<AnswerNames>,
@@ -209,8 +214,8 @@ fn names_of(
     Ok(Some(AnswerNames { names: list }))
 }
 
-/// Plays a script of this name.
-pub fn play_script<R: Files + AllocGlobal>(
+/// Plays a script of this name, and warns, on the standard error, of one that shows nothing, or little.
+pub fn play_script<R: Files + AllocGlobal + Eprint>(
     rt: &R,
     played: &Played<'_>,
     name: &str,
@@ -223,9 +228,14 @@ pub fn play_script<R: Files + AllocGlobal>(
     match compare_script(rt.alloc(), &normal, text, played.bus_only) {
         Ok(compared) => {
             let names = names_of(rt.alloc(), &played.names, compared.commands.as_slice())?;
+            if let Some(warning) = compared.warning {
+                let name = shown(rt, name)?;
+                let _ = eprintln!(rt; "{name}: warning: {}", warning.text());
+            }
             Ok(PlayedScript {
                 normal,
                 answers: compared.answers,
+                warning: compared.warning,
                 wrong: compared.wrong,
                 names,
             })
@@ -235,7 +245,7 @@ pub fn play_script<R: Files + AllocGlobal>(
 }
 
 /// Plays a script, writes where it differs, or, where it is asked for, that it passes, and gives whether it does.
-fn tell_script<R: Files + AllocGlobal, W: Write>(
+fn tell_script<R: Files + AllocGlobal + Eprint, W: Write>(
     rt: &R,
     played: &Played<'_>,
     name: &str,
@@ -284,7 +294,7 @@ fn keep(
 }
 
 /// Plays a script of a file, keeps whether it passes, and gives the status to end with.
-fn play_file<R: Files + AllocGlobal, W: Write>(
+fn play_file<R: Files + AllocGlobal + Eprint, W: Write>(
     rt: &R,
     played: &Played<'_>,
     name: &str,
@@ -347,7 +357,10 @@ pub fn verify_scripts<R: Files + AllocGlobal + Eprint, W: Write>(
         Profiles::One(name) => PlayedTo::One(load_profile(rt, name)?),
         Profiles::Folder(folder) => PlayedTo::Folder(folder),
     };
-    let names = load_names(rt, asked.names)?;
+    let names = match &to {
+        PlayedTo::One(normal) => load_names(rt, asked.names, &[normal.address()])?,
+        PlayedTo::Folder(_) => load_names(rt, asked.names, &[])?,
+    };
     let played = Played {
         to,
         names,

@@ -9,13 +9,14 @@ use Rattle.line_format.proofs.Digits.{after-is}
 use Rattle.script_lines.specs.declared.line.LineFault.{LineFault}
 use Rattle.script_lines.specs.Line.{meaning}
 use Rattle.script_lines.specs.Text.{lines_of}
+use Rattle.refused_lines.specs.Refused.{mistyped}
 use Rattle.bus_script.specs.Reading.{Reading, reading, adds, nothing, then_reads}
 use Rattle.bus_script.proofs.ReadingLaws.{reading-line, adds-adds}
 use Rattle.rt1553_verify.specs.declared.stated.StatedFault.{StatedFault}
 use Rattle.rt1553_verify.specs.declared.stated.StatedFault.TheVariants.{LongLine, TooLong}
 use Rattle.rt1553_verify.specs.declared.matching.Matching.{Matching}
 use Rattle.rt1553_verify.specs.declared.matching.Matching.TheVariants.{Exact}
-use Rattle.rt1553_verify.specs.Stated.{StatedEvent, Latest, After, is_empty, states_answer, says_bytes, can_match, matching_of, states, goes_on, ended, stays, or_misplaced, unstated_line, by_going_on, by_mask, by_answer, line_says, then_events, then_lines, stated_by}
+use Rattle.rt1553_verify.specs.Stated.{StatedEvent, Latest, After, is_empty, states_answer, says_bytes, can_match, matching_of, states, goes_on, ended, stays, or_misplaced, silent_line, unstated_line, by_going_on, by_mask, by_answer, line_says, then_events, then_lines, stated_by}
 
 -- a comment says no event
 comment-means : (line : List ℕ) → meaning (35 ∷ line) ≡ Ok None
@@ -126,12 +127,16 @@ goes_on-event (Some l) rest s e = pick (states_answer l && says_bytes l.matching
     pick true e = let is : s ≡ record l { answer = l.answer ++ 32 ∷ rest } = cc in ap (λ x. x.event ∷ []) is
     pick false e = absurd (cc)
 
-unstated-line : (n m : ℕ) (latest : Latest) (x : Result (Option Event) LineFault) (line : List ℕ) (after : After) → meaning line ≡ x → unstated_line m latest x ≡ Ok after → Line n latest line after
+silent-stays : (m : ℕ) (latest : Latest) (o : Option ℕ) (after : After) → silent_line m latest o ≡ Ok after → after ≡ stays latest
+silent-stays m latest None after e = cc e
+silent-stays m latest (Some column) after e = absurd (cc)
+
+unstated-line : (n m : ℕ) (latest : Latest) (x : Result (Option Event) LineFault) (line : List ℕ) (after : After) → meaning line ≡ x → unstated_line m latest line x ≡ Ok after → Line n latest line after
 unstated-line n m latest (Err fault) line after says e = absurd (cc)
-unstated-line n m latest (Ok None) line after says e = let is : after ≡ stays latest = cc in record {
+unstated-line n m latest (Ok None) line after says e = record {
   events = [];
   means = λ r. ap (λ x. then_reads x n r) says;
-  are = ap (λ a. map (λ s. s.event) a.events ++ map (λ s. s.event) (ended a.latest)) is ∙ sym (append-nil _);
+  are = ap (λ a. map (λ s. s.event) a.events ++ map (λ s. s.event) (ended a.latest)) (silent-stays m latest (mistyped line) after e) ∙ sym (append-nil _);
 }
 unstated-line n m latest (Ok (Some event)) line after says e =
     let is : after ≡ record { events = ended latest; latest = Some (record { line = m; event = event; matching = Exact; answer = [] }) } = cc in record {

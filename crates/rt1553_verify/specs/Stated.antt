@@ -1,7 +1,7 @@
 -- What a script says that states its answers: `#> LINE` behind the event that LINE of the transcript answers; `#~ MASK` behind one
 -- that a line answers of which MASK says all but the digits at its dots, and `#~ *` behind one that any line answers; and `#+ REST`
 -- behind an answer that goes on with a space and REST. All else is read as in any script.
-use Rattle.std.specs.Prelude.{ℕ, ◌+◌, Bool, true, false, not, ◌&&◌, ◌||◌, ◌==◌, nat_le, nat_lt, if◌then◌else◌, List, [], ◌∷◌, ◌++◌, Option, Some, None, is_some, length, Result, Ok, Err, codes}
+use Rattle.std.specs.Prelude.{ℕ, ◌+◌, Bool, true, false, not, ◌&&◌, ◌||◌, ◌==◌, nat_le, nat_lt, if◌then◌else◌, List, [], ◌∷◌, ◌++◌, Option, Some, None, is_some, length, filter, Result, Ok, Err, codes}
 use Rattle.terminal_rules.specs.declared.event.Event.{Event}
 use Rattle.std.specs.Str.{bytes_eq}
 use Rattle.terminal_rules.specs.declared.event.Event.TheVariants.{Gap, Slot}
@@ -9,11 +9,14 @@ use Rattle.line_format.specs.Front.{after}
 use Rattle.script_lines.specs.declared.line.LineFault.{LineFault}
 use Rattle.script_lines.specs.Line.{meaning}
 use Rattle.script_lines.specs.Text.{lines_of}
+use Rattle.refused_lines.specs.Refused.{mistyped}
 use Rattle.rt1553_verify.specs.declared.matching.Matching.{Matching}
 use Rattle.rt1553_verify.specs.declared.matching.Matching.TheVariants.{Exact, Masked, AnyLine, Unchecked}
 use Rattle.rt1553_verify.specs.declared.stated.Stated.{Stated}
+use Rattle.rt1553_verify.specs.declared.stated.ScriptWarning.{ScriptWarning}
+use Rattle.rt1553_verify.specs.declared.stated.ScriptWarning.TheVariants.{NoEvent, NoAnswer}
 use Rattle.rt1553_verify.specs.declared.stated.StatedFault.{StatedFault}
-use Rattle.rt1553_verify.specs.declared.stated.StatedFault.TheVariants.{Line, LongLine, TooLong, Misplaced}
+use Rattle.rt1553_verify.specs.declared.stated.StatedFault.TheVariants.{Line, LongLine, TooLong, Mistyped, Misplaced}
 
 -- An event with the number of its line, from 1, and what is to answer it: the line of the transcript, or its mask, with a line feed, or
 -- nothing; and how what comes is compared with that.
@@ -23,9 +26,11 @@ pub record StatedEvent : Type 0 where
   pub matching : Matching
   pub answer : List ℕ
 
+-- an event of the code, as these definitions speak of it
 abbrev pub shown : Stated → StatedEvent
 shown s = record { line = s.line; event = s.event; matching = s.matching; answer = s.answer.items }
 
+-- there are no bytes
 abbrev pub is_empty : List ℕ → Bool
 is_empty [] = true
 is_empty (b ∷ bytes) = false
@@ -62,6 +67,7 @@ can_answer (Gap bus) line = is_some (after (codes "hand ") line)
 can_answer Slot line = not (is_empty line) && not (is_some (after (codes "hand ") line))
 can_answer _ line = false
 
+-- the event is a gap
 abbrev pub is_gap : Event → Bool
 is_gap (Gap bus) = true
 is_gap _ = false
@@ -96,6 +102,7 @@ abbrev pub goes_on : Latest → List ℕ → Option StatedEvent
 goes_on None rest = None
 goes_on (Some s) rest = if states_answer s && says_bytes s.matching then Some (record s { answer = s.answer ++ 32 ∷ rest }) else None
 
+-- a line with its line feed; nothing stays nothing
 abbrev pub with_line_feed : List ℕ → List ℕ
 with_line_feed bytes = if is_empty bytes then [] else bytes ++ 10 ∷ []
 
@@ -109,39 +116,51 @@ pub record After : Type 0 where
   pub events : List StatedEvent
   pub latest : Latest
 
+-- no event is complete, and this is the latest one
 abbrev pub stays : Latest → After
 stays latest = record { events = []; latest = latest }
 
+-- the event with what is now stated of it, or that line n can't be stated here
 abbrev pub or_misplaced : ℕ → Option StatedEvent → Result After StatedFault
 or_misplaced n None = Err (Misplaced n)
 or_misplaced n (Some s) = Ok (stays (Some s))
 
--- a line that states no answer: an event, nothing, or none of a script
-abbrev pub unstated_line : ℕ → Latest → Result (Option Event) LineFault → Result After StatedFault
-unstated_line n latest (Err fault) = Err (Line n)
-unstated_line n latest (Ok None) = Ok (stays latest)
-unstated_line n latest (Ok (Some e)) = Ok (record { events = ended latest; latest = Some (record { line = n; event = e; matching = Exact; answer = [] }) })
+-- a line that says nothing: a comment that looks like a stated answer is a fault
+abbrev pub silent_line : ℕ → Latest → Option ℕ → Result After StatedFault
+silent_line n latest None = Ok (stays latest)
+silent_line n latest (Some column) = Err (Mistyped n column)
 
+-- a line that states no answer: an event, nothing, or none of a script
+abbrev pub unstated_line : ℕ → Latest → List ℕ → Result (Option Event) LineFault → Result After StatedFault
+unstated_line n latest line (Err fault) = Err (Line n)
+unstated_line n latest line (Ok None) = silent_line n latest (mistyped line)
+unstated_line n latest line (Ok (Some e)) = Ok (record { events = ended latest; latest = Some (record { line = n; event = e; matching = Exact; answer = [] }) })
+
+-- line n, which goes on with an answer if it has a rest behind `#+ `
 abbrev pub by_going_on : ℕ → Latest → List ℕ → Option (List ℕ) → Result After StatedFault
 by_going_on n latest line (Some rest) = or_misplaced n (goes_on latest rest)
-by_going_on n latest line None = unstated_line n latest (meaning line)
+by_going_on n latest line None = unstated_line n latest line (meaning line)
 
+-- line n, which states a mask if it has one behind `#~ `
 abbrev pub by_mask : ℕ → Latest → List ℕ → Option (List ℕ) → Result After StatedFault
 by_mask n latest line (Some mask) = or_misplaced n (states (matching_of mask) latest mask)
 by_mask n latest line None = by_going_on n latest line (after (codes "#+ ") line)
 
+-- line n, which states an answer if it has one behind `#> `
 abbrev pub by_answer : ℕ → Latest → List ℕ → Option (List ℕ) → Result After StatedFault
 by_answer n latest line (Some answer) = or_misplaced n (states Exact latest answer)
 by_answer n latest line None = by_mask n latest line (after (codes "#~ ") line)
 
--- what line number n says
+-- what line number n says: a stated answer, how one goes on, or what it says in any script
 abbrev pub line_says : ℕ → Latest → List ℕ → Result After StatedFault
 line_says n latest line = by_answer n latest line (after (codes "#> ") line)
 
+-- these events before the later ones, unless the later lines have a fault
 abbrev pub then_events : List StatedEvent → Result (List StatedEvent) StatedFault → Result (List StatedEvent) StatedFault
 then_events es (Ok later) = Ok (es ++ later)
 then_events es (Err fault) = Err fault
 
+-- what a line says, and then the lines after it, by the latest event
 abbrev pub then_lines : Result After StatedFault → (Latest → Result (List StatedEvent) StatedFault) → Result (List StatedEvent) StatedFault
 then_lines (Err fault) later = Err fault
 then_lines (Ok after) later = then_events after.events (later after.latest)
@@ -159,9 +178,22 @@ stated_by n latest (line ∷ lines) =
 abbrev pub stated_in : List ℕ → Result (List StatedEvent) StatedFault
 stated_in script = stated_by 0 None (lines_of script)
 
+-- the words of a warning
+abbrev pub warning_text : ScriptWarning → List ℕ
+warning_text NoEvent = codes "the script has no event"
+warning_text NoAnswer = codes "the script states no answer"
+
+-- a script has no event, or states no answer
+abbrev pub script_warning : List Stated → Option ScriptWarning
+script_warning script =
+    if length script == 0 then Some NoEvent
+    else if length (filter (λ stated. states_answer (shown stated)) script) == 0 then Some NoAnswer
+    else None
+
 -- On the bus alone nothing is seen of hand-overs, which answer gaps: where none is stated, whatever answers a gap is left aside.
 abbrev pub is_unseen : StatedEvent → Bool
 is_unseen s = is_gap s.event && is_empty s.answer
 
+-- what is stated of an event, as far as the bus alone shows it
 abbrev pub seen_on_bus : StatedEvent → StatedEvent
 seen_on_bus s = if is_unseen s then record s { matching = Unchecked } else s

@@ -13,6 +13,7 @@ pub record ToldAnswer : Type 0 where
   pub expected : List ℕ
   pub came : List ℕ
 
+-- a wrong answer of the code, as these definitions speak of it
 abbrev pub told_answer : WrongAnswer → ToldAnswer
 told_answer d = record { line = d.line; expected = d.expected.items; came = d.came.items }
 
@@ -31,6 +32,7 @@ unfoldable pub wrong_answers_from : Description → List Event → List StatedEv
 wrong_answers_from P h [] = []
 wrong_answers_from P h (s ∷ ss) = wrong_answer_at P h s ++ wrong_answers_from P (s.event ∷ h) ss
 
+-- what is told of the events of a script, or its fault
 abbrev pub by_script : Description → Result (List StatedEvent) StatedFault → Result (List ToldAnswer) StatedFault
 by_script P (Err fault) = Err fault
 by_script P (Ok stated) = Ok (wrong_answers_from P [] stated)
@@ -44,5 +46,6 @@ abbrev pub on_bus_by_script : Description → Result (List StatedEvent) StatedFa
 on_bus_by_script P (Err fault) = Err fault
 on_bus_by_script P (Ok stated) = by_script P (Ok (map seen_on_bus stated))
 
+-- what is told of a script of which only the bus is seen
 abbrev pub verified_on_bus : Description → List ℕ → Result (List ToldAnswer) StatedFault
 verified_on_bus P script = on_bus_by_script P (stated_in script)

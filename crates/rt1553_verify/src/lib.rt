@@ -10,5 +10,7 @@ mod verifying;
 pub use commands::message_commands;
 pub use heading::named;
 pub use matching::Matching;
-pub use stated::{Stated, StatedFault, answers_in, read_stated, stated_on_bus};
+pub use stated::{
+    ScriptWarning, Stated, StatedFault, answers_in, read_stated, script_warning, stated_on_bus,
+};
 pub use verifying::{WrongAnswer, verify, wrong_answers};

@@ -3,7 +3,7 @@ ghost use Rattle.std.specs.Prelude.{◌≡◌, ◌≢◌, ◌<◌, ◌&&◌, ◌
 ghost use Rattle.script_lines.specs.Line.{meaning};
 ghost use Rattle.script_lines.specs.Text.{lines_of};
 ghost use Rattle.bus_script.specs.Reading.{reading, adds, nothing};
-ghost use Rattle.rt1553_verify.specs.Stated.{shown, is_empty, states_answer, can_answer, can_match, says_bytes, states, goes_on, ended, stays, or_misplaced, unstated_line, line_says, stated_in, seen_on_bus};
+ghost use Rattle.rt1553_verify.specs.Stated.{shown, is_empty, states_answer, can_answer, can_match, says_bytes, states, goes_on, ended, stays, or_misplaced, unstated_line, line_says, stated_in, warning_text, script_warning, seen_on_bus};
 ghost use Rattle.rt1553_verify.specs.declared.stated.StatedFault.TheVariants.{Memory};
 ghost use Rattle.rt1553_verify.specs.inner.Says.{Says};
 
@@ -11,7 +11,7 @@ use crate::Matching;
 use bus_script::{LineFault, read_event};
 use bus_terminal::Event;
 use line_format::after;
-use refused_lines::first_line;
+use refused_lines::{first_line, mistyped_answer};
 use std::alloc::{AllocError, AllocFailed, Global};
 use thiserror::Error;
 
@@ -45,7 +45,10 @@ pub enum StatedFault {
     /// Something follows line 1,048,576.
     #[error("script: too many lines")]
     TooLong,
-    /// This line states an answer, or goes on with one, and doesn't stand behind an event that it can answer.
+    /// This line looks like a stated answer from this column on and is a comment.
+    #[error("script: line {0}, column {1}: looks like a stated answer and is a comment: one space comes after #>, #~ or #+, and none before it")]
+    Mistyped(u64, u64),
+    /// This line states an answer, or goes on with one, and doesn't follow an event that it can answer.
     #[error("script: line {0}: the event before it cannot have this answer")]
     Misplaced(u64),
     /// A growth of memory was refused, which says nothing of the script.
@@ -165,8 +168,8 @@ fn read_plain(
     number: u64,
     line: &[u8],
 ) -> Result<Option<Stated>, StatedFault>
-    ensures said { IfOk result (λ new. Says (unstated_line number (option_map shown latest) (meaning line.now)) read.old.items read.new.items new) }
-    ensures refused { IfErr result (λ fault. fault ≢ StatedFault.Memory → unstated_line number (option_map shown latest) (meaning line.now) ≡ Err fault) }
+    ensures said { IfOk result (λ new. Says (unstated_line number (option_map shown latest) line.now (meaning line.now)) read.old.items read.new.items new) }
+    ensures refused { IfErr result (λ fault. fault ≢ StatedFault.Memory → unstated_line number (option_map shown latest) line.now (meaning line.now) ≡ Err fault) }
 {
     match read_event(line) {
         Ok(Some(event)) => {
@@ -178,7 +181,10 @@ fn read_plain(
                 answer: Vec::new(alloc),
             }))
         }
-        Ok(None) => Ok(latest),
+        Ok(None) => match mistyped_answer(line) {
+            None => Ok(latest),
+            Some(column) => Err(StatedFault::Mistyped(number, column as u64)),
+        },
         Err(LineFault) => Err(StatedFault::Line(number)),
     }
 }
@@ -208,8 +214,8 @@ fn read_line(
 
 /// Reads a script with the answers that it states in comments: `#> LINE` behind the event that LINE answers, `#~ MASK` behind one
 /// that is answered by a line with any digits at the dots of MASK, `#~ *` behind one that is answered by any line, and `#+ REST`
-/// behind an answer that goes on with a space and REST. Other comments and empty lines may stand between. A script is refused by
-/// its first fault.
+/// behind an answer that goes on with a space and REST. Other comments and empty lines may come between, but no comment that looks like
+/// a stated answer. A script is refused by its first fault.
 pub fn read_stated(alloc: Global, script: &[u8]) -> Result<Vec<Stated>, StatedFault>
     ensures accepted { IfOk result (λ read. stated_in script.now ≡ Ok (map shown read.items)) }
     ensures refused { IfErr result (λ fault. fault ≢ StatedFault.Memory → stated_in script.now ≡ Err fault) }
@@ -243,6 +249,40 @@ pub fn answers_in(script: &[Stated]) -> usize
         .iter()
         .filter(|stated| !stated.answer.is_empty())
         .count()
+}
+
+/// Why a script shows nothing, or little, of a terminal, whether it passes or not.
+#[derive(Clone, Copy, Debug, PartialEq, Eq)]
+pub enum ScriptWarning {
+    /// It has no event.
+    NoEvent,
+    /// It states no answer: nothing is to answer any of its events.
+    NoAnswer,
+}
+
+impl ScriptWarning {
+    /// The warning in words, in one line.
+    pub fn text(self) -> &'static str
+        ensures { result.now ≡ warning_text self }
+    {
+        match self {
+            ScriptWarning::NoEvent => "the script has no event",
+            ScriptWarning::NoAnswer => "the script states no answer",
+        }
+    }
+}
+
+/// Warns of a script without an event, and of one that states no answer.
+pub fn script_warning(script: &[Stated]) -> Option<ScriptWarning>
+    ensures { result ≡ script_warning script.now }
+{
+    if script.is_empty() {
+        return Some(ScriptWarning::NoEvent);
+    }
+    if answers_in(script) == 0 {
+        return Some(ScriptWarning::NoAnswer);
+    }
+    None
 }
 
 /// Gives what the bus alone shows of what is stated: where nothing is stated of a gap, it is not checked what answers it.

@@ -16,6 +16,7 @@ word_of digits = word_of_bytes (decode_of digits)
 abbrev pub digits_of : ℕ → List ℕ
 digits_of word = encode_lower (word / 256 ∷ word % 256 ∷ [])
 
+-- the byte is a decimal digit, 0 to 9
 abbrev pub is_decimal_digit : ℕ → Bool
 is_decimal_digit b = nat_le 48 b && nat_lt b 58
 

@@ -13,6 +13,7 @@ use Rattle.terminal_rules.specs.declared.event.Flag.TheVariants.{Service, Busy, 
 use Rattle.script_lines.specs.Digits.{digits_of, decimal_digits}
 use Rattle.script_lines.specs.Transcript.{bus_letter}
 
+-- the sync of a word, with a space on either side
 abbrev pub kind_text : Kind → List ℕ
 kind_text Com = codes " c "
 kind_text Dat = codes " d "
@@ -26,9 +27,11 @@ truth_field false = codes " 0"
 abbrev pub word_text : Raw → List ℕ
 word_text w = kind_text w.kind ++ (digits_of w.bits ++ (if is_valid w then [] else truth_field w.parity))
 
+-- a subaddress and the number of a word in it, in two digits each
 abbrev pub place_text : Place → List ℕ
 place_text place = decimal_digits place.subaddress ++ (codes " " ++ decimal_digits place.number)
 
+-- the flag as scripts name it
 abbrev pub flag_name : Flag → List ℕ
 flag_name Service = codes "service"
 flag_name Busy = codes "busy"

@@ -16,6 +16,7 @@ use Rattle.line_format.specs.Front.{◌>>=◌, after}
 use Rattle.script_lines.specs.declared.line.LineFault.{LineFault}
 use Rattle.script_lines.specs.Digits.{word_of, number_of}
 
+-- what is said of the rest, if there is one; else the other
 abbrev pub by_rest : Option (List ℕ) → (List ℕ → Option Event) → Option Event → Option Event
 by_rest (Some rest) f other = f rest
 by_rest None f other = other
@@ -65,6 +66,7 @@ event_on bus rest =
     else if bytes_eq rest (codes "noise") then Some (event.Noise bus)
     else word_on bus rest
 
+-- the place, if the subaddress is 1 to 30 and the number 1 to 32
 abbrev pub place_at : ℕ → ℕ → Option Place
 place_at s i = if is_data_place s i then Some (record { subaddress = s; number = i }) else None
 
@@ -100,11 +102,13 @@ abbrev pub bits_in : List ℕ → Option ℕ
 bits_in (a ∷ b ∷ c ∷ d ∷ []) = word_of (a ∷ b ∷ c ∷ d ∷ [])
 bits_in _ = None
 
+-- `XXXX`: the new vector word
 abbrev pub vector_to : List ℕ → Option Event
 vector_to rest = do
   word ← bits_in rest
   Some (event.Vector word)
 
+-- `XXXX`: the new BIT word
 abbrev pub bit_to : List ℕ → Option Event
 bit_to rest = do
   word ← bits_in rest
@@ -127,6 +131,7 @@ by_bus None line other = other
 abbrev pub event_of : List ℕ → Option Event
 event_of line = by_bus (bus_first line) line (if bytes_eq line (codes "slot") then Some event.Slot else subsystem_event line)
 
+-- a line that says no event is refused
 abbrev pub or_refused : Option Event → Result (Option Event) LineFault
 or_refused (Some e) = Ok (Some e)
 or_refused None = Err (record {})

@@ -11,6 +11,7 @@ unfoldable pub lines_of : List ℕ → List (List ℕ)
 lines_of [] = []
 lines_of (b ∷ bytes) = if b == 10 then [] ∷ lines_of bytes else onto_first b (lines_of bytes)
 
+-- no byte is a line feed, so the bytes are one line or a part of one
 abbrev pub NoLineFeed : List ℕ → Type 0
 NoLineFeed [] = Unit {0}
 NoLineFeed (b ∷ bytes) = (b ≢ 10) × NoLineFeed bytes

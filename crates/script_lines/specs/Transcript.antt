@@ -11,6 +11,7 @@ use Rattle.terminal_rules.specs.declared.event.Event.TheVariants.{Gap, Slot}
 use Rattle.terminal_rules.specs.Out.{Sending, sending, Handing, HandsReceived, HandsSynchronize, HandsSynchronizeWith, HandsSelfTest, HandsBusControl, Out, Silence, SendsWord, HandsOver, out}
 use Rattle.script_lines.specs.Digits.{digits_of, decimal_digits}
 
+-- the letter by which scripts and transcripts name a bus
 abbrev pub bus_letter : Bus → List ℕ
 bus_letter A = codes "A"
 bus_letter B = codes "B"
@@ -32,6 +33,7 @@ data_text b word = sent_text (sending b Dat word)
 abbrev pub word_field : ℕ → List ℕ
 word_field word = 32 ∷ digits_of word
 
+-- the beginning of the line: whether the words came by broadcast or to the own address
 abbrev pub received_by : Bool → List ℕ
 received_by broadcast = if broadcast then codes "hand receive broadcast " else codes "hand receive own "
 

@@ -17,7 +17,7 @@ use Rattle.toml_places.specs.Places.{is_there, IsGivenBy, head}
 use Rattle.toml_places.specs.Search.{Named, kind_is_entry, gives_whole, adds_entry, whole_from, entries_from, in_item_from, item_from, index_of_key, index_of_item}
 use Rattle.toml_places.specs.Statements.{named_in, named_statement, section_behind, whole_names, name_behind, IsPlace}
 use Rattle.toml_places.proofs.Finds.{Found, there_node}
-use Rattle.toml_places.proofs.Laws.{key_law, item_law}
+use Rattle.toml_places.proofs.Gives.{key_law, item_law}
 
 gives_it : (sought : Members → Bool) (es : List Expression) (place other : Option ℕ) → place ≡ other → Found sought 0 (no_nodes, []) es other → (j : ℕ) × (place ≡ Some j) × IsGivenBy sought es j
 gives_it sought es place other same (j, is, g) = (

@@ -5,5 +5,7 @@ pub mod Moves
 pub mod Finds
 pub mod Items
 pub mod Stays
-pub mod Laws
+pub mod Gives
 pub mod Indices
+pub mod There
+pub mod Others

@@ -1,4 +1,5 @@
 pub mod Besides
+pub mod Law
 pub mod Places
 pub mod Search
 pub mod Statements

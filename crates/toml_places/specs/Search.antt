@@ -29,10 +29,12 @@ abbrev pub begins_both : List ℕ → List ℕ → List (List ℕ) → Bool
 begins_both key name [] = false
 begins_both key name (part ∷ parts) = same_key key part && begins_key name parts
 
+-- the statement is a pair of a key and a value
 abbrev pub kind_is_pair : StatementKind → Bool
 kind_is_pair Pair = true
 kind_is_pair _ = false
 
+-- the statement is a header in double brackets, which adds an item to an array
 abbrev pub kind_is_entry : StatementKind → Bool
 kind_is_entry Entry = true
 kind_is_entry _ = false

@@ -116,8 +116,8 @@ impl ArrayPlaces<'_> {
         self.find(index, Some(name))
     }
 
-    /// The first name that the statements of the item of an index give it and that is none of these; None where there is none, or where
-    /// a pair gives the whole array.
+    /// The first name that the statements behind the header of the item of an index give it and that is none of these; None where there
+    /// is none. Of an array that a pair gives whole it is None too: no value is read.
     pub fn name_besides(&self, index: usize, known: &[&str]) -> Option<&str>
         ensures { option_copied result ≡ item_besides self.entry.now.key.now index (map (λ k. k.now) known.now) self.entry.now.statements.now }
     {

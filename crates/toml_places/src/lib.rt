@@ -4,6 +4,7 @@
 mod array;
 mod besides;
 mod key;
+pub mod laws;
 mod names;
 
 pub use array::{ArrayPlaces, array_places};

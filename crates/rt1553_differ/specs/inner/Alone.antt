@@ -52,6 +52,7 @@ abbrev pub is_beside : Bool → Difference → Bool
 is_beside false d = is_before_counts d
 is_beside true d = is_behind_counts d
 
+-- the differences on one side of those in word counts, each in a group of its own
 unfoldable pub singles : Parts → Bool → List Difference → List Group
 singles v behind ds = map (single v) (filter (is_beside behind) ds)
 

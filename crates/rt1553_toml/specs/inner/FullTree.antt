@@ -32,6 +32,7 @@ rule_members to direction subaddress mask =
     (member (codes "subaddresses") (integer (pos subaddress))
     (member (codes "to") (string to) no_members))))
 
+-- the rule, as an item of its array
 abbrev pub rule_data : List ℕ → List ℕ → ℕ → ℕ → Data
 rule_data to direction subaddress mask = table (rule_members to direction subaddress mask)
 
@@ -42,9 +43,11 @@ mode_members to mask =
     (member (codes "legal") (boolean (not (mask == 0)))
     (member (codes "to") (string to) no_members))
 
+-- the mode entry, as an item of its array
 abbrev pub mode_data : List ℕ → ℕ → Data
 mode_data to mask = table (mode_members to mask)
 
+-- the word, as an item of an array of words
 abbrev pub word_data : ℕ → Data
 word_data word = integer (pos word)
 
@@ -54,26 +57,32 @@ initial_members subaddress words =
     member (codes "subaddress") (integer (pos subaddress))
     (member (codes "words") (array (items_of (map word_data words))) no_members)
 
+-- the words of a subaddress, as an item of the array of initial entries
 abbrev pub initial_data : ℕ → List ℕ → Data
 initial_data subaddress words = table (initial_members subaddress words)
 
 -- ---- the tree
 
+-- the rules: own receive commands first, then own transmit commands, then those by broadcast
 abbrev pub rules_by : Tables → List Data
 rules_by t =
     from_number (rule_data (codes "own") (codes "receive")) 1 t.own_receive
     ++ (from_number (rule_data (codes "own") (codes "transmit")) 1 t.own_transmit
     ++ from_number (rule_data (codes "broadcast") (codes "receive")) 1 t.broadcast_receive)
 
+-- two mode entries, of own mode codes and of broadcast ones
 abbrev pub modes_by : Tables → List Data
 modes_by t = mode_data (codes "own") t.own_mode ∷ mode_data (codes "broadcast") t.broadcast_mode ∷ []
 
+-- an initial entry for each subaddress, from 1 on
 abbrev pub initials_by : List (List ℕ) → List Data
 initials_by words = from_number initial_data 1 words
 
+-- the value of `wraparound`: a subaddress, or false for none
 abbrev pub wraparound_data : ℕ → Data
 wraparound_data wrap = if wrap == 0 then boolean false else integer (pos wrap)
 
+-- the whole tree, with its keys in alphabetical order
 abbrev pub full_tree : Parts → Members
 full_tree v =
     member (codes "accept_bus_control") (boolean v.accept)

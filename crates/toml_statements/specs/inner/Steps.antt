@@ -33,6 +33,7 @@ key_before byte text = option_and_then (λ k. option_map (λ rest. (k.0, rest)) 
 abbrev pub Heading : Type 0
 Heading = Key × StatementKind
 
+-- the key and the kind of a statement, without its value
 abbrev pub heading : Expression → Heading
 heading e = (e.0, statement_kind e.1)
 

@@ -5,5 +5,5 @@ use Rattle.rt1553_tool_program.proofs.compared.compare_script.Goals as goal
 
 pub returns : goal.returns
 returns c P reached =
-    says_so c.args.bus_only P c.args.script.now (map shown c.in_ok-stated.stated.items) (map shown c.as_slice-2.result.now) c.in_ok-wrong.wrong.items
-    c.in_ok-stated.ensures.accepted (ap (map shown) c.as_slice-2.ensures.value ∙ c.in_ok-seen.ensures) (c.in_ok-wrong.ensures P reached)
+    says_so c.args.bus_only P c.args.script.now (map shown c.in_ok-stated.stated.items) (map shown c.as_slice-3.result.now) c.in_ok-wrong.wrong.items
+    c.in_ok-stated.ensures.accepted (ap (map shown) c.as_slice-3.ensures.value ∙ c.in_ok-seen.ensures) (c.in_ok-wrong.ensures P reached)
