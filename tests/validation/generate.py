@@ -1,5 +1,5 @@
 #!/usr/bin/env python3
-"""Writes the families of the RT validation test plan as scripts that state their answers: generate.py FOLDER
+"""Writes the families of the protocol tests as scripts that state their answers: generate.py FOLDER
 
 Each family is a script; the first line of a script names its profile, which is one of examples/validation/profiles or
 one that is written to FOLDER/profiles.

@@ -1,7 +1,7 @@
 """Scripts that state their answers (docs/script.md): what comes, and behind each event the line that answers it.
 
-There is no model of a terminal here. A message is written together with the answer that the test plan and the standard
-ask for: the status bits, the data words, what is handed over. Nothing is carried from one message to the next.
+There is no model of a terminal here. A message is written together with the answer that the standard asks for, by the
+sections that plan.py names: the status bits, the data words, what is handed over. Nothing is carried from one message to the next.
 
 Names of answers are those of the plan: CS is a clear status, ME message error in the status, NR no response.
 """
