@@ -1,20 +1,31 @@
 # rt1553: `make help` lists the targets. All proofs, compilers and runs are the toolchain's command `rt`.
 PREFIX ?= /usr/local
 export PREFIX DESTDIR
-# the toolchain with which this release was proved: what `rt version` prints
-export KIT = rattle-kit-13b logic dac8208d650f15bf
+# the toolchain with which this version was proved: what `rt version` prints
+export KIT = rattle-kit-13f logic dac8208d650f15bf
 
-build: ## proves and builds the two programs, one line a crate: bin/rt1553, bin/rt1553-tool
-	@bash scripts/need.sh rt python3
+build: ## proves and builds bin/rt1553 and bin/rt1553-tool, one line a crate, and plays the first answer; what is proved is kept
+	@bash scripts/need.sh rt python3 gcc
 	@python3 scripts/build.py
 
 help: ## lists the targets
 	@awk -F ':.*## ' '/^[a-z]+:.*## / { printf "make %-12s %s\n", $$1, $$2 }' Makefile
 
+try: ## plays the first answer, or SCRIPT to the terminal of PROFILE, in a minute: it proves nothing and leaves no program
+	@bash scripts/need.sh rt
+	@echo 'Nothing is proved by this, and no program is left. It takes a minute.'
+	@cd crates/rt1553_program && $(if $(PROFILE)$(SCRIPT), \
+	    rt try --data profile="$(abspath $(PROFILE))" --data script="$(abspath $(SCRIPT))" -- run profile script, \
+	    printf 'A c 2c02\nA gap\nslot\n' | rt try)
+
 check: ## proves one crate and those below it: make check CRATE=bus_word
 	@bash scripts/need.sh rt
 	@if [ -z "$(CRATE)" ] || [ ! -d "crates/$(CRATE)" ]; then echo "make check CRATE=NAME, where NAME is one of:" $$(ls crates) >&2; exit 1; fi
 	cd "crates/$(CRATE)" && rt check
+
+edits: ## tries all must-fail edits, or those of one crate, CRATE=bus_word, and notes in tests/edits.record which were refused
+	@bash scripts/need.sh rt python3
+	@python3 scripts/must-fail.py $(CRATE)
 
 library: ## proves and builds the library for C, C++, Python and Rust: bin/library
 	@bash scripts/need.sh rt cc ar ld objcopy objdump python3
@@ -38,16 +49,15 @@ deb: ## makes a Debian package of what is built: bin/rt1553_VERSION_ARCHITECTURE
 	@bash scripts/need.sh python3 dpkg-deb dpkg-shlibdeps
 	@bash scripts/deb.sh
 
-dist: ## makes an archive for machines without the toolchain: bin/rt1553-VERSION-linux-x86_64.tar.gz
-	@bash scripts/need.sh python3 objdump
+dist: build library ## makes an archive for machines without the toolchain: bin/rt1553-VERSION-linux-x86_64.tar.gz
 	@bash scripts/dist.sh
 
 pages: ## writes the man pages and completions, of manual/arguments.toml, docs/script.md and docs/profile.md
 	@bash scripts/need.sh python3
 	@python3 scripts/manual.py write
 
-clean: ## removes what was built: bin/, out/ and crates/*/out
-	@du -shc bin out crates/*/out 2>/dev/null | tail -n 1 | sed 's/\ttotal/ are freed; make build builds all of it again/'
+clean: ## removes what was built: bin/, out/ and crates/*/out; what was proved is kept
+	@du -shc bin out crates/*/out 2>/dev/null | tail -n 1 | sed 's/\ttotal/ are freed/'
 	@rm -rf bin out crates/*/out
 
-.PHONY: build help check library test bench install uninstall deb dist pages clean
+.PHONY: build help try check edits library test bench install uninstall deb dist pages clean

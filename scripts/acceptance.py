@@ -530,13 +530,13 @@ def one_pair(it, one, other, name):
     it.count.row(f"{name}: compare", None if (verdict.status, verdict.output == "same\n", verdict.errors) == (0 if same else 1, same, "") else short(verdict))
     given = it.verify(other.path, one.script)
     it.count.row(f"{name}: verify", verify_fault(given, one, same))
-    wanted = compared(one.exchanges, results_in(other.exchanges), other.results)
-    given = it.against(one.path, other.results)
-    it.count.equal(f"{name}: against", given, wanted)
+    results = results_in(other.exchanges)
+    replies = it.file("replies.csv", results_text(results))
+    given = it.against(one.path, replies)
+    it.count.equal(f"{name}: against", given, compared(one.exchanges, results, replies))
     if given.status == 2:
         # the rows that the test of this terminal has, too
-        rows = other.table.split("\r\n")[: len(one.exchanges) + 1]
-        given = it.against(one.path, it.file("cut.csv", "\r\n".join(rows)))
+        given = it.against(one.path, it.file("cut.csv", results_text(results[: len(one.exchanges)])))
     fault = None if given.status == (0 if same else 1) else f"status {given.status}"
     if same and one.table != other.table:
         fault = "the tables of the same terminal differ"
@@ -679,6 +679,17 @@ def faults_of_tables(it, profile, exchanges):
         it.count.equal(f"results {text[:40]!r}", it.against(profile, path), Given(2, "", f"{path}: results: {fault}\n"))
 
 
+def commands_changed(table, change, number=None):
+    """A table with the command of the row of this number changed, or of each row."""
+    rows = list(csv.reader(io.StringIO(table)))
+    for row in rows[1:]:
+        if number in (None, int(row[0])):
+            row[2] = change(row[2])
+    text = io.StringIO()
+    csv.writer(text).writerows(rows)
+    return text.getvalue()
+
+
 def tables_that_are_compared(it, profile, exchanges, table):
     """Tables that are not complete, and others that say the same in another way."""
     header, *rows = table.split("\r\n")[:-1]
@@ -697,6 +708,7 @@ def tables_that_are_compared(it, profile, exchanges, table):
         "capital digits": ("number,reply\n" + "".join(f"{n},{' '.join(reply).upper() or 'none'}\n" for n, reply, _ in given), own),
         "quoted fields": ('"number","reply"\n' + "".join(f'"{n}","{" ".join(reply) or "none"}"\n' for n, reply, _ in given), own),
         "numbers with zeros before them": ("number,reply\n" + "".join(f"{n:08},{' '.join(reply) or 'none'}\n" for n, reply, _ in given), own),
+        "commands in capital letters": (commands_changed(table, str.upper), own),
         "no rows": (header + "\r\n", Given(1, f"no result for 1 to {total}\n{total} of {total} exchanges have no result: no verdict\n", "")),
         "one row": ("number,reply\n1,none", Given(1, f"no result for 2 to {total}\n{total - 1} of {total} exchanges have no result: no verdict\n", "")),
         "rows that are missing": (
@@ -704,6 +716,9 @@ def tables_that_are_compared(it, profile, exchanges, table):
             Given(1, f"no result for 12\nno result for 100 to 200\nno result for {total}\n103 of {total} exchanges have no result: no verdict\n", ""),
         ),
     }
+    for name, change in {"another command": lambda word: f"{int(word, 16) ^ 1:04x}", "a command of three digits": lambda word: word[1:]}.items():
+        text = commands_changed(table, change, 3)
+        it.count.equal(f"results: {name}", it.against(profile, it.file("results", text)), Given(2, "", f"{it.room / 'results'}: results: row 4, column 3: another command than that of this exchange\n"))
     others = [(n, reply, line) for n, reply, line in given if n != 7]
     others[0] = (1, ("2c10",), 2)
     others[long - 2] = (long, given[long - 1][1][:-1], long)

@@ -1,64 +1,76 @@
 #!/usr/bin/env python3
-"""Proves and builds what users run.
+"""Proves and builds what users run, and keeps what it proves for later builds.
 
-    scripts/build.py            the two programs: bin/rt1553 and bin/rt1553-tool
-    scripts/build.py library    the library for C, C++, Python and Rust: bin/library
+    scripts/build.py                              the programs, bin/rt1553 and bin/rt1553-tool; then the first answer of README.md
+    scripts/build.py library [BUILT]              the library for C, C++, Python and Rust, bin/library; or BUILT/bin/library, over the
+                                                  crates that `rt ci` has proved in BUILT
+    scripts/build.py libraries FOLDER [NAME..]    the crates below these, or all, where scripts/must-fail.py looks for them
 
-It copies the crates that are needed and runs `rt ci` on the copy: one process a crate, and as many crates side by side as
-there are processors and 2 GB of memory for each, those with the longest chain above them first. Where `rt ci`
-keeps what passed on this machine, a later build and the gate prove only what changed and the crates above it.
+Each crate is proved from nothing by one `rattle build`, with the words that `rt ci` gives it, over the statements of the libraries below.
+As many run side by side as there are processors, or as RT_JOBS says, and 3 GiB of memory for each: first what rt1553 stands on,
+and of that what has most to prove above it. Processors for which no crate is ready become further jobs of the proofs that start.
 
-A line for each crate tells that it is proved and how long that took. Meanwhile a terminal shows what is being proved; where
-the output is no terminal, a line tells it every 25 seconds. All that the tools print stands in out/build.log.
+What is proved is kept in ~/.cache/rt1553, or in the folder that RT1553_KEPT names. It has to be the user's own: who can write to it
+can have a build take what nobody proved.
+
+    proved/NAME-SUM/    what was made of a crate, and `sums`, the sum of each of its files; SUM is that of all that it was made from
+    new/                what is being made. What a killed build leaves there, the next one removes
+    lock                held by a build until it ends, however it ends; others wait
+
+So a build of this clone or another proves what has changed and what stands on it. With ANEW=1 it proves all.
+
+A line tells of each crate that it is proved, and how long that took, or that it was kept. All that the tools print stands in
+out/build.log. Only proofs are judged here: the tests, and what else `rt ci` refuses, are for `make test`.
 """
+import fcntl
+import glob
+import hashlib
 import os
 import re
 import shutil
+import signal
 import subprocess
 import sys
 import tempfile
-import threading
 import time
+from pathlib import Path
 
 TOP = os.path.dirname(os.path.dirname(os.path.realpath(__file__)))
 LOG = f"{TOP}/out/build.log"
-# a program's crate, and what `make build` calls it
+# a program's crate, and what it is called; the first is built first
 PROGRAMS = {"rt1553_program": "rt1553", "rt1553_tool_program": "rt1553-tool"}
 LIBRARY = "rt1553_c"
-# bytes of memory for each crate that is proved
-MEMORY = 2_000_000_000
+# the first answer of README.md: what is typed, and what comes
+GIVEN, ANSWER = r"A c 2c02\nA gap\nslot\n", "A s 2800"
+# bytes of memory for each process that proves
+MEMORY = 3 << 30
 # seconds after which a line tells what is being proved
 SILENCE = 25
+# of a crate, how many versions are kept: those that were taken last
+VERSIONS = 4
+# to be changed where a change of this script makes other libraries of the same files
+SCHEME = "1"
+# the last line of a proof from nothing that trusts the toolchain and the statements of libraries, and nothing else
+PROVED = r"logic=proved functions=\d+( axioms=\d+)?( target=x86_64-unknown-linux-gnu cpu=x86-64-v2)? sum={} native=nat,char,string logic-built=trusted libraries-built=trusted statements=trusted"
+# what `rt ci` refuses beside it: contracts that no call meets, a pattern that takes every value, a term that a tactic chose
+REFUSED = re.compile(
+    r"^(warning: no call of `(?![^`]*::fn::)|note: the search for empty contracts did not end|warning: calls of a tactic that chose a term"
+    r"|(\./)?(src|specs)/\S+ warning: this pattern binds a variable)",
+    re.M,
+)
+# and in a library, since a crate above may cite it, also a term that a tactic chose in a proof
+REFUSED_BELOW = re.compile(r"^(\./)?proofs/\S+ note: `\S+` has chosen a term", re.M)
 
 
-def lines_needed(wanted):
-    """The lines of crates.txt of these crates and of all that they stand on, by name, lowest layer first."""
-    with open(f"{TOP}/crates.txt", encoding="utf-8") as file:
-        lines = {it.split()[0].rstrip(":"): it for it in file if it.strip() and not it.startswith("#")}
-    needed = set(wanted)
-    for name in reversed(lines):
-        if name in needed:
-            needed.update(lines[name].partition(":")[2].split())
-    return {name: line for name, line in lines.items() if name in needed}
+def files_of(folder, *parts):
+    """The files below these parts of a folder, or below all of it, by their paths in it."""
+    walked = [(at, names) for part in parts or [""] for at, _, names in os.walk(f"{folder}/{part}")]
+    return {os.path.relpath(f"{at}/{it}", folder): Path(at, it).read_bytes() for at, names in walked for it in names}
 
 
-def copy_crates(lines, to):
-    """Copies these crates to the folder, without what was built of them and without their must-fail edits."""
-    # the copy is the top of a repository
-    os.mkdir(f"{to}/.git")
-    shutil.copy(f"{TOP}/HANDLES", to)
-    with open(f"{to}/crates.txt", "w", encoding="utf-8") as file:
-        file.writelines(lines.values())
-    left_out = shutil.ignore_patterns("out", "must-fail", "must-not-compile")
-    for name in lines:
-        shutil.copytree(f"{TOP}/crates/{name}", f"{to}/crates/{name}", ignore=left_out)
-
-
-def jobs():
-    """How many crates are proved side by side."""
-    with open("/proc/meminfo", encoding="utf-8") as file:
-        memory = 1024 * int(re.search(r"MemAvailable:\s+(\d+)", file.read())[1])
-    return max(1, min(len(os.sched_getaffinity(0)), memory // MEMORY))
+def sums_of(files):
+    """A line for each file, in order: its path and the sum of its bytes."""
+    return "".join(sorted(f"{path} {hashlib.sha256(it).hexdigest()}\n" for path, it in files.items() if path != "sums"))
 
 
 def minutes(seconds):
@@ -66,119 +78,339 @@ def minutes(seconds):
     return f"{int(seconds) // 60} min {int(seconds) % 60:02d} s"
 
 
+class Kept:
+    """What builds have proved. It is this build's alone until it ends."""
+
+    def __init__(self):
+        cache = os.environ.get("XDG_CACHE_HOME") or os.path.expanduser("~/.cache")
+        self.folder = os.path.abspath(os.environ.get("RT1553_KEPT") or f"{cache}/rt1553")
+        os.makedirs(self.folder, mode=0o700, exist_ok=True)
+        mine = os.stat(self.folder)
+        if mine.st_uid != os.geteuid() or mine.st_mode & 0o022:
+            sys.exit(f"{self.folder} is not yours alone to write to: change its owner and mode, or name another folder by RT1553_KEPT.")
+        self.lock = open(f"{self.folder}/lock", "w", encoding="utf-8")
+        try:
+            fcntl.flock(self.lock, fcntl.LOCK_EX | fcntl.LOCK_NB)
+        except BlockingIOError:
+            print(f"Another build works in {self.folder}: this one waits for it.", flush=True)
+            fcntl.flock(self.lock, fcntl.LOCK_EX)
+        shutil.rmtree(f"{self.folder}/new", ignore_errors=True)
+        for it in ("proved", "new"):
+            os.makedirs(f"{self.folder}/{it}", exist_ok=True)
+
+    def room(self):
+        """A new folder, which is removed by the next build at latest."""
+        return tempfile.mkdtemp(dir=f"{self.folder}/new")
+
+    def take(self, label):
+        """Where this is kept, if it is, whole; else None."""
+        at = f"{self.folder}/proved/{label}"
+        if os.environ.get("ANEW") or not os.path.isdir(at):
+            return None
+        try:
+            is_whole = Path(at, "sums").read_text(encoding="utf-8") == sums_of(files_of(at))
+        except (OSError, ValueError):
+            is_whole = False
+        if is_whole:
+            os.utime(at)
+            return at
+        print(f"        {label.rpartition('-')[0]}: what was kept is damaged", flush=True)
+        shutil.rmtree(at)
+        return None
+
+    def keep(self, label, room):
+        """Keeps what lies in the room, whole or not at all, and removes versions of the crate that were not taken for longest."""
+        at = f"{self.folder}/proved/{label}"
+        Path(room, "sums").write_text(sums_of(files_of(room)), encoding="utf-8")
+        shutil.rmtree(at, ignore_errors=True)
+        os.rename(room, at)
+        versions = glob.glob(f"{self.folder}/proved/{label.rpartition('-')[0]}-*")
+        for it in sorted(versions, key=os.path.getmtime)[:-VERSIONS]:
+            shutil.rmtree(it)
+        return at
+
+
+class Toolchain:
+    """The toolchain: its folder, its line, and a sum that tells it from others."""
+
+    def __init__(self):
+        # the toolchain's first page stands at its top
+        self.folder = os.path.dirname(subprocess.check_output(["rt", "doc"], text=True).strip())
+        self.line = subprocess.check_output(["rt", "version"], text=True).strip()
+        whole = hashlib.sha256(self.line.encode())
+        for it in [*sorted(glob.glob(f"{self.folder}/WHAT*")), f"{self.folder}/bin/rattle"]:
+            whole.update(Path(it).read_bytes())
+        self.sum = whole.hexdigest()
+
+
+class Crate:
+    """A crate: its line of crates.txt, its files as they are when the build begins, and what it stands on."""
+
+    def __init__(self, line, known, toolchain):
+        head, _, names = line.partition(":")
+        self.name, self.is_archive, self.toolchain = head.split()[0], "staticlib" in head.split(), toolchain
+        self.files = files_of(f"{TOP}/crates/{self.name}", "src", "specs", "proofs")
+        self.is_program = "src/main.rt" in self.files
+        self.libraries = [known[it] for it in names.split() if it in known]
+        self.of_toolchain = ["std", *[it for it in names.split() if it not in known]]
+        # all libraries of the repository below it, each after those that it stands on
+        self.below = list(dict.fromkeys(it for library in self.libraries for it in [*library.below, library]))
+        # about how long its proof takes, in lines
+        self.lines = 150 + sum(it.count(b"\n") for path, it in self.files.items() if path.startswith("src/"))
+        made_from = [SCHEME, toolchain.sum, head.split(), self.of_toolchain, sums_of(self.files), [it.label for it in self.libraries]]
+        self.label = f"{self.name}-{hashlib.sha256(repr(made_from).encode()).hexdigest()[:32]}"
+        self.is_library = not self.is_program and not self.is_archive
+        # what is made of it: a program's object, an archive for C, or a library
+        self.product = f"{self.name}.o" if self.is_program else f"lib{self.name}.a" if self.is_archive else f"{self.name}.rlib"
+
+    def copy(self, to):
+        """Copies its files to the folder, so that what is edited while it is proved is not read."""
+        for path, it in self.files.items():
+            os.makedirs(os.path.dirname(f"{to}/{path}"), exist_ok=True)
+            Path(to, path).write_bytes(it)
+
+    def words(self, made, to, jobs):
+        """The command that proves and builds it, over what is made of the crates below."""
+        at, words = self.toolchain.folder, ["--crate-name", self.name, f"src/{'main' if self.is_program else 'lib'}.rt"]
+        for name in self.of_toolchain:
+            words += ["--extern", f"{name}={at}/rlibs/{name}.rlib"]
+        words += ["-L", f"dependency={at}/rlibs"]
+        for it in self.libraries:
+            words += ["--extern", f"{it.name}={made[it.name]}/{it.product}"]
+        for it in self.below:
+            words += ["-L", f"dependency={made[it.name]}"]
+        words += ["--antt-project", f"{at}/rattle/logic/antt-project.json", "--logic-built", f"{at}/logic_built"]
+        words += ["--jobs", str(jobs), "--links", f"{self.name}=", "--empty-contracts"]
+        if self.is_library:
+            words += ["--statements"]
+        else:
+            words += ["--toolchain", f"{at}/toolchain", "--backend", "llvm", *["--crate-type", "staticlib"] * self.is_archive]
+        return [f"{at}/bin/rattle", "build", *words, "-o", f"{to}/{self.product}"]
+
+    def is_proved(self, said):
+        """Whether a proof that ended well and said this is one that `rt ci` passes."""
+        lines = re.findall(r"^logic=.*", said, re.M)
+        is_proved = len(lines) == 1 and re.fullmatch(PROVED.format(self.toolchain.line.rpartition(" ")[2]), lines[0])
+        return is_proved and not REFUSED.search(said) and not (self.is_library and REFUSED_BELOW.search(said))
+
+
+class Group:
+    """A group of processes that ends with this one, however that ends: its leader waits for the end of a pipe that this one holds."""
+
+    def __init__(self):
+        ends, self.held = os.pipe()
+        quiet = {"stdout": subprocess.DEVNULL, "stderr": subprocess.DEVNULL}
+        self.leader = subprocess.Popen(["sh", "-c", "read _; kill -9 0"], stdin=ends, process_group=0, **quiet)
+        os.close(ends)
+
+    def start(self, words, **how):
+        """Starts a process of the group."""
+        return subprocess.Popen(words, stdin=subprocess.DEVNULL, stderr=subprocess.STDOUT, process_group=self.leader.pid, **how)
+
+
 class Progress:
-    """What is told while crates are proved: a line for each that is done, and what goes on."""
+    """What is told: a line for each crate that is done, and what goes on."""
 
-    def __init__(self, names, copy):
-        self.names, self.copy = names, copy
-        self.began, self.started, self.done, self.told = time.time(), {}, [], time.time()
-        self.lock = threading.Lock()
+    def __init__(self):
+        self.told, self.is_terminal = time.time(), sys.stdout.isatty()
 
-    def running(self):
-        """The crates that are being proved: `rt ci` has made their folder out/ and not yet told that they are done."""
-        for name in self.names:
-            if name not in self.started and os.path.isdir(f"{self.copy}/crates/{name}/out"):
-                self.started[name] = time.time()
-        return [name for name in self.started if name not in self.done]
-
-    def show(self, text, end="\n"):
+    def line(self, text, end="\n"):
         """Writes a line, over the line of a terminal that tells what goes on."""
-        print(f"\r\033[K{text}" if sys.stdout.isatty() else text, end=end, flush=True)
+        print(f"\r\033[K{text}" if self.is_terminal else text, end=end, flush=True)
         self.told = time.time()
 
-    def end_of(self, name, how):
-        """Tells that a crate is done."""
-        with self.lock:
-            self.running()
-            self.done.append(name)
-            took = minutes(time.time() - self.started.get(name, time.time()))
-            self.show(f"[{len(self.done):2d}/{len(self.names)}] {name:<20s} {how.format(took)}")
-
-    def tick(self):
+    def tick(self, text):
         """Tells what goes on, each second on a terminal, and else where nothing was told for long."""
-        with self.lock:
-            going = ", ".join(f"{it} {minutes(time.time() - self.started[it])}" for it in self.running()) or "programs are built and run"
-            left = len(self.names) - len(self.done)
-            if sys.stdout.isatty():
-                columns = shutil.get_terminal_size().columns
-                self.show(f"        {left} left; {going}"[: columns - 1], end="")
-            elif time.time() - self.told > SILENCE:
-                self.show(f"        {left} left; {going}")
+        if self.is_terminal and time.time() - self.told >= 1:
+            self.line(f"        {text}"[: shutil.get_terminal_size().columns - 1], end="")
+        elif not self.is_terminal and time.time() - self.told > SILENCE:
+            self.line(f"        {text}")
 
 
-# what `rt ci` says of a crate that is done, and what is told then
-DONE = re.compile(r"^rt: (\w+) (proved$|is kept: |NOT PROVED)")
-TOLD = {"proved": "proved in {}", "is kept: ": "proved before", "NOT PROVED": "not proved, after {}"}
+class Proof:
+    """A proof that runs: the process, where it leaves what it makes, and the file of what it prints."""
+
+    def __init__(self, crate, jobs, made, kept, group):
+        self.crate, self.jobs, self.began, self.room, self.copy = crate, jobs, time.time(), kept.room(), kept.room()
+        self.said = tempfile.TemporaryFile("w+", errors="replace")
+        crate.copy(self.copy)
+        self.process = group.start(crate.words(made, self.room, jobs), cwd=self.copy, stdout=self.said)
+
+    def end(self):
+        """The exit status, what was printed and the cost, once it has ended; else None."""
+        pid, status, used = os.wait4(self.process.pid, os.WNOHANG)
+        if not pid:
+            return None
+        self.process.returncode = os.waitstatus_to_exitcode(status)
+        shutil.rmtree(self.copy)
+        self.said.seek(0)
+        cost = f"{minutes(time.time() - self.began)}, {used.ru_utime + used.ru_stime:.0f} s of processor time, {used.ru_maxrss / 1e6:.1f} GB, {self.jobs} jobs"
+        return self.process.returncode, self.said.read(), cost
 
 
-def leave_program(copy, name):
-    """Leaves the program of this crate in bin/."""
-    shutil.copy(f"{copy}/crates/{name}/out/{name}", f"{TOP}/bin/{PROGRAMS[name]}")
+class Build:
+    """A build of some crates and of all that they stand on."""
+
+    def __init__(self, kept, log):
+        self.kept, self.log, self.progress, self.group, self.toolchain = kept, log, Progress(), Group(), Toolchain()
+        self.crates = {}
+        for line in Path(TOP, "crates.txt").read_text(encoding="utf-8").splitlines():
+            if line and not line.startswith("#"):
+                it = Crate(line, self.crates, self.toolchain)
+                self.crates[it.name] = it
+        # where what is made of a crate lies; what is to be proved, in the order in which it is started; what runs
+        self.made, self.left, self.running, self.proved, self.told = {}, [], [], 0, 0
+        # what was said by the proof of each crate that failed
+        self.failed = {}
+        memory = 1024 * int(re.search(r"MemAvailable:\s+(\d+)", Path("/proc/meminfo").read_text(encoding="utf-8"))[1])
+        self.processors = int(os.environ.get("RT_JOBS") or max(1, min(len(os.sched_getaffinity(0)), memory // MEMORY)))
+
+    def done(self, crate, at, how):
+        """Notes and tells that a crate is done; a program can be used from now on."""
+        self.made[crate.name] = at
+        self.told += 1
+        self.progress.line(f"[{self.told:2d}/{len(self.all)}] {crate.name:<22s} {how}")
+        if crate.name in PROGRAMS:
+            self.leave_program(crate)
+
+    def look(self, wanted):
+        """Takes what is kept. What is below a crate that is kept is looked at only if another needs it."""
+        self.all = {it for crate in wanted for it in [*crate.below, crate]}
+        needed = set(wanted)
+        for crate in reversed(self.crates.values()):
+            if crate in needed:
+                if at := self.made.get(crate.name) or self.kept.take(crate.label):
+                    self.made[crate.name] = at
+                else:
+                    needed.update(crate.below)
+                    self.left.insert(0, crate)
+        self.told = len(self.all - needed)
+        for crate in [it for it in self.crates.values() if it in needed and it.name in self.made]:
+            self.done(crate, self.made[crate.name], "kept")
+
+    def order(self, wanted):
+        """Orders what is left: the first that is wanted and what is below it, then the rest, by the longest chain above each."""
+        first, chain = {below for it in wanted[:1] for below in [*it.below, it]}, {}
+        for crate in reversed(self.left):
+            chain[crate] = crate.lines + max((chain[it] for it in self.left if crate in it.libraries), default=0)
+        self.left.sort(key=lambda it: (it not in first, -chain[it]))
+
+    def start_ready(self):
+        """Starts crates of which all below is made, as far as processors are idle."""
+        idle = self.processors - sum(it.jobs for it in self.running)
+        ready = [it for it in self.left if all(below.name in self.made for below in it.below)][: max(0, idle)]
+        for at, crate in enumerate(ready):
+            # what the others don't need, rounded up
+            jobs = min(4, -(-idle // (len(ready) - at)))
+            idle -= jobs
+            self.left.remove(crate)
+            self.running.append(Proof(crate, jobs, self.made, self.kept, self.group))
+
+    def end_of(self, proof, status, said, cost):
+        """Judges a proof that has ended, and keeps what it made."""
+        crate = proof.crate
+        self.running.remove(proof)
+        self.log.write(f"== {crate.name}: {cost}\n{said}")
+        if status == -signal.SIGKILL and self.processors > 1 and not self.failed:
+            self.progress.line(f"        {crate.name}: the proof was killed, most likely for want of memory: from here on one runs at a time")
+            self.processors = 1
+            self.left.insert(0, crate)
+        elif status or not crate.is_proved(said):
+            self.progress.line(f"        {crate.name:<22s} not proved, after {cost.partition(',')[0]}; what runs is ended and kept")
+            self.failed[crate.name], self.left = said, []
+        else:
+            self.proved += 1
+            self.done(crate, self.kept.keep(crate.label, proof.room), f"proved in {cost.partition(',')[0]}")
+
+    def prove(self, wanted):
+        """Takes what is kept of these crates and of those below, and proves the rest."""
+        self.look(wanted)
+        self.order(wanted)
+        while self.left or self.running:
+            for proof in [*self.running]:
+                if end := proof.end():
+                    self.end_of(proof, *end)
+            self.start_ready()
+            going = ", ".join(f"{it.crate.name} {minutes(time.time() - it.began)}" for it in self.running)
+            self.progress.tick(f"{len(self.left) + len(self.running)} left; {going}")
+            time.sleep(0.1)
+        if self.progress.is_terminal:
+            self.progress.line("", end="")
+        for name, said in self.failed.items():
+            self.fail(f"{name} was not proved", said)
+
+    def fail(self, why, said):
+        """Ends after a failure, with the end of what was said."""
+        print("".join(f"{it}\n" for it in said.splitlines()[-30:]), end="")
+        sys.exit(f"\n{why}. All that was printed stands in {os.path.relpath(LOG)}.")
+
+    def run(self, *words):
+        """Runs a command, with what it prints in the log, and fails where it does."""
+        self.log.flush()
+        if self.group.start(words, stdout=self.log).wait():
+            self.fail(f"{os.path.basename(words[1])} failed", Path(LOG).read_text(encoding="utf-8"))
+
+    def leave_program(self, crate):
+        """Links a program and leaves it in bin/."""
+        self.run("bash", f"{TOP}/scripts/link.sh", f"{self.made[crate.name]}/{crate.product}", f"{TOP}/bin/{PROGRAMS[crate.name]}")
+        self.progress.line(f"        bin/{PROGRAMS[crate.name]} is there")
 
 
-def prove(names, copy, log):
-    """Runs `rt ci` on the copy, tells how far it is, and writes what it prints to the log. Returns whether all passed."""
-    progress, ended = Progress(names, copy), threading.Event()
-
-    def ticking():
-        while not ended.wait(1):
-            progress.tick()
-
-    ticker = threading.Thread(target=ticking)
-    ticker.start()
-    how = {"stdin": subprocess.DEVNULL, "stdout": subprocess.PIPE, "stderr": subprocess.STDOUT, "text": True}
-    with subprocess.Popen(["rt", "ci"], cwd=copy, env={**os.environ, "RT_JOBS": str(jobs())}, **how) as ran:
-        for line in ran.stdout:
-            log.write(line)
-            if (it := DONE.match(line)) and it[1] in names:
-                progress.end_of(it[1], TOLD[it[2]])
-                if it[1] in PROGRAMS and it[2] != "NOT PROVED":
-                    leave_program(copy, it[1])
-    ended.set()
-    ticker.join()
-    if sys.stdout.isatty():
-        progress.show("", end="")
-    return ran.returncode == 0
+def play():
+    """Plays the first answer of README.md."""
+    print(f"    $ printf '{GIVEN}' | bin/rt1553", flush=True)
+    said = subprocess.run([f"{TOP}/bin/rt1553"], input=GIVEN.replace("\\n", "\n"), stdout=subprocess.PIPE, text=True, check=False).stdout
+    print(f"    {said}", end="")
+    if said != f"{ANSWER}\n":
+        sys.exit(f"bin/rt1553 was to answer {ANSWER}")
 
 
-def failed(why):
-    """Ends after a failure, with the end of the log."""
-    with open(LOG, encoding="utf-8") as file:
-        print("".join(file.readlines()[-30:]), end="")
-    sys.exit(f"\n{why}. All that was printed stands in {os.path.relpath(LOG)}.")
+def build_library(build, built):
+    """Builds the library, over what `rt ci` proved in the folder, if there is one."""
+    if built:
+        build.made = {it.name: f"{built}/crates/{it.name}/out/rlib" for it in build.crates.values() if it.is_library}
+    build.prove([build.crates[LIBRARY]])
+    build.run("bash", f"{TOP}/scripts/library.sh", f"{build.made[LIBRARY]}/lib{LIBRARY}.a", f"{built or TOP}/bin/library")
+    return f"{built}/bin/library" if built else "bin/library"
 
 
-def leave_library(copy, log):
-    """Builds the library of the crates that were proved, and leaves it in bin/library."""
-    words = ["bash", f"{TOP}/scripts/library.sh", "build", copy]
-    if subprocess.run(words, stdin=subprocess.DEVNULL, stdout=log, stderr=subprocess.STDOUT, check=False).returncode:
-        log.flush()
-        failed("The library was not built")
-    shutil.rmtree(f"{TOP}/bin/library", ignore_errors=True)
-    shutil.move(f"{copy}/bin/library", f"{TOP}/bin/library")
+def build_libraries(build, folder, names):
+    """Builds what these crates stand on, or all, and links what was made to the places at which `rt ci` leaves it."""
+    above = [build.crates[it] for it in names] or build.crates.values()
+    wanted = {below for it in above for below in it.below} if names else {it for it in above if it.is_library}
+    build.prove([it for it in build.crates.values() if it in wanted])
+    for name, at in build.made.items():
+        os.makedirs(f"{folder}/crates/{name}/out")
+        os.symlink(at, f"{folder}/crates/{name}/out/rlib")
+    return "libraries"
 
 
 def main():
-    began, is_library = time.time(), sys.argv[1:] == ["library"]
-    if sys.argv[1:] and not is_library:
+    began, (word, *more) = time.time(), sys.argv[1:] or [""]
+    if word not in ("", "library", "libraries"):
         sys.exit(__doc__)
-    proved_with, kit = os.environ.get("KIT", ""), subprocess.check_output(["rt", "version"], text=True).strip()
-    if kit != proved_with:
-        print(f"This release was proved with {proved_with}; this is {kit}: every crate is proved again by it.", flush=True)
-    for folder in ("bin", "out"):
-        os.makedirs(f"{TOP}/{folder}", exist_ok=True)
-    lines = lines_needed([LIBRARY] if is_library else PROGRAMS)
-    with open(LOG, "w", encoding="utf-8", buffering=1) as log, tempfile.TemporaryDirectory() as copy:
-        copy_crates(lines, copy)
-        if not prove(list(lines), copy, log):
-            failed("Not all was proved")
-        if is_library:
-            leave_library(copy, log)
-    what = "bin/library" if is_library else "bin/rt1553 and bin/rt1553-tool"
-    print(f"{what}: {len(lines)} crates, proved by {kit}, in {minutes(time.time() - began)}.")
-    if not is_library:
-        print("Try:\n    printf 'A c 2c02\\nA gap\\nslot\\n' | bin/rt1553")
+    kept = Kept()
+    for it in ("bin", "out"):
+        os.makedirs(f"{TOP}/{it}", exist_ok=True)
+    with open(LOG, "w", encoding="utf-8", buffering=1) as log:
+        build = Build(kept, log)
+        if (proved_with := os.environ.get("KIT", build.toolchain.line)) != build.toolchain.line:
+            print(f"This version was proved with {proved_with}; this is {build.toolchain.line}: every crate is proved by it.", flush=True)
+        if word == "library":
+            what = build_library(build, "".join(more))
+        elif word == "libraries":
+            what = build_libraries(build, more[0], more[1:])
+        else:
+            what = "bin/rt1553 and bin/rt1553-tool"
+            build.prove([build.crates[it] for it in PROGRAMS])
+    of = f"{build.proved} of {len(build.all)} crates proved now, {len(build.all) - build.proved} before"
+    print(f"{what}: {of}, by {build.toolchain.line}, in {minutes(time.time() - began)}.", flush=True)
+    if not word:
+        play()
 
 
 if __name__ == "__main__":
-    main()
+    try:
+        main()
+    except KeyboardInterrupt:
+        sys.exit("\nended; what was proved is kept")

@@ -1,8 +1,7 @@
 #!/usr/bin/env bash
 # The library inside programs in C, C++, Python and Rust: scripts/callers.sh [BUILT]
 #
-# Builds the library in BUILT, a copy of this repository in which `rt ci` or `rt lib` has run, or here. Then: the tests of each
-# language; the cases of tests/vectors, random messages and the validation scripts, which a player in each language plays by the whole
+# Builds the library in BUILT, a copy of this repository in which `rt ci` has run, or here. Then: the tests of each language; the cases of tests/vectors, random messages and the validation scripts, which a player in each language plays by the whole
 # text and event by event; random scripts that are cut, and go on from saved states in another process; saved states with each byte
 # changed; each growth of memory refused in turn; 31 terminals on 31 threads; how much stack the calls take; the examples; and the
 # sessions of docs/library.md. The C programs are run under the address, undefined behaviour and thread sanitizers too, and under
@@ -76,7 +75,10 @@ python3 -m pip --version >/dev/null 2>&1
 count "python3 has pip" $?
 [[ $failed -eq 0 ]] || the_end
 
-done_by 'the library is built' bash "$top/scripts/library.sh" build "$built" || the_end
+words=(python3 "$top/scripts/build.py" library)
+# what `rt ci` left, and nothing that was kept before
+if [[ $built != "$top" ]]; then words=(env "RT1553_KEPT=$work/kept" "${words[@]}" "$built"); fi
+done_by 'the library is built' "${words[@]}" || the_end
 library=$built/bin/library
 wheel=$(echo "$library"/*.whl)
 

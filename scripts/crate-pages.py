@@ -4,18 +4,22 @@
     scripts/crate-pages.py check [ROOT]    the last line is 'N passed, M failed'
     scripts/crate-pages.py count [ROOT]    writes the line counts of docs/proofs.md anew
 
-Each crate has a README.md with the sections of SECTIONS. What stands in backticks there, in docs/proofs.md and in
-docs/architecture.md and looks like a path is a file or folder, of the crate or of the repository; what looks like a name stands in
-the code; and `crate::name` is of that crate. The Rust lines of a first use stand in a test of crates/rt1553_tests, where they are
-proved and run. In the table of docs/proofs.md whose rows begin with a specs folder the number behind each file is that of its lines.
-ROOT is the repository, by default that of this script.
+Each crate has a README.md with the sections of SECTIONS. What is in backticks there, in docs/proofs.md and in docs/architecture.md and
+looks like a path is a file or folder, of the crate or of the repository, or a must-fail edit, as `crate/name`. What looks like a name is
+in the code, or is that of an edit; and `crate::name` is of that crate. The Rust lines of a first use are in a test of
+crates/rt1553_tests, where they are proved and run. In the table of docs/proofs.md whose rows begin with a specs folder the number
+behind each file is that of its lines, and each file of specs/ outside of specs/inner is there once; what is in a folder below specs/
+counts with the file of its name. That page names just the crates of the toolchain that crates.txt names. ROOT is the repository, by
+default that of this script.
 """
+import collections
 import pathlib
 import re
 import sys
 
 SECTIONS = ["First use", "What is proved", "What is only tested", "Where to begin", "What not to break"]
-PAGES = ["docs/proofs.md", "docs/architecture.md"]
+LISTING = "docs/proofs.md"
+PAGES = [LISTING, "docs/architecture.md"]
 # folders that each crate may have, and what a build leaves
 ANY = re.compile(r"(?:src|specs|specs/inner|proofs|must-fail|must-not-compile|inner)/?|bin/.*|crates/\w+/out/.*")
 # crates that are programs or tests for one purpose: a page without sections
@@ -39,7 +43,10 @@ class Repository:
         self.root = root
         self.crates = [path.name for path in sorted((root / "crates").iterdir()) if path.is_dir()]
         self.names = {crate: self.names_of(root / "crates" / crate, "src", "specs", "proofs") for crate in self.crates}
-        self.everywhere = set().union(*self.names.values(), self.names_of(root, "scripts", "tests/model", "library"), self.crates)
+        edits = [*(root / "crates").glob("*/must-fail/*.edit")]
+        self.edits = {f"{path.parts[-3]}/{path.stem}" for path in edits}
+        others = self.names_of(root, "scripts", "tests/model", "library"), self.crates, {path.stem for path in edits}
+        self.everywhere = set().union(*self.names.values(), *others)
         tests = (root / "crates/rt1553_tests/src").rglob("*.rt")
         self.tested = plain("\n".join(path.read_text() for path in sorted(tests)))
 
@@ -69,7 +76,8 @@ def faults_of(repository, path):
         if re.search(r"NAME|\*|\s|\.\.", span) or ANY.fullmatch(span):
             continue
         if "/" in span:
-            if not repository.has_path(base, span.rstrip("/")) and re.fullmatch(r"[\w./\-]+", span):
+            is_there = repository.has_path(base, span.rstrip("/")) or span in repository.edits
+            if not is_there and re.fullmatch(r"[\w./\-]+", span):
                 yield f"no file {span}"
         elif span not in own and NAME.fullmatch(span) and not repository.has_name(span) and not repository.has_path(base, span):
             yield f"no name {span}"
@@ -106,6 +114,26 @@ def counted(repository, text):
     return text
 
 
+def unlisted(repository, text):
+    """The files of definitions that the table lacks, has twice, or has though they aren't there."""
+    named = collections.Counter((found[1].removesuffix("/specs"), name) for found in rows(text) for name, _ in COUNTED.findall(found[3]))
+    there = {(crate, path.relative_to(repository.root / "crates" / crate / "specs").parts[0].removesuffix(".antt"))
+             for crate in repository.crates for path in (repository.root / "crates" / crate / "specs").rglob("*.antt")}
+    there -= {(crate, name) for crate in repository.crates for name in ("Lib", "inner")}
+    yield from (f"the table of files lacks {name} of {crate}/specs" for crate, name in sorted(there - named.keys()))
+    yield from (f"the table of files has {name} of {crate}/specs, which isn't there" for crate, name in sorted(named.keys() - there))
+    yield from (f"the table of files has {name} of {crate}/specs twice" for (crate, name), times in sorted(named.items()) if times > 1)
+
+
+def untrusted(repository, text):
+    """The crates of the toolchain that crates.txt or the list of what is trusted has, and the other has not."""
+    lines = [line.split("#")[0].partition(":")[2] for line in (repository.root / "crates.txt").read_text().splitlines()]
+    used = {name for line in lines for name in line.split()} - set(repository.crates)
+    listed = {name for found in re.findall(r"^- The crates (.*?) of the toolchain", text, re.M | re.S) for name in spans(found)}
+    yield from (f"the list of trusted crates lacks {name}" for name in sorted(used - listed))
+    yield from (f"the list of trusted crates has {name}, which no crate uses" for name in sorted(listed - used))
+
+
 def check(repository):
     passed = failed = 0
     for crate in repository.crates:
@@ -123,6 +151,8 @@ def check(repository):
         wrong = [*faults_of(repository, path)]
         if counted(repository, path.read_text()) != path.read_text():
             wrong.append("other line counts: scripts/crate-pages.py count")
+        if page == LISTING:
+            wrong += [*unlisted(repository, path.read_text()), *untrusted(repository, path.read_text())]
         passed, failed = passed + (not wrong), failed + len(wrong)
         for text in wrong:
             print(f"{page}: {text}")
@@ -136,7 +166,7 @@ def main():
     if sys.argv[1:2] == ["check"]:
         return check(repository)
     if sys.argv[1:2] == ["count"]:
-        path = root / "docs/proofs.md"
+        path = root / LISTING
         path.write_text(counted(repository, path.read_text()))
         return 0
     print(__doc__)

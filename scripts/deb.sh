@@ -15,11 +15,12 @@ DESTDIR=$root PREFIX=/usr ZSH_FUNCTIONS=share/zsh/vendor-completions bash script
 gzip -9n "$root"/usr/share/man/man[15]/* "$root/usr/share/doc/rt1553/CHANGELOG.md"
 mv "$root"/usr/share/doc/rt1553/{CHANGELOG.md,changelog}.gz
 
-# on which packages the programs depend is asked of the programs
+# on which packages the programs and the library depend is asked of them
 mkdir -p "$work/debian" "$root/DEBIAN"
 printf 'Source: rt1553\n\nPackage: rt1553\nArchitecture: any\n' >"$work/debian/control"
-depends=$(cd "$work" && dpkg-shlibdeps -O "$root/usr/bin/rt1553" "$root/usr/bin/rt1553-tool" 2>/dev/null | sed -n 's/^shlibs:Depends=//p')
-cat >"$root/DEBIAN/control" <<END
+depends=$(cd "$work" && find "$root/usr" -path '*/share' -prune -o -type f -perm -u=x -exec dpkg-shlibdeps -O {} + 2>/dev/null | sed -n 's/^shlibs:Depends=//p')
+# programs that hold the C library depend on nothing
+sed '/^Depends: $/d' >"$root/DEBIAN/control" <<END
 Package: rt1553
 Version: $version
 Architecture: $architecture

@@ -1,7 +1,7 @@
 #!/usr/bin/env bash
 # Makes an archive of what `make build` and `make library` leave, with its pages: dist.sh [BUILT [FOLDER]]
-# BUILT is a copy of this repository in which `rt ci` and `scripts/library.sh build` have run, by default this one. The archive is
-# left in FOLDER, by default bin/, with its checksum beside it. It prints the archive's name.
+# BUILT is a copy of this repository with the same in its bin/, by default this one. The archive is left in FOLDER, by default bin/, with
+# its checksum beside it. It prints the archive's name.
 #
 # The folders are those of the repository, so that the commands of the pages can be typed in the unpacked archive. The same files make
 # the same archive, to the byte: each file has the time of the last commit, or that of SOURCE_DATE_EPOCH.
@@ -16,32 +16,19 @@ work=$(mktemp -d)
 trap 'rm -rf "$work"' EXIT
 to=$work/$name
 
-# where `make build` or `rt ci` left a program: program NAME CRATE
-program() {
-    local file
-    for file in "$built/bin/$1" "$built/crates/$2/out/$2"; do
-        if [[ -x $file ]]; then
-            echo "$file"
-            return
-        fi
-    done
-    echo "$1 isn't there: run 'make build' first" >&2
-    return 1
-}
+for file in rt1553 rt1553.o rt1553-tool rt1553-tool.o library; do
+    if [[ ! -e $built/bin/$file ]]; then
+        echo "bin/$file isn't there: run 'make build' and 'make library' first, where gcc can link statically" >&2
+        exit 1
+    fi
+done
 
-rt1553=$(program rt1553 rt1553_program)
-tool=$(program rt1553-tool rt1553_tool_program)
-if [[ ! -d $built/bin/library ]]; then
-    echo "bin/library isn't there: run 'make library' first" >&2
-    exit 1
-fi
-
-install -D -m 755 "$rt1553" "$to/bin/rt1553"
-install -D -m 755 "$tool" "$to/bin/rt1553-tool"
+install -D -m 755 -t "$to/bin" "$built"/bin/rt1553{,-tool}
+install -D -m 644 -t "$to/objects" "$built"/bin/rt1553{,-tool}.o
 tar -c -C "$built" --exclude=__pycache__ bin/library | tar -x -C "$to"
 tar -c --exclude=__pycache__ --exclude=target --exclude=arguments.toml --exclude=words.txt \
     README.md CHANGELOG.md SECURITY.md Containerfile docs editors examples library/rust manual scripts/install.sh | tar -x -C "$to"
-sed "s/@VERSION@/$version/; s/@GLIBC@/$(bash scripts/library.sh glibc "$rt1553" "$tool")/" >"$to/README.txt" <<'END'
+sed "s/@VERSION@/$version/; s/@GLIBC@/$(getconf GNU_LIBC_VERSION)/" >"$to/README.txt" <<'END'
 rt1553 @VERSION@ for Linux on x86-64
 ==============================
 
@@ -49,13 +36,21 @@ A remote terminal of MIL-STD-1553B with Notice 2: two programs, and a library fo
 Rust. README.md says what it does, docs/proofs.md says what is proved. Everything is built: you need
 no toolchain.
 
-It runs on Linux, on x86-64 processors of level v2 (nearly all since 2009), with glibc @GLIBC@ or
-later. The library needs glibc 2.17 or later, the Python package Python 3.9 or later, and the Rust
-crates cargo. On macOS, Windows and ARM use a Linux container or virtual machine for x86-64;
-Containerfile installs this archive in a container.
+The programs run on any Linux on x86-64, on processors of level v2 (nearly all since 2009), and need
+no other file. The library needs glibc 2.17 or later, the Python package Python 3.9 or later, and
+the Rust crates cargo. On macOS, Windows and ARM use a Linux container or virtual machine for
+x86-64; Containerfile makes a container of the programs.
 
-The owner has given no licence yet: all rights are reserved. SECURITY.md says where to report
-faults.
+The owner has given no licence yet: all rights are reserved. The programs hold the GNU C Library
+(@GLIBC@), whose licence is the LGPL, version 2.1 or later: https://www.gnu.org/licenses/. It asks
+who passes them on to say so, to add the text of that licence and the source of that library or an
+offer of it, and the objects with which they can be linked to a changed one, and to permit changes
+for one's own use and reverse engineering to find the faults of these. This links them:
+
+    gcc -static-pie -Wl,-z,relro,-z,now -o rt1553 objects/rt1553.o
+    gcc -static-pie -Wl,-z,relro,-z,now -o rt1553-tool objects/rt1553-tool.o
+
+SECURITY.md says where to report faults.
 
 Check that the archive is complete. This prints nothing if it is:
 
@@ -83,11 +78,12 @@ PREFIX.
 
 Install the Python package alone, in a virtual environment:
 
-    python3 -m pip install bin/library/rt1553-*.whl
+    python3 -m venv rt1553-python && rt1553-python/bin/pip install bin/library/rt1553-*.whl
 
 What is where:
 
     bin/rt1553, bin/rt1553-tool   the programs
+    objects/                      the same without the C library, to link them with another one
     bin/library/                  headers, the static and the shared library, the Python package and its wheel: docs/library.md
     library/rust/                 the crates rt1553-sys and rt1553, which find the library in bin/library
     manual/                       man pages, and completions for bash, zsh and fish

@@ -3,8 +3,9 @@
 #
 #     scripts/end-to-end.sh [BUILT]
 #
-# Runs over each program that `rt ci` or `make build` left in BUILT, a copy of this repository, or here: the
-# one that LLVM built and the one that Rattle's own compiler built. The last line is 'N passed, M failed'.
+# Runs over each program that `rt ci` left in BUILT, a copy of this repository, or `rt run` here: the one that LLVM built and the one
+# that Rattle's own compiler built. They take functions of the C library from outside, some of which are made to fail; the program that
+# is shipped is linked of the same object. The last line is 'N passed, M failed'.
 set -u
 built=$(realpath "${1:-$(dirname "$0")/..}") || exit 1
 cd "$(dirname "$0")/.." || exit 1

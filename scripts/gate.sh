@@ -1,12 +1,13 @@
 #!/usr/bin/env bash
 # The gate: every proof and test; that public contracts cite nothing of specs/inner, that nothing is there to which nothing refers,
-# that one name stands for one thing, and that the pages of crates speak of what is there; then the built programs from end to end,
-# texts with known answers, the protocol tests, random tables, the acceptance tests, the library in C, C++, Python and Rust, the archive
-# of all, links, lines, spelling and sessions of the pages, and what is installed; and beside all this the must-fail edits.
-# What an earlier run on this machine proved over the same files, if the toolchain keeps that, and the edits that it refused, are taken
-# from there; every test and program runs each time. With ANEW=1 all is proved and tried. With EDIT_MINUTES=N no edit is tried
-# later than N minutes after the start: a line tells of each crate how many are left. The line before the last says how long it took.
-# The last line, 'N passed, M failed', adds the counts of the parts.
+# that one name stands for one thing, that the pages of crates speak of what is there, and that each rule of docs/terminal.md shows in
+# its example; then the built programs from end to end, texts with known answers, the protocol tests, random tables, the acceptance
+# tests, the library in C, C++, Python and Rust, the archive of all, links, lines, spelling and sessions of the pages, and what is
+# installed; and beside all this the must-fail edits.
+# Of the must-fail edits only those are tried that tests/edits.record does not cover: the last lines say how many it covers, and the gate
+# fails where one is neither tried nor covered. Edits that an earlier run on this machine refused over the same files are not tried again,
+# but with ANEW=1. All else is proved and run from nothing each time.
+# The line before the last says how long it took. The last line, 'N passed, M failed', adds the counts of the parts.
 set -uo pipefail
 cd "$(dirname "$0")/.." || exit 1
 work=$(mktemp -d) || exit 1
@@ -19,18 +20,18 @@ built=$work/built
 mkdir "$built" || exit 1
 tar -c --exclude='crates/*/out' --exclude='crates/*/must-fail' HANDLES crates.txt crates | tar -x -C "$built" || exit 1
 
-# proves, tests and builds the copy: it has the processors first, and what is idle is the edits'
-proved() { (cd "$built" && rt ci $(anew_word)) 2>&1 | tee "$work/proofs"; }
+# the word by which a toolchain that keeps what passed takes none of it: of a program it keeps no object, which link.sh needs
+anew() { if [[ $(rt --help 2>&1) == *--anew* ]]; then echo --anew; fi; }
 
-# the word by which a toolchain that keeps proofs takes none of them, where ANEW asks for it
-anew_word() { if [[ -n ${ANEW:-} ]] && rt --help 2>&1 | grep -q -e '--anew'; then echo --anew; fi; }
+# proves, tests and builds the copy: it has the processors first, and what is idle is the edits'
+proved() { (cd "$built" && rt ci $(anew)) 2>&1 | tee "$work/proofs"; }
 
 # begins with the edits, in a group of processes of their own, which get what all else leaves of the processors: in one session
 # with the rest, since between sessions Linux shares the processors alike, however nice they are
 start_edits() {
     : >"$work/proofs"
     set -m
-    TMPDIR=$work nice -n 19 python3 scripts/must-fail.py ${ANEW:+--anew} ${EDIT_MINUTES:+--minutes "$EDIT_MINUTES"} --beside "$work/proofs" "$built" >"$work/edits" 2>&1 </dev/null &
+    TMPDIR=$work nice -n 19 python3 scripts/must-fail.py gate "$built" "$work/proofs" >"$work/edits" 2>&1 </dev/null &
     edits=$!
     set +m
 }
@@ -38,10 +39,21 @@ start_edits() {
 # ends the edits, where they are still tried
 stop_edits() { [[ -z $edits ]] || kill -- "-$edits" 2>/dev/null; }
 
-# the builds of a program, that of LLVM and that of Rattle's own compiler: builds_of NAME
+# links the programs as they are shipped, in the copy's bin/: they hold the C library
+linked() {
+    local row crate name passed=0 failed=0
+    for row in rt1553_program:rt1553 rt1553_tool_program:rt1553-tool; do
+        crate=${row%:*} name=${row#*:}
+        bash scripts/link.sh "$built/crates/$crate/out/$crate.o" "$built/bin/$name"
+        if [[ -e $built/bin/$name.o ]]; then passed=$((passed + 1)); else failed=$((failed + 1)); fi
+    done
+    echo "$passed passed, $failed failed"
+}
+
+# the builds of a program, that which is shipped and that of Rattle's own compiler: builds_of NAME CRATE
 builds_of() {
     local program
-    for program in "$built/crates/$1/out/$1"{,.by-rattle}; do
+    for program in "$built/bin/$1" "$built/crates/$2/out/$2.by-rattle"; do
         if [[ -x $program ]]; then echo "$program"; fi
     done
 }
@@ -74,11 +86,14 @@ part python3 scripts/inner.py
 part python3 scripts/unused.py
 part python3 scripts/names.py
 part python3 scripts/crate-pages.py check
+part python3 tests/model/reversed_rules.py
 # what was not proved is not run, and its edits tell nothing
 if [[ $failed -eq 0 ]]; then
+    mkdir "$built/bin"
+    part linked
     part bash scripts/end-to-end.sh "$built"
-    mapfile -t programs < <(builds_of rt1553_program)
-    mapfile -t tools < <(builds_of rt1553_tool_program)
+    mapfile -t programs < <(builds_of rt1553 rt1553_program)
+    mapfile -t tools < <(builds_of rt1553-tool rt1553_tool_program)
     part python3 scripts/texts.py "${programs[@]}"
     part python3 scripts/validation.py "${programs[@]}"
     part bash scripts/tool.sh "${tools[@]}"
@@ -92,6 +107,8 @@ if [[ $failed -eq 0 ]]; then
     wait "$edits"
     edits=
     part cat "$work/edits"
+else
+    echo 'no program was run, and the must-fail edits were not tried to the end'
 fi
 took
 echo "$passed passed, $failed failed"

@@ -71,9 +71,9 @@ def names(rows, c):
     rows.row(f"differ: another {c!r}", rows.run(rows.tool, ["differ", "five", profile]), 0, {1})
     rows.row(f"against: refused {c!r}", rows.run(rows.tool, ["acceptance", "--against", results, "five"]), 1, {2})
     rows.write(script, "A c 2c02\nA gap\nslot\n")
-    rows.row(f"verify: differs {c!r}", rows.run(rows.tool, ["verify", "--summary", "five", script]), 0, {1})
+    rows.row(f"verify: differs {c!r}", rows.run(rows.tool, ["verify", "--summary", "five", script]), 1, {1})
     for word in ["json", "junit", "html"]:
-        rows.row(f"verify --format {word}: differs {c!r}", rows.run(rows.tool, ["verify", "--format", word, "five", script]), 0, {1})
+        rows.row(f"verify --format {word}: differs {c!r}", rows.run(rows.tool, ["verify", "--format", word, "five", script]), 1, {1})
         rows.row(f"verify --format {word}: absent {c!r}", rows.run(rows.tool, ["verify", "--format", word, "five", absent]), 1, {4})
     rows.row(f"draw: a page {c!r}", rows.run(rows.tool, ["draw", "--html", "five", script]), 0, {0})
     rows.row(f"folder {c!r}", rows.run(rows.tool, ["verify", "--profiles", absent, "named"]), 1, {4})
@@ -129,11 +129,11 @@ def scripts(rows, c):
     if c == "\n":
         return
     rows.write("clause", f"# Plan: \r{c}[2Kall: 9 of 9 scripts pass\nA gap\n")
-    rows.row(f"a clause {c!r}", rows.run(rows.tool, ["verify", "--summary", "five", "clause"]), 0, {0})
+    rows.row(f"a clause {c!r}", rows.run(rows.tool, ["verify", "--summary", "five", "clause"]), 1, {0})
     rows.write("stated", f"A c 2c02\nA gap\nslot\n#> A s {c}\n#+ {c}x\n")
     rows.row(f"an answer {c!r}", rows.run(rows.tool, ["verify", "five", "stated"]), 0, {1})
     for word in ["json", "junit", "html"]:
-        rows.row(f"--format {word}: a clause {c!r}", rows.run(rows.tool, ["verify", "--format", word, "five", "clause"]), 0, {0})
+        rows.row(f"--format {word}: a clause {c!r}", rows.run(rows.tool, ["verify", "--format", word, "five", "clause"]), 1, {0})
         rows.row(f"--format {word}: an answer {c!r}", rows.run(rows.tool, ["verify", "--format", word, "five", "stated"]), 0, {1})
     rows.write("names", f"# Profile: no{c}ne\nA gap\n")
     rows.row(f"a profile {c!r}", rows.run(rows.tool, ["verify", "--profiles", ".", "names"]), 1, {4})

@@ -1,17 +1,19 @@
 #!/usr/bin/env python3
 """Tries the must-fail edits of the crates, many of them in one check.
 
-    scripts/must-fail.py [--anew] [--minutes N] [--beside LOG] BUILT [NAME..]
+    scripts/must-fail.py [NAME..]          the edits of these crates, or of all; tests/edits.record gets a line for each crate
+    scripts/must-fail.py gate BUILT LOG    the edits of the crates that the record does not cover, for the gate
 
-BUILT is a copy of this repository in which `rt ci` or `rt all check` has passed, or this one; the libraries
-are taken from there. Or `rt ci` is still at work there, and LOG is the file of what it prints: then a crate's turn comes
-when what it stands on is proved. With no NAME the edits of all crates are tried. With --minutes all checks end that long after the
-start: a line tells of each crate how many edits are left, which count neither as passed nor as failed. The last line is
-'N passed, M failed'.
+The record begins with the toolchain and the last run over all crates; then it has for each crate a sum of all that its edits rest on,
+and how many of them were refused. The sum is that of the edits, of the crate's files and line of crates.txt, and of those of all crates
+below. Where it is the same and all were refused, the gate takes the record's word; else it tries them. It fails where the record is of
+another toolchain. The last line is 'N passed, M failed': the edits that were tried, and the crates that the record covers.
 
-A refusal is kept outside the checkout, in ~/.cache/rt1553/refused, by a sum of all that it depends on: the edit, the
-crate and the crates below it with their lines of crates.txt, this script and the toolchain. An edit of which one is kept is not
-tried again; with --anew each edit is. Nothing else is kept: an edit that was not refused is tried each time.
+For the gate, `rt ci` is at work in BUILT, a copy of this repository, and LOG is the file of what it prints: a crate's turn comes when
+what it stands on is proved. Else scripts/build.py gives the libraries. Each refusal is kept in ~/.cache/rt1553/refused, by the
+same sum and the edit, so that a run that was ended goes on where it was; with ANEW=1 each edit is tried.
+
+An edit has a line that begins with `input: `, for which input the wrong body answers otherwise, or `seed: `, of which random script.
 
 `rt must-fail` checks the crate once for each edit, and most of that time goes into reading the libraries and
 proving the same functions again. Here one check has all wrong bodies of a crate, each in a copy of its function:
@@ -36,7 +38,6 @@ proof is all by hand has none: that proof must be refused.
 An edit of a crate's must-not-compile/ is one that the compiler must refuse before the prover is asked: it begins
 with a line `error: NAME`, and the check must tell one error, of that name.
 """
-import argparse
 import hashlib
 import os
 import re
@@ -52,10 +53,15 @@ from typing import NamedTuple, Optional
 
 TOP = os.path.dirname(os.path.dirname(os.path.realpath(__file__)))
 PARTS = ("src", "specs", "proofs")
+RECORD = f"{TOP}/tests/edits.record"
+# to be changed where a change of this script can change what counts as refused: then no record and no kept refusal is good
+RULE = "1"
 # the comment, the attributes and the first line of a function; and the first line of a block of methods: its trait, if it
 # has one, and its type
 HEAD = re.compile(r"^(?: *(?:///|#\[).*\n)*( *)(?:pub(?:\(\w+\))? )?(?:const )?(?:unsafe )?(?:extern \"C\" )?fn (\w+)", re.M)
 OWNER = re.compile(r"^( *)(?:impl(?:<.*?>)? (?:(.+) for )?|(?:pub )?trait )(\w+).* \{$", re.M)
+# the line of an edit that says where its body answers otherwise
+SAYS_WHERE = re.compile(r"^(input|seed): \S", re.M)
 # an error in an answer by hand: the file, and the answer's name; and one for answers that name such an answer: their names
 UNFIT = re.compile(r"^(?:\./)?(proofs/\S+/Answers\.antt):\d+:\d+: error: `([^`]+)`: ")
 UNREAD = re.compile(r"^(?:\./)?(proofs/\S+/Answers\.antt):\d+:\d+: error: \d+ declarations? that depends? on .* not checked: (.+)$")
@@ -108,11 +114,11 @@ class Function(NamedTuple):
 
 
 class Edit(NamedTuple):
-    """An edit: its own text, the files as it leaves them, or why it can't be applied. Where it changes one body: which, and
-    to what. Where the compiler must refuse it: the name of the error."""
+    """An edit: the lines of it that change something, the files as it leaves them, or why it can't be applied. Where it changes one
+    body: which, and to what. Where the compiler must refuse it: the name of the error."""
 
     label: str
-    text: str
+    lines: list
     texts: dict
     fault: str
     function: Optional[Function]
@@ -246,34 +252,40 @@ def files_below(folder):
     return sorted(f"{at}/{it}" for at, _, files in os.walk(folder) for it in files)
 
 
-class Refused:
-    """The edits that were refused before, each as an empty file named by the sum of all that the refusal depends on."""
+def sum_of(*parts):
+    """A sum of these."""
+    return hashlib.sha256(repr(parts).encode()).hexdigest()
 
-    def __init__(self, deps, kit, anew):
-        self.deps, self.anew, self.sums = deps, anew, {}
-        self.folder = Path(os.environ.get("XDG_CACHE_HOME") or Path.home() / ".cache") / "rt1553" / "refused"
-        # of the toolchain its name, and the size and the time of each file that a check reads
-        files = [it for part in ("bin", "logic_built", "rlibs", "toolchain") for it in files_below(f"{kit}/{part}")]
-        stats = [(it, found.st_size, found.st_mtime_ns) for it in files for found in [os.stat(it)]]
-        self.base = (subprocess.check_output(["rt", "version"], text=True), stats, read(__file__))
 
-    def sum_of(self, name):
-        """The sum of a crate's text and of all that is below it."""
-        if name not in self.sums:
+class Sums:
+    """What stands below each crate, sums of all that a refusal depends on, and the edits that were refused before: an empty file
+    for each, named by such a sum."""
+
+    def __init__(self, deps, line):
+        # the toolchain's line, and the sum of each crate's files and of those below it
+        self.deps, self.line, self.crates = deps, line, {}
+        cache = os.environ.get("XDG_CACHE_HOME") or os.path.expanduser("~/.cache")
+        self.folder = Path(os.environ.get("RT1553_KEPT") or f"{cache}/rt1553") / "refused"
+
+    def of_crate(self, name):
+        """The sum of a crate's files and of all that is below it."""
+        if name not in self.crates:
             files = [it for part in PARTS for it in files_below(f"{TOP}/crates/{name}/{part}")]
             own = [(os.path.relpath(it, TOP), read(it)) for it in files]
-            below = [self.sum_of(it) for it in self.deps[name] if it in self.deps]
-            whole = repr((self.base, name, self.deps[name], own, below))
-            self.sums[name] = hashlib.sha256(whole.encode()).hexdigest()
-        return self.sums[name]
+            self.crates[name] = sum_of(RULE, name, self.deps[name], own, [self.of_crate(it) for it in self.deps[name] if it in self.deps])
+        return self.crates[name]
+
+    def of_edits(self, crate):
+        """The sum of a crate with all its edits."""
+        return sum_of(self.of_crate(crate.name), [(it.label, it.lines) for it in crate.edits])[:16]
 
     def place(self, crate, edit):
         """The file that stands where this edit of the crate was refused."""
-        return self.folder / hashlib.sha256(repr((self.sum_of(crate), edit.label, edit.text)).encode()).hexdigest()
+        return self.folder / sum_of(self.line, self.of_crate(crate.name), edit.lines)
 
     def has(self, crate, edit):
         """Whether the edit was refused before."""
-        return not self.anew and self.place(crate, edit).is_file()
+        return not os.environ.get("ANEW") and self.place(crate, edit).is_file()
 
     def keep(self, crate, edit):
         """Keeps that the edit was refused."""
@@ -281,13 +293,45 @@ class Refused:
         self.place(crate, edit).touch()
 
 
+class Record:
+    """tests/edits.record: the toolchain, what is said of the last run over all crates, and for each crate what was noted of it."""
+
+    def __init__(self, sums):
+        self.sums, self.lock = sums, threading.Lock()
+        first, *lines = read(RECORD).splitlines() if os.path.isfile(RECORD) else [""]
+        self.toolchain, _, self.whole = first.partition("; ")
+        self.crates = dict(it.split(maxsplit=1) for it in lines)
+
+    def noted(self, crate, refused):
+        """What is noted of a crate, of whose edits so many were refused."""
+        return f"{self.sums.of_edits(crate)} {refused} of {len(crate.edits)}"
+
+    def covers(self, crate):
+        """Whether the record says that all edits of the crate, as it is, were refused; an edit that can't be tried is not covered."""
+        is_noted = self.crates.get(crate.name) == self.noted(crate, len(crate.edits))
+        return is_noted and not os.environ.get("ANEW") and not any(it.fault for it in crate.edits)
+
+    def note(self, crate, refused):
+        """Writes the line of a crate whose edits were all tried."""
+        with self.lock:
+            if self.toolchain != self.sums.line:
+                self.toolchain, self.whole, self.crates = self.sums.line, "no run over all crates", {}
+            self.crates[crate.name] = self.noted(crate, refused)
+            self.write()
+
+    def write(self):
+        """Writes the record."""
+        lines = [f"{self.toolchain}; {self.whole}", *[f"{it} {self.crates[it]}" for it in self.sums.deps if it in self.crates]]
+        with open(f"{RECORD}.new", "w", encoding="utf-8") as it:
+            it.write("".join(f"{line}\n" for line in lines))
+        os.replace(f"{RECORD}.new", RECORD)
+
+
 class Crate:
     """A crate, its edits, and a room in which the prover keeps what it checked from one check to the next."""
 
-    def __init__(self, name, deps, built, kit, room, refused, ends):
-        self.name, self.deps, self.built, self.kit, self.room, self.refused = name, deps, built, kit, room, refused
-        # when no check may go on, by the clock that only goes forward; None where each may take its time
-        self.ends = ends
+    def __init__(self, name, built, kit, room, sums):
+        self.name, self.deps, self.built, self.kit, self.room, self.sums = name, sums.deps, built, kit, room, sums
         # how many checks there were so far
         self.checks = 0
         self.folder = f"{TOP}/crates/{name}"
@@ -303,8 +347,10 @@ class Crate:
         """The edit of a file."""
         text = read(path)
         texts, fault = applied(text, self.folder)
+        fault = fault or ("" if SAYS_WHERE.search(text) else "no line begins with 'input: ' or 'seed: '")
         error = text.split("\n")[0].removeprefix("error: ") if "/must-not-compile/" in path else ""
-        return Edit(f"{self.name}/{os.path.basename(path)}", text, texts, fault, *changed_body(texts, self.folder), error)
+        lines = re.findall(r"^(?:error|file|old|new):.*", text, re.M)
+        return Edit(f"{self.name}/{os.path.basename(path)}", lines, texts, fault, *changed_body(texts, self.folder), error)
 
     def size(self):
         """How many bytes the crate has: how long its checks take, roughly."""
@@ -346,8 +392,7 @@ class Crate:
             with open(f"{place}/{file}", "w", encoding="utf-8") as it:
                 it.write(text)
         how = {"stdin": subprocess.DEVNULL, "stdout": subprocess.PIPE, "stderr": subprocess.STDOUT, "errors": "replace"}
-        left = self.ends and max(0, self.ends - time.monotonic())
-        return Answer(subprocess.run(self.words(only), cwd=place, timeout=left, **how))
+        return Answer(subprocess.run(self.words(only), cwd=place, check=False, **how))
 
     def refused_by_contracts(self, given, only=()):
         """What the prover says of the crate, or of some of it, with these texts, once the answers by hand that don't fit
@@ -438,14 +483,14 @@ class Crate:
 
     def tried(self):
         """Each edit's label, whether it is refused, and why."""
-        kept = {it.label for it in self.edits if self.refused.has(self.name, it)}
-        bodies = [it for it in self.edits if it.function and not it.error and it.label not in kept]
+        kept = {it.label for it in self.edits if self.sums.has(self, it)}
+        bodies = [it for it in self.edits if it.function and not it.error and not it.fault and it.label not in kept]
         refused = self.tried_together(bodies) if bodies else {}
         for it in self.edits:
-            if it.label in kept:
-                yield it.label, True, "kept from an earlier run over the same files"
-            elif it.fault:
+            if it.fault:
                 yield it.label, False, f"BAD EDIT: {it.fault}"
+            elif it.label in kept:
+                yield it.label, True, "kept from an earlier run over the same files"
             elif it.error:
                 yield it.label, *self.not_compiled(it)
             elif said := refused.get(it.label) or self.tried_in_place(it):
@@ -456,18 +501,14 @@ class Crate:
 
 def tried(crate):
     """Tries the edits of a crate and prints a line for each. Returns how many were refused, and how many were not."""
-    began = time.monotonic()
-    verdicts = []
-    try:
-        for edit, (label, is_refused, why) in zip(crate.edits, crate.tried()):
-            if is_refused:
-                crate.refused.keep(crate.name, edit)
-            print(f"must-fail {label}: {'refused: ' if is_refused else ''}{why[:240]}", flush=True)
-            verdicts.append(is_refused)
-    except subprocess.TimeoutExpired:
-        print(f"note: {crate.name}: {len(crate.edits) - len(verdicts)} edits NOT TRIED: no time was left", flush=True)
-    print(f"note: {crate.name}: {len(verdicts)} edits in {crate.checks} checks, {time.monotonic() - began:.0f} s", flush=True)
-    return sum(verdicts), len(verdicts) - sum(verdicts)
+    began, refused = time.monotonic(), 0
+    for edit, (label, is_refused, why) in zip(crate.edits, crate.tried()):
+        if is_refused:
+            crate.sums.keep(crate, edit)
+        print(f"must-fail {label}: {'refused: ' if is_refused else ''}{why[:240]}", flush=True)
+        refused += is_refused
+    print(f"note: {crate.name}: {len(crate.edits)} edits in {crate.checks} checks, {time.monotonic() - began:.0f} s", flush=True)
+    return refused, len(crate.edits) - refused
 
 
 def listed_crates():
@@ -478,12 +519,11 @@ def listed_crates():
 
 
 class Work:
-    """The crates whose edits are still to be tried, the longest first, or where not all may have time the shortest first; and the file
-    of what `rt ci` prints meanwhile, or ''."""
+    """The crates whose edits are still to be tried, the longest first, the record in which each is noted, or None, and the file of what
+    `rt ci` prints meanwhile, or ''."""
 
-    def __init__(self, crates, log, ends):
-        self.left, self.log, self.lock = sorted(crates, key=Crate.size, reverse=not ends), log, threading.Lock()
-        self.ends = ends
+    def __init__(self, crates, record, log):
+        self.left, self.record, self.log, self.lock = sorted(crates, key=Crate.size, reverse=True), record, log, threading.Lock()
 
     def is_ready(self, crate):
         """Whether the libraries that a crate stands on are there, or will never be."""
@@ -493,8 +533,8 @@ class Work:
         return all(f"\nrt: {it} proved\n" in said for it in crate.deps[crate.name] if it in crate.deps)
 
     def taken(self):
-        """The first of those that are ready, once there is one; or None, where no crate is left or no time."""
-        while self.left and not (self.ends and time.monotonic() > self.ends):
+        """The first of those that are ready, once there is one; or None, where no crate is left."""
+        while self.left:
             with self.lock:
                 if crate := next((it for it in self.left if self.is_ready(it)), None):
                     self.left.remove(crate)
@@ -507,37 +547,61 @@ class Work:
         counts = [(0, 0)]
         while crate := self.taken():
             counts.append(tried(crate))
+            if self.record:
+                self.record.note(crate, counts[-1][0])
         return [sum(it) for it in zip(*counts)]
 
 
 def lanes():
-    """How many checks run side by side: one a processor, where there are 6 GiB of memory for each. A check takes up to 3, and
-    `rt ci` may have as many beside."""
+    """How many checks run side by side: one a processor, or as RT_JOBS says, where there are 6 GiB of memory for each. A check takes up
+    to 3, and `rt ci` may have as many beside."""
     memory = os.sysconf("SC_PAGE_SIZE") * os.sysconf("SC_PHYS_PAGES")
-    return max(1, min(len(os.sched_getaffinity(0)), round(memory / (6 << 30))))
+    return int(os.environ.get("RT_JOBS") or max(1, min(len(os.sched_getaffinity(0)), round(memory / (6 << 30)))))
+
+
+def all_tried(crates, record, log):
+    """Tries the edits of all these crates. Returns how many were refused, and how many were not."""
+    work = Work(crates, record, log)
+    with ThreadPoolExecutor(lanes()) as pool:
+        counts = [pool.submit(work.done) for _ in range(lanes())]
+    return [sum(it) for it in zip(*(it.result() for it in counts))]
+
+
+def for_gate(crates, record, log):
+    """Tries the edits that the record does not cover. Returns how many rows passed, and how many failed."""
+    if record.toolchain != record.sums.line:
+        print(f"FAILED: tests/edits.record is of {record.toolchain or 'no toolchain'}, and this is {record.sums.line}: run `make edits`")
+        return 0, 1
+    covered = [it for it in crates if record.covers(it)]
+    passed, failed = all_tried([it for it in crates if it not in covered], None, log)
+    count = sum(len(it.edits) for it in covered)
+    print(f"{passed + failed} edits were tried; {count}, in {len(covered)} crates, were not: tests/edits.record has that they were refused, over the same files")
+    return passed + len(covered), failed
+
+
+def for_record(crates, names, record, built):
+    """Tries the edits of these crates, and notes what was refused. Returns how many were, and how many were not."""
+    subprocess.run([sys.executable, f"{TOP}/scripts/build.py", "libraries", built, *names], check=True)
+    began = time.monotonic()
+    passed, failed = all_tried(crates, record, "")
+    if not names:
+        record.whole = f"all crates: {passed} of {passed + failed} refused, in {(time.monotonic() - began) / 60:.0f} minutes"
+        record.write()
+    return passed, failed
 
 
 def main():
-    words = argparse.ArgumentParser(description=__doc__.split("\n", maxsplit=1)[0])
-    words.add_argument("--anew", action="store_true")
-    words.add_argument("--minutes", type=float, metavar="N")
-    words.add_argument("--beside", metavar="LOG", default="")
-    words.add_argument("built")
-    words.add_argument("names", nargs="*")
-    asked = words.parse_args()
-    deps = listed_crates()
+    gate, names = sys.argv[2:] if sys.argv[1:2] == ["gate"] else [], sys.argv[1:]
+    sums = Sums(listed_crates(), subprocess.check_output(["rt", "version"], text=True).strip())
+    if not gate and not {*names} <= {*sums.deps}:
+        sys.exit(__doc__)
     # the toolchain's first page stands at its top
     kit = os.path.dirname(subprocess.check_output(["rt", "doc"], text=True).strip())
-    refused = Refused(deps, kit, asked.anew)
-    ends = asked.minutes and time.monotonic() + 60 * asked.minutes
     with tempfile.TemporaryDirectory() as room:
-        crates = [Crate(it, deps, os.path.realpath(asked.built), kit, f"{room}/{it}", refused, ends) for it in asked.names or deps]
-        work = Work([it for it in crates if it.edits], asked.beside, ends)
-        with ThreadPoolExecutor(lanes()) as pool:
-            counts = [pool.submit(work.done) for _ in range(lanes())]
-        passed, failed = (sum(it) for it in zip(*(it.result() for it in counts)))
-        for crate in work.left:
-            print(f"note: {crate.name}: {len(crate.edits)} edits NOT TRIED: no time was left")
+        built = os.path.realpath(gate[0] if gate else f"{room}/built")
+        crates = [Crate(it, built, kit, f"{room}/{it}", sums) for it in (names if names and not gate else sums.deps)]
+        crates, record = [it for it in crates if it.edits], Record(sums)
+        passed, failed = for_gate(crates, record, gate[1]) if gate else for_record(crates, names, record, built)
     print(f"{passed} passed, {failed} failed")
     return 1 if failed or not passed else 0
 

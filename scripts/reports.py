@@ -54,13 +54,18 @@ def run(tool, folder, *words):
 
 # what the text format tells
 
+# how a warning of a script ends
+WARNINGS = (": warning: the script has no event", ": warning: the script states no answer")
+
 
 class Told:
     """What `verify --summary` prints of scripts, one of which is printed under each of these names, and what it ends with."""
 
     def __init__(self, done, names):
-        lines, faults = done.stdout.decode().split("\n")[:-1], done.stderr.decode().split("\n")[:-1]
-        self.status, self.faults = done.returncode, faults
+        lines, told = done.stdout.decode().split("\n")[:-1], done.stderr.decode().split("\n")[:-1]
+        self.status, self.told = done.returncode, told
+        self.warnings = [line for line in told if line.endswith(WARNINGS)]
+        self.faults = [line for line in told if not line.endswith(WARNINGS)]
         self.passed, self.wrong, self.clauses = {}, {name: [] for name in names}, []
         for line in lines:
             name = next((name for name in sorted(names, key=len, reverse=True) if line.startswith(f"{name}:")), None)
@@ -102,7 +107,7 @@ def look_at_json(text, told, names, profile):
     found = objects_of(text)
     for one in found:
         must(not (wrong := list(schema.misfits(one, wanted, "it"))), f"the schema: {wrong}")
-        same(list(one), ["file", "profile", "passes", "answers", "clauses", "differences", "fault"], "the keys")
+        same(list(one), ["file", "profile", "passes", "answers", "warning", "clauses", "differences", "fault"], "the keys")
     same([one["file"] for one in found], names, "the files")
     for one in found:
         name = shown(one["file"])
@@ -115,6 +120,7 @@ def look_at_json(text, told, names, profile):
         if profile:
             same(one["profile"], profile, "the profile")
     same([one["fault"] for one in found if one["fault"]], told.faults, "the faults")
+    same([f"{shown(one['file'])}: warning: {one['warning']}" for one in found if one["warning"]], told.warnings, "the warnings")
     same(sorted(summed(found)), sorted(told.clauses), "the clauses")
     return found
 
@@ -152,7 +158,7 @@ def look_at_junit(text, found):
         name = shown(one["file"])
         same(case.attrib, {"name": name, "classname": "no profile" if one["profile"] is None else shown(one["profile"]), "time": "0"}, "a test case")
         same([it.attrib for it in case.findall("properties/property")], [{"name": "clause", "value": it} for it in one["clauses"]], "the clauses")
-        kinds = ["properties"] * bool(one["clauses"]) + ["failure"] * bool(one["differences"]) + ["error"] * bool(one["fault"])
+        kinds = ["properties"] * bool(one["clauses"]) + ["failure"] * bool(one["differences"]) + ["error"] * bool(one["fault"]) + ["system-err"] * bool(one["warning"])
         same([it.tag for it in case], kinds, "the elements of a test case")
         if one["differences"]:
             failure = case.find("failure")
@@ -160,6 +166,8 @@ def look_at_junit(text, found):
             same(failure.text, "".join(f"{name}:{it['line']}: {in_words(it)}\n" for it in one["differences"]), "the text of a failure")
         if one["fault"]:
             same(case.find("error").attrib, {"message": one["fault"]}, "an error")
+        if one["warning"]:
+            same(words_of(case.find("system-err")), f"warning: {one['warning']}", "a warning")
 
 
 # HTML
@@ -218,6 +226,9 @@ def look_at_page(text, found, clauses):
             ["scripts refused or not read", sum(bool(one["fault"]) for one in found)], ["answers stated", sum(one["answers"] or 0 for one in found)]]
     same(rows_in(tables[0]), [["profiles", "".join(profiles)], *([what, str(count)] for what, count in rows)], "what was tested")
     same(rows_in(tables[1]), [["clause", "passed", "of"], *([clause, str(a), str(b)] for clause, a, b in clauses)], "the clauses")
+    warned = [f"{shown(one['file'])}: {one['warning']}" for one in found if one["warning"]]
+    same([words_of(it) for it in body.findall(f"{HTML}p") if words_of(it) in warned], warned, "the warnings")
+    same("Warnings" in [words_of(it) for it in body.findall(f"{HTML}h2")], bool(warned), "whether there are warnings")
     others = [one for one in found if not one["passes"]]
     same([words_of(it) for it in body.findall(f"{HTML}h3")], [shown(one["file"]) for one in others], "the scripts that do not pass")
     wrong = [one for one in others if one["differences"]]
@@ -298,7 +309,7 @@ class Rows:
         told = Told(run(self.tool, folder, "verify", "--summary", *words, *names), [shown(name) for name in names])
         done = {it: run(self.tool, folder, "verify", "--format", it, *words, *names) for it in FORMATS}
         for it in FORMATS:
-            self.row(f"{what}: {it}: status and faults", lambda it=it: same((done[it].returncode, done[it].stderr.decode().split("\n")[:-1]), (told.status, told.faults), it))
+            self.row(f"{what}: {it}: status and faults", lambda it=it: same((done[it].returncode, done[it].stderr.decode().split("\n")[:-1]), (told.status, told.told), it))
         found = []
         self.row(f"{what}: json", lambda: found.extend(look_at_json(done["json"].stdout.decode(), told, names, profile)))
         self.row(f"{what}: junit", lambda: look_at_junit(done["junit"].stdout.decode(), found))
@@ -321,12 +332,12 @@ def plain(rows):
     def json_to_the_byte():
         done = run(rows.tool, rows.folder, "verify", "--format", "json", "five", *names)
         same(done.returncode, 4, "the status")
-        same(done.stdout.decode(), '{"file":"good","profile":"five","passes":true,"answers":1,"clauses":["5.2.1","5.2.1.1"],"differences":[],"fault":null}\n'
-             '{"file":"wrong","profile":"five","passes":false,"answers":3,"clauses":["5.2.1"],"differences":['
+        same(done.stdout.decode(), '{"file":"good","profile":"five","passes":true,"answers":1,"warning":null,"clauses":["5.2.1","5.2.1.1"],"differences":[],"fault":null}\n'
+             '{"file":"wrong","profile":"five","passes":false,"answers":3,"warning":null,"clauses":["5.2.1"],"differences":['
              '{"line":4,"expected":"A s 2c00","came":"A s 2800"},{"line":6,"expected":"A d 0000","came":null},{"line":15,"expected":null,"came":"A s 2800"}],"fault":null}\n'
-             '{"file":"broken","profile":"five","passes":false,"answers":null,"clauses":[],"differences":[],'
+             '{"file":"broken","profile":"five","passes":false,"answers":null,"warning":null,"clauses":[],"differences":[],'
              '"fault":"broken: script: line 3, column 5: a space at the end: nothing may follow the last field"}\n'
-             '{"file":"none","profile":"five","passes":false,"answers":null,"clauses":[],"differences":[],"fault":"file: cannot read none"}\n', "the text")
+             '{"file":"none","profile":"five","passes":false,"answers":null,"warning":null,"clauses":[],"differences":[],"fault":"file: cannot read none"}\n', "the text")
 
     def junit_to_the_byte():
         done = run(rows.tool, rows.folder, "verify", "--format", "junit", "five", "good", "wrong", "none")
@@ -342,6 +353,8 @@ def plain(rows):
     # the message of lines 9 to 11 is as stated, so it is not drawn
     rows.row("the messages that are drawn", lambda: same(drawn_lines(page, "wrong"), [2, 3, 4, 6, 8, 13, 14, 15], "the lines"))
     rows.verified("nothing differs", ["five"], ["good"], "five")
+    rows.write("empty", "# a comment\n")
+    rows.verified("scripts that show nothing", ["five"], ["empty", rows.write("unstated", "A gap\n"), "good"], "five")
     rows.verified("a script that is refused alone", ["five"], ["broken"], "five")
     for it in FORMATS:
         done = run(rows.tool, rows.folder, "verify", "--summary", "--format", it, "five", "good")

@@ -23,8 +23,9 @@ import textwrap
 
 TOP = pathlib.Path(__file__).resolve().parent.parent
 NOT_PLAYED = {
-    r"make build\b": "proves for many minutes; the programs that it leaves are those that are played",
+    r"make( build)?$": "proves for many minutes; the programs that it leaves are those that are played",
     r"make test\b": "is what plays this",
+    r"make (try|edits|dist)\b": "takes minutes",
     r"(sudo )?make (un)?install\b": "writes into the system; scripts/first-hour.sh installs into a folder of its own",
     r"make library\b": "proves for many minutes",
     r"make bench\b|(bash|python3) bench/": "measures for minutes",

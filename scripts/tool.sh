@@ -41,6 +41,15 @@ input() { printf %b "$1" >"$work/stdin"; }
 # a script of this name in the folder of the test
 script() { printf %b "$2" >"$work/$1"; }
 
+# what `verify` warns of in a script: that it shows nothing, where it does
+warning() {
+    if ! grep -q '^[^#]' "$1"; then
+        echo "$1: warning: the script has no event"
+    elif ! grep -q '^#[>~]' "$1"; then
+        echo "$1: warning: the script states no answer"
+    fi
+}
+
 # whether a script of a folder passes, by the profile that its first line names
 passes() {
     local folder=$1 path=$2 profile
@@ -49,14 +58,14 @@ passes() {
     [[ -f $folder/profiles/$profile ]] || profile=$top/examples/validation/profiles/$profile
     [[ -f $profile ]] || profile=$folder/profiles/$profile
     "$program" verify "$profile" "$path" </dev/null >"$work/stdout" 2>"$work/stderr" &&
-        [[ ! -s $work/stdout && ! -s $work/stderr ]]
+        [[ ! -s $work/stdout && $(cat "$work/stderr") == "$(warning "$path")" ]]
 }
 
 # whether the broken copy of a script differs at this event alone, by this stated and this given answer:
 # differs NAME PATH LINE EXPECTED CAME
 differs() {
     "$program" verify "$profile" "$work/broken.script" </dev/null >"$work/stdout" 2>"$work/stderr"
-    [[ $? -eq 1 && ! -s $work/stderr && $(head -n 1 "$work/stdout") == "$work/broken.script:$3: expected $4, came $5" &&
+    [[ $? -eq 1 && $(cat "$work/stderr") == "$(warning "$work/broken.script")" && $(head -n 1 "$work/stdout") == "$work/broken.script:$3: expected $4, came $5" &&
         $(tail -n +2 "$work/stdout") == "$work/broken.script: differences: 1" ]]
     count "$1: ${2##*/}" $?
 }
@@ -124,13 +133,14 @@ summary_rows() {
     row 'no script is named' 3 '' 'arguments: see --help\n' verify --profiles folder
     script list '# Profile: five.toml\n# Plan: 1, 1, 2, ,all\n'
     row 'a clause named twice, an empty one, and one called all' 0 \
-        'list: passed (answers: 0)\nclause 1: 1 of 1 scripts pass\nclause 2: 1 of 1 scripts pass\nclause all: 1 of 1 scripts pass\nall: 1 of 1 scripts pass\n' '' \
-        verify --summary --profiles folder list
+        'list: passed (answers: 0)\nclause 1: 1 of 1 scripts pass\nclause 2: 1 of 1 scripts pass\nclause all: 1 of 1 scripts pass\nall: 1 of 1 scripts pass\n' \
+        'list: warning: the script has no event\n' verify --summary --profiles folder list
     script outside '# Profile: ../five\n'
     row 'a profile outside of the folder' 2 '' 'outside: script: the profile that it names is outside the folder\n' verify --profiles folder outside
-    # the protocol tests, by the command that their page tells
+    # the protocol tests, by the command that their page tells; in one of them the terminal has no answer to give
     (cd "$top" && "$program" verify --summary --profiles examples/validation/profiles examples/validation/{scripts,choices}/*.script) \
-        >"$work/stdout" 2>"$work/stderr" </dev/null && [[ ! -s $work/stderr ]] &&
+        >"$work/stdout" 2>"$work/stderr" </dev/null &&
+        [[ $(cat "$work/stderr") == 'examples/validation/scripts/5.2.1.1.1_other_terminals.script: warning: the script states no answer' ]] &&
         [[ $(tail -n 1 "$work/stdout") == 'all: 154 of 154 scripts pass' ]] &&
         grep -q '^clause 5.2.1.1.1: 9 of 9 scripts pass$' "$work/stdout"
     count 'a summary of the protocol tests' $?
@@ -185,11 +195,14 @@ names_rows() {
     row 'differ with names' 1 \
         'receive 3 "settings":                     counts 4,8 in named.toml, 5 in changed.toml\ntransmit 2,6 "速度", "short", "long":     counts 4 → 3\nmode code 19 (transmit BIT word) "words": legal in named.toml alone\nword 2 of subaddress 2 "速度":            0002 in named.toml, 0003 in changed.toml\n' '' \
         differ --names names.csv named.toml changed.toml
+    sed s/address,5/address,6/ "$work/names.csv" >"$work/six.csv"
+    (cd "$work" && "$program" explain --names six.csv named.toml </dev/null >stdout 2>stderr) && grep -qx 'six.csv: warning: a table for address 6, and a profile for another' "$work/stderr"
+    count 'names of a table for another address' $?
     row 'verify with names' 1 \
         'v:4: "settings": expected nothing, came hand receive own 03 0001 0002\nv:5: "settings": expected A s 2c00, came A s 2800\nv:9: expected A s 2800, came A s 2c00\nv: differences: 3\n' '' \
         verify --names names.csv named.toml v
     row 'verify with names, as JSON' 1 \
-        '{"file":"v","profile":"named.toml","passes":false,"answers":2,"clauses":[],"differences":[{"line":4,"name":"settings","expected":null,"came":"hand receive own 03 0001 0002"},{"line":5,"name":"settings","expected":"A s 2c00","came":"A s 2800"},{"line":9,"name":null,"expected":"A s 2800","came":"A s 2c00"}],"fault":null}\n' '' \
+        '{"file":"v","profile":"named.toml","passes":false,"answers":2,"warning":null,"clauses":[],"differences":[{"line":4,"name":"settings","expected":null,"came":"hand receive own 03 0001 0002"},{"line":5,"name":"settings","expected":"A s 2c00","came":"A s 2800"},{"line":9,"name":null,"expected":"A s 2800","came":"A s 2c00"}],"fault":null}\n' '' \
         verify --names names.csv --format json named.toml v
     row 'verify with names, as JUnit' 1 \
         '<?xml version="1.0" encoding="UTF-8"?>\n<testsuites tests="1" failures="1" errors="0" skipped="0" time="0">\n<testsuite name="rt1553-tool verify" tests="1" failures="1" errors="0" skipped="0" time="0">\n<testcase name="v" classname="named.toml" time="0">\n<failure message="differences: 3">v:4: &quot;settings&quot;: expected nothing, came hand receive own 03 0001 0002\nv:5: &quot;settings&quot;: expected A s 2c00, came A s 2800\nv:9: expected A s 2800, came A s 2c00\n</failure>\n</testcase>\n</testsuite>\n</testsuites>\n' '' \
@@ -311,7 +324,8 @@ mask_rows() {
     row 'the same on the bus alone' 0 '' '' verify --bus-only receiver bus
     row 'a hand-over that is stated, on the bus alone' 1 \
         'stated:4: expected hand receive own 03 0001 00ae, came hand receive own 03 0001 00af\nstated: differences: 1\n' '' verify --bus-only receiver stated
-    row 'a word that is not stated, on the bus alone' 1 'silent_bus:5: expected nothing, came A s 2800\nsilent_bus: differences: 1\n' '' \
+    row 'a word that is not stated, on the bus alone' 1 'silent_bus:5: expected nothing, came A s 2800\nsilent_bus: differences: 1\n' \
+        'silent_bus: warning: the script states no answer\n' \
         verify --bus-only receiver silent_bus
 }
 
@@ -329,13 +343,19 @@ verify_rows() {
     script hand 'A c 2c02\nA gap\n#> A s 2800\nslot\n'
     script slot 'A c 2c02\nA gap\nslot\n#> hand sync\n'
     script on 'A c 2c02\nA gap\nslot\n#+ A s 2800\n'
+    script idle '# Nothing happens.\n\n'
     script halves 'A c 2c02\nA gap\nslot\n#> A s\n#| nothing\n#+ 2800\n'
     input ''
     row 'nothing differs' 0 '' '' verify five good
     row 'an answer in two parts' 0 '' '' verify five halves
     row 'two events differ' 1 'wrong:3: expected A s 2c00, came A s 2800\nwrong:5: expected A d 0000, came nothing\nwrong: differences: 2\n' '' \
         verify five good wrong good
-    row 'an answer that is not stated' 1 'silent:3: expected nothing, came A s 2800\nsilent: differences: 1\n' '' verify five silent
+    row 'an answer that is not stated' 1 'silent:3: expected nothing, came A s 2800\nsilent: differences: 1\n' 'silent: warning: the script states no answer\n' verify five silent
+    row 'a script without an event' 0 '' 'idle: warning: the script has no event\n' verify five idle
+    row 'a warning in JSON' 0 '{"file":"idle","profile":"five","passes":true,"answers":0,"warning":"the script has no event","clauses":[],"differences":[],"fault":null}\n' \
+        'idle: warning: the script has no event\n' verify --format json five idle
+    row 'a warning in JUnit' 0 '<?xml version="1.0" encoding="UTF-8"?>\n<testsuites tests="1" failures="0" errors="0" skipped="0" time="0">\n<testsuite name="rt1553-tool verify" tests="1" failures="0" errors="0" skipped="0" time="0">\n<testcase name="idle" classname="five" time="0">\n<system-err>warning: the script has no event</system-err>\n</testcase>\n</testsuite>\n</testsuites>\n' \
+        'idle: warning: the script has no event\n' verify --format junit five idle
     row 'a line of no script' 2 '' 'refused: script: line 3, column 5: a space at the end: nothing may follow the last field\n' verify five refused
     row 'a line that is too long' 2 '' 'long: script: line 2, column 65: over 64 bytes before the line feed\n' verify five long
     row 'an answer without an event' 2 '' 'first: script: line 1: the event before it cannot have this answer\n' verify five first
@@ -344,7 +364,8 @@ verify_rows() {
     row 'a word that is sent at a gap' 2 '' 'hand: script: line 3: the event before it cannot have this answer\n' verify five hand
     row 'what is handed over in a slot' 2 '' 'slot: script: line 4: the event before it cannot have this answer\n' verify five slot
     row 'an answer goes on that was not begun' 2 '' 'on: script: line 4: the event before it cannot have this answer\n' verify five on
-    row 'a refused script, and others' 2 'silent:3: expected nothing, came A s 2800\nsilent: differences: 1\n' 'refused: script: line 3, column 5: a space at the end: nothing may follow the last field\n' \
+    row 'a refused script, and others' 2 'silent:3: expected nothing, came A s 2800\nsilent: differences: 1\n' \
+        'refused: script: line 3, column 5: a space at the end: nothing may follow the last field\nsilent: warning: the script states no answer\n' \
         verify five refused silent
     row 'a script that is not there' 4 '' 'file: cannot read none\n' verify five none good
     row 'a profile that is not there' 4 '' 'file: cannot read none\n' verify none good
@@ -352,9 +373,30 @@ verify_rows() {
     head -c 1048577 /dev/zero >"$work/large"
     row 'a profile that is too large' 4 '' 'file: too large large\n' verify large good
     yes '' | head -n 1048576 >"$work/lines"
-    row 'as many lines as may be' 0 '' '' verify five lines
+    row 'as many lines as may be' 0 '' 'lines: warning: the script has no event\n' verify five lines
+    row 'check-script: as many lines as may be' 0 '' '' check-script lines
     echo >>"$work/lines"
     row 'too many lines' 2 '' 'lines: script: too many lines\n' verify five lines
+    row 'check-script: too many lines' 2 'lines:1048577:1: error: a script has at most 1,048,576 lines\n' '' check-script lines
+    mistyped_row '#>A s 5000' 3
+    mistyped_row '# > A s 2800' 2
+    mistyped_row '# ~ *' 2
+    mistyped_row '#>' 3
+    mistyped_row '#>\tA s 2800' 3
+    mistyped_row '#>> A s 2800' 3
+    mistyped_row '#~A' 3
+    mistyped_row '#+2800' 3
+    script near '# A s > 2800\n#\n#| A s 2c00\n# + 1\n##> A s 2800\nA c 2c02\nA gap\nslot\n#> A s 2800\n'
+    row 'comments that are none' 0 '' '' verify five near
+    row 'check-script: comments that are none' 0 '' '' check-script near
+}
+
+# a comment that looks like a stated answer, and the column of its first byte that doesn't fit
+mistyped_row() {
+    local reason='looks like a stated answer and is a comment: one space comes after #>, #~ or #+, and none before it'
+    script mistyped "A c 2c02\nA gap\nslot\n$1\n"
+    row "mistyped: $1" 2 '' "mistyped: script: line 4, column $2: $reason\n" verify five mistyped
+    row "mistyped, check-script: $1" 0 "mistyped:4:$2: warning: $reason\n" '' check-script mistyped
 }
 
 # a line that is refused, each for another reason: where it stops being a line of a script, and why

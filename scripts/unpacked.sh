@@ -1,8 +1,8 @@
 #!/usr/bin/env bash
 # The archive of `make dist`, where nothing else of this repository is: scripts/unpacked.sh [BUILT]
 #
-# Makes it of BUILT, in which `rt ci` and `scripts/library.sh build` have run, or of this repository, and unpacks it in a temporary
-# folder. There, with an empty environment, a home of its own and no toolchain in PATH: its checksums; the sessions of its pages where it
+# Makes it of BUILT, in whose bin/ are the programs and the library, or of this repository, and unpacks it in a temporary folder. As root
+# it runs the programs where nothing else is. Then, with an empty environment, a home of its own and no toolchain in PATH: its checksums; the sessions of its pages where it
 # is installed, with the wheel, and that it is removed again; the sessions in the unpacked folder. No file of it names a folder of this
 # machine, and where there is strace no program opens a file of the repository. The last line is 'N passed, M failed'.
 set -uo pipefail
@@ -81,10 +81,32 @@ received() {
     [[ -z ${top%/*} ]] || places+=("$top/")
     ! grep -rlF "${places[@]/#/-e}" "$unpacked"
     count 'no file names a folder of this machine' $?
-    diff <(objdump -p "$unpacked"/bin/rt1553{,-tool} "$unpacked/bin/library/lib/librt1553.so.0" | awk '$1 == "NEEDED" { print $2 }' | sort -u) <(echo libc.so.6)
-    count 'it needs the C library and no other' $?
+    diff <(objdump -p "$unpacked"/bin/rt1553{,-tool} "$unpacked/bin/library/lib/librt1553.so.0" | awk '/file format/ { file = $1; sub(".*/", "", file) } $1 == "NEEDED" { print file, $2 }') <(echo 'librt1553.so.0: libc.so.6')
+    count 'the library needs the C library and no other, the programs none' $?
     ! alone bash -c 'command -v rt'
     count 'no toolchain is there' $?
+}
+
+# its objects give the same programs; and these run where nothing else is, as Containerfile puts them there
+bare() {
+    local root=$work/bare line name
+    while read -r line; do alone env -C "$unpacked" bash -c "$line"; done < <(grep '^    gcc ' "$unpacked/README.txt")
+    for name in rt1553 rt1553-tool; do
+        cmp "$unpacked/$name" "$unpacked/bin/$name"
+        count "$name is linked again" $?
+        rm -f "$unpacked/$name"
+    done
+    if ! chroot / true 2>/dev/null; then
+        echo 'note: the programs were not run where nothing else is: that takes root'
+        return
+    fi
+    mkdir -p "$root/bin" && cp "$unpacked"/bin/rt1553{,-tool} "$root/bin" && cp -r "$unpacked/examples" "$root"
+    [[ $(printf 'A c 2c02\nA gap\nslot\n' | chroot "$root" /bin/rt1553) == 'A s 2800' ]]
+    count 'rt1553 answers where nothing else is' $?
+    chroot "$root" /bin/rt1553 run examples/profiles/sensor.toml examples/scripts/poll.script | cmp - "$unpacked/examples/scripts/poll.transcript"
+    count 'rt1553 reads files there' $?
+    [[ $(printf 'c 2c02\n' | chroot "$root" /bin/rt1553-tool words) == 'mode 5 2 tx # transmit status word' ]]
+    count 'rt1553-tool answers there' $?
 }
 
 # the archive installed in an empty root, and a folder as the pages see it, with what stands in that root
@@ -131,6 +153,7 @@ cp scripts/sessions.py "$work"
 made
 [[ $failed -eq 0 ]] || the_end
 received
+bare
 installed
 sessions 'the sessions in the unpacked archive' "$unpacked" README.txt README.md docs/tutorial.md docs/library.md
 if ((${#tracer[@]})); then

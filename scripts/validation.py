@@ -2,13 +2,14 @@
 """Plays the validation tests: validation.py PROGRAM..
 
 These are the scripts of examples/validation, and the families that tests/validation/generate.py writes. The first line of
-a script names its profile, the second the clauses of the test plan or of the standard that it is for. What
-`PROGRAM run PROFILE SCRIPT` prints is compared with the answers that the script states (docs/script.md). For each clause of
-the plan it is told whether its scripts pass; one without a script fails. The last line is 'N passed, M failed': scripts, over
-all programs.
+a script names its profile, the second the clauses that it is for (tests/validation/plan.py), or the sections of the standard.
+What `PROGRAM run PROFILE SCRIPT` prints is compared with the answers that the script states (docs/script.md). For each clause
+it is told whether its scripts pass, and on which sections of the standard they rest; one without a script fails, and one whose
+sections examples/validation/README.md doesn't have. The last line is 'N passed, M failed': scripts, over all programs.
 """
 
 import pathlib
+import re
 import subprocess
 import sys
 import tempfile
@@ -87,19 +88,28 @@ def verdict(scripts, failed):
     return f"passes, scripts {len(scripts)}"
 
 
+def sections_of(clause):
+    """The sections of the standard on which the scripts of a clause rest."""
+    return plan.STANDARD.get(clause, "no sections")
+
+
 def tell(scripts, failed):
-    """What passes, clause by clause; gives the clauses without a script."""
+    """What passes, clause by clause; gives the clauses without a script, or with other sections on their page."""
     by_clause = defaultdict(list)
     for script in scripts:
         for clause in script.clauses:
             by_clause[clause].append(script)
     for clause, title in plan.CLAUSES.items():
         those = by_clause[clause]
-        print(f"{clause}: {verdict(those, failed)}, cases {sum(script.cases for script in those)}: {title}")
+        cases = sum(script.cases for script in those)
+        print(f"{clause}: {verdict(those, failed)}, cases {cases}: {title}; {sections_of(clause)} of the standard")
     for clause, why in plan.LEFT_OUT.items():
         print(f"{clause}: left out: {why}")
     print("the standard, and choices: " + verdict([script for script in scripts if not script.clauses], failed))
-    return [clause for clause in plan.CLAUSES if not by_clause[clause]]
+    page = dict(re.findall(r"^\| (5[\d.]+) \| [^|]* \| ([^|]*) \|", (EXAMPLES / "README.md").read_text(), re.MULTILINE))
+    for clause in (clause for clause in plan.CLAUSES if page.get(clause) != sections_of(clause)):
+        print(f"FAIL examples/validation/README.md: other sections for {clause}")
+    return [clause for clause in plan.CLAUSES if not by_clause[clause] or page.get(clause) != sections_of(clause)]
 
 
 def compare(program, scripts, folders):
