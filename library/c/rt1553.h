@@ -18,10 +18,11 @@
 
    Stack. A step needs up to 4 KiB. A call that copies, saves or restores a terminal needs up to
    128 KiB, whatever the bytes. Each other call needs as much for a text whose tables nest as those
-   of a profile do. A text whose tables nest deeper needs more, even if it is refused: the texts of
-   N bytes that were tried needed up to 180 N bytes and 256 KiB, and none of up to 1 MiB needed more
-   than 4 MiB. If a thread has less, a signal ends the process. So give a thread that reads texts of
-   others 4 MiB, and refuse longer texts first. This is measured and not proved (docs/library.md).
+   of a profile do, and up to 128 KiB more if memory runs out. A text whose tables nest deeper needs
+   more, even if it is refused: the texts of N bytes that were tried needed up to 180 N bytes and
+   256 KiB, and none of up to 1 MiB needed more than 4 MiB. If a thread has less, a signal ends the
+   process. So give a thread that reads texts of others 4 MiB, and refuse longer texts first. This
+   is measured and not proved (docs/library.md).
 
    Memory comes from malloc and realloc, and goes back by free. Only a terminal outlives the call
    that makes it. A step and rt1553_version take no memory. Calls that take memory may not be made

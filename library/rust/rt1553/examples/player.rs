@@ -91,8 +91,10 @@ fn played(terminal: &mut Terminal, script: &[u8]) -> Vec<u8> {
             continue;
         }
         let event = std::str::from_utf8(line).ok().and_then(event_of);
-        let Some(Ok(answer)) = event.map(|event| terminal.step(event)) else { break };
-        transcript.extend_from_slice(line_of(answer).as_bytes());
+        match event.map(|event| terminal.step(event)) {
+            Some(Ok(answer)) => transcript.extend_from_slice(line_of(answer).as_bytes()),
+            _ => break,
+        }
     }
     transcript
 }

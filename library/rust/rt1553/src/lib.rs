@@ -83,7 +83,10 @@ fn zeros(room: usize) -> Option<Vec<u8>> {
 /// Makes a call that writes into a room of this many bytes. Returns its status, what it wrote, and
 /// its fault.
 fn written(room: usize, call: impl FnOnce(*mut u8, usize, *mut usize, *mut sys::rt1553_fault) -> u8) -> (u8, Vec<u8>, Option<Fault>) {
-    let Some(mut to) = zeros(room) else { return (sys::RT1553_NO_MEMORY, Vec::new(), Some(Fault::NoMemory)) };
+    let mut to = match zeros(room) {
+        Some(to) => to,
+        None => return (sys::RT1553_NO_MEMORY, Vec::new(), Some(Fault::NoMemory)),
+    };
     let (mut length, mut fault) = (0, MaybeUninit::uninit());
     let status = call(to.as_mut_ptr(), to.len(), &mut length, fault.as_mut_ptr());
     let is_done = matches!(status, sys::RT1553_DONE | sys::RT1553_DIFFER);
