@@ -581,7 +581,8 @@ def for_gate(crates, record, log):
 
 def for_record(crates, names, record, built):
     """Tries the edits of these crates, and notes what was refused. Returns how many were, and how many were not."""
-    subprocess.run([sys.executable, f"{TOP}/scripts/build.py", "libraries", built, *names], check=True)
+    if untried := [it.name for it in crates if not all(it.sums.has(it, edit) for edit in it.edits)]:
+        subprocess.run([sys.executable, f"{TOP}/scripts/build.py", "libraries", built, *untried], check=True)
     began = time.monotonic()
     passed, failed = all_tried(crates, record, "")
     if not names:
