@@ -10,8 +10,7 @@ use Rattle.bus_word.specs.declared.word.Kind.TheVariants.{Com, Dat}
 use Rattle.bus_legal.specs.Description.{Description}
 use Rattle.bus_legal.specs.Parts.{Parts, description_in, IsNormal}
 use Rattle.terminal_rules.specs.declared.event.Event.{Event}
-use Rattle.terminal_rules.specs.Out.{Sending, Handing, HandsReceived, HandsSynchronize, HandsSynchronizeWith, HandsSelfTest, HandsBusControl, Out, Silence, SendsWord, HandsOver, out, outs_from}
-use Rattle.terminal_exchanges.specs.Sent.{sent_in}
+use Rattle.terminal_rules.specs.Out.{Sending, Handing, HandsReceived, HandsSynchronize, HandsSynchronizeWith, HandsSelfTest, HandsBusControl, Out, Silence, SendsWord, HandsOver, out, outs_from, sent_in}
 use Rattle.terminal_complete_test.specs.CompleteTest.{complete_test, tried}
 use Rattle.script_lines.specs.Digits.{digits_of}
 use Rattle.script_lines.specs.Transcript.{sent_text, hand_text, answer_text, text_at}

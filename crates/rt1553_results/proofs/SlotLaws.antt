@@ -14,8 +14,7 @@ use Rattle.terminal_rules.specs.Turn.{is_answered, done_cell}
 use Rattle.terminal_rules.specs.Past.{past}
 use Rattle.terminal_rules.specs.Status.{kept_now}
 use Rattle.bus_word.specs.Status.{status_word}
-use Rattle.terminal_rules.specs.Out.{Out, Silence, SendsWord, sending, reply_word, sends, sending_out}
-use Rattle.terminal_exchanges.specs.Sent.{sent_in}
+use Rattle.terminal_rules.specs.Out.{Out, Silence, SendsWord, sending, reply_word, sends, sending_out, sent_in}
 use Rattle.terminal_exchanges.specs.ExchangeLaws.{silent_slots, reply_to, reply_then}
 use Rattle.rt1553_results.specs.Rows.{sent_word, words_sent}
 

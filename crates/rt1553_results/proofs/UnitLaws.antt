@@ -9,10 +9,9 @@ use Rattle.terminal_rules.specs.declared.event.Event.{Event}
 use Rattle.terminal_rules.specs.declared.event.Event.TheVariants.{Gap, Slot}
 use Rattle.terminal_rules.specs.Starts.{is_meant}
 use Rattle.terminal_rules.specs.Past.{past, history_after}
-use Rattle.terminal_rules.specs.Out.{Out, Silence, Handing, hands, handing_over, sends, sending_out, outs_from}
+use Rattle.terminal_rules.specs.Out.{Out, Silence, Handing, hands, handing_over, sends, sending_out, outs_from, sent_in}
 use Rattle.bus_word.specs.declared.word.Bus.TheVariants.{A}
 use Rattle.terminal_exchanges.specs.Exchanges.{Exchange, command_event, data_event, words_then, slots_then, exchange_then, script_of}
-use Rattle.terminal_exchanges.specs.Sent.{sent_in}
 use Rattle.terminal_exchanges.specs.ExchangeLaws.{AreWhole, AreAnswered, history_of, after_words, after_slots, before_its_gap, end_of, silent_then, silent_slots, reply_to, reply_then}
 use Rattle.terminal_exchanges.proofs.ExchangeAnswers.{meant_exchange_law, unmeant_law}
 use Rattle.terminal_complete_test.specs.CompleteTest.{complete_test, tried}

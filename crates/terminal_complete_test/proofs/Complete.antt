@@ -14,11 +14,11 @@ use Rattle.bus_legal.proofs.SameNormals.{same_normals}
 use Rattle.terminal_rules.specs.History.{Done}
 use Rattle.terminal_rules.specs.Status.{accepts, reports_kept}
 use Rattle.terminal_rules.specs.Same.{AreProper, Same}
-use Rattle.terminal_rules.specs.Out.{outs}
+use Rattle.terminal_rules.specs.Out.{sent_in, outs}
 use Rattle.bus_word.proofs.Places.{place_from}
 use Rattle.terminal_exchanges.specs.Exchanges.{Exchange}
 use Rattle.terminal_exchanges.specs.ExchangeLaws.{AreAnswered, ending_of_exchange}
-use Rattle.terminal_exchanges.specs.Sent.{sent_in, sent}
+use Rattle.terminal_exchanges.specs.Sent.{sent}
 use Rattle.terminal_exchanges.specs.Distinguish.{all_terminals, receive_zeros, transmit, mode_code, mode_code_with, ask, least_count, receives_own, receives_broadcast, receive_complement, shortest_transmit, sent_back, shown_subaddress}
 use Rattle.terminal_exchanges.proofs.Distinguish.Commands.{IsTo, code_to_all, ask_to_all, moved, known_code}
 use Rattle.terminal_exchanges.proofs.Distinguish.Last.{slot_at, bits_in, is_sent}

@@ -11,11 +11,10 @@ use Rattle.terminal_rules.specs.Reply.{words_after_status, reply_now}
 use Rattle.terminal_rules.specs.Ends.{verdict, well}
 use Rattle.terminal_rules.specs.Starts.{is_meant}
 use Rattle.terminal_rules.specs.Same.{AreProper}
-use Rattle.terminal_rules.specs.Out.{Out, Sending, Silence, sends, outs_from}
+use Rattle.terminal_rules.specs.Out.{Out, Sending, Silence, sends, outs_from, sent_in}
 use Rattle.terminal_exchanges.specs.Exchanges.{Exchange, slots_then, exchange_then, script_of}
 use Rattle.terminal_exchanges.specs.ExchangeLaws.{IsWhole, AreWhole, AreAnswered, history_of, ending_of_exchange, slots_needed, silent_then}
 use Rattle.terminal_exchanges.proofs.Notes.{notes_at_gap, exchange_notes, slot_note, slot_notes, gap_answer, slots_answered}
-use Rattle.terminal_exchanges.specs.Sent.{sent_in}
 use Rattle.terminal_exchanges.proofs.ExchangeLaw.{exchange_law}
 use Rattle.terminal_exchanges.proofs.Distinguish.Commands.{AreSmall}
 use Rattle.terminal_exchanges.proofs.Distinguish.Last.{sent_again, slot_at, words_proper, slots_proper}

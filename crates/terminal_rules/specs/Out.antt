@@ -37,6 +37,11 @@ pub data Out : Type 0 where
   SendsWord : (sending : Sending) → Out
   HandsOver : (handing : Handing) → Out
 
+-- the word that an answer sends, if it sends one
+abbrev pub sent_in : Out → Option Sending
+sent_in (SendsWord sending) = Some sending
+sent_in _ = None
+
 -- the data word that goes with an own mode code: vector word, last command or BIT word
 abbrev pub code_word : Description → List Noted → ℕ → ℕ
 code_word P h code =

@@ -8,11 +8,10 @@ use Rattle.terminal_rules.specs.declared.event.Event.TheVariants.{Gap}
 use Rattle.terminal_rules.specs.History.{Noted}
 use Rattle.terminal_rules.specs.Reply.{reply_now}
 use Rattle.terminal_rules.specs.Same.{AreProper}
-use Rattle.terminal_rules.specs.Out.{Out, Sending, Silence, sends, sending_out, outs_from, outs}
+use Rattle.terminal_rules.specs.Out.{Out, Sending, Silence, sends, sending_out, outs_from, outs, sent_in}
 use Rattle.terminal_exchanges.specs.Exchanges.{Exchange, words_then, slots_then, exchange_then, script_of}
 use Rattle.terminal_exchanges.specs.ExchangeLaws.{IsWhole, history_of, AreAnswered, silent_then}
 use Rattle.terminal_exchanges.proofs.Notes.{slot_note, slot_notes, notes_at_gap, exchange_notes, gap_answer, slot_answer, slots_answered}
-use Rattle.terminal_exchanges.specs.Sent.{sent_in}
 use Rattle.terminal_exchanges.specs.Distinguish.{TellsApart}
 use Rattle.terminal_exchanges.proofs.ExchangeLaw.{exchange_law}
 use Rattle.terminal_exchanges.proofs.Distinguish.Commands.{AreSmall, IsTo}

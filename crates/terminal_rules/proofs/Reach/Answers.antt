@@ -43,15 +43,15 @@ code_word_alike P R a h code l =
     (λ e. ap (or_else (latest (λ p. bit_word_set p.event) (since_reset h))) (a.bit (legal_at P code 19 l e)))
 
 -- the cell of a reply is one that can be done, and its next word is one of its words
-abbrev CellCan : Description → Option Cell → Type 0
+abbrev pub CellCan : Description → Option Cell → Type 0
 CellCan P None = Unit {0}
 CellCan P (Some cell) = CanBeDone P cell
 
-record ReplyCan (P : Description) (r : Replying) : Type 0 where
+pub record ReplyCan (P : Description) (r : Replying) : Type 0 where
   pub cell : CellCan P r.cell
   pub number : nat_le r.number (words_after_status r.cell) ≡ true
 
-abbrev NextCan : Description → Option Replying → Type 0
+abbrev pub NextCan : Description → Option Replying → Type 0
 NextCan P None = Unit {0}
 NextCan P (Some r) = ReplyCan P r
 
@@ -111,7 +111,7 @@ of_can : (P : Description) (l : List Noted) (o : Option (Bus × Option Cell)) �
 of_can P l None can = tt
 of_can P l (Some r) can = after_can P r.0 r.1 (some (supersedes r.0) l) (slots_in l) can
 
-reply_can : (P : Description) → P.address ≤ 30 → (h : List Event) → NextCan P (reply_now (past P h))
+pub reply_can : (P : Description) → P.address ≤ 30 → (h : List Event) → NextCan P (reply_now (past P h))
 reply_can P low h = of_can P (since begins_reply (past P h)) (latest (λ p. begun p.turn) (past P h)) (begun_can P low h)
 
 first_number : (m : ℕ) → (m == 0) ≡ false → 1 ≤ m
