@@ -4,3 +4,4 @@ pub mod AnswerLaw
 pub mod SlotsLaw
 pub mod ReceivedLaw
 mod WholeLaw
+pub mod FlagLaw

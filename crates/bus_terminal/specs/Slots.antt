@@ -7,6 +7,7 @@ use Rattle.bus_word.specs.declared.cell.Cell.TheVariants.{OwnTransmit}
 use Rattle.bus_legal.specs.Description.{Description}
 use Rattle.terminal_rules.specs.declared.event.Event.{Event}
 use Rattle.terminal_rules.specs.declared.event.Event.TheVariants.{Slot}
+use Rattle.bus_terminal.specs.declared.answer.NextWord.{NextWord}
 use Rattle.terminal_rules.specs.History.{Replying}
 use Rattle.terminal_rules.specs.Reply.{reply_now}
 use Rattle.terminal_rules.specs.Past.{past, history_after}
@@ -20,6 +21,11 @@ slots k = replicate k Slot
 abbrev pub SlotsAreSilent : Type 0
 SlotsAreSilent =
     (P : Description) (h : List Event) → is_some (reply_now (past P h)) ≡ false → (k : ℕ) → out P (history_after (slots k) h) Slot ≡ Silence
+
+-- the word that is sent next, as the definitions say it
+abbrev pub shown_next : Option NextWord → Option Replying
+shown_next None = None
+shown_next (Some w) = Some (record { bus = w.bus; cell = w.cell; number = w.number })
 
 -- the words of a subaddress that a reply is still to send, by its cell and the number of the next word: none before its status
 abbrev pub words_left_of : Option Cell → ℕ → ℕ

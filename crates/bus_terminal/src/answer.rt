@@ -1,5 +1,5 @@
 //! What a remote terminal answers to an event.
-use bus_word::{Bus, Kind};
+use bus_word::{Bus, Cell, Kind};
 
 /// What a terminal sends on a bus: one word of a reply.
 #[derive(Clone, Copy, Debug, PartialEq, Eq)]
@@ -20,6 +20,17 @@ pub struct WordsToSend<'a> {
     pub bus: Bus,
     /// The data words, in order.
     pub words: &'a [u16],
+}
+
+/// The word that a terminal sends next.
+#[derive(Clone, Copy)]
+pub struct NextWord {
+    /// The bus: that on which the command came.
+    pub bus: Bus,
+    /// The cell of the message that is answered, where that was done.
+    pub cell: Option<Cell>,
+    /// The number of the word: the status is number 0, and the data words follow it.
+    pub number: u8,
 }
 
 /// What a message is to receive that has just started.

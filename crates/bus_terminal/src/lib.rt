@@ -7,6 +7,6 @@ pub mod laws;
 mod settings;
 mod terminal;
 
-pub use answer::{Answer, Hand, Receiving, Sent, WordsToSend};
+pub use answer::{Answer, Hand, NextWord, Receiving, Sent, WordsToSend};
 pub use terminal::Terminal;
 pub use terminal_rules::{Event, Flag, WordPlace};

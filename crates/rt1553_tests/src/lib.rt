@@ -20,6 +20,8 @@ mod formats;
 #[cfg(test)]
 mod importing;
 #[cfg(test)]
+mod recordings;
+#[cfg(test)]
 mod saved;
 #[cfg(test)]
 mod scripts;

@@ -1,6 +1,6 @@
 //! Many slots at once: what a reply sends in them is asked first, and then they are taken.
 use super::Terminal;
-use crate::answer::WordsToSend;
+use crate::answer::{NextWord, WordsToSend};
 use bus_legal::Legality;
 use bus_word::Cell;
 use terminal_rules::Event;
@@ -12,7 +12,7 @@ impl<L: Legality> Terminal<L> {
     ghost use Rattle.terminal_rules.specs.Past.{past, history_after};
     ghost use Rattle.terminal_rules.specs.Reply.{reply_now};
     ghost use Rattle.bus_terminal.specs.Stands.{StandsAt};
-    ghost use Rattle.bus_terminal.specs.Slots.{slots, words_left, AreSent};
+    ghost use Rattle.bus_terminal.specs.Slots.{slots, words_left, AreSent, shown_next};
 
     /// Tells whether a reply is in progress. Where none is, nothing is sent in the slots to come.
     #[inline(always)]
@@ -20,6 +20,21 @@ impl<L: Legality> Terminal<L> {
         ensures { (P : Description) (h : List Event) → StandsAt L.is_legal P h self.now → result ≡ is_some (reply_now (past P h)) }
     {
         self.reply.is_some()
+    }
+
+    /// Gives the word that the reply in progress sends next. None where no reply is in progress.
+    #[inline(always)]
+    pub fn next_word(&self) -> Option<NextWord>
+        ensures { (P : Description) (h : List Event) → StandsAt L.is_legal P h self.now → shown_next result ≡ reply_now (past P h) }
+    {
+        match &self.reply {
+            Some(reply) => Some(NextWord {
+                bus: reply.bus,
+                cell: reply.cell,
+                number: reply.next,
+            }),
+            None => None,
+        }
     }
 
     /// Lends the words of a subaddress that the reply in progress is still to send, all of them. None where the next slot sends no such

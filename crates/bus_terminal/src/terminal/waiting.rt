@@ -1,13 +1,16 @@
-//! Whose status word is awaited.
+//! Whose status word is awaited, and which flags are set.
 use super::Terminal;
 use bus_legal::Legality;
 use bus_word::Bus;
+use terminal_rules::Flag;
 use terminal_state::{Phase, same_bus};
 
 impl<L: Legality> Terminal<L> {
     ghost use Rattle.std.specs.Prelude.{◌≡◌, List};
     ghost use Rattle.bus_legal.specs.Description.{Description};
     ghost use Rattle.terminal_rules.specs.declared.event.Event.{Event};
+    ghost use Rattle.terminal_rules.specs.Flags.{flag_now};
+    ghost use Rattle.terminal_rules.specs.Past.{past};
     ghost use Rattle.terminal_state.specs.Message.{standing_on};
     ghost use Rattle.bus_terminal.specs.Stands.{StandsAt};
     ghost use Rattle.bus_terminal.specs.Waiting.{awaited, awaited_in};
@@ -30,6 +33,19 @@ impl<L: Legality> Terminal<L> {
                 _ => None,
             },
             None => None,
+        }
+    }
+
+    /// Tells whether a flag of the subsystem is set.
+    #[inline(always)]
+    pub fn flag(&self, flag: Flag) -> bool
+        ensures { (P : Description) (h : List Event) → StandsAt L.is_legal P h self.now → result ≡ flag_now (past P h) flag }
+    {
+        match flag {
+            Flag::Service => self.registers.flags.service,
+            Flag::Busy => self.registers.flags.busy,
+            Flag::Subsystem => self.registers.flags.subsystem,
+            Flag::Terminal => self.registers.flags.terminal,
         }
     }
 }

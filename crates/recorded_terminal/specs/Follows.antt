@@ -1,0 +1,29 @@
+-- When a terminal that follows a recording stands at a history, and what it is told before a sighting.
+use Rattle.std.specs.Prelude.{ℕ, Bool, Option, Some, None, List, [], ◌∷◌, ◌++◌}
+use Rattle.bus_word.specs.declared.cell.Cell.{Cell}
+use Rattle.bus_legal.specs.Description.{Description}
+use Rattle.bus_terminal.specs.Stands.{StandsAt}
+use Rattle.bus_terminal.specs.declared.terminal.Terminal.{Terminal}
+use Rattle.terminal_rules.specs.declared.event.Event.{Event}
+use Rattle.terminal_rules.specs.Out.{Sending}
+use Rattle.terminal_rules.specs.Past.{past, history_after}
+use Rattle.terminal_rules.specs.Reply.{reply_now}
+use Rattle.terminal_recordings.specs.Completion.{data_sent, flags_set, next_set}
+use Rattle.recorded_terminal.specs.declared.follower.Follower.{Follower}
+
+-- the terminal of a follower stands at this history
+abbrev pub FollowsAt : {L : Type 0} → (L → Cell → Bool) → Description → List Event → Follower L → Type 0
+FollowsAt is_legal P h f = StandsAt is_legal P h f.terminal
+
+-- what the subsystem does before this word is sent, or none, where this is the next status word that is seen
+abbrev pub told_by : Description → List Event → Option ℕ → Option Sending → List Event
+told_by P h status sent = flags_set status ++ next_set (reply_now (past P h)) (data_sent sent)
+
+-- an event, if there is one
+abbrev pub given_events : Option Event → List Event
+given_events None = []
+given_events (Some e) = e ∷ []
+
+-- a terminal has taken these events, wherever it stood
+abbrev pub TakesEvents : {L : Type 0} → (L → Cell → Bool) → List Event → Terminal L → Terminal L → Type 0
+TakesEvents is_legal es t u = (P : Description) (h : List Event) → StandsAt is_legal P h t → StandsAt is_legal P (history_after es h) u

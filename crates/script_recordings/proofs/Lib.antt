@@ -1,0 +1,3 @@
+pub mod SeenLaws
+pub mod ExplainedLaws
+pub mod WordLaws

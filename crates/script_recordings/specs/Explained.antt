@@ -1,0 +1,30 @@
+-- The first line of a script that no behaviour of the subsystem explains.
+use Rattle.std.specs.Prelude.{◌≡◌, Option, List, [], ◌∷◌, ◌++◌}
+use Rattle.bus_legal.specs.Description.{Description}
+use Rattle.terminal_rules.specs.Out.{Sending, sending_out}
+use Rattle.terminal_recordings.specs.Recordings.{Sighting, IsExplained}
+use Rattle.script_lines.specs.Transcript.{answer_text}
+use Rattle.rt1553_verify.specs.Stated.{StatedEvent}
+use Rattle.rt1553_verify.specs.Verify.{ToldAnswer}
+use Rattle.script_recordings.specs.Seen.{IsSeenAs, AreSeenAs}
+
+-- what is told of an event in which this word can be sent, or none, in place of what is stated
+abbrev pub told_of : StatedEvent → Option Sending → ToldAnswer
+told_of s sent = record { line = s.line; expected = s.answer; came = answer_text (sending_out sent) }
+
+-- The events before one are explained as they are stated, and with this one they are not, but with another word sent in it, or none:
+-- of that is told.
+pub record IsFirstUnexplained (P : Description) (ss : List StatedEvent) (told : ToldAnswer) : Type 0 where
+  pub front : List StatedEvent
+  pub stated : StatedEvent
+  pub rest : List StatedEvent
+  pub all : ss ≡ front ++ stated ∷ rest
+  pub before : List Sighting
+  pub sighting : Sighting
+  pub other : Option Sending
+  pub are_seen : AreSeenAs front before
+  pub is_seen : IsSeenAs stated sighting
+  pub explained : IsExplained P before
+  pub unexplained : IsExplained P (before ++ sighting ∷ []) → ⊥
+  pub possible : IsExplained P (before ++ record sighting { sent = other } ∷ [])
+  pub is_told : told ≡ told_of stated other

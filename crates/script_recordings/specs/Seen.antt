@@ -1,0 +1,48 @@
+-- The recording that a script states: each of its events is one that is seen, and what is stated of it is the line of the word that
+-- was sent, or nothing where none was.
+use Rattle.std.specs.Prelude.{◌≡◌, ◌<◌, ◌^◌, ℕ, true, false, Option, List, [], ◌∷◌, ◌++◌}
+use Rattle.terminal_rules.specs.Out.{Sending, sending_out}
+use Rattle.terminal_recordings.specs.Recordings.{Sighting, is_seen}
+use Rattle.script_lines.specs.Transcript.{answer_text, sent_text}
+use Rattle.rt1553_verify.specs.declared.matching.Matching.TheVariants.{Exact}
+use Rattle.rt1553_verify.specs.Stated.{StatedEvent}
+use Rattle.script_recordings.specs.declared.reading.RecordingFault.{RecordingFault}
+use Rattle.script_recordings.specs.declared.reading.RecordingFault.TheVariants.{Unseen, Masked, NoWord}
+
+-- the word that was sent is stated whole
+pub record StatesSent (s : StatedEvent) (sent : Option Sending) : Type 0 where
+  pub whole : s.matching ≡ Exact
+  pub line : s.answer ≡ answer_text (sending_out sent)
+
+-- what a script states of an event is this sighting
+pub record IsSeenAs (s : StatedEvent) (x : Sighting) : Type 0 where
+  pub event : x.event ≡ s.event
+  pub seen : is_seen s.event ≡ true
+  pub sent : StatesSent s x.sent
+
+-- event by event
+abbrev pub AreSeenAs : List StatedEvent → List Sighting → Type 0
+AreSeenAs [] [] = Unit {0}
+AreSeenAs (s ∷ ss) (x ∷ xs) = IsSeenAs s x × AreSeenAs ss xs
+AreSeenAs _ _ = ⊥
+
+-- it is neither nothing nor the line of a word of 16 bits
+abbrev pub IsNoWord : List ℕ → Type 0
+IsNoWord line = (line ≡ [] → ⊥) × ((w : Sending) → w.bits < 2 ^ 16 → sent_text w ≡ line → ⊥)
+
+-- why a script states no word of an event, and not that none was sent
+abbrev pub StatesNoWord : StatedEvent → RecordingFault → Type 0
+StatesNoWord s (Masked n) = (n ≡ s.line) × (s.matching ≡ Exact → ⊥)
+StatesNoWord s (NoWord n) = (n ≡ s.line) × (s.matching ≡ Exact) × IsNoWord s.answer
+StatesNoWord s _ = ⊥
+
+-- why what a script states of an event is no sighting
+abbrev pub IsUnseenAs : StatedEvent → RecordingFault → Type 0
+IsUnseenAs s (Unseen n) = (n ≡ s.line) × (is_seen s.event ≡ false)
+IsUnseenAs s fault = StatesNoWord s fault
+
+-- a script states no recording, since of its events this is the first that is no sighting
+abbrev pub IsNoRecording : List StatedEvent → RecordingFault → Type 0
+IsNoRecording ss fault =
+    (front : List StatedEvent) × (s : StatedEvent) × (rest : List StatedEvent) × (xs : List Sighting)
+    × (ss ≡ front ++ s ∷ rest) × AreSeenAs front xs × IsUnseenAs s fault

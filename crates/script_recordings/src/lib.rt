@@ -1,0 +1,10 @@
+//! Recordings as scripts that state what a unit sent: read, and the first line that no behaviour of the subsystem explains.
+#![tactic(auto)]
+
+mod explaining;
+mod reading;
+mod words;
+
+pub use explaining::unexplained_answer;
+pub use reading::{RecordingFault, read_recording};
+pub use words::read_sent;

@@ -1,0 +1,49 @@
+//! The words of a transcript.
+ghost use Rattle.std.specs.Prelude.{◌≡◌, ◌<◌, ◌^◌, IfSome, None, option_map};
+ghost use Rattle.bus_terminal.specs.Answer.{shown_word};
+ghost use Rattle.terminal_rules.specs.Out.{Sending};
+ghost use Rattle.script_lines.specs.Transcript.{sent_text};
+ghost use Rattle.script_recordings.specs.inner.Words.{sent_kind, any_digits};
+
+use bus_terminal::{Answer, Sent};
+use bus_word::Kind;
+use script_lines::{read_bus, read_word, write_answer};
+
+/// The kind of a word by its letter: `s` for a status word, `d` for a data word.
+fn sent_kind(letter: u8) -> Option<Kind>
+    ensures { result ≡ sent_kind letter }
+{
+    match letter {
+        b's' => Some(Kind::Com),
+        b'd' => Some(Kind::Dat),
+        _ => None,
+    }
+}
+
+/// The word of a line that has the form of one, however its digits are written.
+fn read_any_digits(line: &[u8]) -> Option<Sent>
+    ensures { option_map shown_word result ≡ any_digits line.now }
+{
+    let bus = read_bus(line)?;
+    match &line[2..] {
+        [letter, b' ', a, b, c, d, b'\n'] => Some(Sent {
+            bus,
+            kind: sent_kind(*letter)?,
+            bits: read_word(*a, *b, *c, *d)?,
+        }),
+        _ => None,
+    }
+}
+
+/// Gives the word of which this is the line in a transcript, with its line feed. None where it is no such line.
+pub fn read_sent(line: &[u8]) -> Option<Sent>
+    ensures found { IfSome result (λ sent. sent_text (shown_word sent) ≡ line.now) }
+    ensures none { result ≡ None → (w : Sending) → w.bits < 2 ^ 16 → sent_text w ≡ line.now → ⊥ }
+{
+    let sent = read_any_digits(line)?;
+    if write_answer(&Answer::Sends(sent)).as_str().as_bytes() == line {
+        Some(sent)
+    } else {
+        None
+    }
+}

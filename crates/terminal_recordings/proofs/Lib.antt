@@ -1,0 +1,16 @@
+pub mod Endings
+pub mod Summary
+pub mod Idle
+pub mod Alike
+pub mod Step
+pub mod SlotStep
+pub mod Told
+pub mod Follows
+pub mod Fresh
+pub mod FollowsLater
+pub mod Beginnings
+pub mod Leaving
+pub mod Law
+pub mod Pause
+pub mod LaterLaw
+pub mod Tests
