@@ -242,14 +242,19 @@ def write_case(folder, name, profile, lines, transcript):
         (folder / f"{name}.{ending}").write_text(content)
 
 
-def write_slots(folder, number):
-    text = PROFILE.format(
+def profile_of(number):
+    """The profile of this number, up to 15."""
+    return PROFILE.format(
         address=number * 2,
         broadcast=truth(number % 4 > 0),
         wraparound=("true", "29", "true", "false")[number % 4],
         subaddresses=("1-30", "29", "30")[number % 3],
         counts=("1-32", "1-2")[number % 2],
         codes=("0-31", "0-8", "16-19", "6-18")[number % 4])
+
+
+def write_slots(folder, number):
+    text = profile_of(number)
     lines, transcript = [], []
 
     def note(event, answer):

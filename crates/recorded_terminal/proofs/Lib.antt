@@ -1,2 +1,3 @@
 pub mod SoFar
+pub mod TellLaws
 pub mod ToldSoFar

@@ -64,21 +64,21 @@ same_sent (Some a) (Some b) e =
     λ j. Some (record { bus = (same j).bus; kind = (same j).kind; bits = (same j).bits })
 
 -- one sighting more is shown, whatever is sent in it
-pub shown_more : (P : Description) (xs : List Seen) (n : ℕ) (x : Seen) (next : Option ℕ) (k : List Event) (sent : Option Sent) →
+pub shown_more : (P : Description) (xs : List Seen) (n : ℕ) (x : Seen) (next : Option ℕ) (k : List Event) (sent : Option Sent) (front : List Sighting) →
     drop n xs ≡ x ∷ drop (suc n) xs → next ≡ next_status (recorded (drop n xs)) →
-    shown_of P (recorded xs) ≡ take n (recorded xs) ++ shown_from P k (recorded (drop n xs)) →
+    shown_of P (recorded xs) ≡ front ++ shown_from P k (recorded (drop n xs)) →
     (let l : List Event = history_after (told_by P k next (word_shown x.sent)) k in
     word_shown sent ≡ sent_in (out P l x.event) →
-    shown_of P (recorded xs) ≡ take n (recorded xs) ++ (record { event = x.event; sent = word_shown sent } ∷ shown_from P (x.event ∷ l) (recorded (drop (suc n) xs))))
-shown_more P xs n x next k sent cut status shown sends =
+    shown_of P (recorded xs) ≡ front ++ (record { event = x.event; sent = word_shown sent } ∷ shown_from P (x.event ∷ l) (recorded (drop (suc n) xs))))
+shown_more P xs n x next k sent front cut status shown sends =
     let later : List Sighting = recorded (drop (suc n) xs) in
     let now : next ≡ next_status (shown_sighting x ∷ later) = status ∙ ap (λ l. next_status (recorded l)) cut in
     shown
-    ∙ (ap (λ l. take n (recorded xs) ++ shown_from P k (recorded l)) cut
-    ∙ (ap (λ l. take n (recorded xs) ++ l) (shown_step P k (shown_sighting x) later (is_sighting (shown_sighting x) x.seen x.bits).seen)
-    ∙ ((λ j. take n (recorded xs) ++ (record { event = x.event; sent = sent_in (out P (history_after (told_by P k (sym now j) (word_shown x.sent)) k) x.event) }
+    ∙ (ap (λ l. front ++ shown_from P k (recorded l)) cut
+    ∙ (ap (λ l. front ++ l) (shown_step P k (shown_sighting x) later (is_sighting (shown_sighting x) x.seen x.bits).seen)
+    ∙ ((λ j. front ++ (record { event = x.event; sent = sent_in (out P (history_after (told_by P k (sym now j) (word_shown x.sent)) k) x.event) }
     ∷ shown_from P (x.event ∷ history_after (told_by P k (sym now j) (word_shown x.sent)) k) later))
-    ∙ (λ j. take n (recorded xs) ++ (record { event = x.event; sent = sym sends j }
+    ∙ (λ j. front ++ (record { event = x.event; sent = sym sends j }
     ∷ shown_from P (x.event ∷ history_after (told_by P k next (word_shown x.sent)) k) later)))))
 
 -- where what is sent is what was seen, one more was told

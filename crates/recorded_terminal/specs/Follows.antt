@@ -8,8 +8,11 @@ use Rattle.terminal_rules.specs.declared.event.Event.{Event}
 use Rattle.terminal_rules.specs.Out.{Sending}
 use Rattle.terminal_rules.specs.Past.{past, history_after}
 use Rattle.terminal_rules.specs.Reply.{reply_now}
+use Rattle.terminal_rules.specs.Same.{AreProper}
+use Rattle.terminal_recordings.specs.Recordings.{AreUnseen}
 use Rattle.terminal_recordings.specs.Completion.{data_sent, flags_set, next_set}
 use Rattle.recorded_terminal.specs.declared.follower.Follower.{Follower}
+use Rattle.recorded_terminal.specs.declared.follower.Told.{Told}
 
 -- the terminal of a follower stands at this history
 abbrev pub FollowsAt : {L : Type 0} → (L → Cell → Bool) → Description → List Event → Follower L → Type 0
@@ -23,6 +26,14 @@ told_by P h status sent = flags_set status ++ next_set (reply_now (past P h)) (d
 abbrev pub given_events : Option Event → List Event
 given_events None = []
 given_events (Some e) = e ∷ []
+
+-- the events that are told before a sighting
+abbrev pub told_events : Told → List Event
+told_events t = given_events t.service ++ (given_events t.busy ++ (given_events t.subsystem ++ (given_events t.terminal ++ given_events t.word)))
+
+-- events of the subsystem that can come
+abbrev pub AreTold : List Event → Type 0
+AreTold es = AreUnseen es × AreProper es
 
 -- a terminal has taken these events, wherever it stood
 abbrev pub TakesEvents : {L : Type 0} → (L → Cell → Bool) → List Event → Terminal L → Terminal L → Type 0

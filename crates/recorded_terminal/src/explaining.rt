@@ -70,7 +70,7 @@ pub fn first_unexplained<L: Legality + Drop>(
     let mut follower = Follower::power_up(setup, legality);
     let mut status = next_status(recording);
     for (number, sighting) in recording.iter().enumerate() {
-        let sent = follower.see(*sighting, status);
+        let sent = follower.see(*sighting, status).sent;
         if !is_same(sent, sighting.sent) {
             return Some(Unexplained { number, sent });
         }

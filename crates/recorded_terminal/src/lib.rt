@@ -8,7 +8,6 @@ mod telling;
 mod told;
 
 pub use bus_terminal::Sent;
-pub use explaining::{Unexplained, first_unexplained, next_status};
-pub use follower::Follower;
+pub use explaining::{Unexplained, first_unexplained};
 pub use sighting::Sighting;
 pub use telling::behaviour;

@@ -1,59 +1,58 @@
 //! What the subsystem did, as a recording tells it.
-ghost use Rattle.std.specs.Prelude.{◌≡◌, ◌++◌, [], IfOk};
+ghost use Rattle.std.specs.Prelude.{◌≡◌, ◌++◌, IfOk, OnOk};
 ghost use Rattle.bus_legal.specs.Description.{described};
 ghost use Rattle.terminal_rules.specs.Same.{AreProper};
-ghost use Rattle.terminal_recordings.specs.Recordings.{sightings, IsExplained};
-ghost use Rattle.terminal_recordings.specs.Completion.{completion_from, flags_set, next_set};
-ghost use Rattle.bus_terminal.specs.Slots.{shown_next};
-ghost use Rattle.recorded_terminal.specs.SentWords.{shown_data};
+ghost use Rattle.terminal_recordings.specs.Recordings.{sightings};
+ghost use Rattle.terminal_recordings.specs.Completion.{shown_of};
+ghost use Rattle.recorded_terminal.specs.Follows.{given_events, told_events};
 ghost use Rattle.recorded_terminal.specs.Sightings.{recorded};
 
 use crate::explaining::{next_status, status_behind};
-use crate::follower::Follower;
+use crate::follower::{Follower, Told};
 use crate::sighting::Sighting;
-use crate::told::{given, shows};
 use bus_legal::{Legality, Setup};
-use bus_terminal::{Event, Flag, NextWord, Sent};
+use bus_terminal::Event;
 use std::alloc::{AllocError, Global};
 
-/// Pushes what the subsystem does before this word is sent, or none.
-pub fn push_events(
-    events: &mut Vec<Event>,
-    next: Option<NextWord>,
-    status: Option<u16>,
-    sent: Option<Sent>,
-) -> Result<(), AllocError>
-    ensures { IfOk result (λ _. events.new.items ≡ events.old.items ++ (flags_set status ++ next_set (shown_next next) (shown_data sent))) }
+/// Pushes an event, if there is one.
+fn push_if(events: &mut Vec<Event>, event: Option<Event>) -> Result<(), AllocError>
+    ensures { OnOk result (events.new.items ≡ events.old.items ++ given_events event) }
 {
-    events.push(Event::Flag(Flag::Service, shows(status, Flag::Service)))?;
-    events.push(Event::Flag(Flag::Busy, shows(status, Flag::Busy)))?;
-    events.push(Event::Flag(Flag::Subsystem, shows(status, Flag::Subsystem)))?;
-    events.push(Event::Flag(Flag::Terminal, shows(status, Flag::Terminal)))?;
-    if let Some(event) = given(next, sent) {
+    if let Some(event) = event {
         events.push(event)?;
     }
     Ok(())
 }
 
-/// Gives the events that a recording tells: what is seen, and just before each what the subsystem does. They explain the recording,
-/// if anything does.
+/// Pushes what is told of the subsystem.
+fn push_told(events: &mut Vec<Event>, told: Told) -> Result<(), AllocError>
+    ensures { OnOk result (events.new.items ≡ events.old.items ++ told_events told) }
+{
+    push_if(events, told.service)?;
+    push_if(events, told.busy)?;
+    push_if(events, told.subsystem)?;
+    push_if(events, told.terminal)?;
+    push_if(events, told.word)
+}
+
+/// Gives the events that are seen in a recording, and between them what the subsystem did, as the recording tells it. What is seen of
+/// them is the recording, if anything explains it.
 pub fn behaviour<L: Legality + Drop>(
     alloc: Global,
     setup: Setup,
     legality: L,
     recording: &[Sighting],
 ) -> Result<Vec<Event>, AllocError>
-    ensures events { IfOk result (λ events. events.items ≡ completion_from (described setup (L.is_legal legality)) [] (recorded recording.now)) }
     ensures proper { IfOk result (λ events. AreProper events.items) }
-    ensures explains { IfOk result (λ events. IsExplained (described setup (L.is_legal legality)) (recorded recording.now) → sightings (described setup (L.is_legal legality)) events.items ≡ recorded recording.now) }
+    ensures shown { IfOk result (λ events. sightings (described setup (L.is_legal legality)) events.items ≡ shown_of (described setup (L.is_legal legality)) (recorded recording.now)) }
 {
     let mut follower = Follower::power_up(setup, legality);
     let mut status = next_status(recording);
     let mut events = Vec::new(alloc);
     for (number, sighting) in recording.iter().enumerate() {
-        follower.push_told(&mut events, *sighting, status)?;
+        let followed = follower.see(*sighting, status);
+        push_told(&mut events, followed.told)?;
         events.push(sighting.event)?;
-        follower.see(*sighting, status);
         status = status_behind(status, sighting, &recording[number + 1..]);
     }
     Ok(events)

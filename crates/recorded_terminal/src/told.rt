@@ -3,7 +3,7 @@ ghost use Rattle.std.specs.Prelude.{◌≡◌};
 ghost use Rattle.terminal_recordings.specs.Completion.{flag_shown, next_set, word_set};
 ghost use Rattle.bus_terminal.specs.Slots.{shown_next};
 ghost use Rattle.recorded_terminal.specs.SentWords.{shown_status, shown_data};
-ghost use Rattle.recorded_terminal.specs.Follows.{given_events};
+ghost use Rattle.recorded_terminal.specs.Follows.{given_events, AreTold};
 
 use bus_terminal::{Event, Flag, NextWord, Sent, WordPlace};
 use bus_word::{Cell, Kind, mode};
@@ -52,7 +52,8 @@ pub fn shows(status: Option<u16>, flag: Flag) -> bool
 
 /// What the subsystem gives so that this word is sent next, where that is a data word of its own.
 pub fn given(next: Option<NextWord>, sent: Option<Sent>) -> Option<Event>
-    ensures { given_events result ≡ next_set (shown_next next) (shown_data sent) }
+    ensures given { given_events result ≡ next_set (shown_next next) (shown_data sent) }
+    ensures told { AreTold (given_events result) }
 {
     match (next, shown_data(sent)) {
         (Some(next), Some(bits)) => word_given(next.cell, next.number, bits),
@@ -62,7 +63,8 @@ pub fn given(next: Option<NextWord>, sent: Option<Sent>) -> Option<Event>
 
 /// What the subsystem gives so that this is data word `number` of a reply, by the cell of what was done.
 fn word_given(cell: Option<Cell>, number: u8, bits: u16) -> Option<Event>
-    ensures { given_events result ≡ word_set cell number bits }
+    ensures given { given_events result ≡ word_set cell number bits }
+    ensures told { AreTold (given_events result) }
 {
     match cell {
         Some(Cell::OwnTransmit(subaddress, _)) => match WordPlace::of(subaddress, number) {

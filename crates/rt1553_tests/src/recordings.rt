@@ -1,57 +1,88 @@
 //! Recordings, followed by a terminal.
 use crate::terminals::{Every, equipped};
-use bus_terminal::{Answer, Terminal};
+use bus_terminal::{Answer, Event, Terminal};
 use bus_word::{Bus, Kind, Raw};
 use recorded_terminal::{Sent, Sighting, Unexplained, behaviour, first_unexplained};
 use rt1553::load;
+use rt1553_verify::read_stated;
+use script_recordings::unexplained_answer;
+use std::alloc::{AllocError, Global};
 use std::test::Fail;
+
+/// The recording of events, each with the word that was sent in it.
+fn recording_of(
+    alloc: Global,
+    seen: &[(Event, Option<Sent>)],
+) -> Result<Vec<Sighting>, AllocError> {
+    let mut recording = Vec::new(alloc);
+    for (event, sent) in seen {
+        if let Some(sighting) = Sighting::of(*event, *sent) {
+            recording.push(sighting)?;
+        }
+    }
+    Ok(recording)
+}
+
+fn sent(kind: Kind, bits: u16) -> (Event, Option<Sent>) {
+    let sent = Sent {
+        bus: Bus::A,
+        kind,
+        bits,
+    };
+    (Event::Slot, Some(sent))
+}
+
+fn command(bits: u16) -> (Event, Option<Sent>) {
+    (Event::Word(Bus::A, Raw::of(Kind::Com, bits)), None)
+}
 
 #[test]
 fn first_sighting_that_nothing_explains(rt: HostRuntime) -> Result<(), Fail> {
     let normal = load(rt.alloc(), b"address = 5")?;
-    let recording = [
-        Sighting::word(Bus::A, Raw::of(Kind::Com, 0x2c02)),
-        Sighting::gap(Bus::A),
-        Sighting::slot(Some(Sent { bus: Bus::A, kind: Kind::Com, bits: 0x2900 })),
+    let seen = [
+        command(0x2c02),
+        (Event::Gap(Bus::A), None),
+        sent(Kind::Com, 0x2900),
     ];
-    let first = first_unexplained(normal.setup(), normal, &recording);
+    let recording = recording_of(rt.alloc(), &seen)?;
+    let first = first_unexplained(normal.setup(), normal, recording.as_slice());
     // before any message no flag shows
-    let sent = Sent {
-        bus: Bus::A,
-        kind: Kind::Com,
-        bits: 0x2800,
-    };
     let unexplained = Unexplained {
         number: 2,
-        sent: Some(sent),
+        sent: sent(Kind::Com, 0x2800).1,
     };
     assert_eq!(rt; first, Some(unexplained));
     Ok(())
 }
 
-fn sent(kind: Kind, bits: u16) -> Sighting {
-    Sighting::slot(Some(Sent {
-        bus: Bus::A,
-        kind,
-        bits,
-    }))
+#[test]
+fn first_line_that_nothing_explains(rt: HostRuntime) -> Result<(), Fail> {
+    let normal = load(rt.alloc(), b"address = 5")?;
+    let script = read_stated(rt.alloc(), b"A c 2c02\nA gap\nslot\n#> A s 2900\n")?;
+    let wrong = unexplained_answer(rt.alloc(), &normal, script.as_slice())?;
+    let Some(wrong) = wrong else {
+        panic!(rt; "it is explained");
+    };
+    assert_eq!(rt; wrong.line, 3);
+    assert_eq!(rt; wrong.came.as_slice(), b"A s 2800\n".as_slice());
+    Ok(())
 }
 
 /// What the subsystem did by a recording, played to a terminal: just what was seen.
 #[test]
 fn behaviour_of_a_subsystem(rt: HostRuntime) -> Result<(), Fail> {
-    let recording = [
-        Sighting::noise(Bus::B),
-        Sighting::word(Bus::A, Raw::of(Kind::Com, 0x2c61)),
-        Sighting::gap(Bus::A),
+    let seen = [
+        (Event::Noise(Bus::B), None),
+        command(0x2c61),
+        (Event::Gap(Bus::A), None),
         sent(Kind::Com, 0x2904),
         sent(Kind::Dat, 0x1234),
-        Sighting::word(Bus::A, Raw::of(Kind::Com, 0x2c10)),
-        Sighting::gap(Bus::A),
+        command(0x2c10),
+        (Event::Gap(Bus::A), None),
         sent(Kind::Com, 0x2809),
     ];
-    assert_eq!(rt; first_unexplained(equipped(), Every(true), &recording), None);
-    let events = behaviour(rt.alloc(), equipped(), Every(true), &recording)?;
+    let recording = recording_of(rt.alloc(), &seen)?;
+    let events = behaviour(rt.alloc(), equipped(), Every(true), recording.as_slice())?;
     let mut terminal = Terminal::power_up(equipped(), Every(true));
     let mut bits = Vec::new(rt.alloc());
     for event in &events {
@@ -60,7 +91,7 @@ fn behaviour_of_a_subsystem(rt: HostRuntime) -> Result<(), Fail> {
         }
     }
     assert_eq!(rt; bits.as_slice(), [0x2904u16, 0x1234, 0x2809].as_slice());
-    // four flags before each, and the one data word
-    assert_eq!(rt; events.len(), 8 * 5 + 1);
+    // two flags before the first, four before the data word, and the word
+    assert_eq!(rt; events.len(), 8 + 2 + 4 + 1);
     Ok(())
 }

@@ -1,7 +1,7 @@
 //! What the command line asks for.
 ghost use Rattle.std.specs.Prelude.{◌≡◌, IfOk, codes, option_map};
 ghost use Rattle.clap.specs.Words.{first_value, found_of};
-ghost use Rattle.rt1553_tool_args.specs.Commands.{Asks, AsksReport, HasOption, HasValue, IsAskedBy, all_values, command_name, format_of, is_given, is_json, lint_format_of, report_format_of, texts_of};
+ghost use Rattle.rt1553_tool_args.specs.Commands.{Asks, AsksCompared, AsksReport, HasOption, HasValue, IsAskedBy, all_values, command_name, format_of, is_given, is_json, lint_format_of, report_format_of, texts_of};
 
 use crate::args::NoCommand;
 use clap::ArgMatches;
@@ -14,6 +14,17 @@ pub enum Profiles<'a> {
     One(&'a str),
     /// Each to that of the file of this folder that its line `# Profile: ` names.
     Folder(&'a str),
+}
+
+/// What `verify` compares with what a terminal does.
+#[derive(Clone, Copy)]
+pub enum Compared {
+    /// All that a script states.
+    Stated,
+    /// The same, but for hand-overs that it does not state.
+    OnBus,
+    /// The recording that it states: some behaviour of the subsystem is to explain it.
+    Recording,
 }
 
 /// How the acceptance test is written.
@@ -65,8 +76,7 @@ pub enum ToolCommand<'a> {
     Verify {
         profiles: Profiles<'a>,
         scripts: Vec<&'a str>,
-        /// Hand-overs that a script doesn't state are left aside.
-        bus_only: bool,
+        compared: Compared,
         /// The files have messages, which are expanded first.
         expand: bool,
         format: ReportFormat,
@@ -200,6 +210,21 @@ fn report_of(given: &ArgMatches<'_>) -> Result<(ReportFormat, bool), NoCommand>
     }
 }
 
+/// What `verify` is to compare. A recording is of the bus alone.
+fn compared_of(given: &ArgMatches<'_>) -> Result<Compared, NoCommand>
+    ensures { IfOk result (AsksCompared (found_of given.now)) }
+{
+    match (
+        is_flag_given(given, "bus-only"),
+        is_flag_given(given, "any-subsystem"),
+    ) {
+        (false, false) => Ok(Compared::Stated),
+        (true, false) => Ok(Compared::OnBus),
+        (false, true) => Ok(Compared::Recording),
+        (true, true) => Err(NoCommand::Usage),
+    }
+}
+
 /// What `verify` is asked for. With a folder of profiles no profile stands before the scripts.
 fn verify_command<'a>(alloc: Global, given: &ArgMatches<'a>) -> Result<ToolCommand<'a>, NoCommand>
     ensures { IfOk result (λ command. (command_name command ≡ codes "verify") × Asks (found_of given.now) command) }
@@ -221,7 +246,7 @@ fn verify_command<'a>(alloc: Global, given: &ArgMatches<'a>) -> Result<ToolComma
     Ok(ToolCommand::Verify {
         profiles,
         scripts,
-        bus_only: is_flag_given(given, "bus-only"),
+        compared: compared_of(given)?,
         expand: is_flag_given(given, "expand"),
         format,
         summary,

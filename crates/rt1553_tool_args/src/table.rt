@@ -97,7 +97,7 @@ const EXPANDED: Argument = Argument {
     help: "takes messages, too, as `expand` does",
 };
 
-const VERIFY: [Argument; 8] = [
+const VERIFY: [Argument; 9] = [
     Argument {
         id: "profile",
         given: Occurrence::OnceOr("profiles"),
@@ -121,6 +121,12 @@ const VERIFY: [Argument; 8] = [
         given: Occurrence::Flag,
         value: "",
         help: "ignores hand-overs that a script does not state",
+    },
+    Argument {
+        id: "any-subsystem",
+        given: Occurrence::Flag,
+        value: "",
+        help: "takes scripts as recordings: some behaviour of the subsystem is to explain them",
     },
     EXPANDED,
     Argument {

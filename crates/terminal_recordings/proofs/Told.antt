@@ -22,20 +22,15 @@ use Rattle.terminal_rules.specs.Out.{Sending, reply_word, out, sent_in}
 use Rattle.terminal_rules.proofs.BackLaw.{flag_step, held_step}
 use Rattle.terminal_rules.proofs.Reach.Kept.{legal_at}
 use Rattle.terminal_rules.proofs.Reach.Answers.{CellCan}
-use Rattle.terminal_recordings.specs.Recordings.{Sighting, is_seen, sightings_from, HasBits}
+use Rattle.terminal_recordings.specs.Recordings.{Sighting, is_seen, AreUnseen, seen_then, sightings_from, HasBits}
 use Rattle.terminal_recordings.specs.Completion.{data_sent, next_status, flag_shown, flags_set, word_set, next_set, told_before, completion_from, shown_from}
 use Rattle.terminal_recordings.proofs.Summary.{reported_last, summary, quiet_law}
 
--- events of the subsystem
-abbrev pub AreQuiet : List Event → Type 0
-AreQuiet [] = Unit {0}
-AreQuiet (e ∷ es) = (is_seen e ≡ false) × AreQuiet es
-
-pub summary_quiet : (P : Description) (xs h : List Event) → AreQuiet xs → summary P (past P (history_after xs h)) ≡ summary P (past P h)
+pub summary_quiet : (P : Description) (xs h : List Event) → AreUnseen xs → summary P (past P (history_after xs h)) ≡ summary P (past P h)
 summary_quiet P [] h q = refl
 summary_quiet P (x ∷ xs) h (u, q) = summary_quiet P xs (x ∷ h) q ∙ quiet_law P (past P h) x u
 
-pub sightings_quiet : (P : Description) (xs h es : List Event) → AreQuiet xs → sightings_from P h (xs ++ es) ≡ sightings_from P (history_after xs h) es
+pub sightings_quiet : (P : Description) (xs h es : List Event) → AreUnseen xs → sightings_from P h (xs ++ es) ≡ sightings_from P (history_after xs h) es
 sightings_quiet P [] h es q = refl
 sightings_quiet P (x ∷ xs) h es (u, q) =
     ap (λ t. if t then record { event = x; sent = sent_in (out P h x) } ∷ sightings_from P (x ∷ h) (xs ++ es) else sightings_from P (x ∷ h) (xs ++ es)) u
@@ -53,7 +48,7 @@ flags_kept P (x ∷ xs) h f (u, k) =
 
 -- the words that are given are such events, and can come
 abbrev AreWords : List Event → Type 0
-AreWords es = AreQuiet es × KeepFlags es
+AreWords es = AreUnseen es × KeepFlags es
 
 write_words : (b : Bool) (e : Event) → is_seen e ≡ false → ((f : Flag) → flag_set f e ≡ None) → (es : List Event) → AreWords es → AreWords (if b then e ∷ [] else es)
 write_words true e u k es a = ((u, tt), (k, tt))
@@ -85,12 +80,12 @@ set_words (Some (OwnMode code)) m v = write_words (code == 16) (Vector v) refl (
     no_bit Terminal = refl
 set_words (Some (BroadMode code)) m v = (tt, tt)
 
-next_words : (r : Option Replying) (v : Option ℕ) → AreWords (next_set r v)
+pub next_words : (r : Option Replying) (v : Option ℕ) → AreWords (next_set r v)
 next_words None v = (tt, tt)
 next_words (Some r) None = (tt, tt)
 next_words (Some r) (Some v) = set_words r.cell r.number v
 
-pub told_quiet : (P : Description) (h : List Event) (s : Sighting) (later : List Sighting) → AreQuiet (told_before P h s later)
+pub told_quiet : (P : Description) (h : List Event) (s : Sighting) (later : List Sighting) → AreUnseen (told_before P h s later)
 told_quiet P h s later = (refl, (refl, (refl, (refl, (next_words (reply_now (past P h)) (data_sent s.sent)).0))))
 
 -- the flags are then as they are shown
@@ -170,7 +165,7 @@ set_proper (Some (OwnMode code)) m v small = by_code (code == 16) (code == 19)
     by_code false false = tt
 set_proper (Some (BroadMode code)) m v small = tt
 
-next_proper : (r : Option Replying) (o : Option Sending) → HasBits o → AreProper (next_set r (data_sent o))
+pub next_proper : (r : Option Replying) (o : Option Sending) → HasBits o → AreProper (next_set r (data_sent o))
 next_proper None o small = tt
 next_proper (Some r) None small = tt
 next_proper (Some r) (Some s) small = by_sync (is_command_sync s.kind)
@@ -181,3 +176,15 @@ next_proper (Some r) (Some s) small = by_sync (is_command_sync s.kind)
 
 pub told_proper : (P : Description) (h : List Event) (s : Sighting) (later : List Sighting) → HasBits s.sent → AreProper (told_before P h s later)
 told_proper P h s later small = (tt, (tt, (tt, (tt, next_proper (reply_now (past P h)) s.sent small))))
+
+-- events and then more of them are seen
+pub sightings_more : (P : Description) (xs h es : List Event) → sightings_from P h (xs ++ es) ≡ sightings_from P h xs ++ sightings_from P (history_after xs h) es
+sightings_more P [] h es = refl
+sightings_more P (x ∷ xs) h es = ap (seen_then x (out P h x)) (sightings_more P xs (x ∷ h) es) ∙ by_seen (is_seen x)
+  where
+    shows : Bool → List Sighting → List Sighting
+    shows t rest = if t then record { event = x; sent = sent_in (out P h x) } ∷ rest else rest
+
+    by_seen : (t : Bool) → shows t (sightings_from P (x ∷ h) xs ++ sightings_from P (history_after xs (x ∷ h)) es) ≡ shows t (sightings_from P (x ∷ h) xs) ++ sightings_from P (history_after xs (x ∷ h)) es
+    by_seen true = refl
+    by_seen false = refl

@@ -20,6 +20,11 @@ is_seen (Gap b) = true
 is_seen Slot = true
 is_seen _ = false
 
+-- what the subsystem does
+abbrev pub AreUnseen : List Event → Type 0
+AreUnseen [] = Unit {0}
+AreUnseen (e ∷ es) = (is_seen e ≡ false) × AreUnseen es
+
 -- an event with its answer, before what is seen later
 abbrev pub seen_then : Event → Out → List Sighting → List Sighting
 seen_then e o rest = if is_seen e then record { event = e; sent = sent_in o } ∷ rest else rest

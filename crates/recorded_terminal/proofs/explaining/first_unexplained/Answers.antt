@@ -1,4 +1,4 @@
-use Rattle.std.proofs.Common.{◌≡◌, ◌∷◌, suc, List, drop, true, false, refl, sym, ◌∙◌, ◌+◌, add-one}
+use Rattle.std.proofs.Common.{◌≡◌, ◌∷◌, suc, List, take, drop, true, false, refl, sym, ◌∙◌, ◌+◌, add-one}
 use Rattle.bus_legal.specs.Description.{Description, described}
 use Rattle.terminal_rules.specs.declared.event.Event.{Event}
 use Rattle.terminal_rules.specs.Past.{history_after}
@@ -20,9 +20,9 @@ loop-number-preserved g c =
     let cut : drop c.loop-number.number xs ≡ x ∷ drop (suc c.loop-number.number) xs = cut_of xs c.loop-number.number x c.loop-number-test.true c.index-recording-number.is in
     so_far_more g.L.Legality.is_legal P xs c.loop-number.number (c.loop-number.number + 1) c.status_behind-status.result (x.event ∷ k) c.see-sent.new.self (add-one c.loop-number.number)
     (c.see-sent.ensures.stands P i.history i.follows) c.status_behind-status.ensures
-    (shown_with xs c.loop-number.number x c.see-sent.result (shown_from P (x.event ∷ k) (recorded (drop (suc c.loop-number.number) xs))) (shown_of P (recorded xs)) cut
+    (shown_with xs c.loop-number.number x c.see-sent.result.sent (shown_from P (x.event ∷ k) (recorded (drop (suc c.loop-number.number) xs))) (shown_of P (recorded xs)) cut
     (c.is_same.ensures.0 c.if-not-is_same.false)
-    (shown_more P xs c.loop-number.number x c.loop-number.status i.history c.see-sent.result cut i.status i.shown (c.see-sent.ensures.sent P i.history i.follows)))
+    (shown_more P xs c.loop-number.number x c.loop-number.status i.history c.see-sent.result.sent (take c.loop-number.number (recorded xs)) cut i.status i.shown (c.see-sent.ensures.sent P i.history i.follows)))
 
 pub returns-then-not-is_same-clause-before : goal.returns-then-not-is_same-clause-before
 returns-then-not-is_same-clause-before g c =
@@ -40,8 +40,8 @@ unexplained g c =
     let i = c.loop-number.invariant in
     let k : List Event = history_after (told_by P i.history c.loop-number.status (word_shown x.sent)) i.history in
     let cut : drop c.loop-number.number xs ≡ x ∷ drop (suc c.loop-number.number) xs = cut_of xs c.loop-number.number x c.loop-number-test.true c.index-recording-number.is in
-    with_unexplained P c.args.setup.own_address xs c.loop-number.number x c.see-sent.result (shown_from P (x.event ∷ k) (recorded (drop (suc c.loop-number.number) xs))) cut
-    (shown_more P xs c.loop-number.number x c.loop-number.status i.history c.see-sent.result cut i.status i.shown (c.see-sent.ensures.sent P i.history i.follows))
+    with_unexplained P c.args.setup.own_address xs c.loop-number.number x c.see-sent.result.sent (shown_from P (x.event ∷ k) (recorded (drop (suc c.loop-number.number) xs))) cut
+    (shown_more P xs c.loop-number.number x c.loop-number.status i.history c.see-sent.result.sent (take c.loop-number.number (recorded xs)) cut i.status i.shown (c.see-sent.ensures.sent P i.history i.follows))
     (λ same. let wrong : true ≡ false = sym (c.is_same.ensures.1 same) ∙ c.if-not-is_same.true in cc)
 
 pub returns-then-not-is_same-clause-first : goal.returns-then-not-is_same-clause-first
@@ -55,8 +55,8 @@ returns-then-not-is_same-clause-shown g c =
     let i = c.loop-number.invariant in
     let k : List Event = history_after (told_by P i.history c.loop-number.status (word_shown x.sent)) i.history in
     let cut : drop c.loop-number.number xs ≡ x ∷ drop (suc c.loop-number.number) xs = cut_of xs c.loop-number.number x c.loop-number-test.true c.index-recording-number.is in
-    sent_instead P xs c.loop-number.number x c.see-sent.result (shown_from P (x.event ∷ k) (recorded (drop (suc c.loop-number.number) xs))) cut
-    (shown_more P xs c.loop-number.number x c.loop-number.status i.history c.see-sent.result cut i.status i.shown (c.see-sent.ensures.sent P i.history i.follows))
+    sent_instead P xs c.loop-number.number x c.see-sent.result.sent (shown_from P (x.event ∷ k) (recorded (drop (suc c.loop-number.number) xs))) cut
+    (shown_more P xs c.loop-number.number x c.loop-number.status i.history c.see-sent.result.sent (take c.loop-number.number (recorded xs)) cut i.status i.shown (c.see-sent.ensures.sent P i.history i.follows))
 
 pub returns-then-not-is_same-clause-instead : goal.returns-then-not-is_same-clause-instead
 returns-then-not-is_same-clause-instead g c =
@@ -66,8 +66,8 @@ returns-then-not-is_same-clause-instead g c =
     let i = c.loop-number.invariant in
     let k : List Event = history_after (told_by P i.history c.loop-number.status (word_shown x.sent)) i.history in
     let cut : drop c.loop-number.number xs ≡ x ∷ drop (suc c.loop-number.number) xs = cut_of xs c.loop-number.number x c.loop-number-test.true c.index-recording-number.is in
-    explained_instead P xs c.loop-number.number x c.see-sent.result (shown_from P (x.event ∷ k) (recorded (drop (suc c.loop-number.number) xs))) cut
-    (shown_more P xs c.loop-number.number x c.loop-number.status i.history c.see-sent.result cut i.status i.shown (c.see-sent.ensures.sent P i.history i.follows))
+    explained_instead P xs c.loop-number.number x c.see-sent.result.sent (shown_from P (x.event ∷ k) (recorded (drop (suc c.loop-number.number) xs))) cut
+    (shown_more P xs c.loop-number.number x c.loop-number.status i.history c.see-sent.result.sent (take c.loop-number.number (recorded xs)) cut i.status i.shown (c.see-sent.ensures.sent P i.history i.follows))
 
 pub returns-then-not-is_same-clause-explained : goal.returns-then-not-is_same-clause-explained
 returns-then-not-is_same-clause-explained g c = (

@@ -1,0 +1,193 @@
+#!/usr/bin/env python3
+"""Recordings that look random, judged by `rt1553-tool verify --any-subsystem` and by a decision of its own.
+
+    scripts/recordings.py TOOL..    builds of rt1553-tool
+
+The model of the rules (tests/model) plays messages that look random, while a subsystem does something now and then. What a monitor on the
+buses sees of each run is a recording, which has to be explained. Then each is changed in one slot: a bit, the kind, silence or
+a word. How many sightings are explained then is decided here by a terminal whose status keeps the bits of its flags open until it is
+sent. The last line is 'N passed, M failed'.
+"""
+import pathlib
+import random
+import re
+import subprocess
+import sys
+import tempfile
+import tomllib
+
+sys.path.insert(0, str(pathlib.Path(__file__).parent.parent / "tests/model"))
+import play  # noqa: E402
+import random_scripts  # noqa: E402
+import rules  # noqa: E402
+
+RUNS, MESSAGES = 20_000, 8
+PROFILES = 16
+SERVICE, BUSY, SUBSYSTEM, TERMINAL = 0x100, 0x8, 0x4, 0x1
+UNSEEN = ("write", "vector", "bit", "flag")
+
+
+class AnySubsystem(rules.Terminal):
+    """A terminal whose subsystem may do anything: `open` has the bits of the kept status that its flags decide and nothing has shown."""
+
+    def reset(self):
+        super().reset()
+        self.open = 0
+
+    def start(self, bus, command):
+        if not self.spares_kept(command):
+            self.open = 0
+        super().start(bus, command)
+
+    def formed(self, command, error=False, accept=False):
+        self.open = SERVICE | BUSY | SUBSYSTEM | (0 if self.inhibited else TERMINAL)
+        return super().formed(command, error, accept)
+
+    def can_send(self, sent):
+        """Whether it can send this word in a slot, or None; if so, it goes on."""
+        if not self.reply or not sent:
+            return not self.reply and not sent
+        kind, bus, bits = sent
+        word = self.reply.words[0]
+        if bus != self.reply.bus or kind != ("status" if word == "status" else "data"):
+            return False
+        if word == "status":
+            if (bits ^ self.kept) & ~self.open:
+                return False
+            # a busy terminal sends no words of its subsystem
+            if bits & BUSY and self.open & BUSY and self.reply.words[1:] not in (["last command"], ["bit"]):
+                del self.reply.words[1:]
+            self.kept, self.open = bits, 0
+        elif word == "last command" and bits != self.last:
+            return False
+        self.slot()
+        return True
+
+    def takes(self, event, sent):
+        """Whether it can send this in an event; if so, it goes on."""
+        if event == ("slot",):
+            return self.can_send(sent)
+        self.step(event)
+        return sent is None
+
+
+def explained(setup, recording):
+    """How many sightings some behaviour of the subsystem explains."""
+    terminal = AnySubsystem(setup)
+    return next((n for n, (event, sent) in enumerate(recording) if not terminal.takes(event, sent)), len(recording))
+
+
+def recorded(setup, seed):
+    """A run, as it is seen."""
+    recording = []
+
+    def note(event, answer):
+        if event[0] not in UNSEEN:
+            recording.append((event, answer if answer and answer[0] in ("status", "data") else None))
+
+    messages = random_scripts.Messages(setup, (29, 30), seed, note)
+    for _ in range(MESSAGES):
+        messages.message()
+    return recording
+
+
+def other_word(draw, sent):
+    """Another word in place of one that was sent, or of none."""
+    if sent is None:
+        return (draw.choice(("status", "data")), draw.choice("AB"), draw.getrandbits(16))
+    kind, bus, bits = sent
+    flipped = [(kind, bus, bits ^ 1 << draw.randrange(16)) for _ in range(3)]
+    return draw.choice([None, ("data" if kind == "status" else "status", bus, bits), (kind, rules.other_bus(bus), bits), *flipped])
+
+
+def changed(recording, seed):
+    """The recording, with another word in one slot; None where it has no slot."""
+    draw = random.Random(seed)
+    slots = [n for n, (event, _) in enumerate(recording) if event == ("slot",)]
+    if not slots:
+        return None
+    at = draw.choice(slots)
+    return [*recording[:at], (("slot",), other_word(draw, recording[at][1])), *recording[at + 1:]]
+
+
+def script_of(recording):
+    """A recording as a script: its lines, and the number of the line of each event."""
+    lines, numbers = [], []
+    for event, sent in recording:
+        lines.append(random_scripts.line_of(event))
+        numbers.append(len(lines))
+        if sent:
+            lines.append(f"#> {play.answer_line(sent)}")
+    return "".join(f"{line}\n" for line in lines), numbers
+
+
+def shown(sent):
+    return play.answer_line(sent) if sent else "nothing"
+
+
+def sent_of(line):
+    """The word of a line, as `verify` prints it."""
+    if found := re.fullmatch("([AB]) ([sd]) ([0-9a-f]{4})", line):
+        return ("status" if found[2] == "s" else "data", found[1], int(found[3], 16))
+    return None
+
+
+def is_right(setup, recording, numbers, name, told):
+    """Whether this is what is to be told of a recording."""
+    count = explained(setup, recording)
+    if count == len(recording):
+        return told == []
+    found = re.fullmatch(rf"{name}:(\d+): expected (.*), came (.*)", told[0]) if told else None
+    if not found or told[1:] != [f"{name}: differences: 1"]:
+        return False
+    event, sent = recording[count]
+    possible = [*recording[:count], (event, sent_of(found[3]))]
+    return int(found[1]) == numbers[count] and found[2] == shown(sent) and explained(setup, possible) == count + 1
+
+
+def judged(tool, folder, setup, recordings):
+    """How many of these recordings a build judges rightly."""
+    numbers = []
+    for n, recording in enumerate(recordings):
+        text, lines = script_of(recording)
+        (folder / f"{n}").write_text(text)
+        numbers.append(lines)
+    names = [str(n) for n in range(len(recordings))]
+    ran = subprocess.run([tool, "verify", "--any-subsystem", "profile.toml", *names], cwd=folder, capture_output=True, text=True, check=False)
+    told = {}
+    for line in ran.stdout.splitlines():
+        told.setdefault(line.partition(":")[0], []).append(line)
+    right = [n for n in range(len(recordings)) if is_right(setup, recordings[n], numbers[n], names[n], told.get(names[n], []))]
+    if ran.stderr:
+        print(f"FAILED: {ran.stderr.splitlines()[0]}")
+        return 0
+    return len(right)
+
+
+def main():
+    tools = [str(pathlib.Path(it).resolve()) for it in sys.argv[1:]]
+    if not tools:
+        sys.exit(__doc__)
+    passed = failed = 0
+    with tempfile.TemporaryDirectory() as room:
+        folder = pathlib.Path(room)
+        for number in range(PROFILES):
+            profile = random_scripts.profile_of(number)
+            (folder / "profile.toml").write_text(profile)
+            setup = play.setup_of(tomllib.loads(profile))
+            seeds = range(number, RUNS, PROFILES)
+            runs = [recorded(setup, seed) for seed in seeds]
+            if any(explained(setup, run) != len(run) for run in runs):
+                print("FAILED: the model does not explain its own runs")
+                failed += 1
+            others = [it for it in map(changed, runs, seeds) if it]
+            for tool in tools:
+                right = judged(tool, folder, setup, runs) + judged(tool, folder, setup, others)
+                passed += right
+                failed += len(runs) + len(others) - right
+    print(f"{passed} passed, {failed} failed")
+    return 1 if failed or not passed else 0
+
+
+if __name__ == "__main__":
+    sys.exit(main())
