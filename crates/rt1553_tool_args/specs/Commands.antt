@@ -11,8 +11,8 @@ use Rattle.rt1553_tool_args.specs.declared.command.ToolCommand.{ToolCommand}
 use Rattle.rt1553_tool_args.specs.declared.command.ToolCommand.TheVariants.{Lint, CheckScript, Verify, Import, Export, Expand, Toml, Explain, Differ, Acceptance, Against, Draw, Words, Live}
 use Rattle.rt1553_tool_args.specs.declared.command.Profiles.{Profiles}
 use Rattle.rt1553_tool_args.specs.declared.command.Profiles.TheVariants.{One, Folder}
-use Rattle.rt1553_tool_args.specs.declared.command.Compared.{Compared}
-use Rattle.rt1553_tool_args.specs.declared.command.Compared.TheVariants.{Stated, OnBus, Recording}
+use Rattle.rt1553_tool_args.specs.declared.command.ScriptKind.{ScriptKind}
+use Rattle.rt1553_tool_args.specs.declared.command.ScriptKind.TheVariants.{Test, BusTest, Recording}
 use Rattle.rt1553_tool_args.specs.declared.command.LintFormat.{LintFormat}
 use Rattle.rt1553_tool_args.specs.declared.command.LintFormat.TheVariants as lint
 use Rattle.rt1553_tool_args.specs.declared.command.ReportFormat.{ReportFormat}
@@ -85,17 +85,17 @@ abbrev pub AsksReport : Found → ReportFormat → Bool → Type 0
 AsksReport f format summary =
     (format ≡ report_format_of (first_value f (codes "format"))) × (summary ≡ is_given f (codes "summary")) × (summary ≡ true → format ≡ report.Text)
 
--- what is to be compared
-abbrev pub AsksCompared : Found → Compared → Type 0
-AsksCompared f Stated = (is_given f (codes "bus-only") ≡ false) × (is_given f (codes "any-subsystem") ≡ false)
-AsksCompared f OnBus = (is_given f (codes "bus-only") ≡ true) × (is_given f (codes "any-subsystem") ≡ false)
-AsksCompared f Recording = (is_given f (codes "bus-only") ≡ false) × (is_given f (codes "any-subsystem") ≡ true)
+-- what the scripts are to be
+abbrev pub AsksKind : Found → ScriptKind → Type 0
+AsksKind f Test = (is_given f (codes "bus-only") ≡ false) × (is_given f (codes "any-subsystem") ≡ false)
+AsksKind f BusTest = (is_given f (codes "bus-only") ≡ true) × (is_given f (codes "any-subsystem") ≡ false)
+AsksKind f Recording = (is_given f (codes "bus-only") ≡ false) × (is_given f (codes "any-subsystem") ≡ true)
 
 -- the name of a command
 abbrev pub command_name : ToolCommand → Text
 command_name (Lint files format) = codes "lint"
 command_name (CheckScript scripts) = codes "check-script"
-command_name (Verify profiles scripts compared expand format summary names) = codes "verify"
+command_name (Verify profiles scripts kind expand format summary names) = codes "verify"
 command_name (Import table) = codes "import"
 command_name (Export p) = codes "export"
 command_name (Expand messages) = codes "expand"
@@ -112,8 +112,8 @@ command_name (Live p) = codes "live"
 abbrev pub Asks : Found → ToolCommand → Type 0
 Asks f (Lint files format) = (texts_of files.items ≡ all_values f (codes "file")) × (format ≡ lint_format_of (first_value f (codes "format")))
 Asks f (CheckScript scripts) = texts_of scripts.items ≡ all_values f (codes "script")
-Asks f (Verify profiles scripts compared expand format summary names) =
-    PlaysTo f profiles (texts_of scripts.items) × (scripts.items ≢ []) × AsksCompared f compared × (expand ≡ is_given f (codes "expand"))
+Asks f (Verify profiles scripts kind expand format summary names) =
+    PlaysTo f profiles (texts_of scripts.items) × (scripts.items ≢ []) × AsksKind f kind × (expand ≡ is_given f (codes "expand"))
     × AsksReport f format summary × HasNames f names
 Asks f (Import table) = HasValue f (codes "table") table.now
 Asks f (Export p) = HasValue f (codes "profile") p.now

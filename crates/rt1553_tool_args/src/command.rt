@@ -1,7 +1,7 @@
 //! What the command line asks for.
 ghost use Rattle.std.specs.Prelude.{◌≡◌, IfOk, codes, option_map};
 ghost use Rattle.clap.specs.Words.{first_value, found_of};
-ghost use Rattle.rt1553_tool_args.specs.Commands.{Asks, AsksCompared, AsksReport, HasOption, HasValue, IsAskedBy, all_values, command_name, format_of, is_given, is_json, lint_format_of, report_format_of, texts_of};
+ghost use Rattle.rt1553_tool_args.specs.Commands.{Asks, AsksKind, AsksReport, HasOption, HasValue, IsAskedBy, all_values, command_name, format_of, is_given, is_json, lint_format_of, report_format_of, texts_of};
 
 use crate::args::NoCommand;
 use clap::ArgMatches;
@@ -16,14 +16,14 @@ pub enum Profiles<'a> {
     Folder(&'a str),
 }
 
-/// What `verify` compares with what a terminal does.
+/// What the scripts of `verify` are.
 #[derive(Clone, Copy)]
-pub enum Compared {
-    /// All that a script states.
-    Stated,
-    /// The same, but for hand-overs that it does not state.
-    OnBus,
-    /// The recording that it states: some behaviour of the subsystem is to explain it.
+pub enum ScriptKind {
+    /// Tests: all that they state is compared.
+    Test,
+    /// Tests on the bus alone: hand-overs that they don't state are left aside.
+    BusTest,
+    /// Recordings: some behaviour of the subsystem is to explain them.
     Recording,
 }
 
@@ -76,7 +76,7 @@ pub enum ToolCommand<'a> {
     Verify {
         profiles: Profiles<'a>,
         scripts: Vec<&'a str>,
-        compared: Compared,
+        kind: ScriptKind,
         /// The files have messages, which are expanded first.
         expand: bool,
         format: ReportFormat,
@@ -210,17 +210,17 @@ fn report_of(given: &ArgMatches<'_>) -> Result<(ReportFormat, bool), NoCommand>
     }
 }
 
-/// What `verify` is to compare. A recording is of the bus alone.
-fn compared_of(given: &ArgMatches<'_>) -> Result<Compared, NoCommand>
-    ensures { IfOk result (AsksCompared (found_of given.now)) }
+/// What the scripts are to be. A recording is of the bus alone.
+fn script_kind(given: &ArgMatches<'_>) -> Result<ScriptKind, NoCommand>
+    ensures { IfOk result (AsksKind (found_of given.now)) }
 {
     match (
         is_flag_given(given, "bus-only"),
         is_flag_given(given, "any-subsystem"),
     ) {
-        (false, false) => Ok(Compared::Stated),
-        (true, false) => Ok(Compared::OnBus),
-        (false, true) => Ok(Compared::Recording),
+        (false, false) => Ok(ScriptKind::Test),
+        (true, false) => Ok(ScriptKind::BusTest),
+        (false, true) => Ok(ScriptKind::Recording),
         (true, true) => Err(NoCommand::Usage),
     }
 }
@@ -246,7 +246,7 @@ fn verify_command<'a>(alloc: Global, given: &ArgMatches<'a>) -> Result<ToolComma
     Ok(ToolCommand::Verify {
         profiles,
         scripts,
-        compared: compared_of(given)?,
+        kind: script_kind(given)?,
         expand: is_flag_given(given, "expand"),
         format,
         summary,

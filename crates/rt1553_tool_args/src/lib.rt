@@ -6,4 +6,4 @@ mod command;
 mod table;
 
 pub use args::{NoCommand, VERSION, read_tool_args};
-pub use command::{Compared, LintFormat, Profiles, ReportFormat, TestFormat, ToolCommand};
+pub use command::{LintFormat, Profiles, ReportFormat, ScriptKind, TestFormat, ToolCommand};

@@ -13,7 +13,7 @@ use Rattle.script_recordings.specs.Seen.{AreSeenAs}
 use Rattle.script_recordings.specs.Explained.{told_of, IsFirstUnexplained}
 use Rattle.script_recordings.proofs.SeenLaws.{Cut, cut}
 
-sightings_alike : (P Q : Description) → AnswersAlike P Q → (h es : List Event) → sightings_from P h es ≡ sightings_from Q h es
+pub sightings_alike : (P Q : Description) → AnswersAlike P Q → (h es : List Event) → sightings_from P h es ≡ sightings_from Q h es
 sightings_alike P Q alike h [] = refl
 sightings_alike P Q alike h (e ∷ es) = λ j. seen_then e (alike h e j) (sightings_alike P Q alike (e ∷ h) es j)
 

@@ -1,8 +1,10 @@
 -- The first line of a script that no behaviour of the subsystem explains.
 use Rattle.std.specs.Prelude.{◌≡◌, Option, List, [], ◌∷◌, ◌++◌}
 use Rattle.bus_legal.specs.Description.{Description}
+use Rattle.terminal_rules.specs.declared.event.Event.{Event}
+use Rattle.terminal_rules.specs.Same.{AreProper}
 use Rattle.terminal_rules.specs.Out.{Sending, sending_out}
-use Rattle.terminal_recordings.specs.Recordings.{Sighting, IsExplained}
+use Rattle.terminal_recordings.specs.Recordings.{Sighting, sightings, IsExplained}
 use Rattle.script_lines.specs.Transcript.{answer_text}
 use Rattle.rt1553_verify.specs.Stated.{StatedEvent}
 use Rattle.rt1553_verify.specs.Verify.{ToldAnswer}
@@ -28,3 +30,10 @@ pub record IsFirstUnexplained (P : Description) (ss : List StatedEvent) (told : 
   pub unexplained : IsExplained P (before ++ sighting ∷ []) → ⊥
   pub possible : IsExplained P (before ++ record sighting { sent = other } ∷ [])
   pub is_told : told ≡ told_of stated other
+
+-- events that can come, of which just what the script states is seen, if some behaviour of the subsystem explains it
+pub record IsWitness (P : Description) (ss : List StatedEvent) (events : List Event) : Type 0 where
+  pub proper : AreProper events
+  pub recording : List Sighting
+  pub are_seen : AreSeenAs ss recording
+  pub plays : IsExplained P recording → sightings P events ≡ recording

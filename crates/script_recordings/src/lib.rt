@@ -3,8 +3,10 @@
 
 mod explaining;
 mod reading;
+mod telling;
 mod words;
 
 pub use explaining::unexplained_answer;
-pub use reading::{RecordingFault, read_recording};
+pub use reading::RecordingFault;
+pub use telling::witness;
 pub use words::read_sent;
