@@ -111,13 +111,13 @@ class Rows:
         self.row("the first answer is played", said.endswith("    $ printf 'A c 2c02\\nA gap\\nslot\\n' | bin/rt1553\n    A s 2800\n"), said)
         status, said, proved = self.build()
         self.row("a second build proves nothing", status == 0 and not proved and f": 0 of {count} crates proved now, {count} before, by" in said, said)
-        self.write("clone/crates/rt1553_names/README.md", "words\n")
+        self.write("clone/crates/tool_acceptance/README.md", "words\n")
         self.row("a page of a crate is not proved", not self.build()[2])
         self.copy(f"{self.work}/other")
         self.row("another clone takes what is kept", not self.build(clone=f"{self.work}/other")[2])
-        self.edit("rt1553_names")
+        self.edit("tool_acceptance")
         proved = self.build()[2]
-        self.row("after an edit what stands on the crate is proved", proved == ["rt1553_names", "rt1553_tool_program"], str(proved))
+        self.row("after an edit what stands on the crate is proved", proved == ["tool_acceptance", "rt1553_tool_program"], str(proved))
         self.row("ANEW=1 takes nothing", len(self.build(ANEW="1")[2]) == count)
         self.write("kit/WHAT", "something else\n")
         status, said, proved = self.build(KIT="another")
@@ -128,22 +128,22 @@ class Rows:
         shutil.rmtree(self.kept)
         self.build()
         for name, change in {
-            "a file changed": lambda at: self.write(f"{at[len(self.work) + 1:]}/rt1553_names.rlib/lib", "x"),
-            "a file removed": lambda at: os.remove(f"{at}/rt1553_names.rlib/lib"),
+            "a file changed": lambda at: self.write(f"{at[len(self.work) + 1:]}/tool_acceptance.rlib/lib", "x"),
+            "a file removed": lambda at: os.remove(f"{at}/tool_acceptance.rlib/lib"),
             "the sums removed": lambda at: os.remove(f"{at}/sums"),
         }.items():
-            change(self.entry("rt1553_names"))
+            change(self.entry("tool_acceptance"))
             # a crate that is kept is not looked below
             shutil.rmtree(self.entry("rt1553_tool_program"))
             status, said, proved = self.build()
-            holds = status == 0 and "rt1553_names: what was kept is damaged" in said and proved == ["rt1553_names", "rt1553_tool_program"]
+            holds = status == 0 and "tool_acceptance: what was kept is damaged" in said and proved == ["tool_acceptance", "rt1553_tool_program"]
             self.row(f"damaged: {name}", holds, said)
 
     def ends(self):
         """Builds that are ended in the middle, proofs that are killed, and two builds at once."""
         for number in (signal.SIGKILL, signal.SIGTERM, signal.SIGINT):
-            self.edit("rt1553_names")
-            self.write("kit/slow", "rt1553_names")
+            self.edit("tool_acceptance")
+            self.write("kit/slow", "tool_acceptance")
             ran, sleeps = self.start(), f"{self.kit}/sleeps"
             while not os.path.exists(sleeps) or not os.path.getsize(sleeps):
                 time.sleep(0.1)
@@ -157,30 +157,30 @@ class Rows:
             self.row(f"what a build started ends with it, signal {number}", not os.path.exists(f"/proc/{pid}") or " Z " in open(f"/proc/{pid}/stat", encoding="utf-8").read())
             self.proved()
             proved = self.build()[2]
-            self.row(f"the next build goes on, signal {number}", proved == ["rt1553_names", "rt1553_tool_program"], str(proved))
+            self.row(f"the next build goes on, signal {number}", proved == ["tool_acceptance", "rt1553_tool_program"], str(proved))
             self.row(f"and leaves nothing but what is kept, signal {number}", not os.listdir(f"{self.kept}/new"))
-        self.edit("rt1553_names")
-        self.write("kit/killed", "rt1553_names")
+        self.edit("tool_acceptance")
+        self.write("kit/killed", "tool_acceptance")
         proved = self.build()[2]
-        self.row("a proof that was killed is tried once more", proved == ["rt1553_names", "rt1553_names", "rt1553_tool_program"], str(proved))
+        self.row("a proof that was killed is tried once more", proved == ["tool_acceptance", "tool_acceptance", "rt1553_tool_program"], str(proved))
         shutil.rmtree(self.kept)
         both = [self.start(), self.start(clone=f"{self.work}/other")]
         said = [it.communicate()[0] for it in both]
         proved = self.proved()
         twice = {it for it in proved if proved.count(it) > 1}
-        self.row("of two builds at once one waits for the other", twice <= {"rt1553_names", "rt1553_tool_program"} and not any(it.returncode for it in both), str(said))
+        self.row("of two builds at once one waits for the other", twice <= {"tool_acceptance", "rt1553_tool_program"} and not any(it.returncode for it in both), str(said))
 
     def refused(self):
         """What ends a build."""
-        self.edit("rt1553_names")
-        self.write("kit/broken", "rt1553_names")
+        self.edit("tool_acceptance")
+        self.write("kit/broken", "tool_acceptance")
         status, said, proved = self.build()
-        self.row("a crate that is not proved ends the build", status and "rt1553_names           not proved, after" in said and proved == ["rt1553_names"], said)
-        self.row("the end of the log is shown", "fn rt1553_names::broken: not proved" in said and "out/build.log" in said, said)
+        self.row("a crate that is not proved ends the build", status and "tool_acceptance        not proved, after" in said and proved == ["tool_acceptance"], said)
+        self.row("the end of the log is shown", "fn tool_acceptance::broken: not proved" in said and "out/build.log" in said, said)
         os.remove(f"{self.kit}/broken")
         self.write("kit/sum", "fedcba9876543210")
         status, said, proved = self.build()
-        self.row("a proof in another logic is none", status and "rt1553_names was not proved" in said, said)
+        self.row("a proof in another logic is none", status and "tool_acceptance was not proved" in said, said)
         self.write("kit/sum", "0123456789abcdef")
         os.chmod(self.kept, 0o777)
         status, said, proved = self.build()

@@ -1,4 +1,4 @@
-//! What is wrong with a profile text, all of it, and what in it has no effect, each with its line.
+//! What is wrong with a profile text, all of it, and what in it has no effect, each with its line; and this as SARIF.
 #![tactic(auto)]
 
 mod errors;
@@ -7,10 +7,12 @@ mod lines;
 mod linting;
 mod places;
 mod positions;
+mod sarif;
 mod shown;
 mod tree;
 mod warnings;
 
 pub use finding::{Finding, LintFault, Position};
 pub use linting::lint;
+pub use sarif::{LintedFile, rule_of, sarif_report};
 pub use spare_entries::{Setting, SparePlace};

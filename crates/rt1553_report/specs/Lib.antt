@@ -1,4 +1,2 @@
 pub mod Results
 pub mod Clauses
-pub mod Ascii
-pub mod Rules

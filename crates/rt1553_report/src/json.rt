@@ -1,11 +1,11 @@
 //! Results as JSON.
 ghost use Rattle.std.specs.Prelude.{IfSome};
 ghost use Rattle.std.specs.String.{string_bytes};
-ghost use Rattle.rt1553_report.specs.Ascii.{IsPlainText};
+ghost use Rattle.ascii_json.specs.Ascii.{IsPlainText};
 
-use crate::ascii::in_ascii;
 use crate::result::{AnswerNames, ScriptOutcome, ScriptResult};
 use crate::told::answer_told;
+use ascii_json::in_ascii;
 use rt1553_files::escaped;
 use rt1553_verify::WrongAnswer;
 use serde::Serialize;

@@ -1,4 +1,1 @@
 pub mod Status
-pub mod Passing
-pub mod Loaded
-pub mod Named

@@ -1,34 +1,12 @@
 //! The program `rt1553-tool`: what people ask of a profile, over files and the standard streams.
 #![tactic(auto)]
 
-mod acceptance;
-mod bus_words;
-mod colours;
-mod compared;
-mod differ;
-mod draw;
-mod expand;
-mod explain;
-mod export;
-mod fault;
-mod files;
-mod import;
-mod lint;
-mod live;
-mod loaded;
-mod names;
-mod profile_toml;
-mod report;
-mod script_file;
-mod summary;
-mod verify;
 mod work;
-mod worst;
 
 use std::env;
 use std::io::IsTerminal;
 use std::process::ExitCode;
-use work::Screen;
+use tool_files::Screen;
 
 /// Whether the environment asks for no colours: NO_COLOR is there and not empty.
 fn forbids_colours(rt: &HostRuntime) -> bool {

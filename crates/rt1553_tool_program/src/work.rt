@@ -2,33 +2,17 @@
 ghost use Rattle.std.specs.Prelude.{◌≤◌, IfOk};
 ghost use Rattle.rt1553_tool_program.specs.Status.{CanEnd};
 
-use crate::acceptance::{against, write_test};
-use crate::bus_words::bus_words;
-use crate::differ::differ_profiles;
-use crate::draw::draw_run;
-use crate::expand::expand_file;
-use crate::explain::explain_profile;
-use crate::export::export_file;
-use crate::fault::{ToolFault, USAGE};
-use crate::import::import_file;
-use crate::lint::lint_files;
-use crate::live::play_live;
-use crate::profile_toml::write_toml;
-use crate::script_file::check_scripts;
-use crate::verify::{AskedReport, verify_scripts};
 use rt1553_tool_args::{NoCommand, ToolCommand, read_tool_args};
 use std::env;
 use std::io::{ErrorKind, Read, Write};
 use std::rt::{Env, Files};
-
-/// What somebody sees of the streams.
-#[derive(Clone, Copy)]
-pub struct Screen {
-    /// The standard error and not the output: progress is shown there.
-    pub has_progress: bool,
-    /// The output, and colours are welcome there.
-    pub has_colours: bool,
-}
+use tool_acceptance::{against, write_test};
+use tool_files::{Screen, ToolFault, USAGE};
+use tool_profiles::{
+    differ_profiles, explain_profile, export_file, import_file, lint_files, write_toml,
+};
+use tool_scripts::{bus_words, check_scripts, draw_run, expand_file, play_live};
+use tool_verify::{AskedReport, verify_scripts};
 
 /// Does what is asked for, and gives the status to end with.
 fn do_command<R: Files + AllocGlobal + Eprint, I: Read + Drop, W: Write>(
@@ -46,7 +30,7 @@ fn do_command<R: Files + AllocGlobal + Eprint, I: Read + Drop, W: Write>(
         ToolCommand::Verify {
             profiles,
             scripts,
-            bus_only,
+            kind,
             expand,
             format,
             summary,
@@ -54,7 +38,7 @@ fn do_command<R: Files + AllocGlobal + Eprint, I: Read + Drop, W: Write>(
         } => {
             let asked = AskedReport {
                 profiles: *profiles,
-                bus_only: *bus_only,
+                kind: *kind,
                 expand: *expand,
                 names: *names,
                 format: *format,

@@ -1,7 +1,0 @@
-use Rattle.std.proofs.Common.{subst, sym}
-use Rattle.rt1553_report.specs.Ascii.{IsPlainText}
-use Rattle.rt1553_report.proofs.AsciiLaws.{all_plain}
-use Rattle.rt1553_report.proofs.ascii.in_ascii.Goals as goal
-
-pub returns-clause-plain : goal.returns-clause-plain
-returns-clause-plain c = subst IsPlainText (sym c.loop-c.invariant) (all_plain c.loop-c.yielded)

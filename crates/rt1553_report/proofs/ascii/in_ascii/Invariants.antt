@@ -1,8 +1,0 @@
-use Rattle.std.proofs.Common.{◌≡◌}
-use Rattle.std.specs.List.{flat_map}
-use Rattle.std.specs.String.{string_bytes}
-use Rattle.rt1553_report.specs.Ascii.{ascii_char}
-use Rattle.rt1553_report.proofs.ascii.in_ascii.Given as goal
-
-abbrev pub invariant-loop-c : goal.invariant-loop-c
-invariant-loop-c l = string_bytes l.text ≡ flat_map ascii_char l.yielded

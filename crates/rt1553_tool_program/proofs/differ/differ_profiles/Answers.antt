@@ -1,5 +1,0 @@
-use Rattle.rt1553_tool_program.proofs.StatusLaws.{of-loaded}
-use Rattle.rt1553_tool_program.proofs.differ.differ_profiles.Goals as goal
-
-pub returns-clause-same : goal.returns-clause-same
-returns-clause-same g c = of-loaded c.put_pair.result c.in_ok-p.p c.in_ok-q.q c.in_ok-p.ensures c.in_ok-q.ensures c.put_pair.ensures.same

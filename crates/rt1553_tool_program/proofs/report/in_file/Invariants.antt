@@ -1,5 +1,0 @@
-use Rattle.std.proofs.Common.{◌≡◌, ◌+◌, length}
-use Rattle.rt1553_tool_program.proofs.report.in_file.Given as goal
-
-abbrev pub invariant-loop-one : goal.invariant-loop-one
-invariant-loop-one l = length l.told.items + length l.one-iterator.rest.items ≡ length l.fn.wrong.items

@@ -1,0 +1,29 @@
+-- Scripts of files: as they stand there, or expanded.
+use Rattle.std.specs.Prelude.{ℕ, ◌≡◌, ◌-◌, Bool, true, false, List, [], ◌∷◌, Option, Some, None, option_map, get_or}
+use Rattle.rt1553_expand.specs.declared.expanding.Expanded.TheVariants.{Script}
+use Rattle.rt1553_expand.specs.Expansion.{IsExpansion}
+use Rattle.rt1553_expand.specs.Sources.{sources_in}
+use Rattle.rt1553_expand.specs.declared.expanding.UnexpandedLine.{UnexpandedLine}
+use Rattle.tool_files.specs.declared.fault.ToolFault.{ToolFault}
+use Rattle.tool_files.specs.declared.fault.ToolFault.TheVariants.{Message}
+use Rattle.tool_files.specs.declared.loaded.LoadedScript.{LoadedScript}
+
+-- the script of a file with this text: the text, or what it is expanded to, with the line of the file from which each line comes
+abbrev pub IsScriptOf : Bool → List ℕ → LoadedScript → Type 0
+IsScriptOf false text script = (script.text.items ≡ text) × (script.sources ≡ None)
+IsScriptOf true text script = IsExpansion text (Script script.text) × (option_map (λ lines. lines.items) script.sources ≡ Some (sources_in text))
+
+-- the line of the file that a line of its script stands for
+abbrev pub line_in_file : Option (List ℕ) → ℕ → ℕ
+line_in_file None line = line
+line_in_file (Some sources) line = get_or sources (line - 1) line
+
+-- the line of events and messages of which a fault tells that it is refused
+abbrev pub message_told : ToolFault → Option UnexpandedLine
+message_told (Message name line) = Some line
+message_told _ = None
+
+-- the fault tells of the first of these lines
+abbrev pub TellsMessage : List UnexpandedLine → ToolFault → Type 0
+TellsMessage [] fault = ⊥
+TellsMessage (line ∷ lines) fault = message_told fault ≡ Some line

@@ -1,0 +1,47 @@
+-- The statuses of faults, and what faults tell of.
+use Rattle.std.specs.Prelude.{ℕ, ◌≡◌, ◌≤◌, ◌⊎◌, List, [], ◌∷◌, Option, Some, None, length}
+use Rattle.bus_legal.specs.Parts.{Parts}
+use Rattle.rt1553.specs.Load.{Reaches}
+use Rattle.rt1553.specs.declared.fault.LoadFault.TheVariants as load
+use Rattle.script_lines.specs.Text.{lines_of}
+use Rattle.refused_lines.specs.Refused.{refused_from}
+use Rattle.tool_files.specs.declared.fault.ToolFault.{ToolFault}
+use Rattle.tool_files.specs.declared.fault.ToolFault.TheVariants.{Memory, File, NoName, Input, Output, Profile, Line, Message, Refused, NotText, Usage}
+
+-- 2 for a text that is refused, 3 for arguments that the program does not accept, 4 where a file, a stream or memory failed
+abbrev pub tool_status : ToolFault → ℕ
+tool_status (Profile name load.Memory) = 4
+tool_status (Profile name fault) = 2
+tool_status (Line name line) = 2
+tool_status (Message name line) = 2
+tool_status (Refused told) = 2
+tool_status NotText = 3
+tool_status Usage = 3
+tool_status Memory = 4
+tool_status (File fault) = 4
+tool_status NoName = 4
+tool_status Input = 4
+tool_status Output = 4
+
+-- a text is refused, or memory ran out
+abbrev pub RefusesText : ToolFault → Type 0
+RefusesText (Refused told) = Unit {0}
+RefusesText fault = fault ≡ Memory
+
+-- some text, of at most 1,048,576 bytes, is of this terminal
+abbrev pub IsLoaded : Parts → Type 0
+IsLoaded value = (text : List ℕ) × (length text ≤ 1048576) × Reaches text value
+
+-- the line of which a fault tells that it is refused
+abbrev pub line_told : ToolFault → Option ℕ
+line_told (Line name line) = Some line.line
+line_told _ = None
+
+-- of the lines of a script that are refused the first is told; where there is none, the fault is the other one
+abbrev pub TellsFirst : List ℕ → ToolFault → ToolFault → Type 0
+TellsFirst [] other fault = fault ≡ other
+TellsFirst (n ∷ ns) other fault = line_told fault ≡ Some n
+
+-- the same of a script, where memory may run out
+abbrev pub TellsRefused : List ℕ → ToolFault → ToolFault → Type 0
+TellsRefused script other fault = (fault ≡ Memory) ⊎ TellsFirst (refused_from 1 (lines_of script)) other fault

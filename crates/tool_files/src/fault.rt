@@ -1,0 +1,136 @@
+//! Why the program ends early, the line that it prints then, and the status that it ends with.
+ghost use Rattle.std.specs.Prelude.{◌≡◌, ◌≤◌};
+ghost use Rattle.tool_files.specs.Status.{tool_status};
+
+use refused_lines::RefusedLine;
+use rt1553::LoadFault;
+use rt1553_expand::UnexpandedLine;
+use rt1553_files::FileFault;
+use std::alloc::{AllocError, AllocFailed};
+use std::fmt;
+
+/// The status of a comparison that finds a difference, and of what else was found.
+pub const DIFFERENT: u8 = 1;
+
+/// The status of a text that is refused.
+pub const REFUSED: u8 = 2;
+
+/// The status of arguments that the program does not accept.
+pub const USAGE: u8 = 3;
+
+/// Why the program ends early. A text is the name of a file, escaped, but for `Refused`.
+#[derive(Drop)]
+pub enum ToolFault {
+    /// Out of memory.
+    Memory,
+    /// A file isn't read.
+    File(FileFault),
+    /// The name of a file is empty.
+    NoName,
+    /// The input can't be read.
+    Input,
+    /// The output can't be written.
+    Output,
+    /// The profile or canonical text is refused.
+    Profile(String, LoadFault),
+    /// A line of the script is refused.
+    Line(String, RefusedLine),
+    /// A line of events and messages is refused.
+    Message(String, UnexpandedLine),
+    /// A text is refused for another cause. The text is all that is printed, but for the last line feed.
+    Refused(String),
+    /// An argument is not UTF-8.
+    NotText,
+    /// A word is missing.
+    Usage,
+}
+
+/// The line of a script that is refused, and why.
+#[derive(Clone, Copy)]
+struct RefusedText(RefusedLine);
+
+impl fmt::Display for RefusedText {
+    fn fmt<W: fmt::Write>(&self, f: &mut fmt::Formatter<W>) -> fmt::Result {
+        let refused = self.0;
+        let (line, column) = (refused.line, refused.misfit.column);
+        write!(
+            f,
+            "script: line {line}, column {column}: {}",
+            refused.misfit.reason
+        )
+    }
+}
+
+impl fmt::Display for ToolFault {
+    fn fmt<W: fmt::Write>(&self, f: &mut fmt::Formatter<W>) -> fmt::Result {
+        match self {
+            ToolFault::Memory => f.write_str("out of memory"),
+            ToolFault::File(fault) => write!(f, "{fault}"),
+            ToolFault::NoName => f.write_str("file: the name of a file is empty"),
+            ToolFault::Input => f.write_str("input: read failed"),
+            ToolFault::Output => f.write_str("output: write failed"),
+            ToolFault::Profile(name, fault) => write!(f, "{name}: {fault}"),
+            ToolFault::Line(name, line) => write!(f, "{name}: {}", RefusedText(*line)),
+            ToolFault::Message(name, line) => write!(
+                f,
+                "{name}: messages: line {}, column {}: {}",
+                line.line, line.column, line.fault
+            ),
+            ToolFault::Refused(told) => f.write_str(told.as_str()),
+            ToolFault::NotText => f.write_str("arguments: one is not UTF-8"),
+            ToolFault::Usage => f.write_str("arguments: see --help"),
+        }
+    }
+}
+
+impl ToolFault {
+    /// The status that the program ends with.
+    pub fn status(&self) -> u8
+        ensures value { result ≡ tool_status self.now }
+        ensures least { 2 ≤ result }
+        ensures most { result ≤ 4 }
+    {
+        match self {
+            ToolFault::Profile(_, LoadFault::Memory) => 4,
+            ToolFault::Profile(_, _)
+            | ToolFault::Line(_, _)
+            | ToolFault::Message(_, _)
+            | ToolFault::Refused(_) => REFUSED,
+            ToolFault::NotText | ToolFault::Usage => USAGE,
+            _ => 4,
+        }
+    }
+}
+
+impl From<AllocError> for ToolFault {
+    ghost use Rattle.std.specs.Prelude.{◌≡◌};
+    ghost use Rattle.tool_files.specs.declared.fault.ToolFault.TheVariants.{Memory};
+
+    ghost from_gives = { λ _ fault. fault ≡ Memory };
+
+    fn from(_error: AllocError) -> ToolFault {
+        ToolFault::Memory
+    }
+}
+
+impl<T: Drop> From<AllocFailed<T>> for ToolFault {
+    ghost use Rattle.std.specs.Prelude.{◌≡◌};
+    ghost use Rattle.tool_files.specs.declared.fault.ToolFault.TheVariants.{Memory};
+
+    ghost from_gives = { λ _ fault. fault ≡ Memory };
+
+    fn from(_failed: AllocFailed<T>) -> ToolFault {
+        ToolFault::Memory
+    }
+}
+
+impl From<FileFault> for ToolFault {
+    ghost use Rattle.std.specs.Prelude.{◌≡◌};
+    ghost use Rattle.tool_files.specs.declared.fault.ToolFault.TheVariants.{File};
+
+    ghost from_gives = { λ file fault. fault ≡ File file };
+
+    fn from(fault: FileFault) -> ToolFault {
+        ToolFault::File(fault)
+    }
+}

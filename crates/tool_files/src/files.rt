@@ -1,0 +1,58 @@
+//! What all commands need of files and of the output.
+ghost use Rattle.std.specs.Prelude.{◌≡◌, ◌≤◌, IfErr, IfOk, length};
+ghost use Rattle.tool_files.specs.Status.{IsLoaded};
+
+use crate::fault::ToolFault;
+use bus_legal::Normal;
+use rt1553::load;
+use rt1553_files::{PROFILE_BYTES, SCRIPT_BYTES, escaped, read_file};
+use std::io::Write;
+use std::rt::Files;
+
+/// A name as it is printed. The only error is out of memory.
+pub fn shown<R: AllocGlobal>(rt: &R, name: &str) -> Result<String, ToolFault>
+    ensures { IfErr result (λ fault. fault ≡ ToolFault.Memory) }
+{
+    Ok(escaped(rt.alloc(), name.as_bytes())?)
+}
+
+/// The bytes of a file, of at most so many.
+fn read_named<R: Files + AllocGlobal>(rt: &R, name: &str, most: usize) -> Result<Vec<u8>, ToolFault>
+    requires { most ≤ 68157440 }
+    ensures { IfOk result (λ bytes. length bytes.items ≤ most) }
+{
+    if name.is_empty() {
+        return Err(ToolFault::NoName);
+    }
+    Ok(read_file(rt, name, most)?)
+}
+
+/// The bytes of a profile file or a table, of at most 1,048,576 bytes.
+pub fn read_tool_profile<R: Files + AllocGlobal>(rt: &R, name: &str) -> Result<Vec<u8>, ToolFault>
+    ensures { IfOk result (λ bytes. length bytes.items ≤ 1048576) }
+{
+    read_named(rt, name, PROFILE_BYTES)
+}
+
+/// What can be reached of the terminal of a profile file.
+pub fn load_profile<R: Files + AllocGlobal>(rt: &R, name: &str) -> Result<Normal, ToolFault>
+    ensures { IfOk result (λ normal. IsLoaded normal) }
+{
+    let bytes = read_tool_profile(rt, name)?;
+    match load(rt.alloc(), bytes.as_slice()) {
+        Ok(normal) => Ok(normal),
+        Err(fault) => Err(ToolFault::Profile(shown(rt, name)?, fault)),
+    }
+}
+
+/// The bytes of a script, at most 68,157,440: no more than any script that is played can have.
+pub fn read_script_file<R: Files + AllocGlobal>(rt: &R, name: &str) -> Result<Vec<u8>, ToolFault>
+    ensures { IfOk result (λ bytes. length bytes.items ≤ 68157440) }
+{
+    read_named(rt, name, SCRIPT_BYTES)
+}
+
+/// Writes all the bytes. The only error is `Output`.
+pub fn write_bytes<W: Write>(output: &mut W, bytes: &[u8]) -> Result<(), ToolFault> {
+    output.write_all(bytes).map_err(|_| ToolFault::Output)
+}

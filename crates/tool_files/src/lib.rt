@@ -1,0 +1,16 @@
+//! What the commands of `rt1553-tool` share: files, faults with their exit statuses, and what somebody sees of the output.
+#![tactic(auto)]
+
+mod colours;
+mod fault;
+mod files;
+mod loaded;
+mod refused;
+mod several;
+
+pub use colours::{Ink, Screen, put_in, put_lines};
+pub use fault::{DIFFERENT, REFUSED, ToolFault, USAGE};
+pub use files::{load_profile, read_script_file, read_tool_profile, shown, write_bytes};
+pub use loaded::{LoadedScript, load_script};
+pub use refused::{first_refused, refused_file};
+pub use several::{status_or_stop, worst};

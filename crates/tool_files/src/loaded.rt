@@ -1,0 +1,79 @@
+//! Scripts of files: as they stand there, or expanded.
+ghost use Rattle.std.specs.Prelude.{◌≡◌, ◌⊎◌, IfOk, List, ℕ, option_map, true};
+ghost use Rattle.tool_files.specs.Loaded.{IsScriptOf, TellsMessage, line_in_file};
+
+use crate::fault::ToolFault;
+use crate::files::{read_script_file, shown};
+use crate::refused::refused_file;
+use bus_script::RunFault;
+use rt1553_expand::{Expanded, UnexpandedLine, expand, source_lines};
+use std::rt::Files;
+
+/// A script of a file.
+#[derive(Drop)]
+pub struct LoadedScript {
+    pub text: Vec<u8>,
+    /// For each line of the script the line of the file that it stands for; None where the file is the script.
+    pub sources: Option<Vec<u64>>,
+}
+
+impl LoadedScript {
+    /// The line of the file that a line of the script stands for.
+    pub fn line_in_file(&self, line: u64) -> u64
+        ensures { result ≡ line_in_file (option_map (λ lines. lines.items) self.now.sources) line }
+    {
+        let Some(sources) = &self.sources else {
+            return line;
+        };
+        let index = line.saturating_sub(1) as usize;
+        match sources.get(index) {
+            Some(source) => *source,
+            None => line,
+        }
+    }
+}
+
+/// The fault of the first line of events and messages that is refused.
+fn message_fault<R: AllocGlobal>(rt: &R, name: &str, refused: &[UnexpandedLine]) -> ToolFault
+    ensures { (result ≡ ToolFault.Memory) ⊎ TellsMessage refused.now result }
+{
+    let Some(line) = refused.first() else {
+        return ToolFault::Memory;
+    };
+    match shown(rt, name) {
+        Ok(name) => ToolFault::Message(name, *line),
+        Err(fault) => fault,
+    }
+}
+
+/// The script of the messages in the file of this name.
+fn load_messages<R: Files + AllocGlobal>(rt: &R, name: &str) -> Result<LoadedScript, ToolFault>
+    ensures { IfOk result (λ script. (text : List ℕ) × IsScriptOf true text script) }
+{
+    let text = read_script_file(rt, name)?;
+    match expand(rt.alloc(), text.as_slice())? {
+        Expanded::Script(script) => Ok(LoadedScript {
+            text: script,
+            sources: Some(source_lines(rt.alloc(), text.as_slice())?),
+        }),
+        Expanded::Refused(lines) => Err(message_fault(rt, name, lines.as_slice())),
+        Expanded::TooLong => Err(refused_file(rt, name, &RunFault::TooLong)),
+    }
+}
+
+/// The script in the file of this name, or, where it is to be expanded, the script of the messages there.
+pub fn load_script<R: Files + AllocGlobal>(
+    rt: &R,
+    name: &str,
+    expand: bool,
+) -> Result<LoadedScript, ToolFault>
+    ensures { IfOk result (λ script. (text : List ℕ) × IsScriptOf expand text script) }
+{
+    if expand {
+        return load_messages(rt, name);
+    }
+    Ok(LoadedScript {
+        text: read_script_file(rt, name)?,
+        sources: None,
+    })
+}

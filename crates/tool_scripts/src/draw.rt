@@ -1,0 +1,103 @@
+//! The command `draw`: a run as a drawing.
+ghost use Rattle.std.specs.Prelude.{◌≡◌, IfOk, List, ℕ, None};
+ghost use Rattle.script_lines.specs.Text.{lines_of};
+ghost use Rattle.bus_script.specs.Reading.{reading};
+ghost use Rattle.rt1553_draw.specs.Refused.{refusal};
+ghost use Rattle.tool_files.specs.declared.loaded.LoadedScript.{LoadedScript};
+ghost use Rattle.tool_files.specs.Loaded.{IsScriptOf};
+ghost use Rattle.tool_files.specs.Status.{RefusesText};
+
+use bus_legal::Normal;
+use bus_script::RunFault;
+use message_names::MessageNames;
+use rt1553_differ::explain;
+use rt1553_draw::{DrawFault, draw, draw_folded, page_of};
+use std::io::Write;
+use std::rt::Files;
+use tool_files::{
+    ToolFault, first_refused, load_profile, load_script, refused_file, shown, write_bytes,
+};
+use tool_names::load_names;
+
+/// The fault of the script in the file of this name, of which there is no drawing.
+fn drawing_fault<R: AllocGlobal>(rt: &R, name: &str, fault: DrawFault) -> ToolFault
+    ensures memory { fault ≡ DrawFault.Memory → result ≡ ToolFault.Memory }
+    ensures refused { RefusesText result }
+{
+    match fault {
+        DrawFault::Memory => ToolFault::Memory,
+        DrawFault::Script(_) | DrawFault::TooMany => refused_file(rt, name, &fault),
+    }
+}
+
+/// The drawing of a run, by the script of the file of this name; message by message where it is `folded`.
+fn draw_file<R: Files + AllocGlobal>(
+    rt: &R,
+    normal: &Normal,
+    names: Option<&MessageNames>,
+    name: &str,
+    expand: bool,
+    folded: bool,
+) -> Result<String, ToolFault>
+    ensures { IfOk result (λ drawing. (text : List ℕ) × (script : LoadedScript) × IsScriptOf expand text script × (refusal (reading 0 (lines_of script.text.items)) ≡ None)) }
+{
+    let script = load_script(rt, name, expand)?;
+    let script = script.text.as_slice();
+    let drawn = if folded {
+        draw_folded(rt.alloc(), normal, names, script)
+    } else {
+        draw(rt.alloc(), normal, names, script)
+    };
+    match drawn {
+        Ok(drawing) => Ok(drawing),
+        Err(fault) => {
+            let told = drawing_fault(rt, name, fault);
+            Err(match fault {
+                DrawFault::Script(RunFault::Line(_) | RunFault::LongLine(_)) => {
+                    first_refused(rt, name, script, told)
+                }
+                _ => told,
+            })
+        }
+    }
+}
+
+/// The drawings of a run as a page of its own, with the table of what its terminal does.
+fn page<R: AllocGlobal>(
+    rt: &R,
+    normal: &Normal,
+    names: Option<&MessageNames>,
+    title: &str,
+    drawings: &str,
+) -> Result<String, ToolFault> {
+    let table = explain(rt.alloc(), normal, names)?;
+    Ok(page_of(rt.alloc(), title, drawings, table.as_str())?)
+}
+
+/// Writes the drawing of a run, of a script or, where `expand` asks for it, of messages; as a page of its own where `html` asks for it.
+/// The status is 0.
+pub fn draw_run<R: Files + AllocGlobal + Eprint, W: Write>(
+    rt: &R,
+    profile: &str,
+    script: &str,
+    names: Option<&str>,
+    expand: bool,
+    html: bool,
+    output: &mut W,
+) -> Result<u8, ToolFault>
+    ensures { IfOk result (λ status. status ≡ 0) }
+{
+    let normal = load_profile(rt, profile)?;
+    let names = load_names(rt, names, &[normal.address()])?;
+    let names = names.as_ref();
+    let drawing = draw_file(rt, &normal, names, script, expand, html)?;
+    if html {
+        let (profile, script) = (shown(rt, profile)?, shown(rt, script)?);
+        let title = format!(in rt.alloc(); "{profile}: {script}")?;
+        let page = page(rt, &normal, names, title.as_str(), drawing.as_str())?;
+        write_bytes(output, page.as_str().as_bytes())?;
+    } else {
+        write_bytes(output, drawing.as_str().as_bytes())?;
+    }
+    Ok(0)
+}

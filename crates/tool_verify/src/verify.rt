@@ -1,0 +1,423 @@
+//! The command `verify`: scripts that state their answers are played.
+ghost use Rattle.std.specs.Prelude.{◌≡◌, ◌⊎◌, ◌≤◌, ◌==◌, IfOk, length};
+ghost use Rattle.bus_legal.specs.Parts.{Parts};
+ghost use Rattle.tool_files.specs.Status.{IsLoaded, RefusesText, tool_status};
+ghost use Rattle.tool_verify.specs.Passing.{IsPlayedTo, SaysOf, recording_status, script_status, stated_status};
+
+use crate::compared::{ScriptFault, compare_script};
+use crate::report::report_files;
+use crate::summary::put_summary;
+use bus_legal::Normal;
+use message_names::{MessageNames, owned};
+use rt1553_report::{AnswerNames, TriedScript, clauses_in, difference_told, name_at};
+use rt1553_tool_args::{Profiles, ReportFormat, ScriptKind};
+use rt1553_verify::{ScriptWarning, StatedFault, WrongAnswer, named};
+use script_recordings::RecordingFault;
+use std::alloc::{AllocError, Global};
+use std::format;
+use std::io::Write;
+use std::rt::Files;
+use tool_files::{
+    DIFFERENT, Ink, LoadedScript, Screen, ToolFault, first_refused, load_profile, load_script,
+    put_in, refused_file, shown, status_or_stop, worst, write_bytes,
+};
+use tool_names::{load_names, name_of_command};
+
+/// Which terminal a script is played to.
+#[derive(Drop)]
+pub enum PlayedTo<'a> {
+    /// All scripts to one.
+    One(Normal),
+    /// Each to that of the file of this folder that its line `# Profile: ` names.
+    Folder(&'a str),
+}
+
+/// How scripts are played.
+#[derive(Drop)]
+pub struct Played<'a> {
+    pub to: PlayedTo<'a>,
+    /// The names of messages, where there are names.
+    pub names: Option<MessageNames>,
+    /// What the scripts are.
+    pub kind: ScriptKind,
+    /// The files have messages, which are expanded first.
+    pub expand: bool,
+}
+
+/// What is asked for of the scripts.
+#[derive(Clone, Copy)]
+pub struct AskedReport<'a> {
+    pub profiles: Profiles<'a>,
+    pub kind: ScriptKind,
+    /// The files have messages, which are expanded first.
+    pub expand: bool,
+    /// The table with the names of messages, where one is given.
+    pub names: Option<&'a str>,
+    pub format: ReportFormat,
+    /// What passes, too, clause by clause, as text.
+    pub summary: bool,
+}
+
+/// What is written of each script as text.
+#[derive(Clone, Copy)]
+struct ScriptReport {
+    /// That it passes, too.
+    each: bool,
+    has_colours: bool,
+}
+
+/// Why a script is refused that names no profile.
+const NO_PROFILE: &str = "script: no line '# Profile: NAME' at its front";
+
+/// Why a script is refused whose profile is outside the folder of profiles.
+const OUTSIDE: &str = "script: the profile that it names is outside the folder";
+
+/// Whether the name of a profile stays in its folder: it doesn't begin at the root, and no part of it goes up.
+fn stays_inside(profile: &str) -> bool {
+    !profile.starts_with('/') && profile.split('/').all(|part| part != "..")
+}
+
+/// What can be reached of the terminal that a script of this name names, of a folder.
+fn profile_in<R: Files + AllocGlobal>(
+    rt: &R,
+    folder: &str,
+    name: &str,
+    script: &[u8],
+) -> Result<Normal, ToolFault>
+    ensures { IfOk result (λ normal. IsLoaded normal) }
+{
+    let Some(profile) = named(script, b"# Profile: ") else {
+        return Err(refused_file(rt, name, &NO_PROFILE));
+    };
+    let Ok(profile) = str::from_utf8(profile) else {
+        return Err(refused_file(rt, name, &NO_PROFILE));
+    };
+    if !stays_inside(profile) {
+        return Err(refused_file(rt, name, &OUTSIDE));
+    }
+    let path = format!(in rt.alloc(); "{folder}/{profile}")?;
+    load_profile(rt, path.as_str())
+}
+
+impl Played<'_> {
+    /// Gives what can be reached of the terminal that a script is played to.
+    fn of_script<R: Files + AllocGlobal>(
+        &self,
+        rt: &R,
+        name: &str,
+        script: &[u8],
+    ) -> Result<Normal, ToolFault>
+        ensures { IfOk result (IsPlayedTo self.now.to) }
+    {
+        match &self.to {
+            PlayedTo::One(normal) => Ok(*normal),
+            PlayedTo::Folder(folder) => profile_in(rt, folder, name, script),
+        }
+    }
+}
+
+/// Writes where a file differs.
+fn put_wrong_answer<W: Write>(
+    alloc: Global,
+    output: &mut W,
+    name: &str,
+    line: u64,
+    wrong: &WrongAnswer,
+    message: Option<&str>,
+) -> Result<(), ToolFault> {
+    let told = difference_told(alloc, wrong, message)?;
+    let told = told.as_str();
+    let text = format!(in alloc; "{name}:{line}: {told}\n")?;
+    write_bytes(output, text.as_str().as_bytes())
+}
+
+/// Writes how many answers of a file differ, or, where it is asked for, that it passes with so many.
+fn put_count<W: Write>(
+    alloc: Global,
+    output: &mut W,
+    name: &str,
+    count: usize,
+    answers: usize,
+    report: ScriptReport,
+) -> Result<(), ToolFault> {
+    let (ink, text) = if count > 0 {
+        (Ink::Red, format!(in alloc; "differences: {count}")?)
+    } else if report.each {
+        (
+            Ink::Green,
+            format!(in alloc; "passed (answers: {answers})")?,
+        )
+    } else {
+        return Ok(());
+    };
+    write_bytes(output, name.as_bytes())?;
+    write_bytes(output, b": ")?;
+    put_in(output, report.has_colours, ink, text.as_str().as_bytes())?;
+    write_bytes(output, b"\n")
+}
+
+/// The fault of the script in the file of this name, which is refused for this; its lines are those of the file.
+fn stated_fault<R: AllocGlobal>(rt: &R, name: &str, fault: StatedFault) -> ToolFault
+    ensures memory { fault ≡ StatedFault.Memory → result ≡ ToolFault.Memory }
+    ensures refused { RefusesText result }
+{
+    match fault {
+        StatedFault::Memory => ToolFault::Memory,
+        _ => refused_file(rt, name, &fault),
+    }
+}
+
+/// The fault of a script that states no recording.
+fn recording_fault<R: AllocGlobal>(
+    rt: &R,
+    name: &str,
+    script: &LoadedScript,
+    fault: RecordingFault,
+) -> ToolFault
+    ensures { (result ≡ ToolFault.Memory) ⊎ (tool_status result ≡ recording_status fault) }
+{
+    let fault = match fault {
+        RecordingFault::Unseen(line) => RecordingFault::Unseen(script.line_in_file(line)),
+        RecordingFault::Masked(line) => RecordingFault::Masked(script.line_in_file(line)),
+        RecordingFault::NoWord(line) => RecordingFault::NoWord(script.line_in_file(line)),
+        RecordingFault::Memory => return ToolFault::Memory,
+    };
+    refused_file(rt, name, &fault)
+}
+
+/// The fault of a script that is refused.
+fn script_fault<R: AllocGlobal>(
+    rt: &R,
+    name: &str,
+    script: &LoadedScript,
+    fault: ScriptFault,
+) -> ToolFault
+    ensures { (result ≡ ToolFault.Memory) ⊎ (tool_status result ≡ script_status fault) }
+{
+    match fault {
+        ScriptFault::Stated(fault) => unread_fault(rt, name, script, fault),
+        ScriptFault::Recording(fault) => recording_fault(rt, name, script, fault),
+    }
+}
+
+/// The fault of a script that states no answers as it should.
+fn unread_fault<R: AllocGlobal>(
+    rt: &R,
+    name: &str,
+    script: &LoadedScript,
+    fault: StatedFault,
+) -> ToolFault
+    ensures { (result ≡ ToolFault.Memory) ⊎ (tool_status result ≡ stated_status fault) }
+{
+    let fault = match fault {
+        StatedFault::Misplaced(line) => StatedFault::Misplaced(script.line_in_file(line)),
+        StatedFault::Mistyped(line, column) => {
+            StatedFault::Mistyped(script.line_in_file(line), column)
+        }
+        other => other,
+    };
+    let told = stated_fault(rt, name, fault);
+    match fault {
+        StatedFault::Line(_) | StatedFault::LongLine(_) => {
+            first_refused(rt, name, script.text.as_slice(), told)
+        }
+        _ => told,
+    }
+}
+
+/// A script that was played.
+#[derive(Drop)]
+pub struct PlayedScript {
+    /// What can be reached of the terminal to which it was played.
+    pub normal: Normal,
+    /// How many answers it states.
+    pub answers: usize,
+    /// Why that shows nothing, or little, where it does.
+    pub warning: Option<ScriptWarning>,
+    pub wrong: Vec<WrongAnswer>,
+    /// The names of the messages of these events, where there are names.
+    pub names: Option<AnswerNames>,
+}
+
+/// The names of the messages of commands, where there are names.
+fn names_of(
+    alloc: Global,
+    names: &Option<MessageNames>,
+    commands: &[Option<u16>],
+) -> Result<Option<AnswerNames>, AllocError> {
+    let Some(names) = names else {
+        return Ok(None);
+    };
+    let mut list = Vec::new(alloc);
+    for command in commands {
+        let name = match command {
+            Some(word) => name_of_command(names, *word),
+            None => None,
+        };
+        list.push(owned(alloc, name)?)?;
+    }
+    Ok(Some(AnswerNames { names: list }))
+}
+
+/// Plays a script of this name, and warns, on the standard error, of one that shows nothing, or little.
+pub fn play_script<R: Files + AllocGlobal + Eprint>(
+    rt: &R,
+    played: &Played<'_>,
+    name: &str,
+    script: &LoadedScript,
+) -> Result<PlayedScript, ToolFault>
+    ensures { IfOk result (λ it. (value : Parts) × IsPlayedTo played.now.to value × SaysOf played.now.kind value script.now.text.items (length it.wrong.items == 0)) }
+{
+    let text = script.text.as_slice();
+    let normal = played.of_script(rt, name, text)?;
+    match compare_script(rt.alloc(), &normal, text, played.kind) {
+        Ok(compared) => {
+            let names = names_of(rt.alloc(), &played.names, compared.commands.as_slice())?;
+            if let Some(warning) = compared.warning {
+                let name = shown(rt, name)?;
+                let _ = eprintln!(rt; "{name}: warning: {}", warning.text());
+            }
+            Ok(PlayedScript {
+                normal,
+                answers: compared.answers,
+                warning: compared.warning,
+                wrong: compared.wrong,
+                names,
+            })
+        }
+        Err(fault) => Err(script_fault(rt, name, script, fault)),
+    }
+}
+
+/// Plays a script, writes where it differs, or, where it is asked for, that it passes, and gives whether it does.
+fn tell_script<R: Files + AllocGlobal + Eprint, W: Write>(
+    rt: &R,
+    played: &Played<'_>,
+    name: &str,
+    script: &LoadedScript,
+    report: ScriptReport,
+    output: &mut W,
+) -> Result<bool, ToolFault>
+    ensures { IfOk result (λ passes. (value : Parts) × IsPlayedTo played.now.to value × SaysOf played.now.kind value script.now.text.items passes) }
+{
+    let it = play_script(rt, played, name, script)?;
+    let name = shown(rt, name)?;
+    for (index, wrong) in it.wrong.as_slice().iter().enumerate() {
+        let line = script.line_in_file(wrong.line);
+        let message = name_at(&it.names, index);
+        put_wrong_answer(rt.alloc(), output, name.as_str(), line, wrong, message)?;
+    }
+    put_count(
+        rt.alloc(),
+        output,
+        name.as_str(),
+        it.wrong.len(),
+        it.answers,
+        report,
+    )?;
+    Ok(it.wrong.is_empty())
+}
+
+/// Gives the clauses that a script names, of the test plan or of the standard; none where it names none.
+pub fn clauses_of(script: &[u8]) -> &[u8] {
+    match named(script, b"# Plan: ") {
+        Some(clauses) => clauses,
+        None => named(script, b"# Standard: ").unwrap_or(b""),
+    }
+}
+
+/// Keeps which clauses a script names and whether it passes.
+fn keep(
+    alloc: Global,
+    tried: &mut Vec<TriedScript>,
+    script: &[u8],
+    passes: bool,
+) -> Result<(), AllocError> {
+    let clauses = clauses_in(alloc, clauses_of(script))?;
+    tried.push(TriedScript { clauses, passes })?;
+    Ok(())
+}
+
+/// Plays a script of a file, keeps whether it passes, and gives the status to end with.
+fn play_file<R: Files + AllocGlobal + Eprint, W: Write>(
+    rt: &R,
+    played: &Played<'_>,
+    name: &str,
+    report: ScriptReport,
+    tried: &mut Vec<TriedScript>,
+    output: &mut W,
+) -> Result<u8, ToolFault>
+    ensures { IfOk result (λ status. status ≤ 1) }
+{
+    let script = match load_script(rt, name, played.expand) {
+        Ok(script) => script,
+        Err(fault) => {
+            keep(rt.alloc(), tried, b"", false)?;
+            return Err(fault);
+        }
+    };
+    let outcome = tell_script(rt, played, name, &script, report, output);
+    let passes = match &outcome {
+        Ok(passes) => *passes,
+        Err(_) => false,
+    };
+    keep(rt.alloc(), tried, script.text.as_slice(), passes)?;
+    Ok(if outcome? { 0 } else { DIFFERENT })
+}
+
+/// Plays scripts of files, and gives the status to end with.
+fn play_files<R: Files + AllocGlobal + Eprint, W: Write>(
+    rt: &R,
+    played: &Played<'_>,
+    names: &[&str],
+    report: ScriptReport,
+    output: &mut W,
+) -> Result<u8, ToolFault>
+    ensures { IfOk result (λ status. status ≤ 4) }
+{
+    let mut tried = Vec::new(rt.alloc());
+    let mut status = 0;
+    for name in names {
+        let of_file = play_file(rt, played, name, report, &mut tried, output);
+        status = worst(status, status_or_stop(rt, of_file)?);
+    }
+    if report.each {
+        put_summary(rt.alloc(), tried.as_slice(), report.has_colours, output)?;
+    }
+    Ok(status)
+}
+
+/// Plays scripts that state their answers and writes what came of them: as text where they differ, and with `summary` also what passes,
+/// clause by clause; in another format all. The status is the highest that a script asks for.
+pub fn verify_scripts<R: Files + AllocGlobal + Eprint, W: Write>(
+    rt: &R,
+    asked: AskedReport<'_>,
+    scripts: &[&str],
+    screen: Screen,
+    output: &mut W,
+) -> Result<u8, ToolFault>
+    ensures { IfOk result (λ status. status ≤ 4) }
+{
+    let to = match asked.profiles {
+        Profiles::One(name) => PlayedTo::One(load_profile(rt, name)?),
+        Profiles::Folder(folder) => PlayedTo::Folder(folder),
+    };
+    let names = match &to {
+        PlayedTo::One(normal) => load_names(rt, asked.names, &[normal.address()])?,
+        PlayedTo::Folder(_) => load_names(rt, asked.names, &[])?,
+    };
+    let played = Played {
+        to,
+        names,
+        kind: asked.kind,
+        expand: asked.expand,
+    };
+    let report = ScriptReport {
+        each: asked.summary,
+        has_colours: screen.has_colours,
+    };
+    match asked.format {
+        ReportFormat::Text => play_files(rt, &played, scripts, report, output),
+        _ => report_files(rt, &played, asked, scripts, output),
+    }
+}
