@@ -23,7 +23,7 @@ _rt1553_tool() {
     case ${COMP_WORDS[1]} in
         lint) flags='--format --help' kinds=(profile) many='profile' ;;
         check-script) flags='--help' kinds=(script) many='script' ;;
-        verify) flags='--summary --bus-only --expand --profiles --format --names --help' kinds=(profile script) many='script' ;;
+        verify) flags='--summary --bus-only --any-subsystem --expand --profiles --format --names --help' kinds=(profile script) many='script' ;;
         import) flags='--help' kinds=(table) many='' ;;
         export) flags='--help' kinds=(profile) many='' ;;
         expand) flags='--help' kinds=(messages) many='' ;;

@@ -10,6 +10,7 @@ complete -c rt1553-tool -n '__fish_seen_subcommand_from check-script' -F
 complete -c rt1553-tool -n __fish_use_subcommand -a verify -d 'Prints where a terminal does not answer as scripts state'
 complete -c rt1553-tool -n '__fish_seen_subcommand_from verify' -l summary -d 'prints what passes, too, clause by clause'
 complete -c rt1553-tool -n '__fish_seen_subcommand_from verify' -l bus-only -d 'ignores hand-overs that a script does not state'
+complete -c rt1553-tool -n '__fish_seen_subcommand_from verify' -l any-subsystem -d 'takes scripts as recordings: some behaviour of the subsystem is to explain them'
 complete -c rt1553-tool -n '__fish_seen_subcommand_from verify' -l expand -d 'takes messages, too, as `expand` does'
 complete -c rt1553-tool -n '__fish_seen_subcommand_from verify' -l profiles -x -a '(__fish_complete_directories)' -d 'in place of P: each script names its profile in FOLDER'
 complete -c rt1553-tool -n '__fish_seen_subcommand_from verify' -l format -x -a 'text json junit html' -d 'the output format'

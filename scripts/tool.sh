@@ -329,6 +329,34 @@ mask_rows() {
         verify --bus-only receiver silent_bus
 }
 
+# what `verify --any-subsystem` tells of recordings
+recording_rows() {
+    local ask=$'A c 2c02\nA gap\nslot\n'
+    printf 'address = 5\n' >"$work/five"
+    script flags $'A c 2c61\nA gap\nslot\n#> A s 2d00\nA c 2c61\nA gap\nslot\n#> A s 2c05\n'
+    script reserved "$ask#> A s 2800"$'\n'"$ask#> A s 2820"$'\n'"$ask#> A s 2840"$'\n'
+    script silent "$ask"
+    script unasked $'slot\n#> B d 0001\n'
+    script acts $'# by hand\nflag busy 1\n'"$ask#> A s 2808"$'\n'
+    script masks "$ask#~ A s 2..."$'\n'
+    script hands $'A c 2c03\nA gap\n#> hand self-test\nslot\n#> A s 2800\n'
+    script capital "$ask#> A s 28AB"$'\n'
+    input ''
+    row 'flags that a subsystem can have' 0 '' '' verify --any-subsystem five flags
+    row 'the same as a test' 1 'flags:3: expected A s 2d00, came A s 2c00\nflags:7: expected A s 2c05, came A s 2c00\nflags: differences: 2\n' '' verify five flags
+    row 'the first line that nothing explains' 1 'reserved:7: expected A s 2820, came A s 2800\nreserved: differences: 1\n' '' verify --any-subsystem five reserved
+    row 'no word where one has to come' 1 'silent:3: expected nothing, came A s 2800\nsilent: differences: 1\n' 'silent: warning: the script states no answer\n' \
+        verify --any-subsystem five silent
+    row 'a word where none can come' 1 'unasked:1: expected B d 0001, came nothing\nunasked: differences: 1\n' '' verify --any-subsystem five unasked
+    row 'what the subsystem does in a recording' 2 '' 'acts: script: line 2: what the subsystem does is not seen in a recording\n' verify --any-subsystem five acts
+    row 'a mask in a recording' 2 '' 'masks: script: line 3: a recording states each word whole, by #>\n' verify --any-subsystem five masks
+    row 'a hand-over in a recording' 2 '' 'hands: script: line 2: a recording states the word that was sent, as in "A s 2800"\n' verify --any-subsystem five hands
+    row 'capital digits in a recording' 2 '' 'capital: script: line 3: a recording states the word that was sent, as in "A s 2800"\n' verify --any-subsystem five capital
+    row 'a recording and a test on the bus' 3 '' 'arguments: see --help\n' verify --any-subsystem --bus-only five flags
+    row 'several recordings' 2 'flags: passed (answers: 2)\nreserved:7: expected A s 2820, came A s 2800\nreserved: differences: 1\nno clause: 1 of 3 scripts pass\nall: 1 of 3 scripts pass\n' \
+        'acts: script: line 2: what the subsystem does is not seen in a recording\n' verify --any-subsystem --summary five flags reserved acts
+}
+
 # what `verify` tells of small scripts over the profile `address = 5`
 verify_rows() {
     printf 'address = 5\n' >"$work/five"
@@ -802,6 +830,7 @@ for program in "$@"; do
     rt1553=${rt1553%-tool}
     verify_rows
     mask_rows
+    recording_rows
     import_rows
     expand_rows
     names_rows

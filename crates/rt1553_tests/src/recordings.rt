@@ -5,7 +5,7 @@ use bus_word::{Bus, Kind, Raw};
 use recorded_terminal::{Sent, Sighting, Unexplained, behaviour, first_unexplained};
 use rt1553::load;
 use rt1553_verify::read_stated;
-use script_recordings::unexplained_answer;
+use script_recordings::{unexplained_answer, witness};
 use std::alloc::{AllocError, Global};
 use std::test::Fail;
 
@@ -65,6 +65,16 @@ fn first_line_that_nothing_explains(rt: HostRuntime) -> Result<(), Fail> {
     };
     assert_eq!(rt; wrong.line, 3);
     assert_eq!(rt; wrong.came.as_slice(), b"A s 2800\n".as_slice());
+    Ok(())
+}
+
+#[test]
+fn subsystem_of_a_script(rt: HostRuntime) -> Result<(), Fail> {
+    let normal = load(rt.alloc(), b"address = 5")?;
+    let script = read_stated(rt.alloc(), b"A c 2c61\nA gap\nslot\n#> A s 2d00\n")?;
+    let told = witness(rt.alloc(), &normal, script.as_slice())?;
+    let played = b"flag service 1\nA c 2c61\nA gap\nslot\n".as_slice();
+    assert_eq!(rt; told.as_slice(), played);
     Ok(())
 }
 

@@ -3,15 +3,15 @@ ghost use Rattle.std.specs.Prelude.{◌≡◌, ◌<◌, ◌^◌, IfSome, None, o
 ghost use Rattle.bus_terminal.specs.Answer.{shown_word};
 ghost use Rattle.terminal_rules.specs.Out.{Sending};
 ghost use Rattle.script_lines.specs.Transcript.{sent_text};
-ghost use Rattle.script_recordings.specs.inner.Words.{sent_kind, any_digits};
+ghost use Rattle.script_recordings.specs.inner.Words.{kind_of_letter, any_digits};
 
 use bus_terminal::{Answer, Sent};
 use bus_word::Kind;
 use script_lines::{read_bus, read_word, write_answer};
 
 /// The kind of a word by its letter: `s` for a status word, `d` for a data word.
-fn sent_kind(letter: u8) -> Option<Kind>
-    ensures { result ≡ sent_kind letter }
+fn kind_of_letter(letter: u8) -> Option<Kind>
+    ensures { result ≡ kind_of_letter letter }
 {
     match letter {
         b's' => Some(Kind::Com),
@@ -28,7 +28,7 @@ fn read_any_digits(line: &[u8]) -> Option<Sent>
     match &line[2..] {
         [letter, b' ', a, b, c, d, b'\n'] => Some(Sent {
             bus,
-            kind: sent_kind(*letter)?,
+            kind: kind_of_letter(*letter)?,
             bits: read_word(*a, *b, *c, *d)?,
         }),
         _ => None,

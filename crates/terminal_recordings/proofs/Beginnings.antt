@@ -79,9 +79,6 @@ module _ (P : Description) (h : List Event) (q : IsQuiet P h) (b : Bus) (w : Raw
   word_open = ap (λ d. d.message b) word_determined ∙ ap (λ t. if t then Collects w.bits [] else Idle) (same_self b)
 
   -- with the gap
-  ended : Ending
-  ended = Done w.bits cell []
-
   gap_ends : ends_now P (past P (after_word b w h)) (Gap b) ≡ Done w.bits cell []
   gap_ends =
       let busy : Bool = flag_now (past P (after_word b w h)) Busy in

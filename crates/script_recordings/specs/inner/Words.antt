@@ -9,14 +9,14 @@ use Rattle.script_lines.specs.Digits.{word_of}
 use Rattle.script_lines.specs.Line.{bus_first}
 
 -- 's' is a status word, 'd' a data word
-abbrev pub sent_kind : ℕ → Option Kind
-sent_kind b = if b == 115 then Some Com else if b == 100 then Some Dat else None
+abbrev pub kind_of_letter : ℕ → Option Kind
+kind_of_letter b = if b == 115 then Some Com else if b == 100 then Some Dat else None
 
 -- `K XXXX` and a line feed: the kind and four digits
 abbrev pub word_behind : Bus → List ℕ → Option Sending
 word_behind bus (k ∷ s ∷ a ∷ b ∷ c ∷ d ∷ f ∷ []) = if (s == 32) && (f == 10)
     then (do
-      kind ← sent_kind k
+      kind ← kind_of_letter k
       bits ← word_of (a ∷ b ∷ c ∷ d ∷ [])
       Some (sending bus kind bits))
     else None
