@@ -3,9 +3,11 @@ PREFIX ?= /usr/local
 export PREFIX DESTDIR
 # the toolchain with which this version was proved: what `rt version` prints
 export KIT = rattle-kit-13f logic dac8208d650f15bf
+# what build, library, dist and deb take besides with TARGET=aarch64, for ARM64
+CROSS = $(if $(TARGET),$(TARGET)-linux-gnu-gcc qemu-$(TARGET))
 
 build: ## proves and builds bin/rt1553 and bin/rt1553-tool, one line a crate, and plays the first answer; what is proved is kept
-	@bash scripts/need.sh rt python3 gcc
+	@bash scripts/need.sh rt python3 gcc $(CROSS)
 	@python3 scripts/build.py
 
 help: ## lists the targets
@@ -28,12 +30,12 @@ edits: ## tries all must-fail edits, or those of one crate, CRATE=bus_word, and 
 	@python3 scripts/must-fail.py $(CRATE)
 
 library: ## proves and builds the library for C, C++, Python and Rust: bin/library
-	@bash scripts/need.sh rt cc ar ld objcopy objdump python3
+	@bash scripts/need.sh rt gcc ar ld objcopy objdump python3 $(CROSS)
 	@python3 scripts/build.py library
 
-test: ## the gate: proves and tests everything; the last line is 'N passed, M failed'
+test: ## the gate: proves and tests everything; the last line is 'N passed, M failed'; TARGET=aarch64 tests what is for ARM64
 	@bash scripts/need.sh rt python3 pip3 cc c++ cargo objdump groff mandoc aspell vim dpkg-deb dpkg-shlibdeps git script
-	bash scripts/gate.sh
+	bash scripts/$(if $(TARGET),arm64,gate).sh
 
 bench: ## the speed beside that of three programs in plain Rust; no test
 	@bash scripts/need.sh rt rustc python3
@@ -46,10 +48,10 @@ uninstall: ## removes what `make install` copied
 	@bash scripts/install.sh uninstall
 
 deb: ## makes a Debian package of what is built: bin/rt1553_VERSION_ARCHITECTURE.deb
-	@bash scripts/need.sh python3 dpkg-deb dpkg-shlibdeps
+	@bash scripts/need.sh python3 dpkg-deb dpkg-shlibdeps $(CROSS)
 	@bash scripts/deb.sh
 
-dist: build library ## makes an archive for machines without the toolchain: bin/rt1553-VERSION-linux-x86_64.tar.gz
+dist: build library ## makes an archive for machines without the toolchain: bin/rt1553-VERSION-linux-x86_64.tar.gz; TARGET=aarch64 makes one for ARM64
 	@bash scripts/dist.sh
 
 pages: ## writes the man pages and completions, of manual/arguments.toml, docs/script.md and docs/profile.md

@@ -21,6 +21,8 @@ So a build of this clone or another proves what has changed and what stands on i
 
 A line tells of each crate that it is proved, and how long that took, or that it was kept. All that the tools print stands in
 out/build.log. Only proofs are judged here: the tests, and what else `rt ci` refuses, are for `make test`.
+
+With TARGET=aarch64 the programs and the library are for ARM64 and in bin/aarch64; the first answer is played under qemu.
 """
 import fcntl
 import glob
@@ -44,6 +46,10 @@ LIBRARY = "rt1553_c"
 GIVEN, ANSWER = r"A c 2c02\nA gap\nslot\n", "A s 2800"
 # bytes of memory for each process that proves
 MEMORY = 3 << 30
+# the processor that is built for, this one or aarch64; as the toolchain and its verdicts name it; where what is built is left
+TARGET = os.environ.get("TARGET", "")
+MACHINE = {"": "x86_64-unknown-linux-gnu cpu=x86-64-v2", "aarch64": "aarch64-unknown-linux-gnu"}.get(TARGET) or sys.exit("TARGET is aarch64, or not set")
+BIN = f"bin/{TARGET}".rstrip("/")
 # seconds after which a line tells what is being proved
 SILENCE = 25
 # of a crate, how many versions are kept: those that were taken last
@@ -51,7 +57,7 @@ VERSIONS = 4
 # to be changed where a change of this script makes other libraries of the same files
 SCHEME = "1"
 # the last line of a proof from nothing that trusts the toolchain and the statements of libraries, and nothing else
-PROVED = r"logic=proved functions=\d+( axioms=\d+)?( target=x86_64-unknown-linux-gnu cpu=x86-64-v2)? sum={} native=nat,char,string logic-built=trusted libraries-built=trusted statements=trusted"
+PROVED = rf"logic=proved functions=\d+( axioms=\d+)?( target={MACHINE})? sum={{}} native=nat,char,string logic-built=trusted libraries-built=trusted statements=trusted"
 # what `rt ci` refuses beside it: contracts that no call meets, a pattern that takes every value, a term that a tactic chose
 REFUSED = re.compile(
     r"^(warning: no call of `(?![^`]*::fn::)|note: the search for empty contracts did not end|warning: calls of a tactic that chose a term"
@@ -157,9 +163,11 @@ class Crate:
         self.below = list(dict.fromkeys(it for library in self.libraries for it in [*library.below, library]))
         # about how long its proof takes, in lines
         self.lines = 150 + sum(it.count(b"\n") for path, it in self.files.items() if path.startswith("src/"))
-        made_from = [SCHEME, toolchain.sum, head.split(), self.of_toolchain, sums_of(self.files), [it.label for it in self.libraries]]
-        self.label = f"{self.name}-{hashlib.sha256(repr(made_from).encode()).hexdigest()[:32]}"
         self.is_library = not self.is_program and not self.is_archive
+        # a library is for each processor
+        self.target = ["--target", MACHINE] if TARGET and not self.is_library else []
+        made_from = [SCHEME, toolchain.sum, head.split(), self.of_toolchain, sums_of(self.files), [it.label for it in self.libraries], *self.target]
+        self.label = f"{self.name}-{hashlib.sha256(repr(made_from).encode()).hexdigest()[:32]}"
         # what is made of it: a program's object, an archive for C, or a library
         self.product = f"{self.name}.o" if self.is_program else f"lib{self.name}.a" if self.is_archive else f"{self.name}.rlib"
 
@@ -184,7 +192,7 @@ class Crate:
         if self.is_library:
             words += ["--statements"]
         else:
-            words += ["--toolchain", f"{at}/toolchain", "--backend", "llvm", *["--crate-type", "staticlib"] * self.is_archive]
+            words += ["--toolchain", f"{at}/toolchain", "--backend", "llvm", *self.target, *["--crate-type", "staticlib"] * self.is_archive]
         return [f"{at}/bin/rattle", "build", *words, "-o", f"{to}/{self.product}"]
 
     def is_proved(self, said):
@@ -352,17 +360,18 @@ class Build:
 
     def leave_program(self, crate):
         """Links a program and leaves it in bin/."""
-        self.run("bash", f"{TOP}/scripts/link.sh", f"{self.made[crate.name]}/{crate.product}", f"{TOP}/bin/{PROGRAMS[crate.name]}")
-        self.progress.line(f"        bin/{PROGRAMS[crate.name]} is there")
+        self.run("bash", f"{TOP}/scripts/link.sh", f"{self.made[crate.name]}/{crate.product}", f"{TOP}/{BIN}/{PROGRAMS[crate.name]}")
+        self.progress.line(f"        {BIN}/{PROGRAMS[crate.name]} is there")
 
 
 def play():
     """Plays the first answer of README.md."""
-    print(f"    $ printf '{GIVEN}' | bin/rt1553", flush=True)
-    said = subprocess.run([f"{TOP}/bin/rt1553"], input=GIVEN.replace("\\n", "\n"), stdout=subprocess.PIPE, text=True, check=False).stdout
+    words = [*[f"qemu-{TARGET}"] * bool(TARGET), f"{BIN}/rt1553"]
+    print(f"    $ printf '{GIVEN}' | {' '.join(words)}", flush=True)
+    said = subprocess.run(words, cwd=TOP, input=GIVEN.replace("\\n", "\n"), stdout=subprocess.PIPE, text=True, check=False).stdout
     print(f"    {said}", end="")
     if said != f"{ANSWER}\n":
-        sys.exit(f"bin/rt1553 was to answer {ANSWER}")
+        sys.exit(f"{BIN}/rt1553 was to answer {ANSWER}")
 
 
 def build_library(build, built):
@@ -370,8 +379,8 @@ def build_library(build, built):
     if built:
         build.made = {it.name: f"{built}/crates/{it.name}/out/rlib" for it in build.crates.values() if it.is_library}
     build.prove([build.crates[LIBRARY]])
-    build.run("bash", f"{TOP}/scripts/library.sh", f"{build.made[LIBRARY]}/lib{LIBRARY}.a", f"{built or TOP}/bin/library")
-    return f"{built}/bin/library" if built else "bin/library"
+    build.run("bash", f"{TOP}/scripts/library.sh", f"{build.made[LIBRARY]}/lib{LIBRARY}.a", f"{built or TOP}/{BIN}/library")
+    return f"{built}/{BIN}/library" if built else f"{BIN}/library"
 
 
 def build_libraries(build, folder, names):
@@ -390,7 +399,7 @@ def main():
     if word not in ("", "library", "libraries"):
         sys.exit(__doc__)
     kept = Kept()
-    for it in ("bin", "out"):
+    for it in (BIN, "out"):
         os.makedirs(f"{TOP}/{it}", exist_ok=True)
     with open(LOG, "w", encoding="utf-8", buffering=1) as log:
         build = Build(kept, log)
@@ -401,7 +410,7 @@ def main():
         elif word == "libraries":
             what = build_libraries(build, more[0], more[1:])
         else:
-            what = "bin/rt1553 and bin/rt1553-tool"
+            what = f"{BIN}/rt1553 and {BIN}/rt1553-tool"
             build.prove([build.crates[it] for it in PROGRAMS])
     of = f"{build.proved} of {len(build.all)} crates proved now, {len(build.all) - build.proved} before"
     print(f"{what}: {of}, by {build.toolchain.line}, in {minutes(time.time() - began)}.", flush=True)

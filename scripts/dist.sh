@@ -1,7 +1,7 @@
 #!/usr/bin/env bash
 # Makes an archive of what `make build` and `make library` leave, with its pages: dist.sh [BUILT [FOLDER]]
 # BUILT is a copy of this repository with the same in its bin/, by default this one. The archive is left in FOLDER, by default bin/, with
-# its checksum beside it. It prints the archive's name.
+# its checksum beside it. It prints the archive's name. With TARGET=aarch64 it is the archive for ARM64, of what is in bin/aarch64.
 #
 # The folders are those of the repository, so that the commands of the pages can be typed in the unpacked archive. The same files make
 # the same archive, to the byte: each file has the time of the last commit, or that of SOURCE_DATE_EPOCH.
@@ -9,37 +9,42 @@ set -euo pipefail
 built=$(realpath "${1:-$(dirname "$0")/..}")
 cd "$(dirname "$0")/.."
 folder=${2:-bin}
+bin=bin${TARGET:+/$TARGET}
 version=$(python3 scripts/manual.py version)
-name=rt1553-$version-linux-x86_64
+name=rt1553-$version-linux-${TARGET:-x86_64}
+# the processor, as README.txt and Containerfile name it
+processor=ARM64 level='' platform=arm64
+[[ -n ${TARGET:-} ]] || processor=x86-64 level=', on processors of level v2 (nearly all since 2009),' platform=amd64
+glibc=$("${TARGET:+$TARGET-linux-gnu-}gcc" -E -P -include features.h -xc - <<<'__GLIBC__ __GLIBC_MINOR__')
 time=${SOURCE_DATE_EPOCH:-$(git log -1 --format=%ct)}
 work=$(mktemp -d)
 trap 'rm -rf "$work"' EXIT
 to=$work/$name
 
 for file in rt1553 rt1553.o rt1553-tool rt1553-tool.o library; do
-    if [[ ! -e $built/bin/$file ]]; then
-        echo "bin/$file isn't there: run 'make build' and 'make library' first, where gcc can link statically" >&2
+    if [[ ! -e $built/$bin/$file ]]; then
+        echo "$bin/$file isn't there: run 'make build' and 'make library' first, where gcc can link statically" >&2
         exit 1
     fi
 done
 
-install -D -m 755 -t "$to/bin" "$built"/bin/rt1553{,-tool}
-install -D -m 644 -t "$to/objects" "$built"/bin/rt1553{,-tool}.o
-tar -c -C "$built" --exclude=__pycache__ bin/library | tar -x -C "$to"
+install -D -m 755 -t "$to/bin" "$built/$bin"/rt1553{,-tool}
+install -D -m 644 -t "$to/objects" "$built/$bin"/rt1553{,-tool}.o
+tar -c -C "$built/$bin" --exclude=__pycache__ library | tar -x -C "$to/bin"
 tar -c --exclude=__pycache__ --exclude=target --exclude=arguments.toml --exclude=words.txt \
     README.md CHANGELOG.md SECURITY.md Containerfile docs editors examples library/rust manual scripts/install.sh | tar -x -C "$to"
-sed "s/@VERSION@/$version/; s/@GLIBC@/$(getconf GNU_LIBC_VERSION)/" >"$to/README.txt" <<'END'
-rt1553 @VERSION@ for Linux on x86-64
-==============================
+sed -i "s/amd64/$platform/" "$to/Containerfile"
+sed -e "s/@VERSION@/$version/; s/@GLIBC@/glibc ${glibc/ /.}/; s/@PROCESSOR@/$processor/; s/@LEVEL@/$level/" -e '1{p;s/./=/g;}' >"$to/README.txt" <<'END'
+rt1553 @VERSION@ for Linux on @PROCESSOR@
 
 A remote terminal of MIL-STD-1553B with Notice 2: two programs, and a library for C, C++, Python and
 Rust. README.md says what it does, docs/proofs.md says what is proved. Everything is built: you need
 no toolchain.
 
-The programs run on any Linux on x86-64, on processors of level v2 (nearly all since 2009), and need
+The programs run on any Linux on @PROCESSOR@@LEVEL@ and need
 no other file. The library needs glibc 2.17 or later, the Python package Python 3.9 or later, and
-the Rust crates cargo. On macOS, Windows and ARM use a Linux container or virtual machine for
-x86-64; Containerfile makes a container of the programs.
+the Rust crates Rust 1.63 or later. On macOS and Windows use a Linux container or virtual machine for
+@PROCESSOR@; Containerfile makes a container of the programs.
 
 The owner has given no licence yet: all rights are reserved. The programs hold the GNU C Library
 (@GLIBC@), whose licence is the LGPL, version 2.1 or later: https://www.gnu.org/licenses/. It asks
@@ -56,7 +61,7 @@ Check that the archive is complete. This prints nothing if it is:
 
     $ sha256sum --quiet -c SHA256SUMS
 
-Try it in this folder. You need not install anything:
+Try it in this folder. You need not install anything; the last command takes Python:
 
     $ printf 'A c 2c02\nA gap\nslot\n' | bin/rt1553
     A s 2800
@@ -76,7 +81,7 @@ root:
 `uninstall` in place of `install` removes it. To build a package, set DESTDIR too, the folder before
 PREFIX.
 
-Install the Python package alone, in a virtual environment:
+Install the Python package alone, in a virtual environment (on Debian that takes python3-venv):
 
     python3 -m venv rt1553-python && rt1553-python/bin/pip install bin/library/rt1553-*.whl
 

@@ -2,8 +2,8 @@
 # The gate: every proof and test; that public contracts cite nothing of specs/inner, that nothing is there to which nothing refers,
 # that one name stands for one thing, that the pages of crates speak of what is there, and that each rule of docs/terminal.md shows in
 # its example; then the built programs from end to end, texts with known answers, the protocol tests, random tables, the acceptance
-# tests, the library in C, C++, Python and Rust, the archive of all, links, lines, spelling and sessions of the pages, and what is
-# installed; and beside all this the must-fail edits.
+# tests, recordings, the library in C, C++, Python and Rust, the archive of all, that for ARM64 under qemu, links, lines, spelling and sessions of
+# the pages, and what is installed; and beside all this the must-fail edits.
 # Of the must-fail edits only those are tried that tests/edits.record does not cover: the last lines say how many it covers, and the gate
 # fails where one is neither tried nor covered. Edits that an earlier run on this machine refused over the same files are not tried again,
 # but with ANEW=1. All else is proved and run from nothing each time.
@@ -14,6 +14,8 @@ work=$(mktemp -d) || exit 1
 edits=
 trap 'stop_edits; rm -rf "$work"' EXIT
 passed=0 failed=0
+# the parts are for this machine, except scripts/arm64.sh
+unset TARGET
 
 # a copy of the crates without their must-fail edits, each of which `rt ci` would give a check of its own
 built=$work/built
@@ -99,8 +101,10 @@ if [[ $failed -eq 0 ]]; then
     part bash scripts/tool.sh "${tools[@]}"
     part python3 scripts/tables.py "${programs[0]}" "${tools[@]}"
     part python3 scripts/acceptance.py "${programs[0]}" "${tools[@]}"
+    part python3 scripts/recordings.py "${tools[0]}"
     part bash scripts/callers.sh "$built"
     part bash scripts/unpacked.sh "$built"
+    part bash scripts/arm64.sh "$built"
     part python3 scripts/pages.py
     part python3 scripts/sessions.py "${programs[0]}" "${tools[0]}"
     part bash scripts/first-hour.sh "${programs[0]}" "${tools[0]}"

@@ -1,11 +1,12 @@
 #!/usr/bin/env bash
 # Copies what was built, and its pages, to $DESTDIR$PREFIX, or removes them: install.sh install|uninstall
 # PREFIX is /usr/local if it isn't set. The library goes with them if `make library` has built it. The archive of `make dist`
-# has this script too, and the same folders.
+# has this script too, and the same folders. With TARGET=aarch64 it is what was built for ARM64, in bin/aarch64.
 set -euo pipefail
 cd "$(dirname "$0")/.."
 prefix=${PREFIX:-/usr/local}
 to=${DESTDIR:-}$prefix
+bin=bin${TARGET:+/$TARGET}
 # zsh looks here in /usr/local, and elsewhere in what Debian's packages bring
 zsh=${ZSH_FUNCTIONS:-share/zsh/site-functions}
 
@@ -13,7 +14,7 @@ zsh=${ZSH_FUNCTIONS:-share/zsh/site-functions}
 files() {
     local name
     for name in rt1553 rt1553-tool; do
-        echo "bin/$name 755 bin/$name"
+        echo "$bin/$name 755 bin/$name"
         echo "manual/$name.1 644 share/man/man1/$name.1"
         echo "manual/$name.bash 644 share/bash-completion/completions/$name"
         echo "manual/$name.zsh 644 $zsh/_$name"
@@ -32,10 +33,10 @@ files() {
 library_files() {
     local name
     for name in include/rt1553.h include/rt1553.hpp lib/librt1553.a lib/pkgconfig/rt1553.pc; do
-        echo "bin/library/$name 644 $name"
+        echo "$bin/library/$name 644 $name"
     done
-    echo "bin/library/lib/librt1553.so.0 755 lib/librt1553.so.0"
-    for name in bin/library/rt1553-*.whl; do echo "$name 644 share/rt1553/${name##*/}"; done
+    echo "$bin/library/lib/librt1553.so.0 755 lib/librt1553.so.0"
+    for name in "$bin"/library/rt1553-*.whl; do echo "$name 644 share/rt1553/${name##*/}"; done
 }
 
 # copies the files that are told to their places
@@ -46,14 +47,14 @@ copy() {
 
 case ${1:-} in
 install)
-    if [[ ! -x bin/rt1553 || ! -x bin/rt1553-tool ]]; then
-        echo "bin/rt1553 and bin/rt1553-tool aren't there: run 'make build' first" >&2
+    if [[ ! -x $bin/rt1553 || ! -x $bin/rt1553-tool ]]; then
+        echo "$bin/rt1553 and $bin/rt1553-tool aren't there: run 'make build' first" >&2
         exit 1
     fi
     files | copy
     # the schema stands elsewhere here: as seen from share/doc/rt1553
     find "$to/share/doc/rt1553/examples" -name '*.toml' -exec sed -i '1s|^\(#:schema [./]*\)editors/|\1../../rt1553/|' {} +
-    if [[ -d bin/library ]]; then
+    if [[ -d $bin/library ]]; then
         library_files | copy
         ln -sf librt1553.so.0 "$to/lib/librt1553.so"
         sed -i "s|@PREFIX@|$prefix|" "$to/lib/pkgconfig/rt1553.pc"

@@ -5,7 +5,8 @@ set -u
 declare -A packages=(
     [python3]=python3 [pip3]=python3-pip [gcc]='gcc libc6-dev' [cc]='gcc libc6-dev' [c++]=g++ [cargo]=cargo [rustc]=rustc [git]=git
     [script]=bsdutils [ar]=binutils [ld]=binutils [objcopy]=binutils [objdump]=binutils [dpkg-deb]=dpkg [dpkg-shlibdeps]=dpkg-dev
-    [groff]=groff-base [mandoc]=mandoc [aspell]='aspell aspell-en' [vim]=vim
+    [aarch64-linux-gnu-gcc]='gcc-aarch64-linux-gnu libc6-dev-arm64-cross' [aarch64-linux-gnu-g++]=g++-aarch64-linux-gnu
+    [qemu-aarch64]=qemu-user [groff]=groff-base [mandoc]=mandoc [aspell]='aspell aspell-en' [vim]=vim [debootstrap]=debootstrap
 )
 wanted=()
 for name in "$@"; do

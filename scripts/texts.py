@@ -1,11 +1,11 @@
 #!/usr/bin/env python3
-"""Gives texts to the program: texts.py PROGRAM..
+"""Gives texts to the program: texts.py [-PART] PROGRAM..
 
 PROGRAM is the built program rt1553. Each text is a profile, a canonical text or a script whose answer is known: it is
 refused by its first fault (tests/texts/refused.txt, ranges.txt, refused_lines.txt), it is accepted (accepted.txt), it
 has these canonical lines (canonical.txt), another text means the same terminal or another one, which a script worked
 out by hand shows (differing.txt), or a script has this transcript (tests/rows, and the model of the rules in
-tests/model). The last line is 'N passed, M failed': rows, over all programs.
+tests/model). PART, a function that gives rows, is left out. The last line is 'N passed, M failed': rows, over all programs.
 """
 
 import pathlib
@@ -683,8 +683,8 @@ def fault_of(program, row, room):
 
 
 def main(*names):
-    programs = [pathlib.Path(it).resolve() for it in names]
-    rows = [row for part in ROWS for row in part()]
+    programs = [pathlib.Path(it).resolve() for it in names if it[0] != "-"]
+    rows = [row for part in ROWS if f"-{part.__name__}" not in names for row in part()]
     failed = 0
     with tempfile.TemporaryDirectory() as room, ThreadPoolExecutor(2) as lanes:
         for program in programs:

@@ -1,5 +1,5 @@
-//! RT1553_LIB_DIR names the folder of librt1553.a. If it is not set, this is the folder that
-//! `scripts/library.sh build` leaves.
+//! RT1553_LIB_DIR names the folder of librt1553.a. If it is not set, this is the folder in which
+//! `make library` leaves it.
 use std::env;
 use std::path::PathBuf;
 

@@ -2,6 +2,9 @@
 #![no_std]
 #![allow(non_camel_case_types)]
 
+// in the prelude from Rust 1.80 on
+use core::mem::size_of;
+
 pub const RT1553_DONE: u8 = 0;
 pub const RT1553_DIFFER: u8 = 1;
 pub const RT1553_REFUSED: u8 = 2;
