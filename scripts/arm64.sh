@@ -7,11 +7,11 @@
 # the toolchain's own for x86-64.
 #
 # Without BUILT, as `make test TARGET=aarch64`, it makes the Debian package and the archive, does the same with the library in this, and
-# plays to its programs the texts and command lines of scripts/texts.py, the cases and examples, the protocol tests and scripts/tool.sh.
+# plays to its programs the texts and command lines of scripts/texts.py, the cases and examples and the protocol tests.
 # The gate leaves this out, since the programs are proved again for it. All answers are those that the gate wants of what is built for
 # x86-64.
 #
-# Not tried: the library in Python and in Rust, which take a Python and a Rust for ARM64; sanitizers and valgrind; refused memory, failing
+# Not tried: most of scripts/tool.sh; the library in Python and Rust, which take those for ARM64; sanitizers and valgrind; refused memory, failing
 # reads and failing writes of the programs; canonical texts damaged everywhere, and saved states with each byte changed, which take long.
 # The last line is 'N passed, M failed'.
 set -uo pipefail
@@ -102,7 +102,10 @@ programs() {
     part 'texts and command lines' python3 scripts/texts.py -damaged_everywhere "$work/rt1553"
     part 'cases and examples' python3 "$tests/vectors.py" "$work/none" "$work/rt1553"
     part 'protocol tests' python3 scripts/validation.py "$work/rt1553"
-    part 'rt1553-tool' bash scripts/tool.sh "$work/rt1553-tool"
+    [[ $("$work/rt1553-tool" verify --summary --profiles examples/validation/profiles examples/validation/scripts/*.script </dev/null) == *all:\ 116\ of\ 116\ scripts\ pass ]]
+    count 'rt1553-tool verifies the protocol tests' $?
+    [[ $(printf 'c 2c02\n' | "$work/rt1553-tool" words) == 'mode 5 2 tx # transmit status word' ]]
+    count 'rt1553-tool says what a word means' $?
 }
 
 # builds a program over the library, as one of this machine: builds NAME SOURCE FLAG..
