@@ -9,6 +9,7 @@ largest test takes, and the sizes in docs/acceptance.md. Each further TOOL is tr
 in what was written, and each has to be found. The last line is 'N passed, M failed'.
 """
 
+import contextlib
 import csv
 import dataclasses
 import functools
@@ -759,11 +760,15 @@ def progress(it, profile, text):
     master, slave = os.openpty()
     done = subprocess.run([it.tool, "acceptance", profile], stdin=subprocess.DEVNULL, stdout=subprocess.PIPE, stderr=slave, check=False)
     os.close(slave)
-    shown = os.read(master, 65536).decode()
+    shown = b""
+    # a terminal to which nobody writes any more ends with an error
+    with contextlib.suppress(OSError):
+        while piece := os.read(master, 65536):
+            shown += piece
     os.close(master)
     steps = range(64, len(read_script(text)) + 1, 64)
     wanted = "".join(f"\r{number} exchanges" for number in steps) + "\r\x1b[K"
-    it.count.equal("progress", (done.returncode, done.stdout.decode() == text, shown), (0, True, wanted))
+    it.count.equal("progress", (done.returncode, done.stdout.decode() == text, shown.decode()), (0, True, wanted))
 
 
 # ---- time and sizes
