@@ -9,11 +9,11 @@ ghost use Rattle.tool_verify.specs.Passing.{IsExplainedBy, PassesBy, SaysOf, sco
 ghost use Rattle.tool_verify.specs.declared.compared.ScriptFault.TheVariants.{Stated, Recording};
 
 use bus_legal::Normal;
+use rt1553_tool_args::ScriptKind;
 use rt1553_verify::{
     ScriptWarning, Stated, StatedFault, WrongAnswer, answers_in, message_commands, read_stated,
     script_warning, stated_on_bus, wrong_answers,
 };
-use rt1553_tool_args::ScriptKind;
 use script_recordings::{RecordingFault, unexplained_answer};
 use std::alloc::{AllocError, Global};
 
