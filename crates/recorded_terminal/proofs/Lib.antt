@@ -1,3 +1,4 @@
 pub mod SoFar
 pub mod TellLaws
 pub mod ToldSoFar
+pub mod WatchLaws

@@ -4,3 +4,5 @@ pub use Rattle.terminal_recordings.specs.Completion
 pub mod SentWords
 pub mod Sightings
 pub mod Follows
+pub mod Watched
+pub mod inner

@@ -1,18 +1,43 @@
 //! What the subsystem did, as a recording tells it.
-ghost use Rattle.std.specs.Prelude.{◌≡◌, ◌++◌, IfOk, OnOk};
+ghost use Rattle.std.specs.Prelude.{◌≡◌, ◌++◌, ◌∷◌, IfOk, OnOk};
 ghost use Rattle.bus_legal.specs.Description.{described};
 ghost use Rattle.terminal_rules.specs.Same.{AreProper};
 ghost use Rattle.terminal_recordings.specs.Recordings.{sightings};
-ghost use Rattle.terminal_recordings.specs.Completion.{shown_of};
+ghost use Rattle.terminal_recordings.specs.Completion.{next_status, shown_of};
 ghost use Rattle.recorded_terminal.specs.Follows.{given_events, told_events};
 ghost use Rattle.recorded_terminal.specs.Sightings.{recorded};
 
-use crate::explaining::{next_status, status_behind};
 use crate::follower::{Follower, Told};
 use crate::sighting::Sighting;
+use crate::told::shown_status;
 use bus_legal::{Legality, Setup};
 use bus_terminal::Event;
 use std::alloc::{AllocError, Global};
+
+/// The next status word that is seen in these sightings.
+fn next_status(later: &[Sighting]) -> Option<u16>
+    ensures { result ≡ next_status (recorded later.now) }
+{
+    for sighting in later {
+        let status = shown_status(sighting.sent);
+        if status.is_some() {
+            return status;
+        }
+    }
+    None
+}
+
+/// Gives the next status word that is seen behind a sighting, where `status` is the next with it: no sighting is looked through twice.
+fn status_behind(status: Option<u16>, sighting: &Sighting, later: &[Sighting]) -> Option<u16>
+    requires { status ≡ next_status (recorded (sighting.now ∷ later.now)) }
+    ensures { result ≡ next_status (recorded later.now) }
+{
+    if shown_status(sighting.sent).is_some() {
+        next_status(later)
+    } else {
+        status
+    }
+}
 
 /// Pushes an event, if there is one.
 fn push_if(events: &mut Vec<Event>, event: Option<Event>) -> Result<(), AllocError>

@@ -1,4 +1,5 @@
+pub mod CommandLaws
 pub mod HeadingLaws
+pub mod ReaderLaws
 pub mod StatedLaws
 pub mod VerifyLaws
-pub mod CommandLaws

@@ -16,7 +16,7 @@ use Rattle.rt1553_verify.specs.declared.stated.StatedFault.{StatedFault}
 use Rattle.rt1553_verify.specs.declared.stated.StatedFault.TheVariants.{LongLine, TooLong}
 use Rattle.rt1553_verify.specs.declared.matching.Matching.{Matching}
 use Rattle.rt1553_verify.specs.declared.matching.Matching.TheVariants.{Exact}
-use Rattle.rt1553_verify.specs.Stated.{StatedEvent, Latest, After, is_empty, states_answer, says_bytes, can_match, matching_of, states, goes_on, ended, stays, or_misplaced, silent_line, unstated_line, by_going_on, by_mask, by_answer, line_says, then_events, then_lines, stated_by}
+use Rattle.rt1553_verify.specs.Stated.{StatedEvent, Latest, After, is_empty, states_answer, says_bytes, can_match, matching_of, states, goes_on, ended, stays, or_misplaced, silent_line, unstated_line, by_going_on, by_mask, by_answer, line_says, bounded_line, then_events, then_lines, stated_by}
 
 -- a comment says no event
 comment-means : (line : List ℕ) → meaning (35 ∷ line) ≡ Ok None
@@ -35,63 +35,62 @@ pub then-twice : (es fs : List StatedEvent) (later : Said) → then_events es (t
 then-twice es fs (Ok later) = ap Ok (sym (append_assoc es fs later))
 then-twice es fs (Err fault) = refl
 
--- a line in its place and of its length
-pub stated-line : (n : ℕ) (latest : Latest) (line : List ℕ) (lines : List (List ℕ)) → n < 1048576 → length line ≤ 64
-    → stated_by n latest (line ∷ lines) ≡ then_lines (line_says (n + 1) latest line) (λ l. stated_by (n + 1) l lines)
-unfolding stated_by
-stated-line n latest line lines few short = grind (arith, nat_tests)
+pub then-none : (said : Said) → then_events [] said ≡ said
+then-none (Ok later) = refl
+then-none (Err fault) = refl
 
-stated-too_long : (n : ℕ) (latest : Latest) (line : List ℕ) (lines : List (List ℕ)) → 1048576 ≤ n → stated_by n latest (line ∷ lines) ≡ Err TooLong
-unfolding stated_by
-stated-too_long n latest line lines many = grind (arith, nat_tests)
+pub bounded-short : (n : ℕ) (latest : Latest) (line : List ℕ) → length line ≤ 64 → bounded_line n latest line ≡ line_says n latest line
+bounded-short n latest line short = grind (arith, nat_tests)
 
-stated-long_line : (n : ℕ) (latest : Latest) (line : List ℕ) (lines : List (List ℕ)) → n < 1048576 → 64 < length line
-    → stated_by n latest (line ∷ lines) ≡ Err (LongLine (n + 1))
+bounded-long : (n : ℕ) (latest : Latest) (line : List ℕ) → 64 < length line → bounded_line n latest line ≡ Err (LongLine n)
+bounded-long n latest line long = grind (arith, nat_tests)
+
+-- a line in its place
+pub stated-line : (most n : ℕ) (latest : Latest) (line : List ℕ) (lines : List (List ℕ)) → n < most
+    → stated_by most n latest (line ∷ lines) ≡ then_lines (bounded_line (n + 1) latest line) (λ l. stated_by most (n + 1) l lines)
 unfolding stated_by
-stated-long_line n latest line lines few long = grind (arith, nat_tests)
+stated-line most n latest line lines few = grind (arith, nat_tests)
+
+pub stated-too_long : (most n : ℕ) (latest : Latest) (line : List ℕ) (lines : List (List ℕ)) → most ≤ n → stated_by most n latest (line ∷ lines) ≡ Err TooLong
+unfolding stated_by
+stated-too_long most n latest line lines many = grind (arith, nat_tests)
 
 -- one line more was read
-pub stated_on : (n : ℕ) (rest line more : List ℕ) (latest now : Latest) (old es new : List StatedEvent) (all : Said)
-    → n < 1048576 → length line ≤ 64 → lines_of rest ≡ line ∷ lines_of more
-    → line_says (n + 1) latest line ≡ Ok (record { events = es; latest = now }) → new ≡ old ++ es
-    → all ≡ then_events old (stated_by n latest (lines_of rest)) → all ≡ then_events new (stated_by (n + 1) now (lines_of more))
-stated_on n rest line more latest now old es new all few short first says grown before =
-    let later : Said = stated_by (n + 1) now (lines_of more) in
+pub stated_on : (most n : ℕ) (rest line more : List ℕ) (latest now : Latest) (old es new : List StatedEvent) (all : Said)
+    → n < most → lines_of rest ≡ line ∷ lines_of more
+    → bounded_line (n + 1) latest line ≡ Ok (record { events = es; latest = now }) → new ≡ old ++ es
+    → all ≡ then_events old (stated_by most n latest (lines_of rest)) → all ≡ then_events new (stated_by most (n + 1) now (lines_of more))
+stated_on most n rest line more latest now old es new all few first says grown before =
+    let later : Said = stated_by most (n + 1) now (lines_of more) in
     before
-    ∙ ap (λ ls. then_events old (stated_by n latest ls)) first
-    ∙ ap (then_events old) (stated-line n latest line (lines_of more) few short ∙ ap (λ s. then_lines s (λ l. stated_by (n + 1) l (lines_of more))) says)
+    ∙ ap (λ ls. then_events old (stated_by most n latest ls)) first
+    ∙ ap (then_events old) (stated-line most n latest line (lines_of more) few ∙ ap (λ s. then_lines s (λ l. stated_by most (n + 1) l (lines_of more))) says)
     ∙ then-twice old es later
     ∙ ap (λ xs. then_events xs later) (sym grown)
 
 -- a line is refused
-pub stated_stops : (n : ℕ) (rest line more : List ℕ) (latest : Latest) (old : List StatedEvent) (all : Said) (fault : StatedFault)
-    → n < 1048576 → length line ≤ 64 → lines_of rest ≡ line ∷ lines_of more → line_says (n + 1) latest line ≡ Err fault
-    → all ≡ then_events old (stated_by n latest (lines_of rest)) → all ≡ Err fault
-stated_stops n rest line more latest old all fault few short first says before =
+pub stated_stops : (most n : ℕ) (rest line more : List ℕ) (latest : Latest) (old : List StatedEvent) (all : Said) (fault : StatedFault)
+    → n < most → lines_of rest ≡ line ∷ lines_of more → bounded_line (n + 1) latest line ≡ Err fault
+    → all ≡ then_events old (stated_by most n latest (lines_of rest)) → all ≡ Err fault
+stated_stops most n rest line more latest old all fault few first says before =
     before
-    ∙ ap (λ ls. then_events old (stated_by n latest ls)) first
-    ∙ ap (then_events old) (stated-line n latest line (lines_of more) few short ∙ ap (λ s. then_lines s (λ l. stated_by (n + 1) l (lines_of more))) says)
+    ∙ ap (λ ls. then_events old (stated_by most n latest ls)) first
+    ∙ ap (then_events old) (stated-line most n latest line (lines_of more) few ∙ ap (λ s. then_lines s (λ l. stated_by most (n + 1) l (lines_of more))) says)
 
-pub stated_many : (n : ℕ) (rest line more : List ℕ) (latest : Latest) (old : List StatedEvent) (all : Said)
-    → 1048576 ≤ n → lines_of rest ≡ line ∷ lines_of more → all ≡ then_events old (stated_by n latest (lines_of rest)) → all ≡ Err TooLong
-stated_many n rest line more latest old all many first before =
-    before ∙ ap (λ ls. then_events old (stated_by n latest ls)) first ∙ ap (then_events old) (stated-too_long n latest line (lines_of more) many)
+pub stated_many : (most n : ℕ) (rest line more : List ℕ) (latest : Latest) (old : List StatedEvent) (all : Said)
+    → most ≤ n → lines_of rest ≡ line ∷ lines_of more → all ≡ then_events old (stated_by most n latest (lines_of rest)) → all ≡ Err TooLong
+stated_many most n rest line more latest old all many first before =
+    before ∙ ap (λ ls. then_events old (stated_by most n latest ls)) first ∙ ap (then_events old) (stated-too_long most n latest line (lines_of more) many)
 
-pub stated_long : (n : ℕ) (rest line more : List ℕ) (latest : Latest) (old : List StatedEvent) (all : Said)
-    → n < 1048576 → 64 < length line → lines_of rest ≡ line ∷ lines_of more
-    → all ≡ then_events old (stated_by n latest (lines_of rest)) → all ≡ Err (LongLine (n + 1))
-stated_long n rest line more latest old all few long first before =
-    before ∙ ap (λ ls. then_events old (stated_by n latest ls)) first ∙ ap (then_events old) (stated-long_line n latest line (lines_of more) few long)
-
-pub stated-none : (n : ℕ) (latest : Latest) → stated_by n latest (lines_of []) ≡ Ok (ended latest)
+pub stated-none : (most n : ℕ) (latest : Latest) → stated_by most n latest (lines_of []) ≡ Ok (ended latest)
 unfolding stated_by lines_of
-stated-none n latest = refl
+stated-none most n latest = refl
 
 -- all lines were read
-pub stated_all : (n : ℕ) (rest : List ℕ) (latest : Latest) (old new : List StatedEvent) (all : Said)
-    → length rest ≡ 0 → new ≡ old ++ ended latest → all ≡ then_events old (stated_by n latest (lines_of rest)) → all ≡ Ok new
-stated_all n [] latest old new all none grown before = before ∙ ap (then_events old) (stated-none n latest) ∙ ap Ok (sym grown)
-stated_all n (b ∷ rest) latest old new all none grown before = absurd (omega (arith, none))
+pub stated_all : (most n : ℕ) (rest : List ℕ) (latest : Latest) (old new : List StatedEvent) (all : Said)
+    → length rest ≡ 0 → new ≡ old ++ ended latest → all ≡ then_events old (stated_by most n latest (lines_of rest)) → all ≡ Ok new
+stated_all most n [] latest old new all none grown before = before ∙ ap (then_events old) (stated-none most n latest) ∙ ap Ok (sym grown)
+stated_all most n (b ∷ rest) latest old new all none grown before = absurd (omega (arith, none))
 
 -- ---- the events are those that a run reads
 
@@ -164,15 +163,15 @@ says-line n m latest line result e = first (after (codes "#> ") line) refl e
 abbrev AreRead : ℕ → Latest → List (List ℕ) → List StatedEvent → Type 0
 AreRead n latest lines ss = (events : List Event) × (map (λ s. s.event) ss ≡ map (λ s. s.event) (ended latest) ++ events) × (reading n lines ≡ adds events nothing)
 
-are_read : (n : ℕ) (latest : Latest) (lines : List (List ℕ)) (ss : List StatedEvent) → stated_by n latest lines ≡ Ok ss → AreRead n latest lines ss
+are_read : (n : ℕ) (latest : Latest) (lines : List (List ℕ)) (ss : List StatedEvent) → stated_by 1048576 n latest lines ≡ Ok ss → AreRead n latest lines ss
 unfolding stated_by reading
 are_read n latest [] ss e = let is : ss ≡ ended latest = cc in ([], ap (map (λ s. s.event)) is ∙ sym (append-nil _), refl)
 are_read n latest (line ∷ lines) ss e = ⊎_elim (few (λ latest ss is. are_read (n + 1) latest lines ss is)) many (cases_lt n 1048576)
   where
     Later : Type 0
-    Later = (latest : Latest) (ss : List StatedEvent) → stated_by (n + 1) latest lines ≡ Ok ss → AreRead (n + 1) latest lines ss
+    Later = (latest : Latest) (ss : List StatedEvent) → stated_by 1048576 (n + 1) latest lines ≡ Ok ss → AreRead (n + 1) latest lines ss
 
-    later : Later → (after : After) (said : Said) → stated_by (n + 1) after.latest lines ≡ said → then_events after.events said ≡ Ok ss
+    later : Later → (after : After) (said : Said) → stated_by 1048576 (n + 1) after.latest lines ≡ said → then_events after.events said ≡ Ok ss
         → n < 1048576 → length line ≤ 64 → Line n latest line after → AreRead n latest (line ∷ lines) ss
     later read after (Err fault) is e few short l = absurd (cc)
     later read after (Ok others) is e few short l =
@@ -185,19 +184,19 @@ are_read n latest (line ∷ lines) ss e = ⊎_elim (few (λ latest ss is. are_re
           reading-line n line lines few short ∙ l.means (reading (n + 1) lines) ∙ ap (adds l.events) p.2 ∙ adds-adds l.events p.0 nothing,
         )
 
-    by_line : Later → (says : Result After StatedFault) → line_says (n + 1) latest line ≡ says → then_lines says (λ l. stated_by (n + 1) l lines) ≡ Ok ss
+    by_line : Later → (says : Result After StatedFault) → bounded_line (n + 1) latest line ≡ says → then_lines says (λ l. stated_by 1048576 (n + 1) l lines) ≡ Ok ss
         → n < 1048576 → length line ≤ 64 → AreRead n latest (line ∷ lines) ss
     by_line read (Err fault) is e few short = absurd (cc)
-    by_line read (Ok after) is e few short = later read after (stated_by (n + 1) after.latest lines) refl e few short (says-line n (n + 1) latest line after is)
+    by_line read (Ok after) is e few short = later read after (stated_by 1048576 (n + 1) after.latest lines) refl e few short (says-line n (n + 1) latest line after (sym (bounded-short (n + 1) latest line short) ∙ is))
 
     short : Later → n < 1048576 → length line ≤ 64 → AreRead n latest (line ∷ lines) ss
-    short read few low = by_line read (line_says (n + 1) latest line) refl (sym (stated-line n latest line lines few low) ∙ e) few low
+    short read few low = by_line read (bounded_line (n + 1) latest line) refl (sym (stated-line 1048576 n latest line lines few) ∙ e) few low
 
     few : Later → n < 1048576 → AreRead n latest (line ∷ lines) ss
-    few read low = ⊎_elim (λ s. short read low (omega (arith, s))) (λ long. let no = sym (stated-long_line n latest line lines low (omega (arith, long))) ∙ e in absurd (cc)) (cases_lt (length line) 65)
+    few read low = ⊎_elim (λ s. short read low (omega (arith, s))) (λ long. let no = sym (stated-line 1048576 n latest line lines low ∙ ap (λ s. then_lines s (λ l. stated_by 1048576 (n + 1) l lines)) (bounded-long (n + 1) latest line (omega (arith, long)))) ∙ e in absurd (cc)) (cases_lt (length line) 65)
 
     many : 1048576 ≤ n → AreRead n latest (line ∷ lines) ss
-    many high = let no = sym (stated-too_long n latest line lines high) ∙ e in absurd (cc)
+    many high = let no = sym (stated-too_long 1048576 n latest line lines high) ∙ e in absurd (cc)
 
-pub stated-read : (script : List ℕ) (ss : List StatedEvent) → stated_by 0 None (lines_of script) ≡ Ok ss → reading 0 (lines_of script) ≡ adds (map (λ s. s.event) ss) nothing
+pub stated-read : (script : List ℕ) (ss : List StatedEvent) → stated_by 1048576 0 None (lines_of script) ≡ Ok ss → reading 0 (lines_of script) ≡ adds (map (λ s. s.event) ss) nothing
 stated-read script ss e = let p = are_read 0 None (lines_of script) ss e in p.2 ∙ ap (λ es. adds es nothing) (sym p.1)

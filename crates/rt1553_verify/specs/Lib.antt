@@ -2,4 +2,5 @@ pub mod Heading
 pub mod Stated
 pub mod Verify
 pub mod Commands
+pub mod Reader
 pub mod inner

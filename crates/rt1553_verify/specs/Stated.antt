@@ -1,7 +1,7 @@
 -- What a script says that states its answers: `#> LINE` behind the event that LINE of the transcript answers; `#~ MASK` behind one
 -- that a line answers of which MASK says all but the digits at its dots, and `#~ *` behind one that any line answers; and `#+ REST`
 -- behind an answer that goes on with a space and REST. All else is read as in any script.
-use Rattle.std.specs.Prelude.{ℕ, ◌+◌, Bool, true, false, not, ◌&&◌, ◌||◌, ◌==◌, nat_le, nat_lt, if◌then◌else◌, List, [], ◌∷◌, ◌++◌, Option, Some, None, is_some, length, filter, Result, Ok, Err, codes}
+use Rattle.std.specs.Prelude.{ℕ, ◌+◌, Bool, true, false, not, ◌&&◌, ◌||◌, ◌==◌, nat_le, nat_lt, if◌then◌else◌, List, [], ◌∷◌, ◌++◌, Option, Some, None, is_some, option_map, length, filter, Result, Ok, Err, codes}
 use Rattle.terminal_rules.specs.declared.event.Event.{Event}
 use Rattle.std.specs.Str.{bytes_eq}
 use Rattle.terminal_rules.specs.declared.event.Event.TheVariants.{Gap, Slot}
@@ -13,6 +13,7 @@ use Rattle.refused_lines.specs.Refused.{mistyped}
 use Rattle.rt1553_verify.specs.declared.matching.Matching.{Matching}
 use Rattle.rt1553_verify.specs.declared.matching.Matching.TheVariants.{Exact, Masked, AnyLine, Unchecked}
 use Rattle.rt1553_verify.specs.declared.stated.Stated.{Stated}
+use Rattle.rt1553_verify.specs.declared.stated.AfterLine.{AfterLine}
 use Rattle.rt1553_verify.specs.declared.stated.ScriptWarning.{ScriptWarning}
 use Rattle.rt1553_verify.specs.declared.stated.ScriptWarning.TheVariants.{NoEvent, NoAnswer}
 use Rattle.rt1553_verify.specs.declared.stated.StatedFault.{StatedFault}
@@ -116,6 +117,15 @@ pub record After : Type 0 where
   pub events : List StatedEvent
   pub latest : Latest
 
+-- the event, if there is one
+abbrev pub if_any : Option StatedEvent → List StatedEvent
+if_any None = []
+if_any (Some s) = s ∷ []
+
+-- what the code knows after a line, as these definitions speak of it
+abbrev pub shown_after : AfterLine → After
+shown_after a = record { events = if_any (option_map shown a.ended); latest = option_map shown a.latest }
+
 -- no event is complete, and this is the latest one
 abbrev pub stays : Latest → After
 stays latest = record { events = []; latest = latest }
@@ -155,6 +165,10 @@ by_answer n latest line None = by_mask n latest line (after (codes "#~ ") line)
 abbrev pub line_says : ℕ → Latest → List ℕ → Result After StatedFault
 line_says n latest line = by_answer n latest line (after (codes "#> ") line)
 
+-- what line number n says where it has at most 64 bytes; a longer one is too long
+abbrev pub bounded_line : ℕ → Latest → List ℕ → Result After StatedFault
+bounded_line n latest line = if nat_lt 64 (length line) then Err (LongLine n) else line_says n latest line
+
 -- these events before the later ones, unless the later lines have a fault
 abbrev pub then_events : List StatedEvent → Result (List StatedEvent) StatedFault → Result (List StatedEvent) StatedFault
 then_events es (Ok later) = Ok (es ++ later)
@@ -165,18 +179,24 @@ abbrev pub then_lines : Result After StatedFault → (Latest → Result (List St
 then_lines (Err fault) later = Err fault
 then_lines (Ok after) later = then_events after.events (later after.latest)
 
--- What lines say that follow n lines: of line 1,048,577 that there are too many, of a line of over 64 bytes that it is too
--- long, and of any other what it says by itself. The first fault is that of all.
-unfoldable pub stated_by : ℕ → Latest → List (List ℕ) → Result (List StatedEvent) StatedFault
-stated_by n latest [] = Ok (ended latest)
-stated_by n latest (line ∷ lines) =
-    if nat_le 1048576 n then Err TooLong
-    else if nat_lt 64 (length line) then Err (LongLine (n + 1))
-    else then_lines (line_says (n + 1) latest line) (λ latest. stated_by (n + 1) latest lines)
+-- What lines say that follow n lines, of a script that may have so many: of one line more that there are too many, of a line of over 64
+-- bytes that it is too long, and of any other what it says by itself. The first fault is that of all.
+unfoldable pub stated_by : ℕ → ℕ → Latest → List (List ℕ) → Result (List StatedEvent) StatedFault
+stated_by most n latest [] = Ok (ended latest)
+stated_by most n latest (line ∷ lines) =
+    if nat_le most n then Err TooLong else then_lines (bounded_line (n + 1) latest line) (λ latest. stated_by most (n + 1) latest lines)
 
--- what a script says: its events, each with what is stated of it, or its first fault
+-- what a script of at most so many lines says: its events, each with what is stated of it, or its first fault
+abbrev pub stated_within : ℕ → List ℕ → Result (List StatedEvent) StatedFault
+stated_within most script = stated_by most 0 None (lines_of script)
+
+-- what a script says that is played: it has at most 1,048,576 lines
 abbrev pub stated_in : List ℕ → Result (List StatedEvent) StatedFault
-stated_in script = stated_by 0 None (lines_of script)
+stated_in script = stated_within 1048576 script
+
+-- what a script says that is read event by event: its lines are counted in 64 bits
+abbrev pub stated_through : List ℕ → Result (List StatedEvent) StatedFault
+stated_through script = stated_within 18446744073709551615 script
 
 -- the words of a warning
 abbrev pub warning_text : ScriptWarning → List ℕ
@@ -184,11 +204,11 @@ warning_text NoEvent = codes "the script has no event"
 warning_text NoAnswer = codes "the script states no answer"
 
 -- a script has no event, or states no answer
+abbrev pub stated_warning : Bool → ℕ → Option ScriptWarning
+stated_warning has_event answers = if not has_event then Some NoEvent else if answers == 0 then Some NoAnswer else None
+
 abbrev pub script_warning : List Stated → Option ScriptWarning
-script_warning script =
-    if length script == 0 then Some NoEvent
-    else if length (filter (λ stated. states_answer (shown stated)) script) == 0 then Some NoAnswer
-    else None
+script_warning script = stated_warning (not (length script == 0)) (length (filter (λ stated. states_answer (shown stated)) script))
 
 -- On the bus alone nothing is seen of hand-overs, which answer gaps: where none is stated, whatever answers a gap is left aside.
 abbrev pub is_unseen : StatedEvent → Bool

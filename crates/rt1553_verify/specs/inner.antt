@@ -1,2 +1,2 @@
 -- What the contracts of private functions speak of.
-pub mod Says
+pub mod Steps

@@ -10,7 +10,7 @@ use std::alloc::{AllocError, Global};
 
 /// The command word of the message in progress after an event, by that before it: a valid command for the terminal of this address,
 /// or for all terminals, begins another message.
-fn command_after(address: u8, before: Option<u16>, event: Event) -> Option<u16>
+pub fn command_after(address: u8, before: Option<u16>, event: Event) -> Option<u16>
     ensures { result ≡ command_after address before event }
 {
     match event {

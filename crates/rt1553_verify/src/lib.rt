@@ -4,13 +4,16 @@
 mod commands;
 mod heading;
 mod matching;
+mod reader;
 mod stated;
 mod verifying;
 
-pub use commands::message_commands;
+pub use commands::{command_after, message_commands};
 pub use heading::named;
 pub use matching::Matching;
+pub use reader::StatedReader;
 pub use stated::{
     ScriptWarning, Stated, StatedFault, answers_in, read_stated, script_warning, stated_on_bus,
+    stated_warning,
 };
 pub use verifying::{WrongAnswer, verify, wrong_answers};

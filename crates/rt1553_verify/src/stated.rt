@@ -3,9 +3,8 @@ ghost use Rattle.std.specs.Prelude.{◌≡◌, ◌≢◌, ◌<◌, ◌&&◌, ◌
 ghost use Rattle.script_lines.specs.Line.{meaning};
 ghost use Rattle.script_lines.specs.Text.{lines_of};
 ghost use Rattle.bus_script.specs.Reading.{reading, adds, nothing};
-ghost use Rattle.rt1553_verify.specs.Stated.{shown, is_empty, states_answer, can_answer, can_match, says_bytes, states, goes_on, ended, stays, or_misplaced, unstated_line, line_says, stated_in, warning_text, script_warning, seen_on_bus};
+ghost use Rattle.rt1553_verify.specs.Stated.{shown, is_empty, states_answer, can_answer, can_match, says_bytes, states, goes_on, ended, if_any, shown_after, stays, or_misplaced, unstated_line, bounded_line, stated_in, warning_text, stated_warning, script_warning, seen_on_bus};
 ghost use Rattle.rt1553_verify.specs.declared.stated.StatedFault.TheVariants.{Memory};
-ghost use Rattle.rt1553_verify.specs.inner.Says.{Says};
 
 use crate::Matching;
 use bus_script::{LineFault, read_event};
@@ -33,6 +32,15 @@ pub struct Stated {
     pub answer: Vec<u8>,
 }
 
+/// What is known after a line.
+#[derive(Drop)]
+pub struct AfterLine {
+    /// The event of which all was stated by then, if the line ends one.
+    pub ended: Option<Stated>,
+    /// The latest event, if there is one.
+    pub latest: Option<Stated>,
+}
+
 /// Why a script that states its answers is refused. Lines are numbered from 1.
 #[derive(Clone, Copy, Debug, PartialEq, Eq, Error)]
 pub enum StatedFault {
@@ -51,6 +59,9 @@ pub enum StatedFault {
     /// This line states an answer, or goes on with one, and doesn't follow an event that it can answer.
     #[error("script: line {0}: the event before it cannot have this answer")]
     Misplaced(u64),
+    /// The script can't be read on, which says nothing of it.
+    #[error("script: read failed")]
+    Read,
     /// A growth of memory was refused, which says nothing of the script.
     #[error("out of memory")]
     Memory,
@@ -145,71 +156,90 @@ fn go_on(latest: Option<Stated>, number: u64, rest: &[u8]) -> Result<Option<Stat
     Ok(Some(latest))
 }
 
-/// Adds the latest event, of which all was stated, to those that were read.
-fn end(read: &mut Vec<Stated>, latest: Option<Stated>) -> Result<(), StatedFault>
-    ensures added { OnOk result (map shown read.new.items ≡ map shown read.old.items ++ ended (option_map shown latest)) }
-    ensures memory { IfErr result (λ fault. fault ≡ StatedFault.Memory) }
+/// Gives the latest event, of which all was stated.
+pub fn end(latest: Option<Stated>) -> Result<Option<Stated>, AllocError>
+    ensures { IfOk result (λ all. if_any (option_map shown all) ≡ ended (option_map shown latest)) }
 {
     let Some(mut latest) = latest else {
-        return Ok(());
+        return Ok(None);
     };
     if !latest.answer.is_empty() {
         latest.answer.push(b'\n')?;
     }
-    read.push(latest)?;
-    Ok(())
+    Ok(Some(latest))
+}
+
+/// What is known after a line that ends no event.
+fn stays(latest: Option<Stated>) -> AfterLine
+    ensures { shown_after result ≡ stays (option_map shown latest) }
+{
+    AfterLine {
+        ended: None,
+        latest,
+    }
 }
 
 /// Reads a line that states no answer.
 fn read_plain(
     alloc: Global,
-    read: &mut Vec<Stated>,
     latest: Option<Stated>,
     number: u64,
     line: &[u8],
-) -> Result<Option<Stated>, StatedFault>
-    ensures said { IfOk result (λ new. Says (unstated_line number (option_map shown latest) line.now (meaning line.now)) read.old.items read.new.items new) }
+) -> Result<AfterLine, StatedFault>
+    ensures said { IfOk result (λ after. unstated_line number (option_map shown latest) line.now (meaning line.now) ≡ Ok (shown_after after)) }
     ensures refused { IfErr result (λ fault. fault ≢ StatedFault.Memory → unstated_line number (option_map shown latest) line.now (meaning line.now) ≡ Err fault) }
 {
     match read_event(line) {
-        Ok(Some(event)) => {
-            end(read, latest)?;
-            Ok(Some(Stated {
+        Ok(Some(event)) => Ok(AfterLine {
+            ended: end(latest)?,
+            latest: Some(Stated {
                 line: number,
                 event,
                 matching: Matching::Exact,
                 answer: Vec::new(alloc),
-            }))
-        }
+            }),
+        }),
         Ok(None) => match mistyped_answer(line) {
-            None => Ok(latest),
+            None => Ok(stays(latest)),
             Some(column) => Err(StatedFault::Mistyped(number, column as u64)),
         },
         Err(LineFault) => Err(StatedFault::Line(number)),
     }
 }
 
-/// Reads a line. Gives the event that is the latest after it.
-fn read_line(
+/// Reads a line of this number, from 1, by the latest event before it.
+pub fn read_stated_line(
     alloc: Global,
-    read: &mut Vec<Stated>,
     latest: Option<Stated>,
     number: u64,
     line: &[u8],
-) -> Result<Option<Stated>, StatedFault>
-    ensures said { IfOk result (λ new. Says (line_says number (option_map shown latest) line.now) read.old.items read.new.items new) }
-    ensures refused { IfErr result (λ fault. fault ≢ StatedFault.Memory → line_says number (option_map shown latest) line.now ≡ Err fault) }
+) -> Result<AfterLine, StatedFault>
+    ensures said { IfOk result (λ after. bounded_line number (option_map shown latest) line.now ≡ Ok (shown_after after)) }
+    ensures refused { IfErr result (λ fault. fault ≢ StatedFault.Memory → bounded_line number (option_map shown latest) line.now ≡ Err fault) }
 {
+    if line.len() > MAX_LINE {
+        return Err(StatedFault::LongLine(number));
+    }
     if let Some(answer) = after(line, b"#> ") {
-        return state(latest, number, Matching::Exact, answer);
+        return Ok(stays(state(latest, number, Matching::Exact, answer)?));
     }
     if let Some(mask) = after(line, b"#~ ") {
-        return state(latest, number, Matching::of_mask(mask), mask);
+        return Ok(stays(state(latest, number, Matching::of_mask(mask), mask)?));
     }
     if let Some(rest) = after(line, b"#+ ") {
-        return go_on(latest, number, rest);
+        return Ok(stays(go_on(latest, number, rest)?));
     }
-    read_plain(alloc, read, latest, number, line)
+    read_plain(alloc, latest, number, line)
+}
+
+/// Adds an event, if there is one.
+fn push_if(read: &mut Vec<Stated>, stated: Option<Stated>) -> Result<(), AllocError>
+    ensures { OnOk result (map shown read.new.items ≡ map shown read.old.items ++ if_any (option_map shown stated)) }
+{
+    if let Some(stated) = stated {
+        read.push(stated)?;
+    }
+    Ok(())
 }
 
 /// Reads a script with the answers that it states in comments: `#> LINE` behind the event that LINE answers, `#~ MASK` behind one
@@ -230,14 +260,13 @@ pub fn read_stated(alloc: Global, script: &[u8]) -> Result<Vec<Stated>, StatedFa
         if lines == MAX_LINES {
             return Err(StatedFault::TooLong);
         }
-        if line.len() > MAX_LINE {
-            return Err(StatedFault::LongLine(lines + 1));
-        }
-        latest = read_line(alloc, &mut read, latest, lines + 1, line)?;
+        let known = read_stated_line(alloc, latest, lines + 1, line)?;
+        push_if(&mut read, known.ended)?;
+        latest = known.latest;
         lines += 1;
         rest = more;
     }
-    end(&mut read, latest)?;
+    push_if(&mut read, end(latest)?)?;
     Ok(read)
 }
 
@@ -273,16 +302,23 @@ impl ScriptWarning {
 }
 
 /// Warns of a script without an event, and of one that states no answer.
-pub fn script_warning(script: &[Stated]) -> Option<ScriptWarning>
-    ensures { result ≡ script_warning script.now }
+pub fn stated_warning(has_event: bool, answers: usize) -> Option<ScriptWarning>
+    ensures { result ≡ stated_warning has_event answers }
 {
-    if script.is_empty() {
+    if !has_event {
         return Some(ScriptWarning::NoEvent);
     }
-    if answers_in(script) == 0 {
+    if answers == 0 {
         return Some(ScriptWarning::NoAnswer);
     }
     None
+}
+
+/// Warns of a script, as `stated_warning`.
+pub fn script_warning(script: &[Stated]) -> Option<ScriptWarning>
+    ensures { result ≡ script_warning script.now }
+{
+    stated_warning(!script.is_empty(), answers_in(script))
 }
 
 /// Gives what the bus alone shows of what is stated: where nothing is stated of a gap, it is not checked what answers it.

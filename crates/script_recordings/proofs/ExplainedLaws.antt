@@ -1,17 +1,26 @@
 -- Laws of what is explained, of terminals that answer alike.
-use Rattle.std.proofs.Common.{◌≡◌, ◌∙◌, ℕ, suc, ◌+◌, Option, List, [], ◌∷◌, ◌++◌, map, take, drop, refl, sym, ap, subst, add-one}
+use Rattle.std.proofs.Common.{◌≡◌, ◌∙◌, ◌↔◌, ◌≤◌, ℕ, Option, Some, None, IfSome, Ok, List, [], ◌∷◌, ◌++◌, refl, sym, ap, subst}
 use Rattle.bus_legal.specs.Description.{Description}
 use Rattle.terminal_rules.specs.declared.event.Event.{Event}
-use Rattle.terminal_recordings.specs.Recordings.{Sighting, seen_then, sightings_from, IsExplained}
-use Rattle.terminal_rules.specs.Out.{Sending}
+use Rattle.terminal_rules.specs.Same.{AreProper}
+use Rattle.terminal_recordings.specs.Recordings.{Sighting, seen_then, sightings, sightings_from, IsExplained, IsRecording}
+use Rattle.terminal_recordings.specs.Completion.{shown_of}
+use Rattle.terminal_recordings.proofs.Law.{recording_law}
+use Rattle.script_lines.specs.EventLine.{script_text}
 use Rattle.rt1553.proofs.EngineLaws.{AnswersAlike}
-use Rattle.recorded_terminal.specs.Sightings.{with_sent}
-use Rattle.rt1553_verify.specs.Stated.{shown}
-use Rattle.rt1553_verify.specs.declared.stated.Stated.{Stated}
-use Rattle.rt1553_verify.specs.Verify.{ToldAnswer}
-use Rattle.script_recordings.specs.Seen.{AreSeenAs}
-use Rattle.script_recordings.specs.Explained.{told_of, IsFirstUnexplained}
-use Rattle.script_recordings.proofs.SeenLaws.{Cut, cut}
+use Rattle.recorded_terminal.specs.declared.watch.Marked.{Marked}
+use Rattle.recorded_terminal.specs.declared.watch.Unexplained.{Unexplained}
+use Rattle.recorded_terminal.specs.SentWords.{word_shown}
+use Rattle.recorded_terminal.specs.Sightings.{shown_sighting}
+use Rattle.recorded_terminal.specs.Watched.{seen_in}
+use Rattle.recorded_terminal.specs.Watched as watched
+use Rattle.rt1553_verify.specs.Stated.{StatedEvent, stated_through}
+use Rattle.rt1553_verify.specs.Verify.{ToldAnswer, told_answer}
+use Rattle.script_recordings.specs.declared.explaining.UnexplainedLine.{UnexplainedLine}
+use Rattle.script_recordings.specs.Seen.{StatesRecording}
+use Rattle.script_recordings.specs.Explained.{told_at, IsFirstUnexplained, IsWitness}
+use Rattle.script_recordings.specs.inner.Reads.{Left, NextSeen, TellsUnexplained}
+use Rattle.script_recordings.proofs.ReadLaws.{AreMarkedAs, are_seen, Split, split, ReadSoFar, read_all}
 
 pub sightings_alike : (P Q : Description) → AnswersAlike P Q → (h es : List Event) → sightings_from P h es ≡ sightings_from Q h es
 sightings_alike P Q alike h [] = refl
@@ -21,23 +30,80 @@ pub explained_alike : (P Q : Description) → AnswersAlike P Q → (recording : 
 explained_alike P Q alike recording (es, proper, seen) = (es, proper, sym (sightings_alike P Q alike [] es) ∙ seen)
 
 -- what is told is the first that is unexplained
-pub first_told : (P Q : Description) → AnswersAlike P Q → (script : List Stated) (xs : List Sighting) (n : ℕ) (sent : Option Sending) (s : Stated) (told : ToldAnswer)
-    → drop n script ≡ s ∷ drop (n + 1) script → AreSeenAs (map shown script) xs → told ≡ told_of (shown s) sent
-    → IsExplained P (take n xs) → (IsExplained P (take (suc n) xs) → ⊥) → IsExplained P (with_sent n sent xs) → IsFirstUnexplained Q (map shown script) told
-first_told P Q alike script xs n sent s told at are is before with_it instead =
-    let k : Cut (map shown script) (shown s) xs n = cut script xs n s (at ∙ ap (λ m. s ∷ drop m script) (add-one n)) are in
+first_told : (P Q : Description) → AnswersAlike P Q → (script : List ℕ) (ss : List StatedEvent) (ms : List Marked) (it : Unexplained) (told : ToldAnswer)
+    → stated_through script ≡ Ok ss → AreMarkedAs ss ms → told ≡ told_at it.marked.line (word_shown it.marked.sighting.sent) (word_shown it.sent)
+    → watched.IsUnexplainedAt P ms it → IsFirstUnexplained Q script told
+first_told P Q alike script ss ms it told reads are is i =
+    let c : Split ss i.before it.marked = split ss i.before it.marked i.later (subst (λ (l : List Marked). AreMarkedAs ss l) i.all are) in
+    let s : Sighting = shown_sighting it.marked.sighting in
     record {
-      front = k.front;
-      stated = shown s;
-      rest = k.rest;
-      all = k.all;
-      before = k.before;
-      sighting = k.sighting;
-      other = sent;
-      are_seen = k.are_seen;
-      is_seen = k.is_seen;
-      explained = explained_alike P Q alike k.before (subst (λ (l : List Sighting). IsExplained P l) k.taken before);
-      unexplained = λ x. with_it (subst (λ (l : List Sighting). IsExplained P l) (sym k.taken_more) (explained_alike Q P (λ h e. sym (alike h e)) (k.before ++ k.sighting ∷ []) x));
-      possible = explained_alike P Q alike (k.before ++ record k.sighting { sent = sent } ∷ []) (subst (λ (l : List Sighting). IsExplained P l) (k.sent sent) instead);
-      is_told = is;
+      front = c.front;
+      stated = c.stated;
+      rest = c.rest;
+      all = reads ∙ ap Ok c.all;
+      before = seen_in i.before;
+      sighting = s;
+      other = word_shown it.sent;
+      are_seen = are_seen c.front i.before c.are;
+      is_seen = c.is.0;
+      explained = explained_alike P Q alike (seen_in i.before) i.explained;
+      unexplained = λ x. i.unexplained (explained_alike Q P (λ h e. sym (alike h e)) (seen_in i.before ++ s ∷ []) x);
+      possible = explained_alike P Q alike (seen_in i.before ++ record s { sent = word_shown it.sent } ∷ []) i.possible;
+      is_told = is ∙ ap (λ n. told_at n s.sent (word_shown it.sent)) c.is.1;
     }
+
+none_told : (first : Option Unexplained) (told : Option UnexplainedLine) → TellsUnexplained first told → told ≡ None → first ≡ None
+none_told None None tells e = refl
+none_told None (Some line) tells e = absurd tells
+none_told (Some it) None tells e = absurd tells
+none_told (Some it) (Some line) tells e = absurd (cc)
+
+told_none : (first : Option Unexplained) (told : Option UnexplainedLine) → TellsUnexplained first told → first ≡ None → told ≡ None
+told_none None None tells e = refl
+told_none None (Some line) tells e = absurd tells
+told_none (Some it) None tells e = absurd tells
+told_none (Some it) (Some line) tells e = absurd (cc)
+
+-- what comes of a recording that was read to its end
+pub explained_all : (input : Option (List ℕ)) (left new : Left) (ms : List Marked) (first : Option Unexplained) (told : Option UnexplainedLine) (P Q : Description) → AnswersAlike Q P
+    → ReadSoFar input left ms → NextSeen left new (Ok None) → TellsUnexplained first told → (first ≡ None) ↔ IsExplained Q (seen_in ms)
+    → IfSome input (λ script. (recording : List Sighting) × StatesRecording script recording × ((told ≡ None) ↔ IsExplained P recording))
+explained_all None left new ms first told P Q alike read end tells decided = tt
+explained_all (Some script) left new ms first told P Q alike read end tells decided =
+    let a = read_all script left new ms read end in (
+      seen_in ms,
+      (a.0, a.1, are_seen a.0 ms a.2),
+      (
+        λ e. explained_alike Q P alike (seen_in ms) (decided.0 (none_told first told tells e)),
+        λ x. told_none first told tells (decided.1 (explained_alike P Q (λ h e. sym (alike h e)) (seen_in ms) x)),
+      ),
+    )
+
+pub first_all : (input : Option (List ℕ)) (left new : Left) (ms : List Marked) (first : Option Unexplained) (told : Option UnexplainedLine) (P Q : Description) → AnswersAlike Q P
+    → ReadSoFar input left ms → NextSeen left new (Ok None) → TellsUnexplained first told → IfSome first (watched.IsUnexplainedAt Q ms)
+    → IfSome told (λ line. IfSome input (λ script. IsFirstUnexplained P script (told_answer line.answer)))
+first_all input left new ms first None P Q alike read end tells found = tt
+first_all input left new ms None (Some line) P Q alike read end tells found = absurd tells
+first_all None left new ms (Some it) (Some line) P Q alike read end tells found = tt
+first_all (Some script) left new ms (Some it) (Some line) P Q alike read end tells found =
+    let a = read_all script left new ms read end in
+    first_told Q P alike script a.0 ms it (told_answer line.answer) a.1 a.2 tells found
+
+-- ---- a witness
+
+pub is_witness : (P Q : Description) → AnswersAlike Q P → (script : List ℕ) (recording : List Sighting) (events : List Event) → Q.address ≤ 30 → IsRecording recording
+    → StatesRecording script recording → AreProper events → sightings Q events ≡ shown_of Q recording → IsWitness P script events
+is_witness P Q alike script recording events low is states proper shown = record {
+  proper = proper;
+  recording = recording;
+  states = states;
+  plays = λ x.
+      sym (sightings_alike Q P alike [] events)
+      ∙ (shown ∙ (recording_law.decided Q recording low is).0 (explained_alike P Q (λ h e. sym (alike h e)) recording x));
+}
+
+pub witness_of : (input : Option (List ℕ)) (recording : List Sighting) (text : List ℕ) (events : List Event) → IfSome input (λ script. StatesRecording script recording)
+    → text ≡ script_text events → {G : Description → Type 0} → ((script : List ℕ) → StatesRecording script recording → (P : Description) → G P → IsWitness P script events)
+    → IfSome input (λ script. (events : List Event) × (text ≡ script_text events) × ((P : Description) → G P → IsWitness P script events))
+witness_of None recording text events states is witness = tt
+witness_of (Some script) recording text events states is witness = (events, is, witness script states)

@@ -1,3 +1,3 @@
-pub mod SeenLaws
+pub mod ReadLaws
 pub mod ExplainedLaws
 pub mod WordLaws

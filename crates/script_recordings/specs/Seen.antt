@@ -1,13 +1,14 @@
 -- The recording that a script states: each of its events is one that is seen, and what is stated of it is the line of the word that
 -- was sent, or nothing where none was.
-use Rattle.std.specs.Prelude.{◌≡◌, ◌<◌, ◌^◌, ℕ, true, false, Option, List, [], ◌∷◌, ◌++◌}
+use Rattle.std.specs.Prelude.{◌≡◌, ◌≢◌, ◌<◌, ◌^◌, ℕ, true, false, Option, Ok, Err, List, [], ◌∷◌, ◌++◌}
 use Rattle.terminal_rules.specs.Out.{Sending, sending_out}
 use Rattle.terminal_recordings.specs.Recordings.{Sighting, is_seen}
 use Rattle.script_lines.specs.Transcript.{answer_text, sent_text}
 use Rattle.rt1553_verify.specs.declared.matching.Matching.TheVariants.{Exact}
-use Rattle.rt1553_verify.specs.Stated.{StatedEvent}
+use Rattle.rt1553_verify.specs.declared.stated.StatedFault.TheVariants.{Memory, Read}
+use Rattle.rt1553_verify.specs.Stated.{StatedEvent, stated_through}
 use Rattle.script_recordings.specs.declared.reading.RecordingFault.{RecordingFault}
-use Rattle.script_recordings.specs.declared.reading.RecordingFault.TheVariants.{Unseen, Masked, NoWord}
+use Rattle.script_recordings.specs.declared.reading.RecordingFault.TheVariants.{Unseen, Masked, NoWord, Script}
 
 -- the word that was sent is stated whole
 pub record StatesSent (s : StatedEvent) (sent : Option Sending) : Type 0 where
@@ -41,8 +42,17 @@ abbrev pub IsUnseenAs : StatedEvent → RecordingFault → Type 0
 IsUnseenAs s (Unseen n) = (n ≡ s.line) × (is_seen s.event ≡ false)
 IsUnseenAs s fault = StatesNoWord s fault
 
--- a script states no recording, since of its events this is the first that is no sighting
+-- events are no recording, since this is the first of them that is no sighting
 abbrev pub IsNoRecording : List StatedEvent → RecordingFault → Type 0
 IsNoRecording ss fault =
     (front : List StatedEvent) × (s : StatedEvent) × (rest : List StatedEvent) × (xs : List Sighting)
     × (ss ≡ front ++ s ∷ rest) × AreSeenAs front xs × IsUnseenAs s fault
+
+-- a script states a recording: it says events, and this is seen of them
+abbrev pub StatesRecording : List ℕ → List Sighting → Type 0
+StatesRecording script xs = (ss : List StatedEvent) × (stated_through script ≡ Ok ss) × AreSeenAs ss xs
+
+-- why a script states none: it has a fault, but when memory runs out or a read fails, or else what it says is no recording
+abbrev pub StatesNoRecording : List ℕ → RecordingFault → Type 0
+StatesNoRecording script (Script fault) = fault ≢ Memory → fault ≢ Read → stated_through script ≡ Err fault
+StatesNoRecording script fault = (ss : List StatedEvent) × (stated_through script ≡ Ok ss) × IsNoRecording ss fault

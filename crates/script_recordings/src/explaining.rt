@@ -1,65 +1,109 @@
 //! The first line of a recording that nothing explains.
-ghost use Rattle.std.specs.Prelude.{◌≡◌, ◌≢◌, ◌<◌, ◌+◌, ◌↔◌, ◌∷◌, map, drop, length, IfOk, IfErr, IfSome, None, List};
+ghost use Rattle.std.specs.Prelude.{◌≡◌, ◌↔◌, IfOk, IfErr, IfSome, List, None};
 ghost use Rattle.bus_legal.specs.Description.{Description};
 ghost use Rattle.bus_legal.specs.Parts.{description_in};
 ghost use Rattle.bus_legal.specs.Reach.{reach};
 ghost use Rattle.terminal_recordings.specs.Recordings.{Sighting as SeenWord, IsExplained};
 ghost use Rattle.recorded_terminal.specs.SentWords.{word_shown};
-ghost use Rattle.rt1553_verify.specs.Stated.{shown};
-ghost use Rattle.rt1553_verify.specs.declared.stated.Stated.{Stated};
+ghost use Rattle.terminal_rules.specs.Out.{sending_out};
+ghost use Rattle.script_lines.specs.Transcript.{answer_text};
 ghost use Rattle.rt1553_verify.specs.Verify.{told_answer};
-ghost use Rattle.script_recordings.specs.Seen.{AreSeenAs, IsNoRecording};
-ghost use Rattle.script_recordings.specs.Explained.{told_of, IsFirstUnexplained};
+ghost use Rattle.script_recordings.specs.Seen.{StatesRecording, StatesNoRecording};
+ghost use Rattle.script_recordings.specs.Explained.{told_at, IsFirstUnexplained};
+ghost use Rattle.script_recordings.specs.inner.Reads.{TellsUnexplained};
 
-use crate::reading::{RecordingFault, read_recording};
+use crate::reading::{RecordingFault, RecordingReader};
 use bus_legal::Normal;
 use bus_terminal::{Answer, Sent};
-use recorded_terminal::{Unexplained, first_unexplained};
-use rt1553_verify::{Stated, WrongAnswer};
+use recorded_terminal::{Unexplained, Watch};
+use rt1553_verify::{ScriptWarning, WrongAnswer, stated_warning};
 use script_lines::write_answer;
 use std::alloc::{AllocError, Global};
+use std::io::BufRead;
 
-/// What is told of an event in which the terminal can send this word, or none, in place of what is stated.
-fn told(alloc: Global, stated: &Stated, sent: Option<Sent>) -> Result<WrongAnswer, AllocError>
-    ensures { IfOk result (λ wrong. told_answer wrong ≡ told_of (shown stated.now) (word_shown sent)) }
+/// The first line of a recording that no behaviour of the subsystem explains.
+#[derive(Drop)]
+pub struct UnexplainedLine {
+    /// What is stated there, and what can come in its place.
+    pub answer: WrongAnswer,
+    /// The command word of its message, if there is one.
+    pub command: Option<u16>,
+}
+
+/// What comes of a recording.
+#[derive(Drop)]
+pub struct Explained {
+    /// How many words it states.
+    pub answers: usize,
+    /// Why that shows nothing, or little, where it does.
+    pub warning: Option<ScriptWarning>,
+    pub first: Option<UnexplainedLine>,
+}
+
+/// The line of a word that is sent, or nothing.
+fn line_of(alloc: Global, sent: Option<Sent>) -> Result<Vec<u8>, AllocError>
+    ensures { IfOk result (λ line. line.items ≡ answer_text (sending_out (word_shown sent))) }
 {
-    let came = match sent {
+    let line = match sent {
         Some(sent) => write_answer(&Answer::Sends(sent)),
         None => write_answer(&Answer::Silent),
     };
-    Ok(WrongAnswer {
-        line: stated.line,
-        expected: stated.answer.as_slice().to_vec(alloc)?,
-        came: came.as_str().as_bytes().to_vec(alloc)?,
+    line.as_str().as_bytes().to_vec(alloc)
+}
+
+/// What is told of the first sighting that nothing explains.
+fn line_told(alloc: Global, first: Unexplained) -> Result<UnexplainedLine, AllocError>
+    ensures { IfOk result (λ line. told_answer line.answer ≡ told_at first.marked.line (word_shown first.marked.sighting.sent) (word_shown first.sent)) }
+{
+    Ok(UnexplainedLine {
+        answer: WrongAnswer {
+            line: first.marked.line,
+            expected: line_of(alloc, first.marked.sighting.sent)?,
+            came: line_of(alloc, first.sent)?,
+        },
+        command: first.marked.command,
     })
 }
 
-/// What is told of the first sighting that nothing explains, of the recording that a script states.
+/// The same, where there is one.
 fn first_told(
     alloc: Global,
-    script: &[Stated],
-    first: Unexplained,
-) -> Result<WrongAnswer, AllocError>
-    requires { first.number < length script.now }
-    ensures { IfOk result (λ wrong. (stated : Stated) × (drop first.number script.now ≡ stated ∷ drop (first.number + 1) script.now) × (told_answer wrong ≡ told_of (shown stated) (word_shown first.sent))) }
+    first: Option<Unexplained>,
+) -> Result<Option<UnexplainedLine>, AllocError>
+    ensures { IfOk result (TellsUnexplained first) }
 {
-    told(alloc, &script[first.number], first.sent)
-}
-
-/// Gives the first event of a script which no behaviour of the subsystem explains, of a terminal from power-up: what is stated of it, and
-/// a line with which it would be explained. None where the whole script is explained. A script that states no recording is refused.
-pub fn unexplained_answer(
-    alloc: Global,
-    normal: &Normal,
-    script: &[Stated],
-) -> Result<Option<WrongAnswer>, RecordingFault>
-    ensures explained { (P : Description) → description_in normal.now ≡ reach P → IfOk result (λ wrong. (recording : List SeenWord) × AreSeenAs (map shown script.now) recording × ((wrong ≡ None) ↔ IsExplained P recording)) }
-    ensures first { (P : Description) → description_in normal.now ≡ reach P → IfOk result (λ wrong. IfSome wrong (λ it. IsFirstUnexplained P (map shown script.now) (told_answer it))) }
-    ensures refused { IfErr result (λ fault. fault ≢ RecordingFault.Memory → IsNoRecording (map shown script.now) fault) }
-{
-    let recording = read_recording(alloc, script)?;
-    match first_unexplained(normal.setup(), *normal, recording.as_slice()) {
-        Some(first) => Ok(Some(first_told(alloc, script, first)?)),
+    match first {
+        Some(first) => Ok(Some(line_told(alloc, first)?)),
         None => Ok(None),
     }
+}
+
+/// Reads a recording, of a terminal from power-up, for the first event which no behaviour of the subsystem explains: what is stated of
+/// it, and a line with which it would be explained. None where the whole recording is explained. A script that states no recording is
+/// refused. What lies between two status words is kept, and no more.
+pub fn watch_recording<B: BufRead + Drop>(
+    alloc: Global,
+    normal: &Normal,
+    input: B,
+) -> Result<Explained, RecordingFault>
+    ensures explained { (P : Description) → description_in normal.now ≡ reach P → IfOk result (λ it. IfSome (B.remaining input) (λ script. (recording : List SeenWord) × StatesRecording script recording × ((it.first ≡ None) ↔ IsExplained P recording))) }
+    ensures first { (P : Description) → description_in normal.now ≡ reach P → IfOk result (λ it. IfSome it.first (λ line. IfSome (B.remaining input) (λ script. IsFirstUnexplained P script (told_answer line.answer)))) }
+    ensures refused { IfErr result (λ fault. IfSome (B.remaining input) (λ script. StatesNoRecording script fault)) }
+{
+    let mut reader = RecordingReader::new(alloc, normal.address(), input);
+    let mut watch = Watch::power_up(alloc, normal.setup(), *normal);
+    let mut has_event = false;
+    let mut answers: usize = 0;
+    'sightings: while let Some(marked) = reader.next()? {
+        has_event = true;
+        if marked.sighting.sent.is_some() {
+            answers = answers.saturating_add(1);
+        }
+        watch.see(marked)?;
+    }
+    Ok(Explained {
+        answers,
+        warning: stated_warning(has_event, answers),
+        first: first_told(alloc, watch.end())?,
+    })
 }

@@ -6,7 +6,7 @@ mod reading;
 mod telling;
 mod words;
 
-pub use explaining::unexplained_answer;
+pub use explaining::{Explained, UnexplainedLine, watch_recording};
 pub use reading::RecordingFault;
 pub use telling::witness;
 pub use words::read_sent;

@@ -1,16 +1,20 @@
-//! The recording that a script states.
-ghost use Rattle.std.specs.Prelude.{◌≡◌, ◌≢◌, map, IfOk, IfErr};
-ghost use Rattle.rt1553_verify.specs.Stated.{shown};
+//! The recording that a script states, read sighting by sighting.
+ghost use Rattle.std.specs.Prelude.{◌≡◌, ◌<◌, map, IfOk, IfErr, IfSome};
+ghost use Rattle.rt1553_verify.specs.Stated.{shown, stated_through};
+ghost use Rattle.rt1553_verify.specs.Reader.{left_in, turns_left};
 ghost use Rattle.recorded_terminal.specs.Sightings.{recorded, shown_sighting};
 ghost use Rattle.recorded_terminal.specs.SentWords.{word_shown};
-ghost use Rattle.script_recordings.specs.Seen.{StatesSent, StatesNoWord, IsSeenAs, AreSeenAs, IsUnseenAs, IsNoRecording};
-ghost use Rattle.script_recordings.specs.declared.reading.RecordingFault.TheVariants.{Memory};
+ghost use Rattle.script_recordings.specs.Seen.{StatesSent, StatesNoWord, IsSeenAs, IsUnseenAs, StatesRecording, StatesNoRecording};
+ghost use Rattle.script_recordings.specs.inner.Reads.{NextSeen, RefusesRest};
+ghost use Rattle.script_recordings.specs.declared.reading.RecordingFault.TheVariants.{Script};
+ghost use Rattle.rt1553_verify.specs.declared.stated.StatedFault.TheVariants.{Memory};
 
 use crate::words::read_sent;
 use bus_terminal::Sent;
-use recorded_terminal::Sighting;
-use rt1553_verify::{Matching, Stated};
+use recorded_terminal::{Marked, Sighting};
+use rt1553_verify::{Matching, Stated, StatedFault, StatedReader, command_after};
 use std::alloc::{AllocError, AllocFailed, Global};
+use std::io::BufRead;
 use thiserror::Error;
 
 /// Why a script states no recording. Lines are numbered from 1.
@@ -25,24 +29,32 @@ pub enum RecordingFault {
     /// What is stated of the event of this line is no line of a word that was sent.
     #[error("script: line {0}: a recording states the word that was sent, as in \"A s 2800\"")]
     NoWord(u64),
-    /// A growth of memory was refused, which says nothing of the script.
-    #[error("out of memory")]
-    Memory,
+    /// The script is refused, or it is not read on.
+    #[error("{0}")]
+    Script(StatedFault),
+}
+
+impl From<StatedFault> for RecordingFault {
+    ghost from_gives = { λ stated fault. fault ≡ Script stated };
+
+    fn from(fault: StatedFault) -> RecordingFault {
+        RecordingFault::Script(fault)
+    }
 }
 
 impl From<AllocError> for RecordingFault {
-    ghost from_gives = { λ _ fault. fault ≡ Memory };
+    ghost from_gives = { λ _ fault. fault ≡ Script Memory };
 
     fn from(_error: AllocError) -> RecordingFault {
-        RecordingFault::Memory
+        RecordingFault::Script(StatedFault::Memory)
     }
 }
 
 impl<T: Drop> From<AllocFailed<T>> for RecordingFault {
-    ghost from_gives = { λ _ fault. fault ≡ Memory };
+    ghost from_gives = { λ _ fault. fault ≡ Script Memory };
 
     fn from(_failed: AllocFailed<T>) -> RecordingFault {
-        RecordingFault::Memory
+        RecordingFault::Script(StatedFault::Memory)
     }
 }
 
@@ -75,14 +87,77 @@ fn sighting_of(stated: &Stated) -> Result<Sighting, RecordingFault>
     }
 }
 
-/// Gives the recording that the events of a script state, a sighting for each. The first of them that is none is the fault.
-pub fn read_recording(alloc: Global, script: &[Stated]) -> Result<Vec<Sighting>, RecordingFault>
-    ensures read { IfOk result (λ recording. AreSeenAs (map shown script.now) (recorded recording.items)) }
-    ensures refused { IfErr result (λ fault. fault ≢ RecordingFault.Memory → IsNoRecording (map shown script.now) fault) }
+/// Reads what is left of a script that states no recording for this fault. A fault of the script comes before it.
+fn refuse_rest<B: BufRead>(script: &mut StatedReader<B>, fault: RecordingFault) -> RecordingFault
+    ensures { RefusesRest (left_in B.remaining script.old) fault result }
 {
+    'events: loop {
+        match script.next() {
+            Ok(Some(_)) => {}
+            Ok(None) => return fault,
+            Err(other) => return RecordingFault::Script(other),
+        }
+    }
+}
+
+/// The recording that a script states, read sighting by sighting.
+#[derive(Drop)]
+pub struct RecordingReader<B> {
+    script: StatedReader<B>,
+    /// The address of the terminal.
+    address: u8,
+    /// The command word of the message in progress.
+    command: Option<u16>,
+}
+
+impl<B: BufRead> RecordingReader<B> {
+    /// Reads the recording of a terminal of this address, of a script of any number of lines.
+    pub fn new(alloc: Global, address: u8, input: B) -> RecordingReader<B>
+        ensures { IfSome (B.remaining input) (λ script. left_in B.remaining result.script ≡ Some (stated_through script)) }
+    {
+        RecordingReader {
+            script: StatedReader::new(alloc, input),
+            address,
+            command: None,
+        }
+    }
+
+    /// Gives the sighting that comes next. None where none is left.
+    pub fn next(&mut self) -> Result<Option<Marked>, RecordingFault>
+        ensures next { NextSeen (left_in B.remaining self.old.script) (left_in B.remaining self.new.script) result }
+        ensures fewer { IfOk result (λ next. IfSome next (λ _. turns_left self.new.script < turns_left self.old.script)) }
+    {
+        let Some(stated) = self.script.next()? else {
+            return Ok(None);
+        };
+        match sighting_of(&stated) {
+            Ok(sighting) => {
+                self.command = command_after(self.address, self.command, stated.event);
+                Ok(Some(Marked {
+                    sighting,
+                    line: stated.line,
+                    command: self.command,
+                }))
+            }
+            Err(fault) => Err(refuse_rest(&mut self.script, fault)),
+        }
+    }
+}
+
+/// Gives the recording that a script states, a sighting for each of its events. The first fault of the script refuses it, or else the
+/// first event that is no sighting.
+pub fn read_recording<B: BufRead + Drop>(
+    alloc: Global,
+    address: u8,
+    input: B,
+) -> Result<Vec<Sighting>, RecordingFault>
+    ensures read { IfOk result (λ recording. IfSome (B.remaining input) (λ script. StatesRecording script (recorded recording.items))) }
+    ensures refused { IfErr result (λ fault. IfSome (B.remaining input) (λ script. StatesNoRecording script fault)) }
+{
+    let mut reader = RecordingReader::new(alloc, address, input);
     let mut recording = Vec::new(alloc);
-    for stated in script {
-        recording.push(sighting_of(stated)?)?;
+    'sightings: while let Some(marked) = reader.next()? {
+        recording.push(marked.sighting)?;
     }
     Ok(recording)
 }

@@ -1,21 +1,20 @@
 //! What a subsystem did, as a script.
-ghost use Rattle.std.specs.Prelude.{◌≡◌, ◌≢◌, ◌++◌, map, IfOk, IfErr, OnOk, List};
+ghost use Rattle.std.specs.Prelude.{◌≡◌, ◌++◌, IfOk, IfErr, IfSome, OnOk, List};
 ghost use Rattle.bus_legal.specs.Description.{Description};
 ghost use Rattle.bus_legal.specs.Parts.{description_in};
 ghost use Rattle.bus_legal.specs.Reach.{reach};
 ghost use Rattle.terminal_rules.specs.declared.event.Event.{Event as ScriptEvent};
 ghost use Rattle.script_lines.specs.EventLine.{event_line, script_text};
-ghost use Rattle.rt1553_verify.specs.Stated.{shown};
-ghost use Rattle.script_recordings.specs.Seen.{IsNoRecording};
+ghost use Rattle.script_recordings.specs.Seen.{StatesNoRecording};
 ghost use Rattle.script_recordings.specs.Explained.{IsWitness};
 
 use crate::reading::{RecordingFault, read_recording};
 use bus_legal::Normal;
 use bus_terminal::Event;
 use recorded_terminal::behaviour;
-use rt1553_verify::Stated;
 use script_lines::write_event;
 use std::alloc::{AllocError, Global};
+use std::io::BufRead;
 
 /// Pushes the line of an event.
 fn push_line(text: &mut Vec<u8>, event: &Event) -> Result<(), AllocError>
@@ -39,11 +38,15 @@ fn script_of(alloc: Global, events: &[Event]) -> Result<Vec<u8>, AllocError>
 
 /// Gives the events of a script that states a recording, and before them what the subsystem did, as the recording tells it: played from
 /// power-up, they make the terminal send what is stated, if any behaviour of the subsystem does.
-pub fn witness(alloc: Global, normal: &Normal, script: &[Stated]) -> Result<Vec<u8>, RecordingFault>
-    ensures plays { IfOk result (λ text. (events : List ScriptEvent) × (text.items ≡ script_text events) × ((P : Description) → description_in normal.now ≡ reach P → IsWitness P (map shown script.now) events)) }
-    ensures refused { IfErr result (λ fault. fault ≢ RecordingFault.Memory → IsNoRecording (map shown script.now) fault) }
+pub fn witness<B: BufRead + Drop>(
+    alloc: Global,
+    normal: &Normal,
+    input: B,
+) -> Result<Vec<u8>, RecordingFault>
+    ensures plays { IfOk result (λ text. IfSome (B.remaining input) (λ script. (events : List ScriptEvent) × (text.items ≡ script_text events) × ((P : Description) → description_in normal.now ≡ reach P → IsWitness P script events))) }
+    ensures refused { IfErr result (λ fault. IfSome (B.remaining input) (λ script. StatesNoRecording script fault)) }
 {
-    let recording = read_recording(alloc, script)?;
+    let recording = read_recording(alloc, normal.address(), input)?;
     let events = behaviour(alloc, normal.setup(), *normal, recording.as_slice())?;
     Ok(script_of(alloc, events.as_slice())?)
 }

@@ -1,40 +1,33 @@
-use Rattle.std.proofs.Common.{map, option_map, arith}
+use Rattle.std.proofs.Common.{map, option_map, arith, rules}
 use Rattle.std.proofs.lemmas.Result.{err_from_is_err_and}
 use Rattle.rt1553_verify.specs.Stated.{shown}
-use Rattle.rt1553_verify.proofs.StatedLaws.{stated_on, stated_stops, stated_many, stated_long, stated_all, stated-read}
+use Rattle.rt1553_verify.proofs.StatedLaws.{stated_on, stated_stops, stated_many, stated_all, stated-read}
 use Rattle.rt1553_verify.proofs.stated.read_stated.Goals as goal
 
 pub returns-then-lines-eq-MAX_LINES-clause-refused : goal.returns-then-lines-eq-MAX_LINES-clause-refused
 returns-then-lines-eq-MAX_LINES-clause-refused c other =
-    stated_many c.loop-rest.lines c.loop-rest.rest.now c.first_line.result.0.now c.first_line.result.1.now (option_map shown c.loop-rest.latest) (map shown c.loop-rest.read.items) _
+    stated_many 1048576 c.loop-rest.lines c.loop-rest.rest.now c.first_line.result.0.now c.first_line.result.1.now (option_map shown c.loop-rest.latest) (map shown c.loop-rest.read.items) _
     (omega (arith, c.if-lines-eq-MAX_LINES.true)) c.first_line.ensures.lines c.loop-rest.invariant.1
 
-pub returns-then-line-gt-MAX_LINE-clause-refused : goal.returns-then-line-gt-MAX_LINE-clause-refused
-returns-then-line-gt-MAX_LINE-clause-refused c other =
-    let i = c.loop-rest.invariant in
-    stated_long c.loop-rest.lines c.loop-rest.rest.now c.first_line.result.0.now c.first_line.result.1.now (option_map shown c.loop-rest.latest) (map shown c.loop-rest.read.items) _
-    (omega (arith, i.0, c.if-lines-eq-MAX_LINES.false)) (omega (arith, c.if-line-gt-MAX_LINE.true)) c.first_line.ensures.lines i.1
-
-pub returns-in_err-latest-clause-refused : goal.returns-in_err-latest-clause-refused
-returns-in_err-latest-clause-refused c =
+pub returns-in_err-known-clause-refused : goal.returns-in_err-known-clause-refused
+returns-in_err-known-clause-refused c =
     let i = c.loop-rest.invariant in
     let r = c.from_residual in
     let p = err_from_is_err_and r.result r.ensures.1 in
-    rw (p.1, p.2) (λ other. stated_stops c.loop-rest.lines c.loop-rest.rest.now c.first_line.result.0.now c.first_line.result.1.now (option_map shown c.loop-rest.latest) (map shown c.loop-rest.read.items) _ _
-    (omega (arith, i.0, c.if-lines-eq-MAX_LINES.false)) (omega (arith, c.if-line-gt-MAX_LINE.false)) c.first_line.ensures.lines (c.in_err-latest.ensures.refused other) i.1)
+    rw (p.1, p.2) (λ other. stated_stops 1048576 c.loop-rest.lines c.loop-rest.rest.now c.first_line.result.0.now c.first_line.result.1.now (option_map shown c.loop-rest.latest) (map shown c.loop-rest.read.items) _ _
+    (omega (arith, i.0, c.if-lines-eq-MAX_LINES.false)) c.first_line.ensures.lines (c.in_err-known.ensures.refused other) i.1)
 
 pub loop-rest-preserved : goal.loop-rest-preserved
 loop-rest-preserved c =
-    let i = c.loop-rest.invariant in
-    let said = c.in_ok-latest.ensures.said in (
+    let i = c.loop-rest.invariant in (
       omega (arith, i.0, c.if-lines-eq-MAX_LINES.false),
-      stated_on c.loop-rest.lines c.loop-rest.rest.now c.first_line.result.0.now c.first_line.result.1.now _ _ (map shown c.loop-rest.read.items) said.0 _ _
-          (omega (arith, i.0, c.if-lines-eq-MAX_LINES.false)) (omega (arith, c.if-line-gt-MAX_LINE.false)) c.first_line.ensures.lines said.1 said.2 i.1,
+      stated_on 1048576 c.loop-rest.lines c.loop-rest.rest.now c.first_line.result.0.now c.first_line.result.1.now _ _ (map shown c.loop-rest.read.items) _ _ _
+          (omega (arith, i.0, c.if-lines-eq-MAX_LINES.false)) c.first_line.ensures.lines c.in_ok-known.ensures.said c.in_ok-push_if.ensures i.1,
     )
 
 pub returns-clause-accepted : goal.returns-clause-accepted
-returns-clause-accepted c = stated_all c.loop-rest.lines c.loop-rest.rest.now (option_map shown c.loop-rest.latest) (map shown c.loop-rest.read.items) _ _ (grind arith) c.in_ok-end.ensures.added c.loop-rest.invariant.1
+returns-clause-accepted c = stated_all 1048576 c.loop-rest.lines c.loop-rest.rest.now (option_map shown c.loop-rest.latest) (map shown c.loop-rest.read.items) _ _ (grind arith) (search rules) c.loop-rest.invariant.1
 
 pub returns-clause-events : goal.returns-clause-events
-returns-clause-events c = stated-read c.args.script.now (map shown c.end.new.read.items)
-    (stated_all c.loop-rest.lines c.loop-rest.rest.now (option_map shown c.loop-rest.latest) (map shown c.loop-rest.read.items) _ _ (grind arith) c.in_ok-end.ensures.added c.loop-rest.invariant.1)
+returns-clause-events c = stated-read c.args.script.now (map shown c.push_if-2.new.read.items)
+    (stated_all 1048576 c.loop-rest.lines c.loop-rest.rest.now (option_map shown c.loop-rest.latest) (map shown c.loop-rest.read.items) _ _ (grind arith) (search rules) c.loop-rest.invariant.1)

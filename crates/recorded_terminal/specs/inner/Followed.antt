@@ -1,0 +1,27 @@
+-- Sightings that were followed, up to one in which another word is sent than was seen.
+use Rattle.std.specs.Prelude.{◌≡◌, ◌≢◌, ℕ, Bool, Option, Some, None, List, [], ◌∷◌, ◌++◌}
+use Rattle.bus_word.specs.declared.cell.Cell.{Cell}
+use Rattle.bus_legal.specs.Description.{Description}
+use Rattle.terminal_rules.specs.declared.event.Event.{Event}
+use Rattle.terminal_recordings.specs.Recordings.{Sighting}
+use Rattle.terminal_recordings.specs.Completion.{next_status, shown_from}
+use Rattle.recorded_terminal.specs.declared.follower.Follower.{Follower}
+use Rattle.recorded_terminal.specs.declared.watch.Marked.{Marked}
+use Rattle.recorded_terminal.specs.declared.watch.Unexplained.{Unexplained}
+use Rattle.recorded_terminal.specs.Follows.{FollowsAt}
+use Rattle.recorded_terminal.specs.Watched.{seen_in, sighting_instead}
+
+-- this is the next status word that is seen in each of these sightings or later, before others
+abbrev pub AreBefore : Option ℕ → List Marked → List Sighting → Type 0
+AreBefore status [] later = Unit {0}
+AreBefore status (m ∷ ms) later = (next_status (seen_in (m ∷ ms) ++ later) ≡ status) × AreBefore status ms later
+
+-- all that was seen in them is shown, or another word is sent in one of them, after a history
+abbrev pub Followed : {L : Type 0} → (L → Cell → Bool) → Description → List Event → Option ℕ → List Marked → Follower L → Option Unexplained → Type 0
+Followed is_legal P h status ms f None =
+    (k : List Event) × FollowsAt is_legal P k f
+    × ((later : List Sighting) → AreBefore status ms later → shown_from P h (seen_in ms ++ later) ≡ seen_in ms ++ shown_from P k later)
+Followed is_legal P h status ms f (Some it) =
+    (before : List Marked) × (rest : List Marked) × (ms ≡ before ++ it.marked ∷ rest) × (it.sent ≢ it.marked.sighting.sent)
+    × ((later : List Sighting) → AreBefore status ms later →
+    (others : List Sighting) × (shown_from P h (seen_in ms ++ later) ≡ seen_in before ++ sighting_instead it ∷ others))

@@ -1,0 +1,117 @@
+//! A recording that is watched, sighting by sighting.
+ghost use Rattle.std.specs.Prelude.{◌≡◌, ◌↔◌, ◌++◌, ◌∷◌, [], List, IfSome, IsTrue, None, OnOk};
+ghost use Rattle.bus_legal.specs.Description.{Description, described};
+ghost use Rattle.terminal_rules.specs.declared.event.Event.{Event};
+ghost use Rattle.terminal_recordings.specs.Recordings.{IsExplained};
+ghost use Rattle.recorded_terminal.specs.declared.watch.Marked.{Marked};
+ghost use Rattle.recorded_terminal.specs.Follows.{FollowsAt};
+ghost use Rattle.recorded_terminal.specs.Watched.{IsUnexplainedAt, Watches, seen_in};
+ghost use Rattle.recorded_terminal.specs.inner.Followed.{Followed};
+
+use crate::follower::Follower;
+use crate::sighting::Sighting;
+use crate::told::shown_status;
+use bus_legal::{Legality, Setup};
+use bus_terminal::Sent;
+use std::alloc::{AllocError, Global};
+
+/// A sighting, and where it stands in a recording.
+#[derive(Clone, Copy)]
+pub struct Marked {
+    pub sighting: Sighting,
+    /// The number of its line.
+    pub line: u64,
+    /// The command word of the message in progress after it, if there is one.
+    pub command: Option<u16>,
+}
+
+/// The first sighting that no behaviour of the subsystem explains.
+#[derive(Clone, Copy)]
+pub struct Unexplained {
+    pub marked: Marked,
+    /// What the terminal sends there in place of what was seen, where the subsystem does what the recording tells.
+    pub sent: Option<Sent>,
+}
+
+/// Whether the word that a terminal sends is the one that was seen, or none is sent and none was seen.
+fn is_same(sent: Option<Sent>, seen: Option<Sent>) -> bool
+    ensures { IsTrue result ↔ (sent ≡ seen) }
+{
+    sent == seen
+}
+
+/// Follows sightings, where `status` is the next status word that is seen, in each of them or later. Gives the first in which the
+/// terminal sends another word than was seen.
+fn follow<L: Legality>(
+    follower: &mut Follower<L>,
+    waiting: &[Marked],
+    status: Option<u16>,
+) -> Option<Unexplained>
+    ensures { (P : Description) (h : List Event) → FollowsAt L.is_legal P h follower.old → Followed L.is_legal P h status waiting.now follower.new result }
+{
+    for marked in waiting {
+        let sent = follower.see(marked.sighting, status).sent;
+        if !is_same(sent, marked.sighting.sent) {
+            return Some(Unexplained {
+                marked: *marked,
+                sent,
+            });
+        }
+    }
+    None
+}
+
+/// Watches a recording for the first sighting that no behaviour of the subsystem explains. It keeps the sightings behind the last status
+/// word that was seen, since the next one tells which flags the subsystem has there.
+#[derive(Drop)]
+pub struct Watch<L> {
+    follower: Follower<L>,
+    waiting: Vec<Marked>,
+    first: Option<Unexplained>,
+}
+
+impl<L: Legality + Drop> Watch<L> {
+    /// Watches a terminal from power-up.
+    pub fn power_up(alloc: Global, setup: Setup, legality: L) -> Watch<L>
+        ensures { Watches L.is_legal (described setup (L.is_legal legality)) [] result }
+    {
+        Watch {
+            follower: Follower::power_up(setup, legality),
+            waiting: Vec::new(alloc),
+            first: None,
+        }
+    }
+
+    /// Takes what is seen next.
+    pub fn see(&mut self, marked: Marked) -> Result<(), AllocError>
+        ensures { OnOk result ((P : Description) (ms : List Marked) → Watches L.is_legal P ms self.old → Watches L.is_legal P (ms ++ marked ∷ []) self.new) }
+    {
+        if self.first.is_some() {
+            return Ok(());
+        }
+        let status = shown_status(marked.sighting.sent);
+        self.waiting.push(marked)?;
+        if status.is_some() {
+            self.first = follow(&mut self.follower, self.waiting.as_slice(), status);
+            self.waiting.clear();
+        }
+        Ok(())
+    }
+
+    /// Gives the first sighting that no behaviour of the subsystem explains: those before it are explained, and with it they are not.
+    /// None where the whole recording is explained.
+    pub fn end(self) -> Option<Unexplained>
+        ensures explained { (P : Description) (ms : List Marked) → Watches L.is_legal P ms self → ((result ≡ None) ↔ IsExplained P (seen_in ms)) }
+        ensures first { (P : Description) (ms : List Marked) → Watches L.is_legal P ms self → IfSome result (IsUnexplainedAt P ms) }
+    {
+        let Watch {
+            mut follower,
+            waiting,
+            first,
+        } = self;
+        match first {
+            Some(first) => Some(first),
+            None => follow(&mut follower, waiting.as_slice(), None),
+        }
+    }
+}

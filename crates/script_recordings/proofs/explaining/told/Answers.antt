@@ -1,7 +1,0 @@
-use Rattle.std.proofs.Common.{arith}
-use Rattle.bus_terminal.specs.Answer.{shown_word}
-use Rattle.script_lines.proofs.TranscriptLaws.{sent_length}
-use Rattle.script_recordings.proofs.explaining.told.Goals as goal
-
-pub write_answer-came-requires : goal.write_answer-came-requires
-write_answer-came-requires c = omega (arith, sent_length (shown_word c.in-Some.sent))

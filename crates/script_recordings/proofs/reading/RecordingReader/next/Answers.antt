@@ -1,0 +1,11 @@
+use Rattle.std.proofs.Common.{Ok, subst}
+use Rattle.rt1553_verify.specs.Reader.{NextIs, left_in}
+use Rattle.script_recordings.proofs.ReadLaws.{next_unseen}
+use Rattle.script_recordings.proofs.reading.RecordingReader.next.Goals as goal
+
+pub returns-clause-next : goal.returns-clause-next
+returns-clause-next g c =
+    next_unseen (left_in g.B.Read.remaining c.args.self.now.script) (left_in g.B.Read.remaining c.next.new.self) (left_in g.B.Read.remaining c.refuse_rest.new.script)
+    c.in-Some.stated c.in-Err.fault c.refuse_rest.result
+    (subst (λ o. NextIs (left_in g.B.Read.remaining c.args.self.now.script) (left_in g.B.Read.remaining c.next.new.self) (Ok o)) c.in-Some.is c.in_ok-stated.ensures.next)
+    c.in-Err.ensures.refused c.refuse_rest.ensures

@@ -1,0 +1,47 @@
+-- What is read of a recording, sighting by sighting.
+use Rattle.std.specs.Prelude.{◌≡◌, ◌≢◌, ◌⊎◌, Option, Some, None, List, [], ◌∷◌, Result, Ok, Err}
+use Rattle.recorded_terminal.specs.declared.watch.Marked.{Marked}
+use Rattle.recorded_terminal.specs.declared.watch.Unexplained.{Unexplained}
+use Rattle.recorded_terminal.specs.SentWords.{word_shown}
+use Rattle.recorded_terminal.specs.Sightings.{shown_sighting}
+use Rattle.rt1553_verify.specs.declared.stated.StatedFault.{StatedFault}
+use Rattle.rt1553_verify.specs.declared.stated.StatedFault.TheVariants.{Memory, Read}
+use Rattle.rt1553_verify.specs.Stated.{StatedEvent, then_events}
+use Rattle.rt1553_verify.specs.Verify.{told_answer}
+use Rattle.script_recordings.specs.declared.explaining.UnexplainedLine.{UnexplainedLine}
+use Rattle.script_recordings.specs.Explained.{told_at}
+use Rattle.script_recordings.specs.declared.reading.RecordingFault.{RecordingFault}
+use Rattle.script_recordings.specs.declared.reading.RecordingFault.TheVariants.{Script}
+use Rattle.script_recordings.specs.Seen.{IsSeenAs, IsUnseenAs}
+
+abbrev pub Left : Type 0
+Left = Option (Result (List StatedEvent) StatedFault)
+
+-- an event is stated so, in this line
+abbrev pub IsMarkedAs : StatedEvent → Marked → Type 0
+IsMarkedAs s m = IsSeenAs s (shown_sighting m.sighting) × (m.line ≡ s.line)
+
+-- the fault says nothing of the script
+abbrev pub SaysNothing : RecordingFault → Type 0
+SaysNothing fault = (fault ≡ Script Memory) ⊎ (fault ≡ Script Read)
+
+-- what is left is read for a fault of the script, and else this one is given
+abbrev pub RefusesRest : Left → RecordingFault → RecordingFault → Type 0
+RefusesRest None fault given = Unit {0}
+RefusesRest (Some (Ok ss)) fault given = (given ≡ fault) ⊎ SaysNothing given
+RefusesRest (Some (Err other)) fault given = (given ≡ Script other) ⊎ SaysNothing given
+
+-- the sighting that comes next is that of the first event that is left, or there is none, or a fault is
+abbrev pub NextSeen : Left → Left → Result (Option Marked) RecordingFault → Type 0
+NextSeen None new result = Unit {0}
+NextSeen (Some said) new (Ok None) = said ≡ Ok []
+NextSeen (Some said) new (Ok (Some m)) =
+    (s : StatedEvent) × (later : Result (List StatedEvent) StatedFault) × (new ≡ Some later) × (said ≡ then_events (s ∷ []) later) × IsMarkedAs s m
+NextSeen (Some said) new (Err (Script fault)) = fault ≢ Memory → fault ≢ Read → said ≡ Err fault
+NextSeen (Some said) new (Err fault) = (s : StatedEvent) × (rest : List StatedEvent) × (said ≡ Ok (s ∷ rest)) × IsUnseenAs s fault
+
+-- what is told of the first sighting that nothing explains, where there is one
+abbrev pub TellsUnexplained : Option Unexplained → Option UnexplainedLine → Type 0
+TellsUnexplained None None = Unit {0}
+TellsUnexplained (Some it) (Some line) = told_answer line.answer ≡ told_at it.marked.line (word_shown it.marked.sighting.sent) (word_shown it.sent)
+TellsUnexplained _ _ = ⊥
