@@ -3,7 +3,7 @@ _rt1553_tool() {
     local now=${COMP_WORDS[COMP_CWORD]} before=${COMP_WORDS[COMP_CWORD - 1]} flags='' kinds=() many='' count=0 index kind
     COMPREPLY=()
     if ((COMP_CWORD == 1)); then
-        mapfile -t COMPREPLY < <(compgen -W 'lint check-script verify import export expand toml explain differ acceptance draw words live --help --version' -- "$now")
+        mapfile -t COMPREPLY < <(compgen -W 'lint check-script verify recording import export expand toml explain differ acceptance draw words live --help --version' -- "$now")
         return
     fi
     case ${COMP_WORDS[1]}:$before in
@@ -11,6 +11,9 @@ _rt1553_tool() {
         verify:--profiles) mapfile -t COMPREPLY < <(compgen -d -- "$now"); return ;;
         verify:--format) mapfile -t COMPREPLY < <(compgen -W 'text json junit html' -- "$now"); return ;;
         verify:--names) mapfile -t COMPREPLY < <(compgen -f -X '!*.csv' -- "$now"; compgen -d -- "$now"); return ;;
+        recording:--address) return ;;
+        recording:--gap) return ;;
+        recording:--no-response) return ;;
         explain:--format) mapfile -t COMPREPLY < <(compgen -W 'text json' -- "$now"); return ;;
         explain:--names) mapfile -t COMPREPLY < <(compgen -f -X '!*.csv' -- "$now"; compgen -d -- "$now"); return ;;
         differ:--format) mapfile -t COMPREPLY < <(compgen -W 'text json' -- "$now"); return ;;
@@ -23,7 +26,8 @@ _rt1553_tool() {
     case ${COMP_WORDS[1]} in
         lint) flags='--format --help' kinds=(profile) many='profile' ;;
         check-script) flags='--help' kinds=(script) many='script' ;;
-        verify) flags='--summary --bus-only --any-subsystem --expand --profiles --format --names --help' kinds=(profile script) many='script' ;;
+        verify) flags='--summary --bus-only --any-subsystem --witness --expand --profiles --format --names --help' kinds=(profile script) many='script' ;;
+        recording) flags='--address --gap --no-response --help' kinds=(table) many='' ;;
         import) flags='--help' kinds=(table) many='' ;;
         export) flags='--help' kinds=(profile) many='' ;;
         expand) flags='--help' kinds=(messages) many='' ;;
@@ -42,6 +46,9 @@ _rt1553_tool() {
             verify:--profiles) kinds=("${kinds[@]:1}") index=$((index + 1)) ;;
             verify:--format) index=$((index + 1)) ;;
             verify:--names) index=$((index + 1)) ;;
+            recording:--address) index=$((index + 1)) ;;
+            recording:--gap) index=$((index + 1)) ;;
+            recording:--no-response) index=$((index + 1)) ;;
             explain:--format) index=$((index + 1)) ;;
             explain:--names) index=$((index + 1)) ;;
             differ:--format) index=$((index + 1)) ;;

@@ -11,11 +11,17 @@ complete -c rt1553-tool -n __fish_use_subcommand -a verify -d 'Prints where a te
 complete -c rt1553-tool -n '__fish_seen_subcommand_from verify' -l summary -d 'prints what passes, too, clause by clause'
 complete -c rt1553-tool -n '__fish_seen_subcommand_from verify' -l bus-only -d 'ignores hand-overs that a script does not state'
 complete -c rt1553-tool -n '__fish_seen_subcommand_from verify' -l any-subsystem -d 'takes scripts as recordings: some behaviour of the subsystem is to explain them'
+complete -c rt1553-tool -n '__fish_seen_subcommand_from verify' -l witness -d 'with --any-subsystem prints a script that explains the recording'
 complete -c rt1553-tool -n '__fish_seen_subcommand_from verify' -l expand -d 'takes messages, too, as `expand` does'
 complete -c rt1553-tool -n '__fish_seen_subcommand_from verify' -l profiles -x -a '(__fish_complete_directories)' -d 'in place of P: each script names its profile in FOLDER'
 complete -c rt1553-tool -n '__fish_seen_subcommand_from verify' -l format -x -a 'text json junit html' -d 'the output format'
 complete -c rt1553-tool -n '__fish_seen_subcommand_from verify' -l names -r -F -d 'puts the names of messages in TABLE beside their numbers'
 complete -c rt1553-tool -n '__fish_seen_subcommand_from verify' -F
+complete -c rt1553-tool -n __fish_use_subcommand -a recording -d 'Writes the recording of a terminal that the table of a monitor has'
+complete -c rt1553-tool -n '__fish_seen_subcommand_from recording' -l address -x -d 'the address of the terminal, 0 to 30; it has to be given'
+complete -c rt1553-tool -n '__fish_seen_subcommand_from recording' -l gap -x -d 'a longer silence is a gap, in microseconds (default: 1)'
+complete -c rt1553-tool -n '__fish_seen_subcommand_from recording' -l no-response -x -d 'a status word after a longer silence is no reply, in microseconds (default: 12)'
+complete -c rt1553-tool -n '__fish_seen_subcommand_from recording' -F
 complete -c rt1553-tool -n __fish_use_subcommand -a import -d 'Writes the profile that a table means'
 complete -c rt1553-tool -n '__fish_seen_subcommand_from import' -F
 complete -c rt1553-tool -n __fish_use_subcommand -a export -d 'Writes the table of a profile'

@@ -6,6 +6,7 @@ _rt1553_tool() {
         'lint:Prints all faults of profiles, and what has no effect'
         'check-script:Prints which lines of scripts are refused, where and why'
         'verify:Prints where a terminal does not answer as scripts state'
+        'recording:Writes the recording of a terminal that the table of a monitor has'
         'import:Writes the profile that a table means'
         'export:Writes the table of a profile'
         'expand:Writes messages as the lines of a script'
@@ -28,7 +29,8 @@ _rt1553_tool() {
     case $command in
         lint) _arguments '--help[prints what the command takes]' '--format[the output format]:format:(text json sarif)' '*:P:_files -g "*.(toml|rt1553)(-.)"' ;;
         check-script) _arguments '--help[prints what the command takes]' '*:SCRIPT:_files -g "*.(script)(-.)"' ;;
-        verify) _arguments '--help[prints what the command takes]' '--summary[prints what passes, too, clause by clause]' '--bus-only[ignores hand-overs that a script does not state]' '--any-subsystem[takes scripts as recordings\: some behaviour of the subsystem is to explain them]' '--expand[takes messages, too, as `expand` does]' '(1)--profiles[in place of P\: each script names its profile in FOLDER]:FOLDER:_files -/' '--format[the output format]:format:(text json junit html)' '--names[puts the names of messages in TABLE beside their numbers]:TABLE:_files -g "*.(csv)(-.)"' '(--profiles)1:P:_files -g "*.(toml|rt1553)(-.)"' '*:SCRIPT:_files -g "*.(script)(-.)"' ;;
+        verify) _arguments '--help[prints what the command takes]' '--summary[prints what passes, too, clause by clause]' '--bus-only[ignores hand-overs that a script does not state]' '--any-subsystem[takes scripts as recordings\: some behaviour of the subsystem is to explain them]' '--witness[with --any-subsystem prints a script that explains the recording]' '--expand[takes messages, too, as `expand` does]' '(1)--profiles[in place of P\: each script names its profile in FOLDER]:FOLDER:_files -/' '--format[the output format]:format:(text json junit html)' '--names[puts the names of messages in TABLE beside their numbers]:TABLE:_files -g "*.(csv)(-.)"' '(--profiles)1:P:_files -g "*.(toml|rt1553)(-.)"' '*:SCRIPT:_files -g "*.(script)(-.)"' ;;
+        recording) _arguments '--help[prints what the command takes]' '--address[the address of the terminal, 0 to 30; it has to be given]:N: ' '--gap[a longer silence is a gap, in microseconds (default\: 1)]:TIME: ' '--no-response[a status word after a longer silence is no reply, in microseconds (default\: 12)]:TIME: ' '1:TABLE:_files -g "*.(csv)(-.)"' ;;
         import) _arguments '--help[prints what the command takes]' '1:TABLE:_files -g "*.(csv)(-.)"' ;;
         export) _arguments '--help[prints what the command takes]' '1:P:_files -g "*.(toml|rt1553)(-.)"' ;;
         expand) _arguments '--help[prints what the command takes]' '1:MESSAGES:_files -g "*.(messages)(-.)"' ;;

@@ -101,7 +101,7 @@ if [[ $failed -eq 0 ]]; then
     part bash scripts/tool.sh "${tools[@]}"
     part python3 scripts/tables.py "${programs[0]}" "${tools[@]}"
     part python3 scripts/acceptance.py "${programs[0]}" "${tools[@]}"
-    part python3 scripts/recordings.py "${tools[0]}"
+    part python3 scripts/recordings.py "${programs[0]}" "${tools[0]}"
     part bash scripts/callers.sh "$built"
     part bash scripts/unpacked.sh "$built"
     part bash scripts/arm64.sh "$built"

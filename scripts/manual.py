@@ -299,6 +299,8 @@ def bash_of(program):
         for option in command.get("options", []):
             if "values" in option:
                 yield f"        {command['name']}:{option['name']}) mapfile -t COMPREPLY < <(compgen -W '{' '.join(option['values'])}' -- \"$now\"); return ;;"
+            elif option.get("kind") == "number":
+                yield f"        {command['name']}:{option['name']}) return ;;"
             elif "value" in option:
                 yield f"        {command['name']}:{option['name']}) mapfile -t COMPREPLY < <({bash_files(option['kind'])}); return ;;"
     yield "    esac"
@@ -354,6 +356,8 @@ def zsh_specs(command):
         value = ""
         if "values" in option:
             value = f":{option['value']}:({' '.join(option['values'])})"
+        elif option.get("kind") == "number":
+            value = f":{option['value']}: "
         elif "value" in option:
             value = f":{option['value']}:{zsh_files(option['kind'])}"
         but = "(1)" if option.get("instead") else ""
@@ -414,6 +418,8 @@ def fish_of(program):
             value = ""
             if "values" in option:
                 value = f" -x -a '{' '.join(option['values'])}'"
+            elif option.get("kind") == "number":
+                value = " -x"
             elif "value" in option:
                 value = " -r -F" if ENDINGS[option["kind"]] else " -x -a '(__fish_complete_directories)'"
             yield f"complete -c {name} {seen} -l {option['name'][2:]}{value} -d {fish_text(option['help'])}"

@@ -1,13 +1,15 @@
 #!/usr/bin/env python3
 """Recordings that look random, judged by `rt1553-tool verify --any-subsystem` and by a decision of its own.
 
-    scripts/recordings.py TOOL..    builds of rt1553-tool
+    scripts/recordings.py PROGRAM TOOL..    a build of rt1553, and builds of rt1553-tool
 
 The model of the rules (tests/model) plays messages that look random, while a subsystem does something now and then. What a monitor on the
-buses sees of each run is a recording, which has to be explained. Then each is changed in one slot: a bit, the kind, silence or
+buses sees of each run is a recording, which has to be explained, and PROGRAM plays the script that `--witness` prints to the
+recorded words. Then each is changed in one slot: a bit, the kind, silence or
 a word. How many sightings are explained then is decided here by a terminal whose status keeps the bits of its flags open until it is
 sent. The last line is 'N passed, M failed'.
 """
+import concurrent.futures
 import pathlib
 import random
 import re
@@ -145,6 +147,23 @@ def is_right(setup, recording, numbers, name, told):
     return int(found[1]) == numbers[count] and found[2] == shown(sent) and explained(setup, possible) == count + 1
 
 
+def plays(program, tool, folder, recording, name):
+    """Whether the script that explains a recording has its events, and the program plays it to the recorded words."""
+    made = subprocess.run([tool, "verify", "--any-subsystem", "--witness", "profile.toml", name], cwd=folder, capture_output=True, check=False)
+    ran = subprocess.run([program, "run", "profile.toml", "/dev/stdin"], cwd=folder, input=made.stdout, capture_output=True, check=False)
+    seen = [it for it in made.stdout.decode().splitlines() if not it.startswith(UNSEEN)]
+    sent = [it for it in ran.stdout.decode().splitlines() if not it.startswith("hand ")]
+    events = [random_scripts.line_of(event) for event, _ in recording]
+    words = [play.answer_line(word) for _, word in recording if word]
+    return (made.returncode, ran.returncode, seen, sent) == (0, 0, events, words)
+
+
+def witnessed(program, tool, folder, recordings):
+    """How many of these recordings, which `judged` wrote, a build explains by a script that plays."""
+    with concurrent.futures.ThreadPoolExecutor() as pool:
+        return sum(pool.map(lambda n: plays(program, tool, folder, recordings[n], str(n)), range(len(recordings))))
+
+
 def judged(tool, folder, setup, recordings):
     """How many of these recordings a build judges rightly."""
     numbers = []
@@ -165,9 +184,10 @@ def judged(tool, folder, setup, recordings):
 
 
 def main():
-    tools = [str(pathlib.Path(it).resolve()) for it in sys.argv[1:]]
-    if not tools:
+    builds = [str(pathlib.Path(it).resolve()) for it in sys.argv[1:]]
+    if len(builds) < 2:
         sys.exit(__doc__)
+    program, *tools = builds
     passed = failed = 0
     with tempfile.TemporaryDirectory() as room:
         folder = pathlib.Path(room)
@@ -182,9 +202,9 @@ def main():
                 failed += 1
             others = [it for it in map(changed, runs, seeds) if it]
             for tool in tools:
-                right = judged(tool, folder, setup, runs) + judged(tool, folder, setup, others)
+                right = judged(tool, folder, setup, runs) + witnessed(program, tool, folder, runs) + judged(tool, folder, setup, others)
                 passed += right
-                failed += len(runs) + len(others) - right
+                failed += 2 * len(runs) + len(others) - right
     print(f"{passed} passed, {failed} failed")
     return 1 if failed or not passed else 0
 

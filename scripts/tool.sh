@@ -353,8 +353,52 @@ recording_rows() {
     row 'a hand-over in a recording' 2 '' 'hands: script: line 2: a recording states the word that was sent, as in "A s 2800"\n' verify --any-subsystem five hands
     row 'capital digits in a recording' 2 '' 'capital: script: line 3: a recording states the word that was sent, as in "A s 2800"\n' verify --any-subsystem five capital
     row 'a recording and a test on the bus' 3 '' 'arguments: see --help\n' verify --any-subsystem --bus-only five flags
+    row 'the script that explains a recording' 0 'flag service 1\nA c 2c61\nA gap\nslot\nflag service 0\nflag subsystem 1\nflag terminal 1\nA c 2c61\nA gap\nslot\n' '' \
+        verify --any-subsystem --witness five flags
+    row 'a recording that nothing explains, by a script' 1 'reserved:7: expected A s 2820, came A s 2800\nreserved: differences: 1\n' '' \
+        verify --any-subsystem --witness five reserved
+    row 'no recording, by a script' 2 '' 'acts: script: line 2: what the subsystem does is not seen in a recording\n' verify --any-subsystem --witness five acts
+    row 'a test, by a script' 3 '' 'arguments: see --help\n' verify --witness five flags
+    row 'two recordings, by a script' 3 '' 'arguments: see --help\n' verify --any-subsystem --witness five flags reserved
+    row 'a summary and a script' 3 '' 'arguments: see --help\n' verify --any-subsystem --witness --summary five flags
+    row 'a folder of profiles and a script' 3 '' 'arguments: see --help\n' verify --any-subsystem --witness --profiles . flags
+    row 'a report and a script' 3 '' 'arguments: see --help\n' verify --any-subsystem --witness --format json five flags
     row 'several recordings' 2 'flags: passed (answers: 2)\nreserved:7: expected A s 2820, came A s 2800\nreserved: differences: 1\nno clause: 1 of 3 scripts pass\nall: 1 of 3 scripts pass\n' \
         'acts: script: line 2: what the subsystem does is not seen in a recording\n' verify --any-subsystem --summary five flags reserved acts
+}
+
+# what `recording` makes of the tables of a monitor
+monitor_rows() {
+    local words=$'time,bus,sync,word\n0,A,c,2c02\n24,A,s,2800\n' heard='# 0\nA c 2c02\nA gap\n# 24\nslot\n#> A s 2800\nslot\nA gap\n'
+    printf '%s' "$words" >"$work/words.csv"
+    printf 'word,Sync,BUS,time,note,error\r\n0x2C02,command,a,0,,\r\n2800,status,a,24,,parity\r\n' >"$work/noise.csv"
+    printf 'time,bus,sync,word\n0,A,c,2822\n20,A,c,3422\n44,A,s,3000\n64,A,d,beef\n84,A,d,dead\n108,A,s,2800\n' >"$work/transfer.csv"
+    printf 'time,bus,command,command2,data,status,status2\n0,A,2862,,0001 0002,2800,\n500,B,3822,2c22,beef,2800,3800\n' >"$work/messages.csv"
+    printf '%s' "$words" >"$work/late.csv"
+    printf '100,A,c,2c02\n140,A,s,2800\n' >>"$work/late.csv"
+    printf '%s40,A,s,2800\n' "$words" >"$work/overlaps.csv"
+    printf 'time,bus,sync\n' >"$work/neither.csv"
+    printf 'time,bus,command,error\n0,A,2c02,parity\n' >"$work/unclear.csv"
+    input ''
+    row 'a table of words' 0 "$heard" '' recording words.csv --address 5
+    row 'words of another terminal' 0 '# 0\nA c 2c02\nA gap\n# 24\nA c 2800\nA gap\n' '' recording words.csv --address 6
+    row 'columns in any order, and a word with an error' 0 '# 0\nA c 2c02\nA gap\nslot\n# 24\nA noise\nA gap\nslot\n' \
+        'noise.csv:1:5: warning: the column "note" is left out\n' recording noise.csv --address 5
+    row 'a transfer between terminals' 0 '# 0\nA c 2822\n# 20\nA c 3422\nA gap\nslot\n# 44\nA c 3000\n# 64\nA d beef\n# 84\nA d dead\nA gap\n# 108\nslot\n#> A s 2800\nslot\nA gap\n' '' \
+        recording transfer.csv --address 5
+    row 'a table of messages' 0 '# 0\nA c 2862\nA d 0001\nA d 0002\nA gap\nslot\n#> A s 2800\nslot\nA gap\n# 500\nB c 3822\nB c 2c22\nB gap\nslot\n#> B s 2800\nslot\n#> B d beef\nslot\nB gap\nB c 3800\nB gap\n' '' \
+        recording messages.csv --address 5
+    row 'a reply that is too late' 0 "$heard"'# 100\nA c 2c02\nA gap\n# 140\n# later than no response: A s 2800\nslot\n' '' recording late.csv --address 5
+    row 'the same, with more time' 0 "$heard"'# 100\nA c 2c02\nA gap\n# 140\nslot\n#> A s 2800\nslot\nA gap\n' '' recording late.csv --address 5 --no-response 25.5
+    row 'a longer gap' 0 '# 0\nA c 2c02\n# 24\nslot\n#> A s 2800\nslot\nA gap\n' '' recording words.csv --address 5 --gap 5
+    row 'words that overlap' 2 '# 0\nA c 2c02\nA gap\n# 24\nslot\n#> A s 2800\n' \
+        'overlaps.csv: table: row 4, column 1: the word above ends 20 microseconds after it begins, and this one begins earlier\n' recording overlaps.csv --address 5
+    row 'a table of neither kind' 2 '' 'neither.csv: table: row 1, column 4: no column is named word, and none command\n' recording neither.csv --address 5
+    row 'a message with an error' 2 '' 'unclear.csv: table: row 2, column 4: the row does not tell which of its words has the error\n' recording unclear.csv --address 5
+    row 'no table' 4 '' 'file: cannot read none.csv\n' recording none.csv --address 5
+    row 'no address' 3 '' 'arguments: see --help\n' recording words.csv
+    row 'an address beyond 30' 3 '' 'arguments: see --help\n' recording words.csv --address 31
+    row 'a gap that is no time' 3 '' 'arguments: see --help\n' recording words.csv --address 5 --gap 1us
 }
 
 # what `verify` tells of small scripts over the profile `address = 5`
@@ -831,6 +875,7 @@ for program in "$@"; do
     verify_rows
     mask_rows
     recording_rows
+    monitor_rows
     import_rows
     expand_rows
     names_rows

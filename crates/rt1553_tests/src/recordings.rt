@@ -2,10 +2,12 @@
 use crate::terminals::{Every, equipped};
 use bus_terminal::{Answer, Event, Terminal};
 use bus_word::{Bus, Kind, Raw};
-use recorded_terminal::{Sent, Sighting, Unexplained, behaviour, first_unexplained};
+use byte_streams::MemorySink;
+use monitor_cells::read_time;
+use monitor_tables::{RecordingSetup, open_table, write_recording};
+use recorded_terminal::{Marked, Sent, Sighting, Watch, behaviour};
 use rt1553::load;
-use rt1553_verify::read_stated;
-use script_recordings::{unexplained_answer, witness};
+use script_recordings::{watch_recording, witness};
 use std::alloc::{AllocError, Global};
 use std::test::Fail;
 
@@ -44,35 +46,38 @@ fn first_sighting_that_nothing_explains(rt: HostRuntime) -> Result<(), Fail> {
         (Event::Gap(Bus::A), None),
         sent(Kind::Com, 0x2900),
     ];
-    let recording = recording_of(rt.alloc(), &seen)?;
-    let first = first_unexplained(normal.setup(), normal, recording.as_slice());
+    let mut watch = Watch::power_up(rt.alloc(), normal.setup(), normal);
+    for sighting in recording_of(rt.alloc(), &seen)? {
+        watch.see(Marked {
+            sighting,
+            line: 0,
+            command: None,
+        })?;
+    }
     // before any message no flag shows
-    let unexplained = Unexplained {
-        number: 2,
-        sent: sent(Kind::Com, 0x2800).1,
-    };
-    assert_eq!(rt; first, Some(unexplained));
+    let first = watch.end().and_then(|first| first.sent);
+    assert_eq!(rt; first, sent(Kind::Com, 0x2800).1);
     Ok(())
 }
 
 #[test]
 fn first_line_that_nothing_explains(rt: HostRuntime) -> Result<(), Fail> {
     let normal = load(rt.alloc(), b"address = 5")?;
-    let script = read_stated(rt.alloc(), b"A c 2c02\nA gap\nslot\n#> A s 2900\n")?;
-    let wrong = unexplained_answer(rt.alloc(), &normal, script.as_slice())?;
-    let Some(wrong) = wrong else {
+    let script = b"A c 2c02\nA gap\nslot\n#> A s 2900\n".as_slice();
+    let Some(first) = watch_recording(rt.alloc(), &normal, script)?.first else {
         panic!(rt; "it is explained");
     };
-    assert_eq!(rt; wrong.line, 3);
-    assert_eq!(rt; wrong.came.as_slice(), b"A s 2800\n".as_slice());
+    assert_eq!(rt; first.answer.line, 3);
+    assert_eq!(rt; first.answer.came.as_slice(), b"A s 2800\n".as_slice());
+    assert_eq!(rt; first.command, Some(0x2c02));
     Ok(())
 }
 
 #[test]
 fn subsystem_of_a_script(rt: HostRuntime) -> Result<(), Fail> {
     let normal = load(rt.alloc(), b"address = 5")?;
-    let script = read_stated(rt.alloc(), b"A c 2c61\nA gap\nslot\n#> A s 2d00\n")?;
-    let told = witness(rt.alloc(), &normal, script.as_slice())?;
+    let script = b"A c 2c61\nA gap\nslot\n#> A s 2d00\n".as_slice();
+    let told = witness(rt.alloc(), &normal, script)?;
     let played = b"flag service 1\nA c 2c61\nA gap\nslot\n".as_slice();
     assert_eq!(rt; told.as_slice(), played);
     Ok(())
@@ -103,5 +108,25 @@ fn behaviour_of_a_subsystem(rt: HostRuntime) -> Result<(), Fail> {
     assert_eq!(rt; bits.as_slice(), [0x2904u16, 0x1234, 0x2809].as_slice());
     // two flags before the first, four before the data word, and the word
     assert_eq!(rt; events.len(), 8 + 2 + 4 + 1);
+    Ok(())
+}
+
+#[test]
+fn time_in_a_cell(rt: HostRuntime) -> Result<(), Fail> {
+    let time = read_time(b"1047.5").map(|time| time.nanos);
+    assert_eq!(rt; time, Some(1_047_500));
+    Ok(())
+}
+
+#[test]
+fn table_of_a_monitor(rt: HostRuntime) -> Result<(), Fail> {
+    let table: &[u8] = b"time,bus,sync,word\n0,A,c,2c02\n24,A,s,2800\n";
+    let mut sink: MemorySink<100> = MemorySink::new(100, None);
+    let mut opened = open_table(rt.alloc(), table)?;
+    write_recording(&mut opened, &RecordingSetup::of(5), &mut sink)?;
+    assert_eq!(rt;
+        sink.as_slice(),
+        b"# 0\nA c 2c02\nA gap\n# 24\nslot\n#> A s 2800\nslot\nA gap\n".as_slice()
+    );
     Ok(())
 }

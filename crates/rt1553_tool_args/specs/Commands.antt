@@ -8,7 +8,7 @@ use Rattle.clap.specs.Walk.{rows_of}
 use Rattle.clap.specs.declared.parser.matches.Found.{Found}
 use Rattle.clap.specs.declared.parser.matches.ArgMatches.{ArgMatches}
 use Rattle.rt1553_tool_args.specs.declared.command.ToolCommand.{ToolCommand}
-use Rattle.rt1553_tool_args.specs.declared.command.ToolCommand.TheVariants.{Lint, CheckScript, Verify, Import, Export, Expand, Toml, Explain, Differ, Acceptance, Against, Draw, Words, Live}
+use Rattle.rt1553_tool_args.specs.declared.command.ToolCommand.TheVariants.{Lint, CheckScript, Verify, Witness, Monitor, Import, Export, Expand, Toml, Explain, Differ, Acceptance, Against, Draw, Words, Live}
 use Rattle.rt1553_tool_args.specs.declared.command.Profiles.{Profiles}
 use Rattle.rt1553_tool_args.specs.declared.command.Profiles.TheVariants.{One, Folder}
 use Rattle.rt1553_tool_args.specs.declared.command.ScriptKind.{ScriptKind}
@@ -96,6 +96,8 @@ abbrev pub command_name : ToolCommand → Text
 command_name (Lint files format) = codes "lint"
 command_name (CheckScript scripts) = codes "check-script"
 command_name (Verify profiles scripts kind expand format summary names) = codes "verify"
+command_name (Witness p script expand names) = codes "verify"
+command_name (Monitor table address gap no_response) = codes "recording"
 command_name (Import table) = codes "import"
 command_name (Export p) = codes "export"
 command_name (Expand messages) = codes "expand"
@@ -114,7 +116,13 @@ Asks f (Lint files format) = (texts_of files.items ≡ all_values f (codes "file
 Asks f (CheckScript scripts) = texts_of scripts.items ≡ all_values f (codes "script")
 Asks f (Verify profiles scripts kind expand format summary names) =
     PlaysTo f profiles (texts_of scripts.items) × (scripts.items ≢ []) × AsksKind f kind × (expand ≡ is_given f (codes "expand"))
-    × AsksReport f format summary × HasNames f names
+    × AsksReport f format summary × HasNames f names × (is_given f (codes "witness") ≡ false)
+Asks f (Witness p script expand names) =
+    PlaysTo f (One p) (script.now ∷ []) × AsksKind f Recording × (expand ≡ is_given f (codes "expand")) × AsksReport f report.Text false
+    × HasNames f names × (is_given f (codes "witness") ≡ true)
+Asks f (Monitor table address gap no_response) =
+    HasValue f (codes "table") table.now × HasValue f (codes "address") address.now × HasOption f (codes "gap") gap
+    × HasOption f (codes "no-response") no_response
 Asks f (Import table) = HasValue f (codes "table") table.now
 Asks f (Export p) = HasValue f (codes "profile") p.now
 Asks f (Expand messages) = HasValue f (codes "messages") messages.now

@@ -1,5 +1,5 @@
 //! What the command line asks for.
-ghost use Rattle.std.specs.Prelude.{◌≡◌, IfOk, codes, option_map};
+ghost use Rattle.std.specs.Prelude.{◌≡◌, IfOk, codes, option_map, true};
 ghost use Rattle.clap.specs.Words.{first_value, found_of};
 ghost use Rattle.rt1553_tool_args.specs.Commands.{Asks, AsksKind, AsksReport, HasOption, HasValue, IsAskedBy, all_values, command_name, format_of, is_given, is_json, lint_format_of, report_format_of, texts_of};
 
@@ -84,6 +84,21 @@ pub enum ToolCommand<'a> {
         summary: bool,
         /// The table with the names of messages, as in the commands below.
         names: Option<&'a str>,
+    },
+    /// What the subsystem did in a recording, as a script.
+    Witness {
+        profile: &'a str,
+        script: &'a str,
+        /// The file has messages, which are expanded first.
+        expand: bool,
+        names: Option<&'a str>,
+    },
+    /// The table of a monitor as the recording of a terminal. Silences are microseconds.
+    Monitor {
+        table: &'a str,
+        address: &'a str,
+        gap: Option<&'a str>,
+        no_response: Option<&'a str>,
     },
     /// The profile that a table means.
     Import(&'a str),
@@ -225,10 +240,37 @@ fn script_kind(given: &ArgMatches<'_>) -> Result<ScriptKind, NoCommand>
     }
 }
 
+/// What `verify` is asked for with `--witness`: one recording is explained, by one profile and as text.
+fn witness_command<'a>(alloc: Global, given: &ArgMatches<'a>) -> Result<ToolCommand<'a>, NoCommand>
+    requires { is_given (found_of given.now) (codes "witness") ≡ true }
+    ensures { IfOk result (λ command. (command_name command ≡ codes "verify") × Asks (found_of given.now) command) }
+{
+    let script = match all_of(alloc, given, "script")?.as_slice() {
+        [script] => *script,
+        _ => return Err(NoCommand::Usage),
+    };
+    match (
+        script_kind(given)?,
+        report_of(given)?,
+        given.get_str("profiles"),
+    ) {
+        (ScriptKind::Recording, (ReportFormat::Text, false), None) => Ok(ToolCommand::Witness {
+            profile: required(given, "profile")?,
+            script,
+            expand: is_flag_given(given, "expand"),
+            names: names_of(given),
+        }),
+        _ => Err(NoCommand::Usage),
+    }
+}
+
 /// What `verify` is asked for. With a folder of profiles no profile stands before the scripts.
 fn verify_command<'a>(alloc: Global, given: &ArgMatches<'a>) -> Result<ToolCommand<'a>, NoCommand>
     ensures { IfOk result (λ command. (command_name command ≡ codes "verify") × Asks (found_of given.now) command) }
 {
+    if is_flag_given(given, "witness") {
+        return witness_command(alloc, given);
+    }
     let mut scripts = all_of(alloc, given, "script")?;
     let profiles = match given.get_str("profiles") {
         Some(folder) => {
@@ -328,6 +370,12 @@ fn command_of<'a>(
         }),
         "check-script" => Ok(ToolCommand::CheckScript(all_of(alloc, given, "script")?)),
         "verify" => verify_command(alloc, given),
+        "recording" => Ok(ToolCommand::Monitor {
+            table: required(given, "table")?,
+            address: required(given, "address")?,
+            gap: given.get_str("gap"),
+            no_response: given.get_str("no-response"),
+        }),
         "import" => Ok(ToolCommand::Import(required(given, "table")?)),
         "export" => Ok(ToolCommand::Export(required(given, "profile")?)),
         "expand" => Ok(ToolCommand::Expand(required(given, "messages")?)),

@@ -97,7 +97,7 @@ const EXPANDED: Argument = Argument {
     help: "takes messages, too, as `expand` does",
 };
 
-const VERIFY: [Argument; 9] = [
+const VERIFY: [Argument; 10] = [
     Argument {
         id: "profile",
         given: Occurrence::OnceOr("profiles"),
@@ -128,6 +128,12 @@ const VERIFY: [Argument; 9] = [
         value: "",
         help: "takes scripts as recordings: some behaviour of the subsystem is to explain them",
     },
+    Argument {
+        id: "witness",
+        given: Occurrence::Flag,
+        value: "",
+        help: "with --any-subsystem prints a script that explains the recording",
+    },
     EXPANDED,
     Argument {
         id: "profiles",
@@ -142,6 +148,33 @@ const VERIFY: [Argument; 9] = [
         help: "the output format",
     },
     NAMES,
+];
+
+const RECORDING: [Argument; 4] = [
+    Argument {
+        id: "table",
+        given: Occurrence::Once,
+        value: "TABLE",
+        help: "the table of a monitor, in CSV",
+    },
+    Argument {
+        id: "address",
+        given: Occurrence::Value,
+        value: "N",
+        help: "the address of the terminal, 0 to 30; it has to be given",
+    },
+    Argument {
+        id: "gap",
+        given: Occurrence::Value,
+        value: "TIME",
+        help: "a longer silence is a gap, in microseconds (default: 1)",
+    },
+    Argument {
+        id: "no-response",
+        given: Occurrence::Value,
+        value: "TIME",
+        help: "a status word after a longer silence is no reply, in microseconds (default: 12)",
+    },
 ];
 
 const IMPORT: [Argument; 1] = [Argument {
@@ -216,7 +249,7 @@ const ACCEPTANCE: [Argument; 4] = [
 const ONE_PROFILE: [Argument; 1] = [PROFILE];
 
 /// The commands, in the order of the help.
-pub const COMMANDS: [CommandRow; 13] = [
+pub const COMMANDS: [CommandRow; 14] = [
     CommandRow {
         name: "lint",
         about: "Prints all faults of profiles, and what has no effect",
@@ -234,6 +267,12 @@ pub const COMMANDS: [CommandRow; 13] = [
         about: "Prints where a terminal does not answer as scripts state",
         example: "Example: rt1553-tool verify pump.toml pump.script",
         arguments: &VERIFY,
+    },
+    CommandRow {
+        name: "recording",
+        about: "Writes the recording of a terminal that the table of a monitor has",
+        example: "Example: rt1553-tool recording monitor.csv --address 5 > pump.script",
+        arguments: &RECORDING,
     },
     CommandRow {
         name: "import",

@@ -11,8 +11,10 @@ use tool_files::{Screen, ToolFault, USAGE};
 use tool_profiles::{
     differ_profiles, explain_profile, export_file, import_file, lint_files, write_toml,
 };
-use tool_scripts::{bus_words, check_scripts, draw_run, expand_file, play_live};
-use tool_verify::{AskedReport, verify_scripts};
+use tool_scripts::{
+    AskedRecording, bus_words, check_scripts, draw_run, expand_file, play_live, record_table,
+};
+use tool_verify::{AskedReport, AskedWitness, explain_recording, verify_scripts};
 
 /// Does what is asked for, and gives the status to end with.
 fn do_command<R: Files + AllocGlobal + Eprint, I: Read + Drop, W: Write>(
@@ -45,6 +47,34 @@ fn do_command<R: Files + AllocGlobal + Eprint, I: Read + Drop, W: Write>(
                 summary: *summary,
             };
             verify_scripts(rt, asked, scripts.as_slice(), screen, output)
+        }
+        ToolCommand::Witness {
+            profile,
+            script,
+            expand,
+            names,
+        } => {
+            let asked = AskedWitness {
+                profile,
+                script,
+                expand: *expand,
+                names: *names,
+            };
+            explain_recording(rt, asked, screen, output)
+        }
+        ToolCommand::Monitor {
+            table,
+            address,
+            gap,
+            no_response,
+        } => {
+            let asked = AskedRecording {
+                table,
+                address,
+                gap: *gap,
+                no_response: *no_response,
+            };
+            record_table(rt, asked, output)
         }
         ToolCommand::Import(table) => import_file(rt, table, output),
         ToolCommand::Export(profile) => export_file(rt, profile, output),

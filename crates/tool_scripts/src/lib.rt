@@ -4,11 +4,13 @@
 mod draw;
 mod expand;
 mod live;
+mod recording;
 mod script_file;
 mod words;
 
 pub use draw::draw_run;
 pub use expand::expand_file;
 pub use live::play_live;
+pub use recording::{AskedRecording, record_table};
 pub use script_file::check_scripts;
 pub use words::bus_words;

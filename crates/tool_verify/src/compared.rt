@@ -1,11 +1,8 @@
 //! What a terminal answers otherwise than a script states.
-ghost use Rattle.std.specs.Prelude.{◌≡◌, ◌==◌, IfOk, length, map};
+ghost use Rattle.std.specs.Prelude.{◌≡◌, ◌==◌, ◌↔◌, None, true, IfOk, IfSome, length, map};
 ghost use Rattle.rt1553_verify.specs.Stated.{shown};
-ghost use Rattle.bus_legal.specs.Description.{Description};
-ghost use Rattle.bus_legal.specs.Parts.{description_in};
-ghost use Rattle.bus_legal.specs.Reach.{reach};
 ghost use Rattle.rt1553_verify.specs.declared.stated.StatedFault.TheVariants.{Memory};
-ghost use Rattle.tool_verify.specs.Passing.{IsExplainedBy, PassesBy, SaysOf, scoped};
+ghost use Rattle.tool_verify.specs.Passing.{IsExplainingScript, SaysOf, scoped, test_kind};
 ghost use Rattle.tool_verify.specs.declared.compared.ScriptFault.TheVariants.{Stated, Recording};
 
 use bus_legal::Normal;
@@ -14,8 +11,9 @@ use rt1553_verify::{
     ScriptWarning, Stated, StatedFault, WrongAnswer, answers_in, message_commands, read_stated,
     script_warning, stated_on_bus, wrong_answers,
 };
-use script_recordings::{RecordingFault, unexplained_answer};
-use std::alloc::{AllocError, Global};
+use script_recordings::{Explained, RecordingFault, UnexplainedLine, watch_recording, witness};
+use std::alloc::{AllocError, AllocFailed, Global};
+use std::io::{BufRead, BufReader, Read};
 
 /// A script that was compared.
 #[derive(Drop)]
@@ -62,60 +60,39 @@ impl From<AllocError> for ScriptFault {
     }
 }
 
+impl<T: Drop> From<AllocFailed<T>> for ScriptFault {
+    ghost from_gives = { λ _ fault. fault ≡ Stated Memory };
+
+    fn from(_failed: AllocFailed<T>) -> ScriptFault {
+        ScriptFault::Stated(StatedFault::Memory)
+    }
+}
+
 /// Gives what is compared of what a script states: all, or what the bus alone shows.
-fn scoped(alloc: Global, kind: ScriptKind, stated: Vec<Stated>) -> Result<Vec<Stated>, AllocError>
-    ensures { IfOk result (λ seen. map shown seen.items ≡ scoped kind (map shown stated.items)) }
+fn scoped(alloc: Global, on_bus: bool, stated: Vec<Stated>) -> Result<Vec<Stated>, AllocError>
+    ensures { IfOk result (λ seen. map shown seen.items ≡ scoped on_bus (map shown stated.items)) }
 {
-    match kind {
-        ScriptKind::BusTest => stated_on_bus(alloc, stated),
-        _ => Ok(stated),
+    if on_bus {
+        stated_on_bus(alloc, stated)
+    } else {
+        Ok(stated)
     }
 }
 
-/// The first answer of a recording that nothing explains, if there is one.
-fn unexplained(
-    alloc: Global,
-    normal: &Normal,
-    script: &[Stated],
-) -> Result<Vec<WrongAnswer>, RecordingFault>
-    ensures { IfOk result (λ wrong. (P : Description) → description_in normal.now ≡ reach P → IsExplainedBy P (map shown script.now) (length wrong.items == 0)) }
-{
-    let mut wrong = Vec::new(alloc);
-    if let Some(answer) = unexplained_answer(alloc, normal, script)? {
-        wrong.push(answer)?;
-    }
-    Ok(wrong)
-}
-
-/// The answers that are not as a test states, or the first of a recording that nothing explains.
-fn wrong_in(
-    alloc: Global,
-    normal: &Normal,
-    kind: ScriptKind,
-    seen: &[Stated],
-) -> Result<Vec<WrongAnswer>, ScriptFault>
-    ensures { IfOk result (λ wrong. (P : Description) → description_in normal.now ≡ reach P → PassesBy kind P (map shown seen.now) (length wrong.items == 0)) }
-{
-    match kind {
-        ScriptKind::Recording => Ok(unexplained(alloc, normal, seen)?),
-        _ => Ok(wrong_answers(alloc, normal, seen)?),
-    }
-}
-
-/// Plays a script to a terminal, and compares its answers with what the script states.
-pub fn compare_script(
+/// Plays a test to a terminal, and compares its answers with what the test states, or with what the bus alone shows of that.
+fn compare_test(
     alloc: Global,
     normal: &Normal,
     script: &[u8],
-    kind: ScriptKind,
+    on_bus: bool,
 ) -> Result<Compared, ScriptFault>
-    ensures { IfOk result (λ it. SaysOf kind normal.now script.now (length it.wrong.items == 0)) }
+    ensures { IfOk result (λ it. SaysOf (test_kind on_bus) normal.now script.now (length it.wrong.items == 0)) }
 {
     let stated = read_stated(alloc, script)?;
     let answers = answers_in(stated.as_slice());
     let warning = script_warning(stated.as_slice());
-    let seen = scoped(alloc, kind, stated)?;
-    let wrong = wrong_in(alloc, normal, kind, seen.as_slice())?;
+    let seen = scoped(alloc, on_bus, stated)?;
+    let wrong = wrong_answers(alloc, normal, seen.as_slice())?;
     let commands = message_commands(alloc, normal.address(), seen.as_slice(), wrong.as_slice())?;
     Ok(Compared {
         answers,
@@ -123,4 +100,88 @@ pub fn compare_script(
         wrong,
         commands,
     })
+}
+
+/// What is told of a recording, with its command, where anything is.
+fn lines_told(
+    alloc: Global,
+    first: Option<UnexplainedLine>,
+) -> Result<(Vec<WrongAnswer>, Vec<Option<u16>>), AllocError>
+    ensures { IfOk result (λ told. (length told.0.items == 0 ≡ true) ↔ (first ≡ None)) }
+{
+    let (mut wrong, mut commands) = (Vec::new(alloc), Vec::new(alloc));
+    if let Some(UnexplainedLine { answer, command }) = first {
+        wrong.push(answer)?;
+        commands.push(command)?;
+    }
+    Ok((wrong, commands))
+}
+
+/// Reads a recording of a terminal for its first line that no behaviour of the subsystem explains.
+pub fn compare_recording<B: BufRead + Drop>(
+    alloc: Global,
+    normal: &Normal,
+    input: B,
+) -> Result<Compared, ScriptFault>
+    ensures { IfOk result (λ it. IfSome (B.remaining input) (λ script. SaysOf ScriptKind.Recording normal.now script (length it.wrong.items == 0))) }
+{
+    let Explained {
+        answers,
+        warning,
+        first,
+    } = watch_recording(alloc, normal, input)?;
+    let (wrong, commands) = lines_told(alloc, first)?;
+    Ok(Compared {
+        answers,
+        warning,
+        wrong,
+        commands,
+    })
+}
+
+/// Plays a script to a terminal, and compares its answers with what the script states.
+fn compare_script(
+    alloc: Global,
+    normal: &Normal,
+    script: &[u8],
+    kind: ScriptKind,
+) -> Result<Compared, ScriptFault>
+    ensures { IfOk result (λ it. SaysOf kind normal.now script.now (length it.wrong.items == 0)) }
+{
+    match kind {
+        ScriptKind::Test => compare_test(alloc, normal, script, false),
+        ScriptKind::BusTest => compare_test(alloc, normal, script, true),
+        ScriptKind::Recording => compare_recording(alloc, normal, script),
+    }
+}
+
+/// The same, of a script that goes on in `rest`, if there is one: then it is a recording.
+pub fn compare_open<F: Read + Drop>(
+    alloc: Global,
+    normal: &Normal,
+    script: &[u8],
+    rest: Option<F>,
+    kind: ScriptKind,
+) -> Result<Compared, ScriptFault>
+    ensures { IfOk result (λ it. rest ≡ None → SaysOf kind normal.now script.now (length it.wrong.items == 0)) }
+{
+    let Some(rest) = rest else {
+        return compare_script(alloc, normal, script, kind);
+    };
+    match BufReader::new(alloc, script.chain(rest)) {
+        Ok(input) => compare_recording(alloc, normal, input),
+        Err(_) => Err(ScriptFault::Stated(StatedFault::Memory)),
+    }
+}
+
+/// Gives the events of a recording, and before them what the subsystem did, as a script: played from power-up, it makes the terminal send
+/// what is stated, if any behaviour of the subsystem does.
+pub fn explaining_script(
+    alloc: Global,
+    normal: &Normal,
+    script: &[u8],
+) -> Result<Vec<u8>, ScriptFault>
+    ensures { IfOk result (λ text. IsExplainingScript normal.now script.now text.items) }
+{
+    Ok(witness(alloc, normal, script)?)
 }

@@ -2,8 +2,9 @@
 #![tactic(auto)]
 
 mod compared;
+mod opened;
 mod report;
 mod summary;
 mod verify;
 
-pub use verify::{AskedReport, verify_scripts};
+pub use verify::{AskedReport, AskedWitness, explain_recording, verify_scripts};

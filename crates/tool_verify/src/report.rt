@@ -1,9 +1,10 @@
 //! The command `verify` in the formats that machines and managers read.
-ghost use Rattle.std.specs.Prelude.{◌≡◌, ◌≤◌, ◌↔◌, IfOk, length, true};
+ghost use Rattle.std.specs.Prelude.{◌≡◌, ◌≤◌, ◌↔◌, None, IfOk, length, true};
 ghost use Rattle.bus_legal.specs.Parts.{Parts};
 ghost use Rattle.rt1553_report.specs.Results.{outcome_passes};
 ghost use Rattle.tool_verify.specs.Passing.{IsPlayedTo, SaysOf};
 
+use crate::opened::{OpenScript, open_script};
 use crate::verify::{AskedReport, Played, PlayedScript, clauses_of, play_script};
 use ascii_json::json_line;
 use message_names::MessageNames;
@@ -18,8 +19,7 @@ use std::format;
 use std::io::Write;
 use std::rt::Files;
 use tool_files::{
-    DIFFERENT, LoadedScript, ToolFault, load_script, refused_file, status_or_stop, worst,
-    write_bytes,
+    DIFFERENT, LoadedScript, ToolFault, refused_file, status_or_stop, worst, write_bytes,
 };
 
 /// A script that was done: what came of it, and the status that it asks for.
@@ -80,11 +80,13 @@ fn outcome_of_script<R: Files + AllocGlobal + Eprint>(
     played: &Played<'_>,
     name: &str,
     script: &LoadedScript,
+    rest: Option<R::File>,
     drawn: bool,
 ) -> Result<ScriptOutcome, ToolFault>
-    ensures { IfOk result (λ outcome. (value : Parts) × IsPlayedTo played.now.to value × SaysOf played.now.kind value script.now.text.items (outcome_passes outcome)) }
+    ensures { IfOk result (λ outcome. (value : Parts) × IsPlayedTo played.now.to value × (rest ≡ None → SaysOf played.now.kind value script.now.text.items (outcome_passes outcome))) }
 {
-    let it = play_script(rt, played, name, script)?;
+    let drawn = drawn && rest.is_none();
+    let it = play_script(rt, played, name, script, rest)?;
     let drawing = if drawn {
         drawing_of(rt, played.names.as_ref(), name, script.text.as_slice(), &it)?
     } else {
@@ -153,10 +155,10 @@ fn report_file<R: Files + AllocGlobal + Eprint>(
     ensures passes { IfOk result (λ r. (r.1 ≡ 0) ↔ (outcome_passes r.0.outcome ≡ true)) }
     ensures most { IfOk result (λ r. r.1 ≤ 4) }
 {
-    let (script, outcome) = match load_script(rt, name, asked.expand) {
-        Ok(script) => {
+    let (script, outcome) = match open_script(rt, name, asked.kind, asked.expand) {
+        Ok(OpenScript { script, rest }) => {
             let drawn = matches!(asked.format, ReportFormat::Html);
-            let outcome = outcome_of_script(rt, played, name, &script, drawn);
+            let outcome = outcome_of_script(rt, played, name, &script, rest, drawn);
             (script.text, outcome)
         }
         Err(fault) => (Vec::new(rt.alloc()), Err(fault)),

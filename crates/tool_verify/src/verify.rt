@@ -1,10 +1,11 @@
 //! The command `verify`: scripts that state their answers are played.
-ghost use Rattle.std.specs.Prelude.{◌≡◌, ◌⊎◌, ◌≤◌, ◌==◌, IfOk, length};
+ghost use Rattle.std.specs.Prelude.{◌≡◌, ◌⊎◌, ◌≤◌, ◌==◌, None, IfOk, length};
 ghost use Rattle.bus_legal.specs.Parts.{Parts};
 ghost use Rattle.tool_files.specs.Status.{IsLoaded, RefusesText, tool_status};
 ghost use Rattle.tool_verify.specs.Passing.{IsPlayedTo, SaysOf, recording_status, script_status, stated_status};
 
-use crate::compared::{ScriptFault, compare_script};
+use crate::compared::{ScriptFault, compare_open, explaining_script};
+use crate::opened::{OpenScript, open_script};
 use crate::report::report_files;
 use crate::summary::put_summary;
 use bus_legal::Normal;
@@ -56,6 +57,17 @@ pub struct AskedReport<'a> {
     pub format: ReportFormat,
     /// What passes, too, clause by clause, as text.
     pub summary: bool,
+}
+
+/// What is asked for of a recording that is to be explained.
+#[derive(Clone, Copy)]
+pub struct AskedWitness<'a> {
+    pub profile: &'a str,
+    pub script: &'a str,
+    /// The file has messages, which are expanded first.
+    pub expand: bool,
+    /// The table with the names of messages, where one is given.
+    pub names: Option<&'a str>,
 }
 
 /// What is written of each script as text.
@@ -180,7 +192,7 @@ fn recording_fault<R: AllocGlobal>(
         RecordingFault::Unseen(line) => RecordingFault::Unseen(script.line_in_file(line)),
         RecordingFault::Masked(line) => RecordingFault::Masked(script.line_in_file(line)),
         RecordingFault::NoWord(line) => RecordingFault::NoWord(script.line_in_file(line)),
-        RecordingFault::Memory => return ToolFault::Memory,
+        RecordingFault::Script(fault) => return unread_fault(rt, name, script, fault),
     };
     refused_file(rt, name, &fault)
 }
@@ -221,6 +233,7 @@ fn unread_fault<R: AllocGlobal>(
         StatedFault::Line(_) | StatedFault::LongLine(_) => {
             first_refused(rt, name, script.text.as_slice(), told)
         }
+        StatedFault::Read => ToolFault::Input,
         _ => told,
     }
 }
@@ -259,18 +272,19 @@ fn names_of(
     Ok(Some(AnswerNames { names: list }))
 }
 
-/// Plays a script of this name, and warns, on the standard error, of one that shows nothing, or little.
+/// Plays a script of this name, which goes on in `rest` if that is there, and warns, on the standard error, of one that shows nothing, or little.
 pub fn play_script<R: Files + AllocGlobal + Eprint>(
     rt: &R,
     played: &Played<'_>,
     name: &str,
     script: &LoadedScript,
+    rest: Option<R::File>,
 ) -> Result<PlayedScript, ToolFault>
-    ensures { IfOk result (λ it. (value : Parts) × IsPlayedTo played.now.to value × SaysOf played.now.kind value script.now.text.items (length it.wrong.items == 0)) }
+    ensures { IfOk result (λ it. (value : Parts) × IsPlayedTo played.now.to value × (rest ≡ None → SaysOf played.now.kind value script.now.text.items (length it.wrong.items == 0))) }
 {
     let text = script.text.as_slice();
     let normal = played.of_script(rt, name, text)?;
-    match compare_script(rt.alloc(), &normal, text, played.kind) {
+    match compare_open(rt.alloc(), &normal, text, rest, played.kind) {
         Ok(compared) => {
             let names = names_of(rt.alloc(), &played.names, compared.commands.as_slice())?;
             if let Some(warning) = compared.warning {
@@ -295,12 +309,13 @@ fn tell_script<R: Files + AllocGlobal + Eprint, W: Write>(
     played: &Played<'_>,
     name: &str,
     script: &LoadedScript,
+    rest: Option<R::File>,
     report: ScriptReport,
     output: &mut W,
 ) -> Result<bool, ToolFault>
-    ensures { IfOk result (λ passes. (value : Parts) × IsPlayedTo played.now.to value × SaysOf played.now.kind value script.now.text.items passes) }
+    ensures { IfOk result (λ passes. (value : Parts) × IsPlayedTo played.now.to value × (rest ≡ None → SaysOf played.now.kind value script.now.text.items passes)) }
 {
-    let it = play_script(rt, played, name, script)?;
+    let it = play_script(rt, played, name, script, rest)?;
     let name = shown(rt, name)?;
     for (index, wrong) in it.wrong.as_slice().iter().enumerate() {
         let line = script.line_in_file(wrong.line);
@@ -349,14 +364,14 @@ fn play_file<R: Files + AllocGlobal + Eprint, W: Write>(
 ) -> Result<u8, ToolFault>
     ensures { IfOk result (λ status. status ≤ 1) }
 {
-    let script = match load_script(rt, name, played.expand) {
-        Ok(script) => script,
+    let OpenScript { script, rest } = match open_script(rt, name, played.kind, played.expand) {
+        Ok(opened) => opened,
         Err(fault) => {
             keep(rt.alloc(), tried, b"", false)?;
             return Err(fault);
         }
     };
-    let outcome = tell_script(rt, played, name, &script, report, output);
+    let outcome = tell_script(rt, played, name, &script, rest, report, output);
     let passes = match &outcome {
         Ok(passes) => *passes,
         Err(_) => false,
@@ -419,5 +434,39 @@ pub fn verify_scripts<R: Files + AllocGlobal + Eprint, W: Write>(
     match asked.format {
         ReportFormat::Text => play_files(rt, &played, scripts, report, output),
         _ => report_files(rt, &played, asked, scripts, output),
+    }
+}
+
+/// Writes a script that explains a recording: what is seen there, and before it what the subsystem did. Where nothing explains it, the
+/// first line that is not explained is written in its place, as by `verify_scripts`.
+pub fn explain_recording<R: Files + AllocGlobal + Eprint, W: Write>(
+    rt: &R,
+    asked: AskedWitness<'_>,
+    screen: Screen,
+    output: &mut W,
+) -> Result<u8, ToolFault>
+    ensures { IfOk result (λ status. status ≤ 1) }
+{
+    let normal = load_profile(rt, asked.profile)?;
+    let played = Played {
+        to: PlayedTo::One(normal),
+        names: load_names(rt, asked.names, &[normal.address()])?,
+        kind: ScriptKind::Recording,
+        expand: asked.expand,
+    };
+    let report = ScriptReport {
+        each: false,
+        has_colours: screen.has_colours,
+    };
+    let script = load_script(rt, asked.script, asked.expand)?;
+    if !tell_script(rt, &played, asked.script, &script, None, report, output)? {
+        return Ok(DIFFERENT);
+    }
+    match explaining_script(rt.alloc(), &normal, script.text.as_slice()) {
+        Ok(text) => {
+            write_bytes(output, text.as_slice())?;
+            Ok(0)
+        }
+        Err(fault) => Err(script_fault(rt, asked.script, &script, fault)),
     }
 }

@@ -1,0 +1,6 @@
+pub mod HeaderLaws
+pub mod OwedLaws
+pub mod PutLaws
+pub mod ReadBackLaws
+pub mod RowLaws
+pub mod TableLaws

@@ -1,0 +1,329 @@
+-- A recording, read back, says what was heard and the silent slots that are owed.
+use Rattle.std.proofs.Common.{ℕ, ◌≡◌, ◌∙◌, ◌+◌, ◌*◌, ◌<◌, ◌≤◌, ◌==◌, ◌&&◌, ◌||◌, Bool, true, false, cond, if◌then◌else◌, List, [], ◌∷◌, ◌++◌, Option, Some, None, is_some, Result, Ok, length, map, filter, flat_map, refl, sym, ap, subst, arith, append_assoc, append-nil, codes}
+use Rattle.std.specs.List.{list_all}
+use Rattle.std.proofs.lemmas.List.{map-append}
+use Rattle.std.proofs.lemmas.Bool.Decides.{nat_tests}
+use Rattle.bus_word.specs.declared.word.Bus.{Bus}
+use Rattle.bus_word.specs.declared.word.Bus.TheVariants.{A, B}
+use Rattle.bus_word.specs.declared.word.Kind.{Kind}
+use Rattle.bus_word.specs.declared.word.Kind.TheVariants.{Com, Dat}
+use Rattle.bus_word.specs.Word.{valid_word}
+use Rattle.terminal_rules.specs.declared.event.Event.{Event}
+use Rattle.terminal_rules.specs.declared.event.Event.TheVariants as event
+use Rattle.terminal_rules.specs.Out.{Sending}
+use Rattle.terminal_rules.specs.Same.{IsProper}
+use Rattle.bus_terminal.specs.Answer.{shown_word}
+use Rattle.line_format.specs.Front.{after}
+use Rattle.script_lines.specs.Digits.{digits_of}
+use Rattle.script_lines.specs.Line.{meaning}
+use Rattle.script_lines.specs.Text.{lines_of, NoLineFeed}
+use Rattle.script_lines.proofs.LineLaws.{lines-line}
+use Rattle.script_lines.specs.EventLine.{event_text, event_line}
+use Rattle.script_lines.specs.Transcript.{bus_letter, sent_kind, sent_text}
+use Rattle.script_lines.proofs.RoundTrip.{event_read}
+use Rattle.rt1553_verify.specs.declared.stated.StatedFault.{StatedFault}
+use Rattle.rt1553_verify.specs.declared.matching.Matching.TheVariants.{Exact}
+use Rattle.rt1553_verify.specs.Stated.{StatedEvent, Latest, After, can_answer, ended, stays, or_misplaced, silent_line, by_going_on, by_mask, by_answer, unstated_line, line_says, then_events, then_lines, stated_by, stated_within}
+use Rattle.rt1553_verify.proofs.StatedLaws.{stated-means, bounded-short, stated-line, then-none, then-twice, stated-none}
+use Rattle.rt1553_acceptance.proofs.Feeds.{IsLine, literal, within, joined, digits-line, letter-line, sent_kind-line, event-line}
+use Rattle.monitor_tables.specs.declared.heard.HeardItem.{HeardItem}
+use Rattle.monitor_tables.specs.declared.heard.HeardItem.TheVariants.{Gap, Word, Noise, Reply, Late}
+use Rattle.monitor_cells.specs.Cells.{is_time_byte, is_time_text, kind_of_sync}
+use Rattle.monitor_tables.specs.Owed.{is_owed_by}
+use Rattle.monitor_tables.specs.Recording.{HeardAt, slot_line, takes_slot, time_line, heard_line, noted_text, recording_after, event_stating, without_line, silent_slot, heard_stated, stated_after, is_spoken, HasWords, IsNotable, AreNotable, ReadBackLaw}
+
+-- ---- one line
+
+-- a line that means an event says that event, whatever is the latest
+says-event : (n : ℕ) (latest : Latest) (line : List ℕ) (e : Event) → meaning line ≡ Ok (Some e)
+    → line_says n latest line ≡ Ok (record { events = ended latest; latest = Some (record { line = n; event = e; matching = Exact; answer = [] }) })
+says-event n latest line e means = first (after (codes "#> ") line) refl
+  where
+    Said : Result After StatedFault → Type 0
+    Said said = said ≡ Ok (record { events = ended latest; latest = Some (record { line = n; event = e; matching = Exact; answer = [] }) })
+
+    third : (o : Option (List ℕ)) → after (codes "#+ ") line ≡ o → Said (by_going_on n latest line o)
+    third None is = ap (unstated_line n latest line) means
+    third (Some rest) is = let no = sym (stated-means 43 line rest is) ∙ means in absurd (cc)
+
+    second : (o : Option (List ℕ)) → after (codes "#~ ") line ≡ o → Said (by_mask n latest line o)
+    second None is = third (after (codes "#+ ") line) refl
+    second (Some mask) is = let no = sym (stated-means 126 line mask is) ∙ means in absurd (cc)
+
+    first : (o : Option (List ℕ)) → after (codes "#> ") line ≡ o → Said (by_answer n latest line o)
+    first None is = second (after (codes "#~ ") line) refl
+    first (Some rest) is = let no = sym (stated-means 62 line rest is) ∙ means in absurd (cc)
+
+-- an event on a line, of which this is stated
+abbrev placed : ℕ → Event → List ℕ → StatedEvent
+placed n e answer = record { line = n; event = e; matching = Exact; answer = answer }
+
+-- ---- pieces of a script of at most so many lines
+
+module _ (most : ℕ) where
+  -- After n lines and this latest event the text says these events, whatever follows it, and then m lines are behind, and this event is the
+  -- latest.
+  record Tells (n m : ℕ) (text : List ℕ) (latest later : Latest) (events : List StatedEvent) : Type 0 where
+    each : (rest : List ℕ) → stated_by most n latest (lines_of (text ++ rest)) ≡ then_events events (stated_by most m later (lines_of rest))
+
+  Tells-nil : (n : ℕ) (latest : Latest) → Tells n n [] latest latest []
+  Tells-nil n latest = record { each = λ rest. sym (then-none (stated_by most n latest (lines_of rest))) }
+
+  Tells-trans : {n m k : ℕ} {text more : List ℕ} {a b c : Latest} {es fs : List StatedEvent} → Tells n m text a b es → Tells m k more b c fs → Tells n k (text ++ more) a c (es ++ fs)
+  Tells-trans {n = n} {k = k} {text = text} {more = more} {a = a} {c = c} {es = es} {fs = fs} p q = record {
+    each = λ rest. ap (λ xs. stated_by most n a (lines_of xs)) (append_assoc text more rest)
+        ∙ p.each (more ++ rest) ∙ ap (then_events es) (q.each rest) ∙ then-twice es fs (stated_by most k c (lines_of rest));
+  }
+
+  -- one whole line
+  Tells-line : (n : ℕ) (line : List ℕ) (latest later : Latest) (es : List StatedEvent) → n < most → length line ≤ 64 → NoLineFeed line
+      → line_says (n + 1) latest line ≡ Ok (record { events = es; latest = later }) → Tells n (n + 1) (line ++ 10 ∷ []) latest later es
+  Tells-line n line latest later es few short feeds says = record {
+    each = λ rest. ap (λ xs. stated_by most n latest (lines_of xs)) (append_assoc line (10 ∷ []) rest)
+        ∙ ap (stated_by most n latest) (lines-line line rest feeds) ∙ stated-line most n latest line (lines_of rest) few
+        ∙ ap (λ s. then_lines s (λ l. stated_by most (n + 1) l (lines_of rest))) (bounded-short (n + 1) latest line short ∙ says);
+  }
+
+  Tells-same : {n m : ℕ} {text : List ℕ} {a b : Latest} {es : List StatedEvent} (same : List ℕ) → same ≡ text → Tells n m text a b es → Tells n m same a b es
+  Tells-same {n = n} {a = a} same is p = record { each = λ rest. ap (λ xs. stated_by most n a (lines_of (xs ++ rest))) is ∙ p.each rest }
+
+  -- all of a text
+  Tells-all : {m : ℕ} {text : List ℕ} {later : Latest} {es : List StatedEvent} → Tells 0 m text None later es → stated_within most text ≡ Ok (es ++ ended later)
+  Tells-all {m = m} {text = text} {later = later} {es = es} p =
+      ap (λ xs. stated_by most 0 None (lines_of xs)) (sym (append-nil text)) ∙ p.each [] ∙ ap (then_events es) (stated-none most m later)
+
+  -- ---- pieces of a recording
+
+  -- After n lines and this latest event the text says these events, but for their lines, and then m lines are behind. The latest event of all
+  -- is not yet ended.
+  record Reads (n m : ℕ) (text : List ℕ) (latest later : Latest) (ss : List StatedEvent) : Type 0 where
+    said : List StatedEvent
+    stated : List StatedEvent
+    tells : Tells n m text latest later said
+    splits : said ++ ended later ≡ ended latest ++ stated
+    are : map without_line stated ≡ ss
+
+  -- the same within so many lines
+  abbrev Read : ℕ → List ℕ → Latest → List StatedEvent → ℕ → Type 0
+  Read n text latest ss last = (m : ℕ) × (later : Latest) × Reads n m text latest later ss × (m ≤ last)
+
+  reads-nil : (n : ℕ) (latest : Latest) → Read n [] latest [] n
+  reads-nil n latest = (n, latest, record { said = []; stated = []; tells = Tells-nil n latest; splits = sym (append-nil (ended latest)); are = refl }, omega arith)
+
+  Reads-trans : {n m k : ℕ} {text more : List ℕ} {a b c : Latest} {ss ts : List StatedEvent} → Reads n m text a b ss → Reads m k more b c ts → Reads n k (text ++ more) a c (ss ++ ts)
+  Reads-trans {a = a} {b = b} {c = c} p q = record {
+    said = p.said ++ q.said;
+    stated = p.stated ++ q.stated;
+    tells = Tells-trans p.tells q.tells;
+    splits = append_assoc p.said q.said (ended c) ∙ ap (λ xs. p.said ++ xs) q.splits ∙ sym (append_assoc p.said (ended b) q.stated)
+        ∙ ap (λ xs. xs ++ q.stated) p.splits ∙ append_assoc (ended a) p.stated q.stated;
+    are = map-append without_line p.stated q.stated ∙ (λ j. p.are j ++ q.are j);
+  }
+
+  -- a comment says nothing
+  reads-comment : (n : ℕ) (line : List ℕ) (latest : Latest) → n < most → IsLine 64 line → line_says (n + 1) latest line ≡ Ok (stays latest) → Read n (line ++ 10 ∷ []) latest [] (n + 1)
+  reads-comment n line latest few is says = (
+    n + 1,
+    latest,
+    record { said = []; stated = []; tells = Tells-line n line latest latest [] few is.short is.feeds says; splits = sym (append-nil (ended latest)); are = refl },
+    omega arith,
+  )
+
+  -- an event
+  reads-event : (n : ℕ) (e : Event) (latest : Latest) → n < most → IsProper e → Read n (event_line e) latest (event_stating e [] ∷ []) (n + 1)
+  reads-event n e latest few proper =
+      let line = event-line e in (
+        n + 1,
+        Some (placed (n + 1) e []),
+        record {
+          said = ended latest;
+          stated = placed (n + 1) e [] ∷ [];
+          tells = Tells-line n (event_text e) latest (Some (placed (n + 1) e [])) (ended latest) few line.short line.feeds (says-event (n + 1) latest (event_text e) e (event_read e proper));
+          splits = refl;
+          are = refl;
+        },
+        omega arith,
+      )
+
+  -- ---- words that the terminal sent
+
+  -- the line of a word, without its line feed
+  abbrev word_line : Sending → List ℕ
+  word_line w = bus_letter w.bus ++ (sent_kind w.kind ++ digits_of w.bits)
+
+  word-line : (w : Sending) → IsLine 8 (word_line w)
+  word-line w = joined (bus_letter w.bus) _ (letter-line w.bus) (joined (sent_kind w.kind) _ (sent_kind-line w.kind) (digits-line w.bits))
+
+  -- behind a front
+  fronted : (front : List ℕ) (w : Sending) → front ++ sent_text w ≡ (front ++ word_line w) ++ 10 ∷ []
+  fronted front w = ap (λ xs. front ++ xs) (on_bus w.bus w.kind) ∙ sym (append_assoc front (word_line w) (10 ∷ []))
+    where
+      on_bus : (bus : Bus) (kind : Kind) → sent_text (record w { bus = bus; kind = kind }) ≡ word_line (record w { bus = bus; kind = kind }) ++ 10 ∷ []
+      on_bus A Com = refl
+      on_bus A Dat = refl
+      on_bus B Com = refl
+      on_bus B Dat = refl
+
+  can_send : (w : Sending) → can_answer event.Slot (word_line w) ≡ true
+  can_send w = on_bus w.bus
+    where
+      on_bus : (bus : Bus) → can_answer event.Slot (bus_letter bus ++ (sent_kind w.kind ++ digits_of w.bits)) ≡ true
+      on_bus A = refl
+      on_bus B = refl
+
+  states-word : (n k : ℕ) (line : List ℕ) → can_answer event.Slot line ≡ true → line_says n (Some (placed k event.Slot [])) (codes "#> " ++ line) ≡ Ok (stays (Some (placed k event.Slot line)))
+  states-word n k line can = ap (λ b. or_misplaced n (if b then Some (placed k event.Slot line) else None)) can
+
+  -- what is stated of an ended slot is the word with its line feed
+  ended-word : (k : ℕ) (w : Sending) → map without_line (ended (Some (placed k event.Slot (word_line w)))) ≡ event_stating event.Slot (sent_text w) ∷ []
+  ended-word k w = on_bus w.bus w.kind
+    where
+      on_bus : (bus : Bus) (kind : Kind) → map without_line (ended (Some (placed k event.Slot (word_line (record w { bus = bus; kind = kind }))))) ≡ event_stating event.Slot (sent_text (record w { bus = bus; kind = kind })) ∷ []
+      on_bus A Com = refl
+      on_bus A Dat = refl
+      on_bus B Com = refl
+      on_bus B Dat = refl
+
+  reads-reply : (n : ℕ) (w : Sending) (latest : Latest) → n + 1 < most → Read n (codes "slot\n#> " ++ sent_text w) latest (event_stating event.Slot (sent_text w) ∷ []) (n + 2)
+  reads-reply n w latest few =
+      let slot : IsLine 64 (codes "slot") = within (omega arith) (literal (codes "slot") refl) in
+      let line : IsLine 64 (codes "#> " ++ word_line w) = within (omega arith) (joined (codes "#> ") (word_line w) (literal (codes "#> ") refl) (word-line w)) in
+      let first = Tells-line n (codes "slot") latest (Some (placed (n + 1) event.Slot [])) (ended latest) (omega (arith, few)) slot.short slot.feeds
+      (says-event (n + 1) latest (codes "slot") event.Slot (event_read event.Slot tt)) in
+      let second = Tells-line (n + 1) (codes "#> " ++ word_line w) (Some (placed (n + 1) event.Slot [])) (Some (placed (n + 1) event.Slot (word_line w))) [] few line.short line.feeds
+      (states-word (n + 1 + 1) (n + 1) (word_line w) (can_send w)) in (
+        n + 1 + 1,
+        Some (placed (n + 1) event.Slot (word_line w)),
+        record {
+          said = ended latest ++ [];
+          stated = ended (Some (placed (n + 1) event.Slot (word_line w)));
+          tells = Tells-same (codes "slot\n#> " ++ sent_text w) (ap (λ xs. codes "slot\n" ++ xs) (fronted (codes "#> ") w)) (Tells-trans first second);
+          splits = ap (λ xs. xs ++ ended (Some (placed (n + 1) event.Slot (word_line w)))) (append-nil (ended latest));
+          are = ended-word (n + 1) w;
+        },
+        omega arith,
+      )
+
+  -- ---- comments
+
+  late-says : (n : ℕ) (latest : Latest) (line : List ℕ) → line_says n latest (codes "# later than no response: " ++ line) ≡ Ok (stays latest)
+  unfolding meaning
+  late-says n latest line = refl
+
+  reads-late : (n : ℕ) (w : Sending) (latest : Latest) → n < most → Read n (codes "# later than no response: " ++ sent_text w) latest [] (n + 1)
+  reads-late n w latest few =
+      let line : IsLine 64 (codes "# later than no response: " ++ word_line w) = within (omega arith) (joined (codes "# later than no response: ") (word_line w) (literal (codes "# later than no response: ") refl) (word-line w)) in
+      subst (λ text. Read n text latest [] (n + 1)) (sym (fronted (codes "# later than no response: ") w)) (reads-comment n _ latest few line (late-says (n + 1) latest (word_line w)))
+
+  -- a byte of a time begins no stated answer, and is no line feed
+  time_byte : (b : ℕ) (more : Bool) → (is_time_byte b && more) ≡ true → ((b == 62) ≡ false) × ((b == 126) ≡ false) × (b ≡ 10 → ⊥) × (more ≡ true)
+  time_byte b more e = (grind (arith, nat_tests), grind (arith, nat_tests), (λ is. grind (arith, nat_tests)), grind (arith, nat_tests))
+
+  time-feeds : (text : List ℕ) → list_all is_time_byte text ≡ true → NoLineFeed text
+  time-feeds [] e = tt
+  time-feeds (b ∷ bs) e = let p = time_byte b _ e in (p.2, time-feeds bs p.3)
+
+  time-parts : (text : List ℕ) → is_time_text text ≡ true → (length text ≤ 60) × (list_all is_time_byte text ≡ true)
+  time-parts text e = (grind (arith, nat_tests), grind (arith, nat_tests))
+
+  time-says : (n : ℕ) (latest : Latest) (b : ℕ) (bs : List ℕ) → (b == 62) ≡ false → (b == 126) ≡ false → line_says n latest (35 ∷ 32 ∷ b ∷ bs) ≡ Ok (stays latest)
+  unfolding meaning
+  time-says n latest b bs p q = ap (silent_line n latest) (by (b == 62) (b == 126) p q)
+    where
+      by : (x y : Bool) → x ≡ false → y ≡ false → (let none : Option ℕ = None in if is_some (if x then Some bs else None) || is_some (if y then Some bs else None) then Some 2 else none) ≡ None
+      by true y p q = cc p
+      by false true p q = cc q
+      by false false p q = refl
+
+  reads-time : (n : ℕ) (text : List ℕ) (latest : Latest) → n < most → is_time_text text ≡ true → Read n (time_line text) latest [] (n + 1)
+  reads-time n [] latest few is = let none = reads-nil n latest in (none.0, none.1, none.2, omega (arith, none.3))
+  reads-time n (b ∷ bs) latest few is =
+      let parts = time-parts (b ∷ bs) is in
+      let byte = time_byte b _ parts.1 in
+      let line : IsLine 64 (35 ∷ 32 ∷ b ∷ bs) = record { feeds = ((λ e. absurd (omega (arith, e))), ((λ e. absurd (omega (arith, e))), time-feeds (b ∷ bs) parts.1)); short = omega (arith, parts.0) } in
+      reads-comment n (35 ∷ 32 ∷ b ∷ bs) latest few line (time-says (n + 1) latest b bs byte.0 byte.1)
+
+  -- ---- what was heard
+
+  reads-slot : (n : ℕ) (owed : Bool) (latest : Latest) → n < most → Read n (slot_line owed) latest (silent_slot owed) (n + 1)
+  reads-slot n true latest few = reads-event n event.Slot latest few tt
+  reads-slot n false latest few = let none = reads-nil n latest in (none.0, none.1, none.2, omega (arith, none.3))
+
+  reads-more : {n few last : ℕ} {text more : List ℕ} {latest : Latest} {ss ts : List StatedEvent} → (p : Read n text latest ss few) → Read p.0 more p.1 ts last → Read n (text ++ more) latest (ss ++ ts) last
+  reads-more p q = (q.0, q.1, Reads-trans p.2 q.2, q.3)
+
+  reads-later : {n few last : ℕ} {text : List ℕ} {latest : Latest} {ss : List StatedEvent} → few ≤ last → Read n text latest ss few → Read n text latest ss last
+  reads-later low p = (p.0, p.1, p.2, omega (arith, low, p.3))
+
+  reads-heard : (n : ℕ) (x : HeardItem) (latest : Latest) → n + 1 < most → HasWords x → Read n (heard_line x) latest (heard_stated x) (n + 2)
+  reads-heard n (Gap bus) latest few words = reads-later (omega arith) (reads-event n (event.Gap bus) latest (omega (arith, few)) tt)
+  reads-heard n (Word bus sync bits) latest few words = reads-later (omega arith) (reads-event n (event.Word bus (valid_word (kind_of_sync sync) bits)) latest (omega (arith, few)) words)
+  reads-heard n (Noise bus) latest few words = reads-later (omega arith) (reads-event n (event.Noise bus) latest (omega (arith, few)) tt)
+  reads-heard n (Reply sent) latest few words = reads-reply n (shown_word sent) latest few
+  reads-heard n (Late sent) latest few words = reads-later (omega arith) (reads-late n (shown_word sent) latest (omega (arith, few)))
+
+  reads-noted : (n : ℕ) (owed : Bool) (x : HeardAt) (latest : Latest) → n + 3 < most → IsNotable x → Read n (noted_text owed x) latest (silent_slot (owed && takes_slot x.heard) ++ heard_stated x.heard) (n + 4)
+  reads-noted n owed x latest few is =
+      let slot = reads-slot n (owed && takes_slot x.heard) latest (omega (arith, few)) in
+      let time = reads-time slot.0 x.time slot.1 (omega (arith, few, slot.3)) is.time in
+      let heard = reads-heard time.0 x.heard time.1 (omega (arith, few, slot.3, time.3)) is.words in
+      reads-later (omega (arith, slot.3, time.3)) (reads-more slot (reads-more time heard))
+
+  reads-all : (address : ℕ) (h : List HeardItem) (ns : List HeardAt) (n : ℕ) (latest : Latest) → AreNotable ns → n + (4 * length ns + 1) < most
+      → Read n (recording_after address h ns) latest (stated_after address h (map (λ n. n.heard) ns)) (n + (4 * length ns + 1))
+  unfolding recording_after stated_after
+  reads-all address h [] n latest are few = reads-later (omega arith) (reads-slot n (is_owed_by address h) latest (omega (arith, few)))
+  reads-all address h (x ∷ ns) n latest are few =
+      let first = reads-noted n (is_owed_by address h) x latest (omega (arith, few)) are.0 in
+      let rest = reads-all address (x.heard ∷ h) ns first.0 first.1 are.1 (omega (arith, few, first.3)) in
+      let both = reads-more first rest in
+      subst (λ ss. Read n (recording_after address h (x ∷ ns)) latest ss (n + (4 * length (x ∷ ns) + 1)))
+      (append_assoc (silent_slot (is_owed_by address h && takes_slot x.heard)) (heard_stated x.heard) (stated_after address (x.heard ∷ h) (map (λ n. n.heard) ns)))
+      (reads-later (omega (arith, first.3)) both)
+
+-- ---- without the silent slots
+
+filter-append : (p : StatedEvent → Bool) (xs ys : List StatedEvent) → filter p (xs ++ ys) ≡ filter p xs ++ filter p ys
+filter-append p [] ys = refl
+filter-append p (x ∷ xs) ys = by (p x) (filter-append p xs ys)
+  where
+    by : (b : Bool) → filter p (xs ++ ys) ≡ filter p xs ++ filter p ys → cond b (x ∷ filter p (xs ++ ys)) (filter p (xs ++ ys)) ≡ cond b (x ∷ filter p xs) (filter p xs) ++ filter p ys
+    by true later = ap (λ zs. x ∷ zs) later
+    by false later = later
+
+silent-left : (owed : Bool) → filter is_spoken (silent_slot owed) ≡ []
+silent-left true = refl
+silent-left false = refl
+
+heard-kept : (x : HeardItem) → filter is_spoken (heard_stated x) ≡ heard_stated x
+heard-kept (Gap bus) = refl
+heard-kept (Word bus sync bits) = refl
+heard-kept (Noise bus) = refl
+heard-kept (Reply sent) = on_bus sent.bus
+  where
+    on_bus : (bus : Bus) → filter is_spoken (event_stating event.Slot (sent_text (record { bus = bus; kind = sent.kind; bits = sent.bits })) ∷ []) ≡ event_stating event.Slot (sent_text (record { bus = bus; kind = sent.kind; bits = sent.bits })) ∷ []
+    on_bus A = refl
+    on_bus B = refl
+heard-kept (Late sent) = refl
+
+spoken : (address : ℕ) (h xs : List HeardItem) → filter is_spoken (stated_after address h xs) ≡ flat_map heard_stated xs
+unfolding stated_after
+spoken address h [] = silent-left (is_owed_by address h)
+spoken address h (x ∷ xs) =
+    let silent = silent_slot (is_owed_by address h && takes_slot x) in
+    let later = stated_after address (x ∷ h) xs in
+    filter-append is_spoken silent (heard_stated x ++ later)
+    ∙ ap (λ ys. ys ++ filter is_spoken (heard_stated x ++ later)) (silent-left (is_owed_by address h && takes_slot x))
+    ∙ filter-append is_spoken (heard_stated x) later
+    ∙ ap (λ ys. ys ++ filter is_spoken later) (heard-kept x)
+    ∙ ap (λ ys. heard_stated x ++ ys) (spoken address (x ∷ h) xs)
+
+pub read_back : ReadBackLaw
+read_back most address ns are few =
+    let all = reads-all most address [] ns 0 None are (omega (arith, few)) in
+    let r = all.2 in record {
+      stated = r.stated;
+      reads = Tells-all most r.tells ∙ ap Ok r.splits;
+      slots = r.are;
+      words = ap (filter is_spoken) r.are ∙ spoken address [] (map (λ n. n.heard) ns);
+    }

@@ -1,0 +1,40 @@
+//! What a monitor heard on the two buses.
+ghost use Rattle.std.specs.Prelude.{◌≡◌};
+ghost use Rattle.bus_word.specs.Word.{is_command_sync};
+ghost use Rattle.terminal_rules.specs.Buses.{other};
+
+use bus_terminal::Sent;
+use bus_word::{Bus, Kind};
+use monitor_cells::WordSync;
+
+/// What was heard.
+#[derive(Clone, Copy)]
+pub enum HeardItem {
+    /// A gap on a bus.
+    Gap(Bus),
+    /// A word that the terminal did not send.
+    Word(Bus, WordSync, u16),
+    /// What is no valid word.
+    Noise(Bus),
+    /// A word that the terminal sent: a part of its reply.
+    Reply(Sent),
+    /// A word that the terminal sent too late for a reply.
+    Late(Sent),
+}
+
+/// Whether a sync is that of command and status words.
+pub fn is_command_sync(kind: Kind) -> bool
+    ensures { result ≡ is_command_sync kind }
+{
+    matches!(kind, Kind::Com)
+}
+
+/// The other bus.
+pub fn other_bus(bus: Bus) -> Bus
+    ensures { result ≡ other bus }
+{
+    match bus {
+        Bus::A => Bus::B,
+        Bus::B => Bus::A,
+    }
+}

@@ -1,0 +1,148 @@
+//! What was heard, as lines of a script.
+ghost use Rattle.std.specs.Prelude.{◌≡◌, ◌≤◌, ◌<◌, ◌+◌, ◌^◌, ◌++◌, ◌∷◌, [], ◌||◌, true, length, not, is_ok, OnOk};
+ghost use Rattle.std.specs.Io.KnownBytes.{Appends};
+ghost use Rattle.arrayvec.specs.ArrayString.{array_string_len};
+ghost use Rattle.bus_terminal.specs.Answer.{shown_word};
+ghost use Rattle.script_lines.specs.EventLine.{event_line};
+ghost use Rattle.script_lines.specs.Transcript.{sent_text};
+ghost use Rattle.monitor_cells.specs.Cells.{is_time_text};
+ghost use Rattle.monitor_tables.specs.Recording.{slot_line, takes_slot, time_line, heard_line, noted_text, HasWords};
+ghost use Rattle.monitor_tables.specs.inner.Puts.{PutsNoted};
+
+use crate::heard::HeardItem;
+use crate::owed::OwedSlot;
+use arrayvec::ArrayString;
+use bus_terminal::{Answer, Event, Sent};
+use bus_word::Raw;
+use byte_streams::{IoFailed, Sink, write_all};
+use monitor_cells::kind_of_sync;
+use script_lines::{push_answer, write_event};
+
+/// The lines of one thing that was heard.
+type HeardLines = ArrayString<320>;
+
+/// Writes the line of an event.
+fn push_event(lines: &mut HeardLines, event: &Event)
+    requires { array_string_len lines.old ≤ 100 }
+    ensures { lines.new.bytes ≡ lines.old.bytes ++ event_line event.now }
+{
+    lines.push_str(write_event(event).as_str());
+    lines.push_str("\n");
+}
+
+/// Writes the line of a word that the terminal sent, behind what tells how it stands there.
+fn push_sent(lines: &mut HeardLines, front: &str, sent: Sent)
+    requires room { array_string_len lines.old ≤ 100 }
+    requires front { length front.now ≤ 40 }
+    ensures { lines.new.bytes ≡ lines.old.bytes ++ (front.now ++ sent_text (shown_word sent)) }
+{
+    lines.push_str(front);
+    push_answer(lines, None, &Answer::Sends(sent));
+}
+
+/// Writes what was heard.
+fn push_heard(lines: &mut HeardLines, heard: &HeardItem)
+    requires { array_string_len lines.old ≤ 100 }
+    ensures { lines.new.bytes ≡ lines.old.bytes ++ heard_line heard.now }
+{
+    match heard {
+        HeardItem::Gap(bus) => push_event(lines, &Event::Gap(*bus)),
+        HeardItem::Word(bus, sync, bits) => {
+            push_event(
+                lines,
+                &Event::Word(*bus, Raw::of(kind_of_sync(*sync), *bits)),
+            );
+        }
+        HeardItem::Noise(bus) => push_event(lines, &Event::Noise(*bus)),
+        HeardItem::Reply(sent) => push_sent(lines, "slot\n#> ", *sent),
+        HeardItem::Late(sent) => push_sent(lines, "# later than no response: ", *sent),
+    }
+}
+
+/// Whether a slot that is owed stands before this: before any event that is no word of the terminal.
+fn takes_slot(heard: &HeardItem) -> bool
+    ensures { result ≡ takes_slot heard.now }
+{
+    !matches!(heard, HeardItem::Reply(_) | HeardItem::Late(_))
+}
+
+/// Writes a slot in which the terminal is silent, where one is owed.
+fn push_slot(lines: &mut HeardLines, is_owed: bool)
+    requires { array_string_len lines.old ≤ 10 }
+    ensures bytes { lines.new.bytes ≡ lines.old.bytes ++ slot_line is_owed }
+    ensures len { array_string_len lines.new ≤ array_string_len lines.old + 5 }
+{
+    if is_owed {
+        lines.push_str("slot\n");
+    }
+}
+
+/// Writes a time as a comment, if there is one.
+fn push_time(lines: &mut HeardLines, time: &str)
+    requires room { array_string_len lines.old ≤ 20 }
+    requires short { length time.now ≤ 60 }
+    ensures bytes { lines.new.bytes ≡ lines.old.bytes ++ time_line time.now }
+    ensures len { array_string_len lines.new ≤ array_string_len lines.old + 63 }
+{
+    if !time.is_empty() {
+        lines.push_str("# ");
+        lines.push_str(time);
+        lines.push_str("\n");
+    }
+}
+
+/// The lines of what was heard, at this time: before it a slot that is owed, where it stands there.
+fn heard_lines(is_owed: bool, time: &str, heard: &HeardItem) -> HeardLines
+    requires { length time.now ≤ 60 }
+    ensures { result.bytes ≡ noted_text is_owed (record { time = time.now; heard = heard.now }) }
+{
+    let mut lines = HeardLines::new();
+    push_slot(&mut lines, is_owed && takes_slot(heard));
+    push_time(&mut lines, time);
+    push_heard(&mut lines, heard);
+    lines
+}
+
+/// A word has 16 bits.
+fn has_16_bits(word: u16)
+    ensures { word < 2 ^ 16 }
+{}
+
+/// Words that were heard have 16 bits.
+fn has_words(heard: &HeardItem)
+    ensures { HasWords heard.now }
+{
+    match heard {
+        HeardItem::Word(_, _, bits) => has_16_bits(*bits),
+        HeardItem::Reply(sent) => has_16_bits(sent.bits),
+        HeardItem::Late(sent) => has_16_bits(sent.bits),
+        HeardItem::Gap(_) | HeardItem::Noise(_) => {}
+    }
+}
+
+/// Writes what was heard, at this time, which may be left out.
+pub fn put_heard<W: Sink>(
+    sink: &mut W,
+    owed: &mut OwedSlot,
+    time: &str,
+    heard: HeardItem,
+) -> Result<(), IoFailed>
+    requires { is_time_text time.now ≡ true }
+    ensures puts { OnOk result (PutsNoted W.written owed.old owed.new sink.old sink.new (record { time = time.now; heard = heard } ∷ [])) }
+    ensures failed { W.has_failed sink.new ≡ (W.has_failed sink.old || not (is_ok result)) }
+{
+    has_words(&heard);
+    let lines = heard_lines(owed.is_owed(), time, &heard);
+    owed.hear(&heard);
+    write_all(sink, lines.as_str().as_bytes())
+}
+
+/// Writes the slot that is owed at the end.
+pub fn put_last_slot<W: Sink>(sink: &mut W, owed: &OwedSlot) -> Result<(), IoFailed>
+    ensures wrote { OnOk result (Appends (W.written sink.old) (W.written sink.new) (slot_line owed.now.is_owed)) }
+    ensures failed { W.has_failed sink.new ≡ (W.has_failed sink.old || not (is_ok result)) }
+{
+    let mut lines = HeardLines::new();
+    push_slot(&mut lines, owed.is_owed());
+    write_all(sink, lines.as_str().as_bytes())
+}

@@ -1,0 +1,35 @@
+//! What a table is read by.
+ghost use Rattle.std.specs.Prelude.{◌≡◌};
+
+/// How long a word lasts, in nanoseconds: 20 bit times of 1 microsecond each (MIL-STD-1553B, 4.3.2, 4.3.3.4).
+pub const WORD_TIME: u64 = 20_000;
+
+/// How long before the end of the word above it a word may begin, in nanoseconds: times in tables are rounded.
+pub const TOLERANCE: u64 = 1_000;
+
+/// The terminal that is recorded, and the silences that count, in nanoseconds.
+#[derive(Clone, Copy)]
+pub struct RecordingSetup {
+    /// The address of the terminal, 0 to 30.
+    pub address: u8,
+    /// A longer silence is a gap.
+    pub gap: u64,
+    /// A status word after a longer silence is no reply.
+    pub no_response: u64,
+}
+
+impl RecordingSetup {
+    /// The terminal of this address, with the silences of the standard. A gap is longer than 1 microsecond: 4.0 microseconds between
+    /// messages and before a reply (4.3.3.7, 4.3.3.8) are measured from the middle of the last bit to the middle of the sync, which
+    /// leaves 2.0 of silence, and contiguous words have none. A reply comes after at most 12 microseconds: 14.0 (4.3.3.9) without the
+    /// same 2.0.
+    pub fn of(address: u8) -> RecordingSetup
+        ensures { result ≡ record { address = address; gap = 1000; no_response = 12000 } }
+    {
+        RecordingSetup {
+            address,
+            gap: 1_000,
+            no_response: 12_000,
+        }
+    }
+}

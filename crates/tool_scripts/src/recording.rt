@@ -1,0 +1,102 @@
+//! The command `recording`: the table of a monitor as the recording of a terminal.
+ghost use Rattle.std.specs.Prelude.{◌≡◌, IfOk};
+
+use bus_script::FromWrite;
+use byte_streams::Sink;
+use monitor_cells::read_time;
+use monitor_tables::{LeftOutColumn, MonitorFault, RecordingSetup, open_table, write_recording};
+use rt1553_files::{FileFault, open_file};
+use std::io::Write;
+use std::rt::Files;
+use tool_files::{ToolFault, refused_file, shown};
+
+/// What is asked for of a table.
+#[derive(Clone, Copy)]
+pub struct AskedRecording<'a> {
+    pub table: &'a str,
+    /// The address of the terminal.
+    pub address: &'a str,
+    /// The silences that count, in microseconds.
+    pub gap: Option<&'a str>,
+    pub no_response: Option<&'a str>,
+}
+
+/// The nanoseconds of a silence that is given in microseconds; this number where none is given.
+fn silence(given: Option<&str>, default: u64) -> Result<u64, ToolFault> {
+    let Some(text) = given else {
+        return Ok(default);
+    };
+    match read_time(text.as_bytes()) {
+        Some(time) => Ok(time.nanos),
+        None => Err(ToolFault::Usage),
+    }
+}
+
+/// The terminal that is recorded, and the silences that count.
+fn setup_of(asked: AskedRecording<'_>) -> Result<RecordingSetup, ToolFault> {
+    let address = match asked.address.parse::<u8>() {
+        Ok(address) if address <= 30 => address,
+        _ => return Err(ToolFault::Usage),
+    };
+    let usual = RecordingSetup::of(address);
+    Ok(RecordingSetup {
+        address,
+        gap: silence(asked.gap, usual.gap)?,
+        no_response: silence(asked.no_response, usual.no_response)?,
+    })
+}
+
+/// The fault of the table in the file of this name.
+fn table_fault<R: AllocGlobal>(rt: &R, name: &str, fault: MonitorFault) -> ToolFault {
+    match fault {
+        MonitorFault::Memory => ToolFault::Memory,
+        MonitorFault::Write => ToolFault::Output,
+        MonitorFault::Read => match shown(rt, name) {
+            Ok(name) => ToolFault::File(FileFault::CannotRead(name)),
+            Err(fault) => fault,
+        },
+        _ => refused_file(rt, name, &fault),
+    }
+}
+
+/// Warns, on the standard error, of columns that are left out.
+fn warn<R: AllocGlobal + Eprint>(
+    rt: &R,
+    name: &str,
+    left_out: &[LeftOutColumn],
+) -> Result<(), ToolFault> {
+    let name = shown(rt, name)?;
+    for column in left_out {
+        let _ = eprintln!(rt; "{name}:{column}");
+    }
+    Ok(())
+}
+
+/// Writes the recording of a terminal that the table of a monitor has. What was written before a fault stands.
+pub fn record_table<R: Files + AllocGlobal + Eprint, W: Write>(
+    rt: &R,
+    asked: AskedRecording<'_>,
+    output: &mut W,
+) -> Result<u8, ToolFault>
+    ensures { IfOk result (λ status. status ≡ 0) }
+{
+    if asked.table.is_empty() {
+        return Err(ToolFault::NoName);
+    }
+    let setup = setup_of(asked)?;
+    let file = open_file(rt, asked.table)?;
+    let mut sink = FromWrite::new(output);
+    let written = match open_table(rt.alloc(), file) {
+        Ok(mut table) => {
+            warn(rt, asked.table, table.left_out.as_slice())?;
+            write_recording(&mut table, &setup, &mut sink)
+        }
+        Err(fault) => Err(fault),
+    };
+    let flushed = sink.flush();
+    match (written, flushed) {
+        (Err(fault), _) => Err(table_fault(rt, asked.table, fault)),
+        (Ok(()), Err(_)) => Err(ToolFault::Output),
+        (Ok(()), Ok(())) => Ok(0),
+    }
+}
