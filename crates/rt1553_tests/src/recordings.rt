@@ -5,7 +5,7 @@ use bus_word::{Bus, Kind, Raw};
 use byte_streams::MemorySink;
 use monitor_cells::read_time;
 use monitor_tables::{RecordingSetup, open_table, write_recording};
-use recorded_terminal::{Marked, Sent, Sighting, Watch, behaviour};
+use recorded_terminal::{Sent, Sighting, behaviour};
 use rt1553::load;
 use script_recordings::{watch_recording, witness};
 use std::alloc::{AllocError, Global};
@@ -36,28 +36,6 @@ fn sent(kind: Kind, bits: u16) -> (Event, Option<Sent>) {
 
 fn command(bits: u16) -> (Event, Option<Sent>) {
     (Event::Word(Bus::A, Raw::of(Kind::Com, bits)), None)
-}
-
-#[test]
-fn first_sighting_that_nothing_explains(rt: HostRuntime) -> Result<(), Fail> {
-    let normal = load(rt.alloc(), b"address = 5")?;
-    let seen = [
-        command(0x2c02),
-        (Event::Gap(Bus::A), None),
-        sent(Kind::Com, 0x2900),
-    ];
-    let mut watch = Watch::power_up(rt.alloc(), normal.setup(), normal);
-    for sighting in recording_of(rt.alloc(), &seen)? {
-        watch.see(Marked {
-            sighting,
-            line: 0,
-            command: None,
-        })?;
-    }
-    // before any message no flag shows
-    let first = watch.end().and_then(|first| first.sent);
-    assert_eq!(rt; first, sent(Kind::Com, 0x2800).1);
-    Ok(())
 }
 
 #[test]
