@@ -341,7 +341,16 @@ recording_rows() {
     script masks "$ask#~ A s 2..."$'\n'
     script hands $'A c 2c03\nA gap\n#> hand self-test\nslot\n#> A s 2800\n'
     script capital "$ask#> A s 28AB"$'\n'
+    # over 1,048,576 bytes: it is read on while it is judged
+    yes "$ask#> A s 2800" | head -n 160000 >"$work/long"
+    cp "$work/long" "$work/long-fault"
+    printf '%s#> A s 2820\n' "$ask" >>"$work/long-fault"
+    cp "$work/long" "$work/long-refused"
+    printf 'A c 2c02\n#> A s 2820\n' >>"$work/long-refused"
     input ''
+    row 'a long recording' 0 'long: passed (answers: 40000)\nno clause: 1 of 1 scripts pass\nall: 1 of 1 scripts pass\n' '' verify --any-subsystem --summary five long
+    row 'a fault at its end' 1 'long-fault:160003: expected A s 2820, came A s 2800\nlong-fault: differences: 1\n' '' verify --any-subsystem five long-fault
+    row 'a line at its end that is refused' 2 '' 'long-refused: script: line 160002: the event before it cannot have this answer\n' verify --any-subsystem five long-refused
     row 'flags that a subsystem can have' 0 '' '' verify --any-subsystem five flags
     row 'the same as a test' 1 'flags:3: expected A s 2d00, came A s 2c00\nflags:7: expected A s 2c05, came A s 2c00\nflags: differences: 2\n' '' verify five flags
     row 'the first line that nothing explains' 1 'reserved:7: expected A s 2820, came A s 2800\nreserved: differences: 1\n' '' verify --any-subsystem five reserved

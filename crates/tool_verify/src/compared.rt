@@ -1,5 +1,5 @@
 //! What a terminal answers otherwise than a script states.
-ghost use Rattle.std.specs.Prelude.{◌≡◌, ◌==◌, ◌↔◌, None, true, IfOk, IfSome, length, map};
+ghost use Rattle.std.specs.Prelude.{◌≡◌, ◌==◌, ◌↔◌, ◌++◌, None, true, IfOk, IfSome, length, map};
 ghost use Rattle.rt1553_verify.specs.Stated.{shown};
 ghost use Rattle.rt1553_verify.specs.declared.stated.StatedFault.TheVariants.{Memory};
 ghost use Rattle.tool_verify.specs.Passing.{IsExplainingScript, SaysOf, scoped, test_kind};
@@ -163,7 +163,8 @@ pub fn compare_open<F: Read + Drop>(
     rest: Option<F>,
     kind: ScriptKind,
 ) -> Result<Compared, ScriptFault>
-    ensures { IfOk result (λ it. rest ≡ None → SaysOf kind normal.now script.now (length it.wrong.items == 0)) }
+    ensures whole { IfOk result (λ it. rest ≡ None → SaysOf kind normal.now script.now (length it.wrong.items == 0)) }
+    ensures on { IfOk result (λ it. IfSome rest (λ file. IfSome (F.remaining file) (λ more. SaysOf ScriptKind.Recording normal.now (script.now ++ more) (length it.wrong.items == 0)))) }
 {
     let Some(rest) = rest else {
         return compare_script(alloc, normal, script, kind);
