@@ -5,3 +5,4 @@ pub mod SlotsLaw
 pub mod ReceivedLaw
 mod WholeLaw
 pub mod FlagLaw
+mod EndingLaw

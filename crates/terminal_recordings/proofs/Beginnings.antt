@@ -12,7 +12,7 @@ use Rattle.terminal_rules.specs.declared.event.Event.TheVariants.{Word, Gap, Slo
 use Rattle.terminal_rules.specs.declared.event.Flag.TheVariants.{Busy}
 use Rattle.terminal_rules.specs.Buses.{same_bus, other}
 use Rattle.terminal_rules.specs.LookBack.{or_else}
-use Rattle.terminal_rules.specs.History.{Ending, Nothing, Illegal, Blocked, Done}
+use Rattle.terminal_rules.specs.History.{Nothing, Illegal, Blocked, Done}
 use Rattle.terminal_rules.specs.Open.{Open, Idle, Collects, is_on, open_now}
 use Rattle.terminal_rules.specs.Reply.{words_after_status, reply_now, reply_bus}
 use Rattle.terminal_rules.specs.Starts.{is_for_terminal}

@@ -1,23 +1,19 @@
 -- The laws of recordings that begin later.
-use Rattle.std.proofs.Common.{◌≡◌, ℕ, zero, suc, take, drop, ◌≤◌, true, false, Option, Some, None, List, [], ◌∷◌, ◌++◌, refl, ap, sym, ◌∙◌, subst}
-use Rattle.std.proofs.lemmas.List.{append-nil, take-append-drop}
+use Rattle.std.proofs.Common.{◌≡◌, ℕ, zero, suc, take, drop, ◌≤◌, Bool, true, false, if◌then◌else◌, Option, Some, None, List, [], ◌∷◌, ◌++◌, refl, ap, sym, ◌∙◌, subst}
+use Rattle.std.proofs.lemmas.List.{take-append-drop}
 use Rattle.bus_word.specs.declared.cell.Cell.TheVariants.{OwnMode}
 use Rattle.bus_legal.specs.Description.{Description}
 use Rattle.terminal_rules.specs.declared.event.Event.{Event}
 use Rattle.terminal_rules.specs.Past.{history_after}
 use Rattle.terminal_recordings.specs.Recordings.{Sighting, sightings_from, IsRecording}
-use Rattle.terminal_recordings.specs.Completion.{completion_from, shown_from}
-use Rattle.terminal_recordings.specs.Later.{IsQuiet, IsExplainedLater, IsExplainedAnyTime, no_gaps, after_pause, command_for, first_command, asks_back, BeginsAfresh, ShutDown, shutting, shown_later, LaterLaw}
+use Rattle.terminal_recordings.specs.Completion.{completion_from}
+use Rattle.terminal_recordings.specs.Later.{IsQuiet, IsExplainedLater, IsExplainedAnyTime, Gaps, no_gaps, gaps_with, after_pause, command_for, first_command, asks_back, BeginsAfresh, fresh_part, ShutDown, shutting, begun, shown_later, LaterLaw}
 use Rattle.terminal_recordings.proofs.Follows.{Follows}
 use Rattle.terminal_recordings.proofs.Fresh.{AreFreshAlike, quiet_fresh}
 use Rattle.terminal_recordings.proofs.FollowsLater.{follows_later}
 use Rattle.terminal_recordings.proofs.Leaving.{history_join, Leaves, shutting_leaves, shutting_proper, shut_by, shut_by_is}
 use Rattle.terminal_recordings.proofs.Pause.{Pauses, at_pause}
-use Rattle.terminal_recordings.proofs.Law.{proper_join, completion_proper, Front, front_of, take_front}
-
--- the history of a beginning
-abbrev begun : Description → ShutDown → List Event
-begun P shut = history_after (shutting P shut) []
+use Rattle.terminal_recordings.proofs.Law.{proper_join, completion_proper, Front, front_of, shown_again, shown_first}
 
 -- the beginning that leaves shut down what a history leaves so; its terminal flag is not inhibited
 begun_alike : (P : Description) (h : List Event) → P.address ≤ 30 → P.legal (OwnMode 4) ≡ true → IsQuiet P h → AreFreshAlike P h (begun P (shut_by P h))
@@ -38,7 +34,7 @@ begun_alike P h low l q =
 -- what is shown of a front after one of the beginnings, where it is explained
 explained_follows : (P : Description) (front later : List Sighting) → P.address ≤ 30 → P.legal (OwnMode 4) ≡ true → BeginsAfresh P front → IsExplainedLater P front →
     (shut : ShutDown) × Follows P (begun P shut) front later
-explained_follows P front later low l afresh (earlier, a, q, es, b, e) =
+explained_follows P front later low l afresh (earlier, a, q, (es, b, e)) =
     let h : List Event = history_after earlier [] in
     let shut : ShutDown = shut_by P h in (
       shut,
@@ -46,24 +42,16 @@ explained_follows P front later low l afresh (earlier, a, q, es, b, e) =
           (follows_later P low es h (begun P shut) later (begun_alike P h low l q) (ap (λ r. asks_back P (first_command P r)) e ∙ afresh)),
     )
 
-shown_again : (P : Description) (k : List Event) (recording : List Sighting) → Follows P k recording [] → shown_from P k recording ≡ recording
-shown_again P k recording f = ap (shown_from P k) (sym (append-nil recording)) ∙ (f.1 ∙ append-nil recording)
-
-shown_first : (P : Description) (k : List Event) (recording : List Sighting) (n : ℕ) → Follows P k (take n recording) (drop n recording) → take n (shown_from P k recording) ≡ take n recording
-shown_first P k recording n (l, e) =
-    ap (λ xs. take n (shown_from P k xs)) (sym (take-append-drop n recording))
-    ∙ (ap (take n) e ∙ take_front n recording (shown_from P l) refl)
-
 -- what is shown after a beginning is explained
 told_explains : (P : Description) (shut : ShutDown) (recording shows : List Sighting) → P.address ≤ 30 → P.legal (OwnMode 4) ≡ true → IsRecording recording → shown_later P shut recording ≡ shows →
     IsExplainedLater P shows
 told_explains P shut recording shows low l r e =
-    (shutting P shut, shutting_proper P shut low, (shutting_leaves P shut low l).quiet, completion_from P (begun P shut) recording, completion_proper P (begun P shut) recording r, e)
+    (shutting P shut, shutting_proper P shut low, (shutting_leaves P shut low l).quiet, (completion_from P (begun P shut) recording, completion_proper P (begun P shut) recording r, e))
 
 fronts : (P : Description) (front later : List Sighting) → IsExplainedLater P (front ++ later) → IsExplainedLater P front
-fronts P front later (earlier, a, q, es, b, e) =
+fronts P front later (earlier, a, q, (es, b, e)) =
     let f : Front P (history_after earlier []) front = front_of P es (history_after earlier []) front later b e in
-    (earlier, a, q, f.0, f.1, f.2)
+    (earlier, a, q, f)
 
 -- a front of a recording that begins afresh does so
 front_afresh : (P : Description) (n : ℕ) (recording : List Sighting) → BeginsAfresh P recording → BeginsAfresh P (take n recording)
@@ -80,17 +68,51 @@ front_afresh P (suc n) (s ∷ later) a = by_command (command_for P s.event) a (�
     by_command (Some c) q next = q
 
 paused : (P : Description) (recording later : List Sighting) → IsExplainedAnyTime P recording → after_pause no_gaps recording ≡ Some later → IsExplainedLater P later
-paused P recording later (earlier, a, es, b, e) q =
+paused P recording later (earlier, a, (es, b, e)) q =
     let h : List Event = history_after earlier [] in
     let x : Pauses P h later = at_pause P es h later b (ap (after_pause no_gaps) e ∙ q) in
     let join : history_after x.0 h ≡ history_after (earlier ++ x.0) [] = sym (history_join earlier x.0 []) in (
       earlier ++ x.0,
       proper_join earlier x.0 a x.1,
       subst (IsQuiet P) join x.2,
-      x.3,
-      x.4,
-      ap (λ k. sightings_from P k x.3) (sym join) ∙ x.5,
+      (x.3, x.4, ap (λ k. sightings_from P k x.3) (sym join) ∙ x.5),
     )
+
+-- the first part of a recording that begins afresh, by what is known of the part after its first pause
+fresh_later : (P : Description) (recording later : List Sighting) (g : Gaps) → ((mid : List Sighting) → after_pause g recording ≡ Some mid → IsExplainedLater P mid) →
+    fresh_part P g recording ≡ Some later → IsExplainedLater P later
+fresh_later P [] later g pauses e = absurd (cc)
+fresh_later P (s ∷ rest) later g pauses e =
+    by_gaps (gaps_with g s.event s.sent) pauses e (λ n more q. fresh_later P rest later n more q)
+    (λ x q. fresh_later P rest later no_gaps (λ mid paused_at. paused P rest mid (x.0, x.1, x.3) paused_at) q)
+  where
+    by_fresh : (t : Bool) → IsExplainedLater P rest → (fresh_part P no_gaps rest ≡ Some later → IsExplainedLater P later) →
+        (if t then fresh_part P no_gaps rest else Some rest) ≡ Some later → IsExplainedLater P later
+    by_fresh true x next q = next q
+    by_fresh false x next q = let same : rest ≡ later = cc in subst (IsExplainedLater P) same x
+
+    by_gaps : (o : Option Gaps) → ((mid : List Sighting) → elim o as (λ o. Option (List Sighting)) [ None ↦ Some rest | Some n ↦ after_pause n rest ] ≡ Some mid → IsExplainedLater P mid) →
+        elim o as (λ o. Option (List Sighting)) [ None ↦ if asks_back P (first_command P rest) then fresh_part P no_gaps rest else Some rest | Some n ↦ fresh_part P n rest ] ≡ Some later →
+        ((n : Gaps) → ((mid : List Sighting) → after_pause n rest ≡ Some mid → IsExplainedLater P mid) → fresh_part P n rest ≡ Some later → IsExplainedLater P later) →
+        (IsExplainedLater P rest → fresh_part P no_gaps rest ≡ Some later → IsExplainedLater P later) → IsExplainedLater P later
+    by_gaps None pauses q over next = let x : IsExplainedLater P rest = pauses rest refl in by_fresh (asks_back P (first_command P rest)) x (next x) q
+    by_gaps (Some n) pauses q over next = over n pauses q
+
+-- it begins afresh
+fresh_begins : (P : Description) (recording later : List Sighting) (g : Gaps) → fresh_part P g recording ≡ Some later → BeginsAfresh P later
+fresh_begins P [] later g e = absurd (cc)
+fresh_begins P (s ∷ rest) later g e = by_gaps (gaps_with g s.event s.sent) e (λ n q. fresh_begins P rest later n q)
+  where
+    by_fresh : (t : Bool) → asks_back P (first_command P rest) ≡ t → (fresh_part P no_gaps rest ≡ Some later → BeginsAfresh P later) →
+        (if t then fresh_part P no_gaps rest else Some rest) ≡ Some later → BeginsAfresh P later
+    by_fresh true is next q = next q
+    by_fresh false is next q = let same : rest ≡ later = cc in subst (BeginsAfresh P) same is
+
+    by_gaps : (o : Option Gaps) →
+        elim o as (λ o. Option (List Sighting)) [ None ↦ if asks_back P (first_command P rest) then fresh_part P no_gaps rest else Some rest | Some n ↦ fresh_part P n rest ] ≡ Some later →
+        ((n : Gaps) → fresh_part P n rest ≡ Some later → BeginsAfresh P later) → BeginsAfresh P later
+    by_gaps None q next = by_fresh (asks_back P (first_command P rest)) refl (next no_gaps) q
+    by_gaps (Some n) q next = next n q
 
 pub later_law : LaterLaw
 later_law = record {
@@ -109,7 +131,11 @@ later_law = record {
         (sym (take-append-drop n (shown_later P x.0 recording)) ∙ ap (λ xs. xs ++ drop n (shown_later P x.0 recording)) x.1)),
   );
   fronts = fronts;
-  at_once = λ P recording x. ([], tt, record { message = λ b. refl; run = λ b. refl; reply = refl }, x.0, x.1, x.2);
-  any_time = λ P recording x. (x.0, x.1, x.3, x.4, x.5);
+  at_once = λ P recording x. ([], tt, record { message = λ b. refl; run = λ b. refl; reply = refl }, x);
+  any_time = λ P recording x. (x.0, x.1, x.3);
   paused = paused;
+  afresh = λ P recording later e. (
+    fresh_begins P recording later no_gaps e,
+    λ x. fresh_later P recording later no_gaps (λ mid paused_at. paused P recording mid x paused_at) e,
+  );
 }

@@ -6,8 +6,8 @@ use Rattle.terminal_rules.specs.declared.event.Event.{Event}
 use Rattle.terminal_rules.specs.Same.{AreProper}
 use Rattle.terminal_rules.specs.Past.{history_after}
 use Rattle.terminal_rules.specs.Out.{out, sent_in}
-use Rattle.terminal_recordings.specs.Recordings.{Sighting, is_seen, sightings_from, sightings, IsExplained, IsRecording}
-use Rattle.terminal_recordings.specs.Completion.{told_before, completion_from, shown_from, shown_of, RecordingLaw}
+use Rattle.terminal_recordings.specs.Recordings.{Sighting, is_seen, sightings_from, IsExplainedAfter, IsRecording}
+use Rattle.terminal_recordings.specs.Completion.{told_before, completion_from, shown_from, RecordingLaw}
 use Rattle.terminal_recordings.proofs.Told.{told_proper}
 use Rattle.terminal_recordings.proofs.Follows.{AlikeFor, Follows, follows}
 
@@ -45,49 +45,54 @@ front_of P (x ∷ es) h (s ∷ front) later (p, a) e =
         let f : Front P (x ∷ h) (s ∷ front) = skip e in
         (x ∷ f.0, (p, f.1), ap (shows (sightings_from P (x ∷ h) f.0)) u ∙ f.2)
 
-fronts : (P : Description) (front later : List Sighting) → IsExplained P (front ++ later) → IsExplained P front
-fronts P front later (es, a, e) = front_of P es [] front later a e
+fronts : (P : Description) (h : List Event) (front later : List Sighting) → IsExplainedAfter P h (front ++ later) → IsExplainedAfter P h front
+fronts P h front later (es, a, e) = front_of P es h front later a e
 
-at_power_up : (P : Description) (recording : List Sighting) → AlikeFor P [] [] recording
-at_power_up P recording = record { determined = refl; inhibited = λ e. e; kept = inl refl; reply = inl refl }
+at_once : (P : Description) (h : List Event) (recording : List Sighting) → AlikeFor P h h recording
+at_once P h recording = record { determined = refl; inhibited = λ e. e; kept = inl refl; reply = inl refl }
 
 -- what is shown of it, where it is explained
-explained_follows : (P : Description) → P.address ≤ 30 → (front later : List Sighting) → IsExplained P front → Follows P [] front later
-explained_follows P low front later (es, a, e) =
-    subst (λ (f : List Sighting). Follows P [] f later) e (follows P low es [] [] later (at_power_up P (sightings P es ++ later)))
+explained_follows : (P : Description) → P.address ≤ 30 → (h : List Event) (front later : List Sighting) → IsExplainedAfter P h front → Follows P h front later
+explained_follows P low h front later (es, a, e) =
+    subst (λ (f : List Sighting). Follows P h f later) e (follows P low es h h later (at_once P h (sightings_from P h es ++ later)))
 
-pub shown_again : (P : Description) (recording : List Sighting) → Follows P [] recording [] → shown_of P recording ≡ recording
-shown_again P recording f = ap (shown_of P) (sym (append-nil recording)) ∙ (f.1 ∙ append-nil recording)
+pub shown_again : (P : Description) (k : List Event) (recording : List Sighting) → Follows P k recording [] → shown_from P k recording ≡ recording
+shown_again P k recording f = ap (shown_from P k) (sym (append-nil recording)) ∙ (f.1 ∙ append-nil recording)
 
-pub told_explains : (P : Description) (recording shows : List Sighting) → IsRecording recording → shown_of P recording ≡ shows → IsExplained P shows
-told_explains P recording shows r e = (completion_from P [] recording, completion_proper P [] recording r, e)
+pub told_explains : (P : Description) (h : List Event) (recording shows : List Sighting) → IsRecording recording → shown_from P h recording ≡ shows → IsExplainedAfter P h shows
+told_explains P h recording shows r e = (completion_from P h recording, completion_proper P h recording r, e)
 
-pub explained_shown : (P : Description) → P.address ≤ 30 → (recording : List Sighting) → IsExplained P recording → shown_of P recording ≡ recording
-explained_shown P low recording x = shown_again P recording (explained_follows P low recording [] x)
+pub explained_shown : (P : Description) → P.address ≤ 30 → (h : List Event) (recording : List Sighting) → IsExplainedAfter P h recording → shown_from P h recording ≡ recording
+explained_shown P low h recording x = shown_again P h recording (explained_follows P low h recording [] x)
 
 -- the first of a front and what comes after it
-pub take_front : (n : ℕ) (xs : List Sighting) (f : List Sighting → List Sighting) → f [] ≡ [] → take n (take n xs ++ f (drop n xs)) ≡ take n xs
+take_front : (n : ℕ) (xs : List Sighting) (f : List Sighting → List Sighting) → f [] ≡ [] → take n (take n xs ++ f (drop n xs)) ≡ take n xs
 take_front zero xs f e = refl
 take_front (suc n) [] f e = ap (take (suc n)) e
 take_front (suc n) (x ∷ xs) f e = λ j. x ∷ take_front n xs f e j
 
-pub shown_first : (P : Description) (recording : List Sighting) (n : ℕ) → Follows P [] (take n recording) (drop n recording) → take n (shown_of P recording) ≡ take n recording
-shown_first P recording n (l, e) =
-    ap (λ xs. take n (shown_of P xs)) (sym (take-append-drop n recording))
+pub shown_first : (P : Description) (k : List Event) (recording : List Sighting) (n : ℕ) → Follows P k (take n recording) (drop n recording) → take n (shown_from P k recording) ≡ take n recording
+shown_first P k recording n (l, e) =
+    ap (λ xs. take n (shown_from P k xs)) (sym (take-append-drop n recording))
     ∙ (ap (take n) e ∙ take_front n recording (shown_from P l) refl)
+
+-- and what is so shown is explained
+pub first_explained : (P : Description) (h : List Event) (recording : List Sighting) (n : ℕ) → IsRecording recording → take n (shown_from P h recording) ≡ take n recording →
+    IsExplainedAfter P h (take n recording)
+first_explained P h recording n r e =
+    fronts P h (take n recording) (drop n (shown_from P h recording))
+    (told_explains P h recording (take n recording ++ drop n (shown_from P h recording)) r
+    (sym (take-append-drop n (shown_from P h recording)) ∙ ap (λ xs. xs ++ drop n (shown_from P h recording)) e))
 
 pub recording_law : RecordingLaw
 recording_law = record {
-  decided = λ P recording low r. (
-    λ x. explained_shown P low recording x,
-    λ e. told_explains P recording recording r e,
+  decided = λ P h recording low r. (
+    explained_shown P low h recording,
+    λ e. told_explains P h recording recording r e,
   );
-  first = λ P recording n low r. (
-    λ x. shown_first P recording n (explained_follows P low (take n recording) (drop n recording) x),
-    λ e.
-        fronts P (take n recording) (drop n (shown_of P recording))
-        (told_explains P recording (take n recording ++ drop n (shown_of P recording)) r
-        (sym (take-append-drop n (shown_of P recording)) ∙ ap (λ xs. xs ++ drop n (shown_of P recording)) e)),
+  first = λ P h recording n low r. (
+    λ x. shown_first P h recording n (explained_follows P low h (take n recording) (drop n recording) x),
+    λ e. first_explained P h recording n r e,
   );
   fronts = fronts;
 }

@@ -14,7 +14,7 @@ use Rattle.terminal_rules.specs.History.{Replying}
 use Rattle.terminal_rules.specs.Reply.{reply_now}
 use Rattle.terminal_rules.specs.Past.{past, history_after}
 use Rattle.terminal_rules.specs.Out.{Sending}
-use Rattle.terminal_recordings.specs.Recordings.{Sighting, sightings_from, IsExplained, IsRecording}
+use Rattle.terminal_recordings.specs.Recordings.{Sighting, sightings_from, IsExplainedAfter, IsRecording}
 
 -- a status word that was sent: it has command sync
 abbrev pub status_sent : Option Sending → Option ℕ
@@ -83,10 +83,10 @@ shown_of P recording = shown_from P [] recording
 
 -- Some behaviour of the subsystem explains a recording exactly if the one that the recording tells itself does. The same holds of
 -- each front of it: the first n sightings are explained exactly if the first n that are shown are just these. And what explains
--- more explains less. So the first sighting that isn't shown is the first that nothing explains.
+-- more explains less. So the first sighting that isn't shown is the first that nothing explains. This holds after every history.
 pub record RecordingLaw : Type 0 where
-  pub decided : (P : Description) (recording : List Sighting) → P.address ≤ 30 → IsRecording recording →
-      IsExplained P recording ↔ (shown_of P recording ≡ recording)
-  pub first : (P : Description) (recording : List Sighting) (n : ℕ) → P.address ≤ 30 → IsRecording recording →
-      IsExplained P (take n recording) ↔ (take n (shown_of P recording) ≡ take n recording)
-  pub fronts : (P : Description) (front later : List Sighting) → IsExplained P (front ++ later) → IsExplained P front
+  pub decided : (P : Description) (h : List Event) (recording : List Sighting) → P.address ≤ 30 → IsRecording recording →
+      IsExplainedAfter P h recording ↔ (shown_from P h recording ≡ recording)
+  pub first : (P : Description) (h : List Event) (recording : List Sighting) (n : ℕ) → P.address ≤ 30 → IsRecording recording →
+      IsExplainedAfter P h (take n recording) ↔ (take n (shown_from P h recording) ≡ take n recording)
+  pub fronts : (P : Description) (h : List Event) (front later : List Sighting) → IsExplainedAfter P h (front ++ later) → IsExplainedAfter P h front

@@ -18,7 +18,7 @@ use Rattle.terminal_rules.specs.Status.{spares}
 use Rattle.terminal_rules.specs.Past.{past, open_at, history_after}
 use Rattle.terminal_rules.specs.Out.{Sending}
 use Rattle.terminal_rules.specs.Same.{AreProper}
-use Rattle.terminal_recordings.specs.Recordings.{Sighting, sightings_from, IsExplained, IsRecording}
+use Rattle.terminal_recordings.specs.Recordings.{Sighting, IsExplained, IsExplainedAfter, IsRecording}
 use Rattle.terminal_recordings.specs.Completion.{shown_from}
 
 -- a quiet place: on each bus no message is in progress and no word or noise came since the last gap, and no reply is in progress
@@ -31,13 +31,11 @@ pub record IsQuiet (P : Description) (h : List Event) : Type 0 where
 -- quiet place on: there are events that can come, to a quiet place, and more of them, of which just this is seen.
 abbrev pub IsExplainedLater : Description → List Sighting → Type 0
 IsExplainedLater P recording =
-    (earlier : List Event) × AreProper earlier × IsQuiet P (history_after earlier [])
-    × (es : List Event) × AreProper es × (sightings_from P (history_after earlier []) es ≡ recording)
+    (earlier : List Event) × AreProper earlier × IsQuiet P (history_after earlier []) × IsExplainedAfter P (history_after earlier []) recording
 
 -- It explains a recording that begins at any time, if its terminal can do just that after some events.
 abbrev pub IsExplainedAnyTime : Description → List Sighting → Type 0
-IsExplainedAnyTime P recording =
-    (earlier : List Event) × AreProper earlier × (es : List Event) × AreProper es × (sightings_from P (history_after earlier []) es ≡ recording)
+IsExplainedAnyTime P recording = (earlier : List Event) × AreProper earlier × IsExplainedAfter P (history_after earlier []) recording
 
 -- how many gaps came on each bus, with no word or noise on either since the first of them, and no word sent
 pub record Gaps : Type 0 where
@@ -83,6 +81,12 @@ asks_back P (Some c) = spares P c
 abbrev pub BeginsAfresh : Description → List Sighting → Type 0
 BeginsAfresh P recording = asks_back P (first_command P recording) ≡ false
 
+-- what comes in a recording after its first pause after which it begins afresh
+abbrev pub fresh_part : Description → Gaps → List Sighting → Option (List Sighting)
+fresh_part P g [] = None
+fresh_part P g (s ∷ later) =
+    elim (gaps_with g s.event s.sent) [ None ↦ if asks_back P (first_command P later) then fresh_part P no_gaps later else Some later | Some n ↦ fresh_part P n later ]
+
 -- All that is left from before a quiet place and may be seen later, whatever the subsystem does: which transmitters are shut
 -- down. A terminal flag that is inhibited shows nothing that a flag that is off doesn't.
 pub record ShutDown : Type 0 where
@@ -101,14 +105,18 @@ if_shut false es = []
 abbrev pub shutting : Description → ShutDown → List Event
 shutting P shut = if_shut shut.a (shutdown_on B P.address) ++ if_shut shut.b (shutdown_on A P.address)
 
+-- the history of them
+abbrev pub begun : Description → ShutDown → List Event
+begun P shut = history_after (shutting P shut) []
+
 -- what is then shown of a recording that begins after them
 abbrev pub shown_later : Description → ShutDown → List Sighting → List Sighting
-shown_later P shut recording = shown_from P (history_after (shutting P shut) []) recording
+shown_later P shut recording = shown_from P (begun P shut) recording
 
 -- A recording that begins afresh is explained later than power-up exactly if it is shown after one of four beginnings, and so is
 -- each front of it. (Own mode code 4 is legal in every profile.) What is explained from power-up is explained later too, and what
 -- explains more explains less. And at a pause every terminal is at a quiet place: whenever a recording began, what comes after a
--- pause in it is explained later, if the whole can be explained.
+-- pause in it is explained later, if the whole can be explained; and so its first part that begins afresh.
 pub record LaterLaw : Type 0 where
   pub decided : (P : Description) (recording : List Sighting) → P.address ≤ 30 → P.legal (OwnMode mode.shutdown) ≡ true → IsRecording recording → BeginsAfresh P recording →
       IsExplainedLater P recording ↔ ((shut : ShutDown) × (shown_later P shut recording ≡ recording))
@@ -118,3 +126,5 @@ pub record LaterLaw : Type 0 where
   pub at_once : (P : Description) (recording : List Sighting) → IsExplained P recording → IsExplainedLater P recording
   pub any_time : (P : Description) (recording : List Sighting) → IsExplainedLater P recording → IsExplainedAnyTime P recording
   pub paused : (P : Description) (recording later : List Sighting) → IsExplainedAnyTime P recording → after_pause no_gaps recording ≡ Some later → IsExplainedLater P later
+  pub afresh : (P : Description) (recording later : List Sighting) → fresh_part P no_gaps recording ≡ Some later →
+      BeginsAfresh P later × (IsExplainedAnyTime P recording → IsExplainedLater P later)

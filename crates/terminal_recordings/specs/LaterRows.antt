@@ -3,7 +3,7 @@ use Rattle.std.specs.Prelude.{◌≡◌, Some, List, [], ◌∷◌, ◌++◌}
 use Rattle.bus_word.specs.declared.word.Bus.TheVariants.{A, B}
 use Rattle.bus_legal.specs.Description.{Description}
 use Rattle.terminal_rules.specs.WorkedExamples.Words.{Step, five, command, quiet, gap, idle_slot, gap_sends, steps_of}
-use Rattle.terminal_recordings.specs.Later.{IsExplainedLater, no_gaps, after_pause, ShutDown, shown_later}
+use Rattle.terminal_recordings.specs.Later.{IsExplainedLater, no_gaps, after_pause, fresh_part, ShutDown, shown_later}
 use Rattle.terminal_recordings.specs.RecordingRows.{recording_of, DoesNotExplain}
 
 unfoldable pub ExplainsLater : Description → List (List Step) → Type 0
@@ -20,6 +20,10 @@ IsNotShown P lines = (shut : ShutDown) → shown_later P shut (recording_of (ste
 abbrev pub silent_on_a : List (List Step)
 silent_on_a = quiet (command A 0x2c05) ∷ gap A ∷ idle_slot ∷ []
 
+-- the status is asked for
+abbrev pub asking : List (List Step)
+asking = quiet (command A 0x2c02) ∷ gap_sends A 0x2900 [] ∷ []
+
 -- a pause
 abbrev pub pause : List (List Step)
 pause = gap A ∷ gap A ∷ gap B ∷ gap B ∷ idle_slot ∷ []
@@ -33,7 +37,9 @@ pub record LaterRows : Type 0 where
   -- an illegal command says so whatever came before
   pub illegal : DoesNotExplainLater (five []) (quiet (command A 0x2c61) ∷ gap_sends A 0x2800 [] ∷ [])
   -- a recording that asks back: what was kept before is seen, and no beginning shows it
-  pub asks_back : ExplainsLater (five []) (quiet (command A 0x2c02) ∷ gap_sends A 0x2900 [] ∷ [])
-  pub not_shown : IsNotShown (five []) (quiet (command A 0x2c02) ∷ gap_sends A 0x2900 [] ∷ [])
+  pub asks_back : ExplainsLater (five []) asking
+  pub not_shown : IsNotShown (five []) asking
+  -- what comes after a pause is passed over where it asks back, to the next pause
+  pub skips : fresh_part (five []) no_gaps (recording_of (steps_of (pause ++ (asking ++ (pause ++ silent_on_a))))) ≡ Some (recording_of (steps_of silent_on_a))
   -- after a pause, and only after both gaps of each bus and the slot
   pub pauses : after_pause no_gaps (recording_of (steps_of (silent_on_a ++ (pause ++ silent_on_a)))) ≡ Some (recording_of (steps_of silent_on_a))

@@ -38,10 +38,14 @@ sightings_from P h (e ∷ es) = seen_then e (out P h e) (sightings_from P (e ∷
 abbrev pub sightings : Description → List Event → List Sighting
 sightings P es = sightings_from P [] es
 
--- A description explains a recording if some behaviour of the subsystem makes its terminal do what was seen: there are events
--- that can come, of which just this is seen.
+-- A description explains a recording that begins after a history if some behaviour of the subsystem makes its terminal do what was
+-- seen: there are events that can come, of which just this is seen.
+abbrev pub IsExplainedAfter : Description → List Event → List Sighting → Type 0
+IsExplainedAfter P h recording = (es : List Event) × AreProper es × (sightings_from P h es ≡ recording)
+
+-- and one that begins at power-up
 abbrev pub IsExplained : Description → List Sighting → Type 0
-IsExplained P recording = (es : List Event) × AreProper es × (sightings P es ≡ recording)
+IsExplained P recording = IsExplainedAfter P [] recording
 
 abbrev pub HasBits : Option Sending → Type 0
 HasBits None = Unit {0}

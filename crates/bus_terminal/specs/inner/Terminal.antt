@@ -26,7 +26,7 @@ use Rattle.terminal_rules.specs.Reply.{reply_bus}
 use Rattle.terminal_rules.specs.Status.{spares, adds_error}
 use Rattle.terminal_rules.specs.Turn.{is_answered, done_cell}
 use Rattle.terminal_rules.specs.Out.{Sending, sending}
-use Rattle.terminal_state.specs.Standing.{Words, word_bits, word_leaves, entry_fails, gap_leaves, gap_ends, fresh_in, starts_by}
+use Rattle.terminal_state.specs.Standing.{Standing, Words, word_bits, word_leaves, entry_fails, fails, gap_leaves, gap_ends, fresh_in, starts_by}
 use Rattle.terminal_state.specs.Message.{standing_on}
 use Rattle.terminal_state.specs.Registers.{failed_by, started, started_if, settled, reset_if}
 use Rattle.terminal_rules.specs.Steps.{resets_at_gap, dropped_if, begun_if, sent_one, resets_next}
@@ -73,6 +73,10 @@ starts_in is_legal t b w = starts_by (own_description is_legal t) w (on_bus b t.
 -- how a gap on this bus ends the message in progress
 abbrev pub ends_at_gap : {L : Type 0} → (L → Cell → Bool) → Terminal L → Bus → Ending
 ends_at_gap is_legal t b = gap_ends (own_description is_legal t) t.registers.flags.busy (standing_on b t.in_progress)
+
+-- how a word or noise ends it
+abbrev pub ends_at_entry : Option Raw → Standing → Ending
+ends_at_entry w s = fails (entry_fails w s)
 
 -- whether a reply to it begins
 abbrev pub begins_in : {L : Type 0} → Terminal L → Bus → Ending → Bool

@@ -1,19 +1,25 @@
-//! Whose status word is awaited, and which flags are set.
+//! Whose status word is awaited, which flags are set, and how an event will end the message in progress.
 use super::Terminal;
 use bus_legal::Legality;
-use bus_word::Bus;
-use terminal_rules::Flag;
-use terminal_state::{Phase, same_bus};
+use bus_word::{Bus, Raw};
+use terminal_rules::{Event, Flag};
+use terminal_state::{Ended, Phase, same_bus};
 
 impl<L: Legality> Terminal<L> {
-    ghost use Rattle.std.specs.Prelude.{◌≡◌, List};
+    ghost use Rattle.std.specs.Prelude.{◌≡◌, ℕ, List};
     ghost use Rattle.bus_legal.specs.Description.{Description};
     ghost use Rattle.terminal_rules.specs.declared.event.Event.{Event};
     ghost use Rattle.terminal_rules.specs.Flags.{flag_now};
+    ghost use Rattle.terminal_rules.specs.Ends.{ends_now, unless_ignored};
+    ghost use Rattle.terminal_rules.specs.Open.{is_on};
+    ghost use Rattle.terminal_rules.specs.Reply.{reply_bus};
+    ghost use Rattle.terminal_state.specs.Replies.{shown_reply};
     ghost use Rattle.terminal_rules.specs.Past.{past};
+    ghost use Rattle.terminal_state.specs.Ended.{ending_of};
     ghost use Rattle.terminal_state.specs.Message.{standing_on};
     ghost use Rattle.bus_terminal.specs.Stands.{StandsAt};
     ghost use Rattle.bus_terminal.specs.Waiting.{awaited, awaited_in};
+    ghost use Rattle.bus_terminal.specs.inner.Terminal.{ends_at_gap, ends_at_entry};
 
     /// Gives the address of the terminal for whose status word the message on this bus waits: that of a transfer between two
     /// terminals, of which this one receives. None where no message waits there.
@@ -46,6 +52,41 @@ impl<L: Legality> Terminal<L> {
             Flag::Busy => self.registers.flags.busy,
             Flag::Subsystem => self.registers.flags.subsystem,
             Flag::Terminal => self.registers.flags.terminal,
+        }
+    }
+
+    /// Tells how this event, which is yet to come, ends the message in progress. Of a message that is done the data words aren't told.
+    pub fn ending(&self, event: Event) -> Ended
+        ensures { (P : Description) (h : List Event) → StandsAt L.is_legal P h self.now → (ds : List ℕ) × (ending_of result ds ≡ ends_now P (past P h) event) }
+    {
+        match event {
+            Event::Gap(bus) => self.ending_at_gap(bus),
+            Event::Word(bus, word) => self.ending_at_entry(bus, Some(word)),
+            Event::Noise(bus) => self.ending_at_entry(bus, None),
+            _ => Ended::Nothing,
+        }
+    }
+
+    /// Tells the same of a gap on this bus.
+    fn ending_at_gap(&self, bus: Bus) -> Ended
+        ensures { ending_of result self.now.in_progress.words.items ≡ unless_ignored (is_on bus (reply_bus (shown_reply self.now.reply))) (ends_at_gap L.is_legal self.now bus) }
+    {
+        if self.replies_on(bus) {
+            return Ended::Nothing;
+        }
+        self.judge(self.in_progress.copy().end_at_gap(bus))
+    }
+
+    /// Tells the same of a word on this bus, or of noise.
+    fn ending_at_entry(&self, bus: Bus, word: Option<Raw>) -> Ended
+        ensures { (ds : List ℕ) → ending_of result ds ≡ unless_ignored (is_on bus (reply_bus (shown_reply self.now.reply))) (ends_at_entry word (standing_on bus self.now.in_progress)) }
+    {
+        if self.replies_on(bus) {
+            return Ended::Nothing;
+        }
+        match self.in_progress.failed_by(bus, word) {
+            Some(command) => Ended::Badly(command),
+            None => Ended::Nothing,
         }
     }
 }

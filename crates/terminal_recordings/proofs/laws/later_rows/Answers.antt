@@ -9,10 +9,10 @@ use Rattle.terminal_rules.specs.declared.event.Flag.TheVariants.{Service}
 use Rattle.terminal_rules.specs.History.{run}
 use Rattle.terminal_rules.specs.Open.{Idle}
 use Rattle.terminal_rules.specs.Past.{past, open_at, history_after}
-use Rattle.terminal_rules.specs.WorkedExamples.Words.{Step, five, command, quiet, gap_sends, steps_of}
+use Rattle.terminal_rules.specs.WorkedExamples.Words.{Step, five, command, steps_of}
 use Rattle.terminal_recordings.specs.Later.{BeginsAfresh, ShutDown, shown_later}
 use Rattle.terminal_recordings.specs.RecordingRows.{recording_of, DoesNotExplain}
-use Rattle.terminal_recordings.specs.LaterRows.{ExplainsLater, DoesNotExplainLater, IsNotShown, silent_on_a}
+use Rattle.terminal_recordings.specs.LaterRows.{asking, ExplainsLater, DoesNotExplainLater, IsNotShown, silent_on_a}
 use Rattle.terminal_recordings.proofs.Law.{explained_shown}
 use Rattle.terminal_recordings.proofs.LaterLaw.{later_law}
 use Rattle.terminal_recordings.proofs.Tests.{is_recording, is_recording_law, bits_of, same_bits, same_or}
@@ -55,21 +55,19 @@ does_not_explain P lines low l r a other x =
 -- as at power-up
 does_not_explain_at_once : (P : Description) (lines : List (List Step)) → P.address ≤ 30 → same_bits (bits_of (shown_of P (recording_of (steps_of lines)))) (bits_of (recording_of (steps_of lines))) ≡ false → DoesNotExplain P lines
 unfolding DoesNotExplain
-does_not_explain_at_once P lines low other x = same_or (bits_of (shown_of P (recording_of (steps_of lines)))) (bits_of (recording_of (steps_of lines))) (ap bits_of (explained_shown P low (recording_of (steps_of lines)) x)) other
+does_not_explain_at_once P lines low other x = same_or (bits_of (shown_of P (recording_of (steps_of lines)))) (bits_of (recording_of (steps_of lines))) (ap bits_of (explained_shown P low [] (recording_of (steps_of lines)) x)) other
 
 -- of one that asks back: a service request stood while an illegal command was answered
 abbrev earlier : List Event
 earlier = FlagIs Service true ∷ command A 0x2c05 ∷ Gap A ∷ Slot ∷ []
 
-asks_back : ExplainsLater (five []) (quiet (command A 0x2c02) ∷ gap_sends A 0x2900 [] ∷ [])
+asks_back : ExplainsLater (five []) (asking)
 unfolding ExplainsLater
 asks_back = (
   earlier,
   (tt, (omega arith, (tt, (tt, tt)))),
   record { message = no_message; run = no_run; reply = refl },
-  command A 0x2c02 ∷ Gap A ∷ Slot ∷ [],
-  (omega arith, (tt, (tt, tt))),
-  refl,
+  (command A 0x2c02 ∷ Gap A ∷ Slot ∷ [], (omega arith, (tt, (tt, tt))), refl),
 )
   where
     no_message : (b : Bus) → open_at (five []) (history_after earlier []) b ≡ Idle
@@ -88,5 +86,6 @@ returns c = record {
   illegal = does_not_explain (five []) _ (omega arith) refl refl refl (record { none = refl; on_a = refl; on_b = refl; both = refl });
   asks_back = asks_back;
   not_shown = not_shown (five []) _ (record { none = refl; on_a = refl; on_b = refl; both = refl });
+  skips = refl;
   pauses = refl;
 }

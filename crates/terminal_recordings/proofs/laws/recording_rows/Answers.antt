@@ -10,11 +10,11 @@ use Rattle.terminal_recordings.proofs.laws.recording_rows.Goals as goal
 
 explains : (P : Description) (lines : List (List Step)) → is_recording (recording_of (steps_of lines)) ≡ true → shown_of P (recording_of (steps_of lines)) ≡ recording_of (steps_of lines) → Explains P lines
 unfolding Explains
-explains P lines r e = told_explains P (recording_of (steps_of lines)) (recording_of (steps_of lines)) (is_recording_law (recording_of (steps_of lines)) r) e
+explains P lines r e = told_explains P [] (recording_of (steps_of lines)) (recording_of (steps_of lines)) (is_recording_law (recording_of (steps_of lines)) r) e
 
 does_not_explain : (P : Description) (lines : List (List Step)) → P.address ≤ 30 → same_bits (bits_of (shown_of P (recording_of (steps_of lines)))) (bits_of (recording_of (steps_of lines))) ≡ false → DoesNotExplain P lines
 unfolding DoesNotExplain
-does_not_explain P lines low other x = same_or (bits_of (shown_of P (recording_of (steps_of lines)))) (bits_of (recording_of (steps_of lines))) (ap bits_of (explained_shown P low (recording_of (steps_of lines)) x)) other
+does_not_explain P lines low other x = same_or (bits_of (shown_of P (recording_of (steps_of lines)))) (bits_of (recording_of (steps_of lines))) (ap bits_of (explained_shown P low [] (recording_of (steps_of lines)) x)) other
 
 pub returns : goal.returns
 returns c = record {
