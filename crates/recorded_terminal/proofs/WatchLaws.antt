@@ -1,5 +1,5 @@
 -- Laws of a recording that is watched.
-use Rattle.std.proofs.Common.{◌≡◌, ◌∙◌, ℕ, zero, suc, ◌<◌, ◌≤◌, Bool, Option, Some, None, is_some, true, false, List, [], ◌∷◌, ◌++◌, IfSome, ◌↔◌, length, take, drop, get_or, refl, sym, ap, subst, append_assoc, append-nil, length-append, take-append-drop}
+use Rattle.std.proofs.Common.{◌≡◌, ◌∙◌, ℕ, zero, suc, ◌+◌, ◌<◌, ◌≤◌, ◌^◌, arith, Bool, Option, Some, None, is_some, true, false, List, [], ◌∷◌, ◌++◌, IfSome, ◌↔◌, length, take, drop, get_or, refl, sym, ap, subst, append_assoc, append-nil, length-append, take-append-drop}
 use Rattle.std.proofs.Math.Seq.{drop-cons}
 use Rattle.bus_word.specs.declared.cell.Cell.{Cell}
 use Rattle.bus_legal.specs.Description.{Description}
@@ -7,8 +7,8 @@ use Rattle.bus_terminal.specs.declared.answer.Sent.{Sent}
 use Rattle.terminal_rules.specs.declared.event.Event.{Event}
 use Rattle.terminal_rules.specs.Past.{history_after}
 use Rattle.terminal_rules.specs.Out.{out, sent_in}
-use Rattle.terminal_recordings.specs.Recordings.{Sighting, IsExplained, IsRecording}
-use Rattle.terminal_recordings.specs.Completion.{status_sent, next_status, shown_from, shown_of}
+use Rattle.terminal_recordings.specs.Recordings.{Sighting, IsExplainedAfter, IsRecording}
+use Rattle.terminal_recordings.specs.Completion.{status_sent, next_status, shown_from}
 use Rattle.terminal_recordings.proofs.Tests.{is_sighting}
 use Rattle.terminal_recordings.proofs.Told.{shown_step}
 use Rattle.terminal_recordings.proofs.Law.{recording_law, told_explains}
@@ -27,7 +27,7 @@ take_front : (xs ys : List Sighting) → take (length xs) (xs ++ ys) ≡ xs
 take_front [] ys = refl
 take_front (x ∷ xs) ys = ap (λ l. x ∷ l) (take_front xs ys)
 
-seen_append : (ms ns : List Marked) → seen_in (ms ++ ns) ≡ seen_in ms ++ seen_in ns
+pub seen_append : (ms ns : List Marked) → seen_in (ms ++ ns) ≡ seen_in ms ++ seen_in ns
 seen_append [] ns = refl
 seen_append (m ∷ ms) ns = ap (λ l. shown_sighting m.sighting ∷ l) (seen_append ms ns)
 
@@ -96,6 +96,12 @@ cut_at [] (suc n) x e rest = absurd (cc)
 cut_at (m ∷ ms) zero x e rest = let same : m ≡ x = cc in λ j. shown_sighting (sym same j).sighting ∷ rest
 cut_at (m ∷ ms) (suc n) x e rest = ap (λ l. shown_sighting m.sighting ∷ l) (cut_at ms n x e rest)
 
+-- so many are taken
+pub taken : (n : ℕ) (ms : List Marked) → n < length ms → length (take n ms) ≡ n
+taken zero ms m = refl
+taken (suc n) [] m = absurd (omega arith)
+taken (suc n) (m ∷ ms) less = ap suc (taken n ms (omega arith))
+
 -- the next sighting, by its place
 pub cut_of : (ms : List Marked) (n : ℕ) (x : Marked) → n < length ms → x ≡ get_or ms n x → drop n ms ≡ x ∷ drop (suc n) ms
 cut_of ms n x m e = drop-cons ms n x m ∙ ap (λ y. y ∷ drop (suc n) ms) (sym e)
@@ -154,202 +160,211 @@ so_far_more is_legal P h status ms n m x sent f g e cut s sends follows same =
 pub differs_at : {L : Type 0} (is_legal : L → Cell → Bool) (P : Description) (h : List Event) (status : Option ℕ) (ms : List Marked) (n : ℕ) (x : Marked) (sent : Option Sent) (f g : Follower L)
     → drop n ms ≡ x ∷ drop (suc n) ms → (s : SoFar is_legal P h status ms n f)
     → word_shown sent ≡ sent_in (out P (history_after (told_by P s.history status (word_shown x.sighting.sent)) s.history) x.sighting.event) → (sent ≡ x.sighting.sent → ⊥)
-    → Followed is_legal P h status ms g (Some (record { marked = x; sent = sent }))
-differs_at is_legal P h status ms n x sent f g cut s sends differs = (
+    → (before number : ℕ) → length (take n ms) ≡ n → number ≡ before + n → Followed is_legal P h before status ms g (Some (record { marked = x; number = number; sent = sent }))
+differs_at is_legal P h status ms n x sent f g cut s sends differs before number long is = (
   take n ms,
   drop (suc n) ms,
   sym (take-append-drop n ms) ∙ ap (λ l. take n ms ++ l) cut,
   differs,
-  λ later before. (
+  is ∙ ap (λ k. before + k) (sym long),
+  λ later are. (
     shown_from P (x.sighting.event ∷ history_after (told_by P s.history status (word_shown x.sighting.sent)) s.history) (seen_in (drop (suc n) ms) ++ later),
-    shown_next is_legal P h status ms n x sent f cut s sends later before,
+    shown_next is_legal P h status ms n x sent f cut s sends later are,
   ),
 )
 
 -- ---- a watch
 
 -- another word is sent than was seen, where all before it is shown
-first_here : (P : Description) → P.address ≤ 30 → (ms front rest : List Marked) (it : Unexplained) (others : List Sighting) → ms ≡ front ++ it.marked ∷ rest
-    → (it.sent ≡ it.marked.sighting.sent → ⊥) → shown_of P (seen_in ms) ≡ seen_in front ++ sighting_instead it ∷ others → IsUnexplainedAt P ms it
-first_here P low ms front rest it others all differs shows =
+first_here : (P : Description) (h : List Event) → P.address ≤ 30 → (ms front rest : List Marked) (it : Unexplained) (others : List Sighting) → ms ≡ front ++ it.marked ∷ rest → it.number ≡ length front
+    → (it.sent ≡ it.marked.sighting.sent → ⊥) → shown_from P h (seen_in ms) ≡ seen_in front ++ sighting_instead it ∷ others → IsUnexplainedAt P h ms it
+first_here P h low ms front rest it others all number differs shows =
     let xs : List Sighting = seen_in ms in
     let f : List Sighting = seen_in front in
     let s : Sighting = shown_sighting it.marked.sighting in
     let o : Sighting = sighting_instead it in
-    let told : IsExplained P (f ++ o ∷ others) = told_explains P xs (f ++ o ∷ others) (are_recording ms) shows in
+    let told : IsExplainedAfter P h (f ++ o ∷ others) = told_explains P h xs (f ++ o ∷ others) (are_recording ms) shows in
     let cut : xs ≡ (f ++ s ∷ []) ++ seen_in rest = ap seen_in all ∙ seen_append front (it.marked ∷ rest) ∙ sym (append_assoc f (s ∷ []) (seen_in rest)) in
     let n : ℕ = length (f ++ s ∷ []) in
     let front_is : take n xs ≡ f ++ s ∷ [] = ap (take n) cut ∙ take_front (f ++ s ∷ []) (seen_in rest) in
     let as_long : n ≡ length (f ++ o ∷ []) = length-append f (s ∷ []) ∙ sym (length-append f (o ∷ [])) in
-    let shown_is : take n (shown_of P xs) ≡ f ++ o ∷ [] =
+    let shown_is : take n (shown_from P h xs) ≡ f ++ o ∷ [] =
     ap (take n) (shows ∙ sym (append_assoc f (o ∷ []) others)) ∙ ap (λ k. take k ((f ++ o ∷ []) ++ others)) as_long ∙ take_front (f ++ o ∷ []) others in
     record {
       before = front;
       later = rest;
       all = all;
-      explained = recording_law.fronts P f (o ∷ others) told;
+      number = number;
+      explained = recording_law.fronts P h f (o ∷ others) told;
       unexplained = λ x.
-          let shown : take n (shown_of P xs) ≡ take n xs =
-          (recording_law.first P xs n low (are_recording ms)).0 (subst (λ (l : List Sighting). IsExplained P l) (sym front_is) x) in
+          let shown : take n (shown_from P h xs) ≡ take n xs =
+          (recording_law.first P h xs n low (are_recording ms)).0 (subst (λ (l : List Sighting). IsExplainedAfter P h l) (sym front_is) x) in
           let same : o ≡ s = last_same f o s (sym shown_is ∙ shown ∙ front_is) in
           differs (same_sent it.sent it.marked.sighting.sent (ap (λ z. z.sent) same));
-      possible = recording_law.fronts P (f ++ o ∷ []) others (subst (λ (l : List Sighting). IsExplained P l) (sym (append_assoc f (o ∷ []) others)) told);
+      possible = recording_law.fronts P h (f ++ o ∷ []) others (subst (λ (l : List Sighting). IsExplainedAfter P h l) (sym (append_assoc f (o ∷ []) others)) told);
     }
 
 -- what was found stays
-found_more : (P : Description) (ms : List Marked) (m : Marked) (it : Unexplained) → IsUnexplainedAt P ms it → IsUnexplainedAt P (ms ++ m ∷ []) it
-found_more P ms m it i = record {
+found_more : (P : Description) (h : List Event) (ms : List Marked) (m : Marked) (it : Unexplained) → IsUnexplainedAt P h ms it → IsUnexplainedAt P h (ms ++ m ∷ []) it
+found_more P h ms m it i = record {
   before = i.before;
   later = i.later ++ m ∷ [];
   all = ap (λ l. l ++ m ∷ []) i.all ∙ append_assoc i.before (it.marked ∷ i.later) (m ∷ []);
+  number = i.number;
   explained = i.explained;
   unexplained = i.unexplained;
   possible = i.possible;
 }
 
 -- one sighting more waits
-waits : {L : Type 0} (is_legal : L → Cell → Bool) (P : Description) (ms : List Marked) (m : Marked) (w : Watch L) (i : IsFollowing is_legal P ms w) (ws : List Marked)
-    → ws ≡ w.waiting.items ++ m ∷ [] → (later : List Sighting) → shown_of P (seen_in (ms ++ m ∷ []) ++ later) ≡ seen_in i.followed ++ shown_from P i.history (seen_in ws ++ later)
-waits is_legal P ms m w i ws grown later =
+waits : {L : Type 0} (is_legal : L → Cell → Bool) (P : Description) (h : List Event) (ms : List Marked) (m : Marked) (w : Watch L) (i : IsFollowing is_legal P h ms w) (ws : List Marked)
+    → ws ≡ w.waiting.items ++ m ∷ [] → (later : List Sighting) → shown_from P h (seen_in (ms ++ m ∷ []) ++ later) ≡ seen_in i.followed ++ shown_from P i.history (seen_in ws ++ later)
+waits is_legal P h ms m w i ws grown later =
     let s : Sighting = shown_sighting m.sighting in
-    ap (λ l. shown_of P (l ++ later)) (seen_append ms (m ∷ []))
-    ∙ ap (shown_of P) (append_assoc (seen_in ms) (s ∷ []) later)
+    ap (λ l. shown_from P h (l ++ later)) (seen_append ms (m ∷ []))
+    ∙ ap (shown_from P h) (append_assoc (seen_in ms) (s ∷ []) later)
     ∙ i.shown (s ∷ later)
     ∙ ap (λ l. seen_in i.followed ++ shown_from P i.history l) (sym (append_assoc (seen_in w.waiting.items) (s ∷ []) later))
     ∙ ap (λ l. seen_in i.followed ++ shown_from P i.history (l ++ later)) (sym (seen_append w.waiting.items (m ∷ [])) ∙ ap seen_in (sym grown))
 
-all_more : {L : Type 0} (is_legal : L → Cell → Bool) (P : Description) (ms : List Marked) (m : Marked) (w : Watch L) (i : IsFollowing is_legal P ms w) (ws : List Marked)
+all_more : {L : Type 0} (is_legal : L → Cell → Bool) (P : Description) (h : List Event) (ms : List Marked) (m : Marked) (w : Watch L) (i : IsFollowing is_legal P h ms w) (ws : List Marked)
     → ws ≡ w.waiting.items ++ m ∷ [] → ms ++ m ∷ [] ≡ i.followed ++ ws
-all_more is_legal P ms m w i ws grown = ap (λ l. l ++ m ∷ []) i.all ∙ append_assoc i.followed w.waiting.items (m ∷ []) ∙ ap (λ l. i.followed ++ l) (sym grown)
+all_more is_legal P h ms m w i ws grown = ap (λ l. l ++ m ∷ []) i.all ∙ append_assoc i.followed w.waiting.items (m ∷ []) ∙ ap (λ l. i.followed ++ l) (sym grown)
 
-waits_more : {L : Type 0} (is_legal : L → Cell → Bool) (P : Description) (ms : List Marked) (m : Marked) (w v : Watch L) → IsFollowing is_legal P ms w
-    → v.follower ≡ w.follower → v.waiting.items ≡ w.waiting.items ++ m ∷ [] → status_sent (word_shown m.sighting.sent) ≡ None → IsFollowing is_legal P (ms ++ m ∷ []) v
-waits_more is_legal P ms m w v i same grown none = record {
+waits_more : {L : Type 0} (is_legal : L → Cell → Bool) (P : Description) (h : List Event) (ms : List Marked) (m : Marked) (w v : Watch L) → IsFollowing is_legal P h ms w
+    → v.follower ≡ w.follower → v.followed ≡ w.followed → v.waiting.items ≡ w.waiting.items ++ m ∷ [] → v.followed + length v.waiting.items < 2 ^ 64
+    → status_sent (word_shown m.sighting.sent) ≡ None → IsFollowing is_legal P h (ms ++ m ∷ []) v
+waits_more is_legal P h ms m w v i same still grown bound none = record {
   followed = i.followed;
   history = i.history;
   follows = subst (λ f. FollowsAt is_legal P i.history f) (sym same) i.follows;
-  all = all_more is_legal P ms m w i v.waiting.items grown;
-  shown = waits is_legal P ms m w i v.waiting.items grown;
+  all = all_more is_legal P h ms m w i v.waiting.items grown;
+  shown = waits is_legal P h ms m w i v.waiting.items grown;
   none = ap (λ l. next_status (seen_in l)) grown ∙ none_more w.waiting.items m i.none none;
+  counted = still ∙ i.counted;
+  bound = bound;
 }
 
 -- those that wait are followed to a status word
-follows_more : {L : Type 0} (is_legal : L → Cell → Bool) (P : Description) (ms : List Marked) (m : Marked) (w v : Watch L) (ws : List Marked) (bits : ℕ) (i : IsFollowing is_legal P ms w)
+follows_more : {L : Type 0} (is_legal : L → Cell → Bool) (P : Description) (h : List Event) (ms : List Marked) (m : Marked) (w v : Watch L) (ws : List Marked) (bits : ℕ) (i : IsFollowing is_legal P h ms w)
     → ws ≡ w.waiting.items ++ m ∷ [] → status_sent (word_shown m.sighting.sent) ≡ Some bits → v.waiting.items ≡ []
-    → Followed is_legal P i.history (Some bits) ws v.follower None → IsFollowing is_legal P (ms ++ m ∷ []) v
-follows_more is_legal P ms m w v ws bits i grown is empty (k, follows, shown) =
+    → v.followed ≡ w.followed + length ws → v.followed < 2 ^ 64 → Followed is_legal P i.history w.followed (Some bits) ws v.follower None → IsFollowing is_legal P h (ms ++ m ∷ []) v
+follows_more is_legal P h ms m w v ws bits i grown is empty seen bound (k, follows, shown) =
     let before : (later : List Sighting) → AreBefore (Some bits) ws later =
     λ later. subst (λ (l : List Marked). AreBefore (Some bits) l later) (sym grown) (before_status w.waiting.items m bits later i.none is) in
-    let all : ms ++ m ∷ [] ≡ i.followed ++ ws = all_more is_legal P ms m w i ws grown in
+    let all : ms ++ m ∷ [] ≡ i.followed ++ ws = all_more is_legal P h ms m w i ws grown in
     record {
       followed = ms ++ m ∷ [];
       history = k;
       follows = follows;
       all = sym (append-nil (ms ++ m ∷ [])) ∙ ap (λ l. (ms ++ m ∷ []) ++ l) (sym empty);
       shown = λ later.
-          waits is_legal P ms m w i ws grown later
+          waits is_legal P h ms m w i ws grown later
           ∙ ap (λ l. seen_in i.followed ++ l) (shown later (before later))
           ∙ sym (append_assoc (seen_in i.followed) (seen_in ws) (shown_from P k later))
           ∙ ap (λ l. l ++ shown_from P k later) (sym (seen_append i.followed ws) ∙ ap seen_in (sym all))
           ∙ ap (λ l. seen_in (ms ++ m ∷ []) ++ shown_from P k (seen_in l ++ later)) (sym empty);
       none = ap (λ l. next_status (seen_in l)) empty;
+      counted = seen ∙ ap (λ n. n + length ws) i.counted ∙ sym (length-append i.followed ws) ∙ ap length (sym all);
+      bound = subst (λ l. v.followed + length l < 2 ^ 64) (sym empty) (omega arith);
     }
 
 -- or one of them is found
-found_in : {L : Type 0} (is_legal : L → Cell → Bool) (P : Description) → P.address ≤ 30 → (h : List Event) (status : Option ℕ) (ms followed ws : List Marked) (f : Follower L) (it : Unexplained)
-    → ms ≡ followed ++ ws → AreBefore status ws [] → shown_of P (seen_in ms) ≡ seen_in followed ++ shown_from P h (seen_in ws ++ [])
-    → Followed is_legal P h status ws f (Some it) → IsUnexplainedAt P ms it
-found_in is_legal P low h status ms followed ws f it all before shows (front, rest, cut, differs, shown) =
+found_in : {L : Type 0} (is_legal : L → Cell → Bool) (P : Description) (h : List Event) → P.address ≤ 30 → (k : List Event) (n : ℕ) (status : Option ℕ) (ms followed ws : List Marked) (f : Follower L) (it : Unexplained)
+    → ms ≡ followed ++ ws → AreBefore status ws [] → shown_from P h (seen_in ms) ≡ seen_in followed ++ shown_from P k (seen_in ws ++ [])
+    → n ≡ length followed → Followed is_legal P k n status ws f (Some it) → IsUnexplainedAt P h ms it
+found_in is_legal P h low k n status ms followed ws f it all before shows counted (front, rest, cut, differs, number, shown) =
     let s = shown [] before in
-    first_here P low ms (followed ++ front) rest it s.0
+    first_here P h low ms (followed ++ front) rest it s.0
     (all ∙ ap (λ l. followed ++ l) cut ∙ sym (append_assoc followed front (it.marked ∷ rest)))
+    (number ∙ ap (λ i. i + length front) counted ∙ sym (length-append followed front))
     differs
     (shows ∙ ap (λ l. seen_in followed ++ l) s.1 ∙ sym (append_assoc (seen_in followed) (seen_in front) (sighting_instead it ∷ s.0))
     ∙ ap (λ l. l ++ sighting_instead it ∷ s.0) (sym (seen_append followed front)))
 
-found_now : {L : Type 0} (is_legal : L → Cell → Bool) (P : Description) → P.address ≤ 30 → (ms : List Marked) (m : Marked) (w : Watch L) (ws : List Marked) (bits : ℕ) (f : Follower L) (it : Unexplained)
-    → (i : IsFollowing is_legal P ms w) → ws ≡ w.waiting.items ++ m ∷ [] → status_sent (word_shown m.sighting.sent) ≡ Some bits
-    → Followed is_legal P i.history (Some bits) ws f (Some it) → IsUnexplainedAt P (ms ++ m ∷ []) it
-found_now is_legal P low ms m w ws bits f it i grown is found =
-    found_in is_legal P low i.history (Some bits) (ms ++ m ∷ []) i.followed ws f it (all_more is_legal P ms m w i ws grown)
+found_now : {L : Type 0} (is_legal : L → Cell → Bool) (P : Description) (h : List Event) → P.address ≤ 30 → (ms : List Marked) (m : Marked) (w : Watch L) (ws : List Marked) (bits : ℕ) (f : Follower L) (it : Unexplained)
+    → (i : IsFollowing is_legal P h ms w) → ws ≡ w.waiting.items ++ m ∷ [] → status_sent (word_shown m.sighting.sent) ≡ Some bits
+    → Followed is_legal P i.history w.followed (Some bits) ws f (Some it) → IsUnexplainedAt P h (ms ++ m ∷ []) it
+found_now is_legal P h low ms m w ws bits f it i grown is found =
+    found_in is_legal P h low i.history w.followed (Some bits) (ms ++ m ∷ []) i.followed ws f it (all_more is_legal P h ms m w i ws grown)
     (subst (λ (l : List Marked). AreBefore (Some bits) l []) (sym grown) (before_status w.waiting.items m bits [] i.none is))
-    (ap (shown_of P) (sym (append-nil (seen_in (ms ++ m ∷ [])))) ∙ waits is_legal P ms m w i ws grown []) found
+    (ap (shown_from P h) (sym (append-nil (seen_in (ms ++ m ∷ [])))) ∙ waits is_legal P h ms m w i ws grown []) i.counted found
 
-found_last : {L : Type 0} (is_legal : L → Cell → Bool) (P : Description) → P.address ≤ 30 → (ms : List Marked) (w : Watch L) (f : Follower L) (it : Unexplained)
-    → (i : IsFollowing is_legal P ms w) → Followed is_legal P i.history None w.waiting.items f (Some it) → IsUnexplainedAt P ms it
-found_last is_legal P low ms w f it i found =
-    found_in is_legal P low i.history None ms i.followed w.waiting.items f it i.all (before_end w.waiting.items i.none)
-    (ap (shown_of P) (sym (append-nil (seen_in ms))) ∙ i.shown []) found
+found_last : {L : Type 0} (is_legal : L → Cell → Bool) (P : Description) (h : List Event) → P.address ≤ 30 → (ms : List Marked) (w : Watch L) (f : Follower L) (it : Unexplained)
+    → (i : IsFollowing is_legal P h ms w) → Followed is_legal P i.history w.followed None w.waiting.items f (Some it) → IsUnexplainedAt P h ms it
+found_last is_legal P h low ms w f it i found =
+    found_in is_legal P h low i.history w.followed None ms i.followed w.waiting.items f it i.all (before_end w.waiting.items i.none)
+    (ap (shown_from P h) (sym (append-nil (seen_in ms))) ∙ i.shown []) i.counted found
 
 -- all is explained
-whole_explained : {L : Type 0} (is_legal : L → Cell → Bool) (P : Description) → P.address ≤ 30 → (ms : List Marked) (w : Watch L) (f : Follower L)
-    → (i : IsFollowing is_legal P ms w) → Followed is_legal P i.history None w.waiting.items f None → IsExplained P (seen_in ms)
-whole_explained is_legal P low ms w f i (k, follows, shown) =
-    (recording_law.decided P (seen_in ms) low (are_recording ms)).1
-    (ap (shown_of P) (sym (append-nil (seen_in ms))) ∙ i.shown []
+whole_explained : {L : Type 0} (is_legal : L → Cell → Bool) (P : Description) (h : List Event) → P.address ≤ 30 → (ms : List Marked) (w : Watch L) (f : Follower L)
+    → (i : IsFollowing is_legal P h ms w) → Followed is_legal P i.history w.followed None w.waiting.items f None → IsExplainedAfter P h (seen_in ms)
+whole_explained is_legal P h low ms w f i (k, follows, shown) =
+    (recording_law.decided P h (seen_in ms) low (are_recording ms)).1
+    (ap (shown_from P h) (sym (append-nil (seen_in ms))) ∙ i.shown []
     ∙ ap (λ l. seen_in i.followed ++ l) (shown [] (before_end w.waiting.items i.none) ∙ append-nil (seen_in w.waiting.items))
     ∙ sym (seen_append i.followed w.waiting.items) ∙ ap seen_in (sym i.all))
 
 -- what is found is not
-pub found_unexplained : (P : Description) (ms : List Marked) (it : Unexplained) → IsUnexplainedAt P ms it → IsExplained P (seen_in ms) → ⊥
-found_unexplained P ms it i x =
+pub found_unexplained : (P : Description) (h : List Event) (ms : List Marked) (it : Unexplained) → IsUnexplainedAt P h ms it → IsExplainedAfter P h (seen_in ms) → ⊥
+found_unexplained P h ms it i x =
     let s : Sighting = shown_sighting it.marked.sighting in
     let cut : seen_in ms ≡ (seen_in i.before ++ s ∷ []) ++ seen_in i.later =
     ap seen_in i.all ∙ seen_append i.before (it.marked ∷ i.later) ∙ sym (append_assoc (seen_in i.before) (s ∷ []) (seen_in i.later)) in
-    i.unexplained (recording_law.fronts P (seen_in i.before ++ s ∷ []) (seen_in i.later) (subst (λ (l : List Sighting). IsExplained P l) cut x))
+    i.unexplained (recording_law.fronts P h (seen_in i.before ++ s ∷ []) (seen_in i.later) (subst (λ (l : List Sighting). IsExplainedAfter P h l) cut x))
 
 -- so is decided what was seen
-pub ended : {L : Type 0} (is_legal : L → Cell → Bool) (P : Description) → P.address ≤ 30 → (ms : List Marked) (w : Watch L) (f : Follower L) (result : Option Unexplained)
-    → (i : IsFollowing is_legal P ms w) → Followed is_legal P i.history None w.waiting.items f result → (result ≡ None) ↔ IsExplained P (seen_in ms)
-ended is_legal P low ms w f None i followed = (λ e. whole_explained is_legal P low ms w f i followed, λ x. refl)
-ended is_legal P low ms w f (Some it) i followed = (
+pub ended : {L : Type 0} (is_legal : L → Cell → Bool) (P : Description) (h : List Event) → P.address ≤ 30 → (ms : List Marked) (w : Watch L) (f : Follower L) (result : Option Unexplained)
+    → (i : IsFollowing is_legal P h ms w) → Followed is_legal P i.history w.followed None w.waiting.items f result → (result ≡ None) ↔ IsExplainedAfter P h (seen_in ms)
+ended is_legal P h low ms w f None i followed = (λ e. whole_explained is_legal P h low ms w f i followed, λ x. refl)
+ended is_legal P h low ms w f (Some it) i followed = (
   λ e. absurd (cc),
-  λ x. absurd (found_unexplained P ms it (found_last is_legal P low ms w f it i followed) x),
+  λ x. absurd (found_unexplained P h ms it (found_last is_legal P h low ms w f it i followed) x),
 )
 
-pub ended_first : {L : Type 0} (is_legal : L → Cell → Bool) (P : Description) → P.address ≤ 30 → (ms : List Marked) (w : Watch L) (f : Follower L) (result : Option Unexplained)
-    → (i : IsFollowing is_legal P ms w) → Followed is_legal P i.history None w.waiting.items f result → IfSome result (IsUnexplainedAt P ms)
-ended_first is_legal P low ms w f None i followed = tt
-ended_first is_legal P low ms w f (Some it) i followed = found_last is_legal P low ms w f it i followed
+pub ended_first : {L : Type 0} (is_legal : L → Cell → Bool) (P : Description) (h : List Event) → P.address ≤ 30 → (ms : List Marked) (w : Watch L) (f : Follower L) (result : Option Unexplained)
+    → (i : IsFollowing is_legal P h ms w) → Followed is_legal P i.history w.followed None w.waiting.items f result → IfSome result (IsUnexplainedAt P h ms)
+ended_first is_legal P h low ms w f None i followed = tt
+ended_first is_legal P h low ms w f (Some it) i followed = found_last is_legal P h low ms w f it i followed
 
 -- one sighting more was seen, with a status word
-seen_status : {L : Type 0} (is_legal : L → Cell → Bool) (P : Description) → P.address ≤ 30 → (ms : List Marked) (m : Marked) (w v : Watch L) (ws : List Marked) (bits : ℕ)
-    → (i : IsFollowing is_legal P ms w) → ws ≡ w.waiting.items ++ m ∷ [] → status_sent (word_shown m.sighting.sent) ≡ Some bits → v.waiting.items ≡ []
-    → Followed is_legal P i.history (Some bits) ws v.follower v.first → WatchesBy is_legal P (ms ++ m ∷ []) v v.first
-seen_status is_legal P low ms m w v ws bits i grown is empty followed = case v.first followed
+seen_status : {L : Type 0} (is_legal : L → Cell → Bool) (P : Description) (h : List Event) → P.address ≤ 30 → (ms : List Marked) (m : Marked) (w v : Watch L) (ws : List Marked) (bits : ℕ)
+    → (i : IsFollowing is_legal P h ms w) → ws ≡ w.waiting.items ++ m ∷ [] → status_sent (word_shown m.sighting.sent) ≡ Some bits → v.waiting.items ≡ []
+    → v.followed ≡ w.followed + length ws → v.followed < 2 ^ 64 → Followed is_legal P i.history w.followed (Some bits) ws v.follower v.first → WatchesBy is_legal P h (ms ++ m ∷ []) v v.first
+seen_status is_legal P h low ms m w v ws bits i grown is empty seen bound followed = case v.first followed
   where
-    case : (o : Option Unexplained) → Followed is_legal P i.history (Some bits) ws v.follower o → WatchesBy is_legal P (ms ++ m ∷ []) v o
-    case None f = follows_more is_legal P ms m w v ws bits i grown is empty f
-    case (Some it) f = found_now is_legal P low ms m w ws bits v.follower it i grown is f
+    case : (o : Option Unexplained) → Followed is_legal P i.history w.followed (Some bits) ws v.follower o → WatchesBy is_legal P h (ms ++ m ∷ []) v o
+    case None f = follows_more is_legal P h ms m w v ws bits i grown is empty seen bound f
+    case (Some it) f = found_now is_legal P h low ms m w ws bits v.follower it i grown is f
 
 -- ---- one sighting more
 
-pub found_stays : {L : Type 0} (is_legal : L → Cell → Bool) (P : Description) (ms : List Marked) (m : Marked) (w v : Watch L) (o : Option Unexplained) → is_some o ≡ true
-    → WatchesBy is_legal P ms w o → WatchesBy is_legal P (ms ++ m ∷ []) v o
-found_stays is_legal P ms m w v None some watches = absurd (cc)
-found_stays is_legal P ms m w v (Some it) some watches = found_more P ms m it watches
+pub found_stays : {L : Type 0} (is_legal : L → Cell → Bool) (P : Description) (h : List Event) (ms : List Marked) (m : Marked) (w v : Watch L) (o : Option Unexplained) → is_some o ≡ true
+    → WatchesBy is_legal P h ms w o → WatchesBy is_legal P h (ms ++ m ∷ []) v o
+found_stays is_legal P h ms m w v None some watches = absurd (cc)
+found_stays is_legal P h ms m w v (Some it) some watches = found_more P h ms m it watches
 
-pub follows_still : {L : Type 0} (is_legal : L → Cell → Bool) (P : Description) (ms : List Marked) (w : Watch L) (o : Option Unexplained) → is_some o ≡ false
-    → WatchesBy is_legal P ms w o → IsFollowing is_legal P ms w
-follows_still is_legal P ms w None none watches = watches
-follows_still is_legal P ms w (Some it) none watches = absurd (cc)
+pub follows_still : {L : Type 0} (is_legal : L → Cell → Bool) (P : Description) (h : List Event) (ms : List Marked) (w : Watch L) (o : Option Unexplained) → is_some o ≡ false
+    → WatchesBy is_legal P h ms w o → IsFollowing is_legal P h ms w
+follows_still is_legal P h ms w None none watches = watches
+follows_still is_legal P h ms w (Some it) none watches = absurd (cc)
 
 none_of : (o : Option Unexplained) → is_some o ≡ false → None ≡ o
 none_of None none = refl
 none_of (Some it) none = absurd (cc)
 
-pub waits_on : {L : Type 0} (is_legal : L → Cell → Bool) (P : Description) (ms : List Marked) (m : Marked) (w v : Watch L) (status : Option ℕ) → is_some w.first ≡ false
-    → WatchesBy is_legal P ms w w.first → status ≡ status_sent (word_shown m.sighting.sent) → is_some status ≡ false
-    → v.follower ≡ w.follower → v.waiting.items ≡ w.waiting.items ++ m ∷ [] → WatchesBy is_legal P (ms ++ m ∷ []) v w.first
-waits_on is_legal P ms m w v None none watches is silent same grown =
-    subst (λ o. WatchesBy is_legal P (ms ++ m ∷ []) v o) (none_of w.first none) (waits_more is_legal P ms m w v (follows_still is_legal P ms w w.first none watches) same grown (sym is))
-waits_on is_legal P ms m w v (Some bits) none watches is silent same grown = absurd (cc)
+pub waits_on : {L : Type 0} (is_legal : L → Cell → Bool) (P : Description) (h : List Event) (ms : List Marked) (m : Marked) (w v : Watch L) (status : Option ℕ) → is_some w.first ≡ false
+    → WatchesBy is_legal P h ms w w.first → status ≡ status_sent (word_shown m.sighting.sent) → is_some status ≡ false
+    → v.follower ≡ w.follower → v.followed ≡ w.followed → v.waiting.items ≡ w.waiting.items ++ m ∷ [] → v.followed + length v.waiting.items < 2 ^ 64 → WatchesBy is_legal P h (ms ++ m ∷ []) v w.first
+waits_on is_legal P h ms m w v None none watches is silent same still grown bound =
+    subst (λ o. WatchesBy is_legal P h (ms ++ m ∷ []) v o) (none_of w.first none) (waits_more is_legal P h ms m w v (follows_still is_legal P h ms w w.first none watches) same still grown bound (sym is))
+waits_on is_legal P h ms m w v (Some bits) none watches is silent same still grown bound = absurd (cc)
 
-pub sees_status : {L : Type 0} (is_legal : L → Cell → Bool) (P : Description) → P.address ≤ 30 → (ms : List Marked) (m : Marked) (w v : Watch L) (ws : List Marked) (status : Option ℕ)
-    → is_some w.first ≡ false → WatchesBy is_legal P ms w w.first → status ≡ status_sent (word_shown m.sighting.sent) → is_some status ≡ true
+pub sees_status : {L : Type 0} (is_legal : L → Cell → Bool) (P : Description) (h : List Event) → P.address ≤ 30 → (ms : List Marked) (m : Marked) (w v : Watch L) (ws : List Marked) (status : Option ℕ)
+    → is_some w.first ≡ false → WatchesBy is_legal P h ms w w.first → status ≡ status_sent (word_shown m.sighting.sent) → is_some status ≡ true
     → ws ≡ w.waiting.items ++ m ∷ [] → v.waiting.items ≡ []
-    → ((h : List Event) → FollowsAt is_legal P h w.follower → Followed is_legal P h status ws v.follower v.first) → WatchesBy is_legal P (ms ++ m ∷ []) v v.first
-sees_status is_legal P low ms m w v ws None none watches is some grown empty followed = absurd (cc)
-sees_status is_legal P low ms m w v ws (Some bits) none watches is some grown empty followed =
-    let i = follows_still is_legal P ms w w.first none watches in
-    seen_status is_legal P low ms m w v ws bits i grown (sym is) empty (followed i.history i.follows)
+    → v.followed ≡ w.followed + length ws → v.followed < 2 ^ 64 → ((k : List Event) → FollowsAt is_legal P k w.follower → Followed is_legal P k w.followed status ws v.follower v.first) → WatchesBy is_legal P h (ms ++ m ∷ []) v v.first
+sees_status is_legal P h low ms m w v ws None none watches is some grown empty seen bound followed = absurd (cc)
+sees_status is_legal P h low ms m w v ws (Some bits) none watches is some grown empty seen bound followed =
+    let i = follows_still is_legal P h ms w w.first none watches in
+    seen_status is_legal P h low ms m w v ws bits i grown (sym is) empty seen bound (followed i.history i.follows)

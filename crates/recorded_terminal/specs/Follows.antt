@@ -10,6 +10,8 @@ use Rattle.terminal_rules.specs.Past.{past, history_after}
 use Rattle.terminal_rules.specs.Reply.{reply_now}
 use Rattle.terminal_rules.specs.Same.{AreProper}
 use Rattle.terminal_recordings.specs.Recordings.{AreUnseen}
+use Rattle.terminal_recordings.specs.Later.{ShutDown}
+use Rattle.terminal_state.specs.declared.buses.OnBuses.{OnBuses}
 use Rattle.terminal_recordings.specs.Completion.{data_sent, flags_set, next_set}
 use Rattle.recorded_terminal.specs.declared.follower.Follower.{Follower}
 use Rattle.recorded_terminal.specs.declared.follower.Told.{Told}
@@ -34,6 +36,10 @@ told_events t = given_events t.service ++ (given_events t.busy ++ (given_events 
 -- events of the subsystem that can come
 abbrev pub AreTold : List Event → Type 0
 AreTold es = AreUnseen es × AreProper es
+
+-- the transmitters that are shut down
+abbrev pub shut_down : OnBuses → ShutDown
+shut_down shut = record { a = shut.a; b = shut.b }
 
 -- a terminal has taken these events, wherever it stood
 abbrev pub TakesEvents : {L : Type 0} → (L → Cell → Bool) → List Event → Terminal L → Terminal L → Type 0

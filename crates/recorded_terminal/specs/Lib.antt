@@ -5,4 +5,5 @@ pub mod SentWords
 pub mod Sightings
 pub mod Follows
 pub mod Watched
+pub mod Judged
 pub mod inner

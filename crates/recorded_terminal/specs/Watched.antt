@@ -1,10 +1,10 @@
--- A recording that is watched, and the first sighting of it that no behaviour of the subsystem explains.
-use Rattle.std.specs.Prelude.{◌≡◌, ◌≤◌, Bool, Option, Some, None, List, [], ◌∷◌, ◌++◌, map}
+-- A recording that is watched from a history on, and the first sighting of it that no behaviour of the subsystem explains.
+use Rattle.std.specs.Prelude.{◌≡◌, ◌+◌, ◌<◌, ◌≤◌, ◌^◌, Bool, Option, Some, None, List, [], ◌∷◌, ◌++◌, map, length}
 use Rattle.bus_word.specs.declared.cell.Cell.{Cell}
 use Rattle.bus_legal.specs.Description.{Description}
 use Rattle.terminal_rules.specs.declared.event.Event.{Event}
-use Rattle.terminal_recordings.specs.Recordings.{Sighting, IsExplained}
-use Rattle.terminal_recordings.specs.Completion.{next_status, shown_from, shown_of}
+use Rattle.terminal_recordings.specs.Recordings.{Sighting, IsExplainedAfter}
+use Rattle.terminal_recordings.specs.Completion.{next_status, shown_from}
 use Rattle.recorded_terminal.specs.declared.watch.Marked.{Marked}
 use Rattle.recorded_terminal.specs.declared.watch.Unexplained.{Unexplained}
 use Rattle.recorded_terminal.specs.declared.watch.Watch.{Watch}
@@ -21,28 +21,31 @@ abbrev pub sighting_instead : Unexplained → Sighting
 sighting_instead it = record { event = it.marked.sighting.event; sent = word_shown it.sent }
 
 -- The sightings before one are explained, and with it they are not, but with another word sent in it, or none.
-pub record IsUnexplainedAt (P : Description) (ms : List Marked) (it : Unexplained) : Type 0 where
+pub record IsUnexplainedAt (P : Description) (h : List Event) (ms : List Marked) (it : Unexplained) : Type 0 where
   pub before : List Marked
   pub later : List Marked
   pub all : ms ≡ before ++ it.marked ∷ later
-  pub explained : IsExplained P (seen_in before)
-  pub unexplained : IsExplained P (seen_in before ++ shown_sighting it.marked.sighting ∷ []) → ⊥
-  pub possible : IsExplained P (seen_in before ++ sighting_instead it ∷ [])
+  pub number : it.number ≡ length before
+  pub explained : IsExplainedAfter P h (seen_in before)
+  pub unexplained : IsExplainedAfter P h (seen_in before ++ shown_sighting it.marked.sighting ∷ []) → ⊥
+  pub possible : IsExplainedAfter P h (seen_in before ++ sighting_instead it ∷ [])
 
 -- All that was seen is explained so far: the terminal has followed it up to the last status word, and no status word was seen since.
-pub record IsFollowing {L : Type 0} (is_legal : L → Cell → Bool) (P : Description) (ms : List Marked) (w : Watch L) : Type 0 where
+pub record IsFollowing {L : Type 0} (is_legal : L → Cell → Bool) (P : Description) (h : List Event) (ms : List Marked) (w : Watch L) : Type 0 where
   pub followed : List Marked
   pub history : List Event
   pub follows : FollowsAt is_legal P history w.follower
   pub all : ms ≡ followed ++ w.waiting.items
-  pub shown : (later : List Sighting) → shown_of P (seen_in ms ++ later) ≡ seen_in followed ++ shown_from P history (seen_in w.waiting.items ++ later)
+  pub shown : (later : List Sighting) → shown_from P h (seen_in ms ++ later) ≡ seen_in followed ++ shown_from P history (seen_in w.waiting.items ++ later)
   pub none : next_status (seen_in w.waiting.items) ≡ None
+  pub counted : w.followed ≡ length followed
+  pub bound : w.followed + length w.waiting.items < 2 ^ 64
 
 -- or the first sighting that nothing explains was found
-abbrev pub WatchesBy : {L : Type 0} → (L → Cell → Bool) → Description → List Marked → Watch L → Option Unexplained → Type 0
-WatchesBy is_legal P ms w None = IsFollowing is_legal P ms w
-WatchesBy is_legal P ms w (Some it) = IsUnexplainedAt P ms it
+abbrev pub WatchesBy : {L : Type 0} → (L → Cell → Bool) → Description → List Event → List Marked → Watch L → Option Unexplained → Type 0
+WatchesBy is_legal P h ms w None = IsFollowing is_legal P h ms w
+WatchesBy is_legal P h ms w (Some it) = IsUnexplainedAt P h ms it
 
--- a watch has seen these sightings, of a terminal of P from power-up
-abbrev pub Watches : {L : Type 0} → (L → Cell → Bool) → Description → List Marked → Watch L → Type 0
-Watches is_legal P ms w = (P.address ≤ 30) × WatchesBy is_legal P ms w w.first
+-- a watch has seen these sightings, of a terminal of P after a history
+abbrev pub Watches : {L : Type 0} → (L → Cell → Bool) → Description → List Event → List Marked → Watch L → Type 0
+Watches is_legal P h ms w = (P.address ≤ 30) × WatchesBy is_legal P h ms w w.first

@@ -1,2 +1,4 @@
 -- What the contracts of private functions speak of.
 pub mod Followed
+pub mod Latest
+pub mod Gaps

@@ -1,8 +1,14 @@
 //! A terminal that follows a recording.
+ghost use Rattle.std.specs.Prelude.{◌≡◌, ◌≤◌};
+ghost use Rattle.bus_word.specs.Command.{command_bits};
+ghost use Rattle.bus_word.specs.Mode as code;
+
 use crate::sighting::Sighting;
 use crate::told::{given, shows};
 use bus_legal::{Legality, Setup};
 use bus_terminal::{Answer, Event, Flag, Sent, Terminal};
+use bus_word::{Bus, Kind, mode};
+use terminal_state::OnBuses;
 
 /// What of that which a recording tells of the subsystem before a sighting changes anything, in this order.
 #[derive(Clone, Copy)]
@@ -23,6 +29,14 @@ pub struct Followed {
     pub sent: Option<Sent>,
 }
 
+/// The command word of own mode code 4, transmitter shutdown.
+fn shutdown_command(address: u8) -> u16
+    requires { address ≤ 30 }
+    ensures { result ≡ command_bits (record { address = address; tr = 1; subaddress = 0; low = code.shutdown }) }
+{
+    u16::from(address) * 2048 + 1024 + u16::from(mode::SHUTDOWN)
+}
+
 /// A terminal that follows a recording: it takes what is seen, and before it what the recording tells of the subsystem.
 #[derive(Drop)]
 pub struct Follower<L> {
@@ -36,10 +50,14 @@ impl<L: Legality> Follower<L> {
     ghost use Rattle.terminal_rules.specs.Past.{history_after};
     ghost use Rattle.terminal_rules.specs.Out.{out, sent_in};
     ghost use Rattle.terminal_recordings.specs.Completion.{flag_shown};
+    ghost use Rattle.terminal_recordings.specs.Later.{begun, if_shut};
+    ghost use Rattle.bus_word.specs.Word.{valid_word};
+    ghost use Rattle.bus_word.specs.declared.word.Kind.TheVariants.{Com};
+    ghost use Rattle.terminal_rules.specs.declared.event.Event.TheVariants.{Word as WordEvent, Gap as GapEvent, Slot as SlotEvent};
     ghost use Rattle.bus_terminal.specs.Stands.{TakesEvent};
     ghost use Rattle.terminal_rules.specs.declared.event.Event.TheVariants.{Flag as FlagIs};
     ghost use Rattle.recorded_terminal.specs.SentWords.{word_shown};
-    ghost use Rattle.recorded_terminal.specs.Follows.{FollowsAt, told_by, given_events, told_events, AreTold, TakesEvents};
+    ghost use Rattle.recorded_terminal.specs.Follows.{FollowsAt, shut_down, told_by, given_events, told_events, AreTold, TakesEvents};
 
     /// Gives one that has seen nothing: its terminal is at power-up.
     pub fn power_up(setup: Setup, legality: L) -> Follower<L>
@@ -47,6 +65,28 @@ impl<L: Legality> Follower<L> {
     {
         Follower {
             terminal: Terminal::power_up(setup, legality),
+        }
+    }
+
+    /// Gives one whose terminal has the transmitters on these buses shut down, and has seen nothing else.
+    pub fn shut(setup: Setup, legality: L, shut: OnBuses) -> Follower<L>
+        ensures { FollowsAt L.is_legal (described setup (L.is_legal legality)) (begun (described setup (L.is_legal legality)) (shut_down shut)) result }
+    {
+        let command = shutdown_command(setup.address);
+        let mut follower = Follower::power_up(setup, legality);
+        follower.exchange_if(shut.a, Bus::B, command);
+        follower.exchange_if(shut.b, Bus::A, command);
+        follower
+    }
+
+    /// Takes a command on a bus, a gap, and a slot for the status, or nothing.
+    fn exchange_if(&mut self, takes: bool, bus: Bus, command: u16)
+        ensures { TakesEvents L.is_legal (if_shut takes (WordEvent bus (valid_word Com command) ∷ GapEvent bus ∷ SlotEvent ∷ [])) self.old.terminal self.new.terminal }
+    {
+        if takes {
+            self.terminal.take_valid(bus, Kind::Com, command);
+            self.terminal.take(Event::Gap(bus));
+            self.terminal.take(Event::Slot);
         }
     }
 

@@ -1,13 +1,16 @@
 //! Whether a description explains a recording: a terminal that follows it, and the first sighting that nothing explains.
 #![tactic(auto)]
 
+mod beginnings;
 mod follower;
+mod later;
 mod sighting;
 mod telling;
 mod told;
 mod watch;
 
 pub use bus_terminal::Sent;
+pub use later::{Judged, LaterWatch};
 pub use sighting::Sighting;
 pub use telling::behaviour;
 pub use watch::{Marked, Unexplained, Watch};

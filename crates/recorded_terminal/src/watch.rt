@@ -1,10 +1,11 @@
 //! A recording that is watched, sighting by sighting.
-ghost use Rattle.std.specs.Prelude.{◌≡◌, ◌↔◌, ◌++◌, ◌∷◌, [], List, IfSome, IsTrue, None, OnOk};
+ghost use Rattle.std.specs.Prelude.{◌≡◌, ◌+◌, ◌<◌, ◌≤◌, ◌^◌, ◌↔◌, ◌++◌, ◌∷◌, [], List, length, IfSome, IsTrue, None, OnOk};
 ghost use Rattle.bus_legal.specs.Description.{Description, described};
 ghost use Rattle.terminal_rules.specs.declared.event.Event.{Event};
-ghost use Rattle.terminal_recordings.specs.Recordings.{IsExplained};
+ghost use Rattle.terminal_recordings.specs.Recordings.{IsExplainedAfter};
+ghost use Rattle.terminal_recordings.specs.Later.{begun};
 ghost use Rattle.recorded_terminal.specs.declared.watch.Marked.{Marked};
-ghost use Rattle.recorded_terminal.specs.Follows.{FollowsAt};
+ghost use Rattle.recorded_terminal.specs.Follows.{FollowsAt, shut_down};
 ghost use Rattle.recorded_terminal.specs.Watched.{IsUnexplainedAt, Watches, seen_in};
 ghost use Rattle.recorded_terminal.specs.inner.Followed.{Followed};
 
@@ -14,6 +15,7 @@ use crate::told::shown_status;
 use bus_legal::{Legality, Setup};
 use bus_terminal::Sent;
 use std::alloc::{AllocError, Global};
+use terminal_state::OnBuses;
 
 /// A sighting, and where it stands in a recording.
 #[derive(Clone, Copy)]
@@ -29,6 +31,8 @@ pub struct Marked {
 #[derive(Clone, Copy)]
 pub struct Unexplained {
     pub marked: Marked,
+    /// How many sightings come before it.
+    pub number: u64,
     /// What the terminal sends there in place of what was seen, where the subsystem does what the recording tells.
     pub sent: Option<Sent>,
 }
@@ -40,20 +44,22 @@ fn is_same(sent: Option<Sent>, seen: Option<Sent>) -> bool
     sent == seen
 }
 
-/// Follows sightings, where `status` is the next status word that is seen, in each of them or later. Gives the first in which the
-/// terminal sends another word than was seen.
+/// Follows sightings, before which so many were followed, where `status` is the next status word that is seen, in each of them or later.
+/// Gives the first in which the terminal sends another word than was seen.
 fn follow<L: Legality>(
     follower: &mut Follower<L>,
+    followed: u64,
     waiting: &[Marked],
     status: Option<u16>,
 ) -> Option<Unexplained>
-    ensures { (P : Description) (h : List Event) → FollowsAt L.is_legal P h follower.old → Followed L.is_legal P h status waiting.now follower.new result }
+    ensures { (P : Description) (h : List Event) → followed + length waiting.now < 2 ^ 64 → FollowsAt L.is_legal P h follower.old → Followed L.is_legal P h followed status waiting.now follower.new result }
 {
-    for marked in waiting {
+    for (number, marked) in waiting.iter().enumerate() {
         let sent = follower.see(marked.sighting, status).sent;
         if !is_same(sent, marked.sighting.sent) {
             return Some(Unexplained {
                 marked: *marked,
+                number: followed.saturating_add(number as u64),
                 sent,
             });
         }
@@ -66,6 +72,8 @@ fn follow<L: Legality>(
 #[derive(Drop)]
 pub struct Watch<L> {
     follower: Follower<L>,
+    /// How many sightings were followed; then come those that wait.
+    followed: u64,
     waiting: Vec<Marked>,
     first: Option<Unexplained>,
 }
@@ -73,26 +81,50 @@ pub struct Watch<L> {
 impl<L: Legality + Drop> Watch<L> {
     /// Watches a terminal from power-up.
     pub fn power_up(alloc: Global, setup: Setup, legality: L) -> Watch<L>
-        ensures { Watches L.is_legal (described setup (L.is_legal legality)) [] result }
+        ensures { Watches L.is_legal (described setup (L.is_legal legality)) [] [] result }
+    {
+        Watch::from(alloc, Follower::power_up(setup, legality))
+    }
+
+    /// Watches a terminal whose transmitters on these buses were shut down, and which has seen nothing else.
+    pub fn shut(alloc: Global, setup: Setup, legality: L, shut: OnBuses) -> Watch<L>
+        ensures { Watches L.is_legal (described setup (L.is_legal legality)) (begun (described setup (L.is_legal legality)) (shut_down shut)) [] result }
+    {
+        Watch::from(alloc, Follower::shut(setup, legality, shut))
+    }
+
+    /// Watches a terminal that this one stands for, from now on.
+    fn from(alloc: Global, follower: Follower<L>) -> Watch<L>
+        ensures { (P : Description) (h : List Event) → P.address ≤ 30 → FollowsAt L.is_legal P h follower → Watches L.is_legal P h [] result }
     {
         Watch {
-            follower: Follower::power_up(setup, legality),
+            follower,
+            followed: 0,
             waiting: Vec::new(alloc),
             first: None,
         }
     }
 
-    /// Takes what is seen next.
+    /// Takes what is seen next. More than 2^64 - 1 sightings are as if memory had run out.
     pub fn see(&mut self, marked: Marked) -> Result<(), AllocError>
-        ensures { OnOk result ((P : Description) (ms : List Marked) → Watches L.is_legal P ms self.old → Watches L.is_legal P (ms ++ marked ∷ []) self.new) }
+        ensures { OnOk result ((P : Description) (h : List Event) (ms : List Marked) → Watches L.is_legal P h ms self.old → Watches L.is_legal P h (ms ++ marked ∷ []) self.new) }
     {
         if self.first.is_some() {
             return Ok(());
         }
         let status = shown_status(marked.sighting.sent);
         self.waiting.push(marked)?;
+        let Some(seen) = self.followed.checked_add(self.waiting.len() as u64) else {
+            return Err(AllocError);
+        };
         if status.is_some() {
-            self.first = follow(&mut self.follower, self.waiting.as_slice(), status);
+            self.first = follow(
+                &mut self.follower,
+                self.followed,
+                self.waiting.as_slice(),
+                status,
+            );
+            self.followed = seen;
             self.waiting.clear();
         }
         Ok(())
@@ -101,17 +133,18 @@ impl<L: Legality + Drop> Watch<L> {
     /// Gives the first sighting that no behaviour of the subsystem explains: those before it are explained, and with it they are not.
     /// None where the whole recording is explained.
     pub fn end(self) -> Option<Unexplained>
-        ensures explained { (P : Description) (ms : List Marked) → Watches L.is_legal P ms self → ((result ≡ None) ↔ IsExplained P (seen_in ms)) }
-        ensures first { (P : Description) (ms : List Marked) → Watches L.is_legal P ms self → IfSome result (IsUnexplainedAt P ms) }
+        ensures explained { (P : Description) (h : List Event) (ms : List Marked) → Watches L.is_legal P h ms self → ((result ≡ None) ↔ IsExplainedAfter P h (seen_in ms)) }
+        ensures first { (P : Description) (h : List Event) (ms : List Marked) → Watches L.is_legal P h ms self → IfSome result (IsUnexplainedAt P h ms) }
     {
         let Watch {
             mut follower,
+            followed,
             waiting,
             first,
         } = self;
         match first {
             Some(first) => Some(first),
-            None => follow(&mut follower, waiting.as_slice(), None),
+            None => follow(&mut follower, followed, waiting.as_slice(), None),
         }
     }
 }

@@ -1,22 +1,23 @@
-use Rattle.std.proofs.Common.{◌≡◌, ◌+◌, ◌∷◌, List, suc, drop, add-one, false, true, sym, ◌∙◌}
+use Rattle.std.proofs.Common.{arith, ◌≡◌, ◌+◌, ◌∷◌, List, suc, drop, add-one, false, true, sym, ◌∙◌}
 use Rattle.recorded_terminal.specs.declared.watch.Marked.{Marked}
-use Rattle.recorded_terminal.proofs.WatchLaws.{cut_of, so_far_more, differs_at}
+use Rattle.recorded_terminal.proofs.WatchLaws.{cut_of, so_far_more, differs_at, taken}
 use Rattle.recorded_terminal.proofs.watch.follow.Goals as goal
 
 pub returns-then-not-is_same : goal.returns-then-not-is_same
-returns-then-not-is_same g c P h follows =
-    let s = c.loop-marked.invariant P h follows in
+returns-then-not-is_same g c P h bound follows =
+    let s = c.loop-number.invariant P h follows in
     let ms : List Marked = c.args.waiting.now in
-    let n = c.loop-marked.marked-index in
-    let cut : drop n ms ≡ c.marked-item.result ∷ drop (suc n) ms = cut_of ms n c.marked-item.result c.loop-marked-test.true c.marked-item.is in
-    differs_at g.L.Legality.is_legal P h c.args.status ms n c.marked-item.result c.see-sent.result.sent c.loop-marked.follower c.see-sent.new.self cut s
+    let n = c.loop-number.number in
+    let cut : drop n ms ≡ c.index-waiting-number.result ∷ drop (suc n) ms = cut_of ms n c.index-waiting-number.result c.loop-number-test.true c.index-waiting-number.is in
+    differs_at g.L.Legality.is_legal P h c.args.status ms n c.index-waiting-number.result c.see-sent.result.sent c.loop-number.follower c.see-sent.new.self cut s
     (c.see-sent.ensures.sent P s.history s.follows) (λ same. let wrong : true ≡ false = sym (c.is_same.ensures.1 same) ∙ c.if-not-is_same.true in cc)
+    c.args.followed c.saturating_add.result (taken n ms c.loop-number-test.true) (omega arith)
 
-pub loop-marked-preserved : goal.loop-marked-preserved
-loop-marked-preserved g c P h follows =
-    let s = c.loop-marked.invariant P h follows in
+pub loop-number-preserved : goal.loop-number-preserved
+loop-number-preserved g c P h follows =
+    let s = c.loop-number.invariant P h follows in
     let ms : List Marked = c.args.waiting.now in
-    let n = c.loop-marked.marked-index in
-    let cut : drop n ms ≡ c.marked-item.result ∷ drop (suc n) ms = cut_of ms n c.marked-item.result c.loop-marked-test.true c.marked-item.is in
-    so_far_more g.L.Legality.is_legal P h c.args.status ms n (n + 1) c.marked-item.result c.see-sent.result.sent c.loop-marked.follower c.see-sent.new.self (add-one n) cut s
+    let n = c.loop-number.number in
+    let cut : drop n ms ≡ c.index-waiting-number.result ∷ drop (suc n) ms = cut_of ms n c.index-waiting-number.result c.loop-number-test.true c.index-waiting-number.is in
+    so_far_more g.L.Legality.is_legal P h c.args.status ms n (n + 1) c.index-waiting-number.result c.see-sent.result.sent c.loop-number.follower c.see-sent.new.self (add-one n) cut s
     (c.see-sent.ensures.sent P s.history s.follows) (c.see-sent.ensures.stands P s.history s.follows) (c.is_same.ensures.0 c.if-not-is_same.false)

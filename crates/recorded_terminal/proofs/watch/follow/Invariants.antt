@@ -5,6 +5,6 @@ use Rattle.recorded_terminal.specs.Follows.{FollowsAt}
 use Rattle.recorded_terminal.proofs.WatchLaws.{SoFar}
 use Rattle.recorded_terminal.proofs.watch.follow.Given as goal
 
-abbrev pub invariant-loop-marked : goal.invariant-loop-marked
-invariant-loop-marked g l =
-    (P : Description) (h : List Event) → FollowsAt g.L.Legality.is_legal P h l.fn.follower → SoFar g.L.Legality.is_legal P h l.status l.waiting l.marked-index l.follower
+abbrev pub invariant-loop-number : goal.invariant-loop-number
+invariant-loop-number g l =
+    (P : Description) (h : List Event) → FollowsAt g.L.Legality.is_legal P h l.fn.follower → SoFar g.L.Legality.is_legal P h l.status l.waiting l.number l.follower

@@ -1,0 +1,379 @@
+-- Laws of a recording that began at any time: where a watch is in it, and what comes of the part that is judged.
+use Rattle.std.proofs.Common.{◌≡◌, ◌∙◌, ℕ, zero, suc, nat_lt, nat_le, ◌&&◌, Bool, true, false, if◌then◌else◌, Option, Some, None, IfSome, ◌↔◌, List, [], ◌∷◌, ◌++◌, refl, sym, ap, subst, append_assoc, append-nil, arith}
+use Rattle.std.proofs.lemmas.Bool.Decides.{nat_tests}
+use Rattle.bus_word.specs.declared.word.Bus.TheVariants.{A, B}
+use Rattle.bus_word.specs.declared.cell.Cell.{Cell}
+use Rattle.bus_legal.specs.Description.{Description, described}
+use Rattle.terminal_rules.specs.declared.event.Event.{Event}
+use Rattle.terminal_rules.specs.declared.event.Event.TheVariants.{Word, Noise, Gap, Write, Vector, Bit, Flag as FlagIs, Slot}
+use Rattle.terminal_rules.specs.Status.{spares}
+use Rattle.terminal_rules.specs.Out.{Sending}
+use Rattle.terminal_recordings.specs.Recordings.{Sighting, IsRecording}
+use Rattle.terminal_recordings.specs.Later.{IsExplainedLater, Gaps, no_gaps, are_two, gaps_with, fresh_part, command_for, first_command, asks_back, BeginsAfresh, shutting, begun}
+use Rattle.terminal_recordings.proofs.Law.{recording_law}
+use Rattle.terminal_recordings.proofs.Leaving.{shutting_leaves, shutting_proper}
+use Rattle.terminal_recordings.proofs.LaterLaw.{later_law}
+use Rattle.recorded_terminal.specs.declared.watch.Marked.{Marked}
+use Rattle.recorded_terminal.specs.declared.watch.Unexplained.{Unexplained}
+use Rattle.recorded_terminal.specs.declared.later.Gaps.{Gaps as Counted}
+use Rattle.recorded_terminal.specs.declared.later.Part.{Part}
+use Rattle.recorded_terminal.specs.declared.later.Part.TheVariants.{Sought, Begun, Afresh}
+use Rattle.recorded_terminal.specs.declared.later.LaterWatch.{LaterWatch}
+use Rattle.recorded_terminal.specs.declared.later.Judged.{Judged}
+use Rattle.recorded_terminal.specs.Sightings.{shown_sighting}
+use Rattle.recorded_terminal.specs.Watched.{seen_in}
+use Rattle.recorded_terminal.specs.Judged.{CanBegin, IsExplainedBegun, IsUnexplainedBy, IsUnexplainedBegunAt, WatchBegun, unless_asks, IsPartOf, IsBegun, WatchesPart, WatchesLater, IsJudged}
+use Rattle.recorded_terminal.specs.inner.Gaps.{at_most_two, shown_gaps, AreGaps, IsPartWith}
+use Rattle.recorded_terminal.proofs.WatchLaws.{seen_append, are_recording}
+
+-- ---- gaps that are counted alike
+
+-- two counts of gaps between which no pause tells
+pub record Alike (g k : Gaps) : Type 0 where
+  pub a : at_most_two g.a ≡ at_most_two k.a
+  pub b : at_most_two g.b ≡ at_most_two k.b
+
+big : (n : ℕ) → at_most_two (suc (suc n)) ≡ 2
+big n = ap (λ t. if t then suc (suc n) else 2) (is_big n)
+  where
+    is_big : (n : ℕ) → nat_lt (suc (suc n)) 2 ≡ false
+    is_big n = grind (arith, nat_tests)
+
+two_alike : (m n : ℕ) → at_most_two m ≡ at_most_two n → nat_le 2 m ≡ nat_le 2 n
+two_alike zero zero e = refl
+two_alike zero (suc zero) e = refl
+two_alike zero (suc (suc n)) e = let wrong : zero ≡ suc (suc zero) = e ∙ big n in absurd (cc)
+two_alike (suc zero) zero e = refl
+two_alike (suc zero) (suc zero) e = refl
+two_alike (suc zero) (suc (suc n)) e = let wrong : suc zero ≡ suc (suc zero) = e ∙ big n in absurd (cc)
+two_alike (suc (suc m)) zero e = let wrong : suc (suc zero) ≡ zero = sym (big m) ∙ e in absurd (cc)
+two_alike (suc (suc m)) (suc zero) e = let wrong : suc (suc zero) ≡ suc zero = sym (big m) ∙ e in absurd (cc)
+two_alike (suc (suc m)) (suc (suc n)) e = is_two m ∙ sym (is_two n)
+  where
+    is_two : (n : ℕ) → nat_le 2 (suc (suc n)) ≡ true
+    is_two n = grind (arith, nat_tests)
+
+more_alike : (m n : ℕ) → at_most_two m ≡ at_most_two n → at_most_two (suc m) ≡ at_most_two (suc n)
+more_alike zero zero e = refl
+more_alike zero (suc zero) e = let wrong : zero ≡ suc zero = e in absurd (cc)
+more_alike zero (suc (suc n)) e = let wrong : zero ≡ suc (suc zero) = e ∙ big n in absurd (cc)
+more_alike (suc m) zero e = by m e
+  where
+    by : (m : ℕ) → at_most_two (suc m) ≡ at_most_two zero → at_most_two (suc (suc m)) ≡ at_most_two (suc zero)
+    by zero e = let wrong : suc zero ≡ zero = e in absurd (cc)
+    by (suc m) e = let wrong : suc (suc zero) ≡ zero = sym (big m) ∙ e in absurd (cc)
+more_alike (suc m) (suc n) e = big m ∙ sym (big n)
+
+abbrev AreAlike : Option Gaps → Option Gaps → Type 0
+AreAlike None None = Unit {0}
+AreAlike (Some g) (Some k) = Alike g k
+AreAlike _ _ = ⊥
+
+gaps_alike : (g k : Gaps) (e : Event) (sent : Option Sending) → Alike g k → AreAlike (gaps_with g e sent) (gaps_with k e sent)
+gaps_alike g k (Gap A) sent x = record { a = more_alike g.a k.a x.a; b = x.b }
+gaps_alike g k (Gap B) sent x = record { a = x.a; b = more_alike g.b k.b x.b }
+gaps_alike g k Slot None x = by (are_two g) (are_two k) (λ j. two_alike g.a k.a x.a j && two_alike g.b k.b x.b j)
+  where
+    by : (s t : Bool) → s ≡ t → AreAlike (if s then None else Some g) (if t then None else Some k)
+    by true true e = tt
+    by false false e = x
+    by true false e = absurd (cc)
+    by false true e = absurd (cc)
+gaps_alike g k Slot (Some w) x = record { a = refl; b = refl }
+gaps_alike g k (Word b w) sent x = record { a = refl; b = refl }
+gaps_alike g k (Noise b) sent x = record { a = refl; b = refl }
+gaps_alike g k (Write p v) sent x = record { a = refl; b = refl }
+gaps_alike g k (Vector v) sent x = record { a = refl; b = refl }
+gaps_alike g k (Bit v) sent x = record { a = refl; b = refl }
+gaps_alike g k (FlagIs f v) sent x = record { a = refl; b = refl }
+
+abbrev next_part : Description → List Sighting → Option Gaps → Option (List Sighting)
+next_part P later o = elim o as (λ o. Option (List Sighting)) [ None ↦ unless_asks P later (asks_back P (first_command P later)) | Some n ↦ fresh_part P n later ]
+
+pub part_alike : (P : Description) (xs : List Sighting) (g k : Gaps) → Alike g k → fresh_part P g xs ≡ fresh_part P k xs
+part_alike P [] g k x = refl
+part_alike P (s ∷ later) g k x = by (gaps_with g s.event s.sent) (gaps_with k s.event s.sent) (gaps_alike g k s.event s.sent x) (part_alike P later)
+  where
+    by : (o p : Option Gaps) → AreAlike o p → ((m n : Gaps) → Alike m n → fresh_part P m later ≡ fresh_part P n later) → next_part P later o ≡ next_part P later p
+    by None None y next = refl
+    by (Some m) (Some n) y next = next m n y
+    by None (Some n) y next = absurd y
+    by (Some m) None y next = absurd y
+
+-- ---- the first command
+
+abbrev first_of : Option ℕ → Option ℕ → Option ℕ
+first_of o rest = elim o as (λ o. Option ℕ) [ None ↦ rest | Some c ↦ Some c ]
+
+none_both : (o rest : Option ℕ) → first_of o rest ≡ None → (o ≡ None) × (rest ≡ None)
+none_both None rest e = (refl, e)
+none_both (Some c) rest e = absurd (cc)
+
+first_over : (P : Description) (xs ys : List Sighting) → first_command P xs ≡ None → first_command P (xs ++ ys) ≡ first_command P ys
+first_over P [] ys e = refl
+first_over P (s ∷ xs) ys e =
+    let both = none_both (command_for P s.event) (first_command P xs) e in
+    ap (λ o. first_of o (first_command P (xs ++ ys))) both.0 ∙ first_over P xs ys both.1
+
+first_stays : (P : Description) (xs ys : List Sighting) (c : ℕ) → first_command P xs ≡ Some c → first_command P (xs ++ ys) ≡ Some c
+first_stays P [] ys c e = absurd (cc)
+first_stays P (s ∷ xs) ys c e = by (command_for P s.event) e (first_stays P xs ys c)
+  where
+    by : (o : Option ℕ) → first_of o (first_command P xs) ≡ Some c → (first_command P xs ≡ Some c → first_command P (xs ++ ys) ≡ Some c) → first_of o (first_command P (xs ++ ys)) ≡ Some c
+    by None e next = next e
+    by (Some d) e next = e
+
+afresh_front : (P : Description) (xs ys : List Sighting) → BeginsAfresh P (xs ++ ys) → BeginsAfresh P xs
+afresh_front P [] ys a = refl
+afresh_front P (s ∷ xs) ys a = by (command_for P s.event) a (afresh_front P xs ys)
+  where
+    by : (o : Option ℕ) → asks_back P (first_of o (first_command P (xs ++ ys))) ≡ false → (BeginsAfresh P (xs ++ ys) → BeginsAfresh P xs) → asks_back P (first_of o (first_command P xs)) ≡ false
+    by None e next = next e
+    by (Some c) e next = e
+
+-- ---- one sighting more
+
+one_seen : (xs : List Sighting) (s : Sighting) (more : List Sighting) → (xs ++ s ∷ []) ++ more ≡ xs ++ s ∷ more
+one_seen xs s more = append_assoc xs (s ∷ []) more
+
+sought_more : (P : Description) (xs : List Sighting) (s : Sighting) (k n : Counted) → IsPartOf P xs [] (Sought k) → IsPartWith P (Sought k) s (Sought n) → IsPartOf P (xs ++ s ∷ []) [] (Sought n)
+sought_more P xs s k n part is more =
+    ap (fresh_part P no_gaps) (one_seen xs s more) ∙ part (s ∷ more) ∙ by (gaps_with (shown_gaps k) s.event s.sent) is
+  where
+    by : (o : Option Gaps) → AreGaps o (Some n) → next_part P more o ≡ fresh_part P (shown_gaps n) more
+    by None x = absurd x
+    by (Some g) x = part_alike P more g (shown_gaps n) (record { a = sym x.a; b = sym x.b })
+
+begun_by : (P : Description) (xs : List Sighting) (s : Sighting) (k : Counted) → IsPartOf P xs [] (Sought k) → IsPartWith P (Sought k) s Begun → IsPartOf P (xs ++ s ∷ []) [] Begun
+begun_by P xs s k part is = (refl, λ more. ap (fresh_part P no_gaps) (one_seen xs s more) ∙ part (s ∷ more) ∙ by more (gaps_with (shown_gaps k) s.event s.sent) is)
+  where
+    by : (more : List Sighting) (o : Option Gaps) → AreGaps o None → next_part P more o ≡ unless_asks P more (asks_back P (first_command P more))
+    by more None x = refl
+    by more (Some g) x = absurd x
+
+-- what asks back is passed over
+passed : (P : Description) (ys : List Sighting) (s : Sighting) (c : ℕ) (more : List Sighting) (g : Gaps) → first_command P ys ≡ None → command_for P s.event ≡ Some c → spares P c ≡ true →
+    fresh_part P g (ys ++ s ∷ more) ≡ fresh_part P no_gaps more
+passed P [] s c more g none is asks = ap (next_part P more) (by s.event is)
+  where
+    by : (e : Event) → command_for P e ≡ Some c → gaps_with g e s.sent ≡ Some no_gaps
+    by (Word b w) is = refl
+    by (Noise b) is = absurd (cc)
+    by (Gap b) is = absurd (cc)
+    by (Write p v) is = absurd (cc)
+    by (Vector v) is = absurd (cc)
+    by (Bit v) is = absurd (cc)
+    by (FlagIs f v) is = absurd (cc)
+    by Slot is = absurd (cc)
+passed P (y ∷ ys) s c more g none is asks = by (gaps_with g y.event y.sent) (λ n both. passed P ys s c more n both is asks)
+  where
+    both : (command_for P y.event ≡ None) × (first_command P ys ≡ None)
+    both = none_both (command_for P y.event) (first_command P ys) none
+
+    first : asks_back P (first_command P (ys ++ s ∷ more)) ≡ true
+    first = ap (asks_back P) (first_over P ys (s ∷ more) both.1 ∙ ap (λ o. first_of o (first_command P more)) is) ∙ asks
+
+    by : (o : Option Gaps) → ((n : Gaps) → first_command P ys ≡ None → fresh_part P n (ys ++ s ∷ more) ≡ fresh_part P no_gaps more) → next_part P (ys ++ s ∷ more) o ≡ fresh_part P no_gaps more
+    by None rest = ap (unless_asks P (ys ++ s ∷ more)) first ∙ rest no_gaps both.1
+    by (Some n) rest = rest n both.1
+
+sought_again : (P : Description) (xs ys : List Sighting) (s : Sighting) (n : Counted) → IsPartOf P xs ys Begun → IsPartWith P Begun s (Sought n) → IsPartOf P (xs ++ s ∷ []) [] (Sought n)
+sought_again P xs ys s n (none, part) (counted, (c, is, asks)) more =
+    ap (fresh_part P no_gaps) (one_seen xs s more) ∙ part (s ∷ more)
+    ∙ ap (unless_asks P (ys ++ s ∷ more)) (ap (λ o. asks_back P (first_of o (first_command P more))) is ∙ asks)
+    ∙ passed P ys s c more no_gaps none is asks
+    ∙ part_alike P more no_gaps (shown_gaps n) (record { a = sym counted.a; b = sym counted.b })
+
+begun_on : (P : Description) (xs ys : List Sighting) (s : Sighting) → IsPartOf P xs ys Begun → IsPartWith P Begun s Begun → IsPartOf P (xs ++ s ∷ []) (ys ++ s ∷ []) Begun
+begun_on P xs ys s (none, part) is = (
+  first_over P ys (s ∷ []) none ∙ ap (λ o. first_of o None) is,
+  λ more.
+      ap (fresh_part P no_gaps) (one_seen xs s more) ∙ part (s ∷ more)
+      ∙ ap (λ o. unless_asks P (ys ++ s ∷ more) (asks_back P (first_of o (first_command P more)))) is
+      ∙ ap (λ l. unless_asks P l (asks_back P (first_command P more))) (sym (one_seen ys s more)),
+)
+
+afresh_by : (P : Description) (xs ys : List Sighting) (s : Sighting) → IsPartOf P xs ys Begun → IsPartWith P Begun s Afresh → IsPartOf P (xs ++ s ∷ []) (ys ++ s ∷ []) Afresh
+afresh_by P xs ys s (none, part) (c, is, asks) = (
+  (c, first_over P ys (s ∷ []) none ∙ ap (λ o. first_of o None) is, asks),
+  λ more.
+      ap (fresh_part P no_gaps) (one_seen xs s more) ∙ part (s ∷ more)
+      ∙ ap (unless_asks P (ys ++ s ∷ more)) (ap (λ o. asks_back P (first_of o (first_command P more))) is ∙ asks)
+      ∙ ap Some (sym (one_seen ys s more)),
+)
+
+afresh_on : (P : Description) (xs ys : List Sighting) (s : Sighting) → IsPartOf P xs ys Afresh → IsPartOf P (xs ++ s ∷ []) (ys ++ s ∷ []) Afresh
+afresh_on P xs ys s ((c, is, asks), part) = (
+  (c, first_stays P ys (s ∷ []) c is, asks),
+  λ more. ap (fresh_part P no_gaps) (one_seen xs s more) ∙ part (s ∷ more) ∙ ap Some (sym (one_seen ys s more)),
+)
+
+-- ---- a watch with one sighting more
+
+one_more_seen : (P : Description) (ms part : List Marked) (m : Marked) (p : Part) → IsPartOf P (seen_in ms ++ shown_sighting m.sighting ∷ []) (seen_in part ++ shown_sighting m.sighting ∷ []) p →
+    IsPartOf P (seen_in (ms ++ m ∷ [])) (seen_in (part ++ m ∷ [])) p
+one_more_seen P ms part m p x =
+    subst (λ l. IsPartOf P l (seen_in (part ++ m ∷ [])) p) (sym (seen_append ms (m ∷ [])))
+    (subst (λ l. IsPartOf P (seen_in ms ++ shown_sighting m.sighting ∷ []) l p) (sym (seen_append part (m ∷ []))) x)
+
+watches_sought : {L : Type 0} (is_legal : L → Cell → Bool) (P : Description) (ms : List Marked) (m : Marked) (w : LaterWatch L) (p : Part) (n : Counted) → WatchesPart is_legal P ms w p →
+    IsPartWith P p (shown_sighting m.sighting) (Sought n) → IsPartOf P (seen_in (ms ++ m ∷ [])) [] (Sought n)
+watches_sought is_legal P ms m w (Sought k) n part is =
+    subst (λ l. IsPartOf P l [] (Sought n)) (sym (seen_append ms (m ∷ []))) (sought_more P (seen_in ms) (shown_sighting m.sighting) k n part is)
+watches_sought is_legal P ms m w Begun n i is =
+    subst (λ l. IsPartOf P l [] (Sought n)) (sym (seen_append ms (m ∷ []))) (sought_again P (seen_in ms) (seen_in i.part) (shown_sighting m.sighting) n i.is_part is)
+watches_sought is_legal P ms m w Afresh n i is = absurd is
+
+watches_begun : {L : Type 0} (is_legal : L → Cell → Bool) (P : Description) (ms : List Marked) (m : Marked) (w v : LaterWatch L) (k : Counted) (q : Part) → WatchesPart is_legal P ms w (Sought k) →
+    IsPartWith P (Sought k) (shown_sighting m.sighting) q → ((n : Counted) → q ≡ Sought n → ⊥) → v.after ≡ m.line → WatchBegun is_legal P [] v.beginnings → WatchesPart is_legal P (ms ++ m ∷ []) v q
+watches_begun is_legal P ms m w v k (Sought n) part is not_sought line watches = absurd (not_sought n refl)
+watches_begun is_legal P ms m w v k Begun part is not_sought line watches = record {
+  front = ms;
+  pause = m;
+  part = [];
+  all = refl;
+  line = line;
+  watches = watches;
+  is_part = subst (λ l. IsPartOf P l [] Begun) (sym (seen_append ms (m ∷ []))) (begun_by P (seen_in ms) (shown_sighting m.sighting) k part is);
+}
+watches_begun is_legal P ms m w v k Afresh part is not_sought line watches = absurd is
+
+part_more : {L : Type 0} (is_legal : L → Cell → Bool) (P : Description) (ms : List Marked) (m : Marked) (w v : LaterWatch L) (p q : Part) (i : IsBegun is_legal P ms w p) → v.after ≡ w.after →
+    WatchBegun is_legal P (i.part ++ m ∷ []) v.beginnings → IsPartOf P (seen_in ms ++ shown_sighting m.sighting ∷ []) (seen_in i.part ++ shown_sighting m.sighting ∷ []) q → IsBegun is_legal P (ms ++ m ∷ []) v q
+part_more is_legal P ms m w v p q i same watches x = record {
+  front = i.front;
+  pause = i.pause;
+  part = i.part ++ m ∷ [];
+  all = ap (λ l. l ++ m ∷ []) i.all ∙ append_assoc i.front (i.pause ∷ i.part) (m ∷ []);
+  line = same ∙ i.line;
+  watches = watches;
+  is_part = one_more_seen P ms i.part m q x;
+}
+
+watches_more : {L : Type 0} (is_legal : L → Cell → Bool) (P : Description) (ms : List Marked) (m : Marked) (w v : LaterWatch L) (p q : Part) → WatchesPart is_legal P ms w p →
+    IsPartWith P p (shown_sighting m.sighting) q → ((n : Counted) → p ≡ Sought n → ⊥) → ((n : Counted) → q ≡ Sought n → ⊥) → v.after ≡ w.after →
+    ((ns : List Marked) → WatchBegun is_legal P ns w.beginnings → WatchBegun is_legal P (ns ++ m ∷ []) v.beginnings) → WatchesPart is_legal P (ms ++ m ∷ []) v q
+watches_more is_legal P ms m w v (Sought k) q i is not_sought still same sees = absurd (not_sought k refl)
+watches_more is_legal P ms m w v Begun (Sought n) i is not_sought still same sees = absurd (still n refl)
+watches_more is_legal P ms m w v Begun Begun i is not_sought still same sees =
+    part_more is_legal P ms m w v Begun Begun i same (sees i.part i.watches) (begun_on P (seen_in ms) (seen_in i.part) (shown_sighting m.sighting) i.is_part is)
+watches_more is_legal P ms m w v Begun Afresh i is not_sought still same sees =
+    part_more is_legal P ms m w v Begun Afresh i same (sees i.part i.watches) (afresh_by P (seen_in ms) (seen_in i.part) (shown_sighting m.sighting) i.is_part is)
+watches_more is_legal P ms m w v Afresh (Sought n) i is not_sought still same sees = absurd is
+watches_more is_legal P ms m w v Afresh Begun i is not_sought still same sees = absurd is
+watches_more is_legal P ms m w v Afresh Afresh i is not_sought still same sees =
+    part_more is_legal P ms m w v Afresh Afresh i same (sees i.part i.watches) (afresh_on P (seen_in ms) (seen_in i.part) (shown_sighting m.sighting) i.is_part)
+
+abbrev own : {L : Type 0} → (L → Cell → Bool) → LaterWatch L → Description
+own is_legal w = described w.setup (is_legal w.legality)
+
+part_with : {L : Type 0} (is_legal : L → Cell → Bool) (P : Description) (w : LaterWatch L) (p q r : Part) (s : Sighting) → own is_legal w ≡ P → p ≡ r → IsPartWith (own is_legal w) p s q → IsPartWith P r s q
+part_with is_legal P w p q r s same is x = subst (λ D. IsPartWith D r s q) same (subst (λ p. IsPartWith (own is_legal w) p s q) is x)
+
+pub sees_sought : {L : Type 0} (is_legal : L → Cell → Bool) (P : Description) (ms : List Marked) (m : Marked) (w v : LaterWatch L) (n : Counted) → WatchesLater is_legal P ms w →
+    own is_legal v ≡ own is_legal w → IsPartWith (own is_legal w) w.part (shown_sighting m.sighting) v.part → v.part ≡ Sought n → WatchesLater is_legal P (ms ++ m ∷ []) v
+sees_sought is_legal P ms m w v n watches same with is = record {
+  description = same ∙ watches.description;
+  can = watches.can;
+  watches =
+      subst (WatchesPart is_legal P (ms ++ m ∷ []) v) (sym is)
+      (watches_sought is_legal P ms m w w.part n watches.watches
+      (part_with is_legal P w w.part (Sought n) w.part (shown_sighting m.sighting) watches.description refl (subst (IsPartWith (own is_legal w) w.part (shown_sighting m.sighting)) is with)));
+}
+
+pub sees_begun : {L : Type 0} (is_legal : L → Cell → Bool) (P : Description) (ms : List Marked) (m : Marked) (w v : LaterWatch L) (k : Counted) → WatchesLater is_legal P ms w →
+    own is_legal v ≡ own is_legal w → IsPartWith (own is_legal w) w.part (shown_sighting m.sighting) v.part → w.part ≡ Sought k → ((n : Counted) → v.part ≡ Sought n → ⊥) → v.after ≡ m.line →
+    WatchBegun is_legal (own is_legal w) [] v.beginnings → WatchesLater is_legal P (ms ++ m ∷ []) v
+sees_begun is_legal P ms m w v k watches same with is not_sought line begun = record {
+  description = same ∙ watches.description;
+  can = watches.can;
+  watches =
+      watches_begun is_legal P ms m w v k v.part (subst (WatchesPart is_legal P ms w) is watches.watches)
+      (part_with is_legal P w w.part v.part (Sought k) (shown_sighting m.sighting) watches.description is with) not_sought line
+      (subst (λ D. WatchBegun is_legal D [] v.beginnings) watches.description begun);
+}
+
+pub sees_more : {L : Type 0} (is_legal : L → Cell → Bool) (P : Description) (ms : List Marked) (m : Marked) (w v : LaterWatch L) → WatchesLater is_legal P ms w →
+    own is_legal v ≡ own is_legal w → IsPartWith (own is_legal w) w.part (shown_sighting m.sighting) v.part → ((n : Counted) → w.part ≡ Sought n → ⊥) → ((n : Counted) → v.part ≡ Sought n → ⊥) →
+    v.after ≡ w.after → ((ns : List Marked) → WatchBegun is_legal P ns w.beginnings → WatchBegun is_legal P (ns ++ m ∷ []) v.beginnings) → WatchesLater is_legal P (ms ++ m ∷ []) v
+sees_more is_legal P ms m w v watches same with not_sought still line sees = record {
+  description = same ∙ watches.description;
+  can = watches.can;
+  watches =
+      watches_more is_legal P ms m w v w.part v.part watches.watches
+      (part_with is_legal P w w.part v.part w.part (shown_sighting m.sighting) watches.description refl with) not_sought still line sees;
+}
+
+-- ---- the part that is judged
+
+later_of_begun : (P : Description) → CanBegin P → (xs : List Sighting) → IsExplainedBegun P xs → IsExplainedLater P xs
+later_of_begun P can xs (shut, x) = (shutting P shut, shutting_proper P shut can.address, (shutting_leaves P shut can.address can.shutdown).quiet, x)
+
+begun_of_later : (P : Description) → CanBegin P → (xs : List Sighting) → IsRecording xs → BeginsAfresh P xs → IsExplainedLater P xs → IsExplainedBegun P xs
+begun_of_later P can xs r afresh x =
+    let s = (later_law.decided P xs can.address can.shutdown r afresh).0 x in
+    (s.0, (recording_law.decided P (begun P s.0) xs can.address r).1 s.1)
+
+unexplained_later : (P : Description) → CanBegin P → (part : List Marked) → BeginsAfresh P (seen_in part) → (it : Unexplained) → IsUnexplainedBegunAt P part it → IsUnexplainedBy (IsExplainedLater P) part it
+unexplained_later P can part afresh it i =
+    let s : Sighting = shown_sighting it.marked.sighting in
+    let front : List Sighting = seen_in i.before ++ s ∷ [] in
+    let cut : seen_in part ≡ front ++ seen_in i.later =
+    ap seen_in i.all ∙ seen_append i.before (it.marked ∷ i.later) ∙ sym (append_assoc (seen_in i.before) (s ∷ []) (seen_in i.later)) in
+    record {
+      before = i.before;
+      later = i.later;
+      all = i.all;
+      explained = later_of_begun P can (seen_in i.before) i.explained;
+      unexplained = λ x.
+          i.unexplained
+          (begun_of_later P can front (subst IsRecording (seen_append i.before (it.marked ∷ [])) (are_recording (i.before ++ it.marked ∷ [])))
+          (afresh_front P front (seen_in i.later) (subst (BeginsAfresh P) cut afresh)) x);
+      possible = later_of_begun P can _ i.possible;
+    }
+
+-- the part, and that it begins afresh
+part_now : (P : Description) (xs ys : List Sighting) (p : Part) → ((n : Counted) → p ≡ Sought n → ⊥) → IsPartOf P xs ys p → (fresh_part P no_gaps xs ≡ Some ys) × BeginsAfresh P ys
+part_now P xs ys (Sought k) not_sought x = absurd (not_sought k refl)
+part_now P xs ys Begun not_sought (none, part) = (
+  ap (fresh_part P no_gaps) (sym (append-nil xs)) ∙ part [] ∙ ap Some (append-nil ys),
+  ap (asks_back P) none,
+)
+part_now P xs ys Afresh not_sought ((c, is, asks), part) = (
+  ap (fresh_part P no_gaps) (sym (append-nil xs)) ∙ part [] ∙ ap Some (append-nil ys),
+  ap (asks_back P) is ∙ asks,
+)
+
+pub none_judged : (P : Description) (xs : List Sighting) (k : Counted) → IsPartOf P xs [] (Sought k) → fresh_part P no_gaps xs ≡ None
+none_judged P xs k part = ap (fresh_part P no_gaps) (sym (append-nil xs)) ∙ part []
+
+pub begun_of : {L : Type 0} (is_legal : L → Cell → Bool) (P : Description) (ms : List Marked) (w : LaterWatch L) (p : Part) → ((n : Counted) → p ≡ Sought n → ⊥) → WatchesPart is_legal P ms w p →
+    IsBegun is_legal P ms w p
+begun_of is_legal P ms w (Sought k) not_sought x = absurd (not_sought k refl)
+begun_of is_legal P ms w Begun not_sought x = x
+begun_of is_legal P ms w Afresh not_sought x = x
+
+pub judged : {L : Type 0} (is_legal : L → Cell → Bool) (P : Description) → CanBegin P → (ms : List Marked) (w : LaterWatch L) (p : Part) (r : Option Unexplained) → ((n : Counted) → p ≡ Sought n → ⊥) →
+    (i : IsBegun is_legal P ms w p) → ((r ≡ None) ↔ IsExplainedBegun P (seen_in i.part)) → IfSome r (IsUnexplainedBegunAt P i.part) → IsJudged P ms (record { after = w.after; first = r })
+judged is_legal P can ms w p r not_sought i explained first =
+    let now = part_now P (seen_in ms) (seen_in i.part) p not_sought i.is_part in
+    record {
+      front = i.front;
+      pause = i.pause;
+      part = i.part;
+      all = i.all;
+      line = i.line;
+      is_part = now.0;
+      explained = (
+        λ none. later_of_begun P can (seen_in i.part) (explained.0 none),
+        λ x. explained.1 (begun_of_later P can (seen_in i.part) (are_recording i.part) now.1 x),
+      );
+      first = by r first now.1;
+    }
+  where
+    by : (r : Option Unexplained) → IfSome r (IsUnexplainedBegunAt P i.part) → BeginsAfresh P (seen_in i.part) → IfSome r (IsUnexplainedBy (IsExplainedLater P) i.part)
+    by None x afresh = tt
+    by (Some it) x afresh = unexplained_later P can i.part afresh it x
+
+pub some_judged : (P : Description) (ms : List Marked) (it : Judged) → IsJudged P ms it → (Some it ≡ None) ↔ (fresh_part P no_gaps (seen_in ms) ≡ None)
+some_judged P ms it i = (λ e. absurd (cc), λ e. let wrong : Some (seen_in i.part) ≡ None = sym i.is_part ∙ e in absurd (cc))

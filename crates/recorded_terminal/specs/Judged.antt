@@ -1,0 +1,98 @@
+-- A recording that began at any time: the part of it that is judged, and the first sighting there that no behaviour of the subsystem
+-- explains, whatever came before.
+use Rattle.std.specs.Prelude.{ℕ, ◌≤◌, ◌↔◌, true, false, Option, Some, None, IfSome, ◌≡◌, Bool, if◌then◌else◌, List, [], ◌∷◌, ◌++◌}
+use Rattle.bus_word.specs.declared.cell.Cell.{Cell}
+use Rattle.bus_word.specs.declared.cell.Cell.TheVariants.{OwnMode}
+use Rattle.bus_word.specs.Mode as mode
+use Rattle.bus_legal.specs.Description.{Description, described}
+use Rattle.terminal_rules.specs.Status.{spares}
+use Rattle.terminal_recordings.specs.Recordings.{Sighting, IsExplainedAfter}
+use Rattle.terminal_recordings.specs.Later.{IsExplainedLater, no_gaps, fresh_part, first_command, asks_back, ShutDown, begun}
+use Rattle.recorded_terminal.specs.declared.watch.Marked.{Marked}
+use Rattle.recorded_terminal.specs.declared.watch.Unexplained.{Unexplained}
+use Rattle.recorded_terminal.specs.declared.watch.Watch.{Watch}
+use Rattle.recorded_terminal.specs.declared.beginnings.Beginnings.{Beginnings}
+use Rattle.recorded_terminal.specs.declared.later.Part.{Part}
+use Rattle.recorded_terminal.specs.declared.later.Part.TheVariants.{Sought, Begun, Afresh}
+use Rattle.recorded_terminal.specs.declared.later.Judged.{Judged}
+use Rattle.recorded_terminal.specs.declared.later.LaterWatch.{LaterWatch}
+use Rattle.recorded_terminal.specs.inner.Gaps.{shown_gaps}
+use Rattle.recorded_terminal.specs.Sightings.{shown_sighting}
+use Rattle.recorded_terminal.specs.Watched.{seen_in, sighting_instead, Watches}
+
+-- it is explained after one of the four beginnings
+abbrev pub IsExplainedBegun : Description → List Sighting → Type 0
+IsExplainedBegun P recording = (shut : ShutDown) × IsExplainedAfter P (begun P shut) recording
+
+-- The sightings before one are explained, and with it they are not, but with another word sent in it, or none.
+pub record IsUnexplainedBy (explains : List Sighting → Type 0) (ms : List Marked) (it : Unexplained) : Type 0 where
+  pub before : List Marked
+  pub later : List Marked
+  pub all : ms ≡ before ++ it.marked ∷ later
+  pub explained : explains (seen_in before)
+  pub unexplained : explains (seen_in before ++ shown_sighting it.marked.sighting ∷ []) → ⊥
+  pub possible : explains (seen_in before ++ sighting_instead it ∷ [])
+
+-- so it is after the four beginnings
+abbrev pub IsUnexplainedBegunAt : Description → List Marked → Unexplained → Type 0
+IsUnexplainedBegunAt P ms it = IsUnexplainedBy (IsExplainedBegun P) ms it
+
+-- the watch of a beginning
+abbrev pub watch_at : {L : Type 0} → Beginnings L → ShutDown → Watch L
+watch_at bs shut =
+    if shut.a then (if shut.b then bs.both else bs.a)
+    else (if shut.b then bs.b else bs.none)
+
+-- each of the four has seen these sightings
+abbrev pub WatchBegun : {L : Type 0} → (L → Cell → Bool) → Description → List Marked → Beginnings L → Type 0
+WatchBegun is_legal P ms bs = (shut : ShutDown) → Watches is_legal P (begun P shut) ms (watch_at bs shut)
+
+-- the set-up of a terminal whose transmitters can be shut down, as in every accepted profile
+pub record CanBegin (P : Description) : Type 0 where
+  pub address : P.address ≤ 30
+  pub shutdown : P.legal (OwnMode mode.shutdown) ≡ true
+
+-- what comes after a pause is judged, or it asks back: then the next pause is sought
+abbrev pub unless_asks : Description → List Sighting → Bool → Option (List Sighting)
+unless_asks P part asks = if asks then fresh_part P no_gaps part else Some part
+
+-- Where a watch is in what was seen: before a pause; after one, before a command; or in the part that is judged.
+abbrev pub IsPartOf : Description → List Sighting → List Sighting → Part → Type 0
+IsPartOf P seen part (Sought k) = (more : List Sighting) → fresh_part P no_gaps (seen ++ more) ≡ fresh_part P (shown_gaps k) more
+IsPartOf P seen part Begun =
+    (first_command P part ≡ None)
+    × ((more : List Sighting) → fresh_part P no_gaps (seen ++ more) ≡ unless_asks P (part ++ more) (asks_back P (first_command P more)))
+IsPartOf P seen part Afresh =
+    ((c : ℕ) × (first_command P part ≡ Some c) × (spares P c ≡ false)) × ((more : List Sighting) → fresh_part P no_gaps (seen ++ more) ≡ Some (part ++ more))
+
+-- what came after a pause is watched from each beginning
+pub record IsBegun {L : Type 0} (is_legal : L → Cell → Bool) (P : Description) (ms : List Marked) (w : LaterWatch L) (p : Part) : Type 0 where
+  pub front : List Marked
+  pub pause : Marked
+  pub part : List Marked
+  pub all : ms ≡ front ++ pause ∷ part
+  pub line : w.after ≡ pause.line
+  pub watches : WatchBegun is_legal P part w.beginnings
+  pub is_part : IsPartOf P (seen_in ms) (seen_in part) p
+
+abbrev pub WatchesPart : {L : Type 0} → (L → Cell → Bool) → Description → List Marked → LaterWatch L → Part → Type 0
+WatchesPart is_legal P ms w (Sought k) = IsPartOf P (seen_in ms) [] (Sought k)
+WatchesPart is_legal P ms w p = IsBegun is_legal P ms w p
+
+-- a watch has seen these sightings, of a terminal of P that was on before
+pub record WatchesLater {L : Type 0} (is_legal : L → Cell → Bool) (P : Description) (ms : List Marked) (w : LaterWatch L) : Type 0 where
+  pub description : described w.setup (is_legal w.legality) ≡ P
+  pub can : CanBegin P
+  pub watches : WatchesPart is_legal P ms w w.part
+
+-- The part of a recording that is judged: it comes after the slot that ends a pause. Nothing is told exactly if it is explained, whatever
+-- came before; else the first sighting in it that nothing explains.
+pub record IsJudged (P : Description) (ms : List Marked) (judged : Judged) : Type 0 where
+  pub front : List Marked
+  pub pause : Marked
+  pub part : List Marked
+  pub all : ms ≡ front ++ pause ∷ part
+  pub line : judged.after ≡ pause.line
+  pub is_part : fresh_part P no_gaps (seen_in ms) ≡ Some (seen_in part)
+  pub explained : (judged.first ≡ None) ↔ IsExplainedLater P (seen_in part)
+  pub first : IfSome judged.first (IsUnexplainedBy (IsExplainedLater P) part)

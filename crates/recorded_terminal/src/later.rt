@@ -1,0 +1,195 @@
+//! A recording that began at any time: the part of it that begins afresh is watched.
+ghost use Rattle.std.specs.Prelude.{◌≡◌, ◌+◌, ◌↔◌, ◌++◌, ◌∷◌, [], List, IfSome, None, OnOk};
+ghost use Rattle.bus_legal.specs.Description.{Description, described};
+ghost use Rattle.terminal_recordings.specs.Later.{are_two, command_for, fresh_part, no_gaps, gaps_with};
+ghost use Rattle.terminal_rules.specs.Status.{spares};
+ghost use Rattle.recorded_terminal.specs.SentWords.{word_shown};
+ghost use Rattle.recorded_terminal.specs.declared.watch.Marked.{Marked};
+ghost use Rattle.recorded_terminal.specs.Watched.{seen_in};
+ghost use Rattle.recorded_terminal.specs.Judged.{CanBegin, IsJudged, WatchesLater};
+ghost use Rattle.recorded_terminal.specs.inner.Gaps.{AreGaps, IsPartWith, at_most_two, shown_gaps};
+ghost use Rattle.recorded_terminal.specs.Sightings.{shown_sighting};
+
+use crate::beginnings::Beginnings;
+use crate::watch::{Marked, Unexplained};
+use bus_legal::{Legality, Setup};
+use bus_terminal::{Event, Sent};
+use bus_word::{Bus, Command, cell_of};
+use std::alloc::{AllocError, Global};
+use terminal_state::reports_kept;
+
+/// How many gaps came on each bus, 2 standing for more, with no word or noise since the first of them, and no word sent.
+#[derive(Clone, Copy)]
+pub struct Gaps {
+    a: u8,
+    b: u8,
+}
+
+/// Which part of a recording a watch is in.
+#[derive(Clone, Copy)]
+pub enum Part {
+    /// A pause is sought.
+    Sought(Gaps),
+    /// A pause came, and no command for the terminal since.
+    Begun,
+    /// The first command since did not ask back: what comes after the pause is judged.
+    Afresh,
+}
+
+/// The part of a recording that is judged, since it begins afresh after a pause.
+#[derive(Clone, Copy)]
+pub struct Judged {
+    /// The line of the slot that ends the pause.
+    pub after: u64,
+    /// The first sighting in it that no behaviour of the subsystem explains, whatever came before the pause.
+    pub first: Option<Unexplained>,
+}
+
+/// One more gap.
+fn one_more(gaps: u8) -> u8
+    ensures { result ≡ at_most_two (gaps + 1) }
+{
+    if gaps < 2 {
+        gaps + 1
+    } else {
+        2
+    }
+}
+
+impl Gaps {
+    const NONE: Gaps = Gaps { a: 0, b: 0 };
+
+    /// Whether there are two or more on each bus.
+    fn are_two(self) -> bool
+        ensures { result ≡ are_two (shown_gaps self) }
+    {
+        self.a >= 2 && self.b >= 2
+    }
+
+    /// Counts an event, in which this word is sent, or none. None where it ends a pause.
+    fn with(self, event: Event, sent: Option<Sent>) -> Option<Gaps>
+        ensures { AreGaps (gaps_with (shown_gaps self) event (word_shown sent)) result }
+    {
+        match (event, sent) {
+            (Event::Gap(Bus::A), _) => Some(Gaps {
+                a: one_more(self.a),
+                b: self.b,
+            }),
+            (Event::Gap(Bus::B), _) => Some(Gaps {
+                a: self.a,
+                b: one_more(self.b),
+            }),
+            (Event::Slot, None) => if self.are_two() { None } else { Some(self) },
+            _ => Some(Gaps::NONE),
+        }
+    }
+}
+
+/// Watches a recording that began at any time, from the first pause in it after which it begins afresh.
+#[derive(Drop)]
+pub struct LaterWatch<L> {
+    alloc: Global,
+    setup: Setup,
+    legality: L,
+    part: Part,
+    /// The line of the slot that ended the last pause.
+    after: u64,
+    beginnings: Beginnings<L>,
+}
+
+impl<L: Legality + Drop + Copy> LaterWatch<L> {
+    /// Watches a terminal of this set-up and legality.
+    pub fn new(alloc: Global, setup: Setup, legality: L) -> LaterWatch<L>
+        ensures { CanBegin (described setup (L.is_legal legality)) → WatchesLater L.is_legal (described setup (L.is_legal legality)) [] result }
+    {
+        LaterWatch {
+            alloc,
+            setup,
+            legality,
+            part: Part::Sought(Gaps::NONE),
+            after: 0,
+            beginnings: Beginnings::of(alloc, setup, legality),
+        }
+    }
+
+    /// The command in a word for the terminal.
+    fn command_for(&self, event: Event) -> Option<u16>
+        ensures { result ≡ command_for (described self.now.setup (L.is_legal self.now.legality)) event }
+    {
+        match event {
+            Event::Word(_, word) if word.is_for(self.setup.address, self.setup.broadcast) => Some(
+                word.bits,
+            ),
+            _ => None,
+        }
+    }
+
+    /// Whether a command is a legal own mode code 2 or 18, which asks for what was kept before it.
+    fn asks_back(&self, command: u16) -> bool
+        ensures { result ≡ spares (described self.now.setup (L.is_legal self.now.legality)) command }
+    {
+        match cell_of(Command::of(command)) {
+            Some(cell) => reports_kept(cell) && self.legality.legal(cell),
+            None => false,
+        }
+    }
+
+    /// Which part the sighting is in that comes next.
+    fn part_with(&self, marked: &Marked) -> Part
+        ensures { IsPartWith (described self.now.setup (L.is_legal self.now.legality)) self.now.part (shown_sighting marked.now.sighting) result }
+    {
+        match self.part {
+            Part::Sought(gaps) => match gaps.with(marked.sighting.event, marked.sighting.sent) {
+                Some(gaps) => Part::Sought(gaps),
+                None => Part::Begun,
+            },
+            Part::Begun => match self.command_for(marked.sighting.event) {
+                Some(command) if self.asks_back(command) => Part::Sought(Gaps::NONE),
+                Some(_) => Part::Afresh,
+                None => Part::Begun,
+            },
+            Part::Afresh => Part::Afresh,
+        }
+    }
+
+    /// Takes what is seen next.
+    pub fn see(&mut self, marked: Marked) -> Result<(), AllocError>
+        ensures { OnOk result ((P : Description) (ms : List Marked) → WatchesLater L.is_legal P ms self.old → WatchesLater L.is_legal P (ms ++ marked ∷ []) self.new) }
+    {
+        let before = self.part;
+        self.part = self.part_with(&marked);
+        match (before, self.part) {
+            (_, Part::Sought(_)) => Ok(()),
+            (Part::Sought(_), _) => {
+                self.after = marked.line;
+                self.beginnings = Beginnings::of(self.alloc, self.setup, self.legality);
+                Ok(())
+            }
+            _ => {
+                self.beginnings.see(&marked)?;
+                Ok(())
+            }
+        }
+    }
+
+    /// Gives the part that is judged, and the first sighting there that no behaviour of the subsystem explains. None where no part
+    /// begins afresh after a pause.
+    pub fn end(self) -> Option<Judged>
+        ensures none { (P : Description) (ms : List Marked) → WatchesLater L.is_legal P ms self → ((result ≡ None) ↔ (fresh_part P no_gaps (seen_in ms) ≡ None)) }
+        ensures judged { (P : Description) (ms : List Marked) → WatchesLater L.is_legal P ms self → IfSome result (IsJudged P ms) }
+    {
+        let LaterWatch {
+            part,
+            after,
+            beginnings,
+            ..
+        } = self;
+        match part {
+            Part::Sought(_) => None,
+            _ => Some(Judged {
+                after,
+                first: beginnings.end(),
+            }),
+        }
+    }
+}
