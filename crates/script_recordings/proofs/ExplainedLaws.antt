@@ -3,7 +3,7 @@ use Rattle.std.proofs.Common.{◌≡◌, ◌∙◌, ◌↔◌, ◌≤◌, ℕ, O
 use Rattle.bus_legal.specs.Description.{Description}
 use Rattle.terminal_rules.specs.declared.event.Event.{Event}
 use Rattle.terminal_rules.specs.Same.{AreProper}
-use Rattle.terminal_recordings.specs.Recordings.{Sighting, seen_then, sightings, sightings_from, IsExplained, IsRecording}
+use Rattle.terminal_recordings.specs.Recordings.{Sighting, seen_then, sightings, sightings_from, IsExplained, IsExplainedAfter, IsRecording}
 use Rattle.terminal_recordings.specs.Completion.{shown_of}
 use Rattle.terminal_recordings.proofs.Law.{recording_law}
 use Rattle.script_lines.specs.EventLine.{script_text}
@@ -14,11 +14,12 @@ use Rattle.recorded_terminal.specs.SentWords.{word_shown}
 use Rattle.recorded_terminal.specs.Sightings.{shown_sighting}
 use Rattle.recorded_terminal.specs.Watched.{seen_in}
 use Rattle.recorded_terminal.specs.Watched as watched
-use Rattle.rt1553_verify.specs.Stated.{StatedEvent, stated_through}
+use Rattle.recorded_terminal.specs.Judged.{IsUnexplainedBy}
+use Rattle.rt1553_verify.specs.Stated.{StatedEvent}
 use Rattle.rt1553_verify.specs.Verify.{ToldAnswer, told_answer}
 use Rattle.script_recordings.specs.declared.explaining.UnexplainedLine.{UnexplainedLine}
 use Rattle.script_recordings.specs.Seen.{StatesRecording}
-use Rattle.script_recordings.specs.Explained.{told_at, IsFirstUnexplained, IsWitness}
+use Rattle.script_recordings.specs.Explained.{told_at, IsFirstUnexplainedBy, IsFirstUnexplained, IsWitness}
 use Rattle.script_recordings.specs.inner.Reads.{Left, NextSeen, TellsUnexplained}
 use Rattle.script_recordings.proofs.ReadLaws.{AreMarkedAs, are_seen, Split, split, ReadSoFar, read_all}
 
@@ -29,36 +30,38 @@ sightings_alike P Q alike h (e ∷ es) = λ j. seen_then e (alike h e j) (sighti
 pub explained_alike : (P Q : Description) → AnswersAlike P Q → (recording : List Sighting) → IsExplained P recording → IsExplained Q recording
 explained_alike P Q alike recording (es, proper, seen) = (es, proper, sym (sightings_alike P Q alike [] es) ∙ seen)
 
--- what is told is the first that is unexplained
-first_told : (P Q : Description) → AnswersAlike P Q → (script : List ℕ) (ss : List StatedEvent) (ms : List Marked) (it : Unexplained) (told : ToldAnswer)
-    → stated_through script ≡ Ok ss → AreMarkedAs ss ms → told ≡ told_at it.marked.line (word_shown it.marked.sighting.sent) (word_shown it.sent)
-    → watched.IsUnexplainedAt P ms it → IsFirstUnexplained Q script told
-first_told P Q alike script ss ms it told reads are is i =
-    let c : Split ss i.before it.marked = split ss i.before it.marked i.later (subst (λ (l : List Marked). AreMarkedAs ss l) i.all are) in
+-- what is told is the first that is unexplained, also by another word for it
+pub first_told : {E F : List Sighting → Type 0} → ((xs : List Sighting) → E xs → F xs) → ((xs : List Sighting) → F xs → E xs) → (ss : List StatedEvent) (ms : List Marked) (it : Unexplained) (told : ToldAnswer)
+    → AreMarkedAs ss ms → told ≡ told_at it.marked.line (word_shown it.marked.sighting.sent) (word_shown it.sent) → IsUnexplainedBy E ms it → IsFirstUnexplainedBy F ss told
+first_told to back ss ms it told are is i =
+    let c : Split ss i.before it.marked i.later = split ss i.before it.marked i.later (subst (λ (l : List Marked). AreMarkedAs ss l) i.all are) in
     let s : Sighting = shown_sighting it.marked.sighting in
     record {
       front = c.front;
       stated = c.stated;
       rest = c.rest;
-      all = reads ∙ ap Ok c.all;
+      all = c.all;
       before = seen_in i.before;
       sighting = s;
       other = word_shown it.sent;
       are_seen = are_seen c.front i.before c.are;
       is_seen = c.is.0;
-      explained = explained_alike P Q alike (seen_in i.before) i.explained;
-      unexplained = λ x. i.unexplained (explained_alike Q P (λ h e. sym (alike h e)) (seen_in i.before ++ s ∷ []) x);
-      possible = explained_alike P Q alike (seen_in i.before ++ record s { sent = word_shown it.sent } ∷ []) i.possible;
+      explained = to (seen_in i.before) i.explained;
+      unexplained = λ x. i.unexplained (back (seen_in i.before ++ s ∷ []) x);
+      possible = to (seen_in i.before ++ record s { sent = word_shown it.sent } ∷ []) i.possible;
       is_told = is ∙ ap (λ n. told_at n s.sent (word_shown it.sent)) c.is.1;
     }
 
-none_told : (first : Option Unexplained) (told : Option UnexplainedLine) → TellsUnexplained first told → told ≡ None → first ≡ None
+unnumbered : (P : Description) (h : List Event) (ms : List Marked) (it : Unexplained) → watched.IsUnexplainedAt P h ms it → IsUnexplainedBy (IsExplainedAfter P h) ms it
+unnumbered P h ms it i = record { before = i.before; later = i.later; all = i.all; explained = i.explained; unexplained = i.unexplained; possible = i.possible }
+
+pub none_told : (first : Option Unexplained) (told : Option UnexplainedLine) → TellsUnexplained first told → told ≡ None → first ≡ None
 none_told None None tells e = refl
 none_told None (Some line) tells e = absurd tells
 none_told (Some it) None tells e = absurd tells
 none_told (Some it) (Some line) tells e = absurd (cc)
 
-told_none : (first : Option Unexplained) (told : Option UnexplainedLine) → TellsUnexplained first told → first ≡ None → told ≡ None
+pub told_none : (first : Option Unexplained) (told : Option UnexplainedLine) → TellsUnexplained first told → first ≡ None → told ≡ None
 told_none None None tells e = refl
 told_none None (Some line) tells e = absurd tells
 told_none (Some it) None tells e = absurd tells
@@ -80,14 +83,14 @@ explained_all (Some script) left new ms first told P Q alike read end tells deci
     )
 
 pub first_all : (input : Option (List ℕ)) (left new : Left) (ms : List Marked) (first : Option Unexplained) (told : Option UnexplainedLine) (P Q : Description) → AnswersAlike Q P
-    → ReadSoFar input left ms → NextSeen left new (Ok None) → TellsUnexplained first told → IfSome first (watched.IsUnexplainedAt Q ms)
+    → ReadSoFar input left ms → NextSeen left new (Ok None) → TellsUnexplained first told → IfSome first (watched.IsUnexplainedAt Q [] ms)
     → IfSome told (λ line. IfSome input (λ script. IsFirstUnexplained P script (told_answer line.answer)))
 first_all input left new ms first None P Q alike read end tells found = tt
 first_all input left new ms None (Some line) P Q alike read end tells found = absurd tells
 first_all None left new ms (Some it) (Some line) P Q alike read end tells found = tt
 first_all (Some script) left new ms (Some it) (Some line) P Q alike read end tells found =
     let a = read_all script left new ms read end in
-    first_told Q P alike script a.0 ms it (told_answer line.answer) a.1 a.2 tells found
+    (a.0, a.1, first_told (explained_alike Q P alike) (explained_alike P Q (λ h e. sym (alike h e))) a.0 ms it (told_answer line.answer) a.2 tells (unnumbered Q [] ms it found))
 
 -- ---- a witness
 
@@ -99,7 +102,7 @@ is_witness P Q alike script recording events low is states proper shown = record
   states = states;
   plays = λ x.
       sym (sightings_alike Q P alike [] events)
-      ∙ (shown ∙ (recording_law.decided Q recording low is).0 (explained_alike P Q (λ h e. sym (alike h e)) recording x));
+      ∙ (shown ∙ (recording_law.decided Q [] recording low is).0 (explained_alike P Q (λ h e. sym (alike h e)) recording x));
 }
 
 pub witness_of : (input : Option (List ℕ)) (recording : List Sighting) (text : List ℕ) (events : List Event) → IfSome input (λ script. StatesRecording script recording)

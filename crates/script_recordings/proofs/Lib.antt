@@ -1,3 +1,4 @@
 pub mod ReadLaws
 pub mod ExplainedLaws
 pub mod WordLaws
+pub mod SinceLaws

@@ -40,21 +40,22 @@ are_seen (s ∷ ss) [] are = absurd are
 are_seen (s ∷ ss) (m ∷ ms) are = (are.0.0, are_seen ss ms are.1)
 
 -- the event of one of the sightings
-pub record Split (ss : List StatedEvent) (before : List Marked) (m : Marked) : Type 0 where
+pub record Split (ss : List StatedEvent) (before : List Marked) (m : Marked) (later : List Marked) : Type 0 where
   pub front : List StatedEvent
   pub stated : StatedEvent
   pub rest : List StatedEvent
   pub all : ss ≡ front ++ stated ∷ rest
   pub are : AreMarkedAs front before
   pub is : IsMarkedAs stated m
+  pub are_rest : AreMarkedAs rest later
 
-pub split : (ss : List StatedEvent) (before : List Marked) (m : Marked) (later : List Marked) → AreMarkedAs ss (before ++ m ∷ later) → Split ss before m
+pub split : (ss : List StatedEvent) (before : List Marked) (m : Marked) (later : List Marked) → AreMarkedAs ss (before ++ m ∷ later) → Split ss before m later
 split [] [] m later are = absurd are
 split [] (b ∷ before) m later are = absurd are
-split (s ∷ ss) [] m later are = record { front = []; stated = s; rest = ss; all = refl; are = tt; is = are.0 }
+split (s ∷ ss) [] m later are = record { front = []; stated = s; rest = ss; all = refl; are = tt; is = are.0; are_rest = are.1 }
 split (s ∷ ss) (b ∷ before) m later are =
     let c = split ss before m later are.1 in
-    record { front = s ∷ c.front; stated = c.stated; rest = c.rest; all = ap (λ l. s ∷ l) c.all; are = (are.0, c.are); is = c.is }
+    record { front = s ∷ c.front; stated = c.stated; rest = c.rest; all = ap (λ l. s ∷ l) c.all; are = (are.0, c.are); is = c.is; are_rest = c.are_rest }
 
 -- ---- what was read so far
 

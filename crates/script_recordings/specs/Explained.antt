@@ -1,35 +1,71 @@
 -- The first line of a script that no behaviour of the subsystem explains.
-use Rattle.std.specs.Prelude.{ℕ, ◌≡◌, Option, Ok, List, [], ◌∷◌, ◌++◌}
+use Rattle.std.specs.Prelude.{ℕ, ◌≡◌, ◌↔◌, Option, Some, None, IfSome, Ok, List, [], ◌∷◌, ◌++◌}
 use Rattle.bus_legal.specs.Description.{Description}
 use Rattle.terminal_rules.specs.declared.event.Event.{Event}
 use Rattle.terminal_rules.specs.Same.{AreProper}
 use Rattle.terminal_rules.specs.Out.{Sending, sending_out}
 use Rattle.terminal_recordings.specs.Recordings.{Sighting, sightings, IsExplained}
+use Rattle.terminal_recordings.specs.Later.{IsExplainedLater, IsExplainedAnyTime, no_gaps, fresh_part}
 use Rattle.script_lines.specs.Transcript.{answer_text}
 use Rattle.rt1553_verify.specs.Stated.{StatedEvent, stated_through}
-use Rattle.rt1553_verify.specs.Verify.{ToldAnswer}
+use Rattle.rt1553_verify.specs.Verify.{ToldAnswer, told_answer}
+use Rattle.script_recordings.specs.declared.explaining.UnexplainedLine.{UnexplainedLine}
 use Rattle.script_recordings.specs.Seen.{IsSeenAs, AreSeenAs, StatesRecording}
 
 -- what is told of the event of a line in which one word, or none, was seen, and another can be sent, or none
 abbrev pub told_at : ℕ → Option Sending → Option Sending → ToldAnswer
 told_at line seen sent = record { line = line; expected = answer_text (sending_out seen); came = answer_text (sending_out sent) }
 
--- The events of a script before one are explained as they are stated, and with this one they are not, but with another word sent in
--- it, or none: of that is told.
-pub record IsFirstUnexplained (P : Description) (script : List ℕ) (told : ToldAnswer) : Type 0 where
+-- The events before one are explained as they are stated, and with this one they are not, but with another word sent in it, or none:
+-- of that is told.
+pub record IsFirstUnexplainedBy (explains : List Sighting → Type 0) (events : List StatedEvent) (told : ToldAnswer) : Type 0 where
   pub front : List StatedEvent
   pub stated : StatedEvent
   pub rest : List StatedEvent
-  pub all : stated_through script ≡ Ok (front ++ stated ∷ rest)
+  pub all : events ≡ front ++ stated ∷ rest
   pub before : List Sighting
   pub sighting : Sighting
   pub other : Option Sending
   pub are_seen : AreSeenAs front before
   pub is_seen : IsSeenAs stated sighting
-  pub explained : IsExplained P before
-  pub unexplained : IsExplained P (before ++ sighting ∷ []) → ⊥
-  pub possible : IsExplained P (before ++ record sighting { sent = other } ∷ [])
+  pub explained : explains before
+  pub unexplained : explains (before ++ sighting ∷ []) → ⊥
+  pub possible : explains (before ++ record sighting { sent = other } ∷ [])
   pub is_told : told ≡ told_at stated.line sighting.sent other
+
+-- so it is of the events of a script, from power-up
+abbrev pub IsFirstUnexplained : Description → List ℕ → ToldAnswer → Type 0
+IsFirstUnexplained P script told = (events : List StatedEvent) × (stated_through script ≡ Ok events) × IsFirstUnexplainedBy (IsExplained P) events told
+
+-- The part of a recording that is judged where the unit was on before: it comes after the slot of a line, which ends a pause. Nothing is
+-- told exactly if it is explained, whatever came before the pause; else the first of its events that nothing explains.
+pub record IsJudgedAfter (D : Description) (script : List ℕ) (after : ℕ) (told : Option ToldAnswer) : Type 0 where
+  pub front : List StatedEvent
+  pub pause : StatedEvent
+  pub events : List StatedEvent
+  pub all : stated_through script ≡ Ok (front ++ pause ∷ events)
+  pub line : after ≡ pause.line
+  pub recording : List Sighting
+  pub are_seen : AreSeenAs (front ++ pause ∷ events) recording
+  pub part : List Sighting
+  pub part_seen : AreSeenAs events part
+  pub is_part : fresh_part D no_gaps recording ≡ Some part
+  pub explained : (told ≡ None) ↔ IsExplainedLater D part
+  pub first : IfSome told (IsFirstUnexplainedBy (IsExplainedLater D) events)
+
+-- what is told of a recording that began at any time, and the line after which it is judged: None where no part of it begins afresh
+abbrev pub IsJudgedSince : Description → List ℕ → Option ℕ → Option ToldAnswer → Type 0
+IsJudgedSince D script None told = (told ≡ None) × ((recording : List Sighting) × StatesRecording script recording × (fresh_part D no_gaps recording ≡ None))
+IsJudgedSince D script (Some line) told = IsJudgedAfter D script line told
+
+-- what is told of a line, where something is
+abbrev pub told_first : Option UnexplainedLine → Option ToldAnswer
+told_first None = None
+told_first (Some line) = Some (told_answer line.answer)
+
+-- whenever the recording of a script began, no behaviour of the subsystem explains it
+abbrev pub NothingExplains : Description → List ℕ → Type 0
+NothingExplains P script = (recording : List Sighting) × StatesRecording script recording × (IsExplainedAnyTime P recording → ⊥)
 
 -- events that can come, of which just what the script states is seen, if some behaviour of the subsystem explains it
 pub record IsWitness (P : Description) (script : List ℕ) (events : List Event) : Type 0 where

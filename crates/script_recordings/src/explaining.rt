@@ -9,13 +9,13 @@ ghost use Rattle.terminal_rules.specs.Out.{sending_out};
 ghost use Rattle.script_lines.specs.Transcript.{answer_text};
 ghost use Rattle.rt1553_verify.specs.Verify.{told_answer};
 ghost use Rattle.script_recordings.specs.Seen.{StatesRecording, StatesNoRecording};
-ghost use Rattle.script_recordings.specs.Explained.{told_at, IsFirstUnexplained};
-ghost use Rattle.script_recordings.specs.inner.Reads.{TellsUnexplained};
+ghost use Rattle.script_recordings.specs.Explained.{told_at, told_first, IsFirstUnexplained, IsJudgedSince, NothingExplains};
+ghost use Rattle.script_recordings.specs.inner.Reads.{TellsUnexplained, TellsJudged};
 
 use crate::reading::{RecordingFault, RecordingReader};
 use bus_legal::Normal;
 use bus_terminal::{Answer, Sent};
-use recorded_terminal::{Unexplained, Watch};
+use recorded_terminal::{Judged, LaterWatch, Unexplained, Watch};
 use rt1553_verify::{ScriptWarning, WrongAnswer, stated_warning};
 use script_lines::write_answer;
 use std::alloc::{AllocError, Global};
@@ -37,6 +37,18 @@ pub struct Explained {
     pub answers: usize,
     /// Why that shows nothing, or little, where it does.
     pub warning: Option<ScriptWarning>,
+    pub first: Option<UnexplainedLine>,
+}
+
+/// What comes of a recording that began at any time, while the unit was on or before.
+#[derive(Drop)]
+pub struct ExplainedSince {
+    /// How many words it states.
+    pub answers: usize,
+    /// Why that shows nothing, or little, where it does.
+    pub warning: Option<ScriptWarning>,
+    /// The line of the slot that ends the pause after which it is judged. None where no part of it begins afresh after a pause.
+    pub after: Option<u64>,
     pub first: Option<UnexplainedLine>,
 }
 
@@ -78,6 +90,28 @@ fn first_told(
     }
 }
 
+/// What is told of the part that is judged.
+#[derive(Drop)]
+struct JudgedTold {
+    after: Option<u64>,
+    first: Option<UnexplainedLine>,
+}
+
+fn judged_told(alloc: Global, judged: Option<Judged>) -> Result<JudgedTold, AllocError>
+    ensures { IfOk result (λ told. TellsJudged judged told.after told.first) }
+{
+    match judged {
+        Some(judged) => Ok(JudgedTold {
+            after: Some(judged.after),
+            first: first_told(alloc, judged.first)?,
+        }),
+        None => Ok(JudgedTold {
+            after: None,
+            first: None,
+        }),
+    }
+}
+
 /// Reads a recording, of a terminal from power-up, for the first event which no behaviour of the subsystem explains: what is stated of
 /// it, and a line with which it would be explained. None where the whole recording is explained. A script that states no recording is
 /// refused. What lies between two status words is kept, and no more.
@@ -105,5 +139,37 @@ pub fn watch_recording<B: BufRead + Drop>(
         answers,
         warning: stated_warning(has_event, answers),
         first: first_told(alloc, watch.end())?,
+    })
+}
+
+/// Reads a recording that began at any time for the first event, in its first part that begins afresh after a pause, which no behaviour of
+/// the subsystem explains, whatever came before. A script that states no recording is refused. What lies between two status words is
+/// kept, and no more.
+pub fn watch_since<B: BufRead + Drop>(
+    alloc: Global,
+    normal: &Normal,
+    input: B,
+) -> Result<ExplainedSince, RecordingFault>
+    ensures judged { IfOk result (λ it. IfSome (B.remaining input) (λ script. IsJudgedSince (description_in normal.now) script it.after (told_first it.first))) }
+    ensures never { (P : Description) → description_in normal.now ≡ reach P → IfOk result (λ it. IfSome it.first (λ line. IfSome (B.remaining input) (λ script. NothingExplains P script))) }
+    ensures refused { IfErr result (λ fault. IfSome (B.remaining input) (λ script. StatesNoRecording script fault)) }
+{
+    let mut reader = RecordingReader::new(alloc, normal.address(), input);
+    let mut watch = LaterWatch::new(alloc, normal.setup(), *normal);
+    let mut has_event = false;
+    let mut answers: usize = 0;
+    'sightings: while let Some(marked) = reader.next()? {
+        has_event = true;
+        if marked.sighting.sent.is_some() {
+            answers = answers.saturating_add(1);
+        }
+        watch.see(marked)?;
+    }
+    let judged = judged_told(alloc, watch.end())?;
+    Ok(ExplainedSince {
+        answers,
+        warning: stated_warning(has_event, answers),
+        after: judged.after,
+        first: judged.first,
     })
 }

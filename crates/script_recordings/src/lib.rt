@@ -6,7 +6,7 @@ mod reading;
 mod telling;
 mod words;
 
-pub use explaining::{Explained, UnexplainedLine, watch_recording};
+pub use explaining::{Explained, ExplainedSince, UnexplainedLine, watch_recording, watch_since};
 pub use reading::RecordingFault;
 pub use telling::witness;
 pub use words::read_sent;

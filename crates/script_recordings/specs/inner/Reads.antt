@@ -1,7 +1,8 @@
 -- What is read of a recording, sighting by sighting.
-use Rattle.std.specs.Prelude.{◌≡◌, ◌≢◌, ◌⊎◌, Option, Some, None, List, [], ◌∷◌, Result, Ok, Err}
+use Rattle.std.specs.Prelude.{◌≡◌, ◌≢◌, ◌⊎◌, ℕ, Option, Some, None, List, [], ◌∷◌, Result, Ok, Err}
 use Rattle.recorded_terminal.specs.declared.watch.Marked.{Marked}
 use Rattle.recorded_terminal.specs.declared.watch.Unexplained.{Unexplained}
+use Rattle.recorded_terminal.specs.declared.later.Judged.{Judged}
 use Rattle.recorded_terminal.specs.SentWords.{word_shown}
 use Rattle.recorded_terminal.specs.Sightings.{shown_sighting}
 use Rattle.rt1553_verify.specs.declared.stated.StatedFault.{StatedFault}
@@ -45,3 +46,9 @@ abbrev pub TellsUnexplained : Option Unexplained → Option UnexplainedLine → 
 TellsUnexplained None None = Unit {0}
 TellsUnexplained (Some it) (Some line) = told_answer line.answer ≡ told_at it.marked.line (word_shown it.marked.sighting.sent) (word_shown it.sent)
 TellsUnexplained _ _ = ⊥
+
+-- what is told of the part that is judged, where one is
+abbrev pub TellsJudged : Option Judged → Option ℕ → Option UnexplainedLine → Type 0
+TellsJudged None None None = Unit {0}
+TellsJudged (Some it) (Some line) told = (line ≡ it.after) × TellsUnexplained it.first told
+TellsJudged _ _ _ = ⊥

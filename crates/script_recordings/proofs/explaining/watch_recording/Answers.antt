@@ -16,7 +16,7 @@ pub sightings-preserved : goal.sightings-preserved
 sightings-preserved g c =
     let i = c.sightings.invariant in (
       i.0 ++ c.in-Some.marked ∷ [],
-      λ Q w. c.in_ok-see.ensures Q i.0 (i.1 Q w),
+      λ Q w. c.in_ok-see.ensures Q [] i.0 (i.1 Q w),
       read_more (g.B.Read.remaining c.args.input) (left_in g.B.Read.remaining c.sightings.reader.script) (left_in g.B.Read.remaining c.next.new.self.script) i.0 c.in-Some.marked i.2
           (subst (λ o. NextSeen (left_in g.B.Read.remaining c.sightings.reader.script) (left_in g.B.Read.remaining c.next.new.self.script) (Ok o)) c.in-Some.is c.in_ok-marked.ensures.next),
     )
@@ -37,7 +37,7 @@ returns-clause-explained g c P reached =
     let alike = set_up_alike v c.setup.result P c.setup.ensures.normal c.setup.ensures.parts c.setup.result.own_address reached in
     explained_all (g.B.Read.remaining c.args.input) (left_in g.B.Read.remaining c.sightings.reader.script) (left_in g.B.Read.remaining c.next.new.self.script) i.0 c.end.result _ P Q alike i.2
     (subst (λ o. NextSeen (left_in g.B.Read.remaining c.sightings.reader.script) (left_in g.B.Read.remaining c.next.new.self.script) (Ok o)) c.in_default.is c.in_ok-marked.ensures.next)
-    c.in_ok-first_told.ensures (c.end.ensures.explained Q i.0 (i.1 Q c.power_up-watch.ensures))
+    c.in_ok-first_told.ensures (c.end.ensures.explained Q [] i.0 (i.1 Q c.power_up-watch.ensures))
 
 pub returns-clause-first : goal.returns-clause-first
 returns-clause-first g c P reached =
@@ -47,4 +47,4 @@ returns-clause-first g c P reached =
     let alike = set_up_alike v c.setup.result P c.setup.ensures.normal c.setup.ensures.parts c.setup.result.own_address reached in
     first_all (g.B.Read.remaining c.args.input) (left_in g.B.Read.remaining c.sightings.reader.script) (left_in g.B.Read.remaining c.next.new.self.script) i.0 c.end.result _ P Q alike i.2
     (subst (λ o. NextSeen (left_in g.B.Read.remaining c.sightings.reader.script) (left_in g.B.Read.remaining c.next.new.self.script) (Ok o)) c.in_default.is c.in_ok-marked.ensures.next)
-    c.in_ok-first_told.ensures (c.end.ensures.first Q i.0 (i.1 Q c.power_up-watch.ensures))
+    c.in_ok-first_told.ensures (c.end.ensures.first Q [] i.0 (i.1 Q c.power_up-watch.ensures))

@@ -10,7 +10,7 @@ use Rattle.script_recordings.proofs.explaining.watch_recording.Given as goal
 abbrev pub invariant-sightings : goal.invariant-sightings
 invariant-sightings g l =
     (ms : List Marked)
-    × ((Q : Description) → Watches (λ normal. tables_say normal.tables) Q [] l.initial.watch → Watches (λ normal. tables_say normal.tables) Q ms l.watch)
+    × ((Q : Description) → Watches (λ normal. tables_say normal.tables) Q [] [] l.initial.watch → Watches (λ normal. tables_say normal.tables) Q [] ms l.watch)
     × ReadSoFar (g.B.Read.remaining l.fn.input) (left_in g.B.Read.remaining l.reader.script) ms
 
 abbrev pub decreases-sightings : goal.decreases-sightings
