@@ -12,7 +12,7 @@ use Rattle.rt1553_tool_args.specs.declared.command.ToolCommand.TheVariants.{Lint
 use Rattle.rt1553_tool_args.specs.declared.command.Profiles.{Profiles}
 use Rattle.rt1553_tool_args.specs.declared.command.Profiles.TheVariants.{One, Folder}
 use Rattle.rt1553_tool_args.specs.declared.command.ScriptKind.{ScriptKind}
-use Rattle.rt1553_tool_args.specs.declared.command.ScriptKind.TheVariants.{Test, BusTest, Recording}
+use Rattle.rt1553_tool_args.specs.declared.command.ScriptKind.TheVariants.{Test, BusTest, Recording, LaterRecording}
 use Rattle.rt1553_tool_args.specs.declared.command.LintFormat.{LintFormat}
 use Rattle.rt1553_tool_args.specs.declared.command.LintFormat.TheVariants as lint
 use Rattle.rt1553_tool_args.specs.declared.command.ReportFormat.{ReportFormat}
@@ -87,9 +87,10 @@ AsksReport f format summary =
 
 -- what the scripts are to be
 abbrev pub AsksKind : Found → ScriptKind → Type 0
-AsksKind f Test = (is_given f (codes "bus-only") ≡ false) × (is_given f (codes "any-subsystem") ≡ false)
-AsksKind f BusTest = (is_given f (codes "bus-only") ≡ true) × (is_given f (codes "any-subsystem") ≡ false)
-AsksKind f Recording = (is_given f (codes "bus-only") ≡ false) × (is_given f (codes "any-subsystem") ≡ true)
+AsksKind f Test = (is_given f (codes "bus-only") ≡ false) × (is_given f (codes "any-subsystem") ≡ false) × (is_given f (codes "already-on") ≡ false)
+AsksKind f BusTest = (is_given f (codes "bus-only") ≡ true) × (is_given f (codes "any-subsystem") ≡ false) × (is_given f (codes "already-on") ≡ false)
+AsksKind f Recording = (is_given f (codes "bus-only") ≡ false) × (is_given f (codes "any-subsystem") ≡ true) × (is_given f (codes "already-on") ≡ false)
+AsksKind f LaterRecording = (is_given f (codes "bus-only") ≡ false) × (is_given f (codes "any-subsystem") ≡ true) × (is_given f (codes "already-on") ≡ true)
 
 -- the name of a command
 abbrev pub command_name : ToolCommand → Text
@@ -97,7 +98,7 @@ command_name (Lint files format) = codes "lint"
 command_name (CheckScript scripts) = codes "check-script"
 command_name (Verify profiles scripts kind expand format summary names) = codes "verify"
 command_name (Witness p script expand names) = codes "verify"
-command_name (Monitor table address gap no_response) = codes "recording"
+command_name (Monitor table address gap no_response pause) = codes "recording"
 command_name (Import table) = codes "import"
 command_name (Export p) = codes "export"
 command_name (Expand messages) = codes "expand"
@@ -120,9 +121,9 @@ Asks f (Verify profiles scripts kind expand format summary names) =
 Asks f (Witness p script expand names) =
     PlaysTo f (One p) (script.now ∷ []) × AsksKind f Recording × (expand ≡ is_given f (codes "expand")) × AsksReport f report.Text false
     × HasNames f names × (is_given f (codes "witness") ≡ true)
-Asks f (Monitor table address gap no_response) =
+Asks f (Monitor table address gap no_response pause) =
     HasValue f (codes "table") table.now × HasValue f (codes "address") address.now × HasOption f (codes "gap") gap
-    × HasOption f (codes "no-response") no_response
+    × HasOption f (codes "no-response") no_response × HasOption f (codes "pause") pause
 Asks f (Import table) = HasValue f (codes "table") table.now
 Asks f (Export p) = HasValue f (codes "profile") p.now
 Asks f (Expand messages) = HasValue f (codes "messages") messages.now

@@ -23,8 +23,10 @@ pub enum ScriptKind {
     Test,
     /// Tests on the bus alone: hand-overs that they don't state are left aside.
     BusTest,
-    /// Recordings: some behaviour of the subsystem is to explain them.
+    /// Recordings from power-up on: some behaviour of the subsystem is to explain them.
     Recording,
+    /// Recordings that began at any time: the same of the first part that begins afresh after a pause.
+    LaterRecording,
 }
 
 /// How the acceptance test is written.
@@ -99,6 +101,7 @@ pub enum ToolCommand<'a> {
         address: &'a str,
         gap: Option<&'a str>,
         no_response: Option<&'a str>,
+        pause: Option<&'a str>,
     },
     /// The profile that a table means.
     Import(&'a str),
@@ -232,11 +235,13 @@ fn script_kind(given: &ArgMatches<'_>) -> Result<ScriptKind, NoCommand>
     match (
         is_flag_given(given, "bus-only"),
         is_flag_given(given, "any-subsystem"),
+        is_flag_given(given, "already-on"),
     ) {
-        (false, false) => Ok(ScriptKind::Test),
-        (true, false) => Ok(ScriptKind::BusTest),
-        (false, true) => Ok(ScriptKind::Recording),
-        (true, true) => Err(NoCommand::Usage),
+        (false, false, false) => Ok(ScriptKind::Test),
+        (true, false, false) => Ok(ScriptKind::BusTest),
+        (false, true, false) => Ok(ScriptKind::Recording),
+        (false, true, true) => Ok(ScriptKind::LaterRecording),
+        _ => Err(NoCommand::Usage),
     }
 }
 
@@ -375,6 +380,7 @@ fn command_of<'a>(
             address: required(given, "address")?,
             gap: given.get_str("gap"),
             no_response: given.get_str("no-response"),
+            pause: given.get_str("pause"),
         }),
         "import" => Ok(ToolCommand::Import(required(given, "table")?)),
         "export" => Ok(ToolCommand::Export(required(given, "profile")?)),

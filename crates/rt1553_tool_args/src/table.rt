@@ -97,7 +97,7 @@ const EXPANDED: Argument = Argument {
     help: "takes messages, too, as `expand` does",
 };
 
-const VERIFY: [Argument; 10] = [
+const VERIFY: [Argument; 11] = [
     Argument {
         id: "profile",
         given: Occurrence::OnceOr("profiles"),
@@ -129,6 +129,12 @@ const VERIFY: [Argument; 10] = [
         help: "takes scripts as recordings: some behaviour of the subsystem is to explain them",
     },
     Argument {
+        id: "already-on",
+        given: Occurrence::Flag,
+        value: "",
+        help: "with --any-subsystem judges a recording from its first pause on: the unit was on before",
+    },
+    Argument {
         id: "witness",
         given: Occurrence::Flag,
         value: "",
@@ -150,7 +156,7 @@ const VERIFY: [Argument; 10] = [
     NAMES,
 ];
 
-const RECORDING: [Argument; 4] = [
+const RECORDING: [Argument; 5] = [
     Argument {
         id: "table",
         given: Occurrence::Once,
@@ -174,6 +180,12 @@ const RECORDING: [Argument; 4] = [
         given: Occurrence::Value,
         value: "TIME",
         help: "a status word after a longer silence is no reply, in microseconds (default: 12)",
+    },
+    Argument {
+        id: "pause",
+        given: Occurrence::Value,
+        value: "TIME",
+        help: "a longer silence of both buses is a pause, in microseconds, at least 60 (default: 100)",
     },
 ];
 

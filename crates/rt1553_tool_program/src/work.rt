@@ -67,12 +67,14 @@ fn do_command<R: Files + AllocGlobal + Eprint, I: Read + Drop, W: Write>(
             address,
             gap,
             no_response,
+            pause,
         } => {
             let asked = AskedRecording {
                 table,
                 address,
                 gap: *gap,
                 no_response: *no_response,
+                pause: *pause,
             };
             record_table(rt, asked, output)
         }

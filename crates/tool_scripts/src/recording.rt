@@ -19,7 +19,12 @@ pub struct AskedRecording<'a> {
     /// The silences that count, in microseconds.
     pub gap: Option<&'a str>,
     pub no_response: Option<&'a str>,
+    pub pause: Option<&'a str>,
 }
+
+/// The shortest silence that can be a pause, in nanoseconds: a terminal that receives from another waits at most so long for
+/// its status word (MIL-STD-1553B Notice 2, 30.9).
+const SHORTEST_PAUSE: u64 = 60_000;
 
 /// The nanoseconds of a silence that is given in microseconds; this number where none is given.
 fn silence(given: Option<&str>, default: u64) -> Result<u64, ToolFault> {
@@ -39,10 +44,15 @@ fn setup_of(asked: AskedRecording<'_>) -> Result<RecordingSetup, ToolFault> {
         _ => return Err(ToolFault::Usage),
     };
     let usual = RecordingSetup::of(address);
+    let pause = silence(asked.pause, usual.pause)?;
+    if pause < SHORTEST_PAUSE {
+        return Err(ToolFault::Usage);
+    }
     Ok(RecordingSetup {
         address,
         gap: silence(asked.gap, usual.gap)?,
         no_response: silence(asked.no_response, usual.no_response)?,
+        pause,
     })
 }
 

@@ -1,14 +1,18 @@
 -- Whether a script passes.
-use Rattle.std.proofs.Common.{ℕ, ◌≡◌, ◌↔◌, ◌∙◌, Bool, true, false, Option, Some, None, IfSome, List, [], ◌∷◌, ◌==◌, length, map, Ok, sym, ap, subst, arith}
+use Rattle.std.proofs.Common.{ℕ, ◌≡◌, ◌↔◌, ◌∙◌, Bool, true, false, Option, Some, None, IfSome, List, [], ◌∷◌, ◌==◌, length, map, Ok, refl, sym, ap, subst, arith}
 use Rattle.std.proofs.lemmas.Bool.Decides.{nat_tests}
 use Rattle.bus_legal.specs.Description.{Description}
+use Rattle.bus_legal.specs.Parts.{Parts, description_in}
+use Rattle.bus_legal.specs.Reach.{reach}
 use Rattle.terminal_recordings.specs.Recordings.{Sighting, IsExplained}
 use Rattle.rt1553_verify.specs.Stated.{StatedEvent, stated_in}
 use Rattle.rt1553_verify.specs.declared.verifying.WrongAnswer.{WrongAnswer}
 use Rattle.rt1553_verify.specs.Verify.{ToldAnswer, told_answer, wrong_answers_from, by_script, on_bus_by_script}
+use Rattle.script_recordings.specs.declared.explaining.UnexplainedLine.{UnexplainedLine}
+use Rattle.script_recordings.specs.Explained.{told_first, IsJudgedSince, NothingExplains}
 use Rattle.script_recordings.specs.Seen.{StatesRecording}
-use Rattle.rt1553_tool_args.specs.declared.command.ScriptKind.TheVariants.{Recording}
-use Rattle.tool_verify.specs.Passing.{tells_nothing, scoped, test_kind, SaysBy}
+use Rattle.rt1553_tool_args.specs.declared.command.ScriptKind.TheVariants.{Recording, LaterRecording}
+use Rattle.tool_verify.specs.Passing.{tells_nothing, scoped, test_kind, SaysBy, SaysOf}
 
 -- what is said of the events of a test is said of the test
 pub says_so : (on_bus : Bool) (P : Description) (script : List ℕ) (stated seen : List StatedEvent) (passes : Bool)
@@ -31,3 +35,25 @@ pub nothing_told : (wrong : List WrongAnswer) (told : List ToldAnswer) → map t
 nothing_told [] told is = ap (λ l. tells_nothing (Ok l)) is
 nothing_told (w ∷ wrong) told is =
     let some : (length (w ∷ wrong) == 0) ≡ false = grind (arith, nat_tests) in some ∙ ap (λ l. tells_nothing (Ok l)) is
+
+told_where : (first : Option UnexplainedLine) → (first ≡ None) ↔ (told_first first ≡ None)
+told_where None = (λ e. refl, λ e. refl)
+told_where (Some line) = (λ e. absurd (cc), λ e. absurd (cc))
+
+-- what is said of a recording that began at any time
+pub says_later : (input : Option (List ℕ)) (value : Parts) (after : Option ℕ) (first : Option UnexplainedLine) (passes : Bool) →
+    IfSome input (λ script. IsJudgedSince (description_in value) script after (told_first first)) →
+    ((P : Description) → description_in value ≡ reach P → IfSome first (λ line. IfSome input (λ script. NothingExplains P script))) →
+    ((passes ≡ true) ↔ (first ≡ None)) → IfSome input (λ script. SaysOf LaterRecording value script passes)
+says_later None value after first passes judged never says = tt
+says_later (Some script) value after first passes judged never says = λ P reached. record {
+  after = after;
+  told = told_first first;
+  judged = subst (λ D. IsJudgedSince D script after (told_first first)) reached judged;
+  says = (λ t. (told_where first).0 (says.0 t), λ t. says.1 ((told_where first).1 t));
+  never = λ fails. by P first refl fails (never P reached);
+}
+  where
+    by : (P : Description) (o : Option UnexplainedLine) → first ≡ o → passes ≡ false → IfSome o (λ line. NothingExplains P script) → NothingExplains P script
+    by P None is fails x = let wrong : true ≡ false = sym (says.1 is) ∙ fails in absurd (cc)
+    by P (Some line) is fails x = x

@@ -1,5 +1,5 @@
 -- Which scripts pass, and the status of one that is refused.
-use Rattle.std.specs.Prelude.{ℕ, ◌≡◌, ◌↔◌, Bool, true, false, if◌then◌else◌, List, [], ◌∷◌, map, Result, Ok, Err}
+use Rattle.std.specs.Prelude.{ℕ, Option, None, ◌≡◌, ◌↔◌, Bool, true, false, if◌then◌else◌, List, [], ◌∷◌, map, Result, Ok, Err}
 use Rattle.bus_legal.specs.Description.{Description}
 use Rattle.bus_legal.specs.Parts.{Parts, description_in}
 use Rattle.bus_legal.specs.Reach.{reach}
@@ -8,12 +8,12 @@ use Rattle.terminal_recordings.specs.Recordings.{Sighting, IsExplained}
 use Rattle.rt1553_verify.specs.Stated.{StatedEvent, seen_on_bus}
 use Rattle.rt1553_verify.specs.Verify.{ToldAnswer, verified, verified_on_bus}
 use Rattle.script_lines.specs.EventLine.{script_text}
-use Rattle.script_recordings.specs.Explained.{IsWitness}
+use Rattle.script_recordings.specs.Explained.{IsJudgedSince, NothingExplains, IsWitness}
 use Rattle.script_recordings.specs.Seen.{StatesRecording}
 use Rattle.script_recordings.specs.declared.reading.RecordingFault.{RecordingFault}
 use Rattle.script_recordings.specs.declared.reading.RecordingFault.TheVariants as recording
 use Rattle.rt1553_tool_args.specs.declared.command.ScriptKind.{ScriptKind}
-use Rattle.rt1553_tool_args.specs.declared.command.ScriptKind.TheVariants.{Test, BusTest, Recording}
+use Rattle.rt1553_tool_args.specs.declared.command.ScriptKind.TheVariants.{Test, BusTest, Recording, LaterRecording}
 use Rattle.tool_verify.specs.declared.compared.ScriptFault.{ScriptFault}
 use Rattle.tool_verify.specs.declared.compared.ScriptFault.TheVariants as script
 use Rattle.rt1553_verify.specs.declared.stated.StatedFault.{StatedFault}
@@ -41,12 +41,30 @@ scoped on_bus stated = if on_bus then map seen_on_bus stated else stated
 abbrev pub test_kind : Bool → ScriptKind
 test_kind on_bus = if on_bus then BusTest else Test
 
+-- a recording is from power-up on, or began at any time
+abbrev pub recording_kind : Bool → ScriptKind
+recording_kind later = if later then LaterRecording else Recording
+
+abbrev pub is_later : ScriptKind → Bool
+is_later LaterRecording = true
+is_later _ = false
+
+-- What is told of a recording that began at any time, of the terminal of P, by what of P can be reached: it passes exactly if the part that
+-- is judged is explained, whatever came before. Where it doesn't, nothing explains the recording, whenever it began.
+pub record SaysSince (P : Description) (script : List ℕ) (passes : Bool) : Type 0 where
+  pub after : Option ℕ
+  pub told : Option ToldAnswer
+  pub judged : IsJudgedSince (reach P) script after told
+  pub says : (passes ≡ true) ↔ (told ≡ None)
+  pub never : passes ≡ false → NothingExplains P script
+
 -- it is said of the terminal of P: of a test, whether nothing is told of it, or of what the bus alone shows of it; and of a recording,
 -- whether some behaviour of the subsystem explains it
 abbrev pub SaysBy : ScriptKind → Description → List ℕ → Bool → Type 0
 SaysBy Test P script passes = passes ≡ tells_nothing (verified P script)
 SaysBy BusTest P script passes = passes ≡ tells_nothing (verified_on_bus P script)
 SaysBy Recording P script passes = (recording : List Sighting) × StatesRecording script recording × ((passes ≡ true) ↔ IsExplained P recording)
+SaysBy LaterRecording P script passes = SaysSince P script passes
 
 -- it is said of the terminal of which this can be reached
 abbrev pub SaysOf : ScriptKind → Parts → List ℕ → Bool → Type 0

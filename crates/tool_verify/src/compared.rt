@@ -2,7 +2,7 @@
 ghost use Rattle.std.specs.Prelude.{◌≡◌, ◌==◌, ◌↔◌, ◌++◌, None, true, IfOk, IfSome, length, map};
 ghost use Rattle.rt1553_verify.specs.Stated.{shown};
 ghost use Rattle.rt1553_verify.specs.declared.stated.StatedFault.TheVariants.{Memory};
-ghost use Rattle.tool_verify.specs.Passing.{IsExplainingScript, SaysOf, scoped, test_kind};
+ghost use Rattle.tool_verify.specs.Passing.{IsExplainingScript, SaysOf, is_later, recording_kind, scoped, test_kind};
 ghost use Rattle.tool_verify.specs.declared.compared.ScriptFault.TheVariants.{Stated, Recording};
 
 use bus_legal::Normal;
@@ -11,9 +11,20 @@ use rt1553_verify::{
     ScriptWarning, Stated, StatedFault, WrongAnswer, answers_in, message_commands, read_stated,
     script_warning, stated_on_bus, wrong_answers,
 };
-use script_recordings::{Explained, RecordingFault, UnexplainedLine, watch_recording, witness};
+use script_recordings::{
+    Explained, ExplainedSince, RecordingFault, UnexplainedLine, watch_recording, watch_since, witness,
+};
 use std::alloc::{AllocError, AllocFailed, Global};
 use std::io::{BufRead, BufReader, Read};
+
+/// Which part of a recording that began at any time is judged.
+#[derive(Clone, Copy, Debug, PartialEq, Eq)]
+pub enum JudgedPart {
+    /// What comes after the slot of this line, which ends a pause.
+    After(u64),
+    /// None: no part of it begins afresh after a pause.
+    Nothing,
+}
 
 /// A script that was compared.
 #[derive(Drop)]
@@ -22,6 +33,8 @@ pub struct Compared {
     pub answers: usize,
     /// Why that shows nothing, or little, where it does.
     pub warning: Option<ScriptWarning>,
+    /// Of a recording that began at any time, the part that is judged.
+    pub part: Option<JudgedPart>,
     pub wrong: Vec<WrongAnswer>,
     /// The command word of the message to which each event belongs that was answered otherwise.
     pub commands: Vec<Option<u16>>,
@@ -97,6 +110,7 @@ fn compare_test(
     Ok(Compared {
         answers,
         warning,
+        part: None,
         wrong,
         commands,
     })
@@ -134,6 +148,34 @@ pub fn compare_recording<B: BufRead + Drop>(
     Ok(Compared {
         answers,
         warning,
+        part: None,
+        wrong,
+        commands,
+    })
+}
+
+/// The same of a recording that began at any time, of which the first part is judged that begins afresh after a pause.
+pub fn compare_later<B: BufRead + Drop>(
+    alloc: Global,
+    normal: &Normal,
+    input: B,
+) -> Result<Compared, ScriptFault>
+    ensures { IfOk result (λ it. IfSome (B.remaining input) (λ script. SaysOf ScriptKind.LaterRecording normal.now script (length it.wrong.items == 0))) }
+{
+    let ExplainedSince {
+        answers,
+        warning,
+        after,
+        first,
+    } = watch_since(alloc, normal, input)?;
+    let (wrong, commands) = lines_told(alloc, first)?;
+    Ok(Compared {
+        answers,
+        warning,
+        part: Some(match after {
+            Some(line) => JudgedPart::After(line),
+            None => JudgedPart::Nothing,
+        }),
         wrong,
         commands,
     })
@@ -152,6 +194,23 @@ fn compare_script(
         ScriptKind::Test => compare_test(alloc, normal, script, false),
         ScriptKind::BusTest => compare_test(alloc, normal, script, true),
         ScriptKind::Recording => compare_recording(alloc, normal, script),
+        ScriptKind::LaterRecording => compare_later(alloc, normal, script),
+    }
+}
+
+/// Compares a recording that is read on: from power-up, or one that began at any time.
+fn compare_read<B: BufRead + Drop>(
+    alloc: Global,
+    normal: &Normal,
+    input: B,
+    is_later: bool,
+) -> Result<Compared, ScriptFault>
+    ensures { IfOk result (λ it. IfSome (B.remaining input) (λ script. SaysOf (recording_kind is_later) normal.now script (length it.wrong.items == 0))) }
+{
+    if is_later {
+        compare_later(alloc, normal, input)
+    } else {
+        compare_recording(alloc, normal, input)
     }
 }
 
@@ -164,13 +223,13 @@ pub fn compare_open<F: Read + Drop>(
     kind: ScriptKind,
 ) -> Result<Compared, ScriptFault>
     ensures whole { IfOk result (λ it. rest ≡ None → SaysOf kind normal.now script.now (length it.wrong.items == 0)) }
-    ensures on { IfOk result (λ it. IfSome rest (λ file. IfSome (F.remaining file) (λ more. SaysOf ScriptKind.Recording normal.now (script.now ++ more) (length it.wrong.items == 0)))) }
+    ensures on { IfOk result (λ it. IfSome rest (λ file. IfSome (F.remaining file) (λ more. SaysOf (recording_kind (is_later kind)) normal.now (script.now ++ more) (length it.wrong.items == 0)))) }
 {
     let Some(rest) = rest else {
         return compare_script(alloc, normal, script, kind);
     };
     match BufReader::new(alloc, script.chain(rest)) {
-        Ok(input) => compare_recording(alloc, normal, input),
+        Ok(input) => compare_read(alloc, normal, input, kind == ScriptKind::LaterRecording),
         Err(_) => Err(ScriptFault::Stated(StatedFault::Memory)),
     }
 }

@@ -56,7 +56,7 @@ pub fn open_script<R: Files + AllocGlobal>(
     expand: bool,
 ) -> Result<OpenScript<R::File>, ToolFault> {
     match kind {
-        ScriptKind::Recording if !expand => open_recording(rt, name),
+        ScriptKind::Recording | ScriptKind::LaterRecording if !expand => open_recording(rt, name),
         _ => Ok(OpenScript {
             script: load_script(rt, name, expand)?,
             rest: None,

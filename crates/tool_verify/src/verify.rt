@@ -4,7 +4,7 @@ ghost use Rattle.bus_legal.specs.Parts.{Parts};
 ghost use Rattle.tool_files.specs.Status.{IsLoaded, RefusesText, tool_status};
 ghost use Rattle.tool_verify.specs.Passing.{IsPlayedTo, SaysOf, recording_status, script_status, stated_status};
 
-use crate::compared::{ScriptFault, compare_open, explaining_script};
+use crate::compared::{JudgedPart, ScriptFault, compare_open, explaining_script};
 use crate::opened::{OpenScript, open_script};
 use crate::report::report_files;
 use crate::summary::put_summary;
@@ -272,6 +272,29 @@ fn names_of(
     Ok(Some(AnswerNames { names: list }))
 }
 
+/// Tells, on the standard error, which part of a recording that began at any time is judged.
+fn tell_part<R: AllocGlobal + Eprint>(
+    rt: &R,
+    name: &str,
+    script: &LoadedScript,
+    part: Option<JudgedPart>,
+) -> Result<(), ToolFault> {
+    let Some(part) = part else {
+        return Ok(());
+    };
+    let name = shown(rt, name)?;
+    match part {
+        JudgedPart::After(line) => {
+            let line = script.line_in_file(line);
+            let _ = eprintln!(rt; "{name}: judged after line {line}");
+        }
+        JudgedPart::Nothing => {
+            let _ = eprintln!(rt; "{name}: warning: nothing is judged: no part begins afresh after a pause");
+        }
+    }
+    Ok(())
+}
+
 /// Plays a script of this name, which goes on in `rest` if that is there, and warns, on the standard error, of one that shows nothing, or little.
 pub fn play_script<R: Files + AllocGlobal + Eprint>(
     rt: &R,
@@ -291,6 +314,7 @@ pub fn play_script<R: Files + AllocGlobal + Eprint>(
                 let name = shown(rt, name)?;
                 let _ = eprintln!(rt; "{name}: warning: {}", warning.text());
             }
+            tell_part(rt, name, script, compared.part)?;
             Ok(PlayedScript {
                 normal,
                 answers: compared.answers,
