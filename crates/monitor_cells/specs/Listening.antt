@@ -1,20 +1,20 @@
 -- Words by their times: gaps between them, and whose words they are. Times are in nanoseconds.
-use Rattle.std.specs.Prelude.{ℕ, ◌+◌, ◌-◌, ◌^◌, min, nat_lt, Bool, true, false, ◌&&◌, ◌||◌, ◌==◌, if◌then◌else◌, Option, Some, None}
+use Rattle.std.specs.Prelude.{ℕ, ◌+◌, ◌-◌, ◌^◌, min, max, nat_lt, Bool, true, false, ◌&&◌, ◌||◌, ◌==◌, if◌then◌else◌, Option, Some, None}
 use Rattle.bus_word.specs.declared.word.Bus.{Bus}
 use Rattle.bus_word.specs.declared.word.Bus.TheVariants.{A, B}
 use Rattle.bus_word.specs.Command.{address_of}
 use Rattle.monitor_cells.specs.declared.cells.WordSync.{WordSync}
 use Rattle.monitor_cells.specs.declared.cells.WordSync.TheVariants.{Command, Data, Status}
-use Rattle.monitor_tables.specs.declared.heard.HeardItem.{HeardItem}
-use Rattle.monitor_tables.specs.declared.heard.HeardItem.TheVariants as heard
-use Rattle.monitor_tables.specs.declared.listening.BusTimes.{BusTimes}
-use Rattle.monitor_tables.specs.declared.listening.Listening.{Listening}
-use Rattle.monitor_tables.specs.declared.listening.Speaker.{Speaker}
-use Rattle.monitor_tables.specs.declared.listening.Speaker.TheVariants.{Another, Terminal, LateTerminal}
-use Rattle.monitor_tables.specs.declared.setup.RecordingSetup.{RecordingSetup}
-use Rattle.monitor_tables.specs.declared.words.SeenWord.{SeenWord}
-use Rattle.monitor_tables.specs.declared.words.SeenWord.TheVariants as seen
-use Rattle.monitor_tables.specs.declared.words.WordRow.{WordRow}
+use Rattle.monitor_cells.specs.declared.heard.HeardItem.{HeardItem}
+use Rattle.monitor_cells.specs.declared.heard.HeardItem.TheVariants as heard
+use Rattle.monitor_cells.specs.declared.listening.BusTimes.{BusTimes}
+use Rattle.monitor_cells.specs.declared.listening.Listening.{Listening}
+use Rattle.monitor_cells.specs.declared.listening.Speaker.{Speaker}
+use Rattle.monitor_cells.specs.declared.listening.Speaker.TheVariants.{Another, Terminal, LateTerminal}
+use Rattle.monitor_cells.specs.declared.setup.RecordingSetup.{RecordingSetup}
+use Rattle.monitor_cells.specs.declared.seen.SeenWord.{SeenWord}
+use Rattle.monitor_cells.specs.declared.seen.SeenWord.TheVariants as seen
+use Rattle.monitor_cells.specs.declared.seen.WordRow.{WordRow}
 use Rattle.monitor_cells.specs.Cells.{kind_of_sync}
 
 -- when a word ends that begins at this time: it lasts 20 microseconds
@@ -48,12 +48,30 @@ is_silent_for times silence time = has_passed times.end silence time
 abbrev pub after_silence : BusTimes → BusTimes
 after_silence times = record { end = times.end; is_busy = false; speaker = Another }
 
--- a gap is heard before a word of this time: the bus was silent for longer than a gap, and a word came since the last one
+-- the later of two ends
+abbrev pub later_end : Option ℕ → Option ℕ → Option ℕ
+later_end None e = e
+later_end (Some d) None = Some d
+later_end (Some d) (Some e) = Some (max d e)
+
+-- a silence on both buses that is longer is a pause: no terminal replies any more, and each bus had its gap
+abbrev pub pause_of : RecordingSetup → ℕ
+pause_of setup = max setup.pause (max setup.gap setup.no_response)
+
+-- a pause is heard before a word of this time: no word came on either bus for longer than that, and one came before
+abbrev pub is_pause_before : Listening → ℕ → Bool
+is_pause_before l time = has_passed (later_end l.a.end l.b.end) (pause_of l.setup) time
+
+-- A gap is heard before a word of this time: the bus was silent for longer than a gap, and a word came since the last one. In a pause one is
+-- heard on each bus.
 abbrev pub is_gap_before : Listening → Bus → ℕ → Bool
-is_gap_before l bus time = is_silent_for (times_on l bus) l.setup.gap time && (times_on l bus).is_busy
+is_gap_before l bus time = (is_silent_for (times_on l bus) l.setup.gap time && (times_on l bus).is_busy) || is_pause_before l time
 
 abbrev pub gap_if : Bool → Bus → Option HeardItem
 gap_if b bus = if b then Some (heard.Gap bus) else None
+
+abbrev pub pause_if : Bool → Option HeardItem
+pause_if b = if b then Some heard.Pause else None
 
 -- what is known of a bus when a word of this time begins
 abbrev pub hushed : Listening → Bus → ℕ → Listening

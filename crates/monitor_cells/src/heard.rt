@@ -3,9 +3,9 @@ ghost use Rattle.std.specs.Prelude.{◌≡◌};
 ghost use Rattle.bus_word.specs.Word.{is_command_sync};
 ghost use Rattle.terminal_rules.specs.Buses.{other};
 
+use crate::cells::WordSync;
 use bus_terminal::Sent;
 use bus_word::{Bus, Kind};
-use monitor_cells::WordSync;
 
 /// What was heard.
 #[derive(Clone, Copy)]
@@ -20,6 +20,8 @@ pub enum HeardItem {
     Reply(Sent),
     /// A word that the terminal sent too late for a reply.
     Late(Sent),
+    /// The end of a pause, behind two gaps on each bus: in a slot nothing is sent.
+    Pause,
 }
 
 /// Whether a sync is that of command and status words.

@@ -1,13 +1,13 @@
 //! Words by their times: gaps between them, and whose words they are.
 ghost use Rattle.std.specs.Prelude.{◌≡◌};
-ghost use Rattle.monitor_tables.specs.Listening.{word_end, no_times, times_on, with_times, is_silent_for, after_silence, is_gap_before, gap_if, hushed, is_before_end, overlaps, speaker_of, speaker_with, heard_by, speaker_seen, heard_seen, counts, row_heard, row_known};
+ghost use Rattle.monitor_cells.specs.Listening.{word_end, no_times, times_on, with_times, is_silent_for, after_silence, is_gap_before, gap_if, pause_if, hushed, later_end, has_passed, is_pause_before, is_before_end, overlaps, speaker_of, speaker_with, heard_by, speaker_seen, heard_seen, counts, row_heard, row_known};
 
+use crate::cells::{WordSync, kind_of_sync};
 use crate::heard::HeardItem;
+use crate::seen::{SeenWord, WordRow};
 use crate::setup::{RecordingSetup, TOLERANCE, WORD_TIME};
-use crate::words::{SeenWord, WordRow};
 use bus_terminal::Sent;
 use bus_word::{Bus, Command};
-use monitor_cells::{WordSync, kind_of_sync};
 
 /// Whose words come on a bus, as long as no gap comes.
 #[derive(Clone, Copy)]
@@ -48,6 +48,27 @@ fn is_before_end(time: u64, end: Option<u64>) -> bool
     }
 }
 
+/// The later of two ends.
+pub fn later_end(first: Option<u64>, second: Option<u64>) -> Option<u64>
+    ensures { result ≡ later_end first second }
+{
+    match (first, second) {
+        (Some(first), Some(second)) => Some(first.max(second)),
+        (Some(first), None) => Some(first),
+        (None, second) => second,
+    }
+}
+
+/// Whether more than this lies between an end, if there was one, and a time.
+pub fn has_passed(end: Option<u64>, silence: u64, time: u64) -> bool
+    ensures { result ≡ has_passed end silence time }
+{
+    match end {
+        Some(end) => silence < time.saturating_sub(end),
+        None => false,
+    }
+}
+
 /// The terminal, in time or too late.
 fn speaker_of(is_late: bool) -> Speaker
     ensures { result ≡ speaker_of is_late }
@@ -79,11 +100,22 @@ fn counts(heard: &HeardItem) -> bool
 }
 
 /// A gap on a bus, if there is one.
-fn gap_if(is_gap: bool, bus: Bus) -> Option<HeardItem>
+pub fn gap_if(is_gap: bool, bus: Bus) -> Option<HeardItem>
     ensures { result ≡ gap_if is_gap bus }
 {
     if is_gap {
         Some(HeardItem::Gap(bus))
+    } else {
+        None
+    }
+}
+
+/// The end of a pause, if there is one.
+pub fn pause_if(is_pause: bool) -> Option<HeardItem>
+    ensures { result ≡ pause_if is_pause }
+{
+    if is_pause {
+        Some(HeardItem::Pause)
     } else {
         None
     }
@@ -105,10 +137,7 @@ impl BusTimes {
     fn is_silent_for(&self, silence: u64, time: u64) -> bool
         ensures { result ≡ is_silent_for self.now silence time }
     {
-        match self.end {
-            Some(end) => silence < time.saturating_sub(end),
-            None => false,
-        }
+        has_passed(self.end, silence, time)
     }
 
     /// What is left after a silence.
@@ -207,17 +236,26 @@ impl Listening {
         is_before_end(time, self.a.end) || is_before_end(time, self.b.end)
     }
 
+    /// Whether a pause is heard before a word that begins at this time.
+    pub fn is_pause_before(&self, time: u64) -> bool
+        ensures { result ≡ is_pause_before self.now time }
+    {
+        let end = later_end(self.a.end, self.b.end);
+        has_passed(end, self.setup.pause_time(), time)
+    }
+
     /// The gap that is heard on a bus before a word that begins at this time, if there is one.
     pub fn gap_before(&mut self, bus: Bus, time: u64) -> Option<HeardItem>
         ensures gap { result ≡ gap_if (is_gap_before self.old bus time) bus }
         ensures known { self.new ≡ hushed self.old bus time }
     {
+        let is_pause = self.is_pause_before(time);
         let times = self.times_on(bus);
         if !times.is_silent_for(self.setup.gap, time) {
-            return None;
+            return gap_if(is_pause, bus);
         }
         self.set(bus, times.after_silence());
-        gap_if(times.is_busy, bus)
+        gap_if(times.is_busy || is_pause, bus)
     }
 
     /// The gap that is heard on a bus at the end of the table, if there is one.

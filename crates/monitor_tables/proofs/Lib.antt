@@ -2,5 +2,6 @@ pub mod HeaderLaws
 pub mod OwedLaws
 pub mod PutLaws
 pub mod ReadBackLaws
+pub mod ReadLaws
 pub mod RowLaws
 pub mod TableLaws

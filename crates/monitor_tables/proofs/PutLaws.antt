@@ -3,7 +3,7 @@ use Rattle.std.proofs.Common.{ℕ, ◌≡◌, ◌<◌, ◌+◌, ◌∙◌, lengt
 use Rattle.std.specs.Io.KnownBytes.{Appends}
 use Rattle.std.proofs.KnownBytes.{Appends-nil, Appends-trans}
 use Rattle.std.proofs.lemmas.List.{take_more}
-use Rattle.monitor_tables.specs.declared.heard.HeardItem.{HeardItem}
+use Rattle.monitor_cells.specs.declared.heard.HeardItem.{HeardItem}
 use Rattle.monitor_tables.specs.declared.owed.OwedSlot.{OwedSlot}
 use Rattle.monitor_tables.specs.Owed.{is_owed_by, owed_kept}
 use Rattle.monitor_tables.specs.Recording.{HeardAt, slot_line, noted_text, recording_after, recording_text, IsNotable, AreNotable}
@@ -25,11 +25,6 @@ noted-append [] ys k = refl
 noted-append (x ∷ xs) ys k =
     let next : OwedSlot = owed_kept_after x.heard k in
     ap (λ text. noted_text k.is_owed x ++ text) (noted-append xs ys next) ∙ sym (append_assoc (noted_text k.is_owed x) (noted_all next xs) (noted_all (owed_kept_all xs next) ys))
-
--- the address stays
-pub address-kept : (ns : List HeardAt) (k : OwedSlot) → (owed_kept_all ns k).address ≡ k.address
-address-kept [] k = refl
-address-kept (n ∷ ns) k = address-kept ns (owed_kept_after n.heard k)
 
 -- one item more
 untimed-more : (xs : List HeardItem) (x : HeardItem) → untimed (xs ++ x ∷ []) ≡ untimed xs ++ record { time = []; heard = x } ∷ []

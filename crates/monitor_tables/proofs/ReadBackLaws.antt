@@ -26,11 +26,11 @@ use Rattle.rt1553_verify.specs.declared.matching.Matching.TheVariants.{Exact}
 use Rattle.rt1553_verify.specs.Stated.{StatedEvent, Latest, After, can_answer, ended, stays, or_misplaced, silent_line, by_going_on, by_mask, by_answer, unstated_line, line_says, then_events, then_lines, stated_by, stated_within}
 use Rattle.rt1553_verify.proofs.StatedLaws.{stated-means, bounded-short, stated-line, then-none, then-twice, stated-none}
 use Rattle.rt1553_acceptance.proofs.Feeds.{IsLine, literal, within, joined, digits-line, letter-line, sent_kind-line, event-line}
-use Rattle.monitor_tables.specs.declared.heard.HeardItem.{HeardItem}
-use Rattle.monitor_tables.specs.declared.heard.HeardItem.TheVariants.{Gap, Word, Noise, Reply, Late}
+use Rattle.monitor_cells.specs.declared.heard.HeardItem.{HeardItem}
+use Rattle.monitor_cells.specs.declared.heard.HeardItem.TheVariants.{Gap, Word, Noise, Reply, Late, Pause}
 use Rattle.monitor_cells.specs.Cells.{is_time_byte, is_time_text, kind_of_sync}
 use Rattle.monitor_tables.specs.Owed.{is_owed_by}
-use Rattle.monitor_tables.specs.Recording.{HeardAt, slot_line, takes_slot, time_line, heard_line, noted_text, recording_after, event_stating, without_line, silent_slot, heard_stated, stated_after, is_spoken, HasWords, IsNotable, AreNotable, ReadBackLaw}
+use Rattle.monitor_tables.specs.Recording.{HeardAt, slot_line, has_slot, time_line, heard_line, noted_text, recording_after, event_stating, without_line, silent_slot, heard_stated, stated_after, is_spoken, HasWords, IsNotable, AreNotable, ReadBackLaw}
 
 -- ---- one line
 
@@ -261,10 +261,11 @@ module _ (most : ℕ) where
   reads-heard n (Noise bus) latest few words = reads-later (omega arith) (reads-event n (event.Noise bus) latest (omega (arith, few)) tt)
   reads-heard n (Reply sent) latest few words = reads-reply n (shown_word sent) latest few
   reads-heard n (Late sent) latest few words = reads-later (omega arith) (reads-late n (shown_word sent) latest (omega (arith, few)))
+  reads-heard n Pause latest few words = reads-later (omega arith) (reads-nil n latest)
 
-  reads-noted : (n : ℕ) (owed : Bool) (x : HeardAt) (latest : Latest) → n + 3 < most → IsNotable x → Read n (noted_text owed x) latest (silent_slot (owed && takes_slot x.heard) ++ heard_stated x.heard) (n + 4)
+  reads-noted : (n : ℕ) (owed : Bool) (x : HeardAt) (latest : Latest) → n + 3 < most → IsNotable x → Read n (noted_text owed x) latest (silent_slot (has_slot owed x.heard) ++ heard_stated x.heard) (n + 4)
   reads-noted n owed x latest few is =
-      let slot = reads-slot n (owed && takes_slot x.heard) latest (omega (arith, few)) in
+      let slot = reads-slot n (has_slot owed x.heard) latest (omega (arith, few)) in
       let time = reads-time slot.0 x.time slot.1 (omega (arith, few, slot.3)) is.time in
       let heard = reads-heard time.0 x.heard time.1 (omega (arith, few, slot.3, time.3)) is.words in
       reads-later (omega (arith, slot.3, time.3)) (reads-more slot (reads-more time heard))
@@ -278,7 +279,7 @@ module _ (most : ℕ) where
       let rest = reads-all address (x.heard ∷ h) ns first.0 first.1 are.1 (omega (arith, few, first.3)) in
       let both = reads-more first rest in
       subst (λ ss. Read n (recording_after address h (x ∷ ns)) latest ss (n + (4 * length (x ∷ ns) + 1)))
-      (append_assoc (silent_slot (is_owed_by address h && takes_slot x.heard)) (heard_stated x.heard) (stated_after address (x.heard ∷ h) (map (λ n. n.heard) ns)))
+      (append_assoc (silent_slot (has_slot (is_owed_by address h) x.heard)) (heard_stated x.heard) (stated_after address (x.heard ∷ h) (map (λ n. n.heard) ns)))
       (reads-later (omega (arith, first.3)) both)
 
 -- ---- without the silent slots
@@ -305,15 +306,16 @@ heard-kept (Reply sent) = on_bus sent.bus
     on_bus A = refl
     on_bus B = refl
 heard-kept (Late sent) = refl
+heard-kept Pause = refl
 
 spoken : (address : ℕ) (h xs : List HeardItem) → filter is_spoken (stated_after address h xs) ≡ flat_map heard_stated xs
 unfolding stated_after
 spoken address h [] = silent-left (is_owed_by address h)
 spoken address h (x ∷ xs) =
-    let silent = silent_slot (is_owed_by address h && takes_slot x) in
+    let silent = silent_slot (has_slot (is_owed_by address h) x) in
     let later = stated_after address (x ∷ h) xs in
     filter-append is_spoken silent (heard_stated x ++ later)
-    ∙ ap (λ ys. ys ++ filter is_spoken (heard_stated x ++ later)) (silent-left (is_owed_by address h && takes_slot x))
+    ∙ ap (λ ys. ys ++ filter is_spoken (heard_stated x ++ later)) (silent-left (has_slot (is_owed_by address h) x))
     ∙ filter-append is_spoken (heard_stated x) later
     ∙ ap (λ ys. ys ++ filter is_spoken later) (heard-kept x)
     ∙ ap (λ ys. heard_stated x ++ ys) (spoken address (x ∷ h) xs)

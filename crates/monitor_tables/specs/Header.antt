@@ -1,5 +1,5 @@
 -- The columns of a monitor's table.
-use Rattle.std.specs.Prelude.{ℕ, ◌≡◌, ◌<◌, true, false, Option, MatchOption, List, length, codes}
+use Rattle.std.specs.Prelude.{ℕ, zero, suc, ◌≡◌, ◌<◌, Bool, true, false, not, ◌&&◌, ◌||◌, if◌then◌else◌, Option, MatchOption, List, [], ◌∷◌, ◌++◌, length, codes}
 use Rattle.monitor_tables.specs.declared.column.MonitorColumn.{MonitorColumn}
 use Rattle.monitor_tables.specs.declared.column.MonitorColumn.TheVariants as column
 use Rattle.monitor_tables.specs.declared.header.TableLayout.{TableLayout}
@@ -8,8 +8,11 @@ use Rattle.monitor_tables.specs.declared.messages.MessageColumns.{MessageColumns
 use Rattle.monitor_tables.specs.declared.words.WordColumns.{WordColumns}
 use Rattle.monitor_tables.specs.declared.fault.MonitorFault.{MonitorFault}
 use Rattle.monitor_tables.specs.declared.fault.MonitorFault.TheVariants.{NoColumn, TwoColumns}
-use Rattle.monitor_cells.specs.Cells.{is_headed}
-use Rattle.monitor_tables.specs.Fields.{record_text}
+use Rattle.rt1553_files.specs.Printable.{Shows}
+use Rattle.std.specs.String.{string_bytes}
+use Rattle.monitor_cells.specs.Cells.{is_headed, is_some_text}
+use Rattle.monitor_tables.specs.declared.header.LeftOutColumn.{LeftOutColumn}
+use Rattle.monitor_tables.specs.Fields.{record_text, field_placed}
 
 -- the column's header
 abbrev pub monitor_column_name : MonitorColumn → List ℕ
@@ -78,3 +81,39 @@ pub record AreMessageColumns (fields : List (List ℕ)) (columns : MessageColumn
 abbrev pub IsLayoutOf : List (List ℕ) → TableLayout → Type 0
 IsLayoutOf fields (Words columns) = IsNamedAt (codes "word") fields columns.word × IsNotNamed (codes "command") fields × AreWordColumns fields columns
 IsLayoutOf fields (Messages columns) = IsNamedAt (codes "command") fields columns.command × IsNotNamed (codes "word") fields × AreMessageColumns fields columns
+
+-- ---- columns that are left out
+
+-- the columns that count
+abbrev pub columns_of : TableLayout → List MonitorColumn
+columns_of (Words columns) = column.Time ∷ column.Bus ∷ column.Sync ∷ column.Word ∷ column.Error ∷ []
+columns_of (Messages columns) = column.Time ∷ column.Bus ∷ column.Command ∷ column.Command2 ∷ column.Data ∷ column.Status ∷ column.Status2 ∷ column.Error ∷ []
+
+-- a header is the name of one of these
+abbrev pub names_one : List MonitorColumn → List ℕ → Bool
+names_one [] text = false
+names_one (c ∷ columns) text = is_headed (monitor_column_name c) text || names_one columns text
+
+-- a field of the header is left out: there is text in it, and it names no column that counts
+abbrev pub is_left_out : TableLayout → List ℕ → Bool
+is_left_out layout text = is_some_text text && not (names_one (columns_of layout) text)
+
+-- the numbers of the fields that are left out, of the first n
+abbrev pub left_fields : TableLayout → List (List ℕ) → ℕ → List ℕ
+left_fields layout fields zero = []
+left_fields layout fields (suc n) = left_fields layout fields n ++ (if is_left_out layout (record_text fields n) then n ∷ [] else [])
+
+-- the column of a field of the header, which is on this line
+pub record IsLeftOutColumn (fields : List (List ℕ)) (line n : ℕ) (left : LeftOutColumn) : Type 0 where
+  pub place : left.place ≡ field_placed line n
+  pub name : Shows (record_text fields n) (string_bytes left.name)
+
+-- these are the columns of these fields
+abbrev pub AreLeftOutColumns : List (List ℕ) → ℕ → List ℕ → List LeftOutColumn → Type 0
+AreLeftOutColumns fields line [] [] = Unit {0}
+AreLeftOutColumns fields line (n ∷ ns) (left ∷ lefts) = IsLeftOutColumn fields line n left × AreLeftOutColumns fields line ns lefts
+AreLeftOutColumns fields line _ _ = ⊥
+
+-- just these columns of a header, which is on this line, are left out
+abbrev pub AreLeftOut : TableLayout → List (List ℕ) → ℕ → List LeftOutColumn → Type 0
+AreLeftOut layout fields line lefts = AreLeftOutColumns fields line (left_fields layout fields (length fields)) lefts

@@ -1,9 +1,9 @@
 -- Tables that a bus monitor exports, as recordings.
 pub mod Fields
 pub mod Header
-pub mod Listening
 pub mod Messages
 pub mod Owed
 pub mod Recording
 pub mod Rows
+pub mod Table
 pub mod inner

@@ -9,8 +9,8 @@ use Rattle.script_lines.specs.EventLine.{event_line}
 use Rattle.script_lines.specs.Transcript.{sent_text}
 use Rattle.rt1553_verify.specs.declared.matching.Matching.TheVariants.{Exact}
 use Rattle.rt1553_verify.specs.Stated.{StatedEvent, is_empty, stated_within}
-use Rattle.monitor_tables.specs.declared.heard.HeardItem.{HeardItem}
-use Rattle.monitor_tables.specs.declared.heard.HeardItem.TheVariants.{Gap, Word, Noise, Reply, Late}
+use Rattle.monitor_cells.specs.declared.heard.HeardItem.{HeardItem}
+use Rattle.monitor_cells.specs.declared.heard.HeardItem.TheVariants.{Gap, Word, Noise, Reply, Late, Pause}
 use Rattle.monitor_cells.specs.Cells.{is_time_text, kind_of_sync}
 use Rattle.monitor_tables.specs.Owed.{is_owed_by}
 
@@ -25,28 +25,31 @@ pub record HeardAt : Type 0 where
 abbrev pub slot_line : Bool → List ℕ
 slot_line owed = if owed then codes "slot\n" else []
 
--- a slot that is owed stands before this: before any event that is no word of the terminal
-abbrev pub takes_slot : HeardItem → Bool
-takes_slot (Reply sent) = false
-takes_slot (Late sent) = false
-takes_slot _ = true
+-- a slot in which the terminal is silent stands before this: at the end of a pause, and, where one is owed, before any other event that is no
+-- word of the terminal
+abbrev pub has_slot : Bool → HeardItem → Bool
+has_slot owed Pause = true
+has_slot owed (Reply sent) = false
+has_slot owed (Late sent) = false
+has_slot owed _ = owed
 
 -- a time, as a comment
 abbrev pub time_line : List ℕ → List ℕ
 time_line [] = []
 time_line (b ∷ bs) = codes "# " ++ ((b ∷ bs) ++ codes "\n")
 
--- what was heard: an event, a slot with the word that the terminal sent, or a comment
+-- what was heard: an event, a slot with the word that the terminal sent, or a comment; the slot of a pause stands before its end
 abbrev pub heard_line : HeardItem → List ℕ
 heard_line (Gap bus) = event_line (event.Gap bus)
 heard_line (Word bus sync bits) = event_line (event.Word bus (valid_word (kind_of_sync sync) bits))
 heard_line (Noise bus) = event_line (event.Noise bus)
 heard_line (Reply sent) = codes "slot\n#> " ++ sent_text (shown_word sent)
 heard_line (Late sent) = codes "# later than no response: " ++ sent_text (shown_word sent)
+heard_line Pause = []
 
 -- the lines of what was heard, where a slot is owed or not
 abbrev pub noted_text : Bool → HeardAt → List ℕ
-noted_text owed n = slot_line (owed && takes_slot n.heard) ++ (time_line n.time ++ heard_line n.heard)
+noted_text owed n = slot_line (has_slot owed n.heard) ++ (time_line n.time ++ heard_line n.heard)
 
 -- the lines of what was heard after h, of the terminal of this address, and of the slot that is owed at the end
 unfoldable pub recording_after : ℕ → List HeardItem → List HeardAt → List ℕ
@@ -78,12 +81,13 @@ heard_stated (Word bus sync bits) = event_stating (event.Word bus (valid_word (k
 heard_stated (Noise bus) = event_stating (event.Noise bus) [] ∷ []
 heard_stated (Reply sent) = event_stating event.Slot (sent_text (shown_word sent)) ∷ []
 heard_stated (Late sent) = []
+heard_stated Pause = []
 
--- What was heard after h, with the silent slots. One stands before each event that is no word of the terminal, and at the end, if it is
--- owed there, and none stands anywhere else.
+-- What was heard after h, with the silent slots. One stands at the end of each pause, and before each event that is no word of the terminal
+-- and at the end of all, if it is owed there, and none stands anywhere else.
 unfoldable pub stated_after : ℕ → List HeardItem → List HeardItem → List StatedEvent
 stated_after address h [] = silent_slot (is_owed_by address h)
-stated_after address h (x ∷ xs) = silent_slot (is_owed_by address h && takes_slot x) ++ (heard_stated x ++ stated_after address (x ∷ h) xs)
+stated_after address h (x ∷ xs) = silent_slot (has_slot (is_owed_by address h) x) ++ (heard_stated x ++ stated_after address (x ∷ h) xs)
 
 -- the event is no silent slot
 abbrev pub is_spoken : StatedEvent → Bool

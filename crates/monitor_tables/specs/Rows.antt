@@ -5,23 +5,24 @@ use Rattle.bus_word.specs.declared.word.Bus.TheVariants.{A, B}
 use Rattle.terminal_rules.specs.Buses.{other}
 use Rattle.monitor_cells.specs.declared.cells.MonitorTime.{MonitorTime}
 use Rattle.monitor_cells.specs.declared.cells.WordSync.{WordSync}
-use Rattle.monitor_tables.specs.declared.listening.Listening.{Listening}
+use Rattle.monitor_cells.specs.declared.listening.Listening.{Listening}
+use Rattle.monitor_tables.specs.declared.message_times.MessageTimes.{MessageTimes}
 use Rattle.monitor_tables.specs.declared.messages.MessageColumns.{MessageColumns}
 use Rattle.monitor_tables.specs.declared.messages.MessageRow.{MessageRow}
-use Rattle.monitor_tables.specs.declared.words.SeenWord.{SeenWord}
-use Rattle.monitor_tables.specs.declared.words.SeenWord.TheVariants.{Noise, Valid}
+use Rattle.monitor_cells.specs.declared.seen.SeenWord.{SeenWord}
+use Rattle.monitor_cells.specs.declared.seen.SeenWord.TheVariants.{Noise, Valid}
 use Rattle.monitor_tables.specs.declared.words.WordColumns.{WordColumns}
-use Rattle.monitor_tables.specs.declared.words.WordRow.{WordRow}
+use Rattle.monitor_cells.specs.declared.seen.WordRow.{WordRow}
 use Rattle.monitor_cells.specs.Cells.{IsTime, time_said, bus_said, sync_said, word_said, words_listed, is_some_text}
 use Rattle.monitor_tables.specs.Fields.{record_text}
-use Rattle.monitor_tables.specs.Listening.{no_times, is_gap_before, hushed, row_heard, row_known, overlaps}
+use Rattle.monitor_cells.specs.Listening.{no_times, is_gap_before, is_pause_before, hushed, row_heard, row_known, overlaps}
 use Rattle.monitor_tables.specs.declared.header.TableLayout.{TableLayout}
 use Rattle.monitor_tables.specs.declared.header.TableLayout.TheVariants.{Words, Messages}
-use Rattle.monitor_tables.specs.declared.heard.HeardItem.{HeardItem}
-use Rattle.monitor_tables.specs.declared.heard.HeardItem.TheVariants as heard
+use Rattle.monitor_cells.specs.declared.heard.HeardItem.{HeardItem}
+use Rattle.monitor_cells.specs.declared.heard.HeardItem.TheVariants as heard
 use Rattle.monitor_tables.specs.declared.recording.MonitorTable.{MonitorTable}
-use Rattle.monitor_tables.specs.declared.setup.RecordingSetup.{RecordingSetup}
-use Rattle.monitor_tables.specs.Messages.{message_heard}
+use Rattle.monitor_cells.specs.declared.setup.RecordingSetup.{RecordingSetup}
+use Rattle.monitor_tables.specs.Messages.{message_heard, no_messages, is_pause_between, message_known}
 use Rattle.monitor_tables.specs.Recording.{HeardAt}
 
 -- ---- fields
@@ -69,16 +70,25 @@ pub record IsWordRow (columns : WordColumns) (fields : List (List ℕ)) (row : W
 abbrev pub gap_noted : Bool → Bus → List HeardAt
 gap_noted is_gap bus = if is_gap then record { time = []; heard = heard.Gap bus } ∷ [] else []
 
+-- a gap on each bus, if there are any, that of this bus last
+abbrev pub gaps_noted : Bool → Bus → List HeardAt
+gaps_noted are_gaps bus = gap_noted are_gaps (other bus) ++ gap_noted are_gaps bus
+
+-- a pause, if there is one, behind a gap on each bus: another gap on each, and the silent slot
+abbrev pub pause_noted : Bool → Bus → List HeardAt
+pause_noted is_pause bus = gaps_noted is_pause bus ++ (if is_pause then record { time = []; heard = heard.Pause } ∷ [] else [])
+
 -- what is known when the word of a row begins: the silences before it were heard, that of the other bus first
 abbrev pub row_begun : Listening → WordRow → Listening
 row_begun l row = hushed (hushed l (other row.bus) row.time.nanos) row.bus row.time.nanos
 
--- what is heard with a row: the gaps before its word, that of the other bus first, and the word
+-- what is heard with a row: the gaps before its word, that of the other bus first, the pause, and the word
 abbrev pub row_noted : Listening → WordRow → List HeardAt
 row_noted l row =
     gap_noted (is_gap_before l (other row.bus) row.time.nanos) (other row.bus)
     ++ (gap_noted (is_gap_before (hushed l (other row.bus) row.time.nanos) row.bus row.time.nanos) row.bus
-    ++ record { time = row.time.text.bytes; heard = row_heard (row_begun l row) row } ∷ [])
+    ++ (pause_noted (is_pause_before l row.time.nanos) row.bus
+    ++ record { time = row.time.text.bytes; heard = row_heard (row_begun l row) row } ∷ []))
 
 -- ---- messages
 
@@ -141,20 +151,32 @@ words_noted setup rows =
     rows_noted (listening_first setup) rows
     ++ (gap_noted (rows_known (listening_first setup) rows).a.is_busy A ++ gap_noted (rows_known (listening_first setup) rows).b.is_busy B)
 
--- what is heard of messages, one after the other
-abbrev pub messages_noted : ℕ → List MessageRow → List HeardAt
-messages_noted address [] = []
-messages_noted address (row ∷ rows) = timed row.time.text.bytes (message_heard address row) ++ messages_noted address rows
+-- what is heard with a row: the pause before its message, with two gaps on each bus, and the message
+abbrev pub message_noted : MessageTimes → MessageRow → List HeardAt
+message_noted times row =
+    gaps_noted (is_pause_between times row.time.nanos) row.bus
+    ++ (pause_noted (is_pause_between times row.time.nanos) row.bus
+    ++ timed row.time.text.bytes (message_heard times.setup.address row))
 
--- no message begins before the one above it, nor before this time
-abbrev pub AreRising : ℕ → List MessageRow → Type 0
-AreRising time [] = Unit {0}
-AreRising time (row ∷ rows) = (time ≤ row.time.nanos) × AreRising row.time.nanos rows
+-- what is known after rows that are messages
+abbrev pub messages_known : MessageTimes → List MessageRow → MessageTimes
+messages_known times [] = times
+messages_known times (row ∷ rows) = messages_known (message_known times row) rows
 
--- just this is heard of some records of a table
-abbrev pub IsHeardOf : TableLayout → RecordingSetup → List HeardAt → Type 0
-IsHeardOf (Words columns) setup ns = (records : List (List (List ℕ))) × (rows : List WordRow) × AreWordRows columns records rows × AreApart (listening_first setup) rows × (ns ≡ words_noted setup rows)
-IsHeardOf (Messages columns) setup ns = (records : List (List (List ℕ))) × (rows : List MessageRow) × AreMessageRows columns records rows × AreRising 0 rows × (ns ≡ messages_noted setup.address rows)
+-- what is heard with them
+abbrev pub messages_noted : MessageTimes → List MessageRow → List HeardAt
+messages_noted times [] = []
+messages_noted times (row ∷ rows) = message_noted times row ++ messages_noted (message_known times row) rows
+
+-- no message begins before the one above it
+abbrev pub AreRising : MessageTimes → List MessageRow → Type 0
+AreRising times [] = Unit {0}
+AreRising times (row ∷ rows) = (times.begin ≤ row.time.nanos) × AreRising (message_known times row) rows
+
+-- just this is heard of these records of a table
+abbrev pub IsHeardOf : TableLayout → RecordingSetup → List (List (List ℕ)) → List HeardAt → Type 0
+IsHeardOf (Words columns) setup records ns = (rows : List WordRow) × AreWordRows columns records rows × AreApart (listening_first setup) rows × (ns ≡ words_noted setup rows)
+IsHeardOf (Messages columns) setup records ns = (rows : List MessageRow) × AreMessageRows columns records rows × AreRising (no_messages setup) rows × (ns ≡ messages_noted (no_messages setup) rows)
 
 -- what the rows of a table are, by its header
 abbrev pub layout_of : {R : Type 0} → MonitorTable R → TableLayout

@@ -1,3 +1,4 @@
 -- What the contracts of private functions speak of.
 pub mod Kept
 pub mod Puts
+pub mod Reads

@@ -1,7 +1,7 @@
 //! The header of a table: where its columns are.
-ghost use Rattle.std.specs.Prelude.{IfOk, MatchOption, MatchResult};
+ghost use Rattle.std.specs.Prelude.{◌≡◌, IfOk, MatchOption, MatchResult};
 ghost use Rattle.csv.specs.Records.{fields_of};
-ghost use Rattle.monitor_tables.specs.Header.{monitor_column_name, IsNotNamed, IsNamedAt, IsTwice, IsNoColumnFound, IsLayoutOf};
+ghost use Rattle.monitor_tables.specs.Header.{monitor_column_name, IsNotNamed, IsNamedAt, IsTwice, IsNoColumnFound, IsLayoutOf, columns_of, names_one, is_left_out, IsLeftOutColumn, AreLeftOut};
 
 use crate::column::{MESSAGE_COLUMNS, MonitorColumn, WORD_COLUMNS};
 use crate::fault::MonitorFault;
@@ -45,22 +45,33 @@ pub enum TableLayout {
 
 impl TableLayout {
     /// The columns that count.
-    fn columns(&self) -> &'static [MonitorColumn] {
+    fn columns(&self) -> &'static [MonitorColumn]
+        ensures { result.now ≡ columns_of self.now }
+    {
         match self {
             TableLayout::Words(_) => &WORD_COLUMNS,
             TableLayout::Messages(_) => &MESSAGE_COLUMNS,
         }
     }
+}
 
-    /// Whether a column counts.
-    fn is_counted(&self, name: &[u8]) -> bool {
-        for column in self.columns() {
-            if is_headed(column.name(), name) {
-                return true;
-            }
+/// Whether a header is the name of one of these columns.
+fn names_one(columns: &[MonitorColumn], text: &[u8]) -> bool
+    ensures { result ≡ names_one columns.now text.now }
+{
+    'columns: for column in columns {
+        if is_headed(column.name(), text) {
+            return true;
         }
-        false
     }
+    false
+}
+
+/// Whether a field of the header is left out: there is text in it, and it names no column that counts.
+fn is_left_out(layout: &TableLayout, text: &[u8]) -> bool
+    ensures { result ≡ is_left_out layout.now text.now }
+{
+    !text.is_empty() && !names_one(layout.columns(), text)
 }
 
 /// The number, from 0, of the field that names a column, if one does.
@@ -116,23 +127,35 @@ pub fn read_layout(header: &ByteRecord, line: u64) -> Result<TableLayout, Monito
     }
 }
 
+/// The column of a field of the header.
+fn left_out_column(
+    alloc: Global,
+    header: &ByteRecord,
+    line: u64,
+    field: usize,
+) -> Result<LeftOutColumn, AllocError>
+    ensures { IfOk result (IsLeftOutColumn (fields_of header.now) line field) }
+{
+    Ok(LeftOutColumn {
+        place: field_place(line, field),
+        name: escaped(alloc, field_of(header, field))?,
+    })
+}
+
 /// The columns that are left out. One without a name is not told.
 pub fn left_out(
     alloc: Global,
     layout: &TableLayout,
     header: &ByteRecord,
     line: u64,
-) -> Result<Vec<LeftOutColumn>, AllocError> {
+) -> Result<Vec<LeftOutColumn>, AllocError>
+    ensures { IfOk result (λ columns. AreLeftOut layout.now (fields_of header.now) line columns.items) }
+{
     let mut columns = Vec::new(alloc);
-    for field in 0..header.len() {
-        let name = field_of(header, field);
-        if name.is_empty() || layout.is_counted(name) {
-            continue;
+    'fields: for field in 0..header.len() {
+        if is_left_out(layout, field_of(header, field)) {
+            columns.push(left_out_column(alloc, header, line, field)?)?;
         }
-        columns.push(LeftOutColumn {
-            place: field_place(line, field),
-            name: escaped(alloc, name)?,
-        })?;
     }
     Ok(columns)
 }

@@ -4,19 +4,16 @@
 mod column;
 mod fault;
 mod header;
-mod heard;
 pub mod laws;
 mod lines;
-mod listening;
+mod message_times;
 mod messages;
 mod owed;
 mod recording;
 mod records;
-mod setup;
 mod words;
 
 pub use column::MonitorColumn;
 pub use fault::MonitorFault;
 pub use header::LeftOutColumn;
 pub use recording::{MonitorTable, open_table, write_recording};
-pub use setup::RecordingSetup;

@@ -6,16 +6,15 @@ ghost use Rattle.bus_terminal.specs.Answer.{shown_word};
 ghost use Rattle.script_lines.specs.EventLine.{event_line};
 ghost use Rattle.script_lines.specs.Transcript.{sent_text};
 ghost use Rattle.monitor_cells.specs.Cells.{is_time_text};
-ghost use Rattle.monitor_tables.specs.Recording.{slot_line, takes_slot, time_line, heard_line, noted_text, HasWords};
+ghost use Rattle.monitor_tables.specs.Recording.{slot_line, has_slot, time_line, heard_line, noted_text, HasWords};
 ghost use Rattle.monitor_tables.specs.inner.Puts.{PutsNoted};
 
-use crate::heard::HeardItem;
 use crate::owed::OwedSlot;
 use arrayvec::ArrayString;
 use bus_terminal::{Answer, Event, Sent};
 use bus_word::Raw;
 use byte_streams::{IoFailed, Sink, write_all};
-use monitor_cells::kind_of_sync;
+use monitor_cells::{HeardItem, kind_of_sync};
 use script_lines::{push_answer, write_event};
 
 /// The lines of one thing that was heard.
@@ -56,23 +55,29 @@ fn push_heard(lines: &mut HeardLines, heard: &HeardItem)
         HeardItem::Noise(bus) => push_event(lines, &Event::Noise(*bus)),
         HeardItem::Reply(sent) => push_sent(lines, "slot\n#> ", *sent),
         HeardItem::Late(sent) => push_sent(lines, "# later than no response: ", *sent),
+        HeardItem::Pause => {}
     }
 }
 
-/// Whether a slot that is owed stands before this: before any event that is no word of the terminal.
-fn takes_slot(heard: &HeardItem) -> bool
-    ensures { result ≡ takes_slot heard.now }
+/// Whether a slot in which the terminal is silent stands before this: at the end of a pause, and, where one is owed, before any other event
+/// that is no word of the terminal.
+fn has_slot(is_owed: bool, heard: &HeardItem) -> bool
+    ensures { result ≡ has_slot is_owed heard.now }
 {
-    !matches!(heard, HeardItem::Reply(_) | HeardItem::Late(_))
+    match heard {
+        HeardItem::Pause => true,
+        HeardItem::Reply(_) | HeardItem::Late(_) => false,
+        HeardItem::Gap(_) | HeardItem::Word(_, _, _) | HeardItem::Noise(_) => is_owed,
+    }
 }
 
-/// Writes a slot in which the terminal is silent, where one is owed.
-fn push_slot(lines: &mut HeardLines, is_owed: bool)
+/// Writes a slot in which the terminal is silent, if there is one.
+fn push_slot(lines: &mut HeardLines, has_slot: bool)
     requires { array_string_len lines.old ≤ 10 }
-    ensures bytes { lines.new.bytes ≡ lines.old.bytes ++ slot_line is_owed }
+    ensures bytes { lines.new.bytes ≡ lines.old.bytes ++ slot_line has_slot }
     ensures len { array_string_len lines.new ≤ array_string_len lines.old + 5 }
 {
-    if is_owed {
+    if has_slot {
         lines.push_str("slot\n");
     }
 }
@@ -97,7 +102,7 @@ fn heard_lines(is_owed: bool, time: &str, heard: &HeardItem) -> HeardLines
     ensures { result.bytes ≡ noted_text is_owed (record { time = time.now; heard = heard.now }) }
 {
     let mut lines = HeardLines::new();
-    push_slot(&mut lines, is_owed && takes_slot(heard));
+    push_slot(&mut lines, has_slot(is_owed, heard));
     push_time(&mut lines, time);
     push_heard(&mut lines, heard);
     lines
@@ -116,7 +121,7 @@ fn has_words(heard: &HeardItem)
         HeardItem::Word(_, _, bits) => has_16_bits(*bits),
         HeardItem::Reply(sent) => has_16_bits(sent.bits),
         HeardItem::Late(sent) => has_16_bits(sent.bits),
-        HeardItem::Gap(_) | HeardItem::Noise(_) => {}
+        HeardItem::Gap(_) | HeardItem::Noise(_) | HeardItem::Pause => {}
     }
 }
 

@@ -8,13 +8,12 @@ ghost use Rattle.monitor_tables.specs.Messages.{word_by, is_own_status, status_h
 use crate::column::MonitorColumn;
 use crate::fault::MonitorFault;
 use crate::header::{find_column, need_column};
-use crate::heard::HeardItem;
 use crate::records::{field_of, field_place};
 use crate::words::{has_text_in, read_bus_field, read_time_field, read_word_field};
 use bus_terminal::Sent;
 use bus_word::{Bus, Command};
 use csv::ByteRecord;
-use monitor_cells::{MonitorTime, WordSync, kind_of_sync, read_words_cell};
+use monitor_cells::{HeardItem, MonitorTime, WordSync, kind_of_sync, read_words_cell};
 use std::alloc::{AllocError, Global};
 
 /// Where the rows have their fields, by numbers from 0.
@@ -44,15 +43,15 @@ pub struct MessageRow {
 
 /// The word in a field of a row, if there is text.
 fn read_some_word(
-    record: &ByteRecord,
+    row: &ByteRecord,
     line: u64,
     field: Option<usize>,
 ) -> Result<Option<u16>, MonitorFault>
-    ensures { IfOk result (SaysSomeWord (fields_of record.now) field) }
+    ensures { IfOk result (SaysSomeWord (fields_of row.now) field) }
 {
     match field {
-        Some(field) if has_text_in(record, Some(field)) => {
-            Ok(Some(read_word_field(record, line, field)?))
+        Some(field) if has_text_in(row, Some(field)) => {
+            Ok(Some(read_word_field(row, line, field)?))
         }
         _ => Ok(None),
     }
@@ -61,16 +60,16 @@ fn read_some_word(
 /// The words in a field of a row, if there is such a column.
 fn read_words_field(
     alloc: Global,
-    record: &ByteRecord,
+    row: &ByteRecord,
     line: u64,
     field: Option<usize>,
 ) -> Result<Vec<u16>, MonitorFault>
-    ensures { IfOk result (λ words. SaysWords (fields_of record.now) field words.items) }
+    ensures { IfOk result (λ words. SaysWords (fields_of row.now) field words.items) }
 {
     let Some(field) = field else {
         return Ok(Vec::new(alloc));
     };
-    match read_words_cell(alloc, field_of(record, field))? {
+    match read_words_cell(alloc, field_of(row, field))? {
         Some(words) => Ok(words),
         None => Err(MonitorFault::Words(field_place(line, field))),
     }
@@ -98,11 +97,11 @@ impl MessageColumns {
     }
 
     /// Refuses a row with an error.
-    fn refuse_error(&self, record: &ByteRecord, line: u64) -> Result<(), MonitorFault>
-        ensures { OnOk result (has_text_in (fields_of record.now) self.now.error ≡ false) }
+    fn refuse_error(&self, row: &ByteRecord, line: u64) -> Result<(), MonitorFault>
+        ensures { OnOk result (has_text_in (fields_of row.now) self.now.error ≡ false) }
     {
         match self.error {
-            Some(field) if has_text_in(record, Some(field)) => {
+            Some(field) if has_text_in(row, Some(field)) => {
                 Err(MonitorFault::Unclear(field_place(line, field)))
             }
             _ => Ok(()),
@@ -113,20 +112,20 @@ impl MessageColumns {
     pub fn read_row(
         &self,
         alloc: Global,
-        record: &ByteRecord,
+        row: &ByteRecord,
         line: u64,
     ) -> Result<MessageRow, MonitorFault>
-        ensures { IfOk result (IsMessageRow self.now (fields_of record.now)) }
+        ensures { IfOk result (IsMessageRow self.now (fields_of row.now)) }
     {
-        self.refuse_error(record, line)?;
+        self.refuse_error(row, line)?;
         Ok(MessageRow {
-            time: read_time_field(record, line, self.time)?,
-            bus: read_bus_field(record, line, self.bus)?,
-            command: read_word_field(record, line, self.command)?,
-            command2: read_some_word(record, line, self.command2)?,
-            words: read_words_field(alloc, record, line, self.words)?,
-            status: read_some_word(record, line, self.status)?,
-            status2: read_some_word(record, line, self.status2)?,
+            time: read_time_field(row, line, self.time)?,
+            bus: read_bus_field(row, line, self.bus)?,
+            command: read_word_field(row, line, self.command)?,
+            command2: read_some_word(row, line, self.command2)?,
+            words: read_words_field(alloc, row, line, self.words)?,
+            status: read_some_word(row, line, self.status)?,
+            status2: read_some_word(row, line, self.status2)?,
         })
     }
 }

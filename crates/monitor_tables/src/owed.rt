@@ -1,11 +1,10 @@
 //! Whether a slot is owed in which the terminal is silent.
-ghost use Rattle.std.specs.Prelude.{◌≡◌, ◌&&◌, ◌||◌, [], not, if◌then◌else◌};
+ghost use Rattle.std.specs.Prelude.{◌≡◌, false, ◌&&◌, ◌||◌, [], not, if◌then◌else◌};
 ghost use Rattle.monitor_tables.specs.Owed.{is_meant_for, owed_kept};
 ghost use Rattle.monitor_tables.specs.inner.Kept.{message_after, owed_after, owed_kept_after};
 
-use crate::heard::{HeardItem, is_command_sync};
 use bus_word::{Bus, Command};
-use monitor_cells::is_of_command;
+use monitor_cells::{HeardItem, is_command_sync, is_of_command};
 use terminal_state::same_bus;
 
 /// A bus, as far as messages to the terminal go.
@@ -71,6 +70,16 @@ impl OpenMessage {
         }
     }
 
+    /// The same after a pause, in which every message ends.
+    fn after_pause(self) -> OpenMessage
+        ensures { result ≡ record { has_begun = self.has_begun; is_open = false } }
+    {
+        OpenMessage {
+            has_begun: self.has_begun,
+            is_open: false,
+        }
+    }
+
     /// The same of this bus after one item more.
     fn after(self, address: u8, bus: Bus, heard: &HeardItem) -> OpenMessage
         ensures { result ≡ message_after address bus heard.now self }
@@ -87,6 +96,7 @@ impl OpenMessage {
                 self.after_reply(same_bus(bus, sent.bus), is_command_sync(sent.kind))
             }
             HeardItem::Late(_) => self,
+            HeardItem::Pause => self.after_pause(),
         }
     }
 }
@@ -117,13 +127,6 @@ impl OwedSlot {
         }
     }
 
-    /// The address of the terminal.
-    pub fn address(&self) -> u8
-        ensures { result ≡ self.now.address }
-    {
-        self.address
-    }
-
     /// Whether a slot is owed.
     pub fn is_owed(&self) -> bool
         ensures { result ≡ self.now.is_owed }
@@ -138,7 +141,7 @@ impl OwedSlot {
         match heard {
             HeardItem::Gap(Bus::A) => self.a.is_open,
             HeardItem::Gap(Bus::B) => self.b.is_open,
-            HeardItem::Word(_, _, _) | HeardItem::Noise(_) => false,
+            HeardItem::Word(_, _, _) | HeardItem::Noise(_) | HeardItem::Pause => false,
             HeardItem::Reply(_) => true,
             HeardItem::Late(_) => self.is_owed,
         }

@@ -1,29 +1,29 @@
 //! A table becomes a recording.
-ghost use Rattle.std.specs.Prelude.{ℕ, ◌≡◌, ◌≤◌, true, false, List, IfOk, OnOk};
+ghost use Rattle.std.specs.Prelude.{ℕ, ◌≡◌, ◌≤◌, ◌∷◌, [], true, false, List, IfOk, IfSome, OnOk};
 ghost use Rattle.std.specs.Io.KnownBytes.{Appends};
 ghost use Rattle.monitor_cells.specs.Cells.{is_time_text};
 ghost use Rattle.monitor_tables.specs.Recording.{HeardAt, AreNotable, recording_text};
 ghost use Rattle.csv.specs.Records.{fields_of};
-ghost use Rattle.monitor_tables.specs.declared.words.WordRow.{WordRow as Row};
+ghost use Rattle.monitor_cells.specs.declared.seen.WordRow.{WordRow as Row};
 ghost use Rattle.monitor_tables.specs.declared.messages.MessageRow.{MessageRow as Message};
-ghost use Rattle.monitor_tables.specs.Listening.{row_known, overlaps};
-ghost use Rattle.monitor_tables.specs.Header.{IsLayoutOf};
-ghost use Rattle.monitor_tables.specs.Messages.{message_heard};
-ghost use Rattle.monitor_tables.specs.Rows.{IsWordRow, row_begun, row_noted, untimed, timed, IsMessageRow, IsHeardOf, layout_of};
-ghost use Rattle.monitor_tables.specs.inner.Puts.{PutsNoted, one_noted, MessagesSoFar, PutsTable};
+ghost use Rattle.monitor_cells.specs.Listening.{row_known, overlaps};
+ghost use Rattle.monitor_tables.specs.Header.{IsLayoutOf, AreLeftOut};
+ghost use Rattle.monitor_tables.specs.Messages.{message_known};
+ghost use Rattle.monitor_tables.specs.Rows.{IsWordRow, row_begun, gaps_noted, pause_noted, row_noted, untimed, timed, message_noted, IsMessageRow, IsHeardOf, listening_first, layout_of};
+ghost use Rattle.monitor_tables.specs.Table.{HasTold, TellsAll, records_of};
+ghost use Rattle.monitor_tables.specs.inner.Puts.{PutsNoted, one_noted, WordsSoFar, PutsTable};
 
 use crate::fault::MonitorFault;
 use crate::header::{LeftOutColumn, TableLayout, left_out, read_layout};
-use crate::heard::{HeardItem, other_bus};
 use crate::lines::{put_heard, put_last_slot};
-use crate::listening::Listening;
+use crate::message_times::MessageTimes;
 use crate::messages::MessageColumns;
 use crate::owed::OwedSlot;
 use crate::records::{TableRecords, field_place};
-use crate::setup::RecordingSetup;
 use crate::words::WordColumns;
 use bus_word::Bus;
 use byte_streams::{IoFailed, Sink};
+use monitor_cells::{HeardItem, Listening, RecordingSetup, gap_if, other_bus, pause_if};
 use std::alloc::Global;
 use std::io::Read;
 
@@ -39,14 +39,14 @@ pub struct MonitorTable<R: Read + Drop> {
 
 /// Reads the header of a table.
 pub fn open_table<R: Read + Drop>(alloc: Global, source: R) -> Result<MonitorTable<R>, MonitorFault>
-    ensures { IfOk result (λ table. (header : List (List ℕ)) × IsLayoutOf header (layout_of table)) }
+    ensures { IfOk result (λ table. (header : List (List ℕ)) × IsLayoutOf header (layout_of table) × ((line : ℕ) × AreLeftOut (layout_of table) header line table.left_out.items) × IfSome (R.remaining source) (λ text. HasTold R.remaining text (header ∷ []) (records_of table))) }
 {
     let mut records = TableRecords::new(alloc, source);
     if !records.next()? {
         return Err(MonitorFault::NoKind(field_place(1, 0)));
     }
-    let layout = read_layout(&records.record, records.line)?;
-    let left_out = left_out(alloc, &layout, &records.record, records.line)?;
+    let layout = read_layout(&records.row, records.line)?;
+    let left_out = left_out(alloc, &layout, &records.row, records.line)?;
     Ok(MonitorTable {
         alloc,
         records,
@@ -55,18 +55,44 @@ pub fn open_table<R: Read + Drop>(alloc: Global, source: R) -> Result<MonitorTab
     })
 }
 
-/// Writes a gap, if there is one.
-fn put_gap<W: Sink>(
+/// Writes what was heard without a time, if anything was.
+fn put_some<W: Sink>(
     sink: &mut W,
     owed: &mut OwedSlot,
-    gap: Option<HeardItem>,
+    heard: Option<HeardItem>,
 ) -> Result<(), IoFailed>
-    ensures { OnOk result (PutsNoted W.written owed.old owed.new sink.old sink.new (one_noted gap)) }
+    ensures { OnOk result (PutsNoted W.written owed.old owed.new sink.old sink.new (one_noted heard)) }
 {
-    match gap {
-        Some(gap) => put_heard(sink, owed, "", gap),
+    match heard {
+        Some(heard) => put_heard(sink, owed, "", heard),
         None => Ok(()),
     }
+}
+
+/// Writes a gap on each bus, if there are any, that of this bus last.
+fn put_gaps<W: Sink>(
+    sink: &mut W,
+    owed: &mut OwedSlot,
+    are_gaps: bool,
+    bus: Bus,
+) -> Result<(), IoFailed>
+    ensures { OnOk result (PutsNoted W.written owed.old owed.new sink.old sink.new (gaps_noted are_gaps bus)) }
+{
+    put_some(sink, owed, gap_if(are_gaps, other_bus(bus)))?;
+    put_some(sink, owed, gap_if(are_gaps, bus))
+}
+
+/// Writes the pause before a word on this bus, if there is one, behind a gap on each bus.
+fn put_pause<W: Sink>(
+    sink: &mut W,
+    owed: &mut OwedSlot,
+    is_pause: bool,
+    bus: Bus,
+) -> Result<(), IoFailed>
+    ensures { OnOk result (PutsNoted W.written owed.old owed.new sink.old sink.new (pause_noted is_pause bus)) }
+{
+    put_gaps(sink, owed, is_pause, bus)?;
+    put_some(sink, owed, pause_if(is_pause))
 }
 
 /// Writes what is heard with a row that is a word.
@@ -77,21 +103,43 @@ fn put_word_row<R: Read + Drop, W: Sink>(
     owed: &mut OwedSlot,
     sink: &mut W,
 ) -> Result<(), MonitorFault>
-    ensures { OnOk result ((row : Row) × IsWordRow columns.now (fields_of records.now.record) row × PutsNoted W.written owed.old owed.new sink.old sink.new (row_noted listening.old row) × (listening.new ≡ row_known (row_begun listening.old row) row) × (overlaps listening.old row.time.nanos ≡ false)) }
+    ensures { OnOk result ((row : Row) × IsWordRow columns.now (fields_of records.now.row) row × PutsNoted W.written owed.old owed.new sink.old sink.new (row_noted listening.old row) × (listening.new ≡ row_known (row_begun listening.old row) row) × (overlaps listening.old row.time.nanos ≡ false)) }
 {
-    let row = columns.read_row(&records.record, records.line)?;
+    let row = columns.read_row(&records.row, records.line)?;
     let time = row.time.nanos;
     if listening.overlaps(time) {
         return Err(MonitorFault::Overlap(records.place(columns.time)));
     }
-    put_gap(sink, owed, listening.gap_before(other_bus(row.bus), time))?;
-    put_gap(sink, owed, listening.gap_before(row.bus, time))?;
+    let is_pause = listening.is_pause_before(time);
+    put_some(sink, owed, listening.gap_before(other_bus(row.bus), time))?;
+    put_some(sink, owed, listening.gap_before(row.bus, time))?;
+    put_pause(sink, owed, is_pause, row.bus)?;
     let heard = listening.hear(&row);
     put_heard(sink, owed, row.time.text.as_str(), heard)?;
     Ok(())
 }
 
-/// Writes what is heard with rows that are words.
+/// Writes what is heard with rows that are words, and gives what is then known.
+fn put_word_rows<R: Read + Drop, W: Sink>(
+    records: &mut TableRecords<R>,
+    columns: &WordColumns,
+    setup: &RecordingSetup,
+    owed: &mut OwedSlot,
+    sink: &mut W,
+) -> Result<Listening, MonitorFault>
+    ensures { IfOk result (λ listening. (told : List (List (List ℕ))) × TellsAll R.remaining records.old told × WordsSoFar W.written columns.now told (listening_first setup.now) listening owed.old owed.new sink.old sink.new) }
+{
+    let mut listening = Listening::new(*setup);
+    'rows: for _ in 0..u64::MAX {
+        if !records.next()? {
+            return Ok(listening);
+        }
+        put_word_row(records, columns, &mut listening, owed, sink)?;
+    }
+    Err(MonitorFault::Read)
+}
+
+/// Writes what is heard of a table of words.
 fn put_words<R: Read + Drop, W: Sink>(
     records: &mut TableRecords<R>,
     columns: &WordColumns,
@@ -99,17 +147,11 @@ fn put_words<R: Read + Drop, W: Sink>(
     owed: &mut OwedSlot,
     sink: &mut W,
 ) -> Result<(), MonitorFault>
-    ensures { OnOk result (PutsTable W.written (TableLayout.Words columns.now) setup.now owed.old owed.new sink.old sink.new) }
+    ensures { OnOk result ((told : List (List (List ℕ))) × TellsAll R.remaining records.old told × PutsTable W.written (TableLayout.Words columns.now) setup.now told owed.old owed.new sink.old sink.new) }
 {
-    let mut listening = Listening::new(*setup);
-    for _ in 0..u64::MAX {
-        if !records.next()? {
-            break;
-        }
-        put_word_row(records, columns, &mut listening, owed, sink)?;
-    }
-    put_gap(sink, owed, listening.last_gap(Bus::A))?;
-    put_gap(sink, owed, listening.last_gap(Bus::B))?;
+    let listening = put_word_rows(records, columns, setup, owed, sink)?;
+    put_some(sink, owed, listening.last_gap(Bus::A))?;
+    put_some(sink, owed, listening.last_gap(Bus::B))?;
     Ok(())
 }
 
@@ -144,44 +186,49 @@ fn put_message<W: Sink>(
     put_others(sink, owed, others)
 }
 
-/// Writes what is heard with a row that is a message, and gives its time.
+/// Writes what is heard with a row that is a message.
 fn put_message_row<R: Read + Drop, W: Sink>(
     alloc: Global,
     records: &TableRecords<R>,
     columns: &MessageColumns,
-    earliest: u64,
+    times: &mut MessageTimes,
     owed: &mut OwedSlot,
     sink: &mut W,
-) -> Result<u64, MonitorFault>
-    ensures { IfOk result (λ time. (row : Message) × IsMessageRow columns.now (fields_of records.now.record) row × PutsNoted W.written owed.old owed.new sink.old sink.new (timed row.time.text.bytes (message_heard owed.old.address row)) × (earliest ≤ row.time.nanos) × (time ≡ row.time.nanos)) }
+) -> Result<(), MonitorFault>
+    ensures { OnOk result ((row : Message) × IsMessageRow columns.now (fields_of records.now.row) row × PutsNoted W.written owed.old owed.new sink.old sink.new (message_noted times.old row) × (times.new ≡ message_known times.old row) × (times.old.begin ≤ row.time.nanos)) }
 {
-    let row = columns.read_row(alloc, &records.record, records.line)?;
-    if row.time.nanos < earliest {
+    let row = columns.read_row(alloc, &records.row, records.line)?;
+    if row.time.nanos < times.begin {
         return Err(MonitorFault::Order(records.place(columns.time)));
     }
-    let heard = row.heard(alloc, owed.address())?;
+    let heard = row.heard(alloc, times.setup.address)?;
+    let is_pause = times.is_pause_between(row.time.nanos);
+    put_gaps(sink, owed, is_pause, row.bus)?;
+    put_pause(sink, owed, is_pause, row.bus)?;
     put_message(sink, owed, row.time.text.as_str(), heard.as_slice())?;
-    Ok(row.time.nanos)
+    times.take(&row);
+    Ok(())
 }
 
-/// Writes what is heard with rows that are messages.
+/// Writes what is heard of a table of messages.
 fn put_messages<R: Read + Drop, W: Sink>(
     alloc: Global,
     records: &mut TableRecords<R>,
     columns: &MessageColumns,
+    setup: &RecordingSetup,
     owed: &mut OwedSlot,
     sink: &mut W,
 ) -> Result<(), MonitorFault>
-    ensures { OnOk result ((time : ℕ) × MessagesSoFar W.written columns.now time owed.old owed.new sink.old sink.new) }
+    ensures { OnOk result ((told : List (List (List ℕ))) × TellsAll R.remaining records.old told × PutsTable W.written (TableLayout.Messages columns.now) setup.now told owed.old owed.new sink.old sink.new) }
 {
-    let mut earliest = 0;
-    for _ in 0..u64::MAX {
+    let mut times = MessageTimes::new(*setup);
+    'rows: for _ in 0..u64::MAX {
         if !records.next()? {
-            break;
+            return Ok(());
         }
-        earliest = put_message_row(alloc, records, columns, earliest, owed, sink)?;
+        put_message_row(alloc, records, columns, &mut times, owed, sink)?;
     }
-    Ok(())
+    Err(MonitorFault::Read)
 }
 
 /// Writes the recording that a table says: a script that states what the terminal sent. What was written before a fault stands. The
@@ -191,7 +238,7 @@ pub fn write_recording<R: Read + Drop, W: Sink>(
     setup: &RecordingSetup,
     sink: &mut W,
 ) -> Result<(), MonitorFault>
-    ensures { OnOk result ((ns : List HeardAt) × IsHeardOf (layout_of table.old) setup.now ns × AreNotable ns × Appends (W.written sink.old) (W.written sink.new) (recording_text setup.now.address ns)) }
+    ensures { OnOk result ((told : List (List (List ℕ))) × TellsAll R.remaining (records_of table.old) told × (ns : List HeardAt) × IsHeardOf (layout_of table.old) setup.now told ns × AreNotable ns × Appends (W.written sink.old) (W.written sink.new) (recording_text setup.now.address ns)) }
 {
     let mut owed = OwedSlot::new(setup.address);
     let alloc = table.alloc;
@@ -201,7 +248,7 @@ pub fn write_recording<R: Read + Drop, W: Sink>(
             put_words(&mut table.records, &columns, setup, &mut owed, sink)?;
         }
         TableLayout::Messages(columns) => {
-            put_messages(alloc, &mut table.records, &columns, &mut owed, sink)?;
+            put_messages(alloc, &mut table.records, &columns, setup, &mut owed, sink)?;
         }
     }
     put_last_slot(sink, &owed)?;

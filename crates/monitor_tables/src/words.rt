@@ -9,11 +9,11 @@ ghost use Rattle.monitor_tables.specs.Rows.{has_text_in, SaysTime, seen_said, Is
 use crate::column::MonitorColumn;
 use crate::fault::MonitorFault;
 use crate::header::{find_column, need_column};
-use crate::records::{field_of, field_place};
+use crate::records::{field_of, field_place, is_some_field};
 use bus_word::Bus;
 use csv::ByteRecord;
 use monitor_cells::{
-    MonitorTime, WordSync, read_bus_cell, read_sync_cell, read_time, read_word_cell,
+    MonitorTime, SeenWord, WordRow, read_bus_cell, read_sync_cell, read_time, read_word_cell,
 };
 
 /// Where the rows have their fields, by numbers from 0.
@@ -26,63 +26,46 @@ pub struct WordColumns {
     error: Option<usize>,
 }
 
-/// What a row says of the word itself.
-#[derive(Clone, Copy)]
-pub enum SeenWord {
-    /// It was not valid.
-    Noise,
-    /// It was valid, with this sync and these 16 bits.
-    Valid(WordSync, u16),
-}
-
-/// A row: a word on a bus.
-#[derive(Clone, Copy)]
-pub struct WordRow {
-    pub time: MonitorTime,
-    pub bus: Bus,
-    pub word: SeenWord,
-}
-
 /// The time in a field of a row.
 pub fn read_time_field(
-    record: &ByteRecord,
+    row: &ByteRecord,
     line: u64,
     field: usize,
 ) -> Result<MonitorTime, MonitorFault>
-    ensures { IfOk result (SaysTime (record_text (fields_of record.now) field)) }
+    ensures { IfOk result (SaysTime (record_text (fields_of row.now) field)) }
 {
-    match read_time(field_of(record, field)) {
+    match read_time(field_of(row, field)) {
         Some(time) => Ok(time),
         None => Err(MonitorFault::Time(field_place(line, field))),
     }
 }
 
 /// The bus in a field of a row.
-pub fn read_bus_field(record: &ByteRecord, line: u64, field: usize) -> Result<Bus, MonitorFault>
-    ensures { MatchResult result (λ bus. bus_said (record_text (fields_of record.now) field) ≡ Some bus) (λ _. bus_said (record_text (fields_of record.now) field) ≡ None) }
+pub fn read_bus_field(row: &ByteRecord, line: u64, field: usize) -> Result<Bus, MonitorFault>
+    ensures { MatchResult result (λ bus. bus_said (record_text (fields_of row.now) field) ≡ Some bus) (λ _. bus_said (record_text (fields_of row.now) field) ≡ None) }
 {
-    match read_bus_cell(field_of(record, field)) {
+    match read_bus_cell(field_of(row, field)) {
         Some(bus) => Ok(bus),
         None => Err(MonitorFault::Bus(field_place(line, field))),
     }
 }
 
 /// The word in a field of a row.
-pub fn read_word_field(record: &ByteRecord, line: u64, field: usize) -> Result<u16, MonitorFault>
-    ensures { MatchResult result (λ word. word_said (record_text (fields_of record.now) field) ≡ Some word) (λ _. word_said (record_text (fields_of record.now) field) ≡ None) }
+pub fn read_word_field(row: &ByteRecord, line: u64, field: usize) -> Result<u16, MonitorFault>
+    ensures { MatchResult result (λ word. word_said (record_text (fields_of row.now) field) ≡ Some word) (λ _. word_said (record_text (fields_of row.now) field) ≡ None) }
 {
-    match read_word_cell(field_of(record, field)) {
+    match read_word_cell(field_of(row, field)) {
         Some(word) => Ok(word),
         None => Err(MonitorFault::Word(field_place(line, field))),
     }
 }
 
 /// Whether a row has text in a field, if there is such a column.
-pub fn has_text_in(record: &ByteRecord, field: Option<usize>) -> bool
-    ensures { result ≡ has_text_in (fields_of record.now) field }
+pub fn has_text_in(row: &ByteRecord, field: Option<usize>) -> bool
+    ensures { result ≡ has_text_in (fields_of row.now) field }
 {
     match field {
-        Some(field) => !field_of(record, field).is_empty(),
+        Some(field) => is_some_field(row, field),
         None => false,
     }
 }
@@ -102,27 +85,27 @@ impl WordColumns {
     }
 
     /// What a row says of its word: of one with an error nothing more.
-    fn read_seen(&self, record: &ByteRecord, line: u64) -> Result<SeenWord, MonitorFault>
-        ensures { IfOk result (λ word. seen_said self.now (fields_of record.now) ≡ Some word) }
+    fn read_seen(&self, row: &ByteRecord, line: u64) -> Result<SeenWord, MonitorFault>
+        ensures { IfOk result (λ word. seen_said self.now (fields_of row.now) ≡ Some word) }
     {
-        if has_text_in(record, self.error) {
+        if has_text_in(row, self.error) {
             return Ok(SeenWord::Noise);
         }
-        let Some(sync) = read_sync_cell(field_of(record, self.sync)) else {
+        let Some(sync) = read_sync_cell(field_of(row, self.sync)) else {
             return Err(MonitorFault::Sync(field_place(line, self.sync)));
         };
-        let bits = read_word_field(record, line, self.word)?;
+        let bits = read_word_field(row, line, self.word)?;
         Ok(SeenWord::Valid(sync, bits))
     }
 
     /// What a row says.
-    pub fn read_row(&self, record: &ByteRecord, line: u64) -> Result<WordRow, MonitorFault>
-        ensures { IfOk result (IsWordRow self.now (fields_of record.now)) }
+    pub fn read_row(&self, row: &ByteRecord, line: u64) -> Result<WordRow, MonitorFault>
+        ensures { IfOk result (IsWordRow self.now (fields_of row.now)) }
     {
         Ok(WordRow {
-            time: read_time_field(record, line, self.time)?,
-            bus: read_bus_field(record, line, self.bus)?,
-            word: self.read_seen(record, line)?,
+            time: read_time_field(row, line, self.time)?,
+            bus: read_bus_field(row, line, self.bus)?,
+            word: self.read_seen(row, line)?,
         })
     }
 }

@@ -3,8 +3,8 @@ ghost use Rattle.std.specs.Prelude.{◌≡◌, IfOk};
 
 use bus_script::FromWrite;
 use byte_streams::Sink;
-use monitor_cells::read_time;
-use monitor_tables::{LeftOutColumn, MonitorFault, RecordingSetup, open_table, write_recording};
+use monitor_cells::{RecordingSetup, read_time};
+use monitor_tables::{LeftOutColumn, MonitorFault, open_table, write_recording};
 use rt1553_files::{FileFault, open_file};
 use std::io::Write;
 use std::rt::Files;

@@ -4,8 +4,8 @@ use Rattle.bus_word.specs.declared.word.Bus.{Bus}
 use Rattle.bus_word.specs.declared.word.Bus.TheVariants.{A, B}
 use Rattle.bus_word.specs.Word.{is_command_sync}
 use Rattle.terminal_rules.specs.Buses.{same_bus}
-use Rattle.monitor_tables.specs.declared.heard.HeardItem.{HeardItem}
-use Rattle.monitor_tables.specs.declared.heard.HeardItem.TheVariants.{Gap, Word, Noise, Reply, Late}
+use Rattle.monitor_cells.specs.declared.heard.HeardItem.{HeardItem}
+use Rattle.monitor_cells.specs.declared.heard.HeardItem.TheVariants.{Gap, Word, Noise, Reply, Late, Pause}
 use Rattle.monitor_tables.specs.declared.owed.OpenMessage.{OpenMessage}
 use Rattle.monitor_tables.specs.declared.owed.OwedSlot.{OwedSlot}
 use Rattle.monitor_cells.specs.Cells.{is_of_command}
@@ -24,6 +24,7 @@ message_after address bus (Reply sent) m = record {
   is_open = not (same_bus bus sent.bus && is_command_sync sent.kind) && m.is_open;
 }
 message_after address bus (Late sent) m = m
+message_after address bus Pause m = record { has_begun = m.has_begun; is_open = false }
 
 -- a slot is owed
 abbrev pub owed_after : HeardItem → OwedSlot → Bool
@@ -33,6 +34,7 @@ owed_after (Word on sync bits) k = false
 owed_after (Noise on) k = false
 owed_after (Reply sent) k = true
 owed_after (Late sent) k = k.is_owed
+owed_after Pause k = false
 
 -- all of it
 abbrev pub owed_kept_after : HeardItem → OwedSlot → OwedSlot

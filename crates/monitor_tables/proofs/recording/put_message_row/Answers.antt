@@ -1,17 +1,14 @@
-use Rattle.std.proofs.Common.{◌≡◌, ◌∙◌, ap, subst, refl, arith}
-use Rattle.monitor_tables.specs.Messages.{message_heard}
-use Rattle.monitor_tables.specs.Rows.{timed}
-use Rattle.monitor_tables.specs.inner.Puts.{PutsNoted}
+use Rattle.std.proofs.Common.{◌∙◌, arith}
+use Rattle.monitor_tables.proofs.RowLaws.{message-puts}
 use Rattle.monitor_tables.proofs.recording.put_message_row.Goals as goal
 
 pub returns : goal.returns
 returns g c =
-    let row = c.in_ok-row.row in
-    let time = c.as_str.ensures.value in
-    let heard : c.as_slice.result.now ≡ message_heard c.args.owed.now.address row = c.as_slice.ensures.value ∙ c.in_ok-heard.ensures ∙ ap (λ n. message_heard n row) c.address.ensures in (
+    let row = c.in_ok-row.row in (
       row,
       c.in_ok-row.ensures,
-      subst (PutsNoted g.W.Sink.written c.args.owed.now c.put_message.new.owed c.args.sink.now c.put_message.new.sink) (λ j. timed (time j) (heard j)) c.in_ok-put_message.ensures,
-      omega (arith, c.if-row-earliest.false),
-      refl,
+      message-puts c.args.times.now row c.is_pause_between-is_pause.result c.as_str.result.now c.as_slice.result.now c.is_pause_between-is_pause.ensures c.as_str.ensures.value (c.as_slice.ensures.value ∙ c.in_ok-heard.ensures)
+          c.in_ok-put_gaps.ensures c.in_ok-put_pause.ensures c.in_ok-put_message.ensures,
+      c.take.ensures,
+      omega (arith, c.if-row-times.false),
     )
