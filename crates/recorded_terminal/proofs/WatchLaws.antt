@@ -89,18 +89,12 @@ before_at status [] (suc n) x rest later cut before = absurd (cc)
 before_at status (m ∷ ms) zero x rest later cut before = subst (λ (l : List Marked). next_status (seen_in l ++ later) ≡ status) cut before.0
 before_at status (m ∷ ms) (suc n) x rest later cut before = before_at status ms n x rest later cut before.1
 
-cut_at : (ms : List Marked) (n : ℕ) (x : Marked) → drop n ms ≡ x ∷ drop (suc n) ms → (rest : List Sighting)
+pub cut_at : (ms : List Marked) (n : ℕ) (x : Marked) → drop n ms ≡ x ∷ drop (suc n) ms → (rest : List Sighting)
     → seen_in (take n ms) ++ (shown_sighting x.sighting ∷ rest) ≡ seen_in (take (suc n) ms) ++ rest
 cut_at [] zero x e rest = absurd (cc)
 cut_at [] (suc n) x e rest = absurd (cc)
 cut_at (m ∷ ms) zero x e rest = let same : m ≡ x = cc in λ j. shown_sighting (sym same j).sighting ∷ rest
 cut_at (m ∷ ms) (suc n) x e rest = ap (λ l. shown_sighting m.sighting ∷ l) (cut_at ms n x e rest)
-
--- so many are taken
-pub taken : (n : ℕ) (ms : List Marked) → n < length ms → length (take n ms) ≡ n
-taken zero ms m = refl
-taken (suc n) [] m = absurd (omega arith)
-taken (suc n) (m ∷ ms) less = ap suc (taken n ms (omega arith))
 
 -- the next sighting, by its place
 pub cut_of : (ms : List Marked) (n : ℕ) (x : Marked) → n < length ms → x ≡ get_or ms n x → drop n ms ≡ x ∷ drop (suc n) ms

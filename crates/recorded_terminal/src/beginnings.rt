@@ -65,9 +65,6 @@ impl<L: Legality + Drop + Copy> Beginnings<L> {
         ensures first { (P : Description) (ms : List Marked) → WatchBegun L.is_legal P ms self → IfSome result (IsUnexplainedBegunAt P ms) }
     {
         let Beginnings { none, a, b, both } = self;
-        later_of(
-            later_of(none.end(), a.end()),
-            later_of(b.end(), both.end()),
-        )
+        later_of(later_of(none.end(), a.end()), later_of(b.end(), both.end()))
     }
 }

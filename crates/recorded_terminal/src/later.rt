@@ -49,11 +49,7 @@ pub struct Judged {
 fn one_more(gaps: u8) -> u8
     ensures { result ≡ at_most_two (gaps + 1) }
 {
-    if gaps < 2 {
-        gaps + 1
-    } else {
-        2
-    }
+    if gaps < 2 { gaps + 1 } else { 2 }
 }
 
 impl Gaps {

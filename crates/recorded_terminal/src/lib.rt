@@ -12,5 +12,5 @@ mod watch;
 pub use bus_terminal::Sent;
 pub use later::{Judged, LaterWatch};
 pub use sighting::Sighting;
-pub use telling::behaviour;
+pub use telling::{behaviour, sightings_of};
 pub use watch::{Marked, Unexplained, Watch};

@@ -6,10 +6,12 @@ ghost use Rattle.terminal_recordings.specs.Recordings.{sightings};
 ghost use Rattle.terminal_recordings.specs.Completion.{next_status, shown_of};
 ghost use Rattle.recorded_terminal.specs.Follows.{given_events, told_events};
 ghost use Rattle.recorded_terminal.specs.Sightings.{recorded};
+ghost use Rattle.recorded_terminal.specs.Watched.{seen_in};
 
 use crate::follower::{Follower, Told};
 use crate::sighting::Sighting;
 use crate::told::shown_status;
+use crate::watch::Marked;
 use bus_legal::{Legality, Setup};
 use bus_terminal::Event;
 use std::alloc::{AllocError, Global};
@@ -58,6 +60,17 @@ fn push_told(events: &mut Vec<Event>, told: Told) -> Result<(), AllocError>
     push_if(events, told.subsystem)?;
     push_if(events, told.terminal)?;
     push_if(events, told.word)
+}
+
+/// Gives the sightings of a recording, without their places.
+pub fn sightings_of(alloc: Global, recording: &[Marked]) -> Result<Vec<Sighting>, AllocError>
+    ensures { IfOk result (λ sightings. recorded sightings.items ≡ seen_in recording.now) }
+{
+    let mut sightings = Vec::new(alloc);
+    'marked: for marked in recording {
+        sightings.push(marked.sighting)?;
+    }
+    Ok(sightings)
 }
 
 /// Gives the events that are seen in a recording, and between them what the subsystem did, as the recording tells it. What is seen of

@@ -8,6 +8,8 @@ mod by_hand;
 #[cfg(test)]
 mod comparing;
 #[cfg(test)]
+mod coverage;
+#[cfg(test)]
 mod expanding;
 #[cfg(test)]
 mod exporting;
@@ -19,6 +21,8 @@ mod first_uses;
 mod formats;
 #[cfg(test)]
 mod importing;
+#[cfg(test)]
+mod inferred;
 #[cfg(test)]
 mod recordings;
 #[cfg(test)]

@@ -7,7 +7,7 @@ use monitor_cells::{RecordingSetup, read_time};
 use monitor_tables::{open_table, write_recording};
 use recorded_terminal::{Sent, Sighting, behaviour};
 use rt1553::load;
-use script_recordings::{watch_recording, witness};
+use script_recordings::{watch_recording, watch_since, witness};
 use std::alloc::{AllocError, Global};
 use std::test::Fail;
 
@@ -48,6 +48,23 @@ fn first_line_that_nothing_explains(rt: HostRuntime) -> Result<(), Fail> {
     assert_eq!(rt; first.answer.line, 3);
     assert_eq!(rt; first.answer.came.as_slice(), b"A s 2800\n".as_slice());
     assert_eq!(rt; first.command, Some(0x2c02));
+    Ok(())
+}
+
+/// A status that was kept before, a pause, and then a message.
+#[test]
+fn recording_of_a_unit_that_was_on(rt: HostRuntime) -> Result<(), Fail> {
+    let normal = load(rt.alloc(), b"address = 5")?;
+    let script =
+        b"A c 2c02\nA gap\nslot\n#> A s 2d04\nA gap\nA gap\nB gap\nB gap\nslot\nA c 2c05\nA gap\nslot\n#> A s 2804\n".as_slice();
+    let it = watch_since(rt.alloc(), &normal, script)?;
+    assert_eq!(rt; it.after, Some(9));
+    assert!(rt; it.first.is_none(), "it is explained");
+    let script =
+        b"A gap\nA gap\nB gap\nB gap\nslot\nA c 2c05\nA gap\nslot\n#> A s 2820\n".as_slice();
+    let it = watch_since(rt.alloc(), &normal, script)?;
+    assert_eq!(rt; it.after, Some(5));
+    assert_eq!(rt; it.first.map(|first| first.answer.line), Some(8));
     Ok(())
 }
 

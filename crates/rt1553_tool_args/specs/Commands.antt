@@ -8,7 +8,7 @@ use Rattle.clap.specs.Walk.{rows_of}
 use Rattle.clap.specs.declared.parser.matches.Found.{Found}
 use Rattle.clap.specs.declared.parser.matches.ArgMatches.{ArgMatches}
 use Rattle.rt1553_tool_args.specs.declared.command.ToolCommand.{ToolCommand}
-use Rattle.rt1553_tool_args.specs.declared.command.ToolCommand.TheVariants.{Lint, CheckScript, Verify, Witness, Monitor, Import, Export, Expand, Toml, Explain, Differ, Acceptance, Against, Draw, Words, Live}
+use Rattle.rt1553_tool_args.specs.declared.command.ToolCommand.TheVariants.{Lint, CheckScript, Verify, Witness, Monitor, Coverage, Infer, Import, Export, Expand, Toml, Explain, Differ, Acceptance, Against, Draw, Words, Live}
 use Rattle.rt1553_tool_args.specs.declared.command.Profiles.{Profiles}
 use Rattle.rt1553_tool_args.specs.declared.command.Profiles.TheVariants.{One, Folder}
 use Rattle.rt1553_tool_args.specs.declared.command.ScriptKind.{ScriptKind}
@@ -99,6 +99,8 @@ command_name (CheckScript scripts) = codes "check-script"
 command_name (Verify profiles scripts kind expand format summary names) = codes "verify"
 command_name (Witness p script expand names) = codes "verify"
 command_name (Monitor table address gap no_response pause) = codes "recording"
+command_name (Coverage p scripts expand json names) = codes "coverage"
+command_name (Infer script address legal expand) = codes "infer"
 command_name (Import table) = codes "import"
 command_name (Export p) = codes "export"
 command_name (Expand messages) = codes "expand"
@@ -124,6 +126,12 @@ Asks f (Witness p script expand names) =
 Asks f (Monitor table address gap no_response pause) =
     HasValue f (codes "table") table.now × HasValue f (codes "address") address.now × HasOption f (codes "gap") gap
     × HasOption f (codes "no-response") no_response × HasOption f (codes "pause") pause
+Asks f (Coverage p scripts expand json names) =
+    HasValue f (codes "profile") p.now × (texts_of scripts.items ≡ all_values f (codes "script")) × (expand ≡ is_given f (codes "expand")) × (json ≡ is_json f)
+    × HasNames f names
+Asks f (Infer script address legal expand) =
+    HasValue f (codes "script") script.now × HasValue f (codes "address") address.now × (legal ≡ is_value (codes "legal") (first_value f (codes "unseen")))
+    × (expand ≡ is_given f (codes "expand"))
 Asks f (Import table) = HasValue f (codes "table") table.now
 Asks f (Export p) = HasValue f (codes "profile") p.now
 Asks f (Expand messages) = HasValue f (codes "messages") messages.now

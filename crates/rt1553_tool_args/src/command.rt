@@ -103,6 +103,24 @@ pub enum ToolCommand<'a> {
         no_response: Option<&'a str>,
         pause: Option<&'a str>,
     },
+    /// What came of the messages of a terminal in recordings.
+    Coverage {
+        profile: &'a str,
+        scripts: Vec<&'a str>,
+        /// The files have messages, which are expanded first.
+        expand: bool,
+        as_json: bool,
+        names: Option<&'a str>,
+    },
+    /// A profile that explains a recording.
+    Infer {
+        script: &'a str,
+        address: &'a str,
+        /// A message is legal of which nothing shows that it is not.
+        unseen_is_legal: bool,
+        /// The file has messages, which are expanded first.
+        expand: bool,
+    },
     /// The profile that a table means.
     Import(&'a str),
     /// The table of a document that a terminal has.
@@ -381,6 +399,19 @@ fn command_of<'a>(
             gap: given.get_str("gap"),
             no_response: given.get_str("no-response"),
             pause: given.get_str("pause"),
+        }),
+        "coverage" => Ok(ToolCommand::Coverage {
+            profile: required(given, "profile")?,
+            scripts: all_of(alloc, given, "script")?,
+            expand: is_flag_given(given, "expand"),
+            as_json: as_json(given),
+            names: names_of(given),
+        }),
+        "infer" => Ok(ToolCommand::Infer {
+            script: required(given, "script")?,
+            address: required(given, "address")?,
+            unseen_is_legal: given.get_str("unseen") == Some("legal"),
+            expand: is_flag_given(given, "expand"),
         }),
         "import" => Ok(ToolCommand::Import(required(given, "table")?)),
         "export" => Ok(ToolCommand::Export(required(given, "profile")?)),

@@ -48,6 +48,8 @@ const PROFILE: Argument = Argument {
 
 const TEXT_OR_JSON: [&str; 2] = ["text", "json"];
 
+const LEGAL_OR_ILLEGAL: [&str; 2] = ["legal", "illegal"];
+
 const TEXT_OR_SARIF: [&str; 3] = ["text", "json", "sarif"];
 
 const TEXT_OR_REPORT: [&str; 4] = ["text", "json", "junit", "html"];
@@ -189,6 +191,41 @@ const RECORDING: [Argument; 5] = [
     },
 ];
 
+const COVERAGE: [Argument; 5] = [
+    PROFILE,
+    Argument {
+        id: "script",
+        given: Occurrence::Often,
+        value: "SCRIPT",
+        help: "recordings",
+    },
+    EXPANDED,
+    FORMAT,
+    NAMES,
+];
+
+const INFER: [Argument; 4] = [
+    Argument {
+        id: "script",
+        given: Occurrence::Once,
+        value: "SCRIPT",
+        help: "a recording",
+    },
+    Argument {
+        id: "address",
+        given: Occurrence::Value,
+        value: "N",
+        help: "the address of the terminal, 0 to 30; it has to be given",
+    },
+    Argument {
+        id: "unseen",
+        given: Occurrence::OneOf("illegal", &LEGAL_OR_ILLEGAL),
+        value: "WHAT",
+        help: "what a message is of which nothing showed whether it is legal",
+    },
+    EXPANDED,
+];
+
 const IMPORT: [Argument; 1] = [Argument {
     id: "table",
     given: Occurrence::Once,
@@ -261,7 +298,7 @@ const ACCEPTANCE: [Argument; 4] = [
 const ONE_PROFILE: [Argument; 1] = [PROFILE];
 
 /// The commands, in the order of the help.
-pub const COMMANDS: [CommandRow; 14] = [
+pub const COMMANDS: [CommandRow; 16] = [
     CommandRow {
         name: "lint",
         about: "Prints all faults of profiles, and what has no effect",
@@ -285,6 +322,18 @@ pub const COMMANDS: [CommandRow; 14] = [
         about: "Writes the recording of a terminal that the table of a monitor has",
         example: "Example: rt1553-tool recording monitor.csv --address 5 > pump.script",
         arguments: &RECORDING,
+    },
+    CommandRow {
+        name: "coverage",
+        about: "Prints which messages of a terminal came in recordings, and which never",
+        example: "Example: rt1553-tool coverage pump.toml pump.script",
+        arguments: &COVERAGE,
+    },
+    CommandRow {
+        name: "infer",
+        about: "Proposes a profile that explains a recording",
+        example: "Example: rt1553-tool infer pump.script --address 5 > pump.toml",
+        arguments: &INFER,
     },
     CommandRow {
         name: "import",

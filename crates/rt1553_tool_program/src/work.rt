@@ -14,7 +14,10 @@ use tool_profiles::{
 use tool_scripts::{
     AskedRecording, bus_words, check_scripts, draw_run, expand_file, play_live, record_table,
 };
-use tool_verify::{AskedReport, AskedWitness, explain_recording, verify_scripts};
+use tool_verify::{
+    AskedCoverage, AskedProfile, AskedReport, AskedWitness, cover_scripts, explain_recording,
+    infer_profile, verify_scripts,
+};
 
 /// Does what is asked for, and gives the status to end with.
 fn do_command<R: Files + AllocGlobal + Eprint, I: Read + Drop, W: Write>(
@@ -77,6 +80,35 @@ fn do_command<R: Files + AllocGlobal + Eprint, I: Read + Drop, W: Write>(
                 pause: *pause,
             };
             record_table(rt, asked, output)
+        }
+        ToolCommand::Coverage {
+            profile,
+            scripts,
+            expand,
+            as_json,
+            names,
+        } => {
+            let asked = AskedCoverage {
+                profile,
+                expand: *expand,
+                as_json: *as_json,
+                names: *names,
+            };
+            cover_scripts(rt, asked, scripts.as_slice(), output)
+        }
+        ToolCommand::Infer {
+            script,
+            address,
+            unseen_is_legal,
+            expand,
+        } => {
+            let asked = AskedProfile {
+                script,
+                address,
+                unseen_is_legal: *unseen_is_legal,
+                expand: *expand,
+            };
+            infer_profile(rt, asked, output)
         }
         ToolCommand::Import(table) => import_file(rt, table, output),
         ToolCommand::Export(profile) => export_file(rt, profile, output),

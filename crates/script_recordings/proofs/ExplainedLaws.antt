@@ -105,8 +105,15 @@ is_witness P Q alike script recording events low is states proper shown = record
       ∙ (shown ∙ (recording_law.decided Q [] recording low is).0 (explained_alike P Q (λ h e. sym (alike h e)) recording x));
 }
 
-pub witness_of : (input : Option (List ℕ)) (recording : List Sighting) (text : List ℕ) (events : List Event) → IfSome input (λ script. StatesRecording script recording)
-    → text ≡ script_text events → {G : Description → Type 0} → ((script : List ℕ) → StatesRecording script recording → (P : Description) → G P → IsWitness P script events)
+-- what a script states, read: its witness, and the text of that
+pub witness_by : (input : Option (List ℕ)) (seen recording : List Sighting) (events : List Event) → seen ≡ recording → IfSome input (λ script. StatesRecording script recording)
+    → {G : Description → Type 0} → ((script : List ℕ) → StatesRecording script seen → (P : Description) → G P → IsWitness P script events)
+    → IfSome input (λ script. (P : Description) → G P → IsWitness P script events)
+witness_by None seen recording events same states witness = tt
+witness_by (Some script) seen recording events same states witness = witness script (subst (StatesRecording script) (sym same) states)
+
+pub witness_of : (G : Description → Type 0) (input : Option (List ℕ)) (text : List ℕ) (events : List Event) → text ≡ script_text events
+    → IfSome input (λ script. (P : Description) → G P → IsWitness P script events)
     → IfSome input (λ script. (events : List Event) × (text ≡ script_text events) × ((P : Description) → G P → IsWitness P script events))
-witness_of None recording text events states is witness = tt
-witness_of (Some script) recording text events states is witness = (events, is, witness script states)
+witness_of G None text events is witness = tt
+witness_of G (Some script) text events is witness = (events, is, witness)

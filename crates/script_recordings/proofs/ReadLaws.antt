@@ -1,10 +1,7 @@
 -- Laws of a recording that is read, sighting by sighting.
 use Rattle.std.proofs.Common.{◌≡◌, ◌∙◌, ℕ, Option, Some, None, IfSome, Result, Ok, Err, List, [], ◌∷◌, ◌++◌, ⊎_elim, refl, sym, ap, subst, append-nil}
-use Rattle.std.proofs.lemmas.List.{map-append}
 use Rattle.terminal_recordings.specs.Recordings.{Sighting}
 use Rattle.recorded_terminal.specs.declared.watch.Marked.{Marked}
-use Rattle.recorded_terminal.specs.declared.sighting.Sighting.{Sighting as Seen}
-use Rattle.recorded_terminal.specs.Sightings.{shown_sighting, recorded}
 use Rattle.recorded_terminal.specs.Watched.{seen_in}
 use Rattle.rt1553_verify.specs.declared.stated.Stated.{Stated}
 use Rattle.rt1553_verify.specs.declared.stated.StatedFault.{StatedFault}
@@ -151,13 +148,7 @@ next_unseen (Some said) mid new s fault given (later, is, e) bad refuses = rest 
 
 -- ---- the whole recording
 
-pub recording_all : (input : Option (List ℕ)) (left new : Left) (ms : List Marked) (xs : List Sighting) → xs ≡ seen_in ms → ReadSoFar input left ms → NextSeen left new (Ok None)
-    → IfSome input (λ script. StatesRecording script xs)
-recording_all None left new ms xs is read end = tt
-recording_all (Some script) left new ms xs is read end =
-    let a = read_all script left new ms read end in
-    (a.0, a.1, subst (λ (l : List Sighting). AreSeenAs a.0 l) (sym is) (are_seen a.0 ms a.2))
-
-pub seen_more : (old new : List Seen) (ms : List Marked) (m : Marked) → recorded old ≡ seen_in ms → new ≡ old ++ m.sighting ∷ [] → recorded new ≡ seen_in (ms ++ m ∷ [])
-seen_more old new ms m is grown =
-    ap recorded grown ∙ map-append shown_sighting old (m.sighting ∷ []) ∙ ap (λ l. l ++ shown_sighting m.sighting ∷ []) is ∙ sym (map-append (λ m. shown_sighting m.sighting) ms (m ∷ []))
+pub recording_all : (input : Option (List ℕ)) (left new : Left) (ms : List Marked) → ReadSoFar input left ms → NextSeen left new (Ok None)
+    → IfSome input (λ script. StatesRecording script (seen_in ms))
+recording_all None left new ms read end = tt
+recording_all (Some script) left new ms read end = let a = read_all script left new ms read end in (a.0, a.1, are_seen a.0 ms a.2)

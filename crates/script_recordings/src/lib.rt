@@ -7,6 +7,6 @@ mod telling;
 mod words;
 
 pub use explaining::{Explained, ExplainedSince, UnexplainedLine, watch_recording, watch_since};
-pub use reading::RecordingFault;
-pub use telling::witness;
+pub use reading::{RecordingFault, read_recording};
+pub use telling::{recorded_events, witness};
 pub use words::read_sent;

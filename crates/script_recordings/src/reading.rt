@@ -2,7 +2,8 @@
 ghost use Rattle.std.specs.Prelude.{◌≡◌, ◌<◌, map, IfOk, IfErr, IfSome};
 ghost use Rattle.rt1553_verify.specs.Stated.{shown, stated_through};
 ghost use Rattle.rt1553_verify.specs.Reader.{left_in, turns_left};
-ghost use Rattle.recorded_terminal.specs.Sightings.{recorded, shown_sighting};
+ghost use Rattle.recorded_terminal.specs.Sightings.{shown_sighting};
+ghost use Rattle.recorded_terminal.specs.Watched.{seen_in};
 ghost use Rattle.recorded_terminal.specs.SentWords.{word_shown};
 ghost use Rattle.script_recordings.specs.Seen.{StatesSent, StatesNoWord, IsSeenAs, IsUnseenAs, StatesRecording, StatesNoRecording};
 ghost use Rattle.script_recordings.specs.inner.Reads.{NextSeen, RefusesRest};
@@ -144,20 +145,20 @@ impl<B: BufRead> RecordingReader<B> {
     }
 }
 
-/// Gives the recording that a script states, a sighting for each of its events. The first fault of the script refuses it, or else the
+/// Gives the recording that a script states, a sighting for each of its events, with its place. The first fault of the script refuses it, or else the
 /// first event that is no sighting.
 pub fn read_recording<B: BufRead + Drop>(
     alloc: Global,
     address: u8,
     input: B,
-) -> Result<Vec<Sighting>, RecordingFault>
-    ensures read { IfOk result (λ recording. IfSome (B.remaining input) (λ script. StatesRecording script (recorded recording.items))) }
+) -> Result<Vec<Marked>, RecordingFault>
+    ensures read { IfOk result (λ recording. IfSome (B.remaining input) (λ script. StatesRecording script (seen_in recording.items))) }
     ensures refused { IfErr result (λ fault. IfSome (B.remaining input) (λ script. StatesNoRecording script fault)) }
 {
     let mut reader = RecordingReader::new(alloc, address, input);
     let mut recording = Vec::new(alloc);
     'sightings: while let Some(marked) = reader.next()? {
-        recording.push(marked.sighting)?;
+        recording.push(marked)?;
     }
     Ok(recording)
 }

@@ -11,7 +11,7 @@ ghost use Rattle.script_recordings.specs.Explained.{IsWitness};
 use crate::reading::{RecordingFault, read_recording};
 use bus_legal::Normal;
 use bus_terminal::Event;
-use recorded_terminal::behaviour;
+use recorded_terminal::{behaviour, sightings_of};
 use script_lines::write_event;
 use std::alloc::{AllocError, Global};
 use std::io::BufRead;
@@ -36,8 +36,22 @@ fn script_of(alloc: Global, events: &[Event]) -> Result<Vec<u8>, AllocError>
     Ok(text)
 }
 
-/// Gives the events of a script that states a recording, and before them what the subsystem did, as the recording tells it: played from
-/// power-up, they make the terminal send what is stated, if any behaviour of the subsystem does.
+/// Gives the events of a script that states a recording, and before them what the subsystem did, as the recording tells it: from power-up
+/// on they make the terminal send what is stated, if any behaviour of the subsystem does.
+pub fn recorded_events<B: BufRead + Drop>(
+    alloc: Global,
+    normal: &Normal,
+    input: B,
+) -> Result<Vec<Event>, RecordingFault>
+    ensures plays { IfOk result (λ events. IfSome (B.remaining input) (λ script. (P : Description) → description_in normal.now ≡ reach P → IsWitness P script events.items)) }
+    ensures refused { IfErr result (λ fault. IfSome (B.remaining input) (λ script. StatesNoRecording script fault)) }
+{
+    let recording = read_recording(alloc, normal.address(), input)?;
+    let sightings = sightings_of(alloc, recording.as_slice())?;
+    Ok(behaviour(alloc, normal.setup(), *normal, sightings.as_slice())?)
+}
+
+/// Gives the same as a script.
 pub fn witness<B: BufRead + Drop>(
     alloc: Global,
     normal: &Normal,
@@ -46,7 +60,6 @@ pub fn witness<B: BufRead + Drop>(
     ensures plays { IfOk result (λ text. IfSome (B.remaining input) (λ script. (events : List ScriptEvent) × (text.items ≡ script_text events) × ((P : Description) → description_in normal.now ≡ reach P → IsWitness P script events))) }
     ensures refused { IfErr result (λ fault. IfSome (B.remaining input) (λ script. StatesNoRecording script fault)) }
 {
-    let recording = read_recording(alloc, normal.address(), input)?;
-    let events = behaviour(alloc, normal.setup(), *normal, recording.as_slice())?;
+    let events = recorded_events(alloc, normal, input)?;
     Ok(script_of(alloc, events.as_slice())?)
 }

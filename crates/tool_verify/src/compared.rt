@@ -12,7 +12,8 @@ use rt1553_verify::{
     script_warning, stated_on_bus, wrong_answers,
 };
 use script_recordings::{
-    Explained, ExplainedSince, RecordingFault, UnexplainedLine, watch_recording, watch_since, witness,
+    Explained, ExplainedSince, RecordingFault, UnexplainedLine, watch_recording, watch_since,
+    witness,
 };
 use std::alloc::{AllocError, AllocFailed, Global};
 use std::io::{BufRead, BufReader, Read};

@@ -180,7 +180,7 @@ fn stated_fault<R: AllocGlobal>(rt: &R, name: &str, fault: StatedFault) -> ToolF
 }
 
 /// The fault of a script that states no recording.
-fn recording_fault<R: AllocGlobal>(
+pub fn recording_fault<R: AllocGlobal>(
     rt: &R,
     name: &str,
     script: &LoadedScript,
@@ -289,7 +289,9 @@ fn tell_part<R: AllocGlobal + Eprint>(
             let _ = eprintln!(rt; "{name}: judged after line {line}");
         }
         JudgedPart::Nothing => {
-            let _ = eprintln!(rt; "{name}: warning: nothing is judged: no part begins afresh after a pause");
+            let _ = eprintln!(rt;
+                "{name}: warning: nothing is judged: no part begins afresh after a pause"
+            );
         }
     }
     Ok(())

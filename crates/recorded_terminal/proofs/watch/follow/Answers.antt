@@ -1,6 +1,6 @@
-use Rattle.std.proofs.Common.{arith, ◌≡◌, ◌+◌, ◌∷◌, List, suc, drop, add-one, false, true, sym, ◌∙◌}
+use Rattle.std.proofs.Common.{length-take-le, arith, ◌≡◌, ◌+◌, ◌∷◌, List, suc, drop, add-one, false, true, sym, ◌∙◌}
 use Rattle.recorded_terminal.specs.declared.watch.Marked.{Marked}
-use Rattle.recorded_terminal.proofs.WatchLaws.{cut_of, so_far_more, differs_at, taken}
+use Rattle.recorded_terminal.proofs.WatchLaws.{cut_of, so_far_more, differs_at}
 use Rattle.recorded_terminal.proofs.watch.follow.Goals as goal
 
 pub returns-then-not-is_same : goal.returns-then-not-is_same
@@ -11,7 +11,7 @@ returns-then-not-is_same g c P h bound follows =
     let cut : drop n ms ≡ c.index-waiting-number.result ∷ drop (suc n) ms = cut_of ms n c.index-waiting-number.result c.loop-number-test.true c.index-waiting-number.is in
     differs_at g.L.Legality.is_legal P h c.args.status ms n c.index-waiting-number.result c.see-sent.result.sent c.loop-number.follower c.see-sent.new.self cut s
     (c.see-sent.ensures.sent P s.history s.follows) (λ same. let wrong : true ≡ false = sym (c.is_same.ensures.1 same) ∙ c.if-not-is_same.true in cc)
-    c.args.followed c.saturating_add.result (taken n ms c.loop-number-test.true) (omega arith)
+    c.args.followed c.saturating_add.result (length-take-le n ms (omega arith)) (omega arith)
 
 pub loop-number-preserved : goal.loop-number-preserved
 loop-number-preserved g c P h follows =

@@ -1,0 +1,9 @@
+mod CountLaws
+mod CellLaws
+mod Lists
+mod RowLaws
+mod EndingLaws
+mod TableLaws
+mod OnceLaws
+mod PlaceLaws
+pub mod SoFar
