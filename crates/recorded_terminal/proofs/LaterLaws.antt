@@ -9,21 +9,21 @@ use Rattle.terminal_rules.specs.declared.event.Event.TheVariants.{Word, Noise, G
 use Rattle.terminal_rules.specs.Status.{spares}
 use Rattle.terminal_rules.specs.Out.{Sending}
 use Rattle.terminal_recordings.specs.Recordings.{Sighting, IsRecording}
-use Rattle.terminal_recordings.specs.Later.{IsExplainedLater, Gaps, no_gaps, are_two, gaps_with, fresh_part, command_for, first_command, asks_back, BeginsAfresh, shutting, begun}
+use Rattle.terminal_recordings.specs.Later.{IsExplainedLater, Gaps, no_gaps, are_two, gaps_with, fresh_part, command_for, first_command, asks_back, BeginsAfresh, shutting, shut_history}
 use Rattle.terminal_recordings.proofs.Law.{recording_law}
 use Rattle.terminal_recordings.proofs.Leaving.{shutting_leaves, shutting_proper}
 use Rattle.terminal_recordings.proofs.LaterLaw.{later_law}
 use Rattle.recorded_terminal.specs.declared.watch.Marked.{Marked}
 use Rattle.recorded_terminal.specs.declared.watch.Unexplained.{Unexplained}
 use Rattle.recorded_terminal.specs.declared.later.Gaps.{Gaps as Counted}
-use Rattle.recorded_terminal.specs.declared.later.Part.{Part}
-use Rattle.recorded_terminal.specs.declared.later.Part.TheVariants.{Sought, Begun, Afresh}
+use Rattle.recorded_terminal.specs.declared.later.WatchPhase.{WatchPhase}
+use Rattle.recorded_terminal.specs.declared.later.WatchPhase.TheVariants.{Sought, Begun, Afresh}
 use Rattle.recorded_terminal.specs.declared.later.LaterWatch.{LaterWatch}
-use Rattle.recorded_terminal.specs.declared.later.Judged.{Judged}
+use Rattle.recorded_terminal.specs.declared.later.FreshPart.{FreshPart}
 use Rattle.recorded_terminal.specs.Sightings.{shown_sighting}
 use Rattle.recorded_terminal.specs.Watched.{seen_in}
-use Rattle.recorded_terminal.specs.Judged.{CanBegin, IsExplainedBegun, IsUnexplainedBy, IsUnexplainedBegunAt, WatchBegun, unless_asks, IsPartOf, IsBegun, WatchesPart, WatchesLater, IsJudged}
-use Rattle.recorded_terminal.specs.inner.Gaps.{at_most_two, shown_gaps, AreGaps, IsPartWith}
+use Rattle.recorded_terminal.specs.Judged.{shown_gaps, CanBegin, IsExplainedBegun, IsUnexplainedBy, IsUnexplainedBegunAt, WatchBegun, unless_asks, IsPartOf, IsBegun, WatchesPart, WatchesLater, IsJudged}
+use Rattle.recorded_terminal.specs.inner.Gaps.{at_most_two, AreGaps, IsPartWith}
 use Rattle.recorded_terminal.proofs.WatchLaws.{seen_append, are_recording}
 
 -- ---- gaps that are counted alike
@@ -210,13 +210,13 @@ afresh_on P xs ys s ((c, is, asks), part) = (
 
 -- ---- a watch with one sighting more
 
-one_more_seen : (P : Description) (ms part : List Marked) (m : Marked) (p : Part) → IsPartOf P (seen_in ms ++ shown_sighting m.sighting ∷ []) (seen_in part ++ shown_sighting m.sighting ∷ []) p →
+one_more_seen : (P : Description) (ms part : List Marked) (m : Marked) (p : WatchPhase) → IsPartOf P (seen_in ms ++ shown_sighting m.sighting ∷ []) (seen_in part ++ shown_sighting m.sighting ∷ []) p →
     IsPartOf P (seen_in (ms ++ m ∷ [])) (seen_in (part ++ m ∷ [])) p
 one_more_seen P ms part m p x =
     subst (λ l. IsPartOf P l (seen_in (part ++ m ∷ [])) p) (sym (seen_append ms (m ∷ [])))
     (subst (λ l. IsPartOf P (seen_in ms ++ shown_sighting m.sighting ∷ []) l p) (sym (seen_append part (m ∷ []))) x)
 
-watches_sought : {L : Type 0} (is_legal : L → Cell → Bool) (P : Description) (ms : List Marked) (m : Marked) (w : LaterWatch L) (p : Part) (n : Counted) → WatchesPart is_legal P ms w p →
+watches_sought : {L : Type 0} (is_legal : L → Cell → Bool) (P : Description) (ms : List Marked) (m : Marked) (w : LaterWatch L) (p : WatchPhase) (n : Counted) → WatchesPart is_legal P ms w p →
     IsPartWith P p (shown_sighting m.sighting) (Sought n) → IsPartOf P (seen_in (ms ++ m ∷ [])) [] (Sought n)
 watches_sought is_legal P ms m w (Sought k) n part is =
     subst (λ l. IsPartOf P l [] (Sought n)) (sym (seen_append ms (m ∷ []))) (sought_more P (seen_in ms) (shown_sighting m.sighting) k n part is)
@@ -224,7 +224,7 @@ watches_sought is_legal P ms m w Begun n i is =
     subst (λ l. IsPartOf P l [] (Sought n)) (sym (seen_append ms (m ∷ []))) (sought_again P (seen_in ms) (seen_in i.part) (shown_sighting m.sighting) n i.is_part is)
 watches_sought is_legal P ms m w Afresh n i is = absurd is
 
-watches_begun : {L : Type 0} (is_legal : L → Cell → Bool) (P : Description) (ms : List Marked) (m : Marked) (w v : LaterWatch L) (k : Counted) (q : Part) → WatchesPart is_legal P ms w (Sought k) →
+watches_begun : {L : Type 0} (is_legal : L → Cell → Bool) (P : Description) (ms : List Marked) (m : Marked) (w v : LaterWatch L) (k : Counted) (q : WatchPhase) → WatchesPart is_legal P ms w (Sought k) →
     IsPartWith P (Sought k) (shown_sighting m.sighting) q → ((n : Counted) → q ≡ Sought n → ⊥) → v.after ≡ m.line → WatchBegun is_legal P [] v.beginnings → WatchesPart is_legal P (ms ++ m ∷ []) v q
 watches_begun is_legal P ms m w v k (Sought n) part is not_sought line watches = absurd (not_sought n refl)
 watches_begun is_legal P ms m w v k Begun part is not_sought line watches = record {
@@ -238,7 +238,7 @@ watches_begun is_legal P ms m w v k Begun part is not_sought line watches = reco
 }
 watches_begun is_legal P ms m w v k Afresh part is not_sought line watches = absurd is
 
-part_more : {L : Type 0} (is_legal : L → Cell → Bool) (P : Description) (ms : List Marked) (m : Marked) (w v : LaterWatch L) (p q : Part) (i : IsBegun is_legal P ms w p) → v.after ≡ w.after →
+part_more : {L : Type 0} (is_legal : L → Cell → Bool) (P : Description) (ms : List Marked) (m : Marked) (w v : LaterWatch L) (p q : WatchPhase) (i : IsBegun is_legal P ms w p) → v.after ≡ w.after →
     WatchBegun is_legal P (i.part ++ m ∷ []) v.beginnings → IsPartOf P (seen_in ms ++ shown_sighting m.sighting ∷ []) (seen_in i.part ++ shown_sighting m.sighting ∷ []) q → IsBegun is_legal P (ms ++ m ∷ []) v q
 part_more is_legal P ms m w v p q i same watches x = record {
   front = i.front;
@@ -250,7 +250,7 @@ part_more is_legal P ms m w v p q i same watches x = record {
   is_part = one_more_seen P ms i.part m q x;
 }
 
-watches_more : {L : Type 0} (is_legal : L → Cell → Bool) (P : Description) (ms : List Marked) (m : Marked) (w v : LaterWatch L) (p q : Part) → WatchesPart is_legal P ms w p →
+watches_more : {L : Type 0} (is_legal : L → Cell → Bool) (P : Description) (ms : List Marked) (m : Marked) (w v : LaterWatch L) (p q : WatchPhase) → WatchesPart is_legal P ms w p →
     IsPartWith P p (shown_sighting m.sighting) q → ((n : Counted) → p ≡ Sought n → ⊥) → ((n : Counted) → q ≡ Sought n → ⊥) → v.after ≡ w.after →
     ((ns : List Marked) → WatchBegun is_legal P ns w.beginnings → WatchBegun is_legal P (ns ++ m ∷ []) v.beginnings) → WatchesPart is_legal P (ms ++ m ∷ []) v q
 watches_more is_legal P ms m w v (Sought k) q i is not_sought still same sees = absurd (not_sought k refl)
@@ -267,7 +267,7 @@ watches_more is_legal P ms m w v Afresh Afresh i is not_sought still same sees =
 abbrev own : {L : Type 0} → (L → Cell → Bool) → LaterWatch L → Description
 own is_legal w = described w.setup (is_legal w.legality)
 
-part_with : {L : Type 0} (is_legal : L → Cell → Bool) (P : Description) (w : LaterWatch L) (p q r : Part) (s : Sighting) → own is_legal w ≡ P → p ≡ r → IsPartWith (own is_legal w) p s q → IsPartWith P r s q
+part_with : {L : Type 0} (is_legal : L → Cell → Bool) (P : Description) (w : LaterWatch L) (p q r : WatchPhase) (s : Sighting) → own is_legal w ≡ P → p ≡ r → IsPartWith (own is_legal w) p s q → IsPartWith P r s q
 part_with is_legal P w p q r s same is x = subst (λ D. IsPartWith D r s q) same (subst (λ p. IsPartWith (own is_legal w) p s q) is x)
 
 pub sees_sought : {L : Type 0} (is_legal : L → Cell → Bool) (P : Description) (ms : List Marked) (m : Marked) (w v : LaterWatch L) (n : Counted) → WatchesLater is_legal P ms w →
@@ -284,13 +284,13 @@ sees_sought is_legal P ms m w v n watches same with is = record {
 pub sees_begun : {L : Type 0} (is_legal : L → Cell → Bool) (P : Description) (ms : List Marked) (m : Marked) (w v : LaterWatch L) (k : Counted) → WatchesLater is_legal P ms w →
     own is_legal v ≡ own is_legal w → IsPartWith (own is_legal w) w.part (shown_sighting m.sighting) v.part → w.part ≡ Sought k → ((n : Counted) → v.part ≡ Sought n → ⊥) → v.after ≡ m.line →
     WatchBegun is_legal (own is_legal w) [] v.beginnings → WatchesLater is_legal P (ms ++ m ∷ []) v
-sees_begun is_legal P ms m w v k watches same with is not_sought line begun = record {
+sees_begun is_legal P ms m w v k watches same with is not_sought line fresh = record {
   description = same ∙ watches.description;
   can = watches.can;
   watches =
       watches_begun is_legal P ms m w v k v.part (subst (WatchesPart is_legal P ms w) is watches.watches)
       (part_with is_legal P w w.part v.part (Sought k) (shown_sighting m.sighting) watches.description is with) not_sought line
-      (subst (λ D. WatchBegun is_legal D [] v.beginnings) watches.description begun);
+      (subst (λ D. WatchBegun is_legal D [] v.beginnings) watches.description fresh);
 }
 
 pub sees_more : {L : Type 0} (is_legal : L → Cell → Bool) (P : Description) (ms : List Marked) (m : Marked) (w v : LaterWatch L) → WatchesLater is_legal P ms w →
@@ -312,7 +312,7 @@ later_of_begun P can xs (shut, x) = (shutting P shut, shutting_proper P shut can
 begun_of_later : (P : Description) → CanBegin P → (xs : List Sighting) → IsRecording xs → BeginsAfresh P xs → IsExplainedLater P xs → IsExplainedBegun P xs
 begun_of_later P can xs r afresh x =
     let s = (later_law.decided P xs can.address can.shutdown r afresh).0 x in
-    (s.0, (recording_law.decided P (begun P s.0) xs can.address r).1 s.1)
+    (s.0, (recording_law.decided P (shut_history P s.0) xs can.address r).1 s.1)
 
 unexplained_later : (P : Description) → CanBegin P → (part : List Marked) → BeginsAfresh P (seen_in part) → (it : Unexplained) → IsUnexplainedBegunAt P part it → IsUnexplainedBy (IsExplainedLater P) part it
 unexplained_later P can part afresh it i =
@@ -333,7 +333,7 @@ unexplained_later P can part afresh it i =
     }
 
 -- the part, and that it begins afresh
-part_now : (P : Description) (xs ys : List Sighting) (p : Part) → ((n : Counted) → p ≡ Sought n → ⊥) → IsPartOf P xs ys p → (fresh_part P no_gaps xs ≡ Some ys) × BeginsAfresh P ys
+part_now : (P : Description) (xs ys : List Sighting) (p : WatchPhase) → ((n : Counted) → p ≡ Sought n → ⊥) → IsPartOf P xs ys p → (fresh_part P no_gaps xs ≡ Some ys) × BeginsAfresh P ys
 part_now P xs ys (Sought k) not_sought x = absurd (not_sought k refl)
 part_now P xs ys Begun not_sought (none, part) = (
   ap (fresh_part P no_gaps) (sym (append-nil xs)) ∙ part [] ∙ ap Some (append-nil ys),
@@ -347,13 +347,13 @@ part_now P xs ys Afresh not_sought ((c, is, asks), part) = (
 pub none_judged : (P : Description) (xs : List Sighting) (k : Counted) → IsPartOf P xs [] (Sought k) → fresh_part P no_gaps xs ≡ None
 none_judged P xs k part = ap (fresh_part P no_gaps) (sym (append-nil xs)) ∙ part []
 
-pub begun_of : {L : Type 0} (is_legal : L → Cell → Bool) (P : Description) (ms : List Marked) (w : LaterWatch L) (p : Part) → ((n : Counted) → p ≡ Sought n → ⊥) → WatchesPart is_legal P ms w p →
+pub begun_of : {L : Type 0} (is_legal : L → Cell → Bool) (P : Description) (ms : List Marked) (w : LaterWatch L) (p : WatchPhase) → ((n : Counted) → p ≡ Sought n → ⊥) → WatchesPart is_legal P ms w p →
     IsBegun is_legal P ms w p
 begun_of is_legal P ms w (Sought k) not_sought x = absurd (not_sought k refl)
 begun_of is_legal P ms w Begun not_sought x = x
 begun_of is_legal P ms w Afresh not_sought x = x
 
-pub judged : {L : Type 0} (is_legal : L → Cell → Bool) (P : Description) → CanBegin P → (ms : List Marked) (w : LaterWatch L) (p : Part) (r : Option Unexplained) → ((n : Counted) → p ≡ Sought n → ⊥) →
+pub judged : {L : Type 0} (is_legal : L → Cell → Bool) (P : Description) → CanBegin P → (ms : List Marked) (w : LaterWatch L) (p : WatchPhase) (r : Option Unexplained) → ((n : Counted) → p ≡ Sought n → ⊥) →
     (i : IsBegun is_legal P ms w p) → ((r ≡ None) ↔ IsExplainedBegun P (seen_in i.part)) → IfSome r (IsUnexplainedBegunAt P i.part) → IsJudged P ms (record { after = w.after; first = r })
 judged is_legal P can ms w p r not_sought i explained first =
     let now = part_now P (seen_in ms) (seen_in i.part) p not_sought i.is_part in
@@ -375,5 +375,5 @@ judged is_legal P can ms w p r not_sought i explained first =
     by None x afresh = tt
     by (Some it) x afresh = unexplained_later P can i.part afresh it x
 
-pub some_judged : (P : Description) (ms : List Marked) (it : Judged) → IsJudged P ms it → (Some it ≡ None) ↔ (fresh_part P no_gaps (seen_in ms) ≡ None)
+pub some_judged : (P : Description) (ms : List Marked) (it : FreshPart) → IsJudged P ms it → (Some it ≡ None) ↔ (fresh_part P no_gaps (seen_in ms) ≡ None)
 some_judged P ms it i = (λ e. absurd (cc), λ e. let wrong : Some (seen_in i.part) ≡ None = sym i.is_part ∙ e in absurd (cc))

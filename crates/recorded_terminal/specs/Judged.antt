@@ -7,22 +7,22 @@ use Rattle.bus_word.specs.Mode as mode
 use Rattle.bus_legal.specs.Description.{Description, described}
 use Rattle.terminal_rules.specs.Status.{spares}
 use Rattle.terminal_recordings.specs.Recordings.{Sighting, IsExplainedAfter}
-use Rattle.terminal_recordings.specs.Later.{IsExplainedLater, no_gaps, fresh_part, first_command, asks_back, ShutDown, begun}
+use Rattle.terminal_recordings.specs.Later.{IsExplainedLater, Gaps, no_gaps, fresh_part, first_command, asks_back, ShutDown, shut_history}
 use Rattle.recorded_terminal.specs.declared.watch.Marked.{Marked}
 use Rattle.recorded_terminal.specs.declared.watch.Unexplained.{Unexplained}
 use Rattle.recorded_terminal.specs.declared.watch.Watch.{Watch}
 use Rattle.recorded_terminal.specs.declared.beginnings.Beginnings.{Beginnings}
-use Rattle.recorded_terminal.specs.declared.later.Part.{Part}
-use Rattle.recorded_terminal.specs.declared.later.Part.TheVariants.{Sought, Begun, Afresh}
-use Rattle.recorded_terminal.specs.declared.later.Judged.{Judged}
+use Rattle.recorded_terminal.specs.declared.later.WatchPhase.{WatchPhase}
+use Rattle.recorded_terminal.specs.declared.later.WatchPhase.TheVariants.{Sought, Begun, Afresh}
+use Rattle.recorded_terminal.specs.declared.later.FreshPart.{FreshPart}
 use Rattle.recorded_terminal.specs.declared.later.LaterWatch.{LaterWatch}
-use Rattle.recorded_terminal.specs.inner.Gaps.{shown_gaps}
+use Rattle.recorded_terminal.specs.declared.later.Gaps.{Gaps as Counted}
 use Rattle.recorded_terminal.specs.Sightings.{shown_sighting}
 use Rattle.recorded_terminal.specs.Watched.{seen_in, sighting_instead, Watches}
 
 -- it is explained after one of the four beginnings
 abbrev pub IsExplainedBegun : Description → List Sighting → Type 0
-IsExplainedBegun P recording = (shut : ShutDown) × IsExplainedAfter P (begun P shut) recording
+IsExplainedBegun P recording = (shut : ShutDown) × IsExplainedAfter P (shut_history P shut) recording
 
 -- The sightings before one are explained, and with it they are not, but with another word sent in it, or none.
 pub record IsUnexplainedBy (explains : List Sighting → Type 0) (ms : List Marked) (it : Unexplained) : Type 0 where
@@ -45,7 +45,7 @@ watch_at bs shut =
 
 -- each of the four has seen these sightings
 abbrev pub WatchBegun : {L : Type 0} → (L → Cell → Bool) → Description → List Marked → Beginnings L → Type 0
-WatchBegun is_legal P ms bs = (shut : ShutDown) → Watches is_legal P (begun P shut) ms (watch_at bs shut)
+WatchBegun is_legal P ms bs = (shut : ShutDown) → Watches is_legal P (shut_history P shut) ms (watch_at bs shut)
 
 -- the set-up of a terminal whose transmitters can be shut down, as in every accepted profile
 pub record CanBegin (P : Description) : Type 0 where
@@ -56,8 +56,12 @@ pub record CanBegin (P : Description) : Type 0 where
 abbrev pub unless_asks : Description → List Sighting → Bool → Option (List Sighting)
 unless_asks P part asks = if asks then fresh_part P no_gaps part else Some part
 
+-- the gaps that were counted
+abbrev pub shown_gaps : Counted → Gaps
+shown_gaps k = record { a = k.a; b = k.b }
+
 -- Where a watch is in what was seen: before a pause; after one, before a command; or in the part that is judged.
-abbrev pub IsPartOf : Description → List Sighting → List Sighting → Part → Type 0
+abbrev pub IsPartOf : Description → List Sighting → List Sighting → WatchPhase → Type 0
 IsPartOf P seen part (Sought k) = (more : List Sighting) → fresh_part P no_gaps (seen ++ more) ≡ fresh_part P (shown_gaps k) more
 IsPartOf P seen part Begun =
     (first_command P part ≡ None)
@@ -66,7 +70,7 @@ IsPartOf P seen part Afresh =
     ((c : ℕ) × (first_command P part ≡ Some c) × (spares P c ≡ false)) × ((more : List Sighting) → fresh_part P no_gaps (seen ++ more) ≡ Some (part ++ more))
 
 -- what came after a pause is watched from each beginning
-pub record IsBegun {L : Type 0} (is_legal : L → Cell → Bool) (P : Description) (ms : List Marked) (w : LaterWatch L) (p : Part) : Type 0 where
+pub record IsBegun {L : Type 0} (is_legal : L → Cell → Bool) (P : Description) (ms : List Marked) (w : LaterWatch L) (p : WatchPhase) : Type 0 where
   pub front : List Marked
   pub pause : Marked
   pub part : List Marked
@@ -75,7 +79,7 @@ pub record IsBegun {L : Type 0} (is_legal : L → Cell → Bool) (P : Descriptio
   pub watches : WatchBegun is_legal P part w.beginnings
   pub is_part : IsPartOf P (seen_in ms) (seen_in part) p
 
-abbrev pub WatchesPart : {L : Type 0} → (L → Cell → Bool) → Description → List Marked → LaterWatch L → Part → Type 0
+abbrev pub WatchesPart : {L : Type 0} → (L → Cell → Bool) → Description → List Marked → LaterWatch L → WatchPhase → Type 0
 WatchesPart is_legal P ms w (Sought k) = IsPartOf P (seen_in ms) [] (Sought k)
 WatchesPart is_legal P ms w p = IsBegun is_legal P ms w p
 
@@ -87,7 +91,7 @@ pub record WatchesLater {L : Type 0} (is_legal : L → Cell → Bool) (P : Descr
 
 -- The part of a recording that is judged: it comes after the slot that ends a pause. Nothing is told exactly if it is explained, whatever
 -- came before; else the first sighting in it that nothing explains.
-pub record IsJudged (P : Description) (ms : List Marked) (judged : Judged) : Type 0 where
+pub record IsJudged (P : Description) (ms : List Marked) (judged : FreshPart) : Type 0 where
   pub front : List Marked
   pub pause : Marked
   pub part : List Marked

@@ -50,7 +50,7 @@ impl<L: Legality> Follower<L> {
     ghost use Rattle.terminal_rules.specs.Past.{history_after};
     ghost use Rattle.terminal_rules.specs.Out.{out, sent_in};
     ghost use Rattle.terminal_recordings.specs.Completion.{flag_shown};
-    ghost use Rattle.terminal_recordings.specs.Later.{begun, if_shut};
+    ghost use Rattle.terminal_recordings.specs.Later.{shut_history, if_shut};
     ghost use Rattle.bus_word.specs.Word.{valid_word};
     ghost use Rattle.bus_word.specs.declared.word.Kind.TheVariants.{Com};
     ghost use Rattle.terminal_rules.specs.declared.event.Event.TheVariants.{Word as WordEvent, Gap as GapEvent, Slot as SlotEvent};
@@ -70,7 +70,7 @@ impl<L: Legality> Follower<L> {
 
     /// Gives one whose terminal has the transmitters on these buses shut down, and has seen nothing else.
     pub fn shut(setup: Setup, legality: L, shut: OnBuses) -> Follower<L>
-        ensures { FollowsAt L.is_legal (described setup (L.is_legal legality)) (begun (described setup (L.is_legal legality)) (shut_down shut)) result }
+        ensures { FollowsAt L.is_legal (described setup (L.is_legal legality)) (shut_history (described setup (L.is_legal legality)) (shut_down shut)) result }
     {
         let command = shutdown_command(setup.address);
         let mut follower = Follower::power_up(setup, legality);

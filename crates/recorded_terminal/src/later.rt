@@ -6,8 +6,8 @@ ghost use Rattle.terminal_rules.specs.Status.{spares};
 ghost use Rattle.recorded_terminal.specs.SentWords.{word_shown};
 ghost use Rattle.recorded_terminal.specs.declared.watch.Marked.{Marked};
 ghost use Rattle.recorded_terminal.specs.Watched.{seen_in};
-ghost use Rattle.recorded_terminal.specs.Judged.{CanBegin, IsJudged, WatchesLater};
-ghost use Rattle.recorded_terminal.specs.inner.Gaps.{AreGaps, IsPartWith, at_most_two, shown_gaps};
+ghost use Rattle.recorded_terminal.specs.Judged.{CanBegin, IsJudged, WatchesLater, shown_gaps};
+ghost use Rattle.recorded_terminal.specs.inner.Gaps.{AreGaps, IsPartWith, at_most_two};
 ghost use Rattle.recorded_terminal.specs.Sightings.{shown_sighting};
 
 use crate::beginnings::Beginnings;
@@ -27,7 +27,7 @@ pub struct Gaps {
 
 /// Which part of a recording a watch is in.
 #[derive(Clone, Copy)]
-pub enum Part {
+pub enum WatchPhase {
     /// A pause is sought.
     Sought(Gaps),
     /// A pause came, and no command for the terminal since.
@@ -38,7 +38,7 @@ pub enum Part {
 
 /// The part of a recording that is judged, since it begins afresh after a pause.
 #[derive(Clone, Copy)]
-pub struct Judged {
+pub struct FreshPart {
     /// The line of the slot that ends the pause.
     pub after: u64,
     /// The first sighting in it that no behaviour of the subsystem explains, whatever came before the pause.
@@ -87,7 +87,7 @@ pub struct LaterWatch<L> {
     alloc: Global,
     setup: Setup,
     legality: L,
-    part: Part,
+    part: WatchPhase,
     /// The line of the slot that ended the last pause.
     after: u64,
     beginnings: Beginnings<L>,
@@ -102,7 +102,7 @@ impl<L: Legality + Drop + Copy> LaterWatch<L> {
             alloc,
             setup,
             legality,
-            part: Part::Sought(Gaps::NONE),
+            part: WatchPhase::Sought(Gaps::NONE),
             after: 0,
             beginnings: Beginnings::of(alloc, setup, legality),
         }
@@ -131,20 +131,23 @@ impl<L: Legality + Drop + Copy> LaterWatch<L> {
     }
 
     /// Which part the sighting is in that comes next.
-    fn part_with(&self, marked: &Marked) -> Part
+    fn part_with(&self, marked: &Marked) -> WatchPhase
         ensures { IsPartWith (described self.now.setup (L.is_legal self.now.legality)) self.now.part (shown_sighting marked.now.sighting) result }
     {
         match self.part {
-            Part::Sought(gaps) => match gaps.with(marked.sighting.event, marked.sighting.sent) {
-                Some(gaps) => Part::Sought(gaps),
-                None => Part::Begun,
+            WatchPhase::Sought(gaps) => match gaps.with(
+                marked.sighting.event,
+                marked.sighting.sent,
+            ) {
+                Some(gaps) => WatchPhase::Sought(gaps),
+                None => WatchPhase::Begun,
             },
-            Part::Begun => match self.command_for(marked.sighting.event) {
-                Some(command) if self.asks_back(command) => Part::Sought(Gaps::NONE),
-                Some(_) => Part::Afresh,
-                None => Part::Begun,
+            WatchPhase::Begun => match self.command_for(marked.sighting.event) {
+                Some(command) if self.asks_back(command) => WatchPhase::Sought(Gaps::NONE),
+                Some(_) => WatchPhase::Afresh,
+                None => WatchPhase::Begun,
             },
-            Part::Afresh => Part::Afresh,
+            WatchPhase::Afresh => WatchPhase::Afresh,
         }
     }
 
@@ -155,8 +158,8 @@ impl<L: Legality + Drop + Copy> LaterWatch<L> {
         let before = self.part;
         self.part = self.part_with(&marked);
         match (before, self.part) {
-            (_, Part::Sought(_)) => Ok(()),
-            (Part::Sought(_), _) => {
+            (_, WatchPhase::Sought(_)) => Ok(()),
+            (WatchPhase::Sought(_), _) => {
                 self.after = marked.line;
                 self.beginnings = Beginnings::of(self.alloc, self.setup, self.legality);
                 Ok(())
@@ -170,7 +173,7 @@ impl<L: Legality + Drop + Copy> LaterWatch<L> {
 
     /// Gives the part that is judged, and the first sighting there that no behaviour of the subsystem explains. None where no part
     /// begins afresh after a pause.
-    pub fn end(self) -> Option<Judged>
+    pub fn end(self) -> Option<FreshPart>
         ensures none { (P : Description) (ms : List Marked) → WatchesLater L.is_legal P ms self → ((result ≡ None) ↔ (fresh_part P no_gaps (seen_in ms) ≡ None)) }
         ensures judged { (P : Description) (ms : List Marked) → WatchesLater L.is_legal P ms self → IfSome result (IsJudged P ms) }
     {
@@ -181,8 +184,8 @@ impl<L: Legality + Drop + Copy> LaterWatch<L> {
             ..
         } = self;
         match part {
-            Part::Sought(_) => None,
-            _ => Some(Judged {
+            WatchPhase::Sought(_) => None,
+            _ => Some(FreshPart {
                 after,
                 first: beginnings.end(),
             }),

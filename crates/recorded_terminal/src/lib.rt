@@ -10,7 +10,7 @@ mod told;
 mod watch;
 
 pub use bus_terminal::Sent;
-pub use later::{Judged, LaterWatch};
+pub use later::{FreshPart, LaterWatch};
 pub use sighting::Sighting;
 pub use telling::{behaviour, sightings_of};
 pub use watch::{Marked, Unexplained, Watch};

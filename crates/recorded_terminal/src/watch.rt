@@ -3,7 +3,7 @@ ghost use Rattle.std.specs.Prelude.{◌≡◌, ◌+◌, ◌<◌, ◌≤◌, ◌^
 ghost use Rattle.bus_legal.specs.Description.{Description, described};
 ghost use Rattle.terminal_rules.specs.declared.event.Event.{Event};
 ghost use Rattle.terminal_recordings.specs.Recordings.{IsExplainedAfter};
-ghost use Rattle.terminal_recordings.specs.Later.{begun};
+ghost use Rattle.terminal_recordings.specs.Later.{shut_history};
 ghost use Rattle.recorded_terminal.specs.declared.watch.Marked.{Marked};
 ghost use Rattle.recorded_terminal.specs.Follows.{FollowsAt, shut_down};
 ghost use Rattle.recorded_terminal.specs.Watched.{IsUnexplainedAt, Watches, seen_in};
@@ -88,7 +88,7 @@ impl<L: Legality + Drop> Watch<L> {
 
     /// Watches a terminal whose transmitters on these buses were shut down, and which has seen nothing else.
     pub fn shut(alloc: Global, setup: Setup, legality: L, shut: OnBuses) -> Watch<L>
-        ensures { Watches L.is_legal (described setup (L.is_legal legality)) (begun (described setup (L.is_legal legality)) (shut_down shut)) [] result }
+        ensures { Watches L.is_legal (described setup (L.is_legal legality)) (shut_history (described setup (L.is_legal legality)) (shut_down shut)) [] result }
     {
         Watch::from(alloc, Follower::shut(setup, legality, shut))
     }

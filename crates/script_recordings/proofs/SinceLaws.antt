@@ -11,7 +11,7 @@ use Rattle.terminal_recordings.proofs.LaterLaw.{later_law}
 use Rattle.rt1553.proofs.EngineLaws.{AnswersAlike}
 use Rattle.recorded_terminal.specs.declared.watch.Marked.{Marked}
 use Rattle.recorded_terminal.specs.declared.watch.Unexplained.{Unexplained}
-use Rattle.recorded_terminal.specs.declared.later.Judged.{Judged}
+use Rattle.recorded_terminal.specs.declared.later.FreshPart.{FreshPart}
 use Rattle.recorded_terminal.specs.Watched.{seen_in}
 use Rattle.recorded_terminal.specs.Judged.{CanBegin, IsUnexplainedBy, IsJudged}
 use Rattle.rt1553_verify.specs.Stated.{StatedEvent}
@@ -37,7 +37,7 @@ judged_first D events part first None are tells found = tt
 judged_first D events part None (Some line) are tells found = absurd tells
 judged_first D events part (Some it) (Some line) are tells found = first_told (λ xs x. x) (λ xs x. x) events part it (told_answer line.answer) are tells found
 
-pub judged_all : (input : Option (List ℕ)) (left new : Left) (ms : List Marked) (judged : Option Judged) (after : Option ℕ) (first : Option UnexplainedLine) (D : Description) →
+pub judged_all : (input : Option (List ℕ)) (left new : Left) (ms : List Marked) (judged : Option FreshPart) (after : Option ℕ) (first : Option UnexplainedLine) (D : Description) →
     ReadSoFar input left ms → NextSeen left new (Ok None) → TellsJudged judged after first → (judged ≡ None) ↔ (fresh_part D no_gaps (seen_in ms) ≡ None) → IfSome judged (IsJudged D ms) →
     IfSome input (λ script. IsJudgedSince D script after (told_first first))
 judged_all None left new ms judged after first D read end tells none found = tt
@@ -72,13 +72,13 @@ any_time_alike : (P Q : Description) → AnswersAlike P Q → (recording : List 
 any_time_alike P Q alike recording (earlier, a, (es, proper, seen)) = (earlier, a, (es, proper, sym (sightings_alike P Q alike (history_after earlier []) es) ∙ seen))
 
 -- where something is told, nothing explains the whole, whenever it began
-never : (D : Description) (ms : List Marked) (it : Judged) (x : Unexplained) → it.first ≡ Some x → IsJudged D ms it → IsExplainedAnyTime D (seen_in ms) → ⊥
+never : (D : Description) (ms : List Marked) (it : FreshPart) (x : Unexplained) → it.first ≡ Some x → IsJudged D ms it → IsExplainedAnyTime D (seen_in ms) → ⊥
 never D ms it x is i any =
     let later : IsExplainedLater D (seen_in i.part) = (later_law.afresh D (seen_in ms) (seen_in i.part) i.is_part).1 any in
     let found : Some x ≡ None = sym is ∙ i.explained.1 later in
     absurd (cc)
 
-pub never_all : (input : Option (List ℕ)) (left new : Left) (ms : List Marked) (judged : Option Judged) (after : Option ℕ) (first : Option UnexplainedLine) (D P : Description) → AnswersAlike D P →
+pub never_all : (input : Option (List ℕ)) (left new : Left) (ms : List Marked) (judged : Option FreshPart) (after : Option ℕ) (first : Option UnexplainedLine) (D P : Description) → AnswersAlike D P →
     ReadSoFar input left ms → NextSeen left new (Ok None) → TellsJudged judged after first → IfSome judged (IsJudged D ms) →
     IfSome first (λ line. IfSome input (λ script. NothingExplains P script))
 never_all input left new ms judged after None D P alike read end tells found = tt

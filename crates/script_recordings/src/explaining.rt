@@ -15,7 +15,7 @@ ghost use Rattle.script_recordings.specs.inner.Reads.{TellsUnexplained, TellsJud
 use crate::reading::{RecordingFault, RecordingReader};
 use bus_legal::Normal;
 use bus_terminal::{Answer, Sent};
-use recorded_terminal::{Judged, LaterWatch, Unexplained, Watch};
+use recorded_terminal::{FreshPart, LaterWatch, Unexplained, Watch};
 use rt1553_verify::{ScriptWarning, WrongAnswer, stated_warning};
 use script_lines::write_answer;
 use std::alloc::{AllocError, Global};
@@ -97,7 +97,7 @@ struct JudgedTold {
     first: Option<UnexplainedLine>,
 }
 
-fn judged_told(alloc: Global, judged: Option<Judged>) -> Result<JudgedTold, AllocError>
+fn judged_told(alloc: Global, judged: Option<FreshPart>) -> Result<JudgedTold, AllocError>
     ensures { IfOk result (λ told. TellsJudged judged told.after told.first) }
 {
     match judged {

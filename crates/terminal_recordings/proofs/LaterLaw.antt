@@ -7,7 +7,7 @@ use Rattle.terminal_rules.specs.declared.event.Event.{Event}
 use Rattle.terminal_rules.specs.Past.{history_after}
 use Rattle.terminal_recordings.specs.Recordings.{Sighting, sightings_from, IsRecording}
 use Rattle.terminal_recordings.specs.Completion.{completion_from}
-use Rattle.terminal_recordings.specs.Later.{IsQuiet, IsExplainedLater, IsExplainedAnyTime, Gaps, no_gaps, gaps_with, after_pause, command_for, first_command, asks_back, BeginsAfresh, fresh_part, ShutDown, shutting, begun, shown_later, LaterLaw}
+use Rattle.terminal_recordings.specs.Later.{IsQuiet, IsExplainedLater, IsExplainedAnyTime, Gaps, no_gaps, gaps_with, after_pause, command_for, first_command, asks_back, BeginsAfresh, fresh_part, ShutDown, shutting, shut_history, shown_later, LaterLaw}
 use Rattle.terminal_recordings.proofs.Follows.{Follows}
 use Rattle.terminal_recordings.proofs.Fresh.{AreFreshAlike, quiet_fresh}
 use Rattle.terminal_recordings.proofs.FollowsLater.{follows_later}
@@ -16,12 +16,12 @@ use Rattle.terminal_recordings.proofs.Pause.{Pauses, at_pause}
 use Rattle.terminal_recordings.proofs.Law.{proper_join, completion_proper, Front, front_of, shown_again, shown_first}
 
 -- the beginning that leaves shut down what a history leaves so; its terminal flag is not inhibited
-begun_alike : (P : Description) (h : List Event) → P.address ≤ 30 → P.legal (OwnMode 4) ≡ true → IsQuiet P h → AreFreshAlike P h (begun P (shut_by P h))
+begun_alike : (P : Description) (h : List Event) → P.address ≤ 30 → P.legal (OwnMode 4) ≡ true → IsQuiet P h → AreFreshAlike P h (shut_history P (shut_by P h))
 begun_alike P h low l q =
-    let x : Leaves P (begun P (shut_by P h)) (shut_by P h) = shutting_leaves P (shut_by P h) low l in
+    let x : Leaves P (shut_history P (shut_by P h)) (shut_by P h) = shutting_leaves P (shut_by P h) low l in
     record {
       left = quiet_fresh P h q;
-      right = quiet_fresh P (begun P (shut_by P h)) x.quiet;
+      right = quiet_fresh P (shut_history P (shut_by P h)) x.quiet;
       same = λ j. record {
         run = λ b. (q.run b ∙ sym (x.quiet.run b)) j;
         message = λ b. (q.message b ∙ sym (x.quiet.message b)) j;
@@ -33,20 +33,20 @@ begun_alike P h low l q =
 
 -- what is shown of a front after one of the beginnings, where it is explained
 explained_follows : (P : Description) (front later : List Sighting) → P.address ≤ 30 → P.legal (OwnMode 4) ≡ true → BeginsAfresh P front → IsExplainedLater P front →
-    (shut : ShutDown) × Follows P (begun P shut) front later
+    (shut : ShutDown) × Follows P (shut_history P shut) front later
 explained_follows P front later low l afresh (earlier, a, q, (es, b, e)) =
     let h : List Event = history_after earlier [] in
     let shut : ShutDown = shut_by P h in (
       shut,
-      subst (λ (f : List Sighting). Follows P (begun P shut) f later) e
-          (follows_later P low es h (begun P shut) later (begun_alike P h low l q) (ap (λ r. asks_back P (first_command P r)) e ∙ afresh)),
+      subst (λ (f : List Sighting). Follows P (shut_history P shut) f later) e
+          (follows_later P low es h (shut_history P shut) later (begun_alike P h low l q) (ap (λ r. asks_back P (first_command P r)) e ∙ afresh)),
     )
 
 -- what is shown after a beginning is explained
 told_explains : (P : Description) (shut : ShutDown) (recording shows : List Sighting) → P.address ≤ 30 → P.legal (OwnMode 4) ≡ true → IsRecording recording → shown_later P shut recording ≡ shows →
     IsExplainedLater P shows
 told_explains P shut recording shows low l r e =
-    (shutting P shut, shutting_proper P shut low, (shutting_leaves P shut low l).quiet, (completion_from P (begun P shut) recording, completion_proper P (begun P shut) recording r, e))
+    (shutting P shut, shutting_proper P shut low, (shutting_leaves P shut low l).quiet, (completion_from P (shut_history P shut) recording, completion_proper P (shut_history P shut) recording r, e))
 
 fronts : (P : Description) (front later : List Sighting) → IsExplainedLater P (front ++ later) → IsExplainedLater P front
 fronts P front later (earlier, a, q, (es, b, e)) =
@@ -117,14 +117,14 @@ fresh_begins P (s ∷ rest) later g e = by_gaps (gaps_with g s.event s.sent) e (
 pub later_law : LaterLaw
 later_law = record {
   decided = λ P recording low l r afresh. (
-    λ x. let f : (shut : ShutDown) × Follows P (begun P shut) recording [] = explained_follows P recording [] low l afresh x in (f.0, shown_again P (begun P f.0) recording f.1),
+    λ x. let f : (shut : ShutDown) × Follows P (shut_history P shut) recording [] = explained_follows P recording [] low l afresh x in (f.0, shown_again P (shut_history P f.0) recording f.1),
     λ x. told_explains P x.0 recording recording low l r x.1,
   );
   first = λ P recording n low l r afresh. (
     λ x.
-        let f : (shut : ShutDown) × Follows P (begun P shut) (take n recording) (drop n recording) =
+        let f : (shut : ShutDown) × Follows P (shut_history P shut) (take n recording) (drop n recording) =
         explained_follows P (take n recording) (drop n recording) low l (front_afresh P n recording afresh) x in
-        (f.0, shown_first P (begun P f.0) recording n f.1),
+        (f.0, shown_first P (shut_history P f.0) recording n f.1),
     λ x.
         fronts P (take n recording) (drop n (shown_later P x.0 recording))
         (told_explains P x.0 recording (take n recording ++ drop n (shown_later P x.0 recording)) low l r

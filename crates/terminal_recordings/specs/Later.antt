@@ -106,12 +106,12 @@ abbrev pub shutting : Description → ShutDown → List Event
 shutting P shut = if_shut shut.a (shutdown_on B P.address) ++ if_shut shut.b (shutdown_on A P.address)
 
 -- the history of them
-abbrev pub begun : Description → ShutDown → List Event
-begun P shut = history_after (shutting P shut) []
+abbrev pub shut_history : Description → ShutDown → List Event
+shut_history P shut = history_after (shutting P shut) []
 
 -- what is then shown of a recording that begins after them
 abbrev pub shown_later : Description → ShutDown → List Sighting → List Sighting
-shown_later P shut recording = shown_from P (begun P shut) recording
+shown_later P shut recording = shown_from P (shut_history P shut) recording
 
 -- A recording that begins afresh is explained later than power-up exactly if it is shown after one of four beginnings, and so is
 -- each front of it. (Own mode code 4 is legal in every profile.) What is explained from power-up is explained later too, and what

@@ -5,15 +5,13 @@ use Rattle.terminal_rules.specs.Status.{spares}
 use Rattle.terminal_recordings.specs.Recordings.{Sighting}
 use Rattle.terminal_recordings.specs.Later.{Gaps, no_gaps, gaps_with, command_for}
 use Rattle.recorded_terminal.specs.declared.later.Gaps.{Gaps as Counted}
-use Rattle.recorded_terminal.specs.declared.later.Part.{Part}
-use Rattle.recorded_terminal.specs.declared.later.Part.TheVariants.{Sought, Begun, Afresh}
+use Rattle.recorded_terminal.specs.Judged.{shown_gaps}
+use Rattle.recorded_terminal.specs.declared.later.WatchPhase.{WatchPhase}
+use Rattle.recorded_terminal.specs.declared.later.WatchPhase.TheVariants.{Sought, Begun, Afresh}
 
 -- 2 stands for more
 abbrev pub at_most_two : ℕ → ℕ
 at_most_two n = if nat_lt n 2 then n else 2
-
-abbrev pub shown_gaps : Counted → Gaps
-shown_gaps k = record { a = k.a; b = k.b }
 
 -- these are counted so
 pub record AreCounted (g : Gaps) (k : Counted) : Type 0 where
@@ -26,7 +24,7 @@ AreGaps (Some g) (Some k) = AreCounted g k
 AreGaps _ _ = ⊥
 
 -- the part that a sighting is in, by the part before it
-abbrev pub IsPartWith : Description → Part → Sighting → Part → Type 0
+abbrev pub IsPartWith : Description → WatchPhase → Sighting → WatchPhase → Type 0
 IsPartWith P (Sought k) s (Sought n) = AreGaps (gaps_with (shown_gaps k) s.event s.sent) (Some n)
 IsPartWith P (Sought k) s Begun = AreGaps (gaps_with (shown_gaps k) s.event s.sent) None
 IsPartWith P Begun s (Sought n) = AreCounted no_gaps n × ((c : ℕ) × (command_for P s.event ≡ Some c) × (spares P c ≡ true))

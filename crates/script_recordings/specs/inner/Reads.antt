@@ -2,7 +2,7 @@
 use Rattle.std.specs.Prelude.{◌≡◌, ◌≢◌, ◌⊎◌, ℕ, Option, Some, None, List, [], ◌∷◌, Result, Ok, Err}
 use Rattle.recorded_terminal.specs.declared.watch.Marked.{Marked}
 use Rattle.recorded_terminal.specs.declared.watch.Unexplained.{Unexplained}
-use Rattle.recorded_terminal.specs.declared.later.Judged.{Judged}
+use Rattle.recorded_terminal.specs.declared.later.FreshPart.{FreshPart}
 use Rattle.recorded_terminal.specs.SentWords.{word_shown}
 use Rattle.recorded_terminal.specs.Sightings.{shown_sighting}
 use Rattle.rt1553_verify.specs.declared.stated.StatedFault.{StatedFault}
@@ -48,7 +48,7 @@ TellsUnexplained (Some it) (Some line) = told_answer line.answer ≡ told_at it.
 TellsUnexplained _ _ = ⊥
 
 -- what is told of the part that is judged, where one is
-abbrev pub TellsJudged : Option Judged → Option ℕ → Option UnexplainedLine → Type 0
+abbrev pub TellsJudged : Option FreshPart → Option ℕ → Option UnexplainedLine → Type 0
 TellsJudged None None None = Unit {0}
 TellsJudged (Some it) (Some line) told = (line ≡ it.after) × TellsUnexplained it.first told
 TellsJudged _ _ _ = ⊥

@@ -1,6 +1,6 @@
 use Rattle.std.proofs.Common.{◌≡◌, ◌⊎◌, inl, inr, Bool, true, false, List, refl}
 use Rattle.bus_legal.specs.Description.{Description}
-use Rattle.terminal_recordings.specs.Later.{ShutDown, begun}
+use Rattle.terminal_recordings.specs.Later.{ShutDown, shut_history}
 use Rattle.recorded_terminal.specs.declared.watch.Marked.{Marked}
 use Rattle.recorded_terminal.specs.Judged.{WatchBegun}
 use Rattle.recorded_terminal.proofs.BeginningLaws.{Best, best_one, best_two, best_explained, best_first}
@@ -26,12 +26,12 @@ best : (g : Over) (c : goal.After-later_of-3 g) (P : Description) (ms : List Mar
 best g c P ms watches =
     best_two P ms (λ x. (x ≡ at false false) ⊎ (x ≡ at true false)) (λ x. (x ≡ at false true) ⊎ (x ≡ at true true)) c.later_of.result c.later_of-2.result c.later_of-3.result
     (best_two P ms (λ x. x ≡ at false false) (λ x. x ≡ at true false) c.end.result c.end-2.result c.later_of.result
-    (best_one P ms (at false false) c.end.result (c.end.ensures.explained P (begun P (at false false)) ms (watches (at false false))) (c.end.ensures.first P (begun P (at false false)) ms (watches (at false false))))
-    (best_one P ms (at true false) c.end-2.result (c.end-2.ensures.explained P (begun P (at true false)) ms (watches (at true false))) (c.end-2.ensures.first P (begun P (at true false)) ms (watches (at true false))))
+    (best_one P ms (at false false) c.end.result (c.end.ensures.explained P (shut_history P (at false false)) ms (watches (at false false))) (c.end.ensures.first P (shut_history P (at false false)) ms (watches (at false false))))
+    (best_one P ms (at true false) c.end-2.result (c.end-2.ensures.explained P (shut_history P (at true false)) ms (watches (at true false))) (c.end-2.ensures.first P (shut_history P (at true false)) ms (watches (at true false))))
     c.later_of.ensures)
     (best_two P ms (λ x. x ≡ at false true) (λ x. x ≡ at true true) c.end-3.result c.end-4.result c.later_of-2.result
-    (best_one P ms (at false true) c.end-3.result (c.end-3.ensures.explained P (begun P (at false true)) ms (watches (at false true))) (c.end-3.ensures.first P (begun P (at false true)) ms (watches (at false true))))
-    (best_one P ms (at true true) c.end-4.result (c.end-4.ensures.explained P (begun P (at true true)) ms (watches (at true true))) (c.end-4.ensures.first P (begun P (at true true)) ms (watches (at true true))))
+    (best_one P ms (at false true) c.end-3.result (c.end-3.ensures.explained P (shut_history P (at false true)) ms (watches (at false true))) (c.end-3.ensures.first P (shut_history P (at false true)) ms (watches (at false true))))
+    (best_one P ms (at true true) c.end-4.result (c.end-4.ensures.explained P (shut_history P (at true true)) ms (watches (at true true))) (c.end-4.ensures.first P (shut_history P (at true true)) ms (watches (at true true))))
     c.later_of-2.ensures)
     c.later_of-3.ensures
 
