@@ -3,7 +3,7 @@ _rt1553_tool() {
     local now=${COMP_WORDS[COMP_CWORD]} before=${COMP_WORDS[COMP_CWORD - 1]} flags='' kinds=() many='' count=0 index kind
     COMPREPLY=()
     if ((COMP_CWORD == 1)); then
-        mapfile -t COMPREPLY < <(compgen -W 'lint check-script verify recording import export expand toml explain differ acceptance draw words live --help --version' -- "$now")
+        mapfile -t COMPREPLY < <(compgen -W 'lint check-script verify recording coverage infer import export expand toml explain differ acceptance draw words live --help --version' -- "$now")
         return
     fi
     case ${COMP_WORDS[1]}:$before in
@@ -14,6 +14,11 @@ _rt1553_tool() {
         recording:--address) return ;;
         recording:--gap) return ;;
         recording:--no-response) return ;;
+        recording:--pause) return ;;
+        coverage:--format) mapfile -t COMPREPLY < <(compgen -W 'text json' -- "$now"); return ;;
+        coverage:--names) mapfile -t COMPREPLY < <(compgen -f -X '!*.csv' -- "$now"; compgen -d -- "$now"); return ;;
+        infer:--address) return ;;
+        infer:--unseen) mapfile -t COMPREPLY < <(compgen -W 'legal illegal' -- "$now"); return ;;
         explain:--format) mapfile -t COMPREPLY < <(compgen -W 'text json' -- "$now"); return ;;
         explain:--names) mapfile -t COMPREPLY < <(compgen -f -X '!*.csv' -- "$now"; compgen -d -- "$now"); return ;;
         differ:--format) mapfile -t COMPREPLY < <(compgen -W 'text json' -- "$now"); return ;;
@@ -26,8 +31,10 @@ _rt1553_tool() {
     case ${COMP_WORDS[1]} in
         lint) flags='--format --help' kinds=(profile) many='profile' ;;
         check-script) flags='--help' kinds=(script) many='script' ;;
-        verify) flags='--summary --bus-only --any-subsystem --witness --expand --profiles --format --names --help' kinds=(profile script) many='script' ;;
-        recording) flags='--address --gap --no-response --help' kinds=(table) many='' ;;
+        verify) flags='--summary --bus-only --any-subsystem --already-on --witness --expand --profiles --format --names --help' kinds=(profile script) many='script' ;;
+        recording) flags='--address --gap --no-response --pause --help' kinds=(table) many='' ;;
+        coverage) flags='--expand --format --names --help' kinds=(profile script) many='script' ;;
+        infer) flags='--address --unseen --expand --help' kinds=(script) many='' ;;
         import) flags='--help' kinds=(table) many='' ;;
         export) flags='--help' kinds=(profile) many='' ;;
         expand) flags='--help' kinds=(messages) many='' ;;
@@ -49,6 +56,11 @@ _rt1553_tool() {
             recording:--address) index=$((index + 1)) ;;
             recording:--gap) index=$((index + 1)) ;;
             recording:--no-response) index=$((index + 1)) ;;
+            recording:--pause) index=$((index + 1)) ;;
+            coverage:--format) index=$((index + 1)) ;;
+            coverage:--names) index=$((index + 1)) ;;
+            infer:--address) index=$((index + 1)) ;;
+            infer:--unseen) index=$((index + 1)) ;;
             explain:--format) index=$((index + 1)) ;;
             explain:--names) index=$((index + 1)) ;;
             differ:--format) index=$((index + 1)) ;;

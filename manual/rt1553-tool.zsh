@@ -7,6 +7,8 @@ _rt1553_tool() {
         'check-script:Prints which lines of scripts are refused, where and why'
         'verify:Prints where a terminal does not answer as scripts state'
         'recording:Writes the recording of a terminal that the table of a monitor has'
+        'coverage:Prints which messages of a terminal came in recordings, and which never'
+        'infer:Proposes a profile that explains a recording'
         'import:Writes the profile that a table means'
         'export:Writes the table of a profile'
         'expand:Writes messages as the lines of a script'
@@ -29,8 +31,10 @@ _rt1553_tool() {
     case $command in
         lint) _arguments '--help[prints what the command takes]' '--format[the output format]:format:(text json sarif)' '*:P:_files -g "*.(toml|rt1553)(-.)"' ;;
         check-script) _arguments '--help[prints what the command takes]' '*:SCRIPT:_files -g "*.(script)(-.)"' ;;
-        verify) _arguments '--help[prints what the command takes]' '--summary[prints what passes, too, clause by clause]' '--bus-only[ignores hand-overs that a script does not state]' '--any-subsystem[takes scripts as recordings\: some behaviour of the subsystem is to explain them]' '--witness[with --any-subsystem prints a script that explains the recording]' '--expand[takes messages, too, as `expand` does]' '(1)--profiles[in place of P\: each script names its profile in FOLDER]:FOLDER:_files -/' '--format[the output format]:format:(text json junit html)' '--names[puts the names of messages in TABLE beside their numbers]:TABLE:_files -g "*.(csv)(-.)"' '(--profiles)1:P:_files -g "*.(toml|rt1553)(-.)"' '*:SCRIPT:_files -g "*.(script)(-.)"' ;;
-        recording) _arguments '--help[prints what the command takes]' '--address[the address of the terminal, 0 to 30; it has to be given]:N: ' '--gap[a longer silence is a gap, in microseconds (default\: 1)]:TIME: ' '--no-response[a status word after a longer silence is no reply, in microseconds (default\: 12)]:TIME: ' '1:TABLE:_files -g "*.(csv)(-.)"' ;;
+        verify) _arguments '--help[prints what the command takes]' '--summary[prints what passes, too, clause by clause]' '--bus-only[ignores hand-overs that a script does not state]' '--any-subsystem[takes scripts as recordings\: some behaviour of the subsystem is to explain them]' '--already-on[with --any-subsystem judges a recording from its first pause on\: the unit was on before]' '--witness[with --any-subsystem prints a script that explains the recording]' '--expand[takes messages, too, as `expand` does]' '(1)--profiles[in place of P\: each script names its profile in FOLDER]:FOLDER:_files -/' '--format[the output format]:format:(text json junit html)' '--names[puts the names of messages in TABLE beside their numbers]:TABLE:_files -g "*.(csv)(-.)"' '(--profiles)1:P:_files -g "*.(toml|rt1553)(-.)"' '*:SCRIPT:_files -g "*.(script)(-.)"' ;;
+        recording) _arguments '--help[prints what the command takes]' '--address[the address of the terminal, 0 to 30; it has to be given]:N: ' '--gap[a longer silence is a gap, in microseconds (default\: 1)]:TIME: ' '--no-response[a status word after a longer silence is no reply, in microseconds (default\: 12)]:TIME: ' '--pause[a longer silence of both buses is a pause, in microseconds, at least 60 (default\: 100)]:TIME: ' '1:TABLE:_files -g "*.(csv)(-.)"' ;;
+        coverage) _arguments '--help[prints what the command takes]' '--expand[takes messages, too, as `expand` does]' '--format[the output format]:format:(text json)' '--names[puts the names of messages in TABLE beside their numbers]:TABLE:_files -g "*.(csv)(-.)"' '1:P:_files -g "*.(toml|rt1553)(-.)"' '*:SCRIPT:_files -g "*.(script)(-.)"' ;;
+        infer) _arguments '--help[prints what the command takes]' '--address[the address of the terminal, 0 to 30; it has to be given]:N: ' '--unseen[what a message is of which nothing showed whether it is legal]:what:(legal illegal)' '--expand[takes messages, too, as `expand` does]' '1:SCRIPT:_files -g "*.(script)(-.)"' ;;
         import) _arguments '--help[prints what the command takes]' '1:TABLE:_files -g "*.(csv)(-.)"' ;;
         export) _arguments '--help[prints what the command takes]' '1:P:_files -g "*.(toml|rt1553)(-.)"' ;;
         expand) _arguments '--help[prints what the command takes]' '1:MESSAGES:_files -g "*.(messages)(-.)"' ;;

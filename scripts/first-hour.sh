@@ -105,20 +105,23 @@ rt1553 check .|a.toml b.rt1553 sub
 rt1553 run a.toml .|c.script sub
 rt1553 run a.toml c.script .|
 rt1553 compare a.toml .|a.toml b.rt1553 sub
-rt1553-tool .|--help --version acceptance check-script differ draw expand explain export import lint live recording toml verify words
+rt1553-tool .|--help --version acceptance check-script coverage differ draw expand explain export import infer lint live recording toml verify words
 rt1553-tool l|lint live
 rt1553-tool lint a.toml .|a.toml b.rt1553 sub
 rt1553-tool lint --|--format --help
 rt1553-tool lint --format .|json sarif text
 rt1553-tool lint --format json .|a.toml b.rt1553 sub
-rt1553-tool verify --|--any-subsystem --bus-only --expand --format --help --names --profiles --summary --witness
+rt1553-tool verify --|--already-on --any-subsystem --bus-only --expand --format --help --names --profiles --summary --witness
 rt1553-tool verify .|a.toml b.rt1553 sub
 rt1553-tool verify a.toml c.script .|c.script sub
 rt1553-tool verify --summary a.toml .|c.script sub
 rt1553-tool verify --profiles .|sub
 rt1553-tool verify --profiles sub .|c.script sub
-rt1553-tool recording --|--address --gap --help --no-response
+rt1553-tool recording --|--address --gap --help --no-response --pause
 rt1553-tool recording --gap .|
+rt1553-tool coverage --|--expand --format --help --names
+rt1553-tool infer --|--address --expand --help --unseen
+rt1553-tool infer --unseen .|illegal legal
 rt1553-tool acceptance .|a.toml b.rt1553 sub
 rt1553-tool acceptance --|--against --format --help --names
 rt1553-tool acceptance --format .|csv json text
