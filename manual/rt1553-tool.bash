@@ -18,7 +18,7 @@ _rt1553_tool() {
         coverage:--format) mapfile -t COMPREPLY < <(compgen -W 'text json' -- "$now"); return ;;
         coverage:--names) mapfile -t COMPREPLY < <(compgen -f -X '!*.csv' -- "$now"; compgen -d -- "$now"); return ;;
         infer:--address) return ;;
-        infer:--unseen) mapfile -t COMPREPLY < <(compgen -W 'legal illegal' -- "$now"); return ;;
+        infer:--unseen) mapfile -t COMPREPLY < <(compgen -W 'illegal legal' -- "$now"); return ;;
         explain:--format) mapfile -t COMPREPLY < <(compgen -W 'text json' -- "$now"); return ;;
         explain:--names) mapfile -t COMPREPLY < <(compgen -f -X '!*.csv' -- "$now"; compgen -d -- "$now"); return ;;
         differ:--format) mapfile -t COMPREPLY < <(compgen -W 'text json' -- "$now"); return ;;

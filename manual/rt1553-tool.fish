@@ -11,7 +11,7 @@ complete -c rt1553-tool -n __fish_use_subcommand -a verify -d 'Prints where a te
 complete -c rt1553-tool -n '__fish_seen_subcommand_from verify' -l summary -d 'prints what passes, too, clause by clause'
 complete -c rt1553-tool -n '__fish_seen_subcommand_from verify' -l bus-only -d 'ignores hand-overs that a script does not state'
 complete -c rt1553-tool -n '__fish_seen_subcommand_from verify' -l any-subsystem -d 'takes scripts as recordings: some behaviour of the subsystem is to explain them'
-complete -c rt1553-tool -n '__fish_seen_subcommand_from verify' -l already-on -d 'with --any-subsystem judges a recording from its first pause on: the unit was on before'
+complete -c rt1553-tool -n '__fish_seen_subcommand_from verify' -l already-on -d 'with --any-subsystem takes recordings that began while the unit was on'
 complete -c rt1553-tool -n '__fish_seen_subcommand_from verify' -l witness -d 'with --any-subsystem prints a script that explains the recording'
 complete -c rt1553-tool -n '__fish_seen_subcommand_from verify' -l expand -d 'takes messages, too, as `expand` does'
 complete -c rt1553-tool -n '__fish_seen_subcommand_from verify' -l profiles -x -a '(__fish_complete_directories)' -d 'in place of P: each script names its profile in FOLDER'
@@ -22,7 +22,7 @@ complete -c rt1553-tool -n __fish_use_subcommand -a recording -d 'Writes the rec
 complete -c rt1553-tool -n '__fish_seen_subcommand_from recording' -l address -x -d 'the address of the terminal, 0 to 30; it has to be given'
 complete -c rt1553-tool -n '__fish_seen_subcommand_from recording' -l gap -x -d 'a longer silence is a gap, in microseconds (default: 1)'
 complete -c rt1553-tool -n '__fish_seen_subcommand_from recording' -l no-response -x -d 'a status word after a longer silence is no reply, in microseconds (default: 12)'
-complete -c rt1553-tool -n '__fish_seen_subcommand_from recording' -l pause -x -d 'a longer silence of both buses is a pause, in microseconds, at least 60 (default: 100)'
+complete -c rt1553-tool -n '__fish_seen_subcommand_from recording' -l pause -x -d 'a longer silence of both buses is a pause, in microseconds (default: 100)'
 complete -c rt1553-tool -n '__fish_seen_subcommand_from recording' -F
 complete -c rt1553-tool -n __fish_use_subcommand -a coverage -d 'Prints which messages of a terminal came in recordings, and which never'
 complete -c rt1553-tool -n '__fish_seen_subcommand_from coverage' -l expand -d 'takes messages, too, as `expand` does'
@@ -31,7 +31,7 @@ complete -c rt1553-tool -n '__fish_seen_subcommand_from coverage' -l names -r -F
 complete -c rt1553-tool -n '__fish_seen_subcommand_from coverage' -F
 complete -c rt1553-tool -n __fish_use_subcommand -a infer -d 'Proposes a profile that explains a recording'
 complete -c rt1553-tool -n '__fish_seen_subcommand_from infer' -l address -x -d 'the address of the terminal, 0 to 30; it has to be given'
-complete -c rt1553-tool -n '__fish_seen_subcommand_from infer' -l unseen -x -a 'legal illegal' -d 'what a message is of which nothing showed whether it is legal'
+complete -c rt1553-tool -n '__fish_seen_subcommand_from infer' -l unseen -x -a 'illegal legal' -d 'what a message is of which nothing showed whether it is legal'
 complete -c rt1553-tool -n '__fish_seen_subcommand_from infer' -l expand -d 'takes messages, too, as `expand` does'
 complete -c rt1553-tool -n '__fish_seen_subcommand_from infer' -F
 complete -c rt1553-tool -n __fish_use_subcommand -a import -d 'Writes the profile that a table means'

@@ -372,8 +372,49 @@ recording_rows() {
     row 'a summary and a script' 3 '' 'arguments: see --help\n' verify --any-subsystem --witness --summary five flags
     row 'a folder of profiles and a script' 3 '' 'arguments: see --help\n' verify --any-subsystem --witness --profiles . flags
     row 'a report and a script' 3 '' 'arguments: see --help\n' verify --any-subsystem --witness --format json five flags
+    local pause=$'A gap\nA gap\nB gap\nB gap\nslot\n' again=$'A c 2c05\nA gap\nslot\n'
+    script on "$ask#> A s 2d04"$'\n'"$pause$again#> A s 2804"$'\n'
+    script worse "$pause$again#> A s 2820"$'\n'
+    script back "$pause$ask#> A s 2900"$'\n'"$pause$again#> A s 2800"$'\n'
+    script shut "$pause$again"
+    row 'a unit that was on' 0 '' 'on: judged after line 9\n' verify --any-subsystem --already-on five on
+    row 'the same from power-up' 1 'on:3: expected A s 2d04, came A s 2800\non: differences: 1\n' '' verify --any-subsystem five on
+    row 'a line that nothing explains, whatever came before' 1 'worse:8: expected A s 2820, came A s 2800\nworse: differences: 1\n' 'worse: judged after line 5\n' \
+        verify --any-subsystem --already-on five worse
+    row 'a part that asks for an earlier status' 0 '' 'back: judged after line 14\n' verify --any-subsystem --already-on five back
+    row 'a transmitter that was shut down' 0 '' 'shut: warning: the script states no answer\nshut: judged after line 5\n' verify --any-subsystem --already-on five shut
+    row 'no pause' 0 '' 'flags: warning: nothing is judged: no part begins afresh after a pause\n' verify --any-subsystem --already-on five flags
+    (printf '%s#> A s 2800\n' "$pause$again" && cat "$work/long-fault") >"$work/later-fault"
+    row 'a long recording that began later' 1 'later-fault:160012: expected A s 2820, came A s 2800\nlater-fault: differences: 1\n' 'later-fault: judged after line 5\n' \
+        verify --any-subsystem --already-on five later-fault
+    row 'a test that began later' 3 '' 'arguments: see --help\n' verify --already-on five on
+    row 'a witness of a recording that began later' 3 '' 'arguments: see --help\n' verify --any-subsystem --already-on --witness five on
     row 'several recordings' 2 'flags: passed (answers: 2)\nreserved:7: expected A s 2820, came A s 2800\nreserved: differences: 1\nno clause: 1 of 3 scripts pass\nall: 1 of 3 scripts pass\n' \
         'acts: script: line 2: what the subsystem does is not seen in a recording\n' verify --any-subsystem --summary five flags reserved acts
+}
+
+# what `coverage` counts in recordings, and which profile `infer` proposes
+shown_rows() {
+    local ask=$'A c 2c02\nA gap\nslot\n' codes
+    printf 'address = 5\n' >"$work/five"
+    script came "$ask#> A s 2800"$'\n'
+    script flags $'A c 2c61\nA gap\nslot\n#> A s 2d00\nA c 2c61\nA gap\nslot\n#> A s 2c05\n'
+    script reserved "$ask#> A s 2820"$'\n'
+    script acts $'flag busy 1\n'"$ask#> A s 2808"$'\n'
+    codes='mode code 4, transmitter shutdown           never\nmode code 5, override transmitter shutdown  never\nmode code 8, reset remote terminal          never\n'
+    input ''
+    row 'what came' 0 "mode code 2, transmit status word           1 done\n${codes}\nlegal messages: 1 of 4 came, 1 done\nillegal messages: 0 came\n" '' coverage five came
+    row 'what came in two recordings, and what is illegal' 0 \
+        "mode code 2, transmit status word           1 done\n${codes}\nillegal\ntransmit 3                                  1: 2 illegal\n\nlegal messages: 1 of 4 came, 1 done\nillegal messages: 1 came\n" '' \
+        coverage five came flags
+    row 'a recording of the subsystem, counted' 2 '' 'acts: script: line 1: what the subsystem does is not seen in a recording\n' coverage five acts
+    row 'a profile of a recording' 0 \
+        '# Terminal 5, as a recording shows it: this profile explains the recording.\n# "line 9": the command of the first message that shows the entry is line 9 of the recording.\n# "tried": no message shows it alone, and the recording is explained with it.\n# What the recording does not show is illegal here.\n# It never shows which words are held: vector, bit, initial and wraparound are left out.\naddress = 5\n' \
+        '' infer came --address 5
+    row 'a recording that no profile explains' 1 '' '' infer reserved --address 5
+    row 'no address' 3 '' 'arguments: see --help\n' infer came
+    row 'no address of a terminal' 3 '' 'arguments: see --help\n' infer came --address 31
+    row 'a recording of the subsystem, for a profile' 2 '' 'acts: script: line 1: what the subsystem does is not seen in a recording\n' infer acts --address 5
 }
 
 # what `recording` makes of the tables of a monitor
@@ -395,8 +436,10 @@ monitor_rows() {
         'noise.csv:1:5: warning: the column "note" is left out\n' recording noise.csv --address 5
     row 'a transfer between terminals' 0 '# 0\nA c 2822\n# 20\nA c 3422\nA gap\nslot\n# 44\nA c 3000\n# 64\nA d beef\n# 84\nA d dead\nA gap\n# 108\nslot\n#> A s 2800\nslot\nA gap\n' '' \
         recording transfer.csv --address 5
-    row 'a table of messages' 0 '# 0\nA c 2862\nA d 0001\nA d 0002\nA gap\nslot\n#> A s 2800\nslot\nA gap\n# 500\nB c 3822\nB c 2c22\nB gap\nslot\n#> B s 2800\nslot\n#> B d beef\nslot\nB gap\nB c 3800\nB gap\n' '' \
-        recording messages.csv --address 5
+    local first='# 0\nA c 2862\nA d 0001\nA d 0002\nA gap\nslot\n#> A s 2800\nslot\nA gap\n' later='# 500\nB c 3822\nB c 2c22\nB gap\nslot\n#> B s 2800\nslot\n#> B d beef\nslot\nB gap\nB c 3800\nB gap\n'
+    row 'a table of messages' 0 "${first}A gap\nB gap\nA gap\nB gap\nslot\n$later" '' recording messages.csv --address 5
+    row 'the same, with a longer pause' 0 "$first$later" '' recording messages.csv --address 5 --pause 1000
+    row 'a pause that is too short' 3 '' 'arguments: see --help\n' recording messages.csv --address 5 --pause 59.9
     row 'a reply that is too late' 0 "$heard"'# 100\nA c 2c02\nA gap\n# 140\n# later than no response: A s 2800\nslot\n' '' recording late.csv --address 5
     row 'the same, with more time' 0 "$heard"'# 100\nA c 2c02\nA gap\n# 140\nslot\n#> A s 2800\nslot\nA gap\n' '' recording late.csv --address 5 --no-response 25.5
     row 'a longer gap' 0 '# 0\nA c 2c02\n# 24\nslot\n#> A s 2800\nslot\nA gap\n' '' recording words.csv --address 5 --gap 5
@@ -884,6 +927,7 @@ for program in "$@"; do
     verify_rows
     mask_rows
     recording_rows
+    shown_rows
     monitor_rows
     import_rows
     expand_rows

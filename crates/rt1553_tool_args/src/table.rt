@@ -48,7 +48,7 @@ const PROFILE: Argument = Argument {
 
 const TEXT_OR_JSON: [&str; 2] = ["text", "json"];
 
-const LEGAL_OR_ILLEGAL: [&str; 2] = ["legal", "illegal"];
+const ILLEGAL_OR_LEGAL: [&str; 2] = ["illegal", "legal"];
 
 const TEXT_OR_SARIF: [&str; 3] = ["text", "json", "sarif"];
 
@@ -134,7 +134,7 @@ const VERIFY: [Argument; 11] = [
         id: "already-on",
         given: Occurrence::Flag,
         value: "",
-        help: "with --any-subsystem judges a recording from its first pause on: the unit was on before",
+        help: "with --any-subsystem takes recordings that began while the unit was on",
     },
     Argument {
         id: "witness",
@@ -187,7 +187,7 @@ const RECORDING: [Argument; 5] = [
         id: "pause",
         given: Occurrence::Value,
         value: "TIME",
-        help: "a longer silence of both buses is a pause, in microseconds, at least 60 (default: 100)",
+        help: "a longer silence of both buses is a pause, in microseconds (default: 100)",
     },
 ];
 
@@ -219,8 +219,8 @@ const INFER: [Argument; 4] = [
     },
     Argument {
         id: "unseen",
-        given: Occurrence::OneOf("illegal", &LEGAL_OR_ILLEGAL),
-        value: "WHAT",
+        given: Occurrence::OneOf("illegal", &ILLEGAL_OR_LEGAL),
+        value: "UNSEEN",
         help: "what a message is of which nothing showed whether it is legal",
     },
     EXPANDED,
