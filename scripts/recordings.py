@@ -7,7 +7,8 @@ The model of the rules (tests/model) plays messages that look random, while a su
 buses sees of each run is a recording, which has to be explained, and PROGRAM plays the script that `--witness` prints to the
 recorded words. Then each is changed in one slot: a bit, the kind, silence or
 a word. How many sightings are explained then is decided here by a terminal whose status keeps the bits of its flags open until it is
-sent. The last line is 'N passed, M failed'.
+sent. Other runs are seen from some time on, with a pause in them: `--already-on` judges their first part that begins afresh, and so does
+this terminal, with its transmitters shut down or not. The last line is 'N passed, M failed'.
 """
 import concurrent.futures
 import pathlib
@@ -23,10 +24,13 @@ import play  # noqa: E402
 import random_scripts  # noqa: E402
 import rules  # noqa: E402
 
-RUNS, MESSAGES = 20_000, 8
+RUNS, LATER_RUNS, MESSAGES = 20_000, 5_000, 8
 PROFILES = 16
 SERVICE, BUSY, SUBSYSTEM, TERMINAL = 0x100, 0x8, 0x4, 0x1
 UNSEEN = ("write", "vector", "bit", "flag")
+PAUSE = (("gap", "A"), ("gap", "A"), ("gap", "B"), ("gap", "B"), ("slot",))
+# the transmitters that may be shut down where a recording begins later
+BEGINNINGS = ((), ("A",), ("B",), ("A", "B"))
 
 
 class AnySubsystem(rules.Terminal):
@@ -73,24 +77,67 @@ class AnySubsystem(rules.Terminal):
         return sent is None
 
 
-def explained(setup, recording):
-    """How many sightings some behaviour of the subsystem explains."""
+def explained(setup, recording, shut_down=()):
+    """How many sightings some behaviour of the subsystem explains, where these transmitters are shut down before."""
     terminal = AnySubsystem(setup)
+    terminal.shut_down = set(shut_down)
     return next((n for n, (event, sent) in enumerate(recording) if not terminal.takes(event, sent)), len(recording))
 
 
-def recorded(setup, seed):
-    """A run, as it is seen."""
+def explained_later(setup, recording):
+    """How many are explained whatever came before them."""
+    return max(explained(setup, recording, it) for it in BEGINNINGS)
+
+
+def fresh_part(setup, recording):
+    """How many sightings come before the first part that begins afresh after a pause; None where no part does."""
+    terminal, gaps = rules.Terminal(setup), {"A": 0, "B": 0}
+    for n, (event, sent) in enumerate(recording, 1):
+        if event[0] == "gap":
+            gaps[event[1]] += 1
+            continue
+        if event == ("slot",) and not sent and min(gaps.values()) >= 2:
+            commands = (it[2][1] for it, _ in recording[n:] if it[0] == "word" and terminal.is_for_it(it[2]))
+            if not any(terminal.spares_kept(it) for it in list(commands)[:1]):
+                return n
+            gaps = {"A": 0, "B": 0}
+        elif event != ("slot",) or sent:
+            gaps = {"A": 0, "B": 0}
+    return None
+
+
+def messages_of(setup, seed):
+    """What plays messages that look random, and what is seen of them."""
     recording = []
 
     def note(event, answer):
         if event[0] not in UNSEEN:
             recording.append((event, answer if answer and answer[0] in ("status", "data") else None))
 
-    messages = random_scripts.Messages(setup, (29, 30), seed, note)
+    return random_scripts.Messages(setup, (29, 30), seed, note), recording
+
+
+def recorded(setup, seed):
+    """A run, as it is seen."""
+    messages, recording = messages_of(setup, seed)
     for _ in range(MESSAGES):
         messages.message()
     return recording
+
+
+def recorded_later(setup, seed):
+    """A run of a unit that was on before, as it is seen from some time on. It has a pause."""
+    messages, recording = messages_of(setup, seed)
+    for _ in range(MESSAGES):
+        messages.message()
+    while messages.terminal.reply:
+        messages.take(("slot",))
+    begin = random.Random(seed).randrange(len(recording) + 1)
+    for event in PAUSE:
+        messages.take(event)
+    for _ in range(MESSAGES):
+        messages.message()
+    return recording[begin:]
 
 
 def other_word(draw, sent):
@@ -134,9 +181,9 @@ def sent_of(line):
     return None
 
 
-def is_right(setup, recording, numbers, name, told):
-    """Whether this is what is to be told of a recording."""
-    count = explained(setup, recording)
+def is_right(explains, recording, numbers, name, told):
+    """Whether this is what is to be told of a recording, of which so many sightings are explained as `explains` says."""
+    count = explains(recording)
     if count == len(recording):
         return told == []
     found = re.fullmatch(rf"{name}:(\d+): expected (.*), came (.*)", told[0]) if told else None
@@ -144,7 +191,16 @@ def is_right(setup, recording, numbers, name, told):
         return False
     event, sent = recording[count]
     possible = [*recording[:count], (event, sent_of(found[3]))]
-    return int(found[1]) == numbers[count] and found[2] == shown(sent) and explained(setup, possible) == count + 1
+    return int(found[1]) == numbers[count] and found[2] == shown(sent) and explains(possible) == count + 1
+
+
+def is_right_later(setup, recording, numbers, name, told, part):
+    """The same of one that began later, with what is told of the part that is judged."""
+    begin = fresh_part(setup, recording)
+    if begin is None:
+        return told == [] and part == ["warning: nothing is judged: no part begins afresh after a pause"]
+    right = is_right(lambda it: explained_later(setup, it), recording[begin:], numbers[begin:], name, told)
+    return right and part == [f"judged after line {numbers[begin - 1]}"]
 
 
 def plays(program, tool, folder, recording, name):
@@ -164,7 +220,16 @@ def witnessed(program, tool, folder, recordings):
         return sum(pool.map(lambda n: plays(program, tool, folder, recordings[n], str(n)), range(len(recordings))))
 
 
-def judged(tool, folder, setup, recordings):
+def by_name(lines):
+    """What is told of each recording."""
+    told = {}
+    for line in lines:
+        name, _, text = line.partition(": ")
+        told.setdefault(name, []).append(text)
+    return told
+
+
+def judged(tool, folder, setup, recordings, later=False):
     """How many of these recordings a build judges rightly."""
     numbers = []
     for n, recording in enumerate(recordings):
@@ -172,15 +237,17 @@ def judged(tool, folder, setup, recordings):
         (folder / f"{n}").write_text(text)
         numbers.append(lines)
     names = [str(n) for n in range(len(recordings))]
-    ran = subprocess.run([tool, "verify", "--any-subsystem", "profile.toml", *names], cwd=folder, capture_output=True, text=True, check=False)
+    ran = subprocess.run([tool, "verify", "--any-subsystem", *["--already-on"] * later, "profile.toml", *names], cwd=folder, capture_output=True, text=True, check=False)
     told = {}
     for line in ran.stdout.splitlines():
         told.setdefault(line.partition(":")[0], []).append(line)
-    right = [n for n in range(len(recordings)) if is_right(setup, recordings[n], numbers[n], names[n], told.get(names[n], []))]
-    if others := [it for it in ran.stderr.splitlines() if not it.endswith(": warning: the script states no answer")]:
-        print(f"FAILED: {others[0]}")
+    parts = by_name(it for it in ran.stderr.splitlines() if not it.endswith(": warning: the script states no answer"))
+    if later:
+        return sum(is_right_later(setup, *it, told.get(it[2], []), parts.get(it[2], [])) for it in zip(recordings, numbers, names))
+    if parts:
+        print(f"FAILED: {parts}")
         return 0
-    return len(right)
+    return sum(is_right(lambda seen: explained(setup, seen), *it, told.get(it[2], [])) for it in zip(recordings, numbers, names))
 
 
 def main():
@@ -201,10 +268,14 @@ def main():
                 print("FAILED: the model does not explain its own runs")
                 failed += 1
             others = [it for it in map(changed, runs, seeds) if it]
+            later_seeds = range(number, LATER_RUNS, PROFILES)
+            later = [recorded_later(setup, seed) for seed in later_seeds]
+            later += [it for it in map(changed, later, later_seeds) if it]
             for tool in tools:
                 right = judged(tool, folder, setup, runs) + witnessed(program, tool, folder, runs) + judged(tool, folder, setup, others)
+                right += judged(tool, folder, setup, later, later=True)
                 passed += right
-                failed += 2 * len(runs) + len(others) - right
+                failed += 2 * len(runs) + len(others) + len(later) - right
     print(f"{passed} passed, {failed} failed")
     return 1 if failed or not passed else 0
 
