@@ -407,6 +407,11 @@ shown_rows() {
     row 'what came in two recordings, and what is illegal' 0 \
         "mode code 2, transmit status word           1 done\n${codes}\nillegal\ntransmit 3                                  1: 2 illegal\n\nlegal messages: 1 of 4 came, 1 done\nillegal messages: 1 came\n" '' \
         coverage five came flags
+    row 'what came, as JSON' 0 \
+        '{"came":0,"done":0,"legal":[{"message":"mode code","code":2,"mode":"transmit status word","done":0,"busy":0,"illegal":0,"in_error":0},{"message":"mode code","code":4,"mode":"transmitter shutdown","done":0,"busy":0,"illegal":0,"in_error":0},{"message":"mode code","code":5,"mode":"override transmitter shutdown","done":0,"busy":0,"illegal":0,"in_error":0},{"message":"mode code","code":8,"mode":"reset remote terminal","done":0,"busy":0,"illegal":0,"in_error":0}],"illegal":[{"command":"2c61","message":"transmit","subaddress":3,"count":1,"done":0,"busy":0,"illegal":2,"in_error":0}]}\n' '' \
+        coverage --format json five flags
+    python3 scripts/schema.py docs/coverage.schema.json <"$work/stdout"
+    count 'coverage: schema' $?
     row 'a recording of the subsystem, counted' 2 '' 'acts: script: line 1: what the subsystem does is not seen in a recording\n' coverage five acts
     row 'a profile of a recording' 0 \
         '# Terminal 5, as a recording shows it: this profile explains the recording.\n# "line 9": the command of the first message that shows the entry is line 9 of the recording.\n# "tried": no message shows it alone, and the recording is explained with it.\n# What the recording does not show is illegal here.\n# It never shows which words are held: vector, bit, initial and wraparound are left out.\naddress = 5\n' \

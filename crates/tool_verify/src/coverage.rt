@@ -48,11 +48,12 @@ fn put_coverage<R: AllocGlobal, W: Write>(
     as_json: bool,
     output: &mut W,
 ) -> Result<(), ToolFault> {
-    let text = if as_json {
-        coverage_json(rt.alloc(), table, names).ok_or(ToolFault::Memory)?
-    } else {
-        coverage_text(rt.alloc(), table, names)?
-    };
+    if as_json {
+        let text = coverage_json(rt.alloc(), table, names).ok_or(ToolFault::Memory)?;
+        write_bytes(output, text.as_str().as_bytes())?;
+        return write_bytes(output, b"\n");
+    }
+    let text = coverage_text(rt.alloc(), table, names)?;
     write_bytes(output, text.as_str().as_bytes())
 }
 
