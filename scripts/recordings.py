@@ -8,7 +8,8 @@ buses sees of each run is a recording, which has to be explained, and PROGRAM pl
 recorded words. Then each is changed in one slot: a bit, the kind, silence or
 a word. How many sightings are explained then is decided here by a terminal whose status keeps the bits of its flags open until it is
 sent. Other runs are seen from some time on, with a pause in them: `--already-on` judges their first part that begins afresh, and so does
-this terminal, with its transmitters shut down or not. The last line is 'N passed, M failed'.
+this terminal, with its transmitters shut down or not. For some runs `infer` has to propose a profile that explains them. The last line is
+'N passed, M failed'.
 """
 import concurrent.futures
 import pathlib
@@ -24,7 +25,7 @@ import play  # noqa: E402
 import random_scripts  # noqa: E402
 import rules  # noqa: E402
 
-RUNS, LATER_RUNS, MESSAGES = 20_000, 5_000, 8
+RUNS, LATER_RUNS, INFERRED_RUNS, MESSAGES = 20_000, 5_000, 1_600, 8
 PROFILES = 16
 SERVICE, BUSY, SUBSYSTEM, TERMINAL = 0x100, 0x8, 0x4, 0x1
 UNSEEN = ("write", "vector", "bit", "flag")
@@ -220,6 +221,20 @@ def witnessed(program, tool, folder, recordings):
         return sum(pool.map(lambda n: plays(program, tool, folder, recordings[n], str(n)), range(len(recordings))))
 
 
+def is_inferred(tool, folder, setup, name):
+    """Whether a profile is proposed for a recording, which explains it."""
+    made = subprocess.run([tool, "infer", name, "--address", str(setup.address)], cwd=folder, capture_output=True, check=False)
+    (folder / f"{name}.toml").write_bytes(made.stdout)
+    ran = subprocess.run([tool, "verify", "--any-subsystem", f"{name}.toml", name], cwd=folder, capture_output=True, check=False)
+    return (made.returncode, ran.returncode) == (0, 0)
+
+
+def inferred(tool, folder, setup, count):
+    """For how many of the first recordings, which `judged` wrote, a build proposes a profile that explains them."""
+    with concurrent.futures.ThreadPoolExecutor() as pool:
+        return sum(pool.map(lambda n: is_inferred(tool, folder, setup, str(n)), range(count)))
+
+
 def by_name(lines):
     """What is told of each recording."""
     told = {}
@@ -272,10 +287,11 @@ def main():
             later = [recorded_later(setup, seed) for seed in later_seeds]
             later += [it for it in map(changed, later, later_seeds) if it]
             for tool in tools:
-                right = judged(tool, folder, setup, runs) + witnessed(program, tool, folder, runs) + judged(tool, folder, setup, others)
-                right += judged(tool, folder, setup, later, later=True)
+                count = INFERRED_RUNS // PROFILES
+                right = judged(tool, folder, setup, runs) + witnessed(program, tool, folder, runs) + inferred(tool, folder, setup, count)
+                right += judged(tool, folder, setup, others) + judged(tool, folder, setup, later, later=True)
                 passed += right
-                failed += 2 * len(runs) + len(others) + len(later) - right
+                failed += 2 * len(runs) + count + len(others) + len(later) - right
     print(f"{passed} passed, {failed} failed")
     return 1 if failed or not passed else 0
 
