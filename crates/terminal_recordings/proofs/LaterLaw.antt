@@ -32,7 +32,7 @@ begun_alike P h low l q =
     }
 
 -- what is shown of a front after one of the beginnings, where it is explained
-explained_follows : (P : Description) (front later : List Sighting) → P.address ≤ 30 → P.legal (OwnMode 4) ≡ true → BeginsAfresh P front → IsExplainedLater P front →
+pub explained_follows : (P : Description) (front later : List Sighting) → P.address ≤ 30 → P.legal (OwnMode 4) ≡ true → BeginsAfresh P front → IsExplainedLater P front →
     (shut : ShutDown) × Follows P (shut_history P shut) front later
 explained_follows P front later low l afresh (earlier, a, q, (es, b, e)) =
     let h : List Event = history_after earlier [] in

@@ -13,4 +13,5 @@ pub mod Leaving
 pub mod Law
 pub mod Pause
 pub mod LaterLaw
+pub mod MaskLaw
 pub mod Tests

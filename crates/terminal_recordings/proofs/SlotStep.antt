@@ -15,6 +15,7 @@ use Rattle.terminal_rules.specs.Past.{past}
 use Rattle.terminal_rules.specs.Out.{Sending, sending, sends, sending_out, reply_word, out, sent_in}
 use Rattle.terminal_rules.specs.Steps.{reset_first, kept_after, sent_one}
 use Rattle.terminal_recordings.specs.Completion.{status_sent, flag_shown}
+use Rattle.terminal_recordings.specs.Masks.{AreDataWords, FitsWord}
 use Rattle.terminal_recordings.proofs.Summary.{summary, in_slot, kept_law, reply_law}
 use Rattle.terminal_recordings.proofs.Alike.{flag_in, shows_flag, shown_alike, ReplyAlike, Alike}
 use Rattle.terminal_recordings.proofs.Step.{SameEvent, same_event, determined_alike, inhibited_alike, kept_alike}
@@ -78,12 +79,34 @@ pub same_later : (busy f : Bool) (r s : Option Replying) → ReplyAlike busy f r
 same_later busy f r s (inl e) i = e
 same_later busy f r s (inr a) i = let n : true ≡ false = sym (ap (λ o. number_of o == 0) a.left) ∙ i in cc
 
+-- of a slot in which a data word is sent: what is sent in each, and that they stay alike
+abbrev DataAlike : Description → List Event → List Event → Option ℕ → Replying → Type 0
+DataAlike P h k later r =
+    (sent_in (out P h Slot) ≡ Some (sending r.bus Dat (reply_word P (past P h) r.cell r.number)))
+    × (sent_in (out P k Slot) ≡ Some (sending r.bus Dat (reply_word P (past P k) r.cell r.number)))
+    × Alike (flag_shown later) (summary P (past P (Slot ∷ h))) (summary P (past P (Slot ∷ k)))
+
+pub data_sent_of : (P : Description) (h : List Event) (r : Replying) → reply_now (past P h) ≡ Some r → (r.number == 0) ≡ false →
+    sent_in (out P h Slot) ≡ Some (sending r.bus Dat (reply_word P (past P h) r.cell r.number))
+data_sent_of P h r e n =
+    ap (sent_of P (past P h)) e ∙ ap (λ t. Some (if t then sending r.bus Com (status_word P.address (kept_now P (past P h))) else sending r.bus Dat (reply_word P (past P h) r.cell r.number))) n
+
+data_alike : (P : Description) (h k : List Event) (later : Option ℕ) → Alike (flag_shown later) (summary P (past P h)) (summary P (past P k)) →
+    ((x : Flag) → flag_now (past P k) x ≡ flag_shown later x) → (r : Replying) → reply_now (past P h) ≡ Some r → (r.number == 0) ≡ false → DataAlike P h k later r
+data_alike P h k later a flags r e n =
+    let q : reply_now (past P h) ≡ reply_now (past P k) =
+    same_later (kept_now P (past P h)).busy _ (reply_now (past P h)) (reply_now (past P k)) a.reply (ap (λ o. number_of o == 0) e ∙ n) in
+    (data_sent_of P h r e n, data_sent_of P k r (sym q ∙ e) n, unsent P h k later a flags q)
+
 pub slot_alike : (P : Description) (h k : List Event) (later : Option ℕ) →
     Alike (flag_shown (sent_or (status_sent (sent_in (out P h Slot))) later)) (summary P (past P h)) (summary P (past P k)) →
     ((x : Flag) → flag_now (past P k) x ≡ flag_shown (sent_or (status_sent (sent_in (out P h Slot))) later) x) →
     WordsAlike P (past P h) (past P k) → SlotAlike P h k later
 slot_alike P h k later a flags words = by_reply (reply_now (past P h)) refl
   where
+    at_later : sent_or (status_sent (sent_in (out P h Slot))) later ≡ later → Alike (flag_shown later) (summary P (past P h)) (summary P (past P k))
+    at_later status = subst (λ (o : Option ℕ). Alike (flag_shown o) (summary P (past P h)) (summary P (past P k))) status a
+
     by_number : (r : Replying) (t : Bool) → reply_now (past P h) ≡ Some r → (r.number == 0) ≡ t → SlotAlike P h k later
     by_number r true e n =
         let word : sent_of P (past P h) (reply_now (past P h)) ≡ Some (sending r.bus Com (status_word P.address (kept_now P (past P h)))) =
@@ -99,16 +122,9 @@ slot_alike P h k later a flags words = by_reply (reply_now (past P h)) refl
           sent P h k (flag_shown (sent_or (status_sent (sent_in (out P h Slot))) later)) later a q kept,
         )
     by_number r false e n =
-        let word : sent_of P (past P h) (reply_now (past P h)) ≡ Some (sending r.bus Dat (reply_word P (past P h) r.cell r.number)) =
-        ap (sent_of P (past P h)) e ∙ ap (λ t. Some (if t then sending r.bus Com (status_word P.address (kept_now P (past P h))) else sending r.bus Dat (reply_word P (past P h) r.cell r.number))) n in
-        let status : sent_or (status_sent (sent_in (out P h Slot))) later ≡ later = ap (λ o. sent_or (status_sent o) later) word in
-        let q : reply_now (past P h) ≡ reply_now (past P k) =
-        same_later (kept_now P (past P h)).busy _ (reply_now (past P h)) (reply_now (past P k)) a.reply (ap (λ o. number_of o == 0) e ∙ n) in
-        let other : sent_of P (past P k) (reply_now (past P k)) ≡ Some (sending r.bus Dat (reply_word P (past P k) r.cell r.number)) =
-        ap (sent_of P (past P k)) (sym q ∙ e) ∙ ap (λ t. Some (if t then sending r.bus Com (status_word P.address (kept_now P (past P k))) else sending r.bus Dat (reply_word P (past P k) r.cell r.number))) n in (
-          word ∙ (ap (λ w. Some (sending r.bus Dat w)) (sym (words r e n)) ∙ sym other),
-          unsent P h k later (subst (λ (o : Option ℕ). Alike (flag_shown o) (summary P (past P h)) (summary P (past P k))) status a) (λ x. flags x ∙ ap (λ o. flag_shown o x) status) q,
-        )
+        let status : sent_or (status_sent (sent_in (out P h Slot))) later ≡ later = ap (λ o. sent_or (status_sent o) later) (data_sent_of P h r e n) in
+        let d : DataAlike P h k later r = data_alike P h k later (at_later status) (λ x. flags x ∙ ap (λ o. flag_shown o x) status) r e n in
+        (d.0 ∙ (ap (λ w. Some (sending r.bus Dat w)) (sym (words r e n)) ∙ sym d.1), d.2)
 
     by_reply : (r : Option Replying) → reply_now (past P h) ≡ r → SlotAlike P h k later
     by_reply None e =
@@ -117,6 +133,29 @@ slot_alike P h k later a flags words = by_reply (reply_now (past P h)) refl
         let q : reply_now (past P h) ≡ reply_now (past P k) =
         same_later (kept_now P (past P h)).busy _ (reply_now (past P h)) (reply_now (past P k)) a.reply (ap (λ o. number_of o == 0) e) in (
           word ∙ sym (ap (sent_of P (past P k)) (sym q ∙ e)),
-          unsent P h k later (subst (λ (o : Option ℕ). Alike (flag_shown o) (summary P (past P h)) (summary P (past P k))) status a) (λ x. flags x ∙ ap (λ o. flag_shown o x) status) q,
+          unsent P h k later (at_later status) (λ x. flags x ∙ ap (λ o. flag_shown o x) status) q,
         )
+    by_reply (Some r) e = by_number r (r.number == 0) e refl
+
+-- a slot in which a data word is sent, and another is stated that is left open: one is sent in the second, too
+pub open_slot_alike : (P : Description) (h k : List Event) (later : Option ℕ) (stated : Sending) → Alike (flag_shown later) (summary P (past P h)) (summary P (past P k)) →
+    ((x : Flag) → flag_now (past P k) x ≡ flag_shown later x) → FitsWord true (Some stated) (sent_in (out P h Slot)) →
+    FitsWord true (Some stated) (sent_in (out P k Slot)) × Alike (flag_shown later) (summary P (past P (Slot ∷ h))) (summary P (past P (Slot ∷ k)))
+open_slot_alike P h k later stated a flags fits = by_reply (reply_now (past P h)) refl
+  where
+    by_number : (r : Replying) (t : Bool) → reply_now (past P h) ≡ Some r → (r.number == 0) ≡ t →
+        FitsWord true (Some stated) (sent_in (out P k Slot)) × Alike (flag_shown later) (summary P (past P (Slot ∷ h))) (summary P (past P (Slot ∷ k)))
+    by_number r true e n =
+        let word : sent_in (out P h Slot) ≡ Some (sending r.bus Com (status_word P.address (kept_now P (past P h)))) =
+        ap (sent_of P (past P h)) e ∙ ap (λ t. Some (if t then sending r.bus Com (status_word P.address (kept_now P (past P h))) else sending r.bus Dat (reply_word P (past P h) r.cell r.number))) n in
+        let status : AreDataWords stated (sending r.bus Com (status_word P.address (kept_now P (past P h)))) = subst (FitsWord true (Some stated)) word fits in
+        let wrong : Com ≡ Dat = status.second in absurd (cc)
+    by_number r false e n =
+        let d : DataAlike P h k later r = data_alike P h k later a flags r e n in
+        let words : AreDataWords stated (sending r.bus Dat (reply_word P (past P h) r.cell r.number)) = subst (FitsWord true (Some stated)) d.0 fits in
+        (subst (FitsWord true (Some stated)) (sym d.1) (record { bus = words.bus; first = words.first; second = refl }), d.2)
+
+    by_reply : (r : Option Replying) → reply_now (past P h) ≡ r →
+        FitsWord true (Some stated) (sent_in (out P k Slot)) × Alike (flag_shown later) (summary P (past P (Slot ∷ h))) (summary P (past P (Slot ∷ k)))
+    by_reply None e = absurd (subst (FitsWord true (Some stated)) (ap (sent_of P (past P h)) e) fits)
     by_reply (Some r) e = by_number r (r.number == 0) e refl

@@ -4,4 +4,5 @@ pub mod Seen
 pub mod Completion
 pub mod RecordingRows
 pub mod Later
+pub mod Masks
 pub mod LaterRows

@@ -3,6 +3,7 @@
 ghost use Rattle.terminal_recordings.specs.Completion.{RecordingLaw};
 ghost use Rattle.terminal_recordings.specs.Later.{LaterLaw};
 ghost use Rattle.terminal_recordings.specs.LaterRows.{LaterRows};
+ghost use Rattle.terminal_recordings.specs.Masks.{MaskLaw};
 ghost use Rattle.terminal_recordings.specs.RecordingRows.{RecordingRows};
 
 /// Some behaviour of the subsystem explains a recording, exactly if that which the recording itself tells does.
@@ -23,4 +24,9 @@ pub fn later_recordings()
 /// Recordings that begin later than power-up, each with whether a description explains it.
 pub fn later_rows()
     ensures { LaterRows }
+{}
+
+/// A recording that leaves data words open is explained exactly if what is shown of it fits it.
+pub fn masked_recordings()
+    ensures { MaskLaw }
 {}
