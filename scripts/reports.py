@@ -7,7 +7,7 @@ Plays the protocol tests, and scripts made here that pass, differ, are refused o
 profiles as SARIF. What a format says is compared with the text format: each script, its status, its clauses, each difference, each
 fault and all counts. Names of files, clauses, answers, keys and values of profiles have each character that would mean something in
 XML, JSON or HTML or to a terminal. A page has no code, and each message in which something differs is drawn on it. A report has no
-times, so that it is the same each time. The last line is 'N passed, M failed'.
+times, so that it is the same each time. The page of `coverage` is compared with its JSON. The last line is 'N passed, M failed'.
 """
 import html.parser
 import json
@@ -203,8 +203,8 @@ def rows_in(table):
     return [[words_of(cell) for cell in row] for row in table.iter(f"{HTML}tr")]
 
 
-def look_at_page(text, found, clauses):
-    """A page beside the objects of JSON, and the rows clause by clause of the text."""
+def body_of(text):
+    """The body of a page that is well-formed, runs no code and loads nothing."""
     must(not NEVER & set(text), "a raw character")
     must(text.startswith("<!DOCTYPE html>\n"), "no document type")
     root = xml.fromstring(text)
@@ -217,7 +217,12 @@ def look_at_page(text, found, clauses):
     must(not re.search(r"url\(|@import|javascript:", text), "a style that loads something")
     style = root.find(f"{HTML}head/{HTML}style").text
     must("prefers-color-scheme:dark" in style and "@media print" in style, "no styles for the dark and for paper")
-    body = root.find(f"{HTML}body")
+    return root.find(f"{HTML}body")
+
+
+def look_at_page(text, found, clauses):
+    """A page beside the objects of JSON, and the rows clause by clause of the text."""
+    body = body_of(text)
     passed = sum(one["passes"] for one in found)
     same(words_of(body.find(f"{HTML}h1")), f"Tests of a terminal: {passed} of {len(found)} scripts pass", "the title")
     tables = body.findall(f"{HTML}table")
@@ -234,6 +239,40 @@ def look_at_page(text, found, clauses):
     wrong = [one for one in others if one["differences"]]
     same([rows_in(it)[1:] for it in tables[2:]], [[[str(it["line"]), it["expected"] or "nothing", it["came"] or "nothing"] for it in one["differences"]] for one in wrong],
          "the differences")
+
+
+OUTCOMES = ["done", "busy", "illegal", "in_error"]
+
+
+def message_in_words(one):
+    """The message of an object of `coverage --format json`, but for its word count."""
+    if "mode" not in one:
+        return f"{one['message']} {one['subaddress']}"
+    bit = f" with T/R {int(one['command'], 16) >> 10 & 1}" if "command" in one else ""
+    return f"{one['message']} {one['code']}{bit}, {one['mode']}"
+
+
+def look_at_coverage(text, found, profile, recordings, has_names):
+    """The page of what recordings show, beside the object of JSON."""
+    body, legal, illegal = body_of(text), found["legal"], found["illegal"]
+    same(words_of(body.find(f"{HTML}h1")), f"What recordings show of a terminal: {found['came']} of {len(legal)} legal messages came", "the title")
+
+    def fields(one, is_legal):
+        name = [f'"{shown(one["name"])}"' if one["name"] else ""] if has_names else []
+        came = ["yes" if any(one[it] for it in OUTCOMES) else "never"] if is_legal else []
+        return [message_in_words(one), str(one.get("count", "")), *name, *came, *(str(one[it]) for it in OUTCOMES)]
+
+    def head(is_legal):
+        return ["message", "words", *["name"] * has_names, *["came"] * is_legal, "done", "busy", "illegal", "in error"]
+
+    tables = body.findall(f"{HTML}table")
+    numbers = {"": len(legal), " that came": found["came"], " that were done": found["done"], " that never came": len(legal) - found["came"]}
+    same(rows_in(tables[0]), [["profile", shown(profile)], *(["recording", shown(it)] for it in recordings),
+                              *([f"legal messages{what}", str(count)] for what, count in numbers.items()), ["illegal messages that came", str(len(illegal))]], "what was read")
+    same(rows_in(tables[1]), [head(True), *(fields(one, True) for one in legal)], "the legal messages")
+    same([row.get("class") for row in tables[1].find(f"{HTML}tbody")], ["differs" if "never" in fields(one, True) else None for one in legal], "what is marked")
+    same([rows_in(it) for it in tables[2:]], [[head(False), *(fields(one, False) for one in illegal)]] if illegal else [], "the illegal messages")
+    same([words_of(it) for it in body.findall(f"{HTML}p")][1:], [] if illegal else ["None."], "what is said of no illegal message")
 
 
 def drawn_lines(page, name):
@@ -408,6 +447,26 @@ def hostile(rows):
     rows.verified("hostile names that are not there", ["five"], [f"no{c}ne" for c in HOSTILE], "five")
 
 
+def covered(rows):
+    """What recordings show, as a page."""
+    def look(names, profile, *recordings):
+        words = ["coverage", *(["--names", names] if names else []), profile, *recordings]
+        done = {it: run(rows.tool, rows.folder, *words, "--format", it) for it in ("json", "html")}
+        same([(it.returncode, it.stderr) for it in done.values()], [(0, b"")] * 2, "the status and the faults")
+        look_at_coverage(done["html"].stdout.decode(), json.loads(done["json"].stdout), profile, recordings, bool(names))
+
+    rows.write("few", 'address = 5\nbroadcast = true\n[[rule]]\nto = "both"\ndirection = "receive"\nsubaddresses = "1-2"\ncounts = "1-2"\n')
+    rows.write("came", "A c 2c02\nA gap\nslot\n#> A s 2800\nA c 2821\nA d 1234\nA gap\nslot\n#> A s 2808\nA c f841\nA d 0001\nA gap\nA c 2822\nA d 0001\nA gap\n")
+    rows.write("illegal", "A c 2c61\nA gap\nslot\n#> A s 2c00\nA c 2802\nA gap\nslot\n#> A s 2c00\nA c fc02\nA gap\n")
+    rows.row("coverage: html", lambda: look(None, "few", "came"))
+    rows.row("coverage: html: two recordings", lambda: look(None, "few", "came", "illegal"))
+    rows.row("coverage: html: no name", lambda: look(rows.write("unnamed.csv", "kind,value,subaddress,words,name\naddress,5,,,\n"), "few", "came", "illegal"))
+    for c in (it for it in HOSTILE if it != '"'):
+        profile, recording, table = rows.write(f"few{c}", "address = 5\n"), rows.write(f"came{c}", "A c 2c02\nA gap\n"), f"names{HOSTILE.index(c)}.csv"
+        rows.write(table, f'kind,value,subaddress,words,code,name\naddress,5,,,,\nmode,,,,2,"na{c}me"\n')
+        rows.row(f"coverage: html: {c!r}", lambda table=table, profile=profile, recording=recording: look(table, profile, recording))
+
+
 def linted(rows):
     """Profiles as SARIF."""
     names = [rows.write("idle", "address = 5\nvector = 7\n"), rows.write("two", 'address = 31\n\n[[rule]]\ndirection = "up"\nsubadress = 3\n'), rows.write("open", "x = [\n"),
@@ -440,6 +499,7 @@ def main():
         folders(rows)
         long(rows)
         hostile(rows)
+        covered(rows)
         linted(rows)
         tests = sorted(str(path.relative_to(TOP)) for part in ("scripts", "choices") for path in (TOP / "examples/validation" / part).glob("*.script"))
         known.update({name: name for name in tests})

@@ -4,6 +4,7 @@ mod Lists
 mod RowLaws
 mod EndingLaws
 mod TableLaws
+mod TextLaws
 mod OnceLaws
 mod PlaceLaws
 pub mod SoFar

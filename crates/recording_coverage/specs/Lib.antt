@@ -4,4 +4,5 @@ pub mod Messages
 pub mod Covers
 pub mod Rows
 pub mod Places
+pub mod Texts
 pub mod inner

@@ -18,10 +18,11 @@ pub use counting::count_from;
 pub use coverage::Coverage;
 pub use covering::{count_events, coverage_of};
 pub use json::coverage_json;
-pub use lines::{CoverageLine, illegal_lines, legal_lines};
+pub use lines::{CoverageLine, illegal_lines, legal_lines, push_command, push_place};
 pub use outcome::OutcomeCounts;
 pub use places::{
-    CoverageRow, come_in, done_in, has_come, message_rows, total_of, was_done, word_counts,
+    CoverageRow, come_in, done_in, has_come, message_rows, total_of, was_done, word_count_in,
+    word_counts,
 };
 pub use rows::{CoveredMessage, IllegalMessage, covered_messages, illegal_messages};
 pub use table::CoverageTable;

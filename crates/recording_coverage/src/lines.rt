@@ -1,4 +1,7 @@
 //! The lines of what a recording shows: of each row of legal messages, and of each illegal one that came.
+ghost use Rattle.std.specs.Prelude.{◌≡◌, ◌++◌, OnOk, string_bytes};
+ghost use Rattle.recording_coverage.specs.Texts.{mode_told, place_told, command_told};
+
 use crate::outcome::OutcomeCounts;
 use crate::places::{done_in, total_of, word_counts};
 use crate::rows::{CoveredMessage, IllegalMessage, are_none};
@@ -21,14 +24,26 @@ pub struct CoverageLine {
     pub is_done: bool,
 }
 
+/// Writes which mode code this is.
+fn push_code(text: &mut String, code: u8) -> Result<(), AllocError>
+    ensures { OnOk result (string_bytes text.new ≡ string_bytes text.old ++ mode_told code) }
+{
+    write!(text, "mode code {code}, {}", mode_name(code))
+}
+
 /// Writes which messages these are, but for their word counts.
-fn push_place(text: &mut String, cell: Cell) -> Result<(), AllocError> {
+pub fn push_place(text: &mut String, cell: Cell) -> Result<(), AllocError>
+    ensures { OnOk result (string_bytes text.new ≡ string_bytes text.old ++ place_told cell) }
+{
     match cell {
         Cell::OwnReceive(s, _) => write!(text, "receive {s}"),
         Cell::OwnTransmit(s, _) => write!(text, "transmit {s}"),
         Cell::BroadReceive(s, _) => write!(text, "broadcast receive {s}"),
-        Cell::OwnMode(code) => write!(text, "mode code {code}, {}", mode_name(code)),
-        Cell::BroadMode(code) => write!(text, "broadcast mode code {code}, {}", mode_name(code)),
+        Cell::OwnMode(code) => push_code(text, code),
+        Cell::BroadMode(code) => {
+            text.push_str("broadcast ")?;
+            push_code(text, code)
+        }
     }
 }
 
@@ -133,7 +148,9 @@ fn row_line(
 }
 
 /// Writes which message a command asks for, but for its word count.
-fn push_command(text: &mut String, command: Command) -> Result<(), AllocError> {
+pub fn push_command(text: &mut String, command: Command) -> Result<(), AllocError>
+    ensures { OnOk result (string_bytes text.new ≡ string_bytes text.old ++ command_told command) }
+{
     if command.is_broadcast() {
         text.push_str("broadcast ")?;
     }

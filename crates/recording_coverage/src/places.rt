@@ -53,7 +53,7 @@ pub fn done_in(messages: &[CoveredMessage]) -> usize
 }
 
 /// Gives the word count of a message, 0 for a mode code.
-fn word_count_in(cell: Cell) -> u8
+pub fn word_count_in(cell: Cell) -> u8
     ensures { result ≡ word_count_in cell }
 {
     match cell {

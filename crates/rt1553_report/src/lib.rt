@@ -1,7 +1,9 @@
-//! Reports that machines and managers read: results of scripts as JSON, JUnit and a page.
+//! Reports that machines and managers read: results of scripts as JSON, JUnit and a page, and what recordings show as a page.
 #![tactic(auto)]
 
 mod clauses;
+mod coverage;
+mod fields;
 mod json;
 mod junit;
 mod page;
@@ -10,6 +12,7 @@ mod style;
 mod told;
 
 pub use clauses::{Scope, ScopeRow, ScriptCount, TriedScript, clause_rows, clauses_in};
+pub use coverage::coverage_page;
 pub use json::result_json;
 pub use junit::junit_report;
 pub use page::results_page;

@@ -3,6 +3,7 @@ ghost use Rattle.std.specs.Prelude.{◌≡◌, IfOk, map};
 ghost use Rattle.rt1553_report.specs.Results.{outcome_passes};
 
 use crate::clauses::{Scope, ScopeRow, TriedScript, clause_rows};
+use crate::fields::push_count_row;
 use crate::result::{AnswerNames, ScriptOutcome, ScriptResult, name_at, totals_of};
 use crate::style::RESULTS_STYLE;
 use crate::told::{answer_told, push_shown};
@@ -57,14 +58,6 @@ fn push_profiles(
     page.push_str("</td></tr>\n")
 }
 
-/// Writes a row of the first table: a number, and what it counts.
-fn push_number(page: &mut String, what: &str, number: usize) -> Result<(), AllocError> {
-    writeln!(
-        page,
-        "<tr><th scope=\"row\">{what}</th><td class=\"count\">{number}</td></tr>"
-    )
-}
-
 /// How many answers are stated in the scripts that were played.
 fn answers_of(results: &[ScriptResult]) -> usize {
     let mut all = 0usize;
@@ -86,15 +79,15 @@ fn push_tested(
     let failed = totals.failures.saturating_add(totals.errors);
     page.push_str("<h2>What was tested</h2>\n<table>\n")?;
     push_profiles(alloc, page, results)?;
-    push_number(page, "scripts", totals.tests)?;
-    push_number(
+    push_count_row(page, "scripts", totals.tests)?;
+    push_count_row(
         page,
         "scripts that pass",
         totals.tests.saturating_sub(failed),
     )?;
-    push_number(page, "scripts that differ", totals.failures)?;
-    push_number(page, "scripts refused or not read", totals.errors)?;
-    push_number(page, "answers stated", answers_of(results))?;
+    push_count_row(page, "scripts that differ", totals.failures)?;
+    push_count_row(page, "scripts refused or not read", totals.errors)?;
+    push_count_row(page, "answers stated", answers_of(results))?;
     page.push_str("</table>\n")
 }
 

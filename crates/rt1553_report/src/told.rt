@@ -1,8 +1,8 @@
 //! How differences are told, and names.
 ghost use Rattle.std.specs.Prelude.{ℕ, List, OnOk};
 ghost use Rattle.std.specs.String.{string_bytes};
-ghost use Rattle.rt1553_files.specs.Printable.{PrintsOnOneLine};
-ghost use Rattle.rt1553_draw.specs.Escaped.{Escapes};
+ghost use Rattle.rt1553_report.specs.Shown.{StandsFor};
+ghost use Rattle.rt1553_report.specs.Pieces.{AddsPiece};
 
 use message_names::quoted;
 use rt1553_draw::push_escaped;
@@ -48,7 +48,7 @@ pub fn difference_told(
 
 /// Writes a text that comes from outside into XML, as it is printed: on one line, and escaped.
 pub fn push_shown(alloc: Global, text: &mut String, bytes: &[u8]) -> Result<(), AllocError>
-    ensures { OnOk result ((shown : List ℕ) × PrintsOnOneLine shown × Escapes shown (string_bytes text.old) (string_bytes text.new)) }
+    ensures { OnOk result ((written : List ℕ) × StandsFor bytes.now written × AddsPiece (string_bytes text.old) (string_bytes text.new) written) }
 {
     let shown = escaped(alloc, bytes)?;
     push_escaped(text, shown.as_str())

@@ -1,0 +1,41 @@
+//! Numbers in the tables of a page.
+ghost use Rattle.std.specs.Prelude.{OnOk, string_bytes};
+ghost use Rattle.std.specs.Fmt.{decimal};
+ghost use Rattle.rt1553_report.specs.Pieces.{AddsPiece};
+ghost use Rattle.rt1553_report.specs.Fields.{count_field, count_row};
+
+use std::alloc::AllocError;
+
+/// Writes a piece of a page, as it stands.
+pub fn push_markup(page: &mut String, markup: &str) -> Result<(), AllocError>
+    ensures { OnOk result (AddsPiece (string_bytes page.old) (string_bytes page.new) markup.now) }
+{
+    page.push_str(markup)
+}
+
+/// Writes a number.
+fn push_decimal(page: &mut String, number: u64) -> Result<(), AllocError>
+    ensures { OnOk result (AddsPiece (string_bytes page.old) (string_bytes page.new) (decimal number)) }
+{
+    write!(page, "{number}")
+}
+
+/// Writes a field with a number.
+pub fn push_count_field(page: &mut String, number: u64) -> Result<(), AllocError>
+    ensures { OnOk result (AddsPiece (string_bytes page.old) (string_bytes page.new) (count_field number)) }
+{
+    push_markup(page, "<td class=\"count\">")?;
+    push_decimal(page, number)?;
+    push_markup(page, "</td>")
+}
+
+/// Writes a row of the first table: what is counted, and a number.
+pub fn push_count_row(page: &mut String, what: &str, number: usize) -> Result<(), AllocError>
+    ensures { OnOk result (AddsPiece (string_bytes page.old) (string_bytes page.new) (count_row what.now number)) }
+{
+    push_markup(page, "<tr><th scope=\"row\">")?;
+    push_markup(page, what)?;
+    push_markup(page, "</th>")?;
+    push_count_field(page, number as u64)?;
+    push_markup(page, "</tr>\n")
+}
