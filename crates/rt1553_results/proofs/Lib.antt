@@ -7,3 +7,8 @@ pub mod AskedLaws
 pub mod CompareLaws
 pub mod SlotLaws
 pub mod UnitLaws
+pub mod RecordedLaws
+pub mod PlacedLaws
+pub mod RepliedLaws
+pub mod WholeLaws
+pub mod ExplainedLaws

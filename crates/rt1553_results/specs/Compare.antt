@@ -42,8 +42,8 @@ abbrev pub missing_at : ℕ → Option (List ℕ) → List ℕ
 missing_at n None = n ∷ []
 missing_at n (Some came) = []
 
--- the numbers of rows without a result, of which the first has number n
-unfoldable pub missing : (ℕ → Option (List ℕ)) → ℕ → List Answered → List ℕ
+-- the numbers of rows, or of exchanges, without a result, of which the first has number n
+unfoldable pub missing : {T : Type 0} → (ℕ → Option (List ℕ)) → ℕ → List T → List ℕ
 missing came n [] = []
 missing came n (row ∷ rows) = missing_at n (came n) ++ missing came (n + 1) rows
 

@@ -8,3 +8,6 @@ pub mod Refused
 pub mod Asked
 pub mod Compare
 pub mod Unit
+pub mod Recorded
+pub mod ExplainedResults
+pub mod inner

@@ -1,6 +1,7 @@
 //! The results of a unit, compared with the acceptance test of a terminal.
 ghost use Rattle.std.specs.Prelude.{◌≡◌, ◌≤◌, ◌++◌, ◌∷◌, [], ◌<◌, ℕ, Some, None, length, map, IfOk, IfErr, IfSome, MatchOption, OnOk};
 ghost use Rattle.bus_legal.specs.Parts.{description_in};
+ghost use Rattle.rt1553_results.specs.declared.comparing.CompareFault.TheVariants.{Memory};
 ghost use Rattle.rt1553_results.specs.Handed.{answered_in};
 ghost use Rattle.rt1553_results.specs.Results.{answer, line_in};
 ghost use Rattle.rt1553_results.specs.Compare.{told_reply, replies_told, missing_at, counted, numbers_in, TellsResults, Compares, AreNotCompared};
@@ -29,6 +30,14 @@ pub enum CompareFault {
     Memory,
 }
 
+impl From<AllocError> for CompareFault {
+    ghost from_gives = { λ _ fault. fault ≡ Memory };
+
+    fn from(_error: AllocError) -> CompareFault {
+        CompareFault::Memory
+    }
+}
+
 /// Numbers with one number more, if it is the next.
 fn with_next(numbers: NumberRange, next: u32) -> Option<NumberRange>
     ensures { IfSome result (λ more. counted more.first more.count ≡ counted numbers.first numbers.count ++ next ∷ []) }
@@ -44,7 +53,7 @@ fn with_next(numbers: NumberRange, next: u32) -> Option<NumberRange>
 }
 
 /// Adds a number to those that are missing.
-fn miss(missing: &mut Vec<NumberRange>, number: u32) -> Result<(), AllocError>
+pub fn miss(missing: &mut Vec<NumberRange>, number: u32) -> Result<(), AllocError>
     ensures { OnOk result (numbers_in missing.new.items ≡ numbers_in missing.old.items ++ number ∷ []) }
 {
     let alone = NumberRange {
@@ -123,7 +132,7 @@ fn tell(alloc: Global, normal: &Normal, results: &Results) -> Result<Comparison,
 }
 
 /// The line of a row whose number is beyond the last, if there is one.
-fn beyond(results: &Results, total: u32) -> Option<u64>
+pub fn beyond(results: &Results, total: u32) -> Option<u64>
     ensures { MatchOption result ((n : ℕ) → total < n → answer results.now n ≡ None) (λ line. (n : ℕ) × (total < n) × (line_in results.now n ≡ Some line)) }
 {
     match results.last() {
@@ -142,9 +151,7 @@ pub fn compare_results(
     ensures ok { IfOk result (Compares (description_in normal.now) (answer results.now)) }
     ensures refused { IfErr result (AreNotCompared (description_in normal.now) results.now) }
 {
-    let Ok(comparison) = tell(alloc, normal, results) else {
-        return Err(CompareFault::Memory);
-    };
+    let comparison = tell(alloc, normal, results)?;
     match beyond(results, comparison.total) {
         Some(line) => Err(CompareFault::Beyond(line)),
         None => Ok(comparison),

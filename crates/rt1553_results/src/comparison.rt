@@ -45,16 +45,16 @@ impl NumberRange {
     }
 }
 
-impl Comparison {
-    /// How many exchanges have no result.
-    pub(crate) fn missing_count(&self) -> u32 {
-        let mut count = 0u32;
-        for numbers in &self.missing {
-            count = count.saturating_add(numbers.count);
-        }
-        count
+/// How many numbers some ranges have.
+pub fn count_of(ranges: &[NumberRange]) -> u32 {
+    let mut count = 0u32;
+    for numbers in ranges {
+        count = count.saturating_add(numbers.count);
     }
+    count
+}
 
+impl Comparison {
     ghost use Rattle.rt1553_results.specs.Compare.{told_reply, numbers_in};
 
     /// Whether each exchange has a result, and that is the reply of the terminal.

@@ -4,6 +4,7 @@
 mod asked;
 mod comparing;
 mod comparison;
+mod explaining;
 mod fields;
 mod json;
 pub mod laws;
@@ -13,14 +14,16 @@ mod rows;
 mod table;
 mod texts;
 mod told;
+mod watching;
 
 pub use asked::other_command;
 pub use bus_complete_test::Exchange;
 pub use comparing::{CompareFault, compare_results};
 pub use comparison::{Comparison, NumberRange, WrongReply};
+pub use explaining::{ResultsExplained, UnexplainedReply, explain_results};
 pub use json::json_row;
 pub use playing::{Handed, TestRow};
 pub use results::{GivenReply, Results, ResultsFault, read_results};
 pub use rows::Rows;
 pub use table::{csv_header, csv_row};
-pub use told::NamedReply;
+pub use told::{NamedReply, NamedUnexplained};

@@ -1,5 +1,7 @@
 //! What a comparison tells, in words.
-use crate::comparison::{Comparison, NumberRange, WrongReply};
+use crate::comparison::{Comparison, NumberRange, WrongReply, count_of};
+use crate::explaining::{ResultsExplained, UnexplainedReply};
+use recorded_terminal::Sent;
 use std::fmt;
 
 /// A reply as text: its words, or `none`.
@@ -54,6 +56,55 @@ impl fmt::Display for NamedReply<'_> {
     }
 }
 
+/// A word that can be sent, or `none`.
+#[derive(Clone, Copy)]
+struct WordText(Option<Sent>);
+
+impl fmt::Display for WordText {
+    fn fmt<W: fmt::Write>(&self, f: &mut fmt::Formatter<W>) -> fmt::Result {
+        match self.0 {
+            Some(sent) => write!(f, "{:04x}", sent.bits),
+            None => f.write_str("none"),
+        }
+    }
+}
+
+impl UnexplainedReply {
+    /// Writes what follows its number and a colon.
+    fn put_reply<W: fmt::Write>(&self, f: &mut fmt::Formatter<W>) -> fmt::Result {
+        write!(
+            f,
+            "{}: came {}, word {} can be {}",
+            self.label.as_str(),
+            ReplyText(self.came.as_slice()),
+            self.slot.saturating_add(1),
+            WordText(self.possible)
+        )
+    }
+}
+
+/// As `12: receive 3, 2 words: legal: came none, word 1 can be 2800`.
+impl fmt::Display for UnexplainedReply {
+    fn fmt<W: fmt::Write>(&self, f: &mut fmt::Formatter<W>) -> fmt::Result {
+        write!(f, "{}: ", self.number)?;
+        self.put_reply(f)
+    }
+}
+
+/// The same with the name of its message, as it is printed.
+#[derive(Clone, Copy)]
+pub struct NamedUnexplained<'a> {
+    pub reply: &'a UnexplainedReply,
+    pub name: &'a str,
+}
+
+impl fmt::Display for NamedUnexplained<'_> {
+    fn fmt<W: fmt::Write>(&self, f: &mut fmt::Formatter<W>) -> fmt::Result {
+        write!(f, "{}: {}: ", self.reply.number, self.name)?;
+        self.reply.put_reply(f)
+    }
+}
+
 /// As `no result for 14 to 17`, or `no result for 14`.
 impl fmt::Display for NumberRange {
     fn fmt<W: fmt::Write>(&self, f: &mut fmt::Formatter<W>) -> fmt::Result {
@@ -76,7 +127,7 @@ impl fmt::Display for Comparison {
                 "{others} of {total} exchanges are answered otherwise: it is another terminal"
             )
         } else if !self.missing.is_empty() {
-            let missing = self.missing_count();
+            let missing = count_of(self.missing.as_slice());
             write!(
                 f,
                 "{missing} of {total} exchanges have no result: no verdict"
@@ -85,6 +136,31 @@ impl fmt::Display for Comparison {
             write!(
                 f,
                 "all {total} exchanges are answered as by this terminal: it is the same terminal"
+            )
+        }
+    }
+}
+
+/// The verdict, one line. A reply that nothing explains decides.
+impl fmt::Display for ResultsExplained {
+    fn fmt<W: fmt::Write>(&self, f: &mut fmt::Formatter<W>) -> fmt::Result {
+        let total = self.total;
+        if let Some(first) = &self.first {
+            write!(
+                f,
+                "no behaviour of the subsystem explains exchange {} of {total}: it is another terminal",
+                first.number
+            )
+        } else if !self.missing.is_empty() {
+            let missing = count_of(self.missing.as_slice());
+            write!(
+                f,
+                "{missing} of {total} exchanges have no result: no verdict"
+            )
+        } else {
+            write!(
+                f,
+                "some behaviour of the subsystem explains all {total} exchanges"
             )
         }
     }
