@@ -2,7 +2,8 @@
 ghost use Rattle.std.specs.Prelude.{◌≡◌, ◌↔◌, IfOk, IsTrue};
 ghost use Rattle.bus_legal.specs.Parts.{description_in, IsNormal};
 ghost use Rattle.terminal_recordings.specs.Recordings.{IsExplained};
-ghost use Rattle.recorded_terminal.specs.Watched.{seen_in};
+ghost use Rattle.terminal_recordings.specs.Masks.{ExplainsSome};
+ghost use Rattle.recorded_terminal.specs.Watched.{masked_in};
 ghost use Rattle.rt1553.specs.Load.{is_canon_text};
 ghost use Rattle.inferred_profiles.specs.Proposed.{IsProposal};
 
@@ -12,7 +13,7 @@ use std::alloc::{AllocError, Global};
 
 /// Tells whether some behaviour of the subsystem makes this terminal send what was seen.
 fn is_explained(alloc: Global, normal: &Normal, recording: &[Marked]) -> Result<bool, AllocError>
-    ensures explained { IfOk result (λ truth. IsTrue truth ↔ IsExplained (description_in normal.now) (seen_in recording.now)) }
+    ensures explained { IfOk result (λ truth. IsTrue truth ↔ ExplainsSome (IsExplained (description_in normal.now)) (masked_in recording.now)) }
     ensures normal { IsNormal normal.now }
 {
     let mut watch = Watch::power_up(alloc, normal.setup(), *normal);
@@ -36,7 +37,7 @@ pub fn is_proposal(
     recording: &[Marked],
     text: &str,
 ) -> Result<bool, AllocError>
-    ensures { IfOk result (λ truth. IsTrue truth ↔ IsProposal address (seen_in recording.now) text.now) }
+    ensures { IfOk result (λ truth. IsTrue truth ↔ IsProposal address (masked_in recording.now) text.now) }
 {
     let bytes = text.as_bytes();
     if is_canon_text(bytes) {

@@ -1,6 +1,6 @@
 //! A profile that explains a recording, by trials.
 ghost use Rattle.std.specs.Prelude.{◌≤◌, IfOk, IfSome, string_bytes};
-ghost use Rattle.recorded_terminal.specs.Watched.{seen_in};
+ghost use Rattle.recorded_terminal.specs.Watched.{masked_in};
 ghost use Rattle.inferred_profiles.specs.Proposed.{IsProposal};
 
 use crate::asked::{Asked, asked_in};
@@ -101,7 +101,7 @@ pub fn infer(
     unseen: Unseen,
     recording: &[Marked],
 ) -> Result<Option<String>, AllocError>
-    ensures { IfOk result (λ found. IfSome found (λ text. IsProposal address (seen_in recording.now) (string_bytes text))) }
+    ensures { IfOk result (λ found. IfSome found (λ text. IsProposal address (masked_in recording.now) (string_bytes text))) }
 {
     if 30 < address {
         return Ok(None);

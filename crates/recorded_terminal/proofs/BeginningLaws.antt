@@ -1,16 +1,18 @@
 -- Laws of the four beginnings: of the sightings that nothing explains after each of them the latest is one that nothing explains.
 use Rattle.std.proofs.Common.{◌≡◌, ◌∙◌, ◌≤◌, ◌⊎◌, inl, inr, Option, Some, None, IfSome, ◌↔◌, List, [], ◌∷◌, ◌++◌, length, refl, sym, ap, subst, arith}
 use Rattle.bus_legal.specs.Description.{Description}
-use Rattle.terminal_recordings.specs.Recordings.{Sighting, IsExplainedAfter}
+use Rattle.terminal_recordings.specs.Recordings.{IsExplainedAfter}
 use Rattle.terminal_recordings.specs.Later.{ShutDown, shut_history}
-use Rattle.terminal_recordings.proofs.Law.{recording_law}
+use Rattle.terminal_recordings.specs.Masks.{MaskedSighting, ExplainsSome}
+use Rattle.terminal_recordings.proofs.MaskLaw.{some_front}
 use Rattle.recorded_terminal.specs.declared.watch.Marked.{Marked}
 use Rattle.recorded_terminal.specs.declared.watch.Unexplained.{Unexplained}
-use Rattle.recorded_terminal.specs.Sightings.{shown_sighting}
-use Rattle.recorded_terminal.specs.Watched.{seen_in, IsUnexplainedAt}
+use Rattle.recorded_terminal.specs.Watched.{masked_in, masked_instead, IsUnexplainedAt}
 use Rattle.recorded_terminal.specs.Judged.{IsExplainedBegun, IsUnexplainedBegunAt}
-use Rattle.recorded_terminal.specs.inner.Latest.{IsLatest}
-use Rattle.recorded_terminal.proofs.WatchLaws.{seen_append, found_unexplained}
+use Rattle.recorded_terminal.specs.declared.beginnings.BestBeginning.{BestBeginning}
+use Rattle.recorded_terminal.specs.Follows.{shut_down}
+use Rattle.recorded_terminal.specs.inner.Latest.{IsLatest, IsBetter}
+use Rattle.recorded_terminal.proofs.WatchLaws.{masked_append, found_unexplained}
 
 -- of two fronts of one list the shorter is a front of the longer
 front_of_front : (is bs cs ds : List Marked) (x y : Marked) → is ++ x ∷ cs ≡ bs ++ y ∷ ds → length is ≤ length bs → (rest : List Marked) × (bs ++ y ∷ [] ≡ (is ++ x ∷ []) ++ rest)
@@ -24,63 +26,93 @@ front_of_front (a ∷ is) (b ∷ bs) cs ds x y e m =
     let more = front_of_front is bs cs ds x y tails less in
     (more.0, λ j. sym same j ∷ more.1 j)
 
+-- what one of the beginnings explains
+pub begun_some : (P : Description) (ms : List MaskedSighting) → (shut : ShutDown) × ExplainsSome (IsExplainedAfter P (shut_history P shut)) ms → ExplainsSome (IsExplainedBegun P) ms
+begun_some P ms (shut, (recording, fits, x)) = (recording, fits, (shut, x))
+
+pub some_begun : (P : Description) (ms : List MaskedSighting) → ExplainsSome (IsExplainedBegun P) ms → (shut : ShutDown) × ExplainsSome (IsExplainedAfter P (shut_history P shut)) ms
+some_begun P ms (recording, fits, (shut, x)) = (shut, (recording, fits, x))
+
 -- after a beginning nothing explains a sighting that is no later
 abbrev pub FailsBy : Description → List Marked → Unexplained → ShutDown → Type 0
 FailsBy P ms it s = (jt : Unexplained) × IsUnexplainedAt P (shut_history P s) ms jt × (jt.number ≤ it.number)
 
--- what comes of some of the beginnings
-abbrev pub Best : Description → List Marked → (ShutDown → Type 0) → Option Unexplained → Type 0
-Best P ms Among None = (s : ShutDown) × IsExplainedAfter P (shut_history P s) (seen_in ms)
-Best P ms Among (Some it) = ((s : ShutDown) × IsUnexplainedAt P (shut_history P s) ms it) × ((s : ShutDown) → Among s → FailsBy P ms it s)
+-- what comes of some of the beginnings, where this one is told
+abbrev pub BestAt : Description → List Marked → (ShutDown → Type 0) → ShutDown → Option Unexplained → Type 0
+BestAt P ms Among s None = ExplainsSome (IsExplainedAfter P (shut_history P s)) (masked_in ms)
+BestAt P ms Among s (Some it) = IsUnexplainedAt P (shut_history P s) ms it × ((t : ShutDown) → Among t → FailsBy P ms it t)
+
+abbrev pub Best : Description → List Marked → (ShutDown → Type 0) → BestBeginning → Type 0
+Best P ms Among b = BestAt P ms Among (shut_down b.shut) b.first
 
 -- of one
-pub best_one : (P : Description) (ms : List Marked) (s : ShutDown) (r : Option Unexplained) → ((r ≡ None) ↔ IsExplainedAfter P (shut_history P s) (seen_in ms)) →
-    IfSome r (IsUnexplainedAt P (shut_history P s) ms) → Best P ms (λ x. x ≡ s) r
-best_one P ms s None e f = (s, e.0 refl)
-best_one P ms s (Some it) e f = ((s, f), λ x same. subst (FailsBy P ms it) (sym same) (it, f, omega arith))
+pub best_one : (P : Description) (ms : List Marked) (s : ShutDown) (r : Option Unexplained) → ((r ≡ None) ↔ ExplainsSome (IsExplainedAfter P (shut_history P s)) (masked_in ms)) →
+    IfSome r (IsUnexplainedAt P (shut_history P s) ms) → BestAt P ms (λ x. x ≡ s) s r
+best_one P ms s None e f = e.0 refl
+best_one P ms s (Some it) e f = (f, λ x same. subst (FailsBy P ms it) (sym same) (it, f, omega arith))
 
 fails_later : (P : Description) (ms : List Marked) (it jt : Unexplained) (s : ShutDown) → it.number ≤ jt.number → FailsBy P ms it s → FailsBy P ms jt s
 fails_later P ms it jt s m (kt, f, n) = (kt, f, omega arith)
 
 -- of two at once
-pub best_two : (P : Description) (ms : List Marked) (S T : ShutDown → Type 0) (p q o : Option Unexplained) → Best P ms S p → Best P ms T q → IsLatest p q o → Best P ms (λ x. S x ⊎ T x) o
-best_two P ms S T None q None a b is = a
-best_two P ms S T (Some x) None None a b is = b
-best_two P ms S T (Some x) (Some y) (Some it) a b (one, m, n) = (
-  (pick one),
-  λ s among. elim among [ inl in_s ↦ fails_later P ms x it s m (a.1 s in_s) | inr in_t ↦ fails_later P ms y it s n (b.1 s in_t) ],
+better : (P : Description) (ms : List Marked) (S T : ShutDown → Type 0) (r s t : ShutDown) (p q o : Option Unexplained) → ((t ≡ r) × (o ≡ p)) ⊎ ((t ≡ s) × (o ≡ q)) → IsLatest p q o → BestAt P ms S r p → BestAt P ms T s q →
+    BestAt P ms (λ x. S x ⊎ T x) t o
+better P ms S T r s t None q None (inl (e, f)) is a b = subst (λ k. ExplainsSome (IsExplainedAfter P (shut_history P k)) (masked_in ms)) (sym e) a
+better P ms S T r s t None None None (inr (e, f)) is a b = subst (λ k. ExplainsSome (IsExplainedAfter P (shut_history P k)) (masked_in ms)) (sym e) b
+better P ms S T r s t None (Some y) None (inr (e, f)) is a b = absurd (cc)
+better P ms S T r s t (Some x) None None (inl (e, f)) is a b = absurd (cc)
+better P ms S T r s t (Some x) None None (inr (e, f)) is a b = subst (λ k. ExplainsSome (IsExplainedAfter P (shut_history P k)) (masked_in ms)) (sym e) b
+better P ms S T r s t (Some x) (Some y) (Some it) one (m, n) a b = (
+  pick one,
+  λ u among. elim among [ inl in_s ↦ fails_later P ms x it u m (a.1 u in_s) | inr in_t ↦ fails_later P ms y it u n (b.1 u in_t) ],
 )
   where
-    pick : (it ≡ x) ⊎ (it ≡ y) → (s : ShutDown) × IsUnexplainedAt P (shut_history P s) ms it
-    pick (inl e) = (a.0.0, subst (IsUnexplainedAt P (shut_history P a.0.0) ms) (sym e) a.0.1)
-    pick (inr e) = (b.0.0, subst (IsUnexplainedAt P (shut_history P b.0.0) ms) (sym e) b.0.1)
-best_two P ms S T None q (Some it) a b is = absurd (is)
-best_two P ms S T (Some x) None (Some it) a b is = absurd (is)
-best_two P ms S T (Some x) (Some y) None a b is = absurd (is)
+    pick : ((t ≡ r) × (Some it ≡ Some x)) ⊎ ((t ≡ s) × (Some it ≡ Some y)) → IsUnexplainedAt P (shut_history P t) ms it
+    pick (inl (e, f)) = let same : it ≡ x = cc in rw (e, same) a.0
+    pick (inr (e, f)) = let same : it ≡ y = cc in rw (e, same) b.0
+better P ms S T r s t None q (Some it) one is a b = absurd is
+better P ms S T r s t (Some x) None (Some it) one is a b = absurd is
+better P ms S T r s t (Some x) (Some y) None one is a b = absurd is
+
+pub best_two : (P : Description) (ms : List Marked) (S T : ShutDown → Type 0) (p q o : BestBeginning) → Best P ms S p → Best P ms T q → IsBetter p q o → Best P ms (λ x. S x ⊎ T x) o
+best_two P ms S T p q o a b i = better P ms S T (shut_down p.shut) (shut_down q.shut) (shut_down o.shut) p.first q.first o.first (by i.is) i.latest a b
+  where
+    by : (o ≡ p) ⊎ (o ≡ q) → ((shut_down o.shut ≡ shut_down p.shut) × (o.first ≡ p.first)) ⊎ ((shut_down o.shut ≡ shut_down q.shut) × (o.first ≡ q.first))
+    by (inl e) = inl (ap (λ (x : BestBeginning). shut_down x.shut) e, ap (λ (x : BestBeginning). x.first) e)
+    by (inr e) = inr (ap (λ (x : BestBeginning). shut_down x.shut) e, ap (λ (x : BestBeginning). x.first) e)
 
 -- all four: so is decided whether one of them explains all
-pub best_explained : (P : Description) (ms : List Marked) (Among : ShutDown → Type 0) (o : Option Unexplained) → ((s : ShutDown) → Among s) → Best P ms Among o → (o ≡ None) ↔ IsExplainedBegun P (seen_in ms)
-best_explained P ms Among None all b = (λ e. b, λ x. refl)
-best_explained P ms Among (Some it) all b = (
+pub best_explained : (P : Description) (ms : List Marked) (Among : ShutDown → Type 0) (s : ShutDown) (o : Option Unexplained) → ((s : ShutDown) → Among s) → BestAt P ms Among s o →
+    (o ≡ None) ↔ ExplainsSome (IsExplainedBegun P) (masked_in ms)
+best_explained P ms Among s None all b = (λ e. begun_some P (masked_in ms) (s, b), λ x. refl)
+best_explained P ms Among s (Some it) all b = (
   λ e. absurd (cc),
-  λ x. let f : FailsBy P ms it x.0 = b.1 x.0 (all x.0) in absurd (found_unexplained P (shut_history P x.0) ms f.0 f.1 x.1),
+  λ x.
+      let y = some_begun P (masked_in ms) x in
+      let f : FailsBy P ms it y.0 = b.1 y.0 (all y.0) in
+      absurd (found_unexplained P (shut_history P y.0) ms f.0 f.1 y.1),
 )
 
-pub best_first : (P : Description) (ms : List Marked) (Among : ShutDown → Type 0) (o : Option Unexplained) → ((s : ShutDown) → Among s) → Best P ms Among o → IfSome o (IsUnexplainedBegunAt P ms)
-best_first P ms Among None all b = tt
-best_first P ms Among (Some it) all ((s, i), fails) = record {
+pub best_begins : (P : Description) (ms : List Marked) (Among : ShutDown → Type 0) (s : ShutDown) (o : Option Unexplained) → BestAt P ms Among s o → o ≡ None →
+    ExplainsSome (IsExplainedAfter P (shut_history P s)) (masked_in ms)
+best_begins P ms Among s None b e = b
+best_begins P ms Among s (Some it) b e = absurd (cc)
+
+pub best_first : (P : Description) (ms : List Marked) (Among : ShutDown → Type 0) (s : ShutDown) (o : Option Unexplained) → ((s : ShutDown) → Among s) → BestAt P ms Among s o → IfSome o (IsUnexplainedBegunAt P ms)
+best_first P ms Among s None all b = tt
+best_first P ms Among s (Some it) all (i, fails) = record {
   before = i.before;
   later = i.later;
   all = i.all;
-  explained = (s, i.explained);
+  number = i.number;
+  explained = begun_some P (masked_in i.before) (s, i.explained);
   unexplained = λ x.
-      let f : FailsBy P ms it x.0 = fails x.0 (all x.0) in
-      let j : IsUnexplainedAt P (shut_history P x.0) ms f.0 = f.1 in
+      let y = some_begun P (masked_in (i.before ++ it.marked ∷ [])) x in
+      let f : FailsBy P ms it y.0 = fails y.0 (all y.0) in
+      let j : IsUnexplainedAt P (shut_history P y.0) ms f.0 = f.1 in
       let more = front_of_front j.before i.before j.later i.later f.0.marked it.marked (sym j.all ∙ i.all) (subst (λ n. n ≤ length i.before) j.number (subst (λ n. f.0.number ≤ n) i.number f.2)) in
-      let here : List Sighting = seen_in j.before ++ shown_sighting f.0.marked.sighting ∷ [] in
-      let cut : seen_in i.before ++ shown_sighting it.marked.sighting ∷ [] ≡ here ++ seen_in more.0 =
-      sym (seen_append i.before (it.marked ∷ [])) ∙ ap seen_in more.1 ∙ seen_append (j.before ++ f.0.marked ∷ []) more.0
-      ∙ ap (λ l. l ++ seen_in more.0) (seen_append j.before (f.0.marked ∷ [])) in
-      j.unexplained (recording_law.fronts P (shut_history P x.0) here (seen_in more.0) (subst (IsExplainedAfter P (shut_history P x.0)) cut x.1));
-  possible = (s, i.possible);
+      let here : List Marked = j.before ++ f.0.marked ∷ [] in
+      let cut : masked_in (i.before ++ it.marked ∷ []) ≡ masked_in here ++ masked_in more.0 = ap masked_in more.1 ∙ masked_append here more.0 in
+      j.unexplained (some_front P (shut_history P y.0) (masked_in here) (masked_in more.0) (subst (ExplainsSome (IsExplainedAfter P (shut_history P y.0))) cut y.1));
+  possible = begun_some P (masked_in i.before ++ masked_instead it ∷ []) (s, i.possible);
 }

@@ -1,5 +1,5 @@
 -- Laws of a recording that began at any time: where a watch is in it, and what comes of the part that is judged.
-use Rattle.std.proofs.Common.{◌≡◌, ◌∙◌, ℕ, zero, suc, nat_lt, nat_le, ◌&&◌, Bool, true, false, if◌then◌else◌, Option, Some, None, IfSome, ◌↔◌, List, [], ◌∷◌, ◌++◌, refl, sym, ap, subst, append_assoc, append-nil, arith}
+use Rattle.std.proofs.Common.{◌≡◌, ◌∙◌, ℕ, zero, suc, nat_lt, nat_le, ◌&&◌, Bool, true, false, if◌then◌else◌, Option, Some, None, IfSome, ◌↔◌, List, [], ◌∷◌, ◌++◌, refl, sym, ap, subst, append_assoc, append-nil, length, length-append, ◌+◌, add-one, arith}
 use Rattle.std.proofs.lemmas.Bool.Decides.{nat_tests}
 use Rattle.bus_word.specs.declared.word.Bus.TheVariants.{A, B}
 use Rattle.bus_word.specs.declared.cell.Cell.{Cell}
@@ -8,11 +8,11 @@ use Rattle.terminal_rules.specs.declared.event.Event.{Event}
 use Rattle.terminal_rules.specs.declared.event.Event.TheVariants.{Word, Noise, Gap, Write, Vector, Bit, Flag as FlagIs, Slot}
 use Rattle.terminal_rules.specs.Status.{spares}
 use Rattle.terminal_rules.specs.Out.{Sending}
-use Rattle.terminal_recordings.specs.Recordings.{Sighting, IsRecording}
+use Rattle.terminal_recordings.specs.Recordings.{Sighting, IsExplainedAfter}
 use Rattle.terminal_recordings.specs.Later.{IsExplainedLater, Gaps, no_gaps, are_two, gaps_with, fresh_part, command_for, first_command, asks_back, BeginsAfresh, shutting, shut_history}
-use Rattle.terminal_recordings.proofs.Law.{recording_law}
+use Rattle.terminal_recordings.specs.Masks.{MaskedSighting, ExplainsSome}
 use Rattle.terminal_recordings.proofs.Leaving.{shutting_leaves, shutting_proper}
-use Rattle.terminal_recordings.proofs.LaterLaw.{later_law}
+use Rattle.terminal_recordings.proofs.MaskLaw.{mask_law}
 use Rattle.recorded_terminal.specs.declared.watch.Marked.{Marked}
 use Rattle.recorded_terminal.specs.declared.watch.Unexplained.{Unexplained}
 use Rattle.recorded_terminal.specs.declared.later.Gaps.{Gaps as Counted}
@@ -21,10 +21,13 @@ use Rattle.recorded_terminal.specs.declared.later.WatchPhase.TheVariants.{Sought
 use Rattle.recorded_terminal.specs.declared.later.LaterWatch.{LaterWatch}
 use Rattle.recorded_terminal.specs.declared.later.FreshPart.{FreshPart}
 use Rattle.recorded_terminal.specs.Sightings.{shown_sighting}
-use Rattle.recorded_terminal.specs.Watched.{seen_in}
-use Rattle.recorded_terminal.specs.Judged.{shown_gaps, CanBegin, IsExplainedBegun, IsUnexplainedBy, IsUnexplainedBegunAt, WatchBegun, unless_asks, IsPartOf, IsBegun, WatchesPart, WatchesLater, IsJudged}
+use Rattle.terminal_state.specs.declared.buses.OnBuses.{OnBuses}
+use Rattle.recorded_terminal.specs.Follows.{shut_down}
+use Rattle.recorded_terminal.specs.Watched.{masked_in, seen_in, IsUnexplainedBy}
+use Rattle.recorded_terminal.specs.Judged.{shown_gaps, CanBegin, IsExplainedBegun, IsUnexplainedBegunAt, WatchBegun, unless_asks, IsPartOf, IsBegun, WatchesPart, WatchesLater, IsJudged}
 use Rattle.recorded_terminal.specs.inner.Gaps.{at_most_two, AreGaps, IsPartWith}
 use Rattle.recorded_terminal.proofs.WatchLaws.{seen_append, are_recording}
+use Rattle.recorded_terminal.proofs.BeginningLaws.{begun_some}
 
 -- ---- gaps that are counted alike
 
@@ -225,44 +228,46 @@ watches_sought is_legal P ms m w Begun n i is =
 watches_sought is_legal P ms m w Afresh n i is = absurd is
 
 watches_begun : {L : Type 0} (is_legal : L → Cell → Bool) (P : Description) (ms : List Marked) (m : Marked) (w v : LaterWatch L) (k : Counted) (q : WatchPhase) → WatchesPart is_legal P ms w (Sought k) →
-    IsPartWith P (Sought k) (shown_sighting m.sighting) q → ((n : Counted) → q ≡ Sought n → ⊥) → v.after ≡ m.line → WatchBegun is_legal P [] v.beginnings → WatchesPart is_legal P (ms ++ m ∷ []) v q
-watches_begun is_legal P ms m w v k (Sought n) part is not_sought line watches = absurd (not_sought n refl)
-watches_begun is_legal P ms m w v k Begun part is not_sought line watches = record {
+    IsPartWith P (Sought k) (shown_sighting m.sighting) q → ((n : Counted) → q ≡ Sought n → ⊥) → v.after ≡ m.line → v.before ≡ suc (length ms) → WatchBegun is_legal P [] v.beginnings → WatchesPart is_legal P (ms ++ m ∷ []) v q
+watches_begun is_legal P ms m w v k (Sought n) part is not_sought line before watches = absurd (not_sought n refl)
+watches_begun is_legal P ms m w v k Begun part is not_sought line before watches = record {
   front = ms;
   pause = m;
   part = [];
   all = refl;
   line = line;
+  before = before;
   watches = watches;
   is_part = subst (λ l. IsPartOf P l [] Begun) (sym (seen_append ms (m ∷ []))) (begun_by P (seen_in ms) (shown_sighting m.sighting) k part is);
 }
-watches_begun is_legal P ms m w v k Afresh part is not_sought line watches = absurd is
+watches_begun is_legal P ms m w v k Afresh part is not_sought line before watches = absurd is
 
-part_more : {L : Type 0} (is_legal : L → Cell → Bool) (P : Description) (ms : List Marked) (m : Marked) (w v : LaterWatch L) (p q : WatchPhase) (i : IsBegun is_legal P ms w p) → v.after ≡ w.after →
+part_more : {L : Type 0} (is_legal : L → Cell → Bool) (P : Description) (ms : List Marked) (m : Marked) (w v : LaterWatch L) (p q : WatchPhase) (i : IsBegun is_legal P ms w p) → v.after ≡ w.after → v.before ≡ w.before →
     WatchBegun is_legal P (i.part ++ m ∷ []) v.beginnings → IsPartOf P (seen_in ms ++ shown_sighting m.sighting ∷ []) (seen_in i.part ++ shown_sighting m.sighting ∷ []) q → IsBegun is_legal P (ms ++ m ∷ []) v q
-part_more is_legal P ms m w v p q i same watches x = record {
+part_more is_legal P ms m w v p q i same stays watches x = record {
   front = i.front;
   pause = i.pause;
   part = i.part ++ m ∷ [];
   all = ap (λ l. l ++ m ∷ []) i.all ∙ append_assoc i.front (i.pause ∷ i.part) (m ∷ []);
   line = same ∙ i.line;
+  before = stays ∙ i.before;
   watches = watches;
   is_part = one_more_seen P ms i.part m q x;
 }
 
 watches_more : {L : Type 0} (is_legal : L → Cell → Bool) (P : Description) (ms : List Marked) (m : Marked) (w v : LaterWatch L) (p q : WatchPhase) → WatchesPart is_legal P ms w p →
-    IsPartWith P p (shown_sighting m.sighting) q → ((n : Counted) → p ≡ Sought n → ⊥) → ((n : Counted) → q ≡ Sought n → ⊥) → v.after ≡ w.after →
+    IsPartWith P p (shown_sighting m.sighting) q → ((n : Counted) → p ≡ Sought n → ⊥) → ((n : Counted) → q ≡ Sought n → ⊥) → v.after ≡ w.after → v.before ≡ w.before →
     ((ns : List Marked) → WatchBegun is_legal P ns w.beginnings → WatchBegun is_legal P (ns ++ m ∷ []) v.beginnings) → WatchesPart is_legal P (ms ++ m ∷ []) v q
-watches_more is_legal P ms m w v (Sought k) q i is not_sought still same sees = absurd (not_sought k refl)
-watches_more is_legal P ms m w v Begun (Sought n) i is not_sought still same sees = absurd (still n refl)
-watches_more is_legal P ms m w v Begun Begun i is not_sought still same sees =
-    part_more is_legal P ms m w v Begun Begun i same (sees i.part i.watches) (begun_on P (seen_in ms) (seen_in i.part) (shown_sighting m.sighting) i.is_part is)
-watches_more is_legal P ms m w v Begun Afresh i is not_sought still same sees =
-    part_more is_legal P ms m w v Begun Afresh i same (sees i.part i.watches) (afresh_by P (seen_in ms) (seen_in i.part) (shown_sighting m.sighting) i.is_part is)
-watches_more is_legal P ms m w v Afresh (Sought n) i is not_sought still same sees = absurd is
-watches_more is_legal P ms m w v Afresh Begun i is not_sought still same sees = absurd is
-watches_more is_legal P ms m w v Afresh Afresh i is not_sought still same sees =
-    part_more is_legal P ms m w v Afresh Afresh i same (sees i.part i.watches) (afresh_on P (seen_in ms) (seen_in i.part) (shown_sighting m.sighting) i.is_part)
+watches_more is_legal P ms m w v (Sought k) q i is not_sought still same stays sees = absurd (not_sought k refl)
+watches_more is_legal P ms m w v Begun (Sought n) i is not_sought still same stays sees = absurd (still n refl)
+watches_more is_legal P ms m w v Begun Begun i is not_sought still same stays sees =
+    part_more is_legal P ms m w v Begun Begun i same stays (sees i.part i.watches) (begun_on P (seen_in ms) (seen_in i.part) (shown_sighting m.sighting) i.is_part is)
+watches_more is_legal P ms m w v Begun Afresh i is not_sought still same stays sees =
+    part_more is_legal P ms m w v Begun Afresh i same stays (sees i.part i.watches) (afresh_by P (seen_in ms) (seen_in i.part) (shown_sighting m.sighting) i.is_part is)
+watches_more is_legal P ms m w v Afresh (Sought n) i is not_sought still same stays sees = absurd is
+watches_more is_legal P ms m w v Afresh Begun i is not_sought still same stays sees = absurd is
+watches_more is_legal P ms m w v Afresh Afresh i is not_sought still same stays sees =
+    part_more is_legal P ms m w v Afresh Afresh i same stays (sees i.part i.watches) (afresh_on P (seen_in ms) (seen_in i.part) (shown_sighting m.sighting) i.is_part)
 
 abbrev own : {L : Type 0} → (L → Cell → Bool) → LaterWatch L → Description
 own is_legal w = described w.setup (is_legal w.legality)
@@ -270,11 +275,15 @@ own is_legal w = described w.setup (is_legal w.legality)
 part_with : {L : Type 0} (is_legal : L → Cell → Bool) (P : Description) (w : LaterWatch L) (p q r : WatchPhase) (s : Sighting) → own is_legal w ≡ P → p ≡ r → IsPartWith (own is_legal w) p s q → IsPartWith P r s q
 part_with is_legal P w p q r s same is x = subst (λ D. IsPartWith D r s q) same (subst (λ p. IsPartWith (own is_legal w) p s q) is x)
 
+counted_more : {L : Type 0} (is_legal : L → Cell → Bool) (P : Description) (ms : List Marked) (m : Marked) (w v : LaterWatch L) → WatchesLater is_legal P ms w → v.seen ≡ w.seen + 1 → v.seen ≡ length (ms ++ m ∷ [])
+counted_more is_legal P ms m w v watches seen = omega (arith, seen, watches.counted, length-append ms (m ∷ []))
+
 pub sees_sought : {L : Type 0} (is_legal : L → Cell → Bool) (P : Description) (ms : List Marked) (m : Marked) (w v : LaterWatch L) (n : Counted) → WatchesLater is_legal P ms w →
-    own is_legal v ≡ own is_legal w → IsPartWith (own is_legal w) w.part (shown_sighting m.sighting) v.part → v.part ≡ Sought n → WatchesLater is_legal P (ms ++ m ∷ []) v
-sees_sought is_legal P ms m w v n watches same with is = record {
+    own is_legal v ≡ own is_legal w → v.seen ≡ w.seen + 1 → IsPartWith (own is_legal w) w.part (shown_sighting m.sighting) v.part → v.part ≡ Sought n → WatchesLater is_legal P (ms ++ m ∷ []) v
+sees_sought is_legal P ms m w v n watches same seen with is = record {
   description = same ∙ watches.description;
   can = watches.can;
+  counted = counted_more is_legal P ms m w v watches seen;
   watches =
       subst (WatchesPart is_legal P (ms ++ m ∷ []) v) (sym is)
       (watches_sought is_legal P ms m w w.part n watches.watches
@@ -282,53 +291,51 @@ sees_sought is_legal P ms m w v n watches same with is = record {
 }
 
 pub sees_begun : {L : Type 0} (is_legal : L → Cell → Bool) (P : Description) (ms : List Marked) (m : Marked) (w v : LaterWatch L) (k : Counted) → WatchesLater is_legal P ms w →
-    own is_legal v ≡ own is_legal w → IsPartWith (own is_legal w) w.part (shown_sighting m.sighting) v.part → w.part ≡ Sought k → ((n : Counted) → v.part ≡ Sought n → ⊥) → v.after ≡ m.line →
+    own is_legal v ≡ own is_legal w → v.seen ≡ w.seen + 1 → IsPartWith (own is_legal w) w.part (shown_sighting m.sighting) v.part → w.part ≡ Sought k → ((n : Counted) → v.part ≡ Sought n → ⊥) → v.after ≡ m.line → v.before ≡ v.seen →
     WatchBegun is_legal (own is_legal w) [] v.beginnings → WatchesLater is_legal P (ms ++ m ∷ []) v
-sees_begun is_legal P ms m w v k watches same with is not_sought line fresh = record {
+sees_begun is_legal P ms m w v k watches same seen with is not_sought line before fresh = record {
   description = same ∙ watches.description;
   can = watches.can;
+  counted = counted_more is_legal P ms m w v watches seen;
   watches =
       watches_begun is_legal P ms m w v k v.part (subst (WatchesPart is_legal P ms w) is watches.watches)
       (part_with is_legal P w w.part v.part (Sought k) (shown_sighting m.sighting) watches.description is with) not_sought line
+      (before ∙ seen ∙ add-one w.seen ∙ ap suc watches.counted)
       (subst (λ D. WatchBegun is_legal D [] v.beginnings) watches.description fresh);
 }
 
 pub sees_more : {L : Type 0} (is_legal : L → Cell → Bool) (P : Description) (ms : List Marked) (m : Marked) (w v : LaterWatch L) → WatchesLater is_legal P ms w →
-    own is_legal v ≡ own is_legal w → IsPartWith (own is_legal w) w.part (shown_sighting m.sighting) v.part → ((n : Counted) → w.part ≡ Sought n → ⊥) → ((n : Counted) → v.part ≡ Sought n → ⊥) →
-    v.after ≡ w.after → ((ns : List Marked) → WatchBegun is_legal P ns w.beginnings → WatchBegun is_legal P (ns ++ m ∷ []) v.beginnings) → WatchesLater is_legal P (ms ++ m ∷ []) v
-sees_more is_legal P ms m w v watches same with not_sought still line sees = record {
+    own is_legal v ≡ own is_legal w → v.seen ≡ w.seen + 1 → IsPartWith (own is_legal w) w.part (shown_sighting m.sighting) v.part → ((n : Counted) → w.part ≡ Sought n → ⊥) → ((n : Counted) → v.part ≡ Sought n → ⊥) →
+    v.after ≡ w.after → v.before ≡ w.before → ((ns : List Marked) → WatchBegun is_legal P ns w.beginnings → WatchBegun is_legal P (ns ++ m ∷ []) v.beginnings) → WatchesLater is_legal P (ms ++ m ∷ []) v
+sees_more is_legal P ms m w v watches same seen with not_sought still line before sees = record {
   description = same ∙ watches.description;
   can = watches.can;
+  counted = counted_more is_legal P ms m w v watches seen;
   watches =
       watches_more is_legal P ms m w v w.part v.part watches.watches
-      (part_with is_legal P w w.part v.part w.part (shown_sighting m.sighting) watches.description refl with) not_sought still line sees;
+      (part_with is_legal P w w.part v.part w.part (shown_sighting m.sighting) watches.description refl with) not_sought still line before sees;
 }
 
 -- ---- the part that is judged
 
-later_of_begun : (P : Description) → CanBegin P → (xs : List Sighting) → IsExplainedBegun P xs → IsExplainedLater P xs
-later_of_begun P can xs (shut, x) = (shutting P shut, shutting_proper P shut can.address, (shutting_leaves P shut can.address can.shutdown).quiet, x)
+later_of_begun : (P : Description) → CanBegin P → (ms : List MaskedSighting) → ExplainsSome (IsExplainedBegun P) ms → ExplainsSome (IsExplainedLater P) ms
+later_of_begun P can ms (recording, fits, (shut, x)) =
+    (recording, fits, (shutting P shut, shutting_proper P shut can.address, (shutting_leaves P shut can.address can.shutdown).quiet, x))
 
-begun_of_later : (P : Description) → CanBegin P → (xs : List Sighting) → IsRecording xs → BeginsAfresh P xs → IsExplainedLater P xs → IsExplainedBegun P xs
-begun_of_later P can xs r afresh x =
-    let s = (later_law.decided P xs can.address can.shutdown r afresh).0 x in
-    (s.0, (recording_law.decided P (shut_history P s.0) xs can.address r).1 s.1)
+begun_of_later : (P : Description) → CanBegin P → (ms : List Marked) → BeginsAfresh P (seen_in ms) → ExplainsSome (IsExplainedLater P) (masked_in ms) → ExplainsSome (IsExplainedBegun P) (masked_in ms)
+begun_of_later P can ms afresh x = begun_some P (masked_in ms) ((mask_law.later P (masked_in ms) can.address can.shutdown (are_recording ms) afresh).0 x)
 
 unexplained_later : (P : Description) → CanBegin P → (part : List Marked) → BeginsAfresh P (seen_in part) → (it : Unexplained) → IsUnexplainedBegunAt P part it → IsUnexplainedBy (IsExplainedLater P) part it
 unexplained_later P can part afresh it i =
-    let s : Sighting = shown_sighting it.marked.sighting in
-    let front : List Sighting = seen_in i.before ++ s ∷ [] in
-    let cut : seen_in part ≡ front ++ seen_in i.later =
-    ap seen_in i.all ∙ seen_append i.before (it.marked ∷ i.later) ∙ sym (append_assoc (seen_in i.before) (s ∷ []) (seen_in i.later)) in
+    let front : List Marked = i.before ++ it.marked ∷ [] in
+    let cut : seen_in part ≡ seen_in front ++ seen_in i.later = ap seen_in (i.all ∙ sym (append_assoc i.before (it.marked ∷ []) i.later)) ∙ seen_append front i.later in
     record {
       before = i.before;
       later = i.later;
       all = i.all;
-      explained = later_of_begun P can (seen_in i.before) i.explained;
-      unexplained = λ x.
-          i.unexplained
-          (begun_of_later P can front (subst IsRecording (seen_append i.before (it.marked ∷ [])) (are_recording (i.before ++ it.marked ∷ [])))
-          (afresh_front P front (seen_in i.later) (subst (BeginsAfresh P) cut afresh)) x);
+      number = i.number;
+      explained = later_of_begun P can (masked_in i.before) i.explained;
+      unexplained = λ x. i.unexplained (begun_of_later P can front (afresh_front P (seen_in front) (seen_in i.later) (subst (BeginsAfresh P) cut afresh)) x);
       possible = later_of_begun P can _ i.possible;
     }
 
@@ -353,9 +360,11 @@ begun_of is_legal P ms w (Sought k) not_sought x = absurd (not_sought k refl)
 begun_of is_legal P ms w Begun not_sought x = x
 begun_of is_legal P ms w Afresh not_sought x = x
 
-pub judged : {L : Type 0} (is_legal : L → Cell → Bool) (P : Description) → CanBegin P → (ms : List Marked) (w : LaterWatch L) (p : WatchPhase) (r : Option Unexplained) → ((n : Counted) → p ≡ Sought n → ⊥) →
-    (i : IsBegun is_legal P ms w p) → ((r ≡ None) ↔ IsExplainedBegun P (seen_in i.part)) → IfSome r (IsUnexplainedBegunAt P i.part) → IsJudged P ms (record { after = w.after; first = r })
-judged is_legal P can ms w p r not_sought i explained first =
+pub judged : {L : Type 0} (is_legal : L → Cell → Bool) (P : Description) → CanBegin P → (ms : List Marked) (w : LaterWatch L) (p : WatchPhase) (shut : OnBuses) (r : Option Unexplained) → ((n : Counted) → p ≡ Sought n → ⊥) →
+    (i : IsBegun is_legal P ms w p) → ((r ≡ None) ↔ ExplainsSome (IsExplainedBegun P) (masked_in i.part)) → IfSome r (IsUnexplainedBegunAt P i.part) →
+    (r ≡ None → ExplainsSome (IsExplainedAfter P (shut_history P (shut_down shut))) (masked_in i.part)) →
+    IsJudged P ms (record { after = w.after; before = w.before; shut = shut; first = r })
+judged is_legal P can ms w p shut r not_sought i explained first begins =
     let now = part_now P (seen_in ms) (seen_in i.part) p not_sought i.is_part in
     record {
       front = i.front;
@@ -363,11 +372,13 @@ judged is_legal P can ms w p r not_sought i explained first =
       part = i.part;
       all = i.all;
       line = i.line;
+      before = i.before;
       is_part = now.0;
       explained = (
-        λ none. later_of_begun P can (seen_in i.part) (explained.0 none),
-        λ x. explained.1 (begun_of_later P can (seen_in i.part) (are_recording i.part) now.1 x),
+        λ none. later_of_begun P can (masked_in i.part) (explained.0 none),
+        λ x. explained.1 (begun_of_later P can i.part now.1 x),
       );
+      begins = begins;
       first = by r first now.1;
     }
   where

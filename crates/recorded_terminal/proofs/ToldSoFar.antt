@@ -8,8 +8,8 @@ use Rattle.terminal_rules.specs.declared.event.Event.{Event}
 use Rattle.terminal_rules.specs.Past.{history_after}
 use Rattle.terminal_rules.specs.Same.{AreProper}
 use Rattle.terminal_rules.specs.Out.{out, sent_in}
-use Rattle.terminal_recordings.specs.Recordings.{sightings}
-use Rattle.terminal_recordings.specs.Completion.{next_status, shown_from, shown_of}
+use Rattle.terminal_recordings.specs.Recordings.{sightings_from}
+use Rattle.terminal_recordings.specs.Completion.{next_status, shown_from}
 use Rattle.terminal_recordings.proofs.Law.{proper_join}
 use Rattle.terminal_recordings.proofs.Tests.{is_sighting}
 use Rattle.terminal_recordings.proofs.Told.{sightings_quiet, sightings_more}
@@ -21,52 +21,51 @@ use Rattle.recorded_terminal.specs.Follows.{FollowsAt, told_by, AreTold}
 use Rattle.recorded_terminal.proofs.SoFar.{shown_more}
 use Rattle.recorded_terminal.proofs.TellLaws.{history_join}
 
--- the events of the first n sightings, at which the terminal stands as at what is told of them in full
-pub record ToldSoFar {L : Type 0} (is_legal : L → Cell → Bool) (P : Description) (xs : List Seen) (n : ℕ) (next : Option ℕ) (events : List Event) (f : Follower L) : Type 0 where
+-- the events of the first n sightings after a history, at which the terminal stands as at what is told of them in full
+pub record ToldSoFar {L : Type 0} (is_legal : L → Cell → Bool) (P : Description) (begun : List Event) (xs : List Seen) (n : ℕ) (next : Option ℕ) (events : List Event) (f : Follower L) : Type 0 where
   pub history : List Event
   pub follows : FollowsAt is_legal P history f
-  pub follows_told : FollowsAt is_legal P (history_after events []) f
+  pub follows_told : FollowsAt is_legal P (history_after events begun) f
   pub status : next ≡ next_status (recorded (drop n xs))
-  pub shown : shown_of P (recorded xs) ≡ sightings P events ++ shown_from P history (recorded (drop n xs))
+  pub shown : shown_from P begun (recorded xs) ≡ sightings_from P begun events ++ shown_from P history (recorded (drop n xs))
   pub proper : AreProper events
 
 -- what is seen of one sighting more
-seen_more : (P : Description) (events told : List Event) (x : Seen) (sent : Option Sent) → AreTold told →
-    word_shown sent ≡ sent_in (out P (history_after told (history_after events [])) x.event) →
-    sightings P (events ++ (told ++ x.event ∷ [])) ≡ sightings P events ++ (record { event = x.event; sent = word_shown sent } ∷ [])
-seen_more P events told x sent are sends =
-    let k : List Event = history_after told (history_after events []) in
-    sightings_more P events [] (told ++ x.event ∷ [])
-    ∙ (ap (λ l. sightings P events ++ l) (sightings_quiet P told (history_after events []) (x.event ∷ []) are.0)
-    ∙ (ap (λ t. sightings P events ++ (if t then record { event = x.event; sent = sent_in (out P k x.event) } ∷ [] else [])) (is_sighting (shown_sighting x) x.seen x.bits).seen
-    ∙ (λ j. sightings P events ++ (record { event = x.event; sent = sym sends j } ∷ []))))
+seen_more : (P : Description) (begun events told : List Event) (x : Seen) (sent : Option Sent) → AreTold told →
+    word_shown sent ≡ sent_in (out P (history_after told (history_after events begun)) x.event) →
+    sightings_from P begun (events ++ (told ++ x.event ∷ [])) ≡ sightings_from P begun events ++ (record { event = x.event; sent = word_shown sent } ∷ [])
+seen_more P begun events told x sent are sends =
+    let k : List Event = history_after told (history_after events begun) in
+    sightings_more P events begun (told ++ x.event ∷ [])
+    ∙ (ap (λ l. sightings_from P begun events ++ l) (sightings_quiet P told (history_after events begun) (x.event ∷ []) are.0)
+    ∙ (ap (λ t. sightings_from P begun events ++ (if t then record { event = x.event; sent = sent_in (out P k x.event) } ∷ [] else [])) (is_sighting (shown_sighting x) x.seen x.bits).seen
+    ∙ (λ j. sightings_from P begun events ++ (record { event = x.event; sent = sym sends j } ∷ []))))
 
 -- and one sighting further
-pub told_more : {L : Type 0} (is_legal : L → Cell → Bool) (P : Description) (xs : List Seen) (n m : ℕ) (x : Seen) (next more : Option ℕ) (events told new : List Event) (sent : Option Sent) (f g : Follower L) →
-    m ≡ suc n → drop n xs ≡ x ∷ drop (suc n) xs → new ≡ (events ++ told) ++ x.event ∷ [] → AreTold told → (s : ToldSoFar is_legal P xs n next events f) →
+pub told_more : {L : Type 0} (is_legal : L → Cell → Bool) (P : Description) (begun : List Event) (xs : List Seen) (n m : ℕ) (x : Seen) (next more : Option ℕ) (events told : List Event) (sent : Option Sent) (f g : Follower L) →
+    m ≡ suc n → drop n xs ≡ x ∷ drop (suc n) xs → AreTold told → (s : ToldSoFar is_legal P begun xs n next events f) →
     word_shown sent ≡ sent_in (out P (history_after (told_by P s.history next (word_shown x.sent)) s.history) x.event) →
-    word_shown sent ≡ sent_in (out P (history_after told (history_after events [])) x.event) →
+    word_shown sent ≡ sent_in (out P (history_after told (history_after events begun)) x.event) →
     FollowsAt is_legal P (x.event ∷ history_after (told_by P s.history next (word_shown x.sent)) s.history) g →
-    FollowsAt is_legal P (x.event ∷ history_after told (history_after events [])) g →
-    more ≡ next_status (recorded (drop (suc n) xs)) → ToldSoFar is_legal P xs m more new g
-told_more is_legal P xs n m x next more events told new sent f g e cut is are s sends sends_told stands stands_told status =
-    let all : new ≡ events ++ (told ++ x.event ∷ []) = is ∙ append_assoc events told (x.event ∷ []) in
+    FollowsAt is_legal P (x.event ∷ history_after told (history_after events begun)) g →
+    more ≡ next_status (recorded (drop (suc n) xs)) → ToldSoFar is_legal P begun xs m more (events ++ (told ++ x.event ∷ [])) g
+told_more is_legal P begun xs n m x next more events told sent f g e cut are s sends sends_told stands stands_told status =
     let k : List Event = history_after (told_by P s.history next (word_shown x.sent)) s.history in
-    let front : sightings P events ++ (record { event = x.event; sent = word_shown sent } ∷ []) ≡ sightings P new = sym (ap (sightings P) all ∙ seen_more P events told x sent are sends_told) in
+    let front : sightings_from P begun events ++ (record { event = x.event; sent = word_shown sent } ∷ []) ≡ sightings_from P begun (events ++ (told ++ x.event ∷ [])) = sym (seen_more P begun events told x sent are sends_told) in
     record {
       history = x.event ∷ k;
       follows = stands;
-      follows_told = subst (λ (h : List Event). FollowsAt is_legal P h g) (sym (ap (λ es. history_after es []) all ∙ (history_join events (told ++ x.event ∷ []) [] ∙ history_join told (x.event ∷ []) (history_after events [])))) stands_told;
+      follows_told = subst (λ (h : List Event). FollowsAt is_legal P h g) (sym (history_join events (told ++ x.event ∷ []) begun ∙ history_join told (x.event ∷ []) (history_after events begun))) stands_told;
       status = status ∙ ap (λ i. next_status (recorded (drop i xs))) (sym e);
       shown =
-          shown_more P xs n x next s.history sent (sightings P events) cut s.status s.shown sends
-          ∙ (sym (append_assoc (sightings P events) (record { event = x.event; sent = word_shown sent } ∷ []) (shown_from P (x.event ∷ k) (recorded (drop (suc n) xs))))
+          shown_more P xs n x next s.history sent (shown_from P begun (recorded xs)) (sightings_from P begun events) cut s.status s.shown sends
+          ∙ (sym (append_assoc (sightings_from P begun events) (record { event = x.event; sent = word_shown sent } ∷ []) (shown_from P (x.event ∷ k) (recorded (drop (suc n) xs))))
           ∙ (λ j. front j ++ shown_from P (x.event ∷ k) (recorded (drop (sym e j) xs))));
-      proper = subst (λ (es : List Event). AreProper es) (sym all) (proper_join events (told ++ x.event ∷ []) s.proper (proper_join told (x.event ∷ []) are.1 ((is_sighting (shown_sighting x) x.seen x.bits).proper, tt)));
+      proper = proper_join events (told ++ x.event ∷ []) s.proper (proper_join told (x.event ∷ []) are.1 ((is_sighting (shown_sighting x) x.seen x.bits).proper, tt));
     }
 
 -- all of them
-pub told_all : (P : Description) (xs : List Seen) (n : ℕ) (k events : List Event) → length xs ≤ n →
-    shown_of P (recorded xs) ≡ sightings P events ++ shown_from P k (recorded (drop n xs)) → sightings P events ≡ shown_of P (recorded xs)
-told_all P xs n k events m e =
-    sym (e ∙ (ap (λ t. sightings P events ++ shown_from P k (recorded t)) (drop_of_length-le xs m) ∙ append-nil (sightings P events)))
+pub told_all : (P : Description) (begun : List Event) (xs : List Seen) (n : ℕ) (k events : List Event) → length xs ≤ n →
+    shown_from P begun (recorded xs) ≡ sightings_from P begun events ++ shown_from P k (recorded (drop n xs)) → sightings_from P begun events ≡ shown_from P begun (recorded xs)
+told_all P begun xs n k events m e =
+    sym (e ∙ (ap (λ t. sightings_from P begun events ++ shown_from P k (recorded t)) (drop_of_length-le xs m) ∙ append-nil (sightings_from P begun events)))

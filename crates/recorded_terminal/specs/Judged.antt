@@ -1,6 +1,6 @@
 -- A recording that began at any time: the part of it that is judged, and the first sighting there that no behaviour of the subsystem
 -- explains, whatever came before.
-use Rattle.std.specs.Prelude.{ℕ, ◌≤◌, ◌↔◌, true, false, Option, Some, None, IfSome, ◌≡◌, Bool, if◌then◌else◌, List, [], ◌∷◌, ◌++◌}
+use Rattle.std.specs.Prelude.{ℕ, suc, length, ◌≤◌, ◌↔◌, true, false, Option, Some, None, IfSome, ◌≡◌, Bool, if◌then◌else◌, List, [], ◌∷◌, ◌++◌}
 use Rattle.bus_word.specs.declared.cell.Cell.{Cell}
 use Rattle.bus_word.specs.declared.cell.Cell.TheVariants.{OwnMode}
 use Rattle.bus_word.specs.Mode as mode
@@ -8,6 +8,7 @@ use Rattle.bus_legal.specs.Description.{Description, described}
 use Rattle.terminal_rules.specs.Status.{spares}
 use Rattle.terminal_recordings.specs.Recordings.{Sighting, IsExplainedAfter}
 use Rattle.terminal_recordings.specs.Later.{IsExplainedLater, Gaps, no_gaps, fresh_part, first_command, asks_back, ShutDown, shut_history}
+use Rattle.terminal_recordings.specs.Masks.{ExplainsSome}
 use Rattle.recorded_terminal.specs.declared.watch.Marked.{Marked}
 use Rattle.recorded_terminal.specs.declared.watch.Unexplained.{Unexplained}
 use Rattle.recorded_terminal.specs.declared.watch.Watch.{Watch}
@@ -17,21 +18,12 @@ use Rattle.recorded_terminal.specs.declared.later.WatchPhase.TheVariants.{Sought
 use Rattle.recorded_terminal.specs.declared.later.FreshPart.{FreshPart}
 use Rattle.recorded_terminal.specs.declared.later.LaterWatch.{LaterWatch}
 use Rattle.recorded_terminal.specs.declared.later.Gaps.{Gaps as Counted}
-use Rattle.recorded_terminal.specs.Sightings.{shown_sighting}
-use Rattle.recorded_terminal.specs.Watched.{seen_in, sighting_instead, Watches}
+use Rattle.recorded_terminal.specs.Follows.{shut_down}
+use Rattle.recorded_terminal.specs.Watched.{masked_in, seen_in, IsUnexplainedBy, Watches}
 
 -- it is explained after one of the four beginnings
 abbrev pub IsExplainedBegun : Description → List Sighting → Type 0
 IsExplainedBegun P recording = (shut : ShutDown) × IsExplainedAfter P (shut_history P shut) recording
-
--- The sightings before one are explained, and with it they are not, but with another word sent in it, or none.
-pub record IsUnexplainedBy (explains : List Sighting → Type 0) (ms : List Marked) (it : Unexplained) : Type 0 where
-  pub before : List Marked
-  pub later : List Marked
-  pub all : ms ≡ before ++ it.marked ∷ later
-  pub explained : explains (seen_in before)
-  pub unexplained : explains (seen_in before ++ shown_sighting it.marked.sighting ∷ []) → ⊥
-  pub possible : explains (seen_in before ++ sighting_instead it ∷ [])
 
 -- so it is after the four beginnings
 abbrev pub IsUnexplainedBegunAt : Description → List Marked → Unexplained → Type 0
@@ -76,6 +68,7 @@ pub record IsBegun {L : Type 0} (is_legal : L → Cell → Bool) (P : Descriptio
   pub part : List Marked
   pub all : ms ≡ front ++ pause ∷ part
   pub line : w.after ≡ pause.line
+  pub before : w.before ≡ suc (length front)
   pub watches : WatchBegun is_legal P part w.beginnings
   pub is_part : IsPartOf P (seen_in ms) (seen_in part) p
 
@@ -87,16 +80,19 @@ WatchesPart is_legal P ms w p = IsBegun is_legal P ms w p
 pub record WatchesLater {L : Type 0} (is_legal : L → Cell → Bool) (P : Description) (ms : List Marked) (w : LaterWatch L) : Type 0 where
   pub description : described w.setup (is_legal w.legality) ≡ P
   pub can : CanBegin P
+  pub counted : w.seen ≡ length ms
   pub watches : WatchesPart is_legal P ms w w.part
 
 -- The part of a recording that is judged: it comes after the slot that ends a pause. Nothing is told exactly if it is explained, whatever
--- came before; else the first sighting in it that nothing explains.
+-- came before, as it is then after the beginning that is told; else the first sighting in it that nothing explains.
 pub record IsJudged (P : Description) (ms : List Marked) (judged : FreshPart) : Type 0 where
   pub front : List Marked
   pub pause : Marked
   pub part : List Marked
   pub all : ms ≡ front ++ pause ∷ part
   pub line : judged.after ≡ pause.line
+  pub before : judged.before ≡ suc (length front)
   pub is_part : fresh_part P no_gaps (seen_in ms) ≡ Some (seen_in part)
-  pub explained : (judged.first ≡ None) ↔ IsExplainedLater P (seen_in part)
+  pub explained : (judged.first ≡ None) ↔ ExplainsSome (IsExplainedLater P) (masked_in part)
+  pub begins : judged.first ≡ None → ExplainsSome (IsExplainedAfter P (shut_history P (shut_down judged.shut))) (masked_in part)
   pub first : IfSome judged.first (IsUnexplainedBy (IsExplainedLater P) part)

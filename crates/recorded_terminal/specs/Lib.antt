@@ -6,4 +6,5 @@ pub mod Sightings
 pub mod Follows
 pub mod Watched
 pub mod Judged
+pub mod Behaviour
 pub mod inner

@@ -2,10 +2,14 @@
 //! shut down.
 ghost use Rattle.std.specs.Prelude.{◌≡◌, ◌↔◌, ◌++◌, ◌∷◌, [], List, IfSome, None, OnOk};
 ghost use Rattle.bus_legal.specs.Description.{Description, described};
+ghost use Rattle.terminal_recordings.specs.Recordings.{IsExplainedAfter};
+ghost use Rattle.terminal_recordings.specs.Later.{shut_history};
 ghost use Rattle.recorded_terminal.specs.declared.watch.Marked.{Marked};
-ghost use Rattle.recorded_terminal.specs.Watched.{seen_in};
+ghost use Rattle.recorded_terminal.specs.Follows.{shut_down};
+ghost use Rattle.recorded_terminal.specs.Watched.{masked_in};
+ghost use Rattle.terminal_recordings.specs.Masks.{ExplainsSome};
 ghost use Rattle.recorded_terminal.specs.Judged.{IsExplainedBegun, IsUnexplainedBegunAt, WatchBegun};
-ghost use Rattle.recorded_terminal.specs.inner.Latest.{IsLatest};
+ghost use Rattle.recorded_terminal.specs.inner.Latest.{IsBetter};
 
 use crate::watch::{Marked, Unexplained, Watch};
 use bus_legal::{Legality, Setup};
@@ -24,14 +28,24 @@ pub struct Beginnings<L> {
     both: Watch<L>,
 }
 
-/// The later of two sightings, or none where there is one that is none.
-fn later_of(one: Option<Unexplained>, other: Option<Unexplained>) -> Option<Unexplained>
-    ensures { IsLatest one other result }
+/// What comes of the watch of a beginning.
+#[derive(Clone, Copy)]
+pub struct BestBeginning {
+    /// The transmitters that are shut down.
+    pub shut: OnBuses,
+    /// The first sighting that no behaviour of the subsystem explains after it.
+    pub first: Option<Unexplained>,
+}
+
+/// The one of two after which more is explained.
+fn better_of(one: BestBeginning, other: BestBeginning) -> BestBeginning
+    ensures { IsBetter one other result }
 {
-    match (one, other) {
-        (Some(one), Some(other)) if one.number < other.number => Some(other),
-        (Some(one), Some(_)) => Some(one),
-        _ => None,
+    match (one.first, other.first) {
+        (None, _) => one,
+        (_, None) => other,
+        (Some(first), Some(second)) if first.number < second.number => other,
+        _ => one,
     }
 }
 
@@ -59,12 +73,30 @@ impl<L: Legality + Drop + Copy> Beginnings<L> {
         Ok(())
     }
 
-    /// Gives the first sighting that no behaviour of the subsystem explains after any of the beginnings. None where one explains all.
-    pub fn end(self) -> Option<Unexplained>
-        ensures explained { (P : Description) (ms : List Marked) → WatchBegun L.is_legal P ms self → ((result ≡ None) ↔ IsExplainedBegun P (seen_in ms)) }
-        ensures first { (P : Description) (ms : List Marked) → WatchBegun L.is_legal P ms self → IfSome result (IsUnexplainedBegunAt P ms) }
+    /// Gives the beginning after which most is explained, and the first sighting that no behaviour of the subsystem explains after any.
+    /// None where one explains all, as this one does then.
+    pub fn end(self) -> BestBeginning
+        ensures explained { (P : Description) (ms : List Marked) → WatchBegun L.is_legal P ms self → ((result.first ≡ None) ↔ ExplainsSome (IsExplainedBegun P) (masked_in ms)) }
+        ensures first { (P : Description) (ms : List Marked) → WatchBegun L.is_legal P ms self → IfSome result.first (IsUnexplainedBegunAt P ms) }
+        ensures begins { (P : Description) (ms : List Marked) → WatchBegun L.is_legal P ms self → result.first ≡ None → ExplainsSome (IsExplainedAfter P (shut_history P (shut_down result.shut))) (masked_in ms) }
     {
         let Beginnings { none, a, b, both } = self;
-        later_of(later_of(none.end(), a.end()), later_of(b.end(), both.end()))
+        let none = BestBeginning {
+            shut: OnBuses { a: false, b: false },
+            first: none.end(),
+        };
+        let of_a = BestBeginning {
+            shut: OnBuses { a: true, b: false },
+            first: a.end(),
+        };
+        let of_b = BestBeginning {
+            shut: OnBuses { a: false, b: true },
+            first: b.end(),
+        };
+        let both = BestBeginning {
+            shut: OnBuses { a: true, b: true },
+            first: both.end(),
+        };
+        better_of(better_of(none, of_a), better_of(of_b, both))
     }
 }

@@ -30,7 +30,7 @@ pub struct Followed {
 }
 
 /// The command word of own mode code 4, transmitter shutdown.
-fn shutdown_command(address: u8) -> u16
+pub fn shutdown_command(address: u8) -> u16
     requires { address ≤ 30 }
     ensures { result ≡ command_bits (record { address = address; tr = 1; subaddress = 0; low = code.shutdown }) }
 {

@@ -16,7 +16,7 @@ use bus_legal::{Legality, Setup};
 use bus_terminal::{Event, Sent};
 use bus_word::{Bus, Command, cell_of};
 use std::alloc::{AllocError, Global};
-use terminal_state::reports_kept;
+use terminal_state::{OnBuses, reports_kept};
 
 /// How many gaps came on each bus, 2 standing for more, with no word or noise since the first of them, and no word sent.
 #[derive(Clone, Copy)]
@@ -41,6 +41,10 @@ pub enum WatchPhase {
 pub struct FreshPart {
     /// The line of the slot that ends the pause.
     pub after: u64,
+    /// How many sightings come before the part: those up to that slot.
+    pub before: u64,
+    /// The transmitters that are shut down after the beginning which explains most of it.
+    pub shut: OnBuses,
     /// The first sighting in it that no behaviour of the subsystem explains, whatever came before the pause.
     pub first: Option<Unexplained>,
 }
@@ -88,8 +92,12 @@ pub struct LaterWatch<L> {
     setup: Setup,
     legality: L,
     part: WatchPhase,
+    /// How many sightings were seen.
+    seen: u64,
     /// The line of the slot that ended the last pause.
     after: u64,
+    /// How many had been seen then, with that slot.
+    before: u64,
     beginnings: Beginnings<L>,
 }
 
@@ -103,7 +111,9 @@ impl<L: Legality + Drop + Copy> LaterWatch<L> {
             setup,
             legality,
             part: WatchPhase::Sought(Gaps::NONE),
+            seen: 0,
             after: 0,
+            before: 0,
             beginnings: Beginnings::of(alloc, setup, legality),
         }
     }
@@ -151,16 +161,21 @@ impl<L: Legality + Drop + Copy> LaterWatch<L> {
         }
     }
 
-    /// Takes what is seen next.
+    /// Takes what is seen next. More than 2^64 - 1 sightings are as if memory had run out.
     pub fn see(&mut self, marked: Marked) -> Result<(), AllocError>
         ensures { OnOk result ((P : Description) (ms : List Marked) → WatchesLater L.is_legal P ms self.old → WatchesLater L.is_legal P (ms ++ marked ∷ []) self.new) }
     {
-        let before = self.part;
+        let Some(seen) = self.seen.checked_add(1) else {
+            return Err(AllocError);
+        };
+        let part = self.part;
+        self.seen = seen;
         self.part = self.part_with(&marked);
-        match (before, self.part) {
+        match (part, self.part) {
             (_, WatchPhase::Sought(_)) => Ok(()),
             (WatchPhase::Sought(_), _) => {
                 self.after = marked.line;
+                self.before = seen;
                 self.beginnings = Beginnings::of(self.alloc, self.setup, self.legality);
                 Ok(())
             }
@@ -180,15 +195,19 @@ impl<L: Legality + Drop + Copy> LaterWatch<L> {
         let LaterWatch {
             part,
             after,
+            before,
             beginnings,
             ..
         } = self;
-        match part {
-            WatchPhase::Sought(_) => None,
-            _ => Some(FreshPart {
-                after,
-                first: beginnings.end(),
-            }),
+        if let WatchPhase::Sought(_) = part {
+            return None;
         }
+        let best = beginnings.end();
+        Some(FreshPart {
+            after,
+            before,
+            shut: best.shut,
+            first: best.first,
+        })
     }
 }

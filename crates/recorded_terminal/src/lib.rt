@@ -12,5 +12,5 @@ mod watch;
 pub use bus_terminal::Sent;
 pub use later::{FreshPart, LaterWatch};
 pub use sighting::Sighting;
-pub use telling::{behaviour, sightings_of};
+pub use telling::{behaviour, behaviour_after, sightings_of};
 pub use watch::{Marked, Unexplained, Watch};

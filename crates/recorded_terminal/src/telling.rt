@@ -1,20 +1,27 @@
 //! What the subsystem did, as a recording tells it.
-ghost use Rattle.std.specs.Prelude.{◌≡◌, ◌++◌, ◌∷◌, IfOk, OnOk};
-ghost use Rattle.bus_legal.specs.Description.{described};
+ghost use Rattle.std.specs.Prelude.{◌≡◌, ◌≤◌, ◌++◌, ◌∷◌, [], IfOk, OnOk};
+ghost use Rattle.bus_legal.specs.Description.{Description, described};
 ghost use Rattle.terminal_rules.specs.Same.{AreProper};
 ghost use Rattle.terminal_recordings.specs.Recordings.{sightings};
 ghost use Rattle.terminal_recordings.specs.Completion.{next_status, shown_of};
-ghost use Rattle.recorded_terminal.specs.Follows.{given_events, told_events};
+ghost use Rattle.terminal_recordings.specs.Later.{if_shut, shutting};
+ghost use Rattle.bus_word.specs.declared.word.Kind.TheVariants.{Com};
+ghost use Rattle.bus_word.specs.Word.{valid_word};
+ghost use Rattle.terminal_rules.specs.declared.event.Event.TheVariants.{Word as WordEvent, Gap as GapEvent, Slot as SlotEvent};
+ghost use Rattle.recorded_terminal.specs.Behaviour.{IsBehaviourAfter};
+ghost use Rattle.recorded_terminal.specs.Follows.{given_events, shut_down, told_events};
 ghost use Rattle.recorded_terminal.specs.Sightings.{recorded};
 ghost use Rattle.recorded_terminal.specs.Watched.{seen_in};
 
-use crate::follower::{Follower, Told};
+use crate::follower::{Follower, Told, shutdown_command};
 use crate::sighting::Sighting;
 use crate::told::shown_status;
 use crate::watch::Marked;
 use bus_legal::{Legality, Setup};
 use bus_terminal::Event;
+use bus_word::{Bus, Kind, Raw};
 use std::alloc::{AllocError, Global};
+use terminal_state::OnBuses;
 
 /// The next status word that is seen in these sightings.
 fn next_status(later: &[Sighting]) -> Option<u16>
@@ -73,8 +80,37 @@ pub fn sightings_of(alloc: Global, recording: &[Marked]) -> Result<Vec<Sighting>
     Ok(sightings)
 }
 
-/// Gives the events that are seen in a recording, and between them what the subsystem did, as the recording tells it. What is seen of
-/// them is the recording, if anything explains it.
+/// Pushes a command on a bus, a gap, and a slot for the status, or nothing.
+fn push_exchange_if(
+    events: &mut Vec<Event>,
+    takes: bool,
+    bus: Bus,
+    command: u16,
+) -> Result<(), AllocError>
+    ensures { OnOk result (events.new.items ≡ events.old.items ++ if_shut takes (WordEvent bus (valid_word Com command) ∷ GapEvent bus ∷ SlotEvent ∷ [])) }
+{
+    if takes {
+        events.push(Event::Word(bus, Raw::of(Kind::Com, command)))?;
+        events.push(Event::Gap(bus))?;
+        events.push(Event::Slot)?;
+    }
+    Ok(())
+}
+
+/// Gives the events that shut the transmitters on these buses down.
+fn shutting_events(alloc: Global, address: u8, shut: OnBuses) -> Result<Vec<Event>, AllocError>
+    requires { address ≤ 30 }
+    ensures { IfOk result (λ events. (P : Description) → P.address ≡ address → events.items ≡ shutting P (shut_down shut)) }
+{
+    let command = shutdown_command(address);
+    let mut events = Vec::new(alloc);
+    push_exchange_if(&mut events, shut.a, Bus::B, command)?;
+    push_exchange_if(&mut events, shut.b, Bus::A, command)?;
+    Ok(events)
+}
+
+/// Gives the events that are seen in a recording, from power-up, and between them what the subsystem did, as the recording tells it. What is
+/// seen of them is the recording, if anything explains it.
 pub fn behaviour<L: Legality + Drop>(
     alloc: Global,
     setup: Setup,
@@ -84,9 +120,22 @@ pub fn behaviour<L: Legality + Drop>(
     ensures proper { IfOk result (λ events. AreProper events.items) }
     ensures shown { IfOk result (λ events. sightings (described setup (L.is_legal legality)) events.items ≡ shown_of (described setup (L.is_legal legality)) (recorded recording.now)) }
 {
-    let mut follower = Follower::power_up(setup, legality);
+    behaviour_after(alloc, setup, legality, OnBuses::NONE, recording)
+}
+
+/// Gives the same of a recording that begins after the transmitters on these buses were shut down, behind the events that shut them.
+pub fn behaviour_after<L: Legality + Drop>(
+    alloc: Global,
+    setup: Setup,
+    legality: L,
+    shut: OnBuses,
+    recording: &[Sighting],
+) -> Result<Vec<Event>, AllocError>
+    ensures { IfOk result (λ events. IsBehaviourAfter (described setup (L.is_legal legality)) (shut_down shut) (recorded recording.now) events.items) }
+{
+    let mut events = shutting_events(alloc, setup.address, shut)?;
+    let mut follower = Follower::shut(setup, legality, shut);
     let mut status = next_status(recording);
-    let mut events = Vec::new(alloc);
     for (number, sighting) in recording.iter().enumerate() {
         let followed = follower.see(*sighting, status);
         push_told(&mut events, followed.told)?;

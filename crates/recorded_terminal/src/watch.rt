@@ -6,7 +6,10 @@ ghost use Rattle.terminal_recordings.specs.Recordings.{IsExplainedAfter};
 ghost use Rattle.terminal_recordings.specs.Later.{shut_history};
 ghost use Rattle.recorded_terminal.specs.declared.watch.Marked.{Marked};
 ghost use Rattle.recorded_terminal.specs.Follows.{FollowsAt, shut_down};
-ghost use Rattle.recorded_terminal.specs.Watched.{IsUnexplainedAt, Watches, seen_in};
+ghost use Rattle.bus_terminal.specs.Answer.{shown_word};
+ghost use Rattle.terminal_recordings.specs.Masks.{AreDataWords, FitsWord, ExplainsSome};
+ghost use Rattle.recorded_terminal.specs.SentWords.{word_shown};
+ghost use Rattle.recorded_terminal.specs.Watched.{IsUnexplainedAt, Watches, masked_in};
 ghost use Rattle.recorded_terminal.specs.inner.Followed.{Followed};
 
 use crate::follower::Follower;
@@ -14,6 +17,7 @@ use crate::sighting::Sighting;
 use crate::told::shown_status;
 use bus_legal::{Legality, Setup};
 use bus_terminal::Sent;
+use bus_word::Kind;
 use std::alloc::{AllocError, Global};
 use terminal_state::OnBuses;
 
@@ -25,6 +29,8 @@ pub struct Marked {
     pub line: u64,
     /// The command word of the message in progress after it, if there is one.
     pub command: Option<u16>,
+    /// Whether the data word that was seen is left open: any may stand in its place.
+    pub any_word: bool,
 }
 
 /// The first sighting that no behaviour of the subsystem explains.
@@ -37,11 +43,22 @@ pub struct Unexplained {
     pub sent: Option<Sent>,
 }
 
-/// Whether the word that a terminal sends is the one that was seen, or none is sent and none was seen.
-fn is_same(sent: Option<Sent>, seen: Option<Sent>) -> bool
-    ensures { IsTrue result ↔ (sent ≡ seen) }
+/// Whether the word that a terminal sends, or none, is the one that was seen, or a data word where that is left open.
+fn is_as_seen(sent: Option<Sent>, seen: Option<Sent>, any_word: bool) -> bool
+    ensures { IsTrue result ↔ FitsWord any_word (word_shown seen) (word_shown sent) }
 {
-    sent == seen
+    match (any_word, seen, sent) {
+        (false, _, _) => sent == seen,
+        (true, Some(seen), Some(sent)) => are_data_words(seen, sent),
+        _ => false,
+    }
+}
+
+/// Whether two words are data words on the same bus.
+fn are_data_words(one: Sent, other: Sent) -> bool
+    ensures { IsTrue result ↔ AreDataWords (shown_word one) (shown_word other) }
+{
+    one.kind == Kind::Dat && other.kind == Kind::Dat && one.bus == other.bus
 }
 
 /// Follows sightings, before which so many were followed, where `status` is the next status word that is seen, in each of them or later.
@@ -56,7 +73,7 @@ fn follow<L: Legality>(
 {
     for (number, marked) in waiting.iter().enumerate() {
         let sent = follower.see(marked.sighting, status).sent;
-        if !is_same(sent, marked.sighting.sent) {
+        if !is_as_seen(sent, marked.sighting.sent, marked.any_word) {
             return Some(Unexplained {
                 marked: *marked,
                 number: followed.saturating_add(number as u64),
@@ -133,7 +150,7 @@ impl<L: Legality + Drop> Watch<L> {
     /// Gives the first sighting that no behaviour of the subsystem explains: those before it are explained, and with it they are not.
     /// None where the whole recording is explained.
     pub fn end(self) -> Option<Unexplained>
-        ensures explained { (P : Description) (h : List Event) (ms : List Marked) → Watches L.is_legal P h ms self → ((result ≡ None) ↔ IsExplainedAfter P h (seen_in ms)) }
+        ensures explained { (P : Description) (h : List Event) (ms : List Marked) → Watches L.is_legal P h ms self → ((result ≡ None) ↔ ExplainsSome (IsExplainedAfter P h) (masked_in ms)) }
         ensures first { (P : Description) (h : List Event) (ms : List Marked) → Watches L.is_legal P h ms self → IfSome result (IsUnexplainedAt P h ms) }
     {
         let Watch {

@@ -1,8 +1,8 @@
 -- Laws of a recording that is read, sighting by sighting.
 use Rattle.std.proofs.Common.{◌≡◌, ◌∙◌, ℕ, Option, Some, None, IfSome, Result, Ok, Err, List, [], ◌∷◌, ◌++◌, ⊎_elim, refl, sym, ap, subst, append-nil}
-use Rattle.terminal_recordings.specs.Recordings.{Sighting}
+use Rattle.terminal_recordings.specs.Masks.{MaskedSighting}
 use Rattle.recorded_terminal.specs.declared.watch.Marked.{Marked}
-use Rattle.recorded_terminal.specs.Watched.{seen_in}
+use Rattle.recorded_terminal.specs.Watched.{masked_in}
 use Rattle.rt1553_verify.specs.declared.stated.Stated.{Stated}
 use Rattle.rt1553_verify.specs.declared.stated.StatedFault.{StatedFault}
 use Rattle.rt1553_verify.specs.declared.stated.StatedFault.TheVariants.{Memory, Read}
@@ -30,7 +30,7 @@ marked_more [] s (n ∷ ms) m are is = absurd are
 marked_more (t ∷ ss) s [] m are is = absurd are
 marked_more (t ∷ ss) s (n ∷ ms) m are is = (are.0, marked_more ss s ms m are.1 is)
 
-pub are_seen : (ss : List StatedEvent) (ms : List Marked) → AreMarkedAs ss ms → AreSeenAs ss (seen_in ms)
+pub are_seen : (ss : List StatedEvent) (ms : List Marked) → AreMarkedAs ss ms → AreSeenAs ss (masked_in ms)
 are_seen [] [] are = tt
 are_seen [] (m ∷ ms) are = absurd are
 are_seen (s ∷ ss) [] are = absurd are
@@ -95,8 +95,8 @@ read_fault (Some script) left new ms fault (front, later, is, all, are) next = c
     Unread f = (s : StatedEvent) × (rest : List StatedEvent) × (later ≡ Ok (s ∷ rest)) × IsUnseenAs s f
 
     unseen : (f : RecordingFault) → Unread f → (ss : List StatedEvent) × (stated_through script ≡ Ok ss)
-        × ((fr : List StatedEvent) × (s : StatedEvent) × (rest : List StatedEvent) × (xs : List Sighting) × (ss ≡ fr ++ s ∷ rest) × AreSeenAs fr xs × IsUnseenAs s f)
-    unseen f (s, rest, e, bad) = (front ++ s ∷ rest, all ∙ ap (then_events front) e, (front, s, rest, seen_in ms, refl, are_seen front ms are, bad))
+        × ((fr : List StatedEvent) × (s : StatedEvent) × (rest : List StatedEvent) × (xs : List MaskedSighting) × (ss ≡ fr ++ s ∷ rest) × AreSeenAs fr xs × IsUnseenAs s f)
+    unseen f (s, rest, e, bad) = (front ++ s ∷ rest, all ∙ ap (then_events front) e, (front, s, rest, masked_in ms, refl, are_seen front ms are, bad))
 
     case : (f : RecordingFault) → NextSeen (Some later) new (Err f) → StatesNoRecording script f
     case (Script other) n = λ memory read. all ∙ ap (then_events front) (n memory read)
@@ -149,6 +149,6 @@ next_unseen (Some said) mid new s fault given (later, is, e) bad refuses = rest 
 -- ---- the whole recording
 
 pub recording_all : (input : Option (List ℕ)) (left new : Left) (ms : List Marked) → ReadSoFar input left ms → NextSeen left new (Ok None)
-    → IfSome input (λ script. StatesRecording script (seen_in ms))
+    → IfSome input (λ script. StatesRecording script (masked_in ms))
 recording_all None left new ms read end = tt
 recording_all (Some script) left new ms read end = let a = read_all script left new ms read end in (a.0, a.1, are_seen a.0 ms a.2)

@@ -1,21 +1,22 @@
 //! The first line of a recording that nothing explains.
-ghost use Rattle.std.specs.Prelude.{◌≡◌, ◌↔◌, IfOk, IfErr, IfSome, List, None};
+ghost use Rattle.std.specs.Prelude.{◌≡◌, ◌↔◌, true, false, IfOk, IfErr, IfSome, List, None};
 ghost use Rattle.bus_legal.specs.Description.{Description};
 ghost use Rattle.bus_legal.specs.Parts.{description_in};
 ghost use Rattle.bus_legal.specs.Reach.{reach};
-ghost use Rattle.terminal_recordings.specs.Recordings.{Sighting as SeenWord, IsExplained};
+ghost use Rattle.terminal_recordings.specs.Recordings.{IsExplained};
+ghost use Rattle.terminal_recordings.specs.Masks.{MaskedSighting, ExplainsSome};
+ghost use Rattle.recorded_terminal.specs.Watched.{masked};
 ghost use Rattle.recorded_terminal.specs.SentWords.{word_shown};
-ghost use Rattle.terminal_rules.specs.Out.{sending_out};
-ghost use Rattle.script_lines.specs.Transcript.{answer_text};
 ghost use Rattle.rt1553_verify.specs.Verify.{told_answer};
-ghost use Rattle.script_recordings.specs.Seen.{StatesRecording, StatesNoRecording};
+ghost use Rattle.script_recordings.specs.Seen.{stated_word, StatesRecording, StatesNoRecording};
 ghost use Rattle.script_recordings.specs.Explained.{told_at, told_first, IsFirstUnexplained, IsJudgedSince, NothingExplains};
 ghost use Rattle.script_recordings.specs.inner.Reads.{TellsUnexplained, TellsJudged};
 
 use crate::reading::{RecordingFault, RecordingReader};
 use bus_legal::Normal;
 use bus_terminal::{Answer, Sent};
-use recorded_terminal::{FreshPart, LaterWatch, Unexplained, Watch};
+use bus_word::Bus;
+use recorded_terminal::{FreshPart, LaterWatch, Marked, Unexplained, Watch};
 use rt1553_verify::{ScriptWarning, WrongAnswer, stated_warning};
 use script_lines::write_answer;
 use std::alloc::{AllocError, Global};
@@ -54,7 +55,7 @@ pub struct ExplainedSince {
 
 /// The line of a word that is sent, or nothing.
 fn line_of(alloc: Global, sent: Option<Sent>) -> Result<Vec<u8>, AllocError>
-    ensures { IfOk result (λ line. line.items ≡ answer_text (sending_out (word_shown sent))) }
+    ensures { IfOk result (λ line. line.items ≡ stated_word false (word_shown sent)) }
 {
     let line = match sent {
         Some(sent) => write_answer(&Answer::Sends(sent)),
@@ -63,14 +64,39 @@ fn line_of(alloc: Global, sent: Option<Sent>) -> Result<Vec<u8>, AllocError>
     line.as_str().as_bytes().to_vec(alloc)
 }
 
+/// The line that leaves a data word open, or nothing.
+fn open_line_of(alloc: Global, sent: Option<Sent>) -> Result<Vec<u8>, AllocError>
+    ensures { IfOk result (λ line. line.items ≡ stated_word true (word_shown sent)) }
+{
+    let line: &[u8] = match sent {
+        Some(sent) => match sent.bus {
+            Bus::A => b"A d ....\n",
+            Bus::B => b"B d ....\n",
+        },
+        None => b"",
+    };
+    line.to_vec(alloc)
+}
+
+/// The line that states what was seen.
+fn line_seen(alloc: Global, marked: &Marked) -> Result<Vec<u8>, AllocError>
+    ensures { IfOk result (λ line. line.items ≡ stated_word marked.now.any_word (word_shown marked.now.sighting.sent)) }
+{
+    if marked.any_word {
+        open_line_of(alloc, marked.sighting.sent)
+    } else {
+        line_of(alloc, marked.sighting.sent)
+    }
+}
+
 /// What is told of the first sighting that nothing explains.
 fn line_told(alloc: Global, first: Unexplained) -> Result<UnexplainedLine, AllocError>
-    ensures { IfOk result (λ line. told_answer line.answer ≡ told_at first.marked.line (word_shown first.marked.sighting.sent) (word_shown first.sent)) }
+    ensures { IfOk result (λ line. told_answer line.answer ≡ told_at first.marked.line (masked first.marked) (word_shown first.sent)) }
 {
     Ok(UnexplainedLine {
         answer: WrongAnswer {
             line: first.marked.line,
-            expected: line_of(alloc, first.marked.sighting.sent)?,
+            expected: line_seen(alloc, &first.marked)?,
             came: line_of(alloc, first.sent)?,
         },
         command: first.marked.command,
@@ -120,7 +146,7 @@ pub fn watch_recording<B: BufRead + Drop>(
     normal: &Normal,
     input: B,
 ) -> Result<Explained, RecordingFault>
-    ensures explained { (P : Description) → description_in normal.now ≡ reach P → IfOk result (λ it. IfSome (B.remaining input) (λ script. (recording : List SeenWord) × StatesRecording script recording × ((it.first ≡ None) ↔ IsExplained P recording))) }
+    ensures explained { (P : Description) → description_in normal.now ≡ reach P → IfOk result (λ it. IfSome (B.remaining input) (λ script. (recording : List MaskedSighting) × StatesRecording script recording × ((it.first ≡ None) ↔ ExplainsSome (IsExplained P) recording))) }
     ensures first { (P : Description) → description_in normal.now ≡ reach P → IfOk result (λ it. IfSome it.first (λ line. IfSome (B.remaining input) (λ script. IsFirstUnexplained P script (told_answer line.answer)))) }
     ensures refused { IfErr result (λ fault. IfSome (B.remaining input) (λ script. StatesNoRecording script fault)) }
 {

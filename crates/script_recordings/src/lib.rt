@@ -8,5 +8,5 @@ mod words;
 
 pub use explaining::{Explained, ExplainedSince, UnexplainedLine, watch_recording, watch_since};
 pub use reading::{RecordingFault, read_recording};
-pub use telling::{recorded_events, witness};
+pub use telling::{recorded_events, witness, witness_since};
 pub use words::read_sent;

@@ -1,17 +1,18 @@
 //! The recording that a script states, read sighting by sighting.
-ghost use Rattle.std.specs.Prelude.{◌≡◌, ◌<◌, map, IfOk, IfErr, IfSome};
+ghost use Rattle.std.specs.Prelude.{◌≡◌, ◌<◌, true, false, map, IfOk, IfErr, IfSome, MatchOption};
+ghost use Rattle.bus_word.specs.declared.word.Bus.{Bus};
 ghost use Rattle.rt1553_verify.specs.Stated.{shown, stated_through};
 ghost use Rattle.rt1553_verify.specs.Reader.{left_in, turns_left};
-ghost use Rattle.recorded_terminal.specs.Sightings.{shown_sighting};
-ghost use Rattle.recorded_terminal.specs.Watched.{seen_in};
+ghost use Rattle.recorded_terminal.specs.Watched.{masked_in};
 ghost use Rattle.recorded_terminal.specs.SentWords.{word_shown};
-ghost use Rattle.script_recordings.specs.Seen.{StatesSent, StatesNoWord, IsSeenAs, IsUnseenAs, StatesRecording, StatesNoRecording};
-ghost use Rattle.script_recordings.specs.inner.Reads.{NextSeen, RefusesRest};
-ghost use Rattle.script_recordings.specs.declared.reading.RecordingFault.TheVariants.{Script};
+ghost use Rattle.script_recordings.specs.Seen.{open_line, stated_word, IsData, StatesSent, IsNoWord, StatesNoWord, IsUnseenAs, StatesRecording, StatesNoRecording};
+ghost use Rattle.script_recordings.specs.inner.Reads.{IsMarkedAs, NextSeen, RefusesRest};
+ghost use Rattle.script_recordings.specs.declared.reading.RecordingFault.TheVariants.{Masked, NoWord, Script};
 ghost use Rattle.rt1553_verify.specs.declared.stated.StatedFault.TheVariants.{Memory};
 
 use crate::words::read_sent;
 use bus_terminal::Sent;
+use bus_word::{Bus, Kind};
 use recorded_terminal::{Marked, Sighting};
 use rt1553_verify::{Matching, Stated, StatedFault, StatedReader, command_after};
 use std::alloc::{AllocError, AllocFailed, Global};
@@ -24,8 +25,8 @@ pub enum RecordingFault {
     /// The event of this line is one of the subsystem.
     #[error("script: line {0}: what the subsystem does is not seen in a recording")]
     Unseen(u64),
-    /// A mask is stated of the event of this line.
-    #[error("script: line {0}: a recording states each word whole, by #>")]
+    /// What is stated of the event of this line is a mask other than `A d ....`.
+    #[error("script: line {0}: a recording states each word whole, or leaves a data word open, as in \"#~ A d ....\"")]
     Masked(u64),
     /// What is stated of the event of this line is no line of a word that was sent.
     #[error("script: line {0}: a recording states the word that was sent, as in \"A s 2800\"")]
@@ -59,31 +60,88 @@ impl<T: Drop> From<AllocFailed<T>> for RecordingFault {
     }
 }
 
-/// The word that is stated of an event, if one is.
-fn sent_of(stated: &Stated) -> Result<Option<Sent>, RecordingFault>
-    ensures sent { IfOk result (λ sent. StatesSent (shown stated.now) (word_shown sent)) }
-    ensures refused { IfErr result (λ fault. StatesNoWord (shown stated.now) fault) }
+/// The word that is stated of an event, if one is, and whether it is left open.
+struct StatedWord {
+    sent: Option<Sent>,
+    any_word: bool,
+}
+
+/// The bus of a line that leaves a data word open.
+fn open_bus(line: &[u8]) -> Option<Bus>
+    ensures { MatchOption result ((bus : Bus) → line.now ≡ open_line bus → ⊥) (λ bus. line.now ≡ open_line bus) }
 {
-    if stated.matching != Matching::Exact {
-        return Err(RecordingFault::Masked(stated.line));
-    }
-    if stated.answer.is_empty() {
-        return Ok(None);
-    }
-    match read_sent(stated.answer.as_slice()) {
-        Some(sent) => Ok(Some(sent)),
-        None => Err(RecordingFault::NoWord(stated.line)),
+    if line == b"A d ....\n".as_slice() {
+        Some(Bus::A)
+    } else if line == b"B d ....\n".as_slice() {
+        Some(Bus::B)
+    } else {
+        None
     }
 }
 
-/// What is seen of an event, as a script states it.
-fn sighting_of(stated: &Stated) -> Result<Sighting, RecordingFault>
-    ensures seen { IfOk result (λ sighting. IsSeenAs (shown stated.now) (shown_sighting sighting)) }
+/// The word that is stated whole, or none.
+fn whole_word(line: u64, answer: &[u8]) -> Result<StatedWord, RecordingFault>
+    ensures sent { IfOk result (λ word. (word.any_word ≡ false) × (answer.now ≡ stated_word false (word_shown word.sent))) }
+    ensures refused { IfErr result (λ fault. (fault ≡ NoWord line) × IsNoWord answer.now) }
+{
+    if answer.is_empty() {
+        return Ok(StatedWord {
+            sent: None,
+            any_word: false,
+        });
+    }
+    match read_sent(answer) {
+        Some(sent) => Ok(StatedWord {
+            sent: Some(sent),
+            any_word: false,
+        }),
+        None => Err(RecordingFault::NoWord(line)),
+    }
+}
+
+/// A data word that is left open.
+fn open_word(line: u64, mask: &[u8]) -> Result<StatedWord, RecordingFault>
+    ensures sent { IfOk result (λ word. (word.any_word ≡ true) × (mask.now ≡ stated_word true (word_shown word.sent)) × IsData (word_shown word.sent)) }
+    ensures refused { IfErr result (λ fault. (fault ≡ Masked line) × ((bus : Bus) → mask.now ≡ open_line bus → ⊥)) }
+{
+    match open_bus(mask) {
+        Some(bus) => Ok(StatedWord {
+            sent: Some(Sent {
+                bus,
+                kind: Kind::Dat,
+                bits: 0,
+            }),
+            any_word: true,
+        }),
+        None => Err(RecordingFault::Masked(line)),
+    }
+}
+
+/// The word that is stated of an event.
+fn word_of(stated: &Stated) -> Result<StatedWord, RecordingFault>
+    ensures sent { IfOk result (λ word. StatesSent (shown stated.now) word.any_word (word_shown word.sent)) }
+    ensures refused { IfErr result (λ fault. StatesNoWord (shown stated.now) fault) }
+{
+    match stated.matching {
+        Matching::Exact => whole_word(stated.line, stated.answer.as_slice()),
+        Matching::Masked => open_word(stated.line, stated.answer.as_slice()),
+        _ => Err(RecordingFault::Masked(stated.line)),
+    }
+}
+
+/// What is seen of an event, as a script states it, where this is the command word of its message, if there is one.
+fn marked_as(stated: &Stated, command: Option<u16>) -> Result<Marked, RecordingFault>
+    ensures seen { IfOk result (IsMarkedAs (shown stated.now)) }
     ensures refused { IfErr result (λ fault. IsUnseenAs (shown stated.now) fault) }
 {
-    let sent = sent_of(stated)?;
+    let StatedWord { sent, any_word } = word_of(stated)?;
     match Sighting::of(stated.event, sent) {
-        Some(sighting) => Ok(sighting),
+        Some(sighting) => Ok(Marked {
+            sighting,
+            line: stated.line,
+            command,
+            any_word,
+        }),
         None => Err(RecordingFault::Unseen(stated.line)),
     }
 }
@@ -131,15 +189,9 @@ impl<B: BufRead> RecordingReader<B> {
         let Some(stated) = self.script.next()? else {
             return Ok(None);
         };
-        match sighting_of(&stated) {
-            Ok(sighting) => {
-                self.command = command_after(self.address, self.command, stated.event);
-                Ok(Some(Marked {
-                    sighting,
-                    line: stated.line,
-                    command: self.command,
-                }))
-            }
+        self.command = command_after(self.address, self.command, stated.event);
+        match marked_as(&stated, self.command) {
+            Ok(marked) => Ok(Some(marked)),
             Err(fault) => Err(refuse_rest(&mut self.script, fault)),
         }
     }
@@ -152,7 +204,7 @@ pub fn read_recording<B: BufRead + Drop>(
     address: u8,
     input: B,
 ) -> Result<Vec<Marked>, RecordingFault>
-    ensures read { IfOk result (λ recording. IfSome (B.remaining input) (λ script. StatesRecording script (seen_in recording.items))) }
+    ensures read { IfOk result (λ recording. IfSome (B.remaining input) (λ script. StatesRecording script (masked_in recording.items))) }
     ensures refused { IfErr result (λ fault. IfSome (B.remaining input) (λ script. StatesNoRecording script fault)) }
 {
     let mut reader = RecordingReader::new(alloc, address, input);

@@ -1,17 +1,22 @@
 //! What a subsystem did, as a script.
-ghost use Rattle.std.specs.Prelude.{◌≡◌, ◌++◌, IfOk, IfErr, IfSome, OnOk, List};
+ghost use Rattle.std.specs.Prelude.{◌≡◌, ◌≤◌, ◌↔◌, ◌++◌, IfOk, IfErr, IfSome, MatchOption, None, OnOk, List, drop, length};
 ghost use Rattle.bus_legal.specs.Description.{Description};
-ghost use Rattle.bus_legal.specs.Parts.{description_in};
+ghost use Rattle.bus_legal.specs.Parts.{description_in, IsNormal};
 ghost use Rattle.bus_legal.specs.Reach.{reach};
 ghost use Rattle.terminal_rules.specs.declared.event.Event.{Event as ScriptEvent};
+ghost use Rattle.terminal_recordings.specs.Later.{fresh_part, no_gaps};
+ghost use Rattle.recorded_terminal.specs.Behaviour.{IsBehaviourAfter};
+ghost use Rattle.recorded_terminal.specs.Follows.{shut_down};
+ghost use Rattle.recorded_terminal.specs.Judged.{IsJudged};
+ghost use Rattle.recorded_terminal.specs.Watched.{seen_in};
 ghost use Rattle.script_lines.specs.EventLine.{event_line, script_text};
 ghost use Rattle.script_recordings.specs.Seen.{StatesNoRecording};
-ghost use Rattle.script_recordings.specs.Explained.{IsWitness};
+ghost use Rattle.script_recordings.specs.Explained.{HasNoPart, IsLaterWitness, IsWitness};
 
 use crate::reading::{RecordingFault, read_recording};
 use bus_legal::Normal;
 use bus_terminal::Event;
-use recorded_terminal::{behaviour, sightings_of};
+use recorded_terminal::{FreshPart, LaterWatch, Marked, behaviour, behaviour_after, sightings_of};
 use script_lines::write_event;
 use std::alloc::{AllocError, Global};
 use std::io::BufRead;
@@ -62,4 +67,54 @@ pub fn witness<B: BufRead + Drop>(
 {
     let events = recorded_events(alloc, normal, input)?;
     Ok(script_of(alloc, events.as_slice())?)
+}
+
+/// Seeks the part of a recording that began at any time which begins afresh after a pause.
+fn fresh_part_of(
+    alloc: Global,
+    normal: &Normal,
+    recording: &[Marked],
+) -> Result<Option<FreshPart>, AllocError>
+    ensures none { IfOk result (λ part. (part ≡ None) ↔ (fresh_part (description_in normal.now) no_gaps (seen_in recording.now) ≡ None)) }
+    ensures judged { IfOk result (λ part. IfSome part (IsJudged (description_in normal.now) recording.now)) }
+{
+    let mut watch = LaterWatch::new(alloc, normal.setup(), *normal);
+    'sightings: for marked in recording {
+        watch.see(*marked)?;
+    }
+    Ok(watch.end())
+}
+
+/// Gives the events of such a part, behind those that shut transmitters down.
+fn part_events(
+    alloc: Global,
+    normal: &Normal,
+    recording: &[Marked],
+    part: FreshPart,
+) -> Result<Vec<Event>, AllocError>
+    requires { part.before ≤ length recording.now }
+    ensures events { IfOk result (λ events. IsBehaviourAfter (description_in normal.now) (shut_down part.shut) (seen_in (drop part.before recording.now)) events.items) }
+    ensures normal { IsNormal normal.now }
+{
+    let setup = normal.setup();
+    let sightings = sightings_of(alloc, &recording[part.before as usize..])?;
+    behaviour_after(alloc, setup, *normal, part.shut, sightings.as_slice())
+}
+
+/// Gives the same of a recording that began at any time, as a script: what was shut down before its part that begins afresh after a
+/// pause, and that part. None where there is no such part.
+pub fn witness_since<B: BufRead + Drop>(
+    alloc: Global,
+    normal: &Normal,
+    input: B,
+) -> Result<Option<Vec<u8>>, RecordingFault>
+    ensures plays { IfOk result (λ it. IfSome (B.remaining input) (λ script. MatchOption it (HasNoPart (description_in normal.now) script) (λ text. (events : List ScriptEvent) × (text.items ≡ script_text events) × IsLaterWitness (description_in normal.now) script events))) }
+    ensures refused { IfErr result (λ fault. IfSome (B.remaining input) (λ script. StatesNoRecording script fault)) }
+{
+    let recording = read_recording(alloc, normal.address(), input)?;
+    let Some(part) = fresh_part_of(alloc, normal, recording.as_slice())? else {
+        return Ok(None);
+    };
+    let events = part_events(alloc, normal, recording.as_slice(), part)?;
+    Ok(Some(script_of(alloc, events.as_slice())?))
 }

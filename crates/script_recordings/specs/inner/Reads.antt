@@ -4,7 +4,7 @@ use Rattle.recorded_terminal.specs.declared.watch.Marked.{Marked}
 use Rattle.recorded_terminal.specs.declared.watch.Unexplained.{Unexplained}
 use Rattle.recorded_terminal.specs.declared.later.FreshPart.{FreshPart}
 use Rattle.recorded_terminal.specs.SentWords.{word_shown}
-use Rattle.recorded_terminal.specs.Sightings.{shown_sighting}
+use Rattle.recorded_terminal.specs.Watched.{masked}
 use Rattle.rt1553_verify.specs.declared.stated.StatedFault.{StatedFault}
 use Rattle.rt1553_verify.specs.declared.stated.StatedFault.TheVariants.{Memory, Read}
 use Rattle.rt1553_verify.specs.Stated.{StatedEvent, then_events}
@@ -20,7 +20,7 @@ Left = Option (Result (List StatedEvent) StatedFault)
 
 -- an event is stated so, in this line
 abbrev pub IsMarkedAs : StatedEvent → Marked → Type 0
-IsMarkedAs s m = IsSeenAs s (shown_sighting m.sighting) × (m.line ≡ s.line)
+IsMarkedAs s m = IsSeenAs s (masked m) × (m.line ≡ s.line)
 
 -- the fault says nothing of the script
 abbrev pub SaysNothing : RecordingFault → Type 0
@@ -44,7 +44,7 @@ NextSeen (Some said) new (Err fault) = (s : StatedEvent) × (rest : List StatedE
 -- what is told of the first sighting that nothing explains, where there is one
 abbrev pub TellsUnexplained : Option Unexplained → Option UnexplainedLine → Type 0
 TellsUnexplained None None = Unit {0}
-TellsUnexplained (Some it) (Some line) = told_answer line.answer ≡ told_at it.marked.line (word_shown it.marked.sighting.sent) (word_shown it.sent)
+TellsUnexplained (Some it) (Some line) = told_answer line.answer ≡ told_at it.marked.line (masked it.marked) (word_shown it.sent)
 TellsUnexplained _ _ = ⊥
 
 -- what is told of the part that is judged, where one is

@@ -5,8 +5,9 @@ use Rattle.bus_legal.specs.Tables.{tables_say}
 use Rattle.bus_legal.proofs.NormalLaws.{set_up_normal}
 use Rattle.bus_legal.specs.Parts.{description_in}
 use Rattle.terminal_recordings.specs.Recordings.{IsExplained}
+use Rattle.terminal_recordings.specs.Masks.{ExplainsSome}
 use Rattle.recorded_terminal.specs.declared.watch.Marked.{Marked}
-use Rattle.recorded_terminal.specs.Watched.{Watches, seen_in}
+use Rattle.recorded_terminal.specs.Watched.{Watches, masked_in}
 use Rattle.inferred_profiles.proofs.ProposalLaws.{none_of, is_none_of}
 use Rattle.inferred_profiles.proofs.checking.is_explained.Goals as goal
 
@@ -27,6 +28,6 @@ returns-clause-explained c =
     let watched = subst (λ (l : List Marked). Watches (λ normal. tables_say normal.tables) Q [] l c.sightings.watch) whole (c.sightings.invariant Q c.power_up-watch.ensures) in
     let decided = c.end.ensures.explained Q [] ms watched in
     let same : Q ≡ description_in v = set_up_normal v c.setup.result c.setup.ensures.parts in (
-      λ truth. subst (λ P. IsExplained P (seen_in ms)) same (decided.0 (none_of c.end.result c.is_none.result c.is_none.ensures truth)),
-      λ x. is_none_of c.end.result c.is_none.result c.is_none.ensures (decided.1 (subst (λ P. IsExplained P (seen_in ms)) (sym same) x)),
+      λ truth. subst (λ P. ExplainsSome (IsExplained P) (masked_in ms)) same (decided.0 (none_of c.end.result c.is_none.result c.is_none.ensures truth)),
+      λ x. is_none_of c.end.result c.is_none.result c.is_none.ensures (decided.1 (subst (λ P. ExplainsSome (IsExplained P) (masked_in ms)) (sym same) x)),
     )

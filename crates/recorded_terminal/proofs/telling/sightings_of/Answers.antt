@@ -1,9 +1,9 @@
-use Rattle.std.proofs.Common.{◌≡◌, ◌∙◌, ◌∷◌, [], ◌++◌, suc, List, take, drop, ap, sym, add-one, append-nil, refl, take_all}
+use Rattle.std.proofs.Common.{◌≡◌, ◌∙◌, ◌∷◌, [], ◌++◌, suc, List, take, drop, ap, sym, add-one, refl, take_all}
 use Rattle.recorded_terminal.specs.declared.sighting.Sighting.{Sighting as Seen}
 use Rattle.recorded_terminal.specs.declared.watch.Marked.{Marked}
 use Rattle.recorded_terminal.specs.Sightings.{recorded, shown_sighting}
 use Rattle.recorded_terminal.specs.Watched.{seen_in}
-use Rattle.recorded_terminal.proofs.WatchLaws.{cut_of, cut_at}
+use Rattle.recorded_terminal.proofs.WatchLaws.{cut_of, take_more, seen_append}
 use Rattle.recorded_terminal.proofs.telling.sightings_of.Goals as goal
 
 recorded_more : (xs : List Seen) (x : Seen) → recorded (xs ++ x ∷ []) ≡ recorded xs ++ shown_sighting x ∷ []
@@ -17,7 +17,7 @@ marked-preserved c =
     let m : Marked = c.marked-item.result in
     let cut : drop n ms ≡ m ∷ drop (suc n) ms = cut_of ms n m c.marked-test.true c.marked-item.is in
     ap recorded c.in_ok-push.ensures.items ∙ recorded_more c.marked.sightings.items m.sighting ∙ ap (λ l. l ++ shown_sighting m.sighting ∷ []) c.marked.invariant
-    ∙ cut_at ms n m cut [] ∙ append-nil (seen_in (take (suc n) ms)) ∙ ap (λ k. seen_in (take k ms)) (sym (add-one n))
+    ∙ sym (seen_append (take n ms) (m ∷ [])) ∙ ap seen_in (sym (take_more ms n m cut)) ∙ ap (λ k. seen_in (take k ms)) (sym (add-one n))
 
 pub returns : goal.returns
 returns c = c.marked.invariant ∙ ap seen_in (take_all c.marked.marked-index c.args.recording.now c.marked-test.false)

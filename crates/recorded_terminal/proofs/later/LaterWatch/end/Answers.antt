@@ -13,11 +13,12 @@ returns-in-Sought-clause-none g c P ms watches = (
   λ _. refl,
 )
 
-is_judged : (g : Over) (c : goal.After-end g) (P : Description) (ms : List Marked) → WatchesLater g.L.Legality.is_legal P ms c.args.self →
-    IsJudged P ms (record { after = c.args.self.after; first = c.end.result })
+is_judged : (g : Over) (c : goal.After-result-1 g) (P : Description) (ms : List Marked) → WatchesLater g.L.Legality.is_legal P ms c.args.self →
+    IsJudged P ms (record { after = c.args.self.after; before = c.args.self.before; shut = c.end-best.result.shut; first = c.end-best.result.first })
 is_judged g c P ms watches =
     let i = begun_of g.L.Legality.is_legal P ms c.args.self c.args.self.part c.in_default.not-Sought watches.watches in
-    judged g.L.Legality.is_legal P watches.can ms c.args.self c.args.self.part c.end.result c.in_default.not-Sought i (c.end.ensures.explained P i.part i.watches) (c.end.ensures.first P i.part i.watches)
+    judged g.L.Legality.is_legal P watches.can ms c.args.self c.args.self.part c.end-best.result.shut c.end-best.result.first c.in_default.not-Sought i
+    (c.end-best.ensures.explained P i.part i.watches) (c.end-best.ensures.first P i.part i.watches) (c.end-best.ensures.begins P i.part i.watches)
 
-pub returns-in_default : goal.returns-in_default
-returns-in_default g c = record { none = λ P ms watches. some_judged P ms _ (is_judged g c P ms watches); judged = is_judged g c }
+pub returns : goal.returns
+returns g c = record { none = λ P ms watches. some_judged P ms _ (is_judged g c P ms watches); judged = is_judged g c }
