@@ -15,7 +15,7 @@ _rt1553_tool() {
         recording:--gap) return ;;
         recording:--no-response) return ;;
         recording:--pause) return ;;
-        coverage:--format) mapfile -t COMPREPLY < <(compgen -W 'text json' -- "$now"); return ;;
+        coverage:--format) mapfile -t COMPREPLY < <(compgen -W 'text json html' -- "$now"); return ;;
         coverage:--names) mapfile -t COMPREPLY < <(compgen -f -X '!*.csv' -- "$now"; compgen -d -- "$now"); return ;;
         infer:--address) return ;;
         infer:--unseen) mapfile -t COMPREPLY < <(compgen -W 'illegal legal' -- "$now"); return ;;
@@ -41,7 +41,7 @@ _rt1553_tool() {
         toml) flags='--help' kinds=(profile) many='' ;;
         explain) flags='--format --names --help' kinds=(profile) many='' ;;
         differ) flags='--scripts --format --names --help' kinds=(profile profile) many='' ;;
-        acceptance) flags='--against --format --names --help' kinds=(profile) many='' ;;
+        acceptance) flags='--against --any-subsystem --format --names --help' kinds=(profile) many='' ;;
         draw) flags='--expand --html --names --help' kinds=(profile script) many='' ;;
         words) flags='--help' kinds=() many='' ;;
         live) flags='--help' kinds=(profile) many='' ;;

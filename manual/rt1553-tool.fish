@@ -26,7 +26,7 @@ complete -c rt1553-tool -n '__fish_seen_subcommand_from recording' -l pause -x -
 complete -c rt1553-tool -n '__fish_seen_subcommand_from recording' -F
 complete -c rt1553-tool -n __fish_use_subcommand -a coverage -d 'Prints which messages of a terminal came in recordings, and which never'
 complete -c rt1553-tool -n '__fish_seen_subcommand_from coverage' -l expand -d 'takes messages, too, as `expand` does'
-complete -c rt1553-tool -n '__fish_seen_subcommand_from coverage' -l format -x -a 'text json' -d 'the output format'
+complete -c rt1553-tool -n '__fish_seen_subcommand_from coverage' -l format -x -a 'text json html' -d 'the output format'
 complete -c rt1553-tool -n '__fish_seen_subcommand_from coverage' -l names -r -F -d 'puts the names of messages in TABLE beside their numbers'
 complete -c rt1553-tool -n '__fish_seen_subcommand_from coverage' -F
 complete -c rt1553-tool -n __fish_use_subcommand -a infer -d 'Proposes a profile that explains a recording'
@@ -53,6 +53,7 @@ complete -c rt1553-tool -n '__fish_seen_subcommand_from differ' -l names -r -F -
 complete -c rt1553-tool -n '__fish_seen_subcommand_from differ' -F
 complete -c rt1553-tool -n __fish_use_subcommand -a acceptance -d 'Writes the test that distinguishes a terminal from every other'
 complete -c rt1553-tool -n '__fish_seen_subcommand_from acceptance' -l against -r -F -d 'compares the replies of a unit, a CSV table, with the test'
+complete -c rt1553-tool -n '__fish_seen_subcommand_from acceptance' -l any-subsystem -d 'with --against: some behaviour of the subsystem is to explain the replies'
 complete -c rt1553-tool -n '__fish_seen_subcommand_from acceptance' -l format -x -a 'text csv json' -d 'the output format'
 complete -c rt1553-tool -n '__fish_seen_subcommand_from acceptance' -l names -r -F -d 'puts the names of messages in TABLE beside their numbers'
 complete -c rt1553-tool -n '__fish_seen_subcommand_from acceptance' -F

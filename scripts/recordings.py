@@ -6,9 +6,10 @@
 The model of the rules (tests/model) plays messages that look random, while a subsystem does something now and then. What a monitor on the
 buses sees of each run is a recording, which has to be explained, and PROGRAM plays the script that `--witness` prints to the
 recorded words. Then each is changed in one slot: a bit, the kind, silence or
-a word. How many sightings are explained then is decided here by a terminal whose status keeps the bits of its flags open until it is
+a word. Of some, data words are left open. How many sightings are explained then is decided here by a terminal whose status keeps the bits of its flags open until it is
 sent. Other runs are seen from some time on, with a pause in them: `--already-on` judges their first part that begins afresh, and so does
-this terminal, with its transmitters shut down or not. For some runs `infer` has to propose a profile that explains them. The last line is
+this terminal, with its transmitters shut down or not. For some runs `infer` has to propose a profile that explains them. Units with such a
+subsystem also answer the acceptance test, right and with a changed reply: `acceptance --against --any-subsystem` judges what they replied. The last line is
 'N passed, M failed'.
 """
 import concurrent.futures
@@ -25,7 +26,7 @@ import play  # noqa: E402
 import random_scripts  # noqa: E402
 import rules  # noqa: E402
 
-RUNS, LATER_RUNS, INFERRED_RUNS, MESSAGES = 20_000, 5_000, 1_600, 8
+RUNS, LATER_RUNS, OPEN_RUNS, INFERRED_RUNS, MESSAGES = 20_000, 5_000, 1_600, 1_600, 8
 PROFILES = 16
 SERVICE, BUSY, SUBSYSTEM, TERMINAL = 0x100, 0x8, 0x4, 0x1
 UNSEEN = ("write", "vector", "bit", "flag")
@@ -65,7 +66,7 @@ class AnySubsystem(rules.Terminal):
             if bits & BUSY and self.open & BUSY and self.reply.words[1:] not in (["last command"], ["bit"]):
                 del self.reply.words[1:]
             self.kept, self.open = bits, 0
-        elif word == "last command" and bits != self.last:
+        elif word == "last command" and bits not in (None, self.last):
             return False
         self.slot()
         return True
@@ -160,6 +161,17 @@ def changed(recording, seed):
     return [*recording[:at], (("slot",), other_word(draw, recording[at][1])), *recording[at + 1:]]
 
 
+def with_open_words(recording, seed):
+    """The recording, with half of its data words left open: they have no bits."""
+    draw = random.Random(seed)
+    return [(event, (*sent[:2], None) if sent and sent[0] == "data" and draw.random() < 0.5 else sent) for event, sent in recording]
+
+
+def stated(sent):
+    """The line of a word; of one that is left open its mask."""
+    return f"{sent[1]} d ...." if sent[2] is None else play.answer_line(sent)
+
+
 def script_of(recording):
     """A recording as a script: its lines, and the number of the line of each event."""
     lines, numbers = [], []
@@ -167,12 +179,12 @@ def script_of(recording):
         lines.append(random_scripts.line_of(event))
         numbers.append(len(lines))
         if sent:
-            lines.append(f"#> {play.answer_line(sent)}")
+            lines.append(f"{'#~' if sent[2] is None else '#>'} {stated(sent)}")
     return "".join(f"{line}\n" for line in lines), numbers
 
 
 def shown(sent):
-    return play.answer_line(sent) if sent else "nothing"
+    return stated(sent) if sent else "nothing"
 
 
 def sent_of(line):
@@ -211,8 +223,9 @@ def plays(program, tool, folder, recording, name):
     seen = [it for it in made.stdout.decode().splitlines() if not it.startswith(UNSEEN)]
     sent = [it for it in ran.stdout.decode().splitlines() if not it.startswith("hand ")]
     events = [random_scripts.line_of(event) for event, _ in recording]
-    words = [play.answer_line(word) for _, word in recording if word]
-    return (made.returncode, ran.returncode, seen, sent) == (0, 0, events, words)
+    words = [stated(word) for _, word in recording if word]
+    are_words = len(sent) == len(words) and all(line[: len(word.rstrip("."))] == word.rstrip(".") for line, word in zip(sent, words))
+    return (made.returncode, ran.returncode, seen) == (0, 0, events) and are_words
 
 
 def witnessed(program, tool, folder, recordings):
@@ -233,6 +246,67 @@ def inferred(tool, folder, setup, count):
     """For how many of the first recordings, which `judged` wrote, a build proposes a profile that explains them."""
     with concurrent.futures.ThreadPoolExecutor() as pool:
         return sum(pool.map(lambda n: is_inferred(tool, folder, setup, str(n)), range(count)))
+
+
+def exchanges_of(script):
+    """The events of an acceptance test, exchange by exchange."""
+    exchanges = []
+    for _, event in play.events_of(script):
+        if event and event[0] == "word" and event[2][0] == "c":
+            exchanges.append([])
+        if event:
+            exchanges[-1].append(event)
+    return exchanges
+
+
+def replies_of(setup, exchanges, seed):
+    """What a unit replies to each exchange, while its subsystem does something now and then."""
+    terminal, draw, replies = rules.Terminal(setup), random.Random(seed), []
+    for events in exchanges:
+        if draw.random() < 0.1:
+            terminal.step(("flag", draw.choice(rules.FLAGS), draw.randrange(2)))
+        answers = [terminal.step(it) for it in events]
+        replies.append([it[2] for it in answers if it and it[0] in ("status", "data")])
+    return replies
+
+
+def is_answered_so(setup, exchanges, replies):
+    """How many exchanges some behaviour of the subsystem explains with these replies, and then how many words of the next."""
+    terminal = AnySubsystem(setup)
+    for number, (events, reply) in enumerate(zip(exchanges, replies)):
+        for event in (it for it in events if it != ("slot",)):
+            terminal.step(event)
+        for at in range(max(len(reply), events.count(("slot",)))):
+            sent = (("data" if at else "status"), "A", reply[at]) if at < len(reply) else None
+            if not terminal.can_send(sent):
+                return number, at
+    return len(exchanges), 0
+
+
+def is_judged_by_results(tool, folder, setup, exchanges, replies):
+    """Whether a build says what is to be said of these replies to the acceptance test."""
+    rows = [f"{n},{' '.join(f'{word:04x}' for word in reply) or 'none'}" for n, reply in enumerate(replies, 1)]
+    (folder / "results").write_text("".join(f"{row}\n" for row in ["number,reply", *rows]))
+    ran = subprocess.run([tool, "acceptance", "--against", "results", "--any-subsystem", "profile.toml"], cwd=folder, capture_output=True, text=True, check=False)
+    number, at = is_answered_so(setup, exchanges, replies)
+    if number == len(exchanges):
+        return (ran.returncode, ran.stdout) == (0, f"some behaviour of the subsystem explains all {number} exchanges\n")
+    found = re.match(r"(\d+): .*, word (\d+) can be .*\n", ran.stdout)
+    return ran.returncode == 1 and found is not None and (int(found[1]), int(found[2])) == (number + 1, at + 1)
+
+
+def tested(tool, folder, setup, seed):
+    """How many of three units with such a subsystem a build judges rightly by the acceptance test: one as it is, two with a changed reply."""
+    script = subprocess.run([tool, "acceptance", "profile.toml"], cwd=folder, capture_output=True, check=False).stdout
+    exchanges, draw = exchanges_of(script), random.Random(seed)
+    replies = replies_of(setup, exchanges, seed)
+    units = [replies]
+    for _ in range(2):
+        at = draw.randrange(len(replies))
+        reply = replies[at]
+        words = [*reply[:-1], reply[-1] ^ 1 << draw.randrange(16)] if reply and draw.random() < 0.5 else [*reply, draw.getrandbits(16)] if len(reply) < 33 else reply[:-1]
+        units.append([*replies[:at], words, *replies[at + 1:]])
+    return sum(is_judged_by_results(tool, folder, setup, exchanges, it) for it in units)
 
 
 def by_name(lines):
@@ -286,12 +360,18 @@ def main():
             later_seeds = range(number, LATER_RUNS, PROFILES)
             later = [recorded_later(setup, seed) for seed in later_seeds]
             later += [it for it in map(changed, later, later_seeds) if it]
+            count = OPEN_RUNS // PROFILES
+            open_runs = [with_open_words(it, seed) for it, seed in zip(runs[:count], seeds)]
+            others += [with_open_words(it, seed) for it, seed in zip(others[:count], seeds)]
+            later += [with_open_words(it, seed) for it, seed in zip(later[:count], later_seeds)]
             for tool in tools:
                 count = INFERRED_RUNS // PROFILES
                 right = judged(tool, folder, setup, runs) + witnessed(program, tool, folder, runs) + inferred(tool, folder, setup, count)
                 right += judged(tool, folder, setup, others) + judged(tool, folder, setup, later, later=True)
+                right += judged(tool, folder, setup, open_runs) + witnessed(program, tool, folder, open_runs)
+                right += tested(tool, folder, setup, number)
                 passed += right
-                failed += 2 * len(runs) + count + len(others) + len(later) - right
+                failed += 2 * len(runs) + count + len(others) + len(later) + 2 * len(open_runs) + 3 - right
     print(f"{passed} passed, {failed} failed")
     return 1 if failed or not passed else 0
 

@@ -358,7 +358,7 @@ recording_rows() {
         verify --any-subsystem five silent
     row 'a word where none can come' 1 'unasked:1: expected B d 0001, came nothing\nunasked: differences: 1\n' '' verify --any-subsystem five unasked
     row 'what the subsystem does in a recording' 2 '' 'acts: script: line 2: what the subsystem does is not seen in a recording\n' verify --any-subsystem five acts
-    row 'a mask in a recording' 2 '' 'masks: script: line 3: a recording states each word whole, by #>\n' verify --any-subsystem five masks
+    row 'a mask of a status word in a recording' 2 '' 'masks: script: line 3: a recording states each word whole, or leaves a data word open, as in "#~ A d ...."\n' verify --any-subsystem five masks
     row 'a hand-over in a recording' 2 '' 'hands: script: line 2: a recording states the word that was sent, as in "A s 2800"\n' verify --any-subsystem five hands
     row 'capital digits in a recording' 2 '' 'capital: script: line 3: a recording states the word that was sent, as in "A s 2800"\n' verify --any-subsystem five capital
     row 'a recording and a test on the bus' 3 '' 'arguments: see --help\n' verify --any-subsystem --bus-only five flags

@@ -2,8 +2,8 @@
 use bus_legal::Normal;
 use rt1553::load;
 use rt1553_results::{
-    Comparison, Rows, TestRow, compare_results, csv_header, csv_row, json_row, other_command,
-    read_results,
+    Comparison, ResultsExplained, Rows, TestRow, compare_results, csv_header, csv_row,
+    explain_results, json_row, other_command, read_results,
 };
 use std::alloc::{AllocError, Global};
 use std::format;
@@ -141,6 +141,59 @@ no result for 1029 to 3871
         format!(in alloc; "{few}")?.as_str(),
         "3870 of 3871 exchanges have no result: no verdict"
     );
+    Ok(())
+}
+
+/// What comes of a table where the subsystem may do anything.
+fn explained(alloc: Global, text: &[u8]) -> Result<ResultsExplained, Fail> {
+    let p = load(alloc, PROFILE)?;
+    let results = read_results(alloc, text)?;
+    Ok(explain_results(alloc, &p, &results)?)
+}
+
+#[test]
+fn own_table_is_explained(rt: HostRuntime) -> Result<(), Fail> {
+    let alloc = rt.alloc();
+    let p = load(alloc, PROFILE)?;
+    let explained = explained(alloc, table(alloc, &p)?.as_slice())?;
+    assert!(rt; explained.passes());
+    assert_eq!(rt;
+        format!(in alloc; "{explained}")?.as_str(),
+        "some behaviour of the subsystem explains all 3871 exchanges"
+    );
+    Ok(())
+}
+
+/// Results, and the reply that nothing explains; empty for none.
+const EXPLAINED: [(&[u8], &str); 5] = [
+    (b"number,reply\n1,none\n2,2c10\n", ""),
+    (b"number,reply\n2,2800\n", ""),
+    (
+        b"number,reply\n1,none\n2,2800\n",
+        "2: transmit status word: legal: came 2800, word 1 can be 2c10",
+    ),
+    (
+        b"number,reply\n1,none\n2,2c10 0000\n",
+        "2: transmit status word: legal: came 2c10 0000, word 2 can be none",
+    ),
+    (
+        b"number,reply\n1,2800\n",
+        "1: broadcast transmit status word: illegal: came 2800, word 1 can be none",
+    ),
+];
+
+#[test]
+fn first_unexplained_reply(rt: HostRuntime) -> Result<(), Fail> {
+    let alloc = rt.alloc();
+    for (text, told) in EXPLAINED {
+        let explained = explained(alloc, text)?;
+        let line = match &explained.first {
+            Some(first) => format!(in alloc; "{first}")?,
+            None => String::new(alloc),
+        };
+        assert_eq!(rt; line.as_str(), told);
+        assert!(rt; !explained.passes());
+    }
     Ok(())
 }
 

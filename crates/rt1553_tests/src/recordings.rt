@@ -7,7 +7,7 @@ use monitor_cells::{RecordingSetup, read_time};
 use monitor_tables::{open_table, write_recording};
 use recorded_terminal::{Sent, Sighting, behaviour};
 use rt1553::load;
-use script_recordings::{watch_recording, watch_since, witness};
+use script_recordings::{watch_recording, watch_since, witness, witness_since};
 use std::alloc::{AllocError, Global};
 use std::test::Fail;
 
@@ -51,6 +51,25 @@ fn first_line_that_nothing_explains(rt: HostRuntime) -> Result<(), Fail> {
     Ok(())
 }
 
+/// A data word of which only the place is stated.
+#[test]
+fn data_word_that_is_left_open(rt: HostRuntime) -> Result<(), Fail> {
+    let profile =
+        b"address = 5\n[[rule]]\ndirection = \"transmit\"\nsubaddresses = \"3\"\ncounts = \"1\"\n";
+    let normal = load(rt.alloc(), profile.as_slice())?;
+    let script = b"A c 2c61\nA gap\nslot\n#> A s 2800\nslot\n#~ A d ....\n".as_slice();
+    let it = watch_recording(rt.alloc(), &normal, script)?;
+    assert!(rt; it.first.is_none(), "it is explained");
+    let script = b"A c 2c61\nA gap\nslot\n#> A s 2808\nslot\n#~ A d ....\n".as_slice();
+    let Some(first) = watch_recording(rt.alloc(), &normal, script)?.first else {
+        panic!(rt; "it is explained");
+    };
+    assert_eq!(rt; first.answer.line, 5);
+    assert_eq!(rt; first.answer.expected.as_slice(), b"A d ....\n".as_slice());
+    assert_eq!(rt; first.answer.came.as_slice(), b"".as_slice());
+    Ok(())
+}
+
 /// A status that was kept before, a pause, and then a message.
 #[test]
 fn recording_of_a_unit_that_was_on(rt: HostRuntime) -> Result<(), Fail> {
@@ -65,6 +84,26 @@ fn recording_of_a_unit_that_was_on(rt: HostRuntime) -> Result<(), Fail> {
     let it = watch_since(rt.alloc(), &normal, script)?;
     assert_eq!(rt; it.after, Some(5));
     assert_eq!(rt; it.first.map(|first| first.answer.line), Some(8));
+    Ok(())
+}
+
+/// A unit whose transmitter on bus B was shut down before: the events that shut it come first, and then the part that is judged.
+#[test]
+fn witness_of_a_unit_that_was_on(rt: HostRuntime) -> Result<(), Fail> {
+    let normal = load(rt.alloc(), b"address = 5")?;
+    let script =
+        b"A gap\nA gap\nB gap\nB gap\nslot\nB c 2c05\nB gap\nslot\nA c 2c05\nA gap\nslot\n#> A s 2804\n".as_slice();
+    let Some(told) = witness_since(rt.alloc(), &normal, script)? else {
+        panic!(rt; "no part begins afresh");
+    };
+    let played =
+        b"A c 2c04\nA gap\nslot\nflag subsystem 1\nB c 2c05\nB gap\nslot\nA c 2c05\nA gap\nslot\n".as_slice();
+    assert_eq!(rt; told.as_slice(), played);
+    let script = b"A c 2c05\nA gap\nslot\n#> A s 2800\n".as_slice();
+    assert!(rt;
+        witness_since(rt.alloc(), &normal, script)?.is_none(),
+        "no pause"
+    );
     Ok(())
 }
 

@@ -1,5 +1,5 @@
 -- What the command line asks for, by what clap found in it.
-use Rattle.std.specs.Prelude.{ℕ, ◌≡◌, ◌≢◌, Bool, true, false, if◌then◌else◌, codes, List, [], ◌∷◌, map, Option, Some, None, option_map}
+use Rattle.std.specs.Prelude.{ℕ, ◌≡◌, ◌≢◌, ◌⊎◌, Bool, true, false, if◌then◌else◌, codes, List, [], ◌∷◌, map, Option, Some, None, option_map}
 use Rattle.std.specs.Option.{unwrap_or}
 use Rattle.std.specs.Str.{bytes_eq}
 use Rattle.std.specs.Borrow.{Bor}
@@ -15,6 +15,8 @@ use Rattle.rt1553_tool_args.specs.declared.command.ScriptKind.{ScriptKind}
 use Rattle.rt1553_tool_args.specs.declared.command.ScriptKind.TheVariants.{Test, BusTest, Recording, LaterRecording}
 use Rattle.rt1553_tool_args.specs.declared.command.LintFormat.{LintFormat}
 use Rattle.rt1553_tool_args.specs.declared.command.LintFormat.TheVariants as lint
+use Rattle.rt1553_tool_args.specs.declared.command.CoverageFormat.{CoverageFormat}
+use Rattle.rt1553_tool_args.specs.declared.command.CoverageFormat.TheVariants as coverage
 use Rattle.rt1553_tool_args.specs.declared.command.ReportFormat.{ReportFormat}
 use Rattle.rt1553_tool_args.specs.declared.command.ReportFormat.TheVariants as report
 use Rattle.rt1553_tool_args.specs.declared.command.TestFormat.{TestFormat}
@@ -72,6 +74,10 @@ format_of o = if is_value (codes "csv") o then Csv else if is_value (codes "json
 abbrev pub lint_format_of : Option Text → LintFormat
 lint_format_of o = if is_value (codes "json") o then lint.Json else if is_value (codes "sarif") o then lint.Sarif else lint.Text
 
+-- how it is to be written what came in recordings
+abbrev pub coverage_format_of : Option Text → CoverageFormat
+coverage_format_of o = if is_value (codes "json") o then coverage.Json else if is_value (codes "html") o then coverage.Html else coverage.Text
+
 -- how results of scripts are to be written
 abbrev pub report_format_of : Option Text → ReportFormat
 report_format_of o =
@@ -97,9 +103,9 @@ abbrev pub command_name : ToolCommand → Text
 command_name (Lint files format) = codes "lint"
 command_name (CheckScript scripts) = codes "check-script"
 command_name (Verify profiles scripts kind expand format summary names) = codes "verify"
-command_name (Witness p script expand names) = codes "verify"
+command_name (Witness p script kind expand names) = codes "verify"
 command_name (Monitor table address gap no_response pause) = codes "recording"
-command_name (Coverage p scripts expand json names) = codes "coverage"
+command_name (Coverage p scripts expand format names) = codes "coverage"
 command_name (Infer script address legal expand) = codes "infer"
 command_name (Import table) = codes "import"
 command_name (Export p) = codes "export"
@@ -108,7 +114,7 @@ command_name (Toml p) = codes "toml"
 command_name (Explain p json names) = codes "explain"
 command_name (Differ p q scripts json names) = codes "differ"
 command_name (Acceptance p format names) = codes "acceptance"
-command_name (Against p results names) = codes "acceptance"
+command_name (Against asked) = codes "acceptance"
 command_name (Draw p script expand html names) = codes "draw"
 command_name Words = codes "words"
 command_name (Live p) = codes "live"
@@ -120,15 +126,15 @@ Asks f (CheckScript scripts) = texts_of scripts.items ≡ all_values f (codes "s
 Asks f (Verify profiles scripts kind expand format summary names) =
     PlaysTo f profiles (texts_of scripts.items) × (scripts.items ≢ []) × AsksKind f kind × (expand ≡ is_given f (codes "expand"))
     × AsksReport f format summary × HasNames f names × (is_given f (codes "witness") ≡ false)
-Asks f (Witness p script expand names) =
-    PlaysTo f (One p) (script.now ∷ []) × AsksKind f Recording × (expand ≡ is_given f (codes "expand")) × AsksReport f report.Text false
+Asks f (Witness p script kind expand names) =
+    PlaysTo f (One p) (script.now ∷ []) × AsksKind f kind × ((kind ≡ Recording) ⊎ (kind ≡ LaterRecording)) × (expand ≡ is_given f (codes "expand")) × AsksReport f report.Text false
     × HasNames f names × (is_given f (codes "witness") ≡ true)
 Asks f (Monitor table address gap no_response pause) =
     HasValue f (codes "table") table.now × HasValue f (codes "address") address.now × HasOption f (codes "gap") gap
     × HasOption f (codes "no-response") no_response × HasOption f (codes "pause") pause
-Asks f (Coverage p scripts expand json names) =
-    HasValue f (codes "profile") p.now × (texts_of scripts.items ≡ all_values f (codes "script")) × (expand ≡ is_given f (codes "expand")) × (json ≡ is_json f)
-    × HasNames f names
+Asks f (Coverage p scripts expand format names) =
+    HasValue f (codes "profile") p.now × (texts_of scripts.items ≡ all_values f (codes "script")) × (expand ≡ is_given f (codes "expand"))
+    × (format ≡ coverage_format_of (first_value f (codes "format"))) × HasNames f names
 Asks f (Infer script address legal expand) =
     HasValue f (codes "script") script.now × HasValue f (codes "address") address.now × (legal ≡ is_value (codes "legal") (first_value f (codes "unseen")))
     × (expand ≡ is_given f (codes "expand"))
@@ -140,9 +146,11 @@ Asks f (Explain p json names) = HasValue f (codes "profile") p.now × (json ≡ 
 Asks f (Differ p q scripts json names) =
     HasValue f (codes "profile") p.now × HasValue f (codes "other") q.now × (scripts ≡ is_given f (codes "scripts")) × (json ≡ is_json f) × HasNames f names
 Asks f (Acceptance p format names) =
-    HasValue f (codes "profile") p.now × (first_value f (codes "against") ≡ None) × (format ≡ format_of (first_value f (codes "format"))) × HasNames f names
-Asks f (Against p results names) =
-    HasValue f (codes "profile") p.now × HasValue f (codes "against") results.now × (format_of (first_value f (codes "format")) ≡ Script) × HasNames f names
+    HasValue f (codes "profile") p.now × (first_value f (codes "against") ≡ None) × (is_given f (codes "any-subsystem") ≡ false)
+    × (format ≡ format_of (first_value f (codes "format"))) × HasNames f names
+Asks f (Against asked) =
+    HasValue f (codes "profile") asked.profile.now × HasValue f (codes "against") asked.results.now × (asked.any_subsystem ≡ is_given f (codes "any-subsystem"))
+    × (format_of (first_value f (codes "format")) ≡ Script) × HasNames f asked.names
 Asks f (Draw p script expand html names) =
     HasValue f (codes "profile") p.now × HasValue f (codes "script") script.now × (expand ≡ is_given f (codes "expand")) × (html ≡ is_given f (codes "html"))
     × HasNames f names

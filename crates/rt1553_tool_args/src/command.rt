@@ -1,7 +1,7 @@
 //! What the command line asks for.
 ghost use Rattle.std.specs.Prelude.{◌≡◌, IfOk, codes, option_map, true};
 ghost use Rattle.clap.specs.Words.{first_value, found_of};
-ghost use Rattle.rt1553_tool_args.specs.Commands.{Asks, AsksKind, AsksReport, HasOption, HasValue, IsAskedBy, all_values, command_name, format_of, is_given, is_json, lint_format_of, report_format_of, texts_of};
+ghost use Rattle.rt1553_tool_args.specs.Commands.{Asks, AsksKind, AsksReport, HasOption, HasValue, IsAskedBy, all_values, command_name, coverage_format_of, format_of, is_given, is_json, lint_format_of, report_format_of, texts_of};
 
 use crate::args::NoCommand;
 use clap::ArgMatches;
@@ -51,6 +51,17 @@ pub enum LintFormat {
     Sarif,
 }
 
+/// How it is written what came in recordings.
+#[derive(Clone, Copy)]
+pub enum CoverageFormat {
+    /// As text.
+    Text,
+    /// As an object of JSON.
+    Json,
+    /// As a page.
+    Html,
+}
+
 /// How results of scripts are written.
 #[derive(Clone, Copy)]
 pub enum ReportFormat {
@@ -62,6 +73,17 @@ pub enum ReportFormat {
     Junit,
     /// As a page.
     Html,
+}
+
+/// What is asked for of the results of a unit.
+#[derive(Clone, Copy)]
+pub struct AskedResults<'a> {
+    pub profile: &'a str,
+    pub results: &'a str,
+    /// Some behaviour of the subsystem is to explain them.
+    pub any_subsystem: bool,
+    /// The table with the names of messages, where one is given.
+    pub names: Option<&'a str>,
 }
 
 /// What the command line asks for. The texts are names of files.
@@ -91,6 +113,8 @@ pub enum ToolCommand<'a> {
     Witness {
         profile: &'a str,
         script: &'a str,
+        /// A recording from power-up, or one that began at any time.
+        kind: ScriptKind,
         /// The file has messages, which are expanded first.
         expand: bool,
         names: Option<&'a str>,
@@ -109,7 +133,7 @@ pub enum ToolCommand<'a> {
         scripts: Vec<&'a str>,
         /// The files have messages, which are expanded first.
         expand: bool,
-        as_json: bool,
+        format: CoverageFormat,
         names: Option<&'a str>,
     },
     /// A profile that explains a recording.
@@ -149,12 +173,8 @@ pub enum ToolCommand<'a> {
         format: TestFormat,
         names: Option<&'a str>,
     },
-    /// The results of a unit compared with the acceptance test of a terminal.
-    Against {
-        profile: &'a str,
-        results: &'a str,
-        names: Option<&'a str>,
-    },
+    /// The results of a unit judged by the acceptance test of a terminal.
+    Against(AskedResults<'a>),
     /// A run as a drawing.
     Draw {
         profile: &'a str,
@@ -222,6 +242,17 @@ fn lint_format(given: &ArgMatches<'_>) -> LintFormat
     }
 }
 
+/// How it is to be written what came in recordings.
+fn coverage_format(given: &ArgMatches<'_>) -> CoverageFormat
+    ensures { result ≡ coverage_format_of (first_value (found_of given.now) (codes "format")) }
+{
+    match given.get_str("format") {
+        Some("json") => CoverageFormat::Json,
+        Some("html") => CoverageFormat::Html,
+        _ => CoverageFormat::Text,
+    }
+}
+
 /// How results of scripts are to be written.
 fn report_format(given: &ArgMatches<'_>) -> ReportFormat
     ensures { result ≡ report_format_of (first_value (found_of given.now) (codes "format")) }
@@ -272,17 +303,22 @@ fn witness_command<'a>(alloc: Global, given: &ArgMatches<'a>) -> Result<ToolComm
         [script] => *script,
         _ => return Err(NoCommand::Usage),
     };
-    match (
-        script_kind(given)?,
-        report_of(given)?,
-        given.get_str("profiles"),
-    ) {
-        (ScriptKind::Recording, (ReportFormat::Text, false), None) => Ok(ToolCommand::Witness {
-            profile: required(given, "profile")?,
-            script,
-            expand: is_flag_given(given, "expand"),
-            names: names_of(given),
-        }),
+    if given.get_str("profiles").is_some() {
+        return Err(NoCommand::Usage);
+    }
+    match (script_kind(given)?, report_of(given)?) {
+        (
+            kind @ (ScriptKind::Recording | ScriptKind::LaterRecording),
+            (ReportFormat::Text, false),
+        ) => {
+            Ok(ToolCommand::Witness {
+                profile: required(given, "profile")?,
+                script,
+                kind,
+                expand: is_flag_given(given, "expand"),
+                names: names_of(given),
+            })
+        }
         _ => Err(NoCommand::Usage),
     }
 }
@@ -319,6 +355,65 @@ fn verify_command<'a>(alloc: Global, given: &ArgMatches<'a>) -> Result<ToolComma
     })
 }
 
+/// What `lint` is asked for.
+fn lint_command<'a>(alloc: Global, given: &ArgMatches<'a>) -> Result<ToolCommand<'a>, NoCommand>
+    ensures { IfOk result (λ command. (command_name command ≡ codes "lint") × Asks (found_of given.now) command) }
+{
+    Ok(ToolCommand::Lint {
+        files: all_of(alloc, given, "file")?,
+        format: lint_format(given),
+    })
+}
+
+/// What `recording` is asked for.
+fn recording_command<'a>(given: &ArgMatches<'a>) -> Result<ToolCommand<'a>, NoCommand>
+    ensures { IfOk result (λ command. (command_name command ≡ codes "recording") × Asks (found_of given.now) command) }
+{
+    Ok(ToolCommand::Monitor {
+        table: required(given, "table")?,
+        address: required(given, "address")?,
+        gap: given.get_str("gap"),
+        no_response: given.get_str("no-response"),
+        pause: given.get_str("pause"),
+    })
+}
+
+/// What `coverage` is asked for.
+fn coverage_command<'a>(alloc: Global, given: &ArgMatches<'a>) -> Result<ToolCommand<'a>, NoCommand>
+    ensures { IfOk result (λ command. (command_name command ≡ codes "coverage") × Asks (found_of given.now) command) }
+{
+    Ok(ToolCommand::Coverage {
+        profile: required(given, "profile")?,
+        scripts: all_of(alloc, given, "script")?,
+        expand: is_flag_given(given, "expand"),
+        format: coverage_format(given),
+        names: names_of(given),
+    })
+}
+
+/// What `infer` is asked for.
+fn infer_command<'a>(given: &ArgMatches<'a>) -> Result<ToolCommand<'a>, NoCommand>
+    ensures { IfOk result (λ command. (command_name command ≡ codes "infer") × Asks (found_of given.now) command) }
+{
+    Ok(ToolCommand::Infer {
+        script: required(given, "script")?,
+        address: required(given, "address")?,
+        unseen_is_legal: given.get_str("unseen") == Some("legal"),
+        expand: is_flag_given(given, "expand"),
+    })
+}
+
+/// What `explain` is asked for.
+fn explain_command<'a>(given: &ArgMatches<'a>) -> Result<ToolCommand<'a>, NoCommand>
+    ensures { IfOk result (λ command. (command_name command ≡ codes "explain") × Asks (found_of given.now) command) }
+{
+    Ok(ToolCommand::Explain {
+        profile: required(given, "profile")?,
+        as_json: as_json(given),
+        names: names_of(given),
+    })
+}
+
 /// What `differ` is asked for.
 fn differ_command<'a>(given: &ArgMatches<'a>) -> Result<ToolCommand<'a>, NoCommand>
     ensures { IfOk result (λ command. (command_name command ≡ codes "differ") × Asks (found_of given.now) command) }
@@ -343,24 +438,26 @@ fn test_format(given: &ArgMatches<'_>) -> TestFormat
     }
 }
 
-/// What `acceptance` is asked for. A comparison is written as text alone.
+/// What `acceptance` is asked for. A comparison is written as text alone, and only there any subsystem is asked for.
 fn acceptance_command<'a>(given: &ArgMatches<'a>) -> Result<ToolCommand<'a>, NoCommand>
     ensures { IfOk result (λ command. (command_name command ≡ codes "acceptance") × Asks (found_of given.now) command) }
 {
     let profile = required(given, "profile")?;
     let names = names_of(given);
+    let any_subsystem = is_flag_given(given, "any-subsystem");
     match (given.get_str("against"), test_format(given)) {
-        (None, format) => Ok(ToolCommand::Acceptance {
+        (None, format) if !any_subsystem => Ok(ToolCommand::Acceptance {
             profile,
             format,
             names,
         }),
-        (Some(results), TestFormat::Script) => Ok(ToolCommand::Against {
+        (Some(results), TestFormat::Script) => Ok(ToolCommand::Against(AskedResults {
             profile,
             results,
+            any_subsystem,
             names,
-        }),
-        (Some(_), _) => Err(NoCommand::Usage),
+        })),
+        _ => Err(NoCommand::Usage),
     }
 }
 
@@ -387,41 +484,17 @@ fn command_of<'a>(
     ensures asks { IfOk result (Asks (found_of given.now)) }
 {
     match name {
-        "lint" => Ok(ToolCommand::Lint {
-            files: all_of(alloc, given, "file")?,
-            format: lint_format(given),
-        }),
+        "lint" => lint_command(alloc, given),
         "check-script" => Ok(ToolCommand::CheckScript(all_of(alloc, given, "script")?)),
         "verify" => verify_command(alloc, given),
-        "recording" => Ok(ToolCommand::Monitor {
-            table: required(given, "table")?,
-            address: required(given, "address")?,
-            gap: given.get_str("gap"),
-            no_response: given.get_str("no-response"),
-            pause: given.get_str("pause"),
-        }),
-        "coverage" => Ok(ToolCommand::Coverage {
-            profile: required(given, "profile")?,
-            scripts: all_of(alloc, given, "script")?,
-            expand: is_flag_given(given, "expand"),
-            as_json: as_json(given),
-            names: names_of(given),
-        }),
-        "infer" => Ok(ToolCommand::Infer {
-            script: required(given, "script")?,
-            address: required(given, "address")?,
-            unseen_is_legal: given.get_str("unseen") == Some("legal"),
-            expand: is_flag_given(given, "expand"),
-        }),
+        "recording" => recording_command(given),
+        "coverage" => coverage_command(alloc, given),
+        "infer" => infer_command(given),
         "import" => Ok(ToolCommand::Import(required(given, "table")?)),
         "export" => Ok(ToolCommand::Export(required(given, "profile")?)),
         "expand" => Ok(ToolCommand::Expand(required(given, "messages")?)),
         "toml" => Ok(ToolCommand::Toml(required(given, "profile")?)),
-        "explain" => Ok(ToolCommand::Explain {
-            profile: required(given, "profile")?,
-            as_json: as_json(given),
-            names: names_of(given),
-        }),
+        "explain" => explain_command(given),
         "differ" => differ_command(given),
         "acceptance" => acceptance_command(given),
         "draw" => draw_command(given),

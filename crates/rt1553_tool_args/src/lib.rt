@@ -6,4 +6,7 @@ mod command;
 mod table;
 
 pub use args::{NoCommand, VERSION, read_tool_args};
-pub use command::{LintFormat, Profiles, ReportFormat, ScriptKind, TestFormat, ToolCommand};
+pub use command::{
+    AskedResults, CoverageFormat, LintFormat, Profiles, ReportFormat, ScriptKind, TestFormat,
+    ToolCommand,
+};

@@ -52,6 +52,8 @@ const ILLEGAL_OR_LEGAL: [&str; 2] = ["illegal", "legal"];
 
 const TEXT_OR_SARIF: [&str; 3] = ["text", "json", "sarif"];
 
+const TEXT_OR_PAGE: [&str; 3] = ["text", "json", "html"];
+
 const TEXT_OR_REPORT: [&str; 4] = ["text", "json", "junit", "html"];
 
 const TEXT_OR_TABLE: [&str; 3] = ["text", "csv", "json"];
@@ -200,7 +202,12 @@ const COVERAGE: [Argument; 5] = [
         help: "recordings",
     },
     EXPANDED,
-    FORMAT,
+    Argument {
+        id: "format",
+        given: Occurrence::OneOf("text", &TEXT_OR_PAGE),
+        value: "FORMAT",
+        help: "the output format",
+    },
     NAMES,
 ];
 
@@ -278,13 +285,19 @@ const DRAW: [Argument; 5] = [
     NAMES,
 ];
 
-const ACCEPTANCE: [Argument; 4] = [
+const ACCEPTANCE: [Argument; 5] = [
     PROFILE,
     Argument {
         id: "against",
         given: Occurrence::Value,
         value: "RESULTS",
         help: "compares the replies of a unit, a CSV table, with the test",
+    },
+    Argument {
+        id: "any-subsystem",
+        given: Occurrence::Flag,
+        value: "",
+        help: "with --against: some behaviour of the subsystem is to explain the replies",
     },
     Argument {
         id: "format",

@@ -54,12 +54,14 @@ fn do_command<R: Files + AllocGlobal + Eprint, I: Read + Drop, W: Write>(
         ToolCommand::Witness {
             profile,
             script,
+            kind,
             expand,
             names,
         } => {
             let asked = AskedWitness {
                 profile,
                 script,
+                kind: *kind,
                 expand: *expand,
                 names: *names,
             };
@@ -85,13 +87,13 @@ fn do_command<R: Files + AllocGlobal + Eprint, I: Read + Drop, W: Write>(
             profile,
             scripts,
             expand,
-            as_json,
+            format,
             names,
         } => {
             let asked = AskedCoverage {
                 profile,
                 expand: *expand,
-                as_json: *as_json,
+                format: *format,
                 names: *names,
             };
             cover_scripts(rt, asked, scripts.as_slice(), output)
@@ -133,11 +135,7 @@ fn do_command<R: Files + AllocGlobal + Eprint, I: Read + Drop, W: Write>(
             format,
             names,
         } => write_test(rt, profile, *names, *format, screen.has_progress, output),
-        ToolCommand::Against {
-            profile,
-            results,
-            names,
-        } => against(rt, profile, results, *names, output),
+        ToolCommand::Against(asked) => against(rt, *asked, output),
         ToolCommand::Draw {
             profile,
             script,

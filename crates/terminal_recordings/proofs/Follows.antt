@@ -15,7 +15,7 @@ use Rattle.terminal_rules.specs.Out.{Handing, Sending, handing_over, hands, send
 use Rattle.terminal_rules.proofs.Reach.Answers.{NextCan, reply_can}
 use Rattle.terminal_recordings.specs.Recordings.{Sighting, is_seen, sightings_from}
 use Rattle.terminal_recordings.specs.Completion.{status_sent, data_sent, next_status, flag_shown, flags_set, word_set, next_set, told_before, shown_from}
-use Rattle.terminal_recordings.specs.Masks.{MaskedSighting, FitsWord, Fits, unmasked}
+use Rattle.terminal_recordings.specs.Masks.{MaskedSighting, FitsWord, FitsMasked, unmasked}
 use Rattle.terminal_recordings.proofs.Summary.{Summary, summary, quiet_law}
 use Rattle.terminal_recordings.proofs.Alike.{Alike}
 use Rattle.terminal_recordings.proofs.Step.{heard_alike}
@@ -28,7 +28,7 @@ Follows P k front later = (l : List Event) × (shown_from P k (front ++ later) �
 
 -- and where the front leaves words open, a recording that fits it
 abbrev pub FollowsOpen : Description → List Event → List MaskedSighting → List Sighting → Type 0
-FollowsOpen P k front later = (l : List Event) × (shows : List Sighting) × Fits front shows × (shown_from P k (unmasked front ++ later) ≡ shows ++ shown_from P l later)
+FollowsOpen P k front later = (l : List Event) × (shows : List Sighting) × FitsMasked front shows × (shown_from P k (unmasked front ++ later) ≡ shows ++ shown_from P l later)
 
 -- the second history, where the flags are those that this recording shows
 abbrev pub AlikeFor : Description → List Event → List Event → List Sighting → Type 0
@@ -161,7 +161,7 @@ slot_follows P low h k m front later same seen fits a next =
 quiet_follows : (P : Description) (h k : List Event) (e : Event) (recording : List Sighting) → is_seen e ≡ false → AlikeFor P h k recording → AlikeFor P (e ∷ h) k recording
 quiet_follows P h k e recording u a = subst (λ (t : Summary). Alike (flag_shown (next_status recording)) t (summary P (past P k))) (sym (quiet_law P (past P h) e u)) a
 
-pub follows_open : (P : Description) → P.address ≤ 30 → (es h k : List Event) (ms : List MaskedSighting) (later : List Sighting) → Fits ms (sightings_from P h es) → AlikeFor P h k (unmasked ms ++ later) →
+pub follows_open : (P : Description) → P.address ≤ 30 → (es h k : List Event) (ms : List MaskedSighting) (later : List Sighting) → FitsMasked ms (sightings_from P h es) → AlikeFor P h k (unmasked ms ++ later) →
     FollowsOpen P k ms later
 follows_open P low [] h k [] later fits a = (k, [], tt, refl)
 follows_open P low [] h k (m ∷ ms) later fits a = absurd fits
@@ -187,11 +187,11 @@ whole_is : (xs : List Sighting) → unmasked (whole xs) ≡ xs
 whole_is [] = refl
 whole_is (x ∷ xs) = ap (λ l. x ∷ l) (whole_is xs)
 
-whole_fits : (xs : List Sighting) → Fits (whole xs) xs
+whole_fits : (xs : List Sighting) → FitsMasked (whole xs) xs
 whole_fits [] = tt
 whole_fits (x ∷ xs) = (record { event = refl; sent = refl }, whole_fits xs)
 
-whole_alone : (xs ys : List Sighting) → Fits (whole xs) ys → ys ≡ xs
+whole_alone : (xs ys : List Sighting) → FitsMasked (whole xs) ys → ys ≡ xs
 whole_alone [] [] fits = refl
 whole_alone [] (y ∷ ys) fits = absurd fits
 whole_alone (x ∷ xs) [] fits = absurd fits

@@ -9,7 +9,7 @@ use Rattle.terminal_rules.specs.Out.{Sending}
 use Rattle.terminal_recordings.specs.Recordings.{Sighting, sightings_from, IsExplainedAfter, IsRecording}
 use Rattle.terminal_recordings.specs.Completion.{completion_from, shown_from}
 use Rattle.terminal_recordings.specs.Later.{IsExplainedLater, Gaps, no_gaps, gaps_with, fresh_part, command_for, first_command, asks_back, BeginsAfresh, ShutDown, shutting, shut_history}
-use Rattle.terminal_recordings.specs.Masks.{MaskedSighting, FitsWord, Fits, unmasked, ExplainsSome, MaskLaw}
+use Rattle.terminal_recordings.specs.Masks.{MaskedSighting, FitsWord, FitsMasked, unmasked, ExplainsSome, MaskLaw}
 use Rattle.terminal_recordings.proofs.Follows.{FollowsOpen, follows_open}
 use Rattle.terminal_recordings.proofs.Law.{front_of, told_explains, shown_again}
 use Rattle.terminal_recordings.proofs.Leaving.{shutting_leaves, shutting_proper}
@@ -20,8 +20,8 @@ unmasked_join [] ys = refl
 unmasked_join (x ∷ xs) ys = ap (λ l. x.sighting ∷ l) (unmasked_join xs ys)
 
 -- a front of what is stated, and the recordings that fit
-cut_fits : (front later : List MaskedSighting) (recording : List Sighting) → Fits (front ++ later) recording →
-    (xs : List Sighting) × (ys : List Sighting) × Fits front xs × Fits later ys × (recording ≡ xs ++ ys)
+cut_fits : (front later : List MaskedSighting) (recording : List Sighting) → FitsMasked (front ++ later) recording →
+    (xs : List Sighting) × (ys : List Sighting) × FitsMasked front xs × FitsMasked later ys × (recording ≡ xs ++ ys)
 cut_fits [] later recording fits = ([], recording, tt, fits, refl)
 cut_fits (m ∷ front) later [] fits = absurd fits
 cut_fits (m ∷ front) later (s ∷ recording) (f, fits) =
@@ -34,35 +34,35 @@ some_front P h front later (recording, fits, (es, a, e)) =
     (cut.0, cut.2, front_of P es h cut.0 cut.1 a (e ∙ cut.4))
 
 -- what is shown where events are seen as one that fits
-seen_follows : (P : Description) → P.address ≤ 30 → (h es : List Event) (ms : List MaskedSighting) (later : List Sighting) → Fits ms (sightings_from P h es) → FollowsOpen P h ms later
+seen_follows : (P : Description) → P.address ≤ 30 → (h es : List Event) (ms : List MaskedSighting) (later : List Sighting) → FitsMasked ms (sightings_from P h es) → FollowsOpen P h ms later
 seen_follows P low h es ms later fits = follows_open P low es h h ms later fits (record { determined = refl; inhibited = λ e. e; kept = inl refl; reply = inl refl })
 
 some_follows : (P : Description) → P.address ≤ 30 → (h : List Event) (ms : List MaskedSighting) (later : List Sighting) → ExplainsSome (IsExplainedAfter P h) ms → FollowsOpen P h ms later
-some_follows P low h ms later (recording, fits, (es, a, e)) = seen_follows P low h es ms later (subst (Fits ms) (sym e) fits)
+some_follows P low h ms later (recording, fits, (es, a, e)) = seen_follows P low h es ms later (subst (FitsMasked ms) (sym e) fits)
 
-shown_fits : (P : Description) (h : List Event) (ms : List MaskedSighting) → FollowsOpen P h ms [] → Fits ms (shown_from P h (unmasked ms))
+shown_fits : (P : Description) (h : List Event) (ms : List MaskedSighting) → FollowsOpen P h ms [] → FitsMasked ms (shown_from P h (unmasked ms))
 shown_fits P h ms f =
     let same : shown_from P h (unmasked ms) ≡ f.1 = ap (shown_from P h) (sym (append-nil (unmasked ms))) ∙ (f.3 ∙ append-nil f.1) in
-    subst (Fits ms) (sym same) f.2
+    subst (FitsMasked ms) (sym same) f.2
 
-fits_explains : (P : Description) (h : List Event) (ms : List MaskedSighting) → IsRecording (unmasked ms) → Fits ms (shown_from P h (unmasked ms)) → ExplainsSome (IsExplainedAfter P h) ms
+fits_explains : (P : Description) (h : List Event) (ms : List MaskedSighting) → IsRecording (unmasked ms) → FitsMasked ms (shown_from P h (unmasked ms)) → ExplainsSome (IsExplainedAfter P h) ms
 fits_explains P h ms r fits = (shown_from P h (unmasked ms), fits, told_explains P h (unmasked ms) (shown_from P h (unmasked ms)) r refl)
 
 -- the first of what is shown
-first_fits : (n : ℕ) (ms : List MaskedSighting) (shows : List Sighting) (rest : List Sighting → List Sighting) → rest [] ≡ [] → Fits (take n ms) shows →
-    Fits (take n ms) (take n (shows ++ rest (unmasked (drop n ms))))
+first_fits : (n : ℕ) (ms : List MaskedSighting) (shows : List Sighting) (rest : List Sighting → List Sighting) → rest [] ≡ [] → FitsMasked (take n ms) shows →
+    FitsMasked (take n ms) (take n (shows ++ rest (unmasked (drop n ms))))
 first_fits zero ms shows rest e fits = tt
-first_fits (suc n) [] [] rest e fits = subst (λ (l : List Sighting). Fits [] (take (suc n) l)) (sym e) tt
+first_fits (suc n) [] [] rest e fits = subst (λ (l : List Sighting). FitsMasked [] (take (suc n) l)) (sym e) tt
 first_fits (suc n) [] (s ∷ shows) rest e fits = absurd fits
 first_fits (suc n) (m ∷ ms) [] rest e fits = absurd fits
 first_fits (suc n) (m ∷ ms) (s ∷ shows) rest e (f, fits) = (f, first_fits n ms shows rest e fits)
 
-first_shown : (P : Description) (h : List Event) (ms : List MaskedSighting) (n : ℕ) → FollowsOpen P h (take n ms) (unmasked (drop n ms)) → Fits (take n ms) (take n (shown_from P h (unmasked ms)))
+first_shown : (P : Description) (h : List Event) (ms : List MaskedSighting) (n : ℕ) → FollowsOpen P h (take n ms) (unmasked (drop n ms)) → FitsMasked (take n ms) (take n (shown_from P h (unmasked ms)))
 first_shown P h ms n (l, shows, fits, e) =
     let all : unmasked (take n ms) ++ unmasked (drop n ms) ≡ unmasked ms = sym (unmasked_join (take n ms) (drop n ms)) ∙ ap unmasked (take-append-drop n ms) in
-    subst (λ (xs : List Sighting). Fits (take n ms) (take n xs)) (sym e ∙ ap (shown_from P h) all) (first_fits n ms shows (shown_from P l) refl fits)
+    subst (λ (xs : List Sighting). FitsMasked (take n ms) (take n xs)) (sym e ∙ ap (shown_from P h) all) (first_fits n ms shows (shown_from P l) refl fits)
 
-first_explains : (P : Description) (h : List Event) (ms : List MaskedSighting) (n : ℕ) → IsRecording (unmasked ms) → Fits (take n ms) (take n (shown_from P h (unmasked ms))) →
+first_explains : (P : Description) (h : List Event) (ms : List MaskedSighting) (n : ℕ) → IsRecording (unmasked ms) → FitsMasked (take n ms) (take n (shown_from P h (unmasked ms))) →
     ExplainsSome (IsExplainedAfter P h) (take n ms)
 first_explains P h ms n r fits =
     let shows : List Sighting = shown_from P h (unmasked ms) in
@@ -71,7 +71,7 @@ first_explains P h ms n r fits =
 
 -- ---- later than power-up
 
-first_command_fits : (P : Description) (ms : List MaskedSighting) (recording : List Sighting) → Fits ms recording → first_command P recording ≡ first_command P (unmasked ms)
+first_command_fits : (P : Description) (ms : List MaskedSighting) (recording : List Sighting) → FitsMasked ms recording → first_command P recording ≡ first_command P (unmasked ms)
 first_command_fits P [] [] fits = refl
 first_command_fits P [] (s ∷ recording) fits = absurd fits
 first_command_fits P (m ∷ ms) [] fits = absurd fits
@@ -83,7 +83,7 @@ begun : (P : Description) (ms : List MaskedSighting) → P.address ≤ 30 → P.
 begun P ms low l r afresh (recording, fits, x) =
     let f = explained_follows P recording [] low l (ap (asks_back P) (first_command_fits P ms recording fits) ∙ afresh) x in
     let k : List Event = shut_history P f.0 in
-    (f.0, fits_explains P k ms r (shown_fits P k ms (seen_follows P low k (completion_from P k recording) ms [] (subst (Fits ms) (sym (shown_again P k recording f.1)) fits))))
+    (f.0, fits_explains P k ms r (shown_fits P k ms (seen_follows P low k (completion_from P k recording) ms [] (subst (FitsMasked ms) (sym (shown_again P k recording f.1)) fits))))
 
 begun_later : (P : Description) (ms : List MaskedSighting) → P.address ≤ 30 → P.legal (OwnMode 4) ≡ true → (shut : ShutDown) → ExplainsSome (IsExplainedAfter P (shut_history P shut)) ms →
     ExplainsSome (IsExplainedLater P) ms
@@ -115,7 +115,7 @@ record Part (P : Description) (ms : List MaskedSighting) (found : List Sighting)
   pub all : ms ≡ front ++ part
   pub is : found ≡ unmasked part
   pub later : List Sighting
-  pub fits : Fits part later
+  pub fits : FitsMasked part later
   pub same : seen ≡ Some later
 
 part_more : (P : Description) (m : MaskedSighting) (ms : List MaskedSighting) (found : List Sighting) (seen : Option (List Sighting)) → Part P ms found seen → Part P (m ∷ ms) found seen
@@ -129,7 +129,7 @@ part_more P m ms found seen p = record {
   same = p.same;
 }
 
-part_of : (P : Description) (g : Gaps) (ms : List MaskedSighting) (recording found : List Sighting) → Fits ms recording → fresh_part P g (unmasked ms) ≡ Some found → Part P ms found (fresh_part P g recording)
+part_of : (P : Description) (g : Gaps) (ms : List MaskedSighting) (recording found : List Sighting) → FitsMasked ms recording → fresh_part P g (unmasked ms) ≡ Some found → Part P ms found (fresh_part P g recording)
 part_of P g [] recording found fits e = absurd (cc)
 part_of P g (m ∷ ms) [] found fits e = absurd fits
 part_of P g (m ∷ ms) (s ∷ recording) found (f, fits) e =
@@ -164,12 +164,12 @@ same_end [] ms (x ∷ other) part e n = absurd (omega (arith, ap length e, lengt
 same_end (x ∷ front) ms [] part e n = absurd (omega (arith, ap length e, length-append front ms, n))
 same_end (x ∷ front) ms (y ∷ other) part e n = let tails : front ++ ms ≡ other ++ part = cc in same_end front ms other part tails n
 
-part_fits : (P : Description) (g : Gaps) (front ms : List MaskedSighting) (recording : List Sighting) → Fits (front ++ ms) recording →
-    fresh_part P g (unmasked (front ++ ms)) ≡ Some (unmasked ms) → (later : List Sighting) × Fits ms later × (fresh_part P g recording ≡ Some later)
+part_fits : (P : Description) (g : Gaps) (front ms : List MaskedSighting) (recording : List Sighting) → FitsMasked (front ++ ms) recording →
+    fresh_part P g (unmasked (front ++ ms)) ≡ Some (unmasked ms) → (later : List Sighting) × FitsMasked ms later × (fresh_part P g recording ≡ Some later)
 part_fits P g front ms recording fits e =
     let p : Part P (front ++ ms) (unmasked ms) (fresh_part P g recording) = part_of P g (front ++ ms) recording (unmasked ms) fits e in
     let long : length p.part ≡ length ms = sym (unmasked_length p.part) ∙ (ap length (sym p.is) ∙ unmasked_length ms) in
-    (p.later, subst (λ (l : List MaskedSighting). Fits l p.later) (same_end front ms p.front p.part p.all long) p.fits, p.same)
+    (p.later, subst (λ (l : List MaskedSighting). FitsMasked l p.later) (same_end front ms p.front p.part p.all long) p.fits, p.same)
 
 pub mask_law : MaskLaw
 mask_law = record {

@@ -32,10 +32,10 @@ pub record FitsSighting (m : MaskedSighting) (s : Sighting) : Type 0 where
   pub sent : FitsWord m.any_word m.sighting.sent s.sent
 
 -- a recording is one of those that are stated
-abbrev pub Fits : List MaskedSighting → List Sighting → Type 0
-Fits [] [] = Unit {0}
-Fits (m ∷ ms) (s ∷ recording) = FitsSighting m s × Fits ms recording
-Fits _ _ = ⊥
+abbrev pub FitsMasked : List MaskedSighting → List Sighting → Type 0
+FitsMasked [] [] = Unit {0}
+FitsMasked (m ∷ ms) (s ∷ recording) = FitsSighting m s × FitsMasked ms recording
+FitsMasked _ _ = ⊥
 
 -- the one that has the words which stand where any may be
 abbrev pub unmasked : List MaskedSighting → List Sighting
@@ -43,16 +43,16 @@ unmasked ms = map (λ m. m.sighting) ms
 
 -- one of those that are stated is explained
 abbrev pub ExplainsSome : (List Sighting → Type 0) → List MaskedSighting → Type 0
-ExplainsSome explains ms = (recording : List Sighting) × Fits ms recording × explains recording
+ExplainsSome explains ms = (recording : List Sighting) × FitsMasked ms recording × explains recording
 
 -- One of the recordings that are stated is explained exactly if what is shown of any of them is one of them. The same holds of each front. So
 -- it does of one that begins afresh, later than power-up, after one of the four beginnings. And all begin afresh after the same pause.
 pub record MaskLaw : Type 0 where
   pub decided : (P : Description) (h : List Event) (ms : List MaskedSighting) → P.address ≤ 30 → IsRecording (unmasked ms) →
-      ExplainsSome (IsExplainedAfter P h) ms ↔ Fits ms (shown_from P h (unmasked ms))
+      ExplainsSome (IsExplainedAfter P h) ms ↔ FitsMasked ms (shown_from P h (unmasked ms))
   pub first : (P : Description) (h : List Event) (ms : List MaskedSighting) (n : ℕ) → P.address ≤ 30 → IsRecording (unmasked ms) →
-      ExplainsSome (IsExplainedAfter P h) (take n ms) ↔ Fits (take n ms) (take n (shown_from P h (unmasked ms)))
+      ExplainsSome (IsExplainedAfter P h) (take n ms) ↔ FitsMasked (take n ms) (take n (shown_from P h (unmasked ms)))
   pub later : (P : Description) (ms : List MaskedSighting) → P.address ≤ 30 → P.legal (OwnMode mode.shutdown) ≡ true → IsRecording (unmasked ms) → BeginsAfresh P (unmasked ms) →
       ExplainsSome (IsExplainedLater P) ms ↔ ((shut : ShutDown) × ExplainsSome (IsExplainedAfter P (shut_history P shut)) ms)
-  pub part : (P : Description) (g : Gaps) (front ms : List MaskedSighting) (recording : List Sighting) → Fits (front ++ ms) recording →
-      fresh_part P g (unmasked (front ++ ms)) ≡ Some (unmasked ms) → (later : List Sighting) × Fits ms later × (fresh_part P g recording ≡ Some later)
+  pub part : (P : Description) (g : Gaps) (front ms : List MaskedSighting) (recording : List Sighting) → FitsMasked (front ++ ms) recording →
+      fresh_part P g (unmasked (front ++ ms)) ≡ Some (unmasked ms) → (later : List Sighting) × FitsMasked ms later × (fresh_part P g recording ≡ Some later)

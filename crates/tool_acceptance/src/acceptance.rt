@@ -12,10 +12,11 @@ use message_names::{MessageNames, quoted};
 use rt1553_acceptance::{Progress, write_acceptance};
 use rt1553_files::escaped;
 use rt1553_results::{
-    CompareFault, Comparison, NamedReply, Results, ResultsFault, Rows, WrongReply, compare_results,
-    csv_header, csv_row, json_row, other_command, read_results,
+    CompareFault, Comparison, NamedReply, NamedUnexplained, Results, ResultsExplained,
+    ResultsFault, Rows, UnexplainedReply, WrongReply, compare_results, csv_header, csv_row,
+    explain_results, json_row, other_command, read_results,
 };
-use rt1553_tool_args::TestFormat;
+use rt1553_tool_args::{AskedResults, TestFormat};
 use std::alloc::{AllocError, Global};
 use std::io::Write;
 use std::rt::Files;
@@ -195,6 +196,18 @@ fn load_results<R: Files + AllocGlobal>(
     }
 }
 
+/// The name of the message of a command, as it is printed, where it has one.
+fn printed_name(
+    alloc: Global,
+    names: Option<&MessageNames>,
+    command: u16,
+) -> Result<Option<String>, AllocError> {
+    match names.and_then(|names| name_of_command(names, command)) {
+        Some(name) => Ok(Some(quoted(alloc, name)?)),
+        None => Ok(None),
+    }
+}
+
 /// Adds a reply that is not that of the terminal, with the name of its message, where it has one.
 fn push_reply(
     alloc: Global,
@@ -202,13 +215,8 @@ fn push_reply(
     names: Option<&MessageNames>,
     reply: &WrongReply,
 ) -> Result<(), AllocError> {
-    let name = match names {
-        Some(names) => name_of_command(names, reply.command),
-        None => None,
-    };
-    match name {
+    match printed_name(alloc, names, reply.command)? {
         Some(name) => {
-            let name = quoted(alloc, name)?;
             let name = name.as_str();
             writeln!(text, "{}", NamedReply { reply, name })
         }
@@ -216,13 +224,28 @@ fn push_reply(
     }
 }
 
-/// Writes what a comparison tells, and the verdict, at once.
-fn put_comparison<W: Write>(
+/// Adds the reply that no behaviour of the subsystem explains, in the same way.
+fn push_unexplained(
+    alloc: Global,
+    text: &mut String,
+    names: Option<&MessageNames>,
+    reply: &UnexplainedReply,
+) -> Result<(), AllocError> {
+    match printed_name(alloc, names, reply.command)? {
+        Some(name) => {
+            let name = name.as_str();
+            writeln!(text, "{}", NamedUnexplained { reply, name })
+        }
+        None => writeln!(text, "{reply}"),
+    }
+}
+
+/// What a comparison tells, and the verdict.
+fn comparison_text(
     alloc: Global,
     names: Option<&MessageNames>,
     comparison: &Comparison,
-    output: &mut W,
-) -> Result<(), ToolFault> {
+) -> Result<String, AllocError> {
     let mut text = String::new(alloc);
     for reply in comparison.wrong_replies.as_slice() {
         push_reply(alloc, &mut text, names, reply)?;
@@ -231,27 +254,83 @@ fn put_comparison<W: Write>(
         writeln!(text, "{numbers}")?;
     }
     writeln!(text, "{comparison}")?;
-    write_bytes(output, text.as_str().as_bytes())
+    Ok(text)
 }
 
-/// Compares the results of a unit with the acceptance test of the terminal of a profile. The status tells whether the unit is
-/// this terminal.
+/// What comes of results where the subsystem may do anything, and the verdict.
+fn explained_text(
+    alloc: Global,
+    names: Option<&MessageNames>,
+    explained: &ResultsExplained,
+) -> Result<String, AllocError> {
+    let mut text = String::new(alloc);
+    if let Some(reply) = &explained.first {
+        push_unexplained(alloc, &mut text, names, reply)?;
+    }
+    for numbers in explained.missing.as_slice() {
+        writeln!(text, "{numbers}")?;
+    }
+    writeln!(text, "{explained}")?;
+    Ok(text)
+}
+
+/// What is told of results, and whether they pass.
+#[derive(Drop)]
+struct ResultsVerdict {
+    text: String,
+    passes: bool,
+}
+
+/// What a comparison of the results of a unit with the acceptance test of a terminal tells.
+fn compared(
+    alloc: Global,
+    normal: &Normal,
+    names: Option<&MessageNames>,
+    results: &Results,
+) -> Result<ResultsVerdict, CompareFault> {
+    let comparison = compare_results(alloc, normal, results)?;
+    Ok(ResultsVerdict {
+        text: comparison_text(alloc, names, &comparison)?,
+        passes: comparison.passes(),
+    })
+}
+
+/// What comes of the results of a unit where the subsystem may do anything.
+fn explained(
+    alloc: Global,
+    normal: &Normal,
+    names: Option<&MessageNames>,
+    results: &Results,
+) -> Result<ResultsVerdict, CompareFault> {
+    let explained = explain_results(alloc, normal, results)?;
+    Ok(ResultsVerdict {
+        text: explained_text(alloc, names, &explained)?,
+        passes: explained.passes(),
+    })
+}
+
+/// Judges the results of a unit by the acceptance test of the terminal of a profile. The status tells whether the unit is
+/// this terminal, or can be.
 pub fn against<R: Files + AllocGlobal + Eprint, W: Write>(
     rt: &R,
-    profile: &str,
-    results: &str,
-    names: Option<&str>,
+    asked: AskedResults<'_>,
     output: &mut W,
 ) -> Result<u8, ToolFault>
     ensures { IfOk result (λ status. status ≤ 1) }
 {
-    let normal = load_profile(rt, profile)?;
-    let names = load_names(rt, names, &[normal.address()])?;
-    let given = load_results(rt, &normal, results)?;
-    let comparison = match compare_results(rt.alloc(), &normal, &given) {
-        Ok(comparison) => comparison,
-        Err(fault) => return Err(comparison_fault(rt, results, fault)),
+    let normal = load_profile(rt, asked.profile)?;
+    let names = load_names(rt, asked.names, &[normal.address()])?;
+    let results = load_results(rt, &normal, asked.results)?;
+    let judged = if asked.any_subsystem {
+        explained(rt.alloc(), &normal, names.as_ref(), &results)
+    } else {
+        compared(rt.alloc(), &normal, names.as_ref(), &results)
     };
-    put_comparison(rt.alloc(), names.as_ref(), &comparison, output)?;
-    Ok(if comparison.passes() { 0 } else { DIFFERENT })
+    match judged {
+        Ok(judged) => {
+            write_bytes(output, judged.text.as_str().as_bytes())?;
+            Ok(if judged.passes { 0 } else { DIFFERENT })
+        }
+        Err(fault) => Err(comparison_fault(rt, asked.results, fault)),
+    }
 }

@@ -4,7 +4,8 @@ use Rattle.std.proofs.lemmas.Bool.Decides.{nat_tests}
 use Rattle.bus_legal.specs.Description.{Description}
 use Rattle.bus_legal.specs.Parts.{Parts, description_in}
 use Rattle.bus_legal.specs.Reach.{reach}
-use Rattle.terminal_recordings.specs.Recordings.{Sighting, IsExplained}
+use Rattle.terminal_recordings.specs.Recordings.{IsExplained}
+use Rattle.terminal_recordings.specs.Masks.{MaskedSighting, ExplainsSome}
 use Rattle.rt1553_verify.specs.Stated.{StatedEvent, stated_in}
 use Rattle.rt1553_verify.specs.declared.verifying.WrongAnswer.{WrongAnswer}
 use Rattle.rt1553_verify.specs.Verify.{ToldAnswer, told_answer, wrong_answers_from, by_script, on_bus_by_script}
@@ -24,7 +25,7 @@ says_so true P script stated seen passes reads is says =
 
 -- what is said of a recording by what is told of it
 pub says_recorded : {F : Type 0} (input : Option (List ℕ)) (first : Option F) (passes : Bool) {G : Description → Type 0}
-    → ((P : Description) → G P → IfSome input (λ script. (recording : List Sighting) × StatesRecording script recording × ((first ≡ None) ↔ IsExplained P recording)))
+    → ((P : Description) → G P → IfSome input (λ script. (recording : List MaskedSighting) × StatesRecording script recording × ((first ≡ None) ↔ ExplainsSome (IsExplained P) recording)))
     → ((passes ≡ true) ↔ (first ≡ None)) → IfSome input (λ script. (P : Description) → G P → SaysBy Recording P script passes)
 says_recorded None first passes explained told = tt
 says_recorded (Some script) first passes explained told = λ P reached.

@@ -4,11 +4,12 @@ use Rattle.bus_legal.specs.Description.{Description}
 use Rattle.bus_legal.specs.Parts.{Parts, description_in}
 use Rattle.bus_legal.specs.Reach.{reach}
 use Rattle.terminal_rules.specs.declared.event.Event.{Event}
-use Rattle.terminal_recordings.specs.Recordings.{Sighting, IsExplained}
+use Rattle.terminal_recordings.specs.Recordings.{IsExplained}
+use Rattle.terminal_recordings.specs.Masks.{MaskedSighting, ExplainsSome}
 use Rattle.rt1553_verify.specs.Stated.{StatedEvent, seen_on_bus}
 use Rattle.rt1553_verify.specs.Verify.{ToldAnswer, verified, verified_on_bus}
 use Rattle.script_lines.specs.EventLine.{script_text}
-use Rattle.script_recordings.specs.Explained.{IsJudgedSince, NothingExplains, IsWitness}
+use Rattle.script_recordings.specs.Explained.{IsJudgedSince, NothingExplains, IsWitness, IsLaterWitness}
 use Rattle.script_recordings.specs.Seen.{StatesRecording}
 use Rattle.script_recordings.specs.declared.reading.RecordingFault.{RecordingFault}
 use Rattle.script_recordings.specs.declared.reading.RecordingFault.TheVariants as recording
@@ -63,7 +64,7 @@ pub record SaysSince (P : Description) (script : List ℕ) (passes : Bool) : Typ
 abbrev pub SaysBy : ScriptKind → Description → List ℕ → Bool → Type 0
 SaysBy Test P script passes = passes ≡ tells_nothing (verified P script)
 SaysBy BusTest P script passes = passes ≡ tells_nothing (verified_on_bus P script)
-SaysBy Recording P script passes = (recording : List Sighting) × StatesRecording script recording × ((passes ≡ true) ↔ IsExplained P recording)
+SaysBy Recording P script passes = (recording : List MaskedSighting) × StatesRecording script recording × ((passes ≡ true) ↔ ExplainsSome (IsExplained P) recording)
 SaysBy LaterRecording P script passes = SaysSince P script passes
 
 -- it is said of the terminal of which this can be reached
@@ -75,6 +76,10 @@ SaysOf kind value script passes = (P : Description) → description_in value ≡
 abbrev pub IsExplainingScript : Parts → List ℕ → List ℕ → Type 0
 IsExplainingScript value script text =
     (events : List Event) × (text ≡ script_text events) × ((P : Description) → description_in value ≡ reach P → IsWitness P script events)
+
+-- the same of a recording that began at any time
+abbrev pub IsExplainingLater : Parts → List ℕ → List ℕ → Type 0
+IsExplainingLater value script text = (events : List Event) × (text ≡ script_text events) × IsLaterWitness (description_in value) script events
 
 -- the status of a script that is not read
 abbrev pub stated_status : StatedFault → ℕ

@@ -1,8 +1,10 @@
 //! What a terminal answers otherwise than a script states.
-ghost use Rattle.std.specs.Prelude.{◌≡◌, ◌==◌, ◌↔◌, ◌++◌, None, true, IfOk, IfSome, length, map};
+ghost use Rattle.std.specs.Prelude.{◌≡◌, ◌==◌, ◌↔◌, ◌++◌, None, true, IfOk, IfSome, MatchOption, length, map};
+ghost use Rattle.bus_legal.specs.Parts.{description_in};
 ghost use Rattle.rt1553_verify.specs.Stated.{shown};
+ghost use Rattle.script_recordings.specs.Explained.{HasNoPart};
 ghost use Rattle.rt1553_verify.specs.declared.stated.StatedFault.TheVariants.{Memory};
-ghost use Rattle.tool_verify.specs.Passing.{IsExplainingScript, SaysOf, is_later, recording_kind, scoped, test_kind};
+ghost use Rattle.tool_verify.specs.Passing.{IsExplainingLater, IsExplainingScript, SaysOf, is_later, recording_kind, scoped, test_kind};
 ghost use Rattle.tool_verify.specs.declared.compared.ScriptFault.TheVariants.{Stated, Recording};
 
 use bus_legal::Normal;
@@ -13,7 +15,7 @@ use rt1553_verify::{
 };
 use script_recordings::{
     Explained, ExplainedSince, RecordingFault, UnexplainedLine, watch_recording, watch_since,
-    witness,
+    witness, witness_since,
 };
 use std::alloc::{AllocError, AllocFailed, Global};
 use std::io::{BufRead, BufReader, Read};
@@ -245,4 +247,16 @@ pub fn explaining_script(
     ensures { IfOk result (λ text. IsExplainingScript normal.now script.now text.items) }
 {
     Ok(witness(alloc, normal, script)?)
+}
+
+/// Gives the same of a recording that began at any time: what was shut down before the part that is judged, and that part. None where no
+/// part is.
+pub fn explaining_later(
+    alloc: Global,
+    normal: &Normal,
+    script: &[u8],
+) -> Result<Option<Vec<u8>>, ScriptFault>
+    ensures { IfOk result (λ it. MatchOption it (HasNoPart (description_in normal.now) script.now) (λ text. IsExplainingLater normal.now script.now text.items)) }
+{
+    Ok(witness_since(alloc, normal, script)?)
 }

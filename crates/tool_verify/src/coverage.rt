@@ -1,11 +1,16 @@
 //! The command `coverage`: what recordings show of a terminal.
-ghost use Rattle.std.specs.Prelude.{◌≡◌, IfOk};
+ghost use Rattle.std.specs.Prelude.{◌≡◌, IfOk, map, option_map, string_bytes};
+ghost use Rattle.rt1553_tool_args.specs.declared.command.CoverageFormat.TheVariants.{Html};
+ghost use Rattle.rt1553_report.specs.CoveragePage.{IsCoveragePage};
 
 use crate::verify::recording_fault;
 use bus_legal::Normal;
 use message_names::MessageNames;
 use recording_coverage::{Coverage, CoverageTable, count_events, coverage_json, coverage_text};
+use rt1553_report::coverage_page;
+use rt1553_tool_args::CoverageFormat;
 use script_recordings::recorded_events;
+use std::alloc::Global;
 use std::io::Write;
 use std::rt::Files;
 use tool_files::{ToolFault, load_profile, load_script, write_bytes};
@@ -17,7 +22,7 @@ pub struct AskedCoverage<'a> {
     pub profile: &'a str,
     /// The files have messages, which are expanded first.
     pub expand: bool,
-    pub as_json: bool,
+    pub format: CoverageFormat,
     /// The table with the names of messages, where one is given.
     pub names: Option<&'a str>,
 }
@@ -40,21 +45,32 @@ fn count_file<R: Files + AllocGlobal>(
     }
 }
 
-/// Writes what was counted.
-fn put_coverage<R: AllocGlobal, W: Write>(
-    rt: &R,
+/// Gives what was counted as JSON, on a line of its own.
+fn coverage_line(
+    alloc: Global,
     table: &CoverageTable,
     names: Option<&MessageNames>,
-    as_json: bool,
-    output: &mut W,
-) -> Result<(), ToolFault> {
-    if as_json {
-        let text = coverage_json(rt.alloc(), table, names).ok_or(ToolFault::Memory)?;
-        write_bytes(output, text.as_str().as_bytes())?;
-        return write_bytes(output, b"\n");
+) -> Result<String, ToolFault> {
+    let mut line = coverage_json(alloc, table, names).ok_or(ToolFault::Memory)?;
+    line.push_str("\n")?;
+    Ok(line)
+}
+
+/// Gives what was counted as it is written.
+fn coverage_told(
+    alloc: Global,
+    asked: AskedCoverage<'_>,
+    scripts: &[&str],
+    table: &CoverageTable,
+    names: Option<&MessageNames>,
+) -> Result<String, ToolFault>
+    ensures { asked.entry.format ≡ Html → IfOk result (λ text. IsCoveragePage asked.entry.profile.now (map (λ file. file.now) scripts.now) (option_map (λ n. n.now) names.entry) table.now.legal.items table.now.illegal.items (string_bytes text)) }
+{
+    match asked.format {
+        CoverageFormat::Text => Ok(coverage_text(alloc, table, names)?),
+        CoverageFormat::Json => coverage_line(alloc, table, names),
+        CoverageFormat::Html => Ok(coverage_page(alloc, asked.profile, scripts, table, names)?),
     }
-    let text = coverage_text(rt.alloc(), table, names)?;
-    write_bytes(output, text.as_str().as_bytes())
 }
 
 /// Writes what came of the messages of a terminal in recordings of files, all together.
@@ -73,6 +89,7 @@ pub fn cover_scripts<R: Files + AllocGlobal + Eprint, W: Write>(
         count_file(rt, &normal, name, asked.expand, &mut coverage)?;
     }
     let table = CoverageTable::of(rt.alloc(), &normal, &coverage)?;
-    put_coverage(rt, &table, names.as_ref(), asked.as_json, output)?;
+    let text = coverage_told(rt.alloc(), asked, scripts, &table, names.as_ref())?;
+    write_bytes(output, text.as_str().as_bytes())?;
     Ok(0)
 }

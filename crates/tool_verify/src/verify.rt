@@ -4,7 +4,7 @@ ghost use Rattle.bus_legal.specs.Parts.{Parts};
 ghost use Rattle.tool_files.specs.Status.{IsLoaded, RefusesText, tool_status};
 ghost use Rattle.tool_verify.specs.Passing.{IsPlayedTo, SaysOf, recording_status, script_status, stated_status};
 
-use crate::compared::{JudgedPart, ScriptFault, compare_open, explaining_script};
+use crate::compared::{JudgedPart, ScriptFault, compare_open, explaining_later, explaining_script};
 use crate::opened::{OpenScript, open_script};
 use crate::report::report_files;
 use crate::summary::put_summary;
@@ -64,6 +64,8 @@ pub struct AskedReport<'a> {
 pub struct AskedWitness<'a> {
     pub profile: &'a str,
     pub script: &'a str,
+    /// A recording from power-up, or one that began at any time.
+    pub kind: ScriptKind,
     /// The file has messages, which are expanded first.
     pub expand: bool,
     /// The table with the names of messages, where one is given.
@@ -463,6 +465,22 @@ pub fn verify_scripts<R: Files + AllocGlobal + Eprint, W: Write>(
     }
 }
 
+/// The script that explains a recording of this kind; of one that began at any time nothing where no part is judged.
+fn explaining(
+    alloc: Global,
+    normal: &Normal,
+    script: &LoadedScript,
+    kind: ScriptKind,
+) -> Result<Vec<u8>, ScriptFault> {
+    if kind != ScriptKind::LaterRecording {
+        return explaining_script(alloc, normal, script.text.as_slice());
+    }
+    match explaining_later(alloc, normal, script.text.as_slice())? {
+        Some(text) => Ok(text),
+        None => Ok(Vec::new(alloc)),
+    }
+}
+
 /// Writes a script that explains a recording: what is seen there, and before it what the subsystem did. Where nothing explains it, the
 /// first line that is not explained is written in its place, as by `verify_scripts`.
 pub fn explain_recording<R: Files + AllocGlobal + Eprint, W: Write>(
@@ -477,7 +495,7 @@ pub fn explain_recording<R: Files + AllocGlobal + Eprint, W: Write>(
     let played = Played {
         to: PlayedTo::One(normal),
         names: load_names(rt, asked.names, &[normal.address()])?,
-        kind: ScriptKind::Recording,
+        kind: asked.kind,
         expand: asked.expand,
     };
     let report = ScriptReport {
@@ -488,7 +506,7 @@ pub fn explain_recording<R: Files + AllocGlobal + Eprint, W: Write>(
     if !tell_script(rt, &played, asked.script, &script, None, report, output)? {
         return Ok(DIFFERENT);
     }
-    match explaining_script(rt.alloc(), &normal, script.text.as_slice()) {
+    match explaining(rt.alloc(), &normal, &script, asked.kind) {
         Ok(text) => {
             write_bytes(output, text.as_slice())?;
             Ok(0)
