@@ -123,7 +123,7 @@ rt1553-tool coverage --|--expand --format --help --names
 rt1553-tool infer --|--address --expand --help --unseen
 rt1553-tool infer --unseen .|illegal legal
 rt1553-tool acceptance .|a.toml b.rt1553 sub
-rt1553-tool acceptance --|--against --format --help --names
+rt1553-tool acceptance --|--against --any-subsystem --format --help --names
 rt1553-tool acceptance --format .|csv json text
 rt1553-tool acceptance --against .|e.csv sub
 rt1553-tool acceptance --against e.csv .|a.toml b.rt1553 sub

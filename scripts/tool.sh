@@ -388,7 +388,16 @@ recording_rows() {
     row 'a long recording that began later' 1 'later-fault:160012: expected A s 2820, came A s 2800\nlater-fault: differences: 1\n' 'later-fault: judged after line 5\n' \
         verify --any-subsystem --already-on five later-fault
     row 'a test that began later' 3 '' 'arguments: see --help\n' verify --already-on five on
-    row 'a witness of a recording that began later' 3 '' 'arguments: see --help\n' verify --any-subsystem --already-on --witness five on
+    row 'a witness of a recording that began later' 0 'flag subsystem 1\nA c 2c05\nA gap\nslot\n' 'on: judged after line 9\n' verify --any-subsystem --already-on --witness five on
+    script off "${pause}B c 2c05"$'\nB gap\nslot\n'"$again#> A s 2800"$'\n'
+    row 'a witness of a transmitter that was shut down' 0 'A c 2c04\nA gap\nslot\nB c 2c05\nB gap\nslot\nA c 2c05\nA gap\nslot\n' 'off: judged after line 5\n' \
+        verify --any-subsystem --already-on --witness five off
+    printf 'address = 5\n[[rule]]\ndirection = "transmit"\nsubaddresses = "3"\n' >"$work/sends"
+    script open $'A c 2c61\nA gap\nslot\n#> A s 2800\nslot\n#~ A d ....\n'
+    script withheld $'A c 2c61\nA gap\nslot\n#> A s 2808\nslot\n#~ A d ....\n'
+    row 'a data word that is left open' 0 '' '' verify --any-subsystem sends open
+    row 'one that cannot come' 1 'withheld:5: expected A d ...., came nothing\nwithheld: differences: 1\n' '' verify --any-subsystem sends withheld
+    row 'any subsystem without results' 3 '' 'arguments: see --help\n' acceptance --any-subsystem five
     row 'several recordings' 2 'flags: passed (answers: 2)\nreserved:7: expected A s 2820, came A s 2800\nreserved: differences: 1\nno clause: 1 of 3 scripts pass\nall: 1 of 3 scripts pass\n' \
         'acts: script: line 2: what the subsystem does is not seen in a recording\n' verify --any-subsystem --summary five flags reserved acts
 }
