@@ -1,7 +1,8 @@
 -- What the command line asks for, by what clap found in it.
-use Rattle.std.specs.Prelude.{ℕ, ◌≡◌, ◌≢◌, ◌⊎◌, Bool, true, false, if◌then◌else◌, codes, List, [], ◌∷◌, map, Option, Some, None, option_map}
+use Rattle.std.specs.Prelude.{ℕ, ◌≡◌, ◌≢◌, ◌≤◌, ◌⊎◌, Bool, true, false, if◌then◌else◌, codes, List, [], ◌∷◌, map, Option, Some, None, option_map}
 use Rattle.std.specs.Option.{unwrap_or}
 use Rattle.std.specs.Str.{bytes_eq}
+use Rattle.std.specs.Str.Parse.{IsNumeral, digits_value}
 use Rattle.std.specs.Borrow.{Bor}
 use Rattle.clap.specs.Words.{Text, first_value, matched_of, raw_values, subcommand_name_of, subcommand_rows_of}
 use Rattle.clap.specs.Walk.{rows_of}
@@ -38,6 +39,10 @@ is_value text (Some v) = bytes_eq v text
 -- the argument has this value
 abbrev pub HasValue : Found → Text → Text → Type 0
 HasValue f id v = first_value f id ≡ Some v
+
+-- the address of a terminal is this number, in decimal digits
+abbrev pub HasAddress : Found → ℕ → Type 0
+HasAddress f a = (text : Text) × HasValue f (codes "address") text × IsNumeral 10 text × (digits_value 10 text ≡ a) × (a ≤ 30)
 
 -- what is said of an option with a value: its value, where it is given
 abbrev pub HasOption : Found → Text → Option (Bor Text) → Type 0
@@ -102,20 +107,20 @@ AsksKind f LaterRecording = (is_given f (codes "bus-only") ≡ false) × (is_giv
 abbrev pub command_name : ToolCommand → Text
 command_name (Lint files format) = codes "lint"
 command_name (CheckScript scripts) = codes "check-script"
-command_name (Verify profiles scripts kind expand format summary names) = codes "verify"
-command_name (Witness p script kind expand names) = codes "verify"
-command_name (Monitor table address gap no_response pause) = codes "recording"
-command_name (Coverage p scripts expand format names) = codes "coverage"
-command_name (Infer script address legal expand) = codes "infer"
+command_name (Verify asked scripts) = codes "verify"
+command_name (Witness asked) = codes "verify"
+command_name (Monitor asked) = codes "recording"
+command_name (Coverage asked scripts) = codes "coverage"
+command_name (Infer asked) = codes "infer"
 command_name (Import table) = codes "import"
 command_name (Export p) = codes "export"
 command_name (Expand messages) = codes "expand"
 command_name (Toml p) = codes "toml"
 command_name (Explain p json names) = codes "explain"
-command_name (Differ p q scripts json names) = codes "differ"
+command_name (Differ asked) = codes "differ"
 command_name (Acceptance p format names) = codes "acceptance"
 command_name (Against asked) = codes "acceptance"
-command_name (Draw p script expand html names) = codes "draw"
+command_name (Draw asked) = codes "draw"
 command_name Words = codes "words"
 command_name (Live p) = codes "live"
 
@@ -123,37 +128,38 @@ command_name (Live p) = codes "live"
 abbrev pub Asks : Found → ToolCommand → Type 0
 Asks f (Lint files format) = (texts_of files.items ≡ all_values f (codes "file")) × (format ≡ lint_format_of (first_value f (codes "format")))
 Asks f (CheckScript scripts) = texts_of scripts.items ≡ all_values f (codes "script")
-Asks f (Verify profiles scripts kind expand format summary names) =
-    PlaysTo f profiles (texts_of scripts.items) × (scripts.items ≢ []) × AsksKind f kind × (expand ≡ is_given f (codes "expand"))
-    × AsksReport f format summary × HasNames f names × (is_given f (codes "witness") ≡ false)
-Asks f (Witness p script kind expand names) =
-    PlaysTo f (One p) (script.now ∷ []) × AsksKind f kind × ((kind ≡ Recording) ⊎ (kind ≡ LaterRecording)) × (expand ≡ is_given f (codes "expand")) × AsksReport f report.Text false
-    × HasNames f names × (is_given f (codes "witness") ≡ true)
-Asks f (Monitor table address gap no_response pause) =
-    HasValue f (codes "table") table.now × HasValue f (codes "address") address.now × HasOption f (codes "gap") gap
-    × HasOption f (codes "no-response") no_response × HasOption f (codes "pause") pause
-Asks f (Coverage p scripts expand format names) =
-    HasValue f (codes "profile") p.now × (texts_of scripts.items ≡ all_values f (codes "script")) × (expand ≡ is_given f (codes "expand"))
-    × (format ≡ coverage_format_of (first_value f (codes "format"))) × HasNames f names
-Asks f (Infer script address legal expand) =
-    HasValue f (codes "script") script.now × HasValue f (codes "address") address.now × (legal ≡ is_value (codes "legal") (first_value f (codes "unseen")))
-    × (expand ≡ is_given f (codes "expand"))
+Asks f (Verify asked scripts) =
+    PlaysTo f asked.profiles (texts_of scripts.items) × (scripts.items ≢ []) × AsksKind f asked.kind × (asked.expand ≡ is_given f (codes "expand"))
+    × AsksReport f asked.format asked.summary × HasNames f asked.names × (is_given f (codes "witness") ≡ false)
+Asks f (Witness asked) =
+    PlaysTo f (One asked.profile) (asked.script.now ∷ []) × AsksKind f asked.kind × ((asked.kind ≡ Recording) ⊎ (asked.kind ≡ LaterRecording))
+    × (asked.expand ≡ is_given f (codes "expand")) × AsksReport f report.Text false × HasNames f asked.names × (is_given f (codes "witness") ≡ true)
+Asks f (Monitor asked) =
+    HasValue f (codes "table") asked.table.now × HasAddress f asked.address × HasOption f (codes "gap") asked.gap
+    × HasOption f (codes "no-response") asked.no_response × HasOption f (codes "pause") asked.pause
+Asks f (Coverage asked scripts) =
+    HasValue f (codes "profile") asked.profile.now × (texts_of scripts.items ≡ all_values f (codes "script"))
+    × (asked.expand ≡ is_given f (codes "expand")) × (asked.format ≡ coverage_format_of (first_value f (codes "format"))) × HasNames f asked.names
+Asks f (Infer asked) =
+    HasValue f (codes "script") asked.script.now × HasAddress f asked.address
+    × (asked.unseen_is_legal ≡ is_value (codes "legal") (first_value f (codes "unseen"))) × (asked.expand ≡ is_given f (codes "expand"))
 Asks f (Import table) = HasValue f (codes "table") table.now
 Asks f (Export p) = HasValue f (codes "profile") p.now
 Asks f (Expand messages) = HasValue f (codes "messages") messages.now
 Asks f (Toml p) = HasValue f (codes "profile") p.now
 Asks f (Explain p json names) = HasValue f (codes "profile") p.now × (json ≡ is_json f) × HasNames f names
-Asks f (Differ p q scripts json names) =
-    HasValue f (codes "profile") p.now × HasValue f (codes "other") q.now × (scripts ≡ is_given f (codes "scripts")) × (json ≡ is_json f) × HasNames f names
+Asks f (Differ asked) =
+    HasValue f (codes "profile") asked.profile.now × HasValue f (codes "other") asked.other.now × (asked.scripts ≡ is_given f (codes "scripts"))
+    × (asked.as_json ≡ is_json f) × HasNames f asked.names
 Asks f (Acceptance p format names) =
     HasValue f (codes "profile") p.now × (first_value f (codes "against") ≡ None) × (is_given f (codes "any-subsystem") ≡ false)
     × (format ≡ format_of (first_value f (codes "format"))) × HasNames f names
 Asks f (Against asked) =
     HasValue f (codes "profile") asked.profile.now × HasValue f (codes "against") asked.results.now × (asked.any_subsystem ≡ is_given f (codes "any-subsystem"))
     × (format_of (first_value f (codes "format")) ≡ Script) × HasNames f asked.names
-Asks f (Draw p script expand html names) =
-    HasValue f (codes "profile") p.now × HasValue f (codes "script") script.now × (expand ≡ is_given f (codes "expand")) × (html ≡ is_given f (codes "html"))
-    × HasNames f names
+Asks f (Draw asked) =
+    HasValue f (codes "profile") asked.profile.now × HasValue f (codes "script") asked.script.now × (asked.expand ≡ is_given f (codes "expand"))
+    × (asked.html ≡ is_given f (codes "html")) × HasNames f asked.names
 Asks f Words = Unit {0}
 Asks f (Live p) = HasValue f (codes "profile") p.now
 

@@ -1,7 +1,7 @@
 //! What the command line asks for.
 ghost use Rattle.std.specs.Prelude.{◌≡◌, IfOk, codes, option_map, true};
 ghost use Rattle.clap.specs.Words.{first_value, found_of};
-ghost use Rattle.rt1553_tool_args.specs.Commands.{Asks, AsksKind, AsksReport, HasOption, HasValue, IsAskedBy, all_values, command_name, coverage_format_of, format_of, is_given, is_json, lint_format_of, report_format_of, texts_of};
+ghost use Rattle.rt1553_tool_args.specs.Commands.{Asks, AsksKind, AsksReport, HasAddress, HasOption, HasValue, IsAskedBy, all_values, command_name, coverage_format_of, format_of, is_given, is_json, lint_format_of, report_format_of, texts_of};
 
 use crate::args::NoCommand;
 use clap::ArgMatches;
@@ -75,6 +75,80 @@ pub enum ReportFormat {
     Html,
 }
 
+/// What is asked for of scripts.
+#[derive(Clone, Copy)]
+pub struct AskedReport<'a> {
+    pub profiles: Profiles<'a>,
+    pub kind: ScriptKind,
+    /// The files have messages, which are expanded first.
+    pub expand: bool,
+    pub format: ReportFormat,
+    /// What passes, too, clause by clause; only as text.
+    pub summary: bool,
+    /// The table with the names of messages, where one is given.
+    pub names: Option<&'a str>,
+}
+
+/// What is asked for of a recording that is to be explained.
+#[derive(Clone, Copy)]
+pub struct AskedWitness<'a> {
+    pub profile: &'a str,
+    pub script: &'a str,
+    /// A recording from power-up, or one that began at any time.
+    pub kind: ScriptKind,
+    /// The file has messages, which are expanded first.
+    pub expand: bool,
+    /// The table with the names of messages, where one is given.
+    pub names: Option<&'a str>,
+}
+
+/// What is asked for of the table of a monitor.
+#[derive(Clone, Copy)]
+pub struct AskedRecording<'a> {
+    pub table: &'a str,
+    /// The address of the terminal, 0 to 30.
+    pub address: u8,
+    /// The silences that count, in microseconds.
+    pub gap: Option<&'a str>,
+    pub no_response: Option<&'a str>,
+    pub pause: Option<&'a str>,
+}
+
+/// What is asked for of what came in recordings.
+#[derive(Clone, Copy)]
+pub struct AskedCoverage<'a> {
+    pub profile: &'a str,
+    /// The files have messages, which are expanded first.
+    pub expand: bool,
+    pub format: CoverageFormat,
+    /// The table with the names of messages, where one is given.
+    pub names: Option<&'a str>,
+}
+
+/// What is asked for of a recording that a profile is to explain.
+#[derive(Clone, Copy)]
+pub struct AskedProfile<'a> {
+    pub script: &'a str,
+    /// The address of the terminal, 0 to 30.
+    pub address: u8,
+    /// A message is legal of which nothing shows that it is not.
+    pub unseen_is_legal: bool,
+    /// The file has messages, which are expanded first.
+    pub expand: bool,
+}
+
+/// What is asked for of two terminals.
+#[derive(Clone, Copy)]
+pub struct AskedComparison<'a> {
+    pub profile: &'a str,
+    pub other: &'a str,
+    /// Scripts that show each difference, too.
+    pub scripts: bool,
+    pub as_json: bool,
+    /// The table with the names of messages, where one is given.
+    pub names: Option<&'a str>,
+}
+
 /// What is asked for of the results of a unit.
 #[derive(Clone, Copy)]
 pub struct AskedResults<'a> {
@@ -82,6 +156,19 @@ pub struct AskedResults<'a> {
     pub results: &'a str,
     /// Some behaviour of the subsystem is to explain them.
     pub any_subsystem: bool,
+    /// The table with the names of messages, where one is given.
+    pub names: Option<&'a str>,
+}
+
+/// What is asked for of a run.
+#[derive(Clone, Copy)]
+pub struct AskedDrawing<'a> {
+    pub profile: &'a str,
+    pub script: &'a str,
+    /// The file has messages, which are expanded first.
+    pub expand: bool,
+    /// As a page.
+    pub html: bool,
     /// The table with the names of messages, where one is given.
     pub names: Option<&'a str>,
 }
@@ -97,54 +184,15 @@ pub enum ToolCommand<'a> {
     /// Which lines of scripts are refused, and why.
     CheckScript(Vec<&'a str>),
     /// Where terminals don't answer as scripts state.
-    Verify {
-        profiles: Profiles<'a>,
-        scripts: Vec<&'a str>,
-        kind: ScriptKind,
-        /// The files have messages, which are expanded first.
-        expand: bool,
-        format: ReportFormat,
-        /// What passes, too, clause by clause; only as text.
-        summary: bool,
-        /// The table with the names of messages, as in the commands below.
-        names: Option<&'a str>,
-    },
+    Verify(AskedReport<'a>, Vec<&'a str>),
     /// What the subsystem did in a recording, as a script.
-    Witness {
-        profile: &'a str,
-        script: &'a str,
-        /// A recording from power-up, or one that began at any time.
-        kind: ScriptKind,
-        /// The file has messages, which are expanded first.
-        expand: bool,
-        names: Option<&'a str>,
-    },
-    /// The table of a monitor as the recording of a terminal. Silences are microseconds.
-    Monitor {
-        table: &'a str,
-        address: &'a str,
-        gap: Option<&'a str>,
-        no_response: Option<&'a str>,
-        pause: Option<&'a str>,
-    },
+    Witness(AskedWitness<'a>),
+    /// The table of a monitor as the recording of a terminal.
+    Monitor(AskedRecording<'a>),
     /// What came of the messages of a terminal in recordings.
-    Coverage {
-        profile: &'a str,
-        scripts: Vec<&'a str>,
-        /// The files have messages, which are expanded first.
-        expand: bool,
-        format: CoverageFormat,
-        names: Option<&'a str>,
-    },
+    Coverage(AskedCoverage<'a>, Vec<&'a str>),
     /// A profile that explains a recording.
-    Infer {
-        script: &'a str,
-        address: &'a str,
-        /// A message is legal of which nothing shows that it is not.
-        unseen_is_legal: bool,
-        /// The file has messages, which are expanded first.
-        expand: bool,
-    },
+    Infer(AskedProfile<'a>),
     /// The profile that a table means.
     Import(&'a str),
     /// The table of a document that a terminal has.
@@ -157,33 +205,22 @@ pub enum ToolCommand<'a> {
     Explain {
         profile: &'a str,
         as_json: bool,
+        /// The table with the names of messages, where one is given.
         names: Option<&'a str>,
     },
     /// All in which two terminals differ.
-    Differ {
-        profile: &'a str,
-        other: &'a str,
-        scripts: bool,
-        as_json: bool,
-        names: Option<&'a str>,
-    },
+    Differ(AskedComparison<'a>),
     /// The acceptance test of a terminal.
     Acceptance {
         profile: &'a str,
         format: TestFormat,
+        /// The table with the names of messages, where one is given.
         names: Option<&'a str>,
     },
     /// The results of a unit judged by the acceptance test of a terminal.
     Against(AskedResults<'a>),
     /// A run as a drawing.
-    Draw {
-        profile: &'a str,
-        script: &'a str,
-        /// The file has messages, which are expanded first.
-        expand: bool,
-        html: bool,
-        names: Option<&'a str>,
-    },
+    Draw(AskedDrawing<'a>),
     /// Words of the bus by their fields, and fields by words.
     Words,
     /// Lines played as they come.
@@ -197,6 +234,17 @@ fn required<'a>(given: &ArgMatches<'a>, id: &str) -> Result<&'a str, NoCommand>
     match given.get_str(id) {
         Some(value) => Ok(value),
         None => Err(NoCommand::Usage),
+    }
+}
+
+/// The address of a terminal: decimal digits that write a number from 0 to 30.
+fn address_of(given: &ArgMatches<'_>) -> Result<u8, NoCommand>
+    ensures { IfOk result (HasAddress (found_of given.now)) }
+{
+    let text = required(given, "address")?;
+    match text.parse::<u8>() {
+        Ok(address) if address <= 30 && !text.starts_with('+') => Ok(address),
+        _ => Err(NoCommand::Usage),
     }
 }
 
@@ -311,13 +359,13 @@ fn witness_command<'a>(alloc: Global, given: &ArgMatches<'a>) -> Result<ToolComm
             kind @ (ScriptKind::Recording | ScriptKind::LaterRecording),
             (ReportFormat::Text, false),
         ) => {
-            Ok(ToolCommand::Witness {
+            Ok(ToolCommand::Witness(AskedWitness {
                 profile: required(given, "profile")?,
                 script,
                 kind,
                 expand: is_flag_given(given, "expand"),
                 names: names_of(given),
-            })
+            }))
         }
         _ => Err(NoCommand::Usage),
     }
@@ -344,15 +392,15 @@ fn verify_command<'a>(alloc: Global, given: &ArgMatches<'a>) -> Result<ToolComma
         return Err(NoCommand::Usage);
     }
     let (format, summary) = report_of(given)?;
-    Ok(ToolCommand::Verify {
+    let asked = AskedReport {
         profiles,
-        scripts,
         kind: script_kind(given)?,
         expand: is_flag_given(given, "expand"),
         format,
         summary,
         names: names_of(given),
-    })
+    };
+    Ok(ToolCommand::Verify(asked, scripts))
 }
 
 /// What `lint` is asked for.
@@ -369,38 +417,38 @@ fn lint_command<'a>(alloc: Global, given: &ArgMatches<'a>) -> Result<ToolCommand
 fn recording_command<'a>(given: &ArgMatches<'a>) -> Result<ToolCommand<'a>, NoCommand>
     ensures { IfOk result (λ command. (command_name command ≡ codes "recording") × Asks (found_of given.now) command) }
 {
-    Ok(ToolCommand::Monitor {
+    Ok(ToolCommand::Monitor(AskedRecording {
         table: required(given, "table")?,
-        address: required(given, "address")?,
+        address: address_of(given)?,
         gap: given.get_str("gap"),
         no_response: given.get_str("no-response"),
         pause: given.get_str("pause"),
-    })
+    }))
 }
 
 /// What `coverage` is asked for.
 fn coverage_command<'a>(alloc: Global, given: &ArgMatches<'a>) -> Result<ToolCommand<'a>, NoCommand>
     ensures { IfOk result (λ command. (command_name command ≡ codes "coverage") × Asks (found_of given.now) command) }
 {
-    Ok(ToolCommand::Coverage {
+    let asked = AskedCoverage {
         profile: required(given, "profile")?,
-        scripts: all_of(alloc, given, "script")?,
         expand: is_flag_given(given, "expand"),
         format: coverage_format(given),
         names: names_of(given),
-    })
+    };
+    Ok(ToolCommand::Coverage(asked, all_of(alloc, given, "script")?))
 }
 
 /// What `infer` is asked for.
 fn infer_command<'a>(given: &ArgMatches<'a>) -> Result<ToolCommand<'a>, NoCommand>
     ensures { IfOk result (λ command. (command_name command ≡ codes "infer") × Asks (found_of given.now) command) }
 {
-    Ok(ToolCommand::Infer {
+    Ok(ToolCommand::Infer(AskedProfile {
         script: required(given, "script")?,
-        address: required(given, "address")?,
+        address: address_of(given)?,
         unseen_is_legal: given.get_str("unseen") == Some("legal"),
         expand: is_flag_given(given, "expand"),
-    })
+    }))
 }
 
 /// What `explain` is asked for.
@@ -418,13 +466,13 @@ fn explain_command<'a>(given: &ArgMatches<'a>) -> Result<ToolCommand<'a>, NoComm
 fn differ_command<'a>(given: &ArgMatches<'a>) -> Result<ToolCommand<'a>, NoCommand>
     ensures { IfOk result (λ command. (command_name command ≡ codes "differ") × Asks (found_of given.now) command) }
 {
-    Ok(ToolCommand::Differ {
+    Ok(ToolCommand::Differ(AskedComparison {
         profile: required(given, "profile")?,
         other: required(given, "other")?,
         scripts: is_flag_given(given, "scripts"),
         as_json: as_json(given),
         names: names_of(given),
-    })
+    }))
 }
 
 /// How the acceptance test is to be written.
@@ -465,13 +513,13 @@ fn acceptance_command<'a>(given: &ArgMatches<'a>) -> Result<ToolCommand<'a>, NoC
 fn draw_command<'a>(given: &ArgMatches<'a>) -> Result<ToolCommand<'a>, NoCommand>
     ensures { IfOk result (λ command. (command_name command ≡ codes "draw") × Asks (found_of given.now) command) }
 {
-    Ok(ToolCommand::Draw {
+    Ok(ToolCommand::Draw(AskedDrawing {
         profile: required(given, "profile")?,
         script: required(given, "script")?,
         expand: is_flag_given(given, "expand"),
         html: is_flag_given(given, "html"),
         names: names_of(given),
-    })
+    }))
 }
 
 /// What the command of this name is asked for.

@@ -7,6 +7,7 @@ mod table;
 
 pub use args::{NoCommand, VERSION, read_tool_args};
 pub use command::{
-    AskedResults, CoverageFormat, LintFormat, Profiles, ReportFormat, ScriptKind, TestFormat,
-    ToolCommand,
+    AskedComparison, AskedCoverage, AskedDrawing, AskedProfile, AskedRecording, AskedReport,
+    AskedResults, AskedWitness, CoverageFormat, LintFormat, Profiles, ReportFormat, ScriptKind,
+    TestFormat, ToolCommand,
 };

@@ -11,13 +11,8 @@ use tool_files::{Screen, ToolFault, USAGE};
 use tool_profiles::{
     differ_profiles, explain_profile, export_file, import_file, lint_files, write_toml,
 };
-use tool_scripts::{
-    AskedRecording, bus_words, check_scripts, draw_run, expand_file, play_live, record_table,
-};
-use tool_verify::{
-    AskedCoverage, AskedProfile, AskedReport, AskedWitness, cover_scripts, explain_recording,
-    infer_profile, verify_scripts,
-};
+use tool_scripts::{bus_words, check_scripts, draw_run, expand_file, play_live, record_table};
+use tool_verify::{cover_scripts, explain_recording, infer_profile, verify_scripts};
 
 /// Does what is asked for, and gives the status to end with.
 fn do_command<R: Files + AllocGlobal + Eprint, I: Read + Drop, W: Write>(
@@ -32,86 +27,15 @@ fn do_command<R: Files + AllocGlobal + Eprint, I: Read + Drop, W: Write>(
     match command {
         ToolCommand::Lint { files, format } => lint_files(rt, files.as_slice(), *format, output),
         ToolCommand::CheckScript(files) => check_scripts(rt, files.as_slice(), output),
-        ToolCommand::Verify {
-            profiles,
-            scripts,
-            kind,
-            expand,
-            format,
-            summary,
-            names,
-        } => {
-            let asked = AskedReport {
-                profiles: *profiles,
-                kind: *kind,
-                expand: *expand,
-                names: *names,
-                format: *format,
-                summary: *summary,
-            };
-            verify_scripts(rt, asked, scripts.as_slice(), screen, output)
+        ToolCommand::Verify(asked, scripts) => {
+            verify_scripts(rt, *asked, scripts.as_slice(), screen, output)
         }
-        ToolCommand::Witness {
-            profile,
-            script,
-            kind,
-            expand,
-            names,
-        } => {
-            let asked = AskedWitness {
-                profile,
-                script,
-                kind: *kind,
-                expand: *expand,
-                names: *names,
-            };
-            explain_recording(rt, asked, screen, output)
+        ToolCommand::Witness(asked) => explain_recording(rt, *asked, screen, output),
+        ToolCommand::Monitor(asked) => record_table(rt, *asked, output),
+        ToolCommand::Coverage(asked, scripts) => {
+            cover_scripts(rt, *asked, scripts.as_slice(), output)
         }
-        ToolCommand::Monitor {
-            table,
-            address,
-            gap,
-            no_response,
-            pause,
-        } => {
-            let asked = AskedRecording {
-                table,
-                address,
-                gap: *gap,
-                no_response: *no_response,
-                pause: *pause,
-            };
-            record_table(rt, asked, output)
-        }
-        ToolCommand::Coverage {
-            profile,
-            scripts,
-            expand,
-            format,
-            names,
-        } => {
-            let asked = AskedCoverage {
-                profile,
-                expand: *expand,
-                format: *format,
-                names: *names,
-            };
-            cover_scripts(rt, asked, scripts.as_slice(), output)
-        }
-        ToolCommand::Infer {
-            script,
-            address,
-            unseen_is_legal,
-            expand,
-        } => {
-            let asked = AskedProfile {
-                script,
-                address,
-                unseen_is_legal: *unseen_is_legal,
-                expand: *expand,
-            };
-            infer_profile(rt, asked, output)
-        }
+        ToolCommand::Infer(asked) => infer_profile(rt, *asked, output),
         ToolCommand::Import(table) => import_file(rt, table, output),
         ToolCommand::Export(profile) => export_file(rt, profile, output),
         ToolCommand::Expand(messages) => expand_file(rt, messages, output),
@@ -121,28 +45,14 @@ fn do_command<R: Files + AllocGlobal + Eprint, I: Read + Drop, W: Write>(
             as_json,
             names,
         } => explain_profile(rt, profile, *names, *as_json, screen, output),
-        ToolCommand::Differ {
-            profile,
-            other,
-            scripts,
-            as_json,
-            names,
-        } => differ_profiles(
-            rt, profile, other, *names, *scripts, *as_json, screen, output,
-        ),
+        ToolCommand::Differ(asked) => differ_profiles(rt, *asked, screen, output),
         ToolCommand::Acceptance {
             profile,
             format,
             names,
         } => write_test(rt, profile, *names, *format, screen.has_progress, output),
         ToolCommand::Against(asked) => against(rt, *asked, output),
-        ToolCommand::Draw {
-            profile,
-            script,
-            expand,
-            html,
-            names,
-        } => draw_run(rt, profile, script, *names, *expand, *html, output),
+        ToolCommand::Draw(asked) => draw_run(rt, *asked, output),
         ToolCommand::Words => bus_words(rt, input, output),
         ToolCommand::Live(profile) => play_live(rt, profile, input, output),
     }

@@ -5,6 +5,7 @@ ghost use Rattle.tool_files.specs.Status.{IsLoaded};
 
 use ascii_json::named_json;
 use rt1553_differ::{Group, Pair, differ_json, differ_text, differences, groups_of};
+use rt1553_tool_args::AskedComparison;
 use std::alloc::{AllocError, Global};
 use std::io::Write;
 use std::rt::Files;
@@ -53,22 +54,18 @@ fn put_pair<R: AllocGlobal, W: Write>(
 /// tells whether they differ.
 pub fn differ_profiles<R: Files + AllocGlobal + Eprint, W: Write>(
     rt: &R,
-    first: &str,
-    second: &str,
-    names: Option<&str>,
-    scripts: bool,
-    as_json: bool,
+    asked: AskedComparison<'_>,
     screen: Screen,
     output: &mut W,
 ) -> Result<u8, ToolFault>
     ensures most { IfOk result (λ status. status ≤ 1) }
     ensures same { IfOk result (λ status. (p : Parts) × (q : Parts) × IsLoaded p × IsLoaded q × ((status ≡ 0) ↔ (p ≡ q))) }
 {
-    let p = load_profile(rt, first)?;
-    let q = load_profile(rt, second)?;
-    let names = load_names(rt, names, &[p.address(), q.address()])?;
+    let p = load_profile(rt, asked.profile)?;
+    let q = load_profile(rt, asked.other)?;
+    let names = load_names(rt, asked.names, &[p.address(), q.address()])?;
     let names = names.as_ref();
-    let (first, second) = (shown(rt, first)?, shown(rt, second)?);
+    let (first, second) = (shown(rt, asked.profile)?, shown(rt, asked.other)?);
     let pair = Pair {
         p: &p,
         q: &q,
@@ -76,5 +73,5 @@ pub fn differ_profiles<R: Files + AllocGlobal + Eprint, W: Write>(
         second: second.as_str(),
         names,
     };
-    put_pair(rt, &pair, scripts, as_json, screen, output)
+    put_pair(rt, &pair, asked.scripts, asked.as_json, screen, output)
 }

@@ -12,6 +12,7 @@ use bus_script::RunFault;
 use message_names::MessageNames;
 use rt1553_differ::explain;
 use rt1553_draw::{DrawFault, draw, draw_folded, page_of};
+use rt1553_tool_args::AskedDrawing;
 use std::io::Write;
 use std::rt::Files;
 use tool_files::{
@@ -74,25 +75,20 @@ fn page<R: AllocGlobal>(
     Ok(page_of(rt.alloc(), title, drawings, table.as_str())?)
 }
 
-/// Writes the drawing of a run, of a script or, where `expand` asks for it, of messages; as a page of its own where `html` asks for it.
-/// The status is 0.
+/// Writes the drawing of a run; as a page of its own where that is asked for.
 pub fn draw_run<R: Files + AllocGlobal + Eprint, W: Write>(
     rt: &R,
-    profile: &str,
-    script: &str,
-    names: Option<&str>,
-    expand: bool,
-    html: bool,
+    asked: AskedDrawing<'_>,
     output: &mut W,
 ) -> Result<u8, ToolFault>
     ensures { IfOk result (λ status. status ≡ 0) }
 {
-    let normal = load_profile(rt, profile)?;
-    let names = load_names(rt, names, &[normal.address()])?;
+    let normal = load_profile(rt, asked.profile)?;
+    let names = load_names(rt, asked.names, &[normal.address()])?;
     let names = names.as_ref();
-    let drawing = draw_file(rt, &normal, names, script, expand, html)?;
-    if html {
-        let (profile, script) = (shown(rt, profile)?, shown(rt, script)?);
+    let drawing = draw_file(rt, &normal, names, asked.script, asked.expand, asked.html)?;
+    if asked.html {
+        let (profile, script) = (shown(rt, asked.profile)?, shown(rt, asked.script)?);
         let title = format!(in rt.alloc(); "{profile}: {script}")?;
         let page = page(rt, &normal, names, title.as_str(), drawing.as_str())?;
         write_bytes(output, page.as_str().as_bytes())?;

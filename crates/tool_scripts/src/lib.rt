@@ -11,6 +11,6 @@ mod words;
 pub use draw::draw_run;
 pub use expand::expand_file;
 pub use live::play_live;
-pub use recording::{AskedRecording, record_table};
+pub use recording::record_table;
 pub use script_file::check_scripts;
 pub use words::bus_words;

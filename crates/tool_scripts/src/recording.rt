@@ -6,21 +6,10 @@ use byte_streams::Sink;
 use monitor_cells::{RecordingSetup, read_time};
 use monitor_tables::{LeftOutColumn, MonitorFault, open_table, write_recording};
 use rt1553_files::{FileFault, open_file};
+use rt1553_tool_args::AskedRecording;
 use std::io::Write;
 use std::rt::Files;
 use tool_files::{ToolFault, refused_file, shown};
-
-/// What is asked for of a table.
-#[derive(Clone, Copy)]
-pub struct AskedRecording<'a> {
-    pub table: &'a str,
-    /// The address of the terminal.
-    pub address: &'a str,
-    /// The silences that count, in microseconds.
-    pub gap: Option<&'a str>,
-    pub no_response: Option<&'a str>,
-    pub pause: Option<&'a str>,
-}
 
 /// The shortest silence that can be a pause, in nanoseconds: a terminal that receives from another waits at most so long for
 /// its status word (MIL-STD-1553B Notice 2, 30.9).
@@ -39,17 +28,13 @@ fn silence(given: Option<&str>, default: u64) -> Result<u64, ToolFault> {
 
 /// The terminal that is recorded, and the silences that count.
 fn setup_of(asked: AskedRecording<'_>) -> Result<RecordingSetup, ToolFault> {
-    let address = match asked.address.parse::<u8>() {
-        Ok(address) if address <= 30 => address,
-        _ => return Err(ToolFault::Usage),
-    };
-    let usual = RecordingSetup::of(address);
+    let usual = RecordingSetup::of(asked.address);
     let pause = silence(asked.pause, usual.pause)?;
     if pause < SHORTEST_PAUSE {
         return Err(ToolFault::Usage);
     }
     Ok(RecordingSetup {
-        address,
+        address: asked.address,
         gap: silence(asked.gap, usual.gap)?,
         no_response: silence(asked.no_response, usual.no_response)?,
         pause,

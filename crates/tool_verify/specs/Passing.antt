@@ -1,5 +1,5 @@
 -- Which scripts pass, and the status of one that is refused.
-use Rattle.std.specs.Prelude.{ℕ, Option, None, ◌≡◌, ◌↔◌, Bool, true, false, if◌then◌else◌, List, [], ◌∷◌, map, Result, Ok, Err}
+use Rattle.std.specs.Prelude.{ℕ, Option, None, ◌≡◌, ◌↔◌, ◌⊎◌, Bool, true, false, if◌then◌else◌, List, [], ◌∷◌, map, Result, Ok, Err}
 use Rattle.bus_legal.specs.Description.{Description}
 use Rattle.bus_legal.specs.Parts.{Parts, description_in}
 use Rattle.bus_legal.specs.Reach.{reach}
@@ -9,7 +9,7 @@ use Rattle.terminal_recordings.specs.Masks.{MaskedSighting, ExplainsSome}
 use Rattle.rt1553_verify.specs.Stated.{StatedEvent, seen_on_bus}
 use Rattle.rt1553_verify.specs.Verify.{ToldAnswer, verified, verified_on_bus}
 use Rattle.script_lines.specs.EventLine.{script_text}
-use Rattle.script_recordings.specs.Explained.{IsJudgedSince, NothingExplains, IsWitness, IsLaterWitness}
+use Rattle.script_recordings.specs.Explained.{IsJudgedSince, NothingExplains, IsWitness, IsLaterWitness, HasNoPart}
 use Rattle.script_recordings.specs.Seen.{StatesRecording}
 use Rattle.script_recordings.specs.declared.reading.RecordingFault.{RecordingFault}
 use Rattle.script_recordings.specs.declared.reading.RecordingFault.TheVariants as recording
@@ -80,6 +80,11 @@ IsExplainingScript value script text =
 -- the same of a recording that began at any time
 abbrev pub IsExplainingLater : Parts → List ℕ → List ℕ → Type 0
 IsExplainingLater value script text = (events : List Event) × (text ≡ script_text events) × IsLaterWitness (description_in value) script events
+
+-- the same of a recording of this kind; nothing where no part of it is judged
+abbrev pub IsExplaining : ScriptKind → Parts → List ℕ → List ℕ → Type 0
+IsExplaining LaterRecording value script text = IsExplainingLater value script text ⊎ (HasNoPart (description_in value) script × (text ≡ []))
+IsExplaining _ value script text = IsExplainingScript value script text
 
 -- the status of a script that is not read
 abbrev pub stated_status : StatedFault → ℕ

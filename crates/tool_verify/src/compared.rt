@@ -2,9 +2,8 @@
 ghost use Rattle.std.specs.Prelude.{◌≡◌, ◌==◌, ◌↔◌, ◌++◌, None, true, IfOk, IfSome, MatchOption, length, map};
 ghost use Rattle.bus_legal.specs.Parts.{description_in};
 ghost use Rattle.rt1553_verify.specs.Stated.{shown};
-ghost use Rattle.script_recordings.specs.Explained.{HasNoPart};
 ghost use Rattle.rt1553_verify.specs.declared.stated.StatedFault.TheVariants.{Memory};
-ghost use Rattle.tool_verify.specs.Passing.{IsExplainingLater, IsExplainingScript, SaysOf, is_later, recording_kind, scoped, test_kind};
+ghost use Rattle.tool_verify.specs.Passing.{IsExplaining, SaysOf, is_later, recording_kind, scoped, test_kind};
 ghost use Rattle.tool_verify.specs.declared.compared.ScriptFault.TheVariants.{Stated, Recording};
 
 use bus_legal::Normal;
@@ -237,26 +236,21 @@ pub fn compare_open<F: Read + Drop>(
     }
 }
 
-/// Gives the events of a recording, and before them what the subsystem did, as a script: played from power-up, it makes the terminal send
-/// what is stated, if any behaviour of the subsystem does.
+/// Gives the script that explains a recording, where one does: what the subsystem did, and what is seen. Of one that began at any time:
+/// what was shut down before the part that is judged, and that part; nothing where no part is judged.
 pub fn explaining_script(
     alloc: Global,
     normal: &Normal,
     script: &[u8],
+    kind: ScriptKind,
 ) -> Result<Vec<u8>, ScriptFault>
-    ensures { IfOk result (λ text. IsExplainingScript normal.now script.now text.items) }
+    ensures { IfOk result (λ text. IsExplaining kind normal.now script.now text.items) }
 {
-    Ok(witness(alloc, normal, script)?)
-}
-
-/// Gives the same of a recording that began at any time: what was shut down before the part that is judged, and that part. None where no
-/// part is.
-pub fn explaining_later(
-    alloc: Global,
-    normal: &Normal,
-    script: &[u8],
-) -> Result<Option<Vec<u8>>, ScriptFault>
-    ensures { IfOk result (λ it. MatchOption it (HasNoPart (description_in normal.now) script.now) (λ text. IsExplainingLater normal.now script.now text.items)) }
-{
-    Ok(witness_since(alloc, normal, script)?)
+    if kind != ScriptKind::LaterRecording {
+        return Ok(witness(alloc, normal, script)?);
+    }
+    match witness_since(alloc, normal, script)? {
+        Some(text) => Ok(text),
+        None => Ok(Vec::new(alloc)),
+    }
 }

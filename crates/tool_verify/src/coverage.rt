@@ -8,24 +8,13 @@ use bus_legal::Normal;
 use message_names::MessageNames;
 use recording_coverage::{Coverage, CoverageTable, count_events, coverage_json, coverage_text};
 use rt1553_report::coverage_page;
-use rt1553_tool_args::CoverageFormat;
+use rt1553_tool_args::{AskedCoverage, CoverageFormat};
 use script_recordings::recorded_events;
 use std::alloc::Global;
 use std::io::Write;
 use std::rt::Files;
 use tool_files::{ToolFault, load_profile, load_script, write_bytes};
 use tool_names::load_names;
-
-/// What is asked for of recordings.
-#[derive(Clone, Copy)]
-pub struct AskedCoverage<'a> {
-    pub profile: &'a str,
-    /// The files have messages, which are expanded first.
-    pub expand: bool,
-    pub format: CoverageFormat,
-    /// The table with the names of messages, where one is given.
-    pub names: Option<&'a str>,
-}
 
 /// Counts what came of the messages in the recording of a file.
 fn count_file<R: Files + AllocGlobal>(

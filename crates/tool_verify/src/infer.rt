@@ -3,30 +3,11 @@ ghost use Rattle.std.specs.Prelude.{◌≤◌, IfOk};
 
 use crate::verify::recording_fault;
 use inferred_profiles::{Unseen, infer};
+use rt1553_tool_args::AskedProfile;
 use script_recordings::read_recording;
 use std::io::Write;
 use std::rt::Files;
 use tool_files::{DIFFERENT, ToolFault, load_script, write_bytes};
-
-/// What is asked for of a recording.
-#[derive(Clone, Copy)]
-pub struct AskedProfile<'a> {
-    pub script: &'a str,
-    /// The address of the terminal.
-    pub address: &'a str,
-    /// A message is legal of which nothing shows that it is not.
-    pub unseen_is_legal: bool,
-    /// The file has messages, which are expanded first.
-    pub expand: bool,
-}
-
-/// The address of a terminal, 0 to 30.
-fn address_of(text: &str) -> Result<u8, ToolFault> {
-    match text.parse::<u8>() {
-        Ok(address) if address <= 30 => Ok(address),
-        _ => Err(ToolFault::Usage),
-    }
-}
 
 /// Writes a profile that explains the recording of a file, if one is found.
 pub fn infer_profile<R: Files + AllocGlobal, W: Write>(
@@ -36,21 +17,20 @@ pub fn infer_profile<R: Files + AllocGlobal, W: Write>(
 ) -> Result<u8, ToolFault>
     ensures { IfOk result (λ status. status ≤ 1) }
 {
-    let address = address_of(asked.address)?;
     let unseen = if asked.unseen_is_legal {
         Unseen::Legal
     } else {
         Unseen::Illegal
     };
     let script = load_script(rt, asked.script, asked.expand)?;
-    let mut recording = match read_recording(rt.alloc(), address, script.text.as_slice()) {
+    let mut recording = match read_recording(rt.alloc(), asked.address, script.text.as_slice()) {
         Ok(recording) => recording,
         Err(fault) => return Err(recording_fault(rt, asked.script, &script, fault)),
     };
     for marked in recording.iter_mut() {
         marked.line = script.line_in_file(marked.line);
     }
-    let Some(text) = infer(rt.alloc(), address, unseen, recording.as_slice())? else {
+    let Some(text) = infer(rt.alloc(), asked.address, unseen, recording.as_slice())? else {
         return Ok(DIFFERENT);
     };
     write_bytes(output, text.as_str().as_bytes())?;

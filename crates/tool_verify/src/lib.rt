@@ -10,6 +10,6 @@ mod report;
 mod summary;
 mod verify;
 
-pub use coverage::{AskedCoverage, cover_scripts};
-pub use infer::{AskedProfile, infer_profile};
-pub use verify::{AskedReport, AskedWitness, explain_recording, verify_scripts};
+pub use coverage::cover_scripts;
+pub use infer::infer_profile;
+pub use verify::{explain_recording, verify_scripts};

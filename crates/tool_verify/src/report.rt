@@ -5,14 +5,14 @@ ghost use Rattle.rt1553_report.specs.Results.{outcome_passes};
 ghost use Rattle.tool_verify.specs.Passing.{IsPlayedTo, SaysOf};
 
 use crate::opened::{OpenScript, open_script};
-use crate::verify::{AskedReport, Played, PlayedScript, clauses_of, play_script};
+use crate::verify::{Played, PlayedScript, clauses_of, play_script};
 use ascii_json::json_line;
 use message_names::MessageNames;
 use rt1553_draw::{DrawFault, draw_lines};
 use rt1553_report::{
     ScriptOutcome, ScriptResult, clauses_in, junit_report, result_json, results_page,
 };
-use rt1553_tool_args::{Profiles, ReportFormat};
+use rt1553_tool_args::{AskedReport, Profiles, ReportFormat};
 use rt1553_verify::{WrongAnswer, named};
 use std::alloc::{AllocError, Global};
 use std::format;

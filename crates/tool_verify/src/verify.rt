@@ -4,14 +4,14 @@ ghost use Rattle.bus_legal.specs.Parts.{Parts};
 ghost use Rattle.tool_files.specs.Status.{IsLoaded, RefusesText, tool_status};
 ghost use Rattle.tool_verify.specs.Passing.{IsPlayedTo, SaysOf, recording_status, script_status, stated_status};
 
-use crate::compared::{JudgedPart, ScriptFault, compare_open, explaining_later, explaining_script};
+use crate::compared::{JudgedPart, ScriptFault, compare_open, explaining_script};
 use crate::opened::{OpenScript, open_script};
 use crate::report::report_files;
 use crate::summary::put_summary;
 use bus_legal::Normal;
 use message_names::{MessageNames, owned};
 use rt1553_report::{AnswerNames, TriedScript, clauses_in, difference_told, name_at};
-use rt1553_tool_args::{Profiles, ReportFormat, ScriptKind};
+use rt1553_tool_args::{AskedReport, AskedWitness, Profiles, ReportFormat, ScriptKind};
 use rt1553_verify::{ScriptWarning, StatedFault, WrongAnswer, named};
 use script_recordings::RecordingFault;
 use std::alloc::{AllocError, Global};
@@ -43,33 +43,6 @@ pub struct Played<'a> {
     pub kind: ScriptKind,
     /// The files have messages, which are expanded first.
     pub expand: bool,
-}
-
-/// What is asked for of the scripts.
-#[derive(Clone, Copy)]
-pub struct AskedReport<'a> {
-    pub profiles: Profiles<'a>,
-    pub kind: ScriptKind,
-    /// The files have messages, which are expanded first.
-    pub expand: bool,
-    /// The table with the names of messages, where one is given.
-    pub names: Option<&'a str>,
-    pub format: ReportFormat,
-    /// What passes, too, clause by clause, as text.
-    pub summary: bool,
-}
-
-/// What is asked for of a recording that is to be explained.
-#[derive(Clone, Copy)]
-pub struct AskedWitness<'a> {
-    pub profile: &'a str,
-    pub script: &'a str,
-    /// A recording from power-up, or one that began at any time.
-    pub kind: ScriptKind,
-    /// The file has messages, which are expanded first.
-    pub expand: bool,
-    /// The table with the names of messages, where one is given.
-    pub names: Option<&'a str>,
 }
 
 /// What is written of each script as text.
@@ -465,22 +438,6 @@ pub fn verify_scripts<R: Files + AllocGlobal + Eprint, W: Write>(
     }
 }
 
-/// The script that explains a recording of this kind; of one that began at any time nothing where no part is judged.
-fn explaining(
-    alloc: Global,
-    normal: &Normal,
-    script: &LoadedScript,
-    kind: ScriptKind,
-) -> Result<Vec<u8>, ScriptFault> {
-    if kind != ScriptKind::LaterRecording {
-        return explaining_script(alloc, normal, script.text.as_slice());
-    }
-    match explaining_later(alloc, normal, script.text.as_slice())? {
-        Some(text) => Ok(text),
-        None => Ok(Vec::new(alloc)),
-    }
-}
-
 /// Writes a script that explains a recording: what is seen there, and before it what the subsystem did. Where nothing explains it, the
 /// first line that is not explained is written in its place, as by `verify_scripts`.
 pub fn explain_recording<R: Files + AllocGlobal + Eprint, W: Write>(
@@ -506,7 +463,7 @@ pub fn explain_recording<R: Files + AllocGlobal + Eprint, W: Write>(
     if !tell_script(rt, &played, asked.script, &script, None, report, output)? {
         return Ok(DIFFERENT);
     }
-    match explaining(rt.alloc(), &normal, &script, asked.kind) {
+    match explaining_script(rt.alloc(), &normal, script.text.as_slice(), asked.kind) {
         Ok(text) => {
             write_bytes(output, text.as_slice())?;
             Ok(0)
