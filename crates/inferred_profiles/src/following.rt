@@ -170,12 +170,6 @@ impl Following {
     }
 }
 
-/// Whether a word that is sent, or none, is the one that was seen, or a data word where that is left open.
-fn is_as_seen(marked: &Marked, sent: Option<Sent>) -> bool {
-    let is_open = marked.any_word && sent.is_some() && status_in(sent).is_none();
-    is_open || sent == marked.sighting.sent
-}
-
 /// Tells what comes of a guess: its terminal takes what is seen, and what the subsystem did, as the recording tells it.
 pub fn outcome_of(
     alloc: Global,
@@ -203,7 +197,7 @@ pub fn outcome_of(
                 number = number.saturating_add(1);
                 let is_last_command = following.sends_last_command();
                 let sent = following.take(marked);
-                if is_as_seen(marked, sent) {
+                if marked.is_as_seen(sent) {
                     following.note_word(sent, is_last_command)?;
                 } else {
                     return Ok(match following.wrong_cell(sent, marked.sighting.sent) {

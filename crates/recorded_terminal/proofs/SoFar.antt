@@ -1,5 +1,5 @@
 -- Sightings, one after the other.
-use Rattle.std.proofs.Common.{◌≡◌, ℕ, suc, ◌<◌, Option, List, [], ◌∷◌, ◌++◌, length, drop, get_or, ap, sym, ◌∙◌}
+use Rattle.std.proofs.Common.{◌≡◌, ℕ, suc, ◌<◌, Option, List, ◌∷◌, ◌++◌, length, drop, get_or, ap, sym, ◌∙◌}
 use Rattle.std.proofs.Math.Seq.{drop-cons}
 use Rattle.bus_legal.specs.Description.{Description}
 use Rattle.bus_terminal.specs.declared.answer.Sent.{Sent}

@@ -43,14 +43,16 @@ pub struct Unexplained {
     pub sent: Option<Sent>,
 }
 
-/// Whether the word that a terminal sends, or none, is the one that was seen, or a data word where that is left open.
-fn is_as_seen(sent: Option<Sent>, seen: Option<Sent>, any_word: bool) -> bool
-    ensures { IsTrue result ↔ FitsWord any_word (word_shown seen) (word_shown sent) }
-{
-    match (any_word, seen, sent) {
-        (false, _, _) => sent == seen,
-        (true, Some(seen), Some(sent)) => are_data_words(seen, sent),
-        _ => false,
+impl Marked {
+    /// Tells whether the word that a terminal sends, or none, is the one that was seen, or a data word where that is left open.
+    pub fn is_as_seen(&self, sent: Option<Sent>) -> bool
+        ensures { IsTrue result ↔ FitsWord self.now.any_word (word_shown self.now.sighting.sent) (word_shown sent) }
+    {
+        match (self.any_word, self.sighting.sent, sent) {
+            (false, seen, _) => sent == seen,
+            (true, Some(seen), Some(sent)) => are_data_words(seen, sent),
+            _ => false,
+        }
     }
 }
 
@@ -73,7 +75,7 @@ fn follow<L: Legality>(
 {
     for (number, marked) in waiting.iter().enumerate() {
         let sent = follower.see(marked.sighting, status).sent;
-        if !is_as_seen(sent, marked.sighting.sent, marked.any_word) {
+        if !marked.is_as_seen(sent) {
             return Some(Unexplained {
                 marked: *marked,
                 number: followed.saturating_add(number as u64),

@@ -46,7 +46,7 @@ impl NumberRange {
 }
 
 /// How many numbers some ranges have.
-pub fn count_of(ranges: &[NumberRange]) -> u32 {
+pub(crate) fn count_of(ranges: &[NumberRange]) -> u32 {
     let mut count = 0u32;
     for numbers in ranges {
         count = count.saturating_add(numbers.count);

@@ -13,9 +13,9 @@ ghost use Rattle.script_recordings.specs.Explained.{told_at, told_first, IsFirst
 ghost use Rattle.script_recordings.specs.inner.Reads.{TellsUnexplained, TellsJudged};
 
 use crate::reading::{RecordingFault, RecordingReader};
+use crate::words::open_line;
 use bus_legal::Normal;
 use bus_terminal::{Answer, Sent};
-use bus_word::Bus;
 use recorded_terminal::{FreshPart, LaterWatch, Marked, Unexplained, Watch};
 use rt1553_verify::{ScriptWarning, WrongAnswer, stated_warning};
 use script_lines::write_answer;
@@ -68,14 +68,10 @@ fn line_of(alloc: Global, sent: Option<Sent>) -> Result<Vec<u8>, AllocError>
 fn open_line_of(alloc: Global, sent: Option<Sent>) -> Result<Vec<u8>, AllocError>
     ensures { IfOk result (λ line. line.items ≡ stated_word true (word_shown sent)) }
 {
-    let line: &[u8] = match sent {
-        Some(sent) => match sent.bus {
-            Bus::A => b"A d ....\n",
-            Bus::B => b"B d ....\n",
-        },
-        None => b"",
-    };
-    line.to_vec(alloc)
+    match sent {
+        Some(sent) => open_line(sent.bus).to_vec(alloc),
+        None => Ok(Vec::new(alloc)),
+    }
 }
 
 /// The line that states what was seen.

@@ -1,5 +1,5 @@
 //! The recording that a script states, read sighting by sighting.
-ghost use Rattle.std.specs.Prelude.{◌≡◌, ◌<◌, true, false, map, IfOk, IfErr, IfSome, MatchOption};
+ghost use Rattle.std.specs.Prelude.{◌≡◌, ◌<◌, true, false, map, IfOk, IfErr, IfSome};
 ghost use Rattle.bus_word.specs.declared.word.Bus.{Bus};
 ghost use Rattle.rt1553_verify.specs.Stated.{shown, stated_through};
 ghost use Rattle.rt1553_verify.specs.Reader.{left_in, turns_left};
@@ -10,9 +10,9 @@ ghost use Rattle.script_recordings.specs.inner.Reads.{IsMarkedAs, NextSeen, Refu
 ghost use Rattle.script_recordings.specs.declared.reading.RecordingFault.TheVariants.{Masked, NoWord, Script};
 ghost use Rattle.rt1553_verify.specs.declared.stated.StatedFault.TheVariants.{Memory};
 
-use crate::words::read_sent;
+use crate::words::{open_bus, read_sent};
 use bus_terminal::Sent;
-use bus_word::{Bus, Kind};
+use bus_word::Kind;
 use recorded_terminal::{Marked, Sighting};
 use rt1553_verify::{Matching, Stated, StatedFault, StatedReader, command_after};
 use std::alloc::{AllocError, AllocFailed, Global};
@@ -64,19 +64,6 @@ impl<T: Drop> From<AllocFailed<T>> for RecordingFault {
 struct StatedWord {
     sent: Option<Sent>,
     any_word: bool,
-}
-
-/// The bus of a line that leaves a data word open.
-fn open_bus(line: &[u8]) -> Option<Bus>
-    ensures { MatchOption result ((bus : Bus) → line.now ≡ open_line bus → ⊥) (λ bus. line.now ≡ open_line bus) }
-{
-    if line == b"A d ....\n".as_slice() {
-        Some(Bus::A)
-    } else if line == b"B d ....\n".as_slice() {
-        Some(Bus::B)
-    } else {
-        None
-    }
 }
 
 /// The word that is stated whole, or none.
