@@ -9,9 +9,9 @@ work=$(mktemp -d)
 trap 'rm -rf "$work"' EXIT
 
 if [[ -z ${PROGRAM:-} ]]; then make --silent build >/dev/null; fi
-[[ -x crates/toml_alone/out/toml_alone ]] || (cd crates/toml_alone && rt run </dev/null >/dev/null 2>&1)
+[[ -x crates/probes/out/probes ]] || (cd crates/probes && rt run </dev/null >/dev/null 2>&1)
 program=$(realpath "${PROGRAM:-bin/rt1553}")
-toml_alone=$(realpath crates/toml_alone/out/toml_alone)
+probes=$(realpath crates/probes/out/probes)
 
 # A profile file of 1,048,576 bytes with as many entries as there may be, each of its own kind of legality, the rest
 # a comment.
@@ -44,7 +44,7 @@ each() {
     awk -v name="$name" -v runs="$runs" '{ printf "%-44s %8.3f ms\n", name, ($1 + $2) * 1000 / runs }' <<<"$spent"
 }
 
-read_toml() { "$toml_alone" <"$1"; }
+read_toml() { "$probes" toml <"$1"; }
 
 each 'words refused' "$program" no such words
 each "canon, $(wc -c <"$work/largest") bytes" "$program" canon "$work/largest"

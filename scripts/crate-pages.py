@@ -6,8 +6,8 @@
 
 Each crate has a README.md with the sections of SECTIONS. What is in backticks there, in docs/proofs.md and in docs/architecture.md and
 looks like a path is a file or folder, of the crate or of the repository, or a must-fail edit, as `crate/name`. What looks like a name is
-in the code, or is that of an edit; and `crate::name` is of that crate. The Rust lines of a first use are in a test of
-crates/rt1553_tests, where they are proved and run. In the table of docs/proofs.md whose rows begin with a specs folder the number
+in the code, or is that of an edit; and `crate::name` is of that crate. The Rust lines of a first use are in a test of the crates of
+TESTS, where they are proved and run. In the table of docs/proofs.md whose rows begin with a specs folder the number
 behind each file is that of its lines, and each file of specs/ outside of specs/inner is there once; what is in a folder below specs/
 counts with the file of its name. That page names just the crates of the toolchain that crates.txt names. ROOT is the repository, by
 default that of this script.
@@ -22,8 +22,9 @@ LISTING = "docs/proofs.md"
 PAGES = [LISTING, "docs/architecture.md"]
 # folders that each crate may have, and what a build leaves
 ANY = re.compile(r"(?:src|specs|specs/inner|proofs|must-fail|must-not-compile|inner)/?|bin/.*|crates/\w+/out/.*")
-# crates that are programs or tests for one purpose: a page without sections
-SMALL = {"rt1553_tests", "growths", "changes", "toml_alone"}
+TESTS = {"terminal_tests", "rt1553_tests"}
+# crates that are tests, or programs for them: a page without sections
+SMALL = {*TESTS, "probes"}
 
 CODE = {".rt", ".antt", ".py", ".sh", ".rs", ".h", ".c", ".hpp", ".toml"}
 NAME = re.compile(r"[A-Za-z_][\w'\-]*(?:(?:::|\.)[A-Za-z_][\w'\-]*)*(?:\(\.*\))?")
@@ -47,7 +48,7 @@ class Repository:
         self.edits = {f"{path.parts[-3]}/{path.stem}" for path in edits}
         others = self.names_of(root, "scripts", "tests/model", "library"), self.crates, {path.stem for path in edits}
         self.everywhere = set().union(*self.names.values(), *others)
-        tests = (root / "crates/rt1553_tests/src").rglob("*.rt")
+        tests = [path for name in TESTS for path in (root / "crates" / name / "src").rglob("*.rt")]
         self.tested = plain("\n".join(path.read_text() for path in sorted(tests)))
 
     def names_of(self, top, *folders):

@@ -116,10 +116,10 @@ growths() {
 # the same for the calls of the library: just lines that are not about a canonical text may say `Memory`
 call_growths() {
     local probe=$1 number=1 line want
-    "$probe" >"$work/ample"
+    "$probe" growths >"$work/ample"
     while [[ $number -lt 2000 ]]; do
         rm -f "$work/mark"
-        LD_PRELOAD=$work/refuse.so REFUSE_GROWTH=$number REFUSE_MARK=$work/mark "$probe" >"$work/stdout" 2>"$work/stderr"
+        LD_PRELOAD=$work/refuse.so REFUSE_GROWTH=$number REFUSE_MARK=$work/mark "$probe" growths >"$work/stdout" 2>"$work/stderr"
         if [[ $? -ne 0 || -s $work/stderr ]]; then break; fi
         if [[ ! -e $work/mark ]]; then
             [[ $number -gt 1 ]] && cmp -s "$work/stdout" "$work/ample"
@@ -128,7 +128,7 @@ call_growths() {
         fi
         while IFS= read -r line <&3 && IFS= read -r want <&4; do
             case $line in
-                "$want" | 'load Memory' | 'canonical Memory' | 'compare Memory' | 'run Err(Load(Memory)) 0' | 'read_profile Memory') ;;
+                "$want" | 'arguments Memory' | 'load Memory' | 'canonical Memory' | 'compare Memory' | 'run Err(Load(Memory)) 0' | 'read_profile Memory') ;;
                 *) count "each call, growth $number refused: $line" 1; return ;;
             esac
         done 3<"$work/stdout" 4<"$work/ample"
@@ -983,7 +983,7 @@ chosen_wraparound_rows() {
 
 # each byte of three canonical texts changed to each other value
 changed_texts() {
-    [[ $("$1" each) == '1520 bytes: 3621 changed texts are accepted
+    [[ $("$1" changes) == '1520 bytes: 3621 changed texts are accepted
 1556 bytes: 3816 changed texts are accepted
 2474 bytes: 7300 changed texts are accepted' ]]
     count 'each byte of three canonical texts changed' $?
@@ -1063,10 +1063,8 @@ for program in "$built"/crates/rt1553_program/out/rt1553_program{,.by-rattle}; d
     [[ -x $program ]] || continue
     ran=$((ran + 1))
     rows
-    probe=${program//rt1553_program/growths}
-    if [[ -x $probe ]]; then call_growths "$probe"; fi
-    probe=${program//rt1553_program/changes}
-    if [[ -x $probe ]]; then changed_texts "$probe"; fi
+    probe=${program//rt1553_program/probes}
+    if [[ -x $probe ]]; then call_growths "$probe"; changed_texts "$probe"; fi
 done
 [[ $ran -gt 0 ]]
 count 'a program was built' $?

@@ -1,11 +1,10 @@
 //! Changes a byte of three canonical texts to each other value, and prints of each text how many changed texts are
 //! accepted. One that is accepted has to be its own canonical text, or a text of version 1, whose canonical text differs
-//! from it in the first line alone. With any word on the command line each byte is changed in turn, without one each 97th.
-#![tactic(auto)]
+//! from it in the first line alone.
 
 use rt1553::{LoadFault, canonical};
 use std::alloc::Global;
-use std::{env, io};
+use std::io;
 
 /// The smallest canonical text: nothing of it but the address is chosen.
 const SMALLEST: &[u8] = b"address = 5\n";
@@ -108,10 +107,9 @@ fn report(rt: &impl Print, alloc: Global, profile: &[u8], is_whole: bool) -> io:
     }
 }
 
-fn main(rt: HostRuntime) -> io::Result<()> {
-    // the first word is the program's own name
-    let is_whole = env::args(&rt)?.nth(1).is_some();
-    report(&rt, rt.alloc(), SMALLEST, is_whole)?;
-    report(&rt, rt.alloc(), INITIAL, is_whole)?;
-    report(&rt, rt.alloc(), BY_BROADCAST, is_whole)
+/// Changes each byte of the texts in turn, or, where not all are asked for, each 97th.
+pub fn change_texts(rt: &impl Print, alloc: Global, is_whole: bool) -> io::Result<()> {
+    report(rt, alloc, SMALLEST, is_whole)?;
+    report(rt, alloc, INITIAL, is_whole)?;
+    report(rt, alloc, BY_BROADCAST, is_whole)
 }

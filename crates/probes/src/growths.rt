@@ -1,7 +1,6 @@
 //! Makes each public call that is given a text once, of `rt1553` and of `bus_profile`, and prints what it
 //! answered, a line a call. The sweep of refused growths runs it: with one growth of memory refused, just one line may say
 //! `Memory` in place of its answer.
-#![tactic(auto)]
 
 use bus_profile::read_profile;
 use rt1553::{LoadFault, MemorySink, MemorySource, Verdict, canonical, compare, load, run};
@@ -119,23 +118,23 @@ fn on_canonical_text(rt: &impl Print, alloc: Global, text: &[u8]) -> io::Result<
     runs(rt, alloc, text)
 }
 
-fn main(rt: HostRuntime) -> io::Result<()> {
-    let alloc = rt.alloc();
-    loads(&rt, alloc, FIVE)?;
-    writes(&rt, alloc, FIVE)?;
-    compares(&rt, alloc, FIVE, SIX)?;
-    compares(&rt, alloc, FIVE, b"address = 0x05")?;
-    runs(&rt, alloc, FIVE)?;
-    reads(&rt, alloc, WHOLE)?;
-    reads(&rt, alloc, REFUSED)?;
-    loads(&rt, alloc, WHOLE)?;
-    writes(&rt, alloc, WHOLE)?;
-    compares(&rt, alloc, WHOLE, FIVE)?;
-    runs(&rt, alloc, WHOLE)?;
+/// Makes each call and prints what it answered.
+pub fn call_each(rt: &impl Print, alloc: Global) -> io::Result<()> {
+    loads(rt, alloc, FIVE)?;
+    writes(rt, alloc, FIVE)?;
+    compares(rt, alloc, FIVE, SIX)?;
+    compares(rt, alloc, FIVE, b"address = 0x05")?;
+    runs(rt, alloc, FIVE)?;
+    reads(rt, alloc, WHOLE)?;
+    reads(rt, alloc, REFUSED)?;
+    loads(rt, alloc, WHOLE)?;
+    writes(rt, alloc, WHOLE)?;
+    compares(rt, alloc, WHOLE, FIVE)?;
+    runs(rt, alloc, WHOLE)?;
     match canonical_texts(alloc) {
         Ok((first, second)) => {
-            on_canonical_text(&rt, alloc, second.as_slice())?;
-            on_canonical_text(&rt, alloc, first.as_slice())
+            on_canonical_text(rt, alloc, second.as_slice())?;
+            on_canonical_text(rt, alloc, first.as_slice())
         }
         Err(fault) => println!(rt; "canonical {fault:?}"),
     }
