@@ -8,7 +8,8 @@
 
 Each crate is proved from nothing by one `rattle build`, with the words that `rt ci` gives it, over the statements of the libraries below.
 As many run side by side as there are processors, or as RT_JOBS says, and 3 GiB of memory for each: first what rt1553 stands on,
-and of that what has most to prove above it. Processors for which no crate is ready become further jobs of the proofs that start.
+and of that what has most to prove above it, with two jobs on four processors. Processors for which no crate is ready become further
+jobs of the proofs that start.
 
 What is proved is kept in ~/.cache/rt1553, or in the folder that RT1553_KEPT names. It has to be the user's own: who can write to it
 can have a build take what nobody proved.
@@ -302,14 +303,16 @@ class Build:
         for crate in reversed(self.left):
             chain[crate] = crate.lines + max((chain[it] for it in self.left if crate in it.libraries), default=0)
         self.left.sort(key=lambda it: (it not in first, -chain[it]))
+        self.first = first
 
     def start_ready(self):
         """Starts crates of which all below is made, as far as processors are idle."""
         idle = self.processors - sum(it.jobs for it in self.running)
         ready = [it for it in self.left if all(below.name in self.made for below in it.below)][: max(0, idle)]
         for at, crate in enumerate(ready):
-            # what the others don't need, rounded up
-            jobs = min(4, -(-idle // (len(ready) - at)))
+            # what the others don't need, rounded up; two for what the first program waits for, though that may be one more than are idle
+            is_awaited = crate is self.left[0] and crate in self.first and self.processors >= 4
+            jobs = min(4, max(-(-idle // (len(ready) - at)), 2 if is_awaited else 1))
             idle -= jobs
             self.left.remove(crate)
             self.running.append(Proof(crate, jobs, self.made, self.kept, self.group))
