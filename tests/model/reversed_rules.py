@@ -1,13 +1,17 @@
 #!/usr/bin/env python3
-"""Whether each rule of docs/terminal.md shows in the row of tests/rows that the page names for it.
+"""Whether docs/terminal.md states each rule of tests/rows/rules.md, and whether the rule shows in the rows that are named for it.
 
     reversed_rules.py      the last line is 'N passed, M failed', which counts reversals
 
-The table of the page ("Each rule with an example") names rows for each rule. reversed_rules.txt has the same rules, each with one or
-more reversals: changes that turn the rule round in a copy of the model (rules.py, canonical.py, play.py). The unchanged model gives
-the answers that the rows state. A reversal passes if the changed model answers a row of its rule otherwise. It fails if it makes no
-difference, or if the text that it changes isn't there once. A rule that only one of the two lists has fails, and so does a row that no
-reversal of its rule shows.
+rules.md has a table for each section of the page that has rules. For each rule the table quotes the page and names rows. The quotation
+is in that section, once. So are the sections of the standard that the table gives; and a rule marked **Choice** is quoted from a
+sentence that is marked so. The last table of rules.md quotes what no row shows, or names a section of the page. A sentence of any other
+section, or a row of a table there, that nothing quotes fails.
+
+reversed_rules.txt has the same rules, each with one or more reversals: changes that turn the rule round in a copy of the model
+(rules.py, canonical.py, play.py). The unchanged model gives the answers that the rows state. A reversal passes if the changed model
+answers a row of its rule otherwise. It fails if it makes no difference, or if the text that it changes isn't there once. A rule that
+only one of the two lists has fails, and so does a row that no reversal of its rule shows.
 """
 
 import functools
@@ -16,6 +20,7 @@ import re
 import sys
 import tomllib
 import types
+from typing import NamedTuple
 
 HERE = pathlib.Path(__file__).resolve().parent
 TOP = HERE.parent.parent
@@ -34,17 +39,76 @@ class Unfit(Exception):
     """Why a reversal can't be made."""
 
 
-# ---- the two lists
+# ---- the list of rules, and the page
 
 
-def rules_of_page(text):
-    """The rules of the page's table, each with the text that names its rows and the file in which they are."""
-    for line in text.split("\n| rule | standard | row | file |\n|---|---|---|---|\n")[1].splitlines():
-        if not line.startswith("|"):
-            return
-        rule, _, named, file = (cell.strip() for cell in line.strip("|").split("|"))
-        if named:
-            yield rule.replace("**Choice**: ", ""), named, file.strip("`")
+class Rule(NamedTuple):
+    """A rule of rules.md: its section of the page, sections of the standard, a quotation, the rows that show it, and their file."""
+
+    section: str
+    name: str
+    standard: str
+    quotation: str
+    named: str
+    file: str
+
+
+def tables_of(text):
+    """The rows of the tables of rules.md, without the heads of the tables: the heading above each, and its cells."""
+    for section in text.split("\n## ")[1:]:
+        heading, *lines = section.splitlines()
+        for line in [line for line in lines if line.startswith("|")][2:]:
+            yield heading, [cell.strip().replace("\\|", "|") for cell in re.split(r"(?<!\\)\|", line)[1:-1]]
+
+
+def sections_of(page):
+    """The sections of the page by their headings."""
+    return {section.split("\n", 1)[0]: section for section in page.split("\n## ")[1:]}
+
+
+def sentences_of(section):
+    """The sentences of a section and the rows of its tables, without blocks, drawings and the heads of tables."""
+    text = re.sub(r"^(?:    .*|!\[.*|\|.*\n\|---.*)$", "", section.split("\n", 1)[1], flags=re.M)
+    for block in re.split(r"\n(?=\n|\||- |\d+\. )", text):
+        block = re.sub(r"^(?:- |\d+\. )", "", " ".join(block.split()))
+        yield from (sentence for sentence in re.split(r"(?<=\.) ", block) if sentence)
+
+
+def quoted(sentences, quotation):
+    """How often a quotation is in these sentences, and the numbers of those that it is in for the first time."""
+    text = " ".join(sentences)
+    start, end, at, numbers = text.find(quotation), text.find(quotation) + len(quotation), 0, []
+    for number, sentence in enumerate(sentences):
+        if start < at + len(sentence) and at < end:
+            numbers.append(number)
+        at += len(sentence) + 1
+    return text.count(quotation), numbers
+
+
+def faults_of_page(page, rules, unshown):
+    """Where the page and the list of rules differ."""
+    sections = sections_of(page)
+    yield from (f'docs/terminal.md has no section "{heading}"' for heading in dict.fromkeys(rule.section for rule in rules) if heading not in sections)
+    for heading in sections:
+        sentences = list(sentences_of(sections[heading]))
+        left = set() if heading in unshown else set(range(len(sentences)))
+        for rule in (rule for rule in rules if rule.section == heading):
+            times, numbers = quoted(sentences, rule.quotation)
+            if times != 1 or not rule.quotation:
+                yield f'{rule.name}: docs/terminal.md, "{heading}" has this {times} times: {rule.quotation}'
+                continue
+            left -= set(numbers)
+            if "**Choice**" in rule.name and not all("**Choice**" in sentences[number] for number in numbers):
+                yield f"{rule.name}: not marked as a choice in docs/terminal.md: {rule.quotation}"
+            for number in sorted({*rule.standard.split(", ")} - {"", *re.findall(r"\d+(?:\.\d+)+", sections[heading])}):
+                yield f'{rule.name}: docs/terminal.md, "{heading}" does not have {number}'
+        for number in sorted(left):
+            if not any(quotation in sentences[number] for quotation in unshown):
+                yield f'no rule quotes docs/terminal.md, "{heading}": {sentences[number]}'
+    yield from (f"not in docs/terminal.md: {quotation}" for quotation in unshown if quotation not in " ".join(page.split()))
+
+
+# ---- reversals
 
 
 def reversals_of(text):
@@ -142,39 +206,43 @@ def answers_as_stated(model, row):
 # ---- what passes
 
 
-def faults_of(rule, named, file, reversals, known, count):
+def faults_of(rule, reversals, known, count):
     """What is wrong with the reversals of a rule."""
     shown, asked = set(), set()
     for it, changes in reversals:
-        names = [name for name in rows_named(named, file, it) if name in known]
+        names = [name for name in rows_named(rule.named, rule.file, it) if name in known]
         asked |= set(names)
         try:
             model = model_of(changed(changes))
             differing = {name for name in names if not answers_as_stated(model, known[name])}
         except (Unfit, SyntaxError) as fault:
-            yield f"{rule}: {fault}"
+            yield f"{rule.name}: {fault}"
             continue
         shown |= differing
         count["passed"] += bool(differing)
         if not differing:
-            yield f"{rule}: makes no difference in {', '.join(names) or named}: {changes}"
-    yield from (f"{rule}: no reversal shows in `{name}`" for name in sorted(asked - shown))
-    if "the rows of" not in named:
-        yield from (f"{rule}: no row `{name}`" for name in rows_named(named, file, "") if name not in known)
+            yield f"{rule.name}: makes no difference in {', '.join(names) or rule.named}: {changes}"
+    yield from (f"{rule.name}: no reversal shows in `{name}`" for name in sorted(asked - shown))
+    if "the rows of" not in rule.named:
+        yield from (f"{rule.name}: no row `{name}`" for name in rows_named(rule.named, rule.file, "") if name not in known)
 
 
 def main():
     known = {row.name: row for row in rows.rows()}
-    page = list(rules_of_page((TOP / "docs/terminal.md").read_text()))
+    tables = list(tables_of((TOP / "tests/rows/rules.md").read_text()))
+    rules = [Rule(heading, *cells[:-1], cells[-1].strip("`")) for heading, cells in tables if len(cells) == 5]
+    unshown = [cells[0] for _, cells in tables if len(cells) == 2]
     reversals = reversals_of((HERE / "reversed_rules.txt").read_text())
     model, count = model_of(SOURCES), {"passed": 0}
     faults = [f"the model doesn't answer `{name}` as stated" for name, row in known.items() if not answers_as_stated(model, row)]
-    faults += [f"{rule}: not in docs/terminal.md" for rule in reversals if rule not in {rule for rule, _, _ in page}]
-    for rule, named, file in page:
-        if not reversals.get(rule):
-            faults.append(f"{rule}: not reversed")
+    faults += faults_of_page((TOP / "docs/terminal.md").read_text(), rules, unshown)
+    names = [rule.name.replace("**Choice**: ", "") for rule in rules]
+    faults += [f"{name}: not in tests/rows/rules.md" for name in reversals if name not in names]
+    for rule, name in zip(rules, names):
+        if not reversals.get(name):
+            faults.append(f"{name}: not reversed")
             continue
-        faults += faults_of(rule, named, file, reversals[rule], known, count)
+        faults += faults_of(rule, reversals[name], known, count)
     for fault in faults:
         print(fault)
     print(f"{count['passed']} passed, {len(faults)} failed")
