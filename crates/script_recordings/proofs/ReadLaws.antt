@@ -12,6 +12,7 @@ use Rattle.rt1553_verify.proofs.StatedLaws.{then-twice}
 use Rattle.script_recordings.specs.declared.reading.RecordingFault.{RecordingFault}
 use Rattle.script_recordings.specs.declared.reading.RecordingFault.TheVariants.{Unseen, Masked, NoWord, Script}
 use Rattle.script_recordings.specs.Seen.{AreSeenAs, IsUnseenAs, StatesRecording, StatesNoRecording}
+use Rattle.script_recordings.specs.Messages.{InMessage, AreInMessages}
 use Rattle.script_recordings.specs.inner.Reads.{Left, IsMarkedAs, SaysNothing, RefusesRest, NextSeen}
 
 abbrev Said : Type 0
@@ -103,6 +104,28 @@ read_fault (Some script) left new ms fault (front, later, is, all, are) next = c
     case (Unseen line) n = unseen (Unseen line) n
     case (Masked line) n = unseen (Masked line) n
     case (NoWord line) n = unseen (NoWord line) n
+
+-- ---- to which messages they belong
+
+pub messages_more : (address : ℕ) (before : Option ℕ) (ms : List Marked) (last : Option ℕ) (m : Marked) → AreInMessages address before ms last → InMessage address last m
+    → AreInMessages address before (ms ++ m ∷ []) m.command
+messages_more address before [] last m are is = (subst (λ c. InMessage address c m) are is, refl)
+messages_more address before (n ∷ ms) last m are is = (are.0, messages_more address n.command ms last m are.1 is)
+
+-- so far, by the reader's address and command word
+abbrev pub MessagesSoFar : ℕ → ℕ → Option ℕ → List Marked → Type 0
+MessagesSoFar address own command ms = (own ≡ address) × AreInMessages address None ms command
+
+pub messages_none : (address own : ℕ) (command : Option ℕ) (ms : List Marked) → (own ≡ address) × (command ≡ None) → ms ≡ [] → MessagesSoFar address own command ms
+messages_none address own command ms begins none = (begins.0, subst (λ ns. AreInMessages address None ns command) (sym none) begins.1)
+
+pub messages_next : (address own new : ℕ) (command next : Option ℕ) (ms ns : List Marked) (m : Marked) → MessagesSoFar address own command ms → InMessage own command m × (next ≡ m.command)
+    → new ≡ own → ns ≡ ms ++ m ∷ [] → MessagesSoFar address new next ns
+messages_next address own new command next ms ns m far is same more = (
+  same ∙ far.0,
+  subst (λ l. AreInMessages address None l next) (sym more) (subst (AreInMessages address None (ms ++ m ∷ [])) (sym is.1)
+      (messages_more address None ms command m far.1 (subst (λ a. InMessage a command m) far.0 is.0))),
+)
 
 -- ---- what is left of a script that states no recording
 

@@ -1,3 +1,4 @@
 pub mod Seen
+pub mod Messages
 pub mod Explained
 pub mod inner

@@ -1,11 +1,12 @@
 //! The recording that a script states, read sighting by sighting.
-ghost use Rattle.std.specs.Prelude.{◌≡◌, ◌<◌, true, false, map, IfOk, IfErr, IfSome};
+ghost use Rattle.std.specs.Prelude.{◌≡◌, ◌<◌, ℕ, true, false, map, IfOk, IfErr, IfSome, Option, None};
 ghost use Rattle.bus_word.specs.declared.word.Bus.{Bus};
 ghost use Rattle.rt1553_verify.specs.Stated.{shown, stated_through};
 ghost use Rattle.rt1553_verify.specs.Reader.{left_in, turns_left};
 ghost use Rattle.recorded_terminal.specs.Watched.{masked_in};
 ghost use Rattle.recorded_terminal.specs.SentWords.{word_shown};
 ghost use Rattle.script_recordings.specs.Seen.{open_line, stated_word, IsData, StatesSent, IsNoWord, StatesNoWord, IsUnseenAs, StatesRecording, StatesNoRecording};
+ghost use Rattle.script_recordings.specs.Messages.{InMessage, AreInMessages};
 ghost use Rattle.script_recordings.specs.inner.Reads.{IsMarkedAs, NextSeen, RefusesRest};
 ghost use Rattle.script_recordings.specs.declared.reading.RecordingFault.TheVariants.{Masked, NoWord, Script};
 ghost use Rattle.rt1553_verify.specs.declared.stated.StatedFault.TheVariants.{Memory};
@@ -119,6 +120,7 @@ fn word_of(stated: &Stated) -> Result<StatedWord, RecordingFault>
 /// What is seen of an event, as a script states it, where this is the command word of its message, if there is one.
 fn marked_as(stated: &Stated, command: Option<u16>) -> Result<Marked, RecordingFault>
     ensures seen { IfOk result (IsMarkedAs (shown stated.now)) }
+    ensures command { IfOk result (λ marked. marked.command ≡ command) }
     ensures refused { IfErr result (λ fault. IsUnseenAs (shown stated.now) fault) }
 {
     let StatedWord { sent, any_word } = word_of(stated)?;
@@ -159,7 +161,8 @@ pub struct RecordingReader<B> {
 impl<B: BufRead> RecordingReader<B> {
     /// Reads the recording of a terminal of this address, of a script of any number of lines.
     pub fn new(alloc: Global, address: u8, input: B) -> RecordingReader<B>
-        ensures { IfSome (B.remaining input) (λ script. left_in B.remaining result.script ≡ Some (stated_through script)) }
+        ensures reads { IfSome (B.remaining input) (λ script. left_in B.remaining result.script ≡ Some (stated_through script)) }
+        ensures message { (result.address ≡ address) × (result.command ≡ None) }
     {
         RecordingReader {
             script: StatedReader::new(alloc, input),
@@ -172,6 +175,8 @@ impl<B: BufRead> RecordingReader<B> {
     pub fn next(&mut self) -> Result<Option<Marked>, RecordingFault>
         ensures next { NextSeen (left_in B.remaining self.old.script) (left_in B.remaining self.new.script) result }
         ensures fewer { IfOk result (λ next. IfSome next (λ _. turns_left self.new.script < turns_left self.old.script)) }
+        ensures message { IfOk result (λ next. IfSome next (λ m. InMessage self.old.address self.old.command m × (self.new.command ≡ m.command))) }
+        ensures address { self.new.address ≡ self.old.address }
     {
         let Some(stated) = self.script.next()? else {
             return Ok(None);
@@ -184,14 +189,15 @@ impl<B: BufRead> RecordingReader<B> {
     }
 }
 
-/// Gives the recording that a script states, a sighting for each of its events, with its place. The first fault of the script refuses it, or else the
-/// first event that is no sighting.
+/// Gives the recording that a script states, a sighting for each of its events, with its place and the command word of its message. The first fault of
+/// the script refuses it, or else the first event that is no sighting.
 pub fn read_recording<B: BufRead + Drop>(
     alloc: Global,
     address: u8,
     input: B,
 ) -> Result<Vec<Marked>, RecordingFault>
     ensures read { IfOk result (λ recording. IfSome (B.remaining input) (λ script. StatesRecording script (masked_in recording.items))) }
+    ensures messages { IfOk result (λ recording. (last : Option ℕ) × AreInMessages address None recording.items last) }
     ensures refused { IfErr result (λ fault. IfSome (B.remaining input) (λ script. StatesNoRecording script fault)) }
 {
     let mut reader = RecordingReader::new(alloc, address, input);

@@ -10,7 +10,7 @@ use Rattle.script_recordings.proofs.ExplainedLaws.{explained_all, first_all}
 use Rattle.script_recordings.proofs.explaining.watch_recording.Goals as goal
 
 pub sightings-init : goal.sightings-init
-sightings-init g c = ([], λ Q w. w, read_none (g.B.Read.remaining c.args.input) (left_in g.B.Read.remaining c.new-reader.result.script) c.new-reader.ensures)
+sightings-init g c = ([], λ Q w. w, read_none (g.B.Read.remaining c.args.input) (left_in g.B.Read.remaining c.new-reader.result.script) c.new-reader.ensures.reads)
 
 pub sightings-preserved : goal.sightings-preserved
 sightings-preserved g c =
