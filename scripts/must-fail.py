@@ -403,8 +403,10 @@ class Crate:
             before = dict(texts)
             for file in {it[1] for it in map(GONE.match, answer.lines) if it}:
                 answered[file] = set(re.findall(r"^pub (\S+) :", given.get(file) or read(f"{self.folder}/{file}"), re.M))
-            for file, name in unfit:
-                texts[file] = without_answer(texts.get(file) or read(f"{self.folder}/{file}"), name)
+            for file, name in sorted(unfit):
+                # None where the names before took its last answer
+                if texts.get(file, "") is not None:
+                    texts[file] = without_answer(texts.get(file) or read(f"{self.folder}/{file}"), name)
             if texts == before:
                 break
             answer = self.checked(texts, only)
