@@ -9,7 +9,7 @@ What is checked: each of the others answers otherwise than the terminal itself a
 itself nowhere, and no message and no reply is left over at the end. That is asked of the rules in rules.py, which were
 written apart from the definitions.
 
-The exchanges are those of the definitions of the crate terminal_complete_test, written anew. An exchange is a command,
+The exchanges are those of the definitions of the crate bus_complete_test, written anew. An exchange is a command,
 its data words and the number of slots after its gap, all on bus A.
 """
 

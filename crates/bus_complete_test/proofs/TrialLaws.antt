@@ -5,7 +5,7 @@ use Rattle.bus_word.specs.Cell.{is_data_place}
 use Rattle.bus_legal.specs.Description.{Description}
 use Rattle.bus_word.proofs.Places.{place_count}
 use Rattle.terminal_exchanges.specs.Exchanges.{Exchange}
-use Rattle.terminal_complete_test.specs.CompleteTest.{each_in, each_place, each_code, each_subaddress, receive_tried, own_code_tried, broadcast_receive_tried, broadcast_code_tried, broadcasts_tried, wraparound_tried}
+use Rattle.bus_complete_test.specs.CompleteTest.{each_in, each_place, each_code, each_subaddress, receive_tried, own_code_tried, broadcast_receive_tried, broadcast_code_tried, broadcasts_tried, wraparound_tried}
 use Rattle.bus_complete_test.specs.declared.trial.Trial.{Trial}
 use Rattle.bus_complete_test.specs.Trials.{tried_at, tried_from}
 use Rattle.bus_complete_test.specs.Steps.{from_place, from_code}

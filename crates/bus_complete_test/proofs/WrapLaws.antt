@@ -11,7 +11,7 @@ use Rattle.terminal_exchanges.specs.declared.exchange.Exchange.{Exchange as Valu
 use Rattle.terminal_exchanges.specs.Distinguish.{shortest_receive, shortest_transmit, sent_back}
 use Rattle.terminal_exchanges.specs.Values.{exchange_in}
 use Rattle.terminal_exchanges.proofs.Distinguish.Reached.{normal-reached, legal_heard}
-use Rattle.terminal_complete_test.specs.CompleteTest.{wraparound_tried}
+use Rattle.bus_complete_test.specs.CompleteTest.{wraparound_tried}
 
 inside : (s : ℕ) → 1 ≤ s → s ≤ 30 → nat_le 1 s && nat_le s 30 ≡ true
 inside s low high = grind (arith, nat_tests)

@@ -1,3 +1,5 @@
+pub use Rattle.bus_legal.specs.Description
+pub mod CompleteTest
 pub use Rattle.bus_legal.specs.Parts
 pub mod Steps
 pub mod Trials

@@ -1,7 +1,7 @@
 -- Places of data and mode codes in their order: what is tried from one of them on, and how many are left.
 use Rattle.std.specs.Prelude.{ℕ, suc, ◌+◌, ◌-◌, ◌*◌, Option, Some, None, List, [], ◌++◌}
 use Rattle.terminal_exchanges.specs.Exchanges.{Exchange}
-use Rattle.terminal_complete_test.specs.CompleteTest.{each_in}
+use Rattle.bus_complete_test.specs.CompleteTest.{each_in}
 
 -- the exchanges of a place of data and of all later ones: of the later word counts there, then of the later subaddresses
 abbrev pub from_place : (ℕ → ℕ → List Exchange) → ℕ → ℕ → List Exchange

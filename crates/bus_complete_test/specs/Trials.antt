@@ -3,7 +3,7 @@ use Rattle.std.specs.Prelude.{ℕ, ◌+◌, ◌-◌, ◌<◌, ◌≡◌, true, O
 use Rattle.bus_word.specs.Cell.{is_data_place}
 use Rattle.bus_legal.specs.Description.{Description}
 use Rattle.terminal_exchanges.specs.Exchanges.{Exchange}
-use Rattle.terminal_complete_test.specs.CompleteTest.{each_in, each_place, each_code, each_subaddress, option_tried, transmit_tried, receive_tried, own_code_tried, broadcast_receive_tried, broadcast_code_tried, broadcasts_tried, wraparound_tried, tried}
+use Rattle.bus_complete_test.specs.CompleteTest.{each_in, each_place, each_code, each_subaddress, option_tried, transmit_tried, receive_tried, own_code_tried, broadcast_receive_tried, broadcast_code_tried, broadcasts_tried, wraparound_tried, tried}
 use Rattle.bus_complete_test.specs.Steps.{from_place, places_left, from_code, codes_left}
 use Rattle.bus_complete_test.specs.declared.trial.Trial.{Trial}
 use Rattle.bus_complete_test.specs.declared.trial.Trial.TheVariants.{BroadcastOption, Transmit, Receive, OwnCode, BroadcastReceive, BroadcastCode, Wraparound}

@@ -3,7 +3,7 @@ ghost use Rattle.std.specs.Prelude.{◌≡◌, ◌≤◌, ◌<◌, [], ◌∷◌
 ghost use Rattle.bus_legal.specs.Parts.{description_in, IsNormal};
 ghost use Rattle.terminal_exchanges.specs.Distinguish.{ask};
 ghost use Rattle.terminal_exchanges.specs.Values.{exchange_in, IsShort, AreShort};
-ghost use Rattle.terminal_complete_test.specs.CompleteTest.{own_code_tried, broadcast_code_tried, wraparound_tried};
+ghost use Rattle.bus_complete_test.specs.CompleteTest.{own_code_tried, broadcast_code_tried, wraparound_tried};
 ghost use Rattle.bus_complete_test.specs.Trials.{IsTrialInRange, tried_at};
 
 use crate::trial::Trial;

@@ -1,7 +1,9 @@
-//! The complete test of a terminal, one trial after the other: the exchanges that tell it from every other terminal.
+//! The complete test of a terminal: the exchanges that tell it from every other terminal, the law that they do, and a walk over them,
+//! one trial after the other.
 #![tactic(auto)]
 
 mod exchanges;
+pub mod laws;
 mod trial;
 mod walk;
 

@@ -4,7 +4,7 @@ ghost use Rattle.bus_word.specs.Cell.{is_data_place};
 ghost use Rattle.bus_legal.specs.Description.{Description};
 ghost use Rattle.bus_legal.specs.Parts.{description_in};
 ghost use Rattle.terminal_exchanges.specs.Exchanges.{Exchange};
-ghost use Rattle.terminal_complete_test.specs.CompleteTest.{tried};
+ghost use Rattle.bus_complete_test.specs.CompleteTest.{tried};
 ghost use Rattle.bus_complete_test.specs.Trials.{IsTrialInRange, tried_at, tried_from, tried_after, trials_left};
 ghost use Rattle.bus_complete_test.specs.Steps.{from_place, after_place, places_left, from_code, after_code, codes_left};
 

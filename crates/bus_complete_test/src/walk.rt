@@ -28,7 +28,7 @@ impl Exchanges {
     ghost use Rattle.std.specs.Prelude.{◌<◌, ◌++◌, ◌∷◌, [], ℕ, MatchOption, IfSome, None, OnSome, IsNone};
     ghost use Rattle.terminal_exchanges.specs.Values.{exchange_in, IsShort};
     ghost use Rattle.bus_legal.specs.Parts.{description_in};
-    ghost use Rattle.terminal_complete_test.specs.CompleteTest.{tried};
+    ghost use Rattle.bus_complete_test.specs.CompleteTest.{tried};
     ghost use Rattle.bus_complete_test.specs.Left.{exchanges_left};
 
     /// All exchanges of the complete test of a terminal.

@@ -1,7 +1,7 @@
 -- The last of a list that passes.
 use Rattle.std.proofs.Common.{◌≡◌, ℕ, ◌+◌, ◌<◌, Bool, true, false, cond, List, [], ◌∷◌, ◌++◌, length, get_or, take, Option, Some, None, refl, ap, sym, ◌∙◌, find, reverse}
 use Rattle.std.proofs.lemmas.List.{reverse-append, take_more}
-use Rattle.profile_types.specs.Last.{or_last, last_of}
+use Rattle.bus_legal.specs.Last.{or_last, last_of}
 
 pick : {X : Type 0} (t : Bool) (x : X) (o more : Option X) → or_last (cond t (Some x) o) more ≡ cond t (Some x) (or_last o more)
 pick true x o more = refl

@@ -4,10 +4,10 @@ use Rattle.bus_word.specs.declared.cell.Cell.{Cell}
 use Rattle.bus_word.specs.declared.cell.Cell.TheVariants.{OwnMode}
 use Rattle.bus_word.specs.Cell.{is_allowed}
 use Rattle.bus_word.specs.Mode.{is_required_code}
-use Rattle.profile_types.specs.declared.entries.Rule.{Rule}
-use Rattle.profile_types.specs.declared.entries.ModeRule.{ModeRule}
-use Rattle.profile_types.specs.declared.profile.Profile.{Profile}
-use Rattle.profile_types.specs.OwnCodes.{is_own_code_legal}
+use Rattle.bus_legal.specs.declared.entries.Rule.{Rule}
+use Rattle.bus_legal.specs.declared.entries.ModeRule.{ModeRule}
+use Rattle.bus_legal.specs.declared.profile.Profile.{Profile}
+use Rattle.bus_legal.specs.OwnCodes.{is_own_code_legal}
 use Rattle.bus_legal.specs.Legal.{last_says, is_legal}
 use Rattle.bus_legal.proofs.Bools.{left_of}
 use Rattle.bus_legal.proofs.ModeMasks.{each_required}

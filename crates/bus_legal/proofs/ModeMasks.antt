@@ -3,9 +3,9 @@ use Rattle.std.proofs.Common.{◌≡◌, ℕ, ◌<◌, ◌==◌, Bool, true, fal
 use Rattle.std.specs.List.{list_all, list_any}
 use Rattle.std.proofs.lemmas.Bool.{eqb-true, eq-eqb}
 use Rattle.bus_word.specs.Mode.{required_codes, is_required_code}
-use Rattle.profile_types.specs.declared.entries.ModeRule.{ModeRule}
+use Rattle.bus_legal.specs.declared.entries.ModeRule.{ModeRule}
 use Rattle.bus_word.specs.Mask.{has_bit}
-use Rattle.profile_types.specs.OwnCodes.{is_own_code_legal, has_required_codes}
+use Rattle.bus_legal.specs.OwnCodes.{is_own_code_legal, has_required_codes}
 use Rattle.bus_legal.specs.Tables.{is_own_mask}
 use Rattle.bus_legal.proofs.Bits.{and-contained}
 use Rattle.bus_legal.proofs.Bools.{left_of, right_of}

@@ -7,11 +7,11 @@ use Rattle.std.proofs.lemmas.Nat.{and_assoc}
 use Rattle.std.proofs.lemmas.Nat.Bits.{bit_at-zero}
 use Rattle.bus_word.specs.Cell.{is_data_place, allows_broadcast, same_bool}
 use Rattle.bus_word.specs.Mode.{mode_row, is_required_code}
-use Rattle.profile_types.specs.declared.entries.Rule.{Rule}
-use Rattle.profile_types.specs.declared.entries.ModeRule.{ModeRule}
-use Rattle.profile_types.specs.Last.{last_of}
+use Rattle.bus_legal.specs.declared.entries.Rule.{Rule}
+use Rattle.bus_legal.specs.declared.entries.ModeRule.{ModeRule}
+use Rattle.bus_legal.specs.Last.{last_of}
 use Rattle.bus_word.specs.Mask.{has_bit}
-use Rattle.profile_types.specs.OwnCodes.{mode_says}
+use Rattle.bus_legal.specs.OwnCodes.{mode_says}
 use Rattle.bus_legal.specs.Legal.{rule_says}
 use Rattle.bus_legal.specs.Tables.{has_count}
 use Rattle.bus_legal.specs.inner.Masks.{MasksSay}

@@ -1,7 +1,7 @@
 -- The words that a profile sets up at power-up.
 use Rattle.std.specs.Prelude.{ℕ, ◌+◌, ◌-◌, Bool, ◌&&◌, ◌==◌, nat_le, nat_lt, List, Option, Some, None, get_or}
-use Rattle.profile_types.specs.declared.entries.InitialWords.{InitialWords}
-use Rattle.profile_types.specs.Last.{last_of}
+use Rattle.bus_legal.specs.declared.entries.InitialWords.{InitialWords}
+use Rattle.bus_legal.specs.Last.{last_of}
 
 -- the entry gives a word of this number
 abbrev pub gives_number : ℕ → InitialWords → Bool

@@ -4,11 +4,11 @@ use Rattle.bus_word.specs.declared.cell.Cell.{Cell}
 use Rattle.bus_word.specs.declared.cell.Cell.TheVariants.{OwnReceive, OwnTransmit, BroadReceive, OwnMode, BroadMode}
 use Rattle.bus_word.specs.Cell.{is_allowed}
 use Rattle.bus_word.specs.Mode.{is_required_code}
-use Rattle.profile_types.specs.declared.entries.Rule.{Rule}
-use Rattle.profile_types.specs.declared.entries.ModeRule.{ModeRule}
-use Rattle.profile_types.specs.Last.{last_of}
+use Rattle.bus_legal.specs.declared.entries.Rule.{Rule}
+use Rattle.bus_legal.specs.declared.entries.ModeRule.{ModeRule}
+use Rattle.bus_legal.specs.Last.{last_of}
 use Rattle.bus_word.specs.Mask.{has_bit}
-use Rattle.profile_types.specs.OwnCodes.{contains_own, mode_says}
+use Rattle.bus_legal.specs.OwnCodes.{contains_own, mode_says}
 
 -- the rule's sets contain this subaddress and this word count
 abbrev pub is_among : ℕ → ℕ → Rule → Bool

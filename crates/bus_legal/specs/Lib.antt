@@ -1,3 +1,8 @@
+pub use Rattle.bus_word.specs.Mask
+pub use Rattle.bus_word.specs.Mode
+pub mod Last
+pub mod OwnCodes
+pub mod Plain
 pub mod Description
 pub mod Legal
 pub mod Initial

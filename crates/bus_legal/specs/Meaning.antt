@@ -1,7 +1,7 @@
 -- What a profile describes.
 use Rattle.std.specs.Prelude.{◌≡◌, ℕ, true}
 use Rattle.bus_word.specs.Cell.{is_data_place}
-use Rattle.profile_types.specs.declared.profile.Profile.{Profile}
+use Rattle.bus_legal.specs.declared.profile.Profile.{Profile}
 use Rattle.bus_legal.specs.declared.setup.Setup.{Setup}
 use Rattle.bus_legal.specs.Description.{Description, word_at}
 use Rattle.bus_legal.specs.Initial.{initial_word}

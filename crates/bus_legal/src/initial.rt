@@ -1,12 +1,12 @@
 //! What a profile sets up at power-up.
 ghost use Rattle.std.specs.Prelude.{◌≡◌, ◌<◌, ◌+◌, ◌-◌, ℕ, List, [], Some, get_or, if◌then◌else◌};
-ghost use Rattle.profile_types.specs.Last.{last_of};
+ghost use Rattle.bus_legal.specs.Last.{last_of};
 ghost use Rattle.bus_legal.specs.Initial.{gives_number, gives, word_given};
 ghost use Rattle.bus_legal.specs.Parts.{IsBlock, AreWords};
 ghost use Rattle.bus_legal.specs.Meaning.{SetsUp};
 
 use crate::setup::Setup;
-use profile_types::{InitialWords, Profile};
+use crate::{InitialWords, Profile};
 
 /// Puts the words of an entry into the block of its subaddress.
 fn put_words(block: &mut [u16; 32], entry: &InitialWords)

@@ -2,13 +2,13 @@
 ghost use Rattle.std.specs.Prelude.{◌≡◌, true, false, ◌<◌, option_map, find, reverse};
 ghost use Rattle.bus_word.specs.Cell.{is_data_place, is_allowed};
 ghost use Rattle.bus_word.specs.Mode.{is_required_code};
-ghost use Rattle.profile_types.specs.Last.{last_of};
-ghost use Rattle.profile_types.specs.OwnCodes.{contains_own, mode_says};
+ghost use Rattle.bus_legal.specs.Last.{last_of};
+ghost use Rattle.bus_legal.specs.OwnCodes.{contains_own, mode_says};
 ghost use Rattle.bus_legal.specs.Legal.{is_among, contains, contains_broadcast, rule_says, last_says, is_legal};
 
 use crate::legality::Legality;
+use crate::{ModeRule, Profile, Rule};
 use bus_word::{Cell, has_bit, is_allowed, is_required_code};
-use profile_types::{ModeRule, Profile, Rule};
 
 /// The rules and mode entries of a profile, asked one by one from the last.
 #[derive(Clone, Copy)]

@@ -3,7 +3,7 @@ ghost use Rattle.std.specs.Prelude.{◌≡◌, ◌<◌, ◌≤◌, ◌&&◌, ℕ
 ghost use Rattle.bus_word.specs.declared.cell.Cell.{Cell};
 ghost use Rattle.bus_word.specs.Cell.{is_data_place};
 ghost use Rattle.bus_word.specs.Mask.{has_bit};
-ghost use Rattle.profile_types.specs.OwnCodes.{is_own_code_legal};
+ghost use Rattle.bus_legal.specs.OwnCodes.{is_own_code_legal};
 ghost use Rattle.bus_legal.specs.Legal.{is_legal};
 ghost use Rattle.bus_legal.specs.inner.Masks.{is_broadcast_code_legal};
 ghost use Rattle.bus_legal.specs.Tables.{has_count, tables_say, masks_wrap, is_own_mask, is_broadcast_mask, any_wraps};
@@ -11,8 +11,8 @@ ghost use Rattle.bus_legal.specs.inner.Masks.{MasksSay, has_both_bits, bit_said}
 
 use crate::legality::Legality;
 use crate::masks::with_bits;
+use crate::{ModeRule, Profile, Rule};
 use bus_word::{Cell, has_bit, is_allowed};
-use profile_types::{ModeRule, Profile, Rule};
 
 /// The mode codes that may be legal to the own address, bit `c` for code `c`.
 pub const OWN_CODES: u32 = 0x000f_01ff;

@@ -6,21 +6,21 @@ use Rattle.std.proofs.lemmas.Bool.Decides.{nat_tests}
 use Rattle.std.proofs.lemmas.Nat.{pow_below}
 use Rattle.std.proofs.lemmas.Option.{same_Some}
 use Rattle.toml.specs.Data.{Data, string, integer, float, boolean, datetime, array, table, Items, no_items, item, Members}
-use Rattle.profile_types.specs.declared.entries.Rule.{Rule}
-use Rattle.profile_types.specs.declared.entries.InitialWords.{InitialWords}
+use Rattle.bus_legal.specs.declared.entries.Rule.{Rule}
+use Rattle.bus_legal.specs.declared.entries.InitialWords.{InitialWords}
 use Rattle.bus_profile.specs.declared.fault.Key.{Key}
 use Rattle.bus_profile.specs.declared.fault.Part.{Part}
 use Rattle.bus_profile.specs.declared.fault.Part.TheVariants as part
 use Rattle.bus_profile.specs.declared.fault.ProfileFault.{ProfileFault}
 use Rattle.bus_profile.specs.declared.fault.ProfileFault.TheVariants.{RequiredCode}
-use Rattle.profile_types.specs.declared.profile.Profile.{Profile}
+use Rattle.bus_legal.specs.declared.profile.Profile.{Profile}
 use Rattle.bus_profile.specs.declared.ranges.RangeFault.{RangeFault}
 use Rattle.bus_profile.specs.Checks.{Check, HasNoFault, in_order, first_fault}
 use Rattle.bus_profile.specs.Faults.{key_checks, head_checks, each_item, entry_checks, rule_checks, mode_checks, initial_checks, word_checks, goes_beyond, faults}
 use Rattle.bus_profile.specs.Keys.{Presence, KeyRow, key_row, whole, required, tables, root_rows, rule_rows, initial_rows, address_row, broadcast_row, wraparound_row, accept_row, vector_row, bit_row, to_row, direction_row, counts_row, legal_row, rules_key, modes_key, initials_key, subaddresses_row, subaddress_row, at_row, words_row}
 use Rattle.bus_profile.specs.Kinds.{found, value, whole_in, wrap_value, or_default, set_from, items, count_items, is_too_long}
-use Rattle.profile_types.specs.OwnCodes.{is_own_code_legal}
-use Rattle.profile_types.specs.Plain.{PlainRule, PlainInitial, PlainProfile, plain, plain_rule, plain_initial}
+use Rattle.bus_legal.specs.OwnCodes.{is_own_code_legal}
+use Rattle.bus_legal.specs.Plain.{PlainRule, PlainInitial, PlainProfile, plain, plain_rule, plain_initial}
 use Rattle.bus_profile.specs.Gives.{each_of, rule_in, mode_in, initial_word_in, initial_in, modes_of, profile_of}
 use Rattle.bus_profile.specs.Ranges.{IsReading}
 use Rattle.bus_profile.specs.RangesOf.{ranges_of}

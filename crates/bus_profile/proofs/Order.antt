@@ -6,13 +6,13 @@ use Rattle.bus_profile.specs.declared.fault.Part.{Part}
 use Rattle.bus_profile.specs.declared.fault.Part.TheVariants.{Root, Rule, Mode, Initial}
 use Rattle.bus_profile.specs.declared.fault.ProfileFault.{ProfileFault}
 use Rattle.bus_profile.specs.declared.fault.ProfileFault.TheVariants.{NotToml, UnknownKey, Missing, WrongKind, OutOfRange, BadRanges, TooMany, RequiredCode, Memory}
-use Rattle.profile_types.specs.declared.profile.Profile.{Profile}
+use Rattle.bus_legal.specs.declared.profile.Profile.{Profile}
 use Rattle.bus_profile.specs.Checks.{Check, first_fault}
 use Rattle.bus_profile.specs.Keys.{KeyRow, setting_rows, rules_key, modes_key, initials_key, rule_rows, mode_rows, subaddress_row, at_row, words_row, initial_rows}
 use Rattle.bus_profile.specs.Kinds.{found, value, items, is_too_long}
 use Rattle.bus_profile.specs.Faults.{key_checks, row_checks, array_checks, each_item, entry_checks, rule_checks, mode_checks, initial_checks, word_checks, words_checks, goes_beyond, entries_checks, key_faults, code_faults, faults}
 use Rattle.bus_profile.specs.inner.FirstFault.{ReadsInMemory}
-use Rattle.profile_types.specs.Plain.{plain}
+use Rattle.bus_legal.specs.Plain.{plain}
 use Rattle.bus_profile.specs.Gives.{profile_of}
 use Rattle.bus_profile.specs.Read.{IsTree, Accepts, HasFirst, Refuses}
 use Rattle.bus_profile.proofs.Least.{Rises, AllRise, in_order_rises, IsFirst-from, HasNoFault-from, first_fault-tree}

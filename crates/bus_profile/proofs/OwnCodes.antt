@@ -1,8 +1,8 @@
 -- What the last mode entry says, entry by entry.
 use Rattle.std.proofs.Common.{◌≡◌, ℕ, ◌∷◌, Bool, true, false, cond, List, Option, Some, None, refl}
-use Rattle.profile_types.specs.declared.entries.ModeRule.{ModeRule}
-use Rattle.profile_types.specs.OwnCodes.{contains_own, mode_says}
-use Rattle.profile_types.specs.Last.{or_last, last_of}
+use Rattle.bus_legal.specs.declared.entries.ModeRule.{ModeRule}
+use Rattle.bus_legal.specs.OwnCodes.{contains_own, mode_says}
+use Rattle.bus_legal.specs.Last.{or_last, last_of}
 
 -- an entry in front says only what none after it says
 pub last_says : (legal : Bool) (code : ℕ) (m : ModeRule) (ms : List ModeRule)

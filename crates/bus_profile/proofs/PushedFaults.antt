@@ -10,7 +10,7 @@ use Rattle.toml.specs.View.{view, items_view}
 use Rattle.toml.specs.declared.value.Value.{Value}
 use Rattle.bus_profile.specs.declared.entry_faults.EntryKind.{EntryKind}
 use Rattle.bus_profile.specs.declared.entry_faults.EntryKind.TheVariants as kind
-use Rattle.profile_types.specs.declared.entries.ModeRule.{ModeRule}
+use Rattle.bus_legal.specs.declared.entries.ModeRule.{ModeRule}
 use Rattle.bus_profile.specs.declared.fault.Key.{Key}
 use Rattle.bus_profile.specs.declared.fault.Key.TheVariants.{Subaddress, At}
 use Rattle.bus_profile.specs.declared.fault.Part.{Part}
@@ -25,7 +25,7 @@ use Rattle.bus_profile.specs.Faults.{is_required, key_checks, row_checks, head_c
 use Rattle.bus_profile.specs.Keys.{ValueKind, truth, whole, truth_or_whole, choice, ranges, numbers, tables, required, optional, KeyRow, key_row, keys_of, setting_rows, root_rows, rules_key, modes_key, initials_key, initial_rows, subaddress_row, at_row, words_row}
 use Rattle.bus_profile.specs.Kinds.{found, or_default, value, items, has_unknown, is_of_kind, is_bad_ranges, is_out_of_range, is_syntax, is_bounds, is_too_long, count_items}
 use Rattle.bus_profile.specs.Gives.{modes_of}
-use Rattle.profile_types.specs.OwnCodes.{is_own_code_legal}
+use Rattle.bus_legal.specs.OwnCodes.{is_own_code_legal}
 use Rattle.bus_profile.specs.RangesOf.{ranges_of}
 use Rattle.bus_profile.specs.inner.AllFaults.{failing_parts, present, row_of, array_row, part_of, key_rows_of, keys_in, checks_of, unknown_told, array_told, key_told, keys_told, code_told, codes_told}
 use Rattle.bus_profile.proofs.Arrays.{is_too_long-view}

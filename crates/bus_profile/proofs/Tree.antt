@@ -5,7 +5,7 @@ use Rattle.toml.specs.Data.{Data, Members}
 use Rattle.bus_profile.specs.declared.fault.Part.TheVariants.{Root}
 use Rattle.bus_profile.specs.declared.fault.ProfileFault.{ProfileFault}
 use Rattle.bus_profile.specs.declared.fault.ProfileFault.TheVariants.{RequiredCode}
-use Rattle.profile_types.specs.OwnCodes.{is_own_code_legal}
+use Rattle.bus_legal.specs.OwnCodes.{is_own_code_legal}
 use Rattle.bus_profile.specs.inner.MissingCode.{missing_code}
 use Rattle.bus_profile.specs.Checks.{Check, in_order, first_fault}
 use Rattle.bus_profile.specs.Keys.{KeyRow, address_row, broadcast_row, wraparound_row, accept_row, vector_row, bit_row, rules_key, modes_key, initials_key, root_rows}

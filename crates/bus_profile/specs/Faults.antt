@@ -9,7 +9,7 @@ use Rattle.bus_profile.specs.declared.fault.Key.TheVariants as key
 use Rattle.bus_profile.specs.declared.fault.Part.{Part}
 use Rattle.bus_profile.specs.declared.fault.Part.TheVariants as part
 use Rattle.bus_profile.specs.declared.fault.ProfileFault.TheVariants.{UnknownKey, Missing, WrongKind, OutOfRange, BadRanges, TooMany, RequiredCode}
-use Rattle.profile_types.specs.OwnCodes.{is_own_code_legal}
+use Rattle.bus_legal.specs.OwnCodes.{is_own_code_legal}
 use Rattle.bus_profile.specs.Checks.{Check, check, in_order}
 use Rattle.bus_profile.specs.Keys.{Presence, required, optional, KeyRow, keys_of, rules_key, modes_key, initials_key, setting_rows, root_rows, rule_rows, mode_rows, subaddress_row, at_row, words_row, initial_rows}
 use Rattle.bus_profile.specs.Kinds.{found, has_unknown, is_of_kind, in_range, is_bad_ranges, is_out_of_range, value, whole_in, items, item_kind, count_items, is_too_long}

@@ -2,8 +2,8 @@
 use Rattle.std.specs.Prelude.{ℕ, Bool, ◌||◌, List, [], ◌∷◌, Some, codes}
 use Rattle.std.specs.Str.{bytes_eq}
 use Rattle.toml.specs.Data.{Data, table, Items, no_items, item, Members, no_members}
-use Rattle.profile_types.specs.declared.entries.ModeRule.{ModeRule}
-use Rattle.profile_types.specs.Plain.{PlainRule, PlainInitial, PlainProfile}
+use Rattle.bus_legal.specs.declared.entries.ModeRule.{ModeRule}
+use Rattle.bus_legal.specs.Plain.{PlainRule, PlainInitial, PlainProfile}
 use Rattle.bus_profile.specs.Keys.{address_row, broadcast_row, wraparound_row, accept_row, vector_row, bit_row, rules_key, modes_key, initials_key, to_row, direction_row, subaddresses_row, counts_row, legal_row, codes_row, subaddress_row, at_row, words_row}
 use Rattle.bus_profile.specs.Kinds.{value, whole_in, truth_value, wrap_value, text, set_from, items}
 

@@ -2,12 +2,12 @@
 use Rattle.std.specs.Prelude.{◌≡◌, ℕ, List, Some, IsUtf8}
 use Rattle.toml.specs.Data.{Members}
 use Rattle.toml.specs.Parse.{parse_document}
-use Rattle.profile_types.specs.declared.profile.Profile.{Profile}
+use Rattle.bus_legal.specs.declared.profile.Profile.{Profile}
 use Rattle.bus_profile.specs.declared.fault.ProfileFault.{ProfileFault}
 use Rattle.bus_profile.specs.declared.fault.ProfileFault.TheVariants.{NotToml, Memory}
 use Rattle.bus_profile.specs.Checks.{IsFirst, HasNoFault}
 use Rattle.bus_profile.specs.Faults.{faults}
-use Rattle.profile_types.specs.Plain.{plain}
+use Rattle.bus_legal.specs.Plain.{plain}
 use Rattle.bus_profile.specs.Gives.{profile_of}
 
 -- The text is a TOML document, and this is its tree.

@@ -7,7 +7,7 @@ ghost use Rattle.bus_profile.specs.inner.FirstFault.{fault_of_parts, Reads, Read
 ghost use Rattle.bus_profile.specs.Faults.{initial_checks, head_checks, goes_beyond, word_checks, each_item};
 ghost use Rattle.bus_profile.specs.Keys.{at_row, words_row};
 ghost use Rattle.bus_profile.specs.Kinds.{items};
-ghost use Rattle.profile_types.specs.Plain.{plain_initial};
+ghost use Rattle.bus_legal.specs.Plain.{plain_initial};
 ghost use Rattle.bus_profile.specs.Gives.{initial_in, initial_word_in, each_of};
 ghost use Rattle.bus_profile.specs.inner.Section.{tree_of, value_at};
 ghost use Rattle.bus_profile.specs.inner.FirstWord.{IsFirstWord};
@@ -15,7 +15,7 @@ ghost use Rattle.bus_profile.specs.inner.FirstWord.{IsFirstWord};
 use crate::fault::{Key, Part, ProfileFault};
 use crate::keys::INITIAL_KEYS;
 use crate::section::{Section, in_range, items_of};
-use profile_types::{Entries, InitialWords};
+use bus_legal::{Entries, InitialWords};
 use std::alloc::Global;
 use toml::{Table, Value};
 

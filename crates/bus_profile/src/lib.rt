@@ -17,10 +17,10 @@ mod rule;
 mod section;
 mod told;
 
+pub use bus_legal::{Entries, InitialWords, ModeRule, Profile, Rule};
 pub use fault::{Key, Part, ProfileFault};
 pub use key_faults::word_fault;
 pub use keys::known_keys;
-pub use profile_types::{Entries, InitialWords, ModeRule, Profile, Rule};
 pub use ranges::{RangeFault, parse_ranges};
 pub use read::read_profile;
 pub use told::{all_faults, unknown_keys};

@@ -10,7 +10,7 @@ ghost use Rattle.bus_profile.specs.Gives.{mode_in, each_of};
 use crate::fault::{Key, Part, ProfileFault};
 use crate::keys::MODE_KEYS;
 use crate::section::Section;
-use profile_types::{Entries, ModeRule};
+use bus_legal::{Entries, ModeRule};
 use std::alloc::Global;
 use toml::{Table, Value};
 

@@ -1,10 +1,10 @@
 //! The own mode codes that every profile must leave legal.
 ghost use Rattle.std.specs.Prelude.{◌≡◌, ◌<◌};
-ghost use Rattle.profile_types.specs.OwnCodes.{is_own_code_legal};
+ghost use Rattle.bus_legal.specs.OwnCodes.{is_own_code_legal};
 ghost use Rattle.bus_profile.specs.inner.MissingCode.{missing_code};
 
+use bus_legal::ModeRule;
 use bus_word::{has_bit, is_required_code, mode, mode_row};
-use profile_types::ModeRule;
 
 /// The least own mode code that must be legal and isn't.
 pub fn missing_code(modes: &[ModeRule]) -> Option<u8>

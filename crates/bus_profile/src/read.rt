@@ -1,7 +1,7 @@
 //! The reading of a profile text.
 ghost use Rattle.std.specs.Prelude.{◌≤◌, IfOk, IfErr, length, map};
 ghost use Rattle.toml.specs.View.{table_view};
-ghost use Rattle.profile_types.specs.Plain.{plain, plain_rule, plain_initial};
+ghost use Rattle.bus_legal.specs.Plain.{plain, plain_rule, plain_initial};
 ghost use Rattle.bus_profile.specs.Faults.{faults, rule_checks, mode_checks, initial_checks};
 ghost use Rattle.bus_profile.specs.Gives.{profile_of, rules_of, modes_of, initials_of};
 ghost use Rattle.bus_profile.specs.Keys.{rules_key, modes_key, initials_key};
@@ -17,7 +17,7 @@ use crate::mode::modes_of;
 use crate::own_codes::missing_code;
 use crate::rule::rules_of;
 use crate::section::Section;
-use profile_types::{Entries, InitialWords, ModeRule, Profile, Rule};
+use bus_legal::{Entries, InitialWords, ModeRule, Profile, Rule};
 use std::alloc::Global;
 use toml::Table;
 

@@ -5,13 +5,13 @@ ghost use Rattle.toml.specs.View.{view, items_view, table_view};
 ghost use Rattle.bus_profile.specs.Checks.{first_fault};
 ghost use Rattle.bus_profile.specs.inner.FirstFault.{fault_of_parts, ReadsAs, ReadsInMemory};
 ghost use Rattle.bus_profile.specs.Faults.{rule_checks, each_item};
-ghost use Rattle.profile_types.specs.Plain.{plain_rule};
+ghost use Rattle.bus_legal.specs.Plain.{plain_rule};
 ghost use Rattle.bus_profile.specs.Gives.{rule_in, each_of};
 
 use crate::fault::{Key, Part, ProfileFault};
 use crate::keys::RULE_KEYS;
 use crate::section::Section;
-use profile_types::{Entries, Rule};
+use bus_legal::{Entries, Rule};
 use std::alloc::Global;
 use toml::{Table, Value};
 

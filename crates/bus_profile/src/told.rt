@@ -12,8 +12,8 @@ use crate::keys::{SETTING_KEYS, known_keys};
 use crate::mode::modes_of;
 use crate::own_codes::is_own_code_legal;
 use crate::section::{Section, is_known};
+use bus_legal::ModeRule;
 use bus_word::mode;
-use profile_types::ModeRule;
 use std::alloc::{AllocError, Global};
 use toml::Table;
 

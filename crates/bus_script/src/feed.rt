@@ -6,7 +6,7 @@ ghost use Rattle.bus_script.specs.inner.Fed.{AreCounts, FedAll, FedToFault, FedP
 
 use crate::RunFault;
 use crate::answering::{play_gap, play_line};
-use crate::lines::{MAX_LINES, next_line, pass_comments};
+use crate::lines::{next_line, pass_comments};
 use crate::piece::{Counts, Piece};
 use crate::receiving::{play_command, play_received, take_word};
 use crate::sending::play_slots;
@@ -14,7 +14,7 @@ use arrayvec::ArrayString;
 use bus_legal::Legality;
 use bus_terminal::Terminal;
 use byte_streams::{IoFailed, Sink};
-use script_lines::{KnownPairs, LineReader};
+use script_lines::{KnownPairs, LineReader, MAX_LINES};
 
 /// Plays lines that stand first, if they are such as most scripts are made of: what they begin with tells. The words of a message
 /// are looked for behind its command, so data words that come first are a whole message only where a chunk begins.

@@ -7,13 +7,7 @@ ghost use Rattle.bus_script.specs.inner.Pieces.{IsPiece};
 
 use crate::RunFault;
 use crate::piece::Piece;
-use script_lines::find_line_feed;
-
-/// How many lines a script may have.
-pub const MAX_LINES: u32 = 1_048_576;
-
-/// How many bytes a line may have, its line feed not counted.
-pub const MAX_LINE: usize = 64;
+use script_lines::{MAX_LINE, MAX_LINES, find_line_feed};
 
 /// The length of the line that stands first, or None where its end hasn't come yet; `lines` lines came
 /// before.

@@ -1,9 +1,8 @@
 //! The text of a proposal, with what each entry rests on.
 use crate::evidence::CellShown;
 use crate::proposal::{Proposal, Unseen};
-use bus_legal::Tables;
+use bus_legal::{Numbers, Tables};
 use bus_word::{Cell, has_bit, mode_name};
-use profile_types::Numbers;
 use rt1553_toml::groups::{RuleGroup, broadcast_groups, own_codes, own_groups};
 use std::alloc::{AllocError, Global};
 use std::fmt;

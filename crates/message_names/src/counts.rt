@@ -1,8 +1,8 @@
 //! Names of messages beside word counts.
 use crate::names::MessageNames;
 use crate::printed::quoted;
+use bus_legal::Numbers;
 use bus_word::Cell;
-use profile_types::Numbers;
 use std::alloc::{AllocError, Global};
 
 /// A kind of messages of data.

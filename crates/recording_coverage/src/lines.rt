@@ -6,9 +6,9 @@ use crate::outcome::OutcomeCounts;
 use crate::places::{done_in, total_of, word_counts};
 use crate::rows::{CoveredMessage, IllegalMessage, are_none};
 use crate::table::CoverageTable;
+use bus_legal::Numbers;
 use bus_word::{Cell, Command, cell_of, mode_name};
 use message_names::{MessageNames, NameList, name_in};
-use profile_types::Numbers;
 use std::alloc::{AllocError, Global};
 
 /// A line of what a recording shows. All but the names are ASCII.

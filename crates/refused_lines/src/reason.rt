@@ -5,11 +5,8 @@ ghost use Rattle.refused_lines.specs.Reasons.{reason_text};
 
 use crate::blanks::misplaced_blank;
 use crate::fields::misfit_in_fields;
-use script_lines::read_event;
+use script_lines::{MAX_LINE, read_event};
 use std::fmt;
-
-/// How many bytes a line may have, its line feed not counted.
-const MAX_LINE: usize = 64;
 
 /// Why a line is no line of a script.
 #[derive(Clone, Copy, Debug, PartialEq, Eq)]

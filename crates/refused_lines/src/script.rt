@@ -7,10 +7,8 @@ ghost use Rattle.refused_lines.specs.Refused.{refused_from, refused_at, faulty_l
 use crate::answers::mistyped_answer;
 use crate::lines::first_line;
 use crate::reason::{LineReason, Misfit, misfit_of};
+use script_lines::MAX_LINES;
 use std::alloc::{AllocError, Global};
-
-/// How many lines a script may have.
-const MAX_LINES: u64 = 1_048_576;
 
 /// A line that is refused, or looks like what it is not.
 #[derive(Clone, Copy, PartialEq, Eq)]
@@ -56,7 +54,7 @@ pub fn refused_lines(alloc: Global, script: &[u8]) -> Result<Vec<RefusedLine>, A
     let mut number = 1u64;
     while !rest.is_empty() {
         let (line, more) = first_line(rest);
-        if number > MAX_LINES {
+        if number > MAX_LINES as u64 {
             found.push(line_too_many(number))?;
             return Ok(found);
         }

@@ -5,7 +5,7 @@ use Rattle.std.proofs.lemmas.Bool.{eqb-true}
 use Rattle.line_format.specs.Shapes.{number_line}
 use Rattle.line_format.proofs.OneText.{parted, number_one, number_value, number_fits}
 use Rattle.line_format.proofs.Writes.{number_text, number_spelled}
-use Rattle.profile_types.specs.declared.profile.Profile.{Profile}
+use Rattle.bus_legal.specs.declared.profile.Profile.{Profile}
 use Rattle.bus_profile.specs.Read.{IsTree, Accepts}
 use Rattle.bus_profile.specs.Gives.{profile_of}
 use Rattle.bus_profile.proofs.Faultless.{faultless_gives}

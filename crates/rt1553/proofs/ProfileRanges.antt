@@ -3,18 +3,18 @@ use Rattle.std.proofs.Common.{◌≡◌, ℕ, zero, suc, ◌-◌, ◌^◌, ◌<�
 use Rattle.std.specs.Option.{option_or}
 use Rattle.std.proofs.lemmas.Bool.Decides.{nat_tests}
 use Rattle.bus_profile.specs.Data.{Data, integer, table, Items, no_items, item}
-use Rattle.profile_types.specs.declared.entries.InitialWords.{InitialWords}
+use Rattle.bus_legal.specs.declared.entries.InitialWords.{InitialWords}
 use Rattle.bus_profile.specs.declared.fault.Key.{Key}
 use Rattle.bus_profile.specs.declared.fault.Part.{Part}
 use Rattle.bus_profile.specs.declared.fault.Part.TheVariants as part
 use Rattle.bus_profile.specs.declared.fault.ProfileFault.{ProfileFault}
-use Rattle.profile_types.specs.declared.profile.Profile.{Profile}
+use Rattle.bus_legal.specs.declared.profile.Profile.{Profile}
 use Rattle.bus_profile.specs.Checks.{in_order, first_fault}
 use Rattle.bus_profile.specs.Faults.{key_checks, head_checks, each_item, entry_checks, initial_checks, word_checks, goes_beyond, faults}
 use Rattle.bus_profile.specs.Keys.{KeyRow, key_row, whole, optional, vector_row, bit_row, initials_key, subaddress_row, at_row, words_row, initial_rows}
 use Rattle.bus_profile.specs.Kinds.{found, value, whole_in, or_default, items, is_too_long}
-use Rattle.profile_types.specs.Last.{or_last, last_of}
-use Rattle.profile_types.specs.Plain.{PlainInitial, plain_initial}
+use Rattle.bus_legal.specs.Last.{or_last, last_of}
+use Rattle.bus_legal.specs.Plain.{PlainInitial, plain_initial}
 use Rattle.bus_profile.specs.Gives.{each_of, initial_word_in, initial_in}
 use Rattle.bus_profile.specs.Read.{Accepts}
 use Rattle.bus_profile.specs.inner.FirstFault.{fault_of_parts}

@@ -4,7 +4,7 @@ use Rattle.line_format.specs.Answers.{LineAnswers, Whole, More, Wrong}
 use Rattle.line_format.proofs.AnswerLaws.{one}
 use Rattle.bus_profile.specs.declared.fault.ProfileFault.{ProfileFault}
 use Rattle.bus_profile.specs.declared.fault.ProfileFault.TheVariants as profile
-use Rattle.profile_types.specs.declared.profile.Profile.{Profile}
+use Rattle.bus_legal.specs.declared.profile.Profile.{Profile}
 use Rattle.bus_profile.specs.Checks.{HasNoFault}
 use Rattle.bus_profile.specs.Faults.{faults}
 use Rattle.bus_profile.specs.Read.{Accepts, HasFirst}

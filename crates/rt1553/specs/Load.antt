@@ -1,7 +1,7 @@
 -- Which texts are accepted, what they are of, and why one is refused.
 use Rattle.std.specs.Prelude.{◌≡◌, ℕ, Bool, true, false, ◌||◌, nat_eq, List, codes}
 use Rattle.std.specs.List.{starts_with}
-use Rattle.profile_types.specs.declared.profile.Profile.{Profile}
+use Rattle.bus_legal.specs.declared.profile.Profile.{Profile}
 use Rattle.bus_profile.specs.declared.fault.ProfileFault.{ProfileFault}
 use Rattle.bus_profile.specs.declared.fault.ProfileFault.TheVariants as profile
 use Rattle.bus_profile.specs.Read.{Accepts, Refuses}

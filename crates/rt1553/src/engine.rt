@@ -8,8 +8,9 @@ ghost use Rattle.rt1553.specs.Engine.{Completes, StopsBy, RunCompletes, RunStops
 
 use crate::{EngineFault, load};
 use bus_legal::Normal;
-use bus_script::{RunFault, Sink, Source, run_script};
+use bus_script::{RunFault, run_script};
 use bus_terminal::Terminal;
+use byte_streams::{Sink, Source};
 use std::alloc::Global;
 
 /// Runs the terminal of which this can be reached over a script, from power-up.

@@ -13,14 +13,15 @@ mod report;
 pub use bus_canon::{CanonFault, Script};
 pub use bus_legal::{Normal, Setup};
 pub use bus_profile::{Key, Part, ProfileFault};
-pub use bus_script::{
-    FromRead, FromWrite, IoFailed, MemorySink, MemorySource, RunFault, Sink, Source, write_all,
-    write_event,
-};
+pub use bus_script::RunFault;
 pub use bus_terminal::{Answer, Event, Flag, Hand, Sent, Terminal, WordPlace};
 pub use bus_word::{Bus, Kind, Raw};
+pub use byte_streams::{
+    FromRead, FromWrite, IoFailed, MemorySink, MemorySource, Sink, Source, write_all,
+};
 pub use comparison::{Verdict, compare};
 pub use engine::run;
 pub use fault::{EngineFault, LoadFault};
 pub use loading::{canonical, load};
 pub use report::{describe, fault_line};
+pub use script_lines::write_event;

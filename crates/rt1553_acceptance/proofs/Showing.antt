@@ -11,10 +11,10 @@ use Rattle.bus_legal.specs.Description.{Description}
 use Rattle.bus_legal.specs.Parts.{Parts, description_in, IsNormal}
 use Rattle.terminal_rules.specs.declared.event.Event.{Event}
 use Rattle.terminal_rules.specs.Out.{Sending, Handing, HandsReceived, HandsSynchronize, HandsSynchronizeWith, HandsSelfTest, HandsBusControl, Out, Silence, SendsWord, HandsOver, out, outs_from, sent_in}
-use Rattle.terminal_complete_test.specs.CompleteTest.{complete_test, tried}
+use Rattle.bus_complete_test.specs.CompleteTest.{complete_test, tried}
 use Rattle.script_lines.specs.Digits.{digits_of}
 use Rattle.script_lines.specs.Transcript.{sent_text, hand_text, answer_text, text_at}
-use Rattle.terminal_complete_test.proofs.Complete.{complete_test_law}
+use Rattle.bus_complete_test.proofs.Complete.{complete_test_law}
 use Rattle.rt1553_verify.specs.declared.matching.Matching.TheVariants.{Exact}
 use Rattle.rt1553_verify.specs.Stated.{StatedEvent, fits, stated_in}
 use Rattle.rt1553_verify.specs.Verify.{ToldAnswer, answers_told, wrong_answers_from, by_script, verified}

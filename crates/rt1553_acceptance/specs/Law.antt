@@ -4,7 +4,7 @@ use Rattle.bus_legal.specs.Description.{Description}
 use Rattle.bus_legal.specs.Parts.{Parts, description_in, IsNormal}
 use Rattle.terminal_rules.specs.declared.event.Event.{Event}
 use Rattle.terminal_rules.specs.Same.{Same}
-use Rattle.terminal_complete_test.specs.CompleteTest.{complete_test}
+use Rattle.bus_complete_test.specs.CompleteTest.{complete_test}
 use Rattle.script_lines.specs.Transcript.{text_at}
 use Rattle.rt1553_verify.specs.declared.matching.Matching.TheVariants.{Exact}
 use Rattle.rt1553_verify.specs.Stated.{StatedEvent, stated_in}

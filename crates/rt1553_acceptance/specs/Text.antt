@@ -5,7 +5,7 @@ use Rattle.terminal_rules.specs.declared.event.Event.{Event}
 use Rattle.terminal_rules.specs.Past.{history_after}
 use Rattle.terminal_rules.specs.Out.{Handing, HandsReceived, HandsSynchronize, HandsSynchronizeWith, HandsSelfTest, HandsBusControl, Out, Silence, SendsWord, HandsOver, out}
 use Rattle.terminal_exchanges.specs.Exchanges.{Exchange, script_of}
-use Rattle.terminal_complete_test.specs.CompleteTest.{tried}
+use Rattle.bus_complete_test.specs.CompleteTest.{tried}
 use Rattle.script_lines.specs.Digits.{digits_of, decimal_digits}
 use Rattle.script_lines.specs.EventLine.{event_text}
 use Rattle.script_lines.specs.Transcript.{sent_text, word_field, received_by, hand_text, transcript}

@@ -8,8 +8,8 @@ ghost use Rattle.rt1553_acceptance.specs.Text.{fields_stated, answer_stated};
 ghost use Rattle.rt1553_acceptance.specs.inner.Fits.{Fits};
 
 use arrayvec::ArrayString;
-use bus_script::{push_number, push_word, received_by, write_answer, write_event};
 use bus_terminal::{Answer, Event, Hand};
+use script_lines::{push_number, push_word, received_by, write_answer, write_event};
 
 /// The lines of an event and of what is stated of its answer.
 pub type StatedLines = ArrayString<400>;

@@ -6,7 +6,7 @@ ghost use Rattle.bus_legal.specs.Parts.{description_in};
 ghost use Rattle.terminal_rules.specs.declared.event.Event.{Event};
 ghost use Rattle.terminal_rules.specs.Out.{out};
 ghost use Rattle.terminal_exchanges.specs.Values.{exchange_in, IsShort};
-ghost use Rattle.terminal_complete_test.specs.CompleteTest.{tried};
+ghost use Rattle.bus_complete_test.specs.CompleteTest.{tried};
 ghost use Rattle.bus_terminal.specs.Stands.{StandsAt};
 ghost use Rattle.bus_script.specs.Played.{Played};
 ghost use Rattle.rt1553_acceptance.specs.Text.{event_stated, comment_of, acceptance_text};
@@ -19,8 +19,8 @@ use crate::remark::push_remark;
 use crate::stating::{StatedLines, fits, stated_lines};
 use bus_complete_test::{Exchange, Exchanges};
 use bus_legal::{Legality, Normal};
-use bus_script::{IoFailed, Sink, write_all};
 use bus_terminal::{Event, Terminal};
+use byte_streams::{IoFailed, Sink, write_all};
 use message_names::MessageNames;
 use terminal_exchanges::events_of;
 

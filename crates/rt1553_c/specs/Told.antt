@@ -12,8 +12,8 @@ use Rattle.rt1553.specs.Load.{Of, IsNotLoaded}
 use Rattle.rt1553.specs.Canon.{IsCanon}
 use Rattle.rt1553.specs.Engine.{RunCompletes, RunStops, OnLoad, OnScript}
 use Rattle.rt1553.specs.Report.{exit_status_of}
-use Rattle.saved_states.specs.State.{State}
-use Rattle.saved_states.specs.Text.{StateText}
+use Rattle.rt1553_live.specs.State.{State}
+use Rattle.rt1553_live.specs.Text.{StateText}
 use Rattle.rt1553_live.specs.Live.{IsNew}
 use Rattle.rt1553_live.specs.declared.terminal.Live.{Live}
 use Rattle.rt1553_live.specs.PlainFault.{TellsFault}

@@ -1,7 +1,7 @@
 //! A script that stands in memory, and a transcript that is gathered there.
 ghost use Rattle.std.specs.Prelude.{◌≡◌, [], Some, false};
 
-use bus_script::{IoFailed, Sink, Source};
+use byte_streams::{IoFailed, Sink, Source};
 use std::alloc::Global;
 
 /// Gives the bytes of a text. It never fails.

@@ -3,8 +3,8 @@ ghost use Rattle.std.specs.Prelude.{◌≡◌, ◌≤◌, ◌<◌, ◌+◌, ◌*
 ghost use Rattle.script_lines.specs.EventLine.{event_line, script_text};
 
 use arrayvec::ArrayVec;
-use bus_script::write_event;
 use bus_terminal::Event;
+use script_lines::write_event;
 
 /// The lines of a script, which has at most 80 events. A line has at most 65 bytes, with its line feed.
 type ScriptLines = ArrayVec<u8, 5200>;

@@ -1,9 +1,8 @@
 //! Groups of differences as lines, as people read them.
 use crate::groups::Group;
 use bus_canon::Difference;
-use bus_legal::Normal;
+use bus_legal::{Normal, Numbers};
 use bus_word::mode_name;
-use profile_types::Numbers;
 use std::alloc::{AllocError, Global};
 use std::fmt;
 

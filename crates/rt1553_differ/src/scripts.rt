@@ -7,7 +7,7 @@ ghost use Rattle.bus_canon.specs.Difference.{AreAlike, IsInRange, NothingHides, 
 
 use bus_canon::{Difference, Script, script_showing};
 use bus_legal::Normal;
-use bus_script::write_event;
+use script_lines::write_event;
 use std::alloc::{AllocError, Global};
 
 /// Tells whether a subaddress is 1 to 30, and a word count or the number of a word 1 to 32.

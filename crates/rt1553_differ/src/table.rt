@@ -4,11 +4,10 @@ ghost use Rattle.std.specs.Prelude.{◌≤◌};
 use crate::columns::{push_column, wider};
 use crate::explained::{Codes, SubaddressRow, codes_of, row_of};
 use crate::named::code_cell;
-use bus_legal::Normal;
+use bus_legal::{Normal, Numbers};
 use bus_word::mode::{BIT_WORD, DYNAMIC_BUS_CONTROL, VECTOR_WORD};
 use bus_word::mode_name;
 use message_names::{MessageCounts, MessageKind, MessageNames, name_in, owned, push_name};
-use profile_types::Numbers;
 use serde::Serialize;
 use std::alloc::{AllocError, Global};
 

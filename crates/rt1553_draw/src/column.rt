@@ -3,10 +3,10 @@ ghost use Rattle.std.specs.Prelude.{◌≡◌, IfOk};
 ghost use Rattle.bus_terminal.specs.Answer.{shown_answer, IsSmall};
 
 use crate::numbered::Numbered;
-use bus_script::write_answer;
 use bus_terminal::{Answer, Event};
 use bus_word::Bus;
 use drawing_boxes::{Caption, Lane, Lanes, MARGIN, digits_width_of};
+use script_lines::write_answer;
 use std::alloc::{AllocError, Global};
 
 /// How wide the column of a gap, or of a slot in which nothing is sent, is at least.

@@ -6,19 +6,14 @@ ghost use Rattle.bus_script.specs.Reading.{reading, adds, nothing};
 ghost use Rattle.rt1553_draw.specs.Refused.{event_said, events_on, refusal};
 
 use crate::DrawFault;
-use bus_script::{LineFault, RunFault, read_event};
+use bus_script::RunFault;
 use bus_terminal::Event;
 use refused_lines::first_line;
+use script_lines::{LineFault, MAX_LINE, MAX_LINES, read_event};
 use std::alloc::Global;
 
 /// How many events are drawn at most.
 pub const MAX_EVENTS: usize = 4096;
-
-/// How many lines a script may have.
-const MAX_LINES: u64 = 1_048_576;
-
-/// How many bytes a line may have, its line feed not counted.
-const MAX_LINE: usize = 64;
 
 /// An event of a script.
 #[derive(Clone, Copy)]
@@ -58,7 +53,7 @@ fn read_numbered(alloc: Global, script: &[u8]) -> Result<Vec<Numbered>, DrawFaul
     let mut lines = 0;
     while !rest.is_empty() {
         let (line, more) = first_line(rest);
-        if lines == MAX_LINES {
+        if lines == MAX_LINES as u64 {
             return Err(DrawFault::Script(RunFault::TooLong));
         }
         if line.len() > MAX_LINE {

@@ -4,10 +4,10 @@ use crate::numbered::Numbered;
 use crate::part::{DrawnMessage, Heading, MessageTitle};
 use crate::row::Row;
 use crate::style::DRAWING_STYLE;
-use bus_script::write_event;
 use drawing_boxes::{
     Caption, Digits, Frame, InOneLine, LANES_FROM, Lane, MARGIN, More, Rest, What,
 };
+use script_lines::write_event;
 use std::alloc::AllocError;
 use std::fmt;
 

@@ -15,14 +15,8 @@ use crate::writing::{message_lines, push_message};
 use bus_terminal::Event;
 use bus_word::Bus;
 use refused_lines::first_line;
-use script_lines::{read_bus, read_event};
+use script_lines::{MAX_LINE, MAX_LINES, read_bus, read_event};
 use std::alloc::{AllocError, Global};
-
-/// How many bytes a line of a script may have, its line feed not counted.
-const MAX_LINE: usize = 64;
-
-/// How many lines a script may have.
-const MAX_LINES: usize = 1_048_576;
 
 /// A line that is not expanded.
 #[derive(Clone, Copy, Debug, PartialEq, Eq)]
@@ -132,7 +126,7 @@ fn add_line(script: &mut ScriptSoFar, line: &[u8]) -> Result<bool, AllocError>
         return Ok(true);
     };
     let lines = script.lines + lines_for(&read, line);
-    if lines > MAX_LINES {
+    if lines > MAX_LINES as usize {
         return Ok(false);
     }
     push_read(&mut script.text, line, &read)?;

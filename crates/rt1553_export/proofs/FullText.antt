@@ -153,8 +153,7 @@ full_is_table block v is =
     let s : Sheet = sheet_of block v is in
     record {
       sheet = s;
-      read = sheet_read block v is;
-      faultless = full_table_faultless s (row_made header_cells) v is refl;
+      is = record { read = sheet_read block v is; faultless = full_table_faultless s (row_made header_cells) v is refl };
       profile = given.profile;
       says = given.gives ∙ ap profile_of (sym (full_table_tree s (row_made header_cells) v is refl));
       reached = given.reached;

@@ -7,7 +7,7 @@ use Rattle.std.specs.List.{starts_with}
 use Rattle.toml.specs.Data.{Members}
 use Rattle.toml.specs.Parse.{parse_document}
 use Rattle.toml.proofs.OnLiterals.{toml_on_literals}
-use Rattle.profile_types.specs.declared.profile.Profile.{Profile}
+use Rattle.bus_legal.specs.declared.profile.Profile.{Profile}
 use Rattle.bus_profile.specs.Read.{Accepts}
 use Rattle.rt1553.specs.Load.{is_canon_text}
 

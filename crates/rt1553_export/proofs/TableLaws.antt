@@ -1,6 +1,6 @@
 -- What a table means whose profile was read again, and what is imported from a table.
 use Rattle.std.proofs.Common.{◌≡◌, ℕ, List, refl, sym, ap, subst, ◌∙◌}
-use Rattle.profile_types.specs.Plain.{plain}
+use Rattle.bus_legal.specs.Plain.{plain}
 use Rattle.bus_profile.specs.Gives.{profile_of}
 use Rattle.bus_legal.specs.Meaning.{description_of}
 use Rattle.bus_legal.specs.Parts.{Parts}
@@ -21,12 +21,12 @@ imported_of text profile v i r =
     let toml = accepted_no_canon profile i.says.profile i.says.accepts in
     let of = subst (λ b. OfBy b profile (description_of i.says.profile)) (sym toml) (record { profile = i.says.profile; accepts = i.says.accepts; gives = refl }) in
     let same : r.description ≡ description_of i.says.profile = one_description profile r.description (description_of i.says.profile) r.of of in
-    record { sheet = i.sheet; read = i.read; faultless = i.faultless; profile = i.says.profile; says = i.says.gives; reached = r.reached ∙ ap reach same }
+    record { sheet = i.sheet; is = i.is; profile = i.says.profile; says = i.says.gives; reached = r.reached ∙ ap reach same }
 
 -- whatever is imported from a table of a terminal reaches just this
 pub table_imports : (text : List ℕ) (v : Parts) → IsTableOf text v → ImportsAs text v
 table_imports text v t profile i =
-    let same : plain t.profile ≡ plain i.says.profile = t.says ∙ ap profile_of (one_table text t.sheet i.sheet t.read i.read) ∙ sym i.says.gives in
+    let same : plain t.profile ≡ plain i.says.profile = t.says ∙ ap profile_of (one_table text t.sheet i.sheet t.is.read i.is.read) ∙ sym i.says.gives in
     let described : description_of t.profile ≡ description_of i.says.profile = described_alike t.profile i.says.profile same in
     profile_reaches profile i.says.profile v i.says.accepts (accepted_no_canon profile i.says.profile i.says.accepts) (t.reached ∙ ap reach described)
 

@@ -1,8 +1,7 @@
 //! The small table: what a spreadsheet should show.
 use crate::records::{MessageCells, push_header, push_message_cells, push_mode, push_setting};
-use bus_legal::{Normal, Tables};
+use bus_legal::{Normal, Numbers, Tables};
 use bus_word::mode_name;
-use profile_types::Numbers;
 use rt1553_toml::groups::{
     RuleGroup, broadcast_groups, held_len, named_wrap, own_codes, own_groups,
 };

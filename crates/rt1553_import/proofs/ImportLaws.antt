@@ -2,8 +2,8 @@
 use Rattle.std.proofs.Common.{◌≡◌, ℕ, List, Some, sym, ap, ◌∙◌}
 use Rattle.toml.specs.Data.{Members}
 use Rattle.toml.specs.Parse.{parse_document}
-use Rattle.profile_types.specs.declared.profile.Profile.{Profile}
-use Rattle.profile_types.specs.Plain.{plain}
+use Rattle.bus_legal.specs.declared.profile.Profile.{Profile}
+use Rattle.bus_legal.specs.Plain.{plain}
 use Rattle.bus_profile.specs.Gives.{profile_of}
 use Rattle.bus_profile.specs.Read.{Accepts}
 use Rattle.rt1553_import.specs.declared.sheet.Sheet.{Sheet}

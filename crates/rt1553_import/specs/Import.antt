@@ -1,7 +1,7 @@
 -- What a table becomes: a profile, or its faults.
 use Rattle.std.specs.Prelude.{◌≡◌, ◌<◌, ℕ, List, [], length}
-use Rattle.profile_types.specs.declared.profile.Profile.{Profile}
-use Rattle.profile_types.specs.Plain.{plain}
+use Rattle.bus_legal.specs.declared.profile.Profile.{Profile}
+use Rattle.bus_legal.specs.Plain.{plain}
 use Rattle.bus_profile.specs.Gives.{profile_of}
 use Rattle.bus_profile.specs.Read.{Accepts}
 use Rattle.rt1553_import.specs.declared.fault.TableFault.{TableFault}
@@ -13,6 +13,11 @@ use Rattle.rt1553_import.specs.Reading.{IsSheetOf}
 use Rattle.rt1553_import.specs.Tree.{table_tree}
 use Rattle.rt1553_import.specs.Places.{told}
 
+-- the text is a table, this one, and nothing is told of it
+pub record IsFaultless (table : List ℕ) (sheet : Sheet) : Type 0 where
+  pub read : IsSheetOf table sheet
+  pub faultless : told sheet ≡ []
+
 -- the text is an accepted profile text, and its profile is the one that the table says
 pub record SaysTable (sheet : Sheet) (text : List ℕ) : Type 0 where
   pub profile : Profile
@@ -22,8 +27,7 @@ pub record SaysTable (sheet : Sheet) (text : List ℕ) : Type 0 where
 -- the table has no fault, and the profile text says what it says
 pub record IsImported (table profile_text : List ℕ) : Type 0 where
   pub sheet : Sheet
-  pub read : IsSheetOf table sheet
-  pub faultless : told sheet ≡ []
+  pub is : IsFaultless table sheet
   pub says : SaysTable sheet profile_text
 
 -- these are all the faults that are told of the table, and there is one

@@ -1,20 +1,20 @@
 //! A profile from a table.
 ghost use Rattle.std.specs.Prelude.{◌≡◌, IfOk, IfErr, Some, string_bytes};
-ghost use Rattle.profile_types.specs.Plain.{plain};
+ghost use Rattle.bus_legal.specs.Plain.{plain};
 ghost use Rattle.toml.specs.Parse.{parse_document};
 ghost use Rattle.toml.specs.View.{table_view};
 ghost use Rattle.bus_profile.specs.Gives.{profile_of};
 ghost use Rattle.bus_profile.specs.Read.{Accepts};
 ghost use Rattle.rt1553_import.specs.Tree.{table_tree};
-ghost use Rattle.rt1553_import.specs.Import.{SaysTable, IsImported, IsTableRefused};
+ghost use Rattle.rt1553_import.specs.Import.{SaysTable, IsFaultless, IsImported, IsTableRefused};
 
 use crate::fault::ImportFault;
 use crate::reading::read_sheet;
 use crate::same::is_same_profile;
 use crate::sheet::Sheet;
 use crate::warnings::ColumnWarning;
+use bus_legal::Profile;
 use bus_profile::read_profile;
-use profile_types::Profile;
 use std::alloc::{AllocError, Global};
 use toml::Table;
 use toml::ser::Error;
@@ -64,12 +64,10 @@ fn named_text(alloc: Global, sheet: &Sheet, text: String) -> Result<String, Allo
     }
 }
 
-/// Gives the profile of the table of an interface control document: CSV with a header, in UTF-8, with commas or semicolons
-/// between fields. Each row is a setting, a message of data, or mode codes. Columns that are not known are left out.
-///
-/// A table with faults gives no profile: all its faults are told, each with its place.
-pub fn import_table(alloc: Global, text: &[u8]) -> Result<Imported, ImportFault>
-    ensures imported { IfOk result (λ imported. IsImported text.now (string_bytes imported.profile)) }
+/// Reads a table without faults, with its tree. One with faults gives all of them, each with its place.
+pub fn faultless_sheet(alloc: Global, text: &[u8]) -> Result<(Sheet, Table), ImportFault>
+    ensures sheet { IfOk result (λ read. IsFaultless text.now read.0) }
+    ensures tree { IfOk result (λ read. table_view read.1 ≡ table_tree read.0) }
     ensures refused { IfErr result (IsTableRefused text.now) }
 {
     let sheet = match read_sheet(alloc, text) {
@@ -81,6 +79,18 @@ pub fn import_table(alloc: Global, text: &[u8]) -> Result<Imported, ImportFault>
     if !faults.as_slice().is_empty() {
         return Err(ImportFault::Faults(faults));
     }
+    Ok((sheet, root))
+}
+
+/// Gives the profile of the table of an interface control document: CSV with a header, in UTF-8, with commas or semicolons
+/// between fields. Each row is a setting, a message of data, or mode codes. Columns that are not known are left out.
+///
+/// A table with faults gives no profile: all its faults are told, each with its place.
+pub fn import_table(alloc: Global, text: &[u8]) -> Result<Imported, ImportFault>
+    ensures imported { IfOk result (λ imported. IsImported text.now (string_bytes imported.profile)) }
+    ensures refused { IfErr result (IsTableRefused text.now) }
+{
+    let (sheet, root) = faultless_sheet(alloc, text)?;
     let plain = text_of(alloc, &sheet, &root)?;
     let profile = named_text(alloc, &sheet, plain)?;
     let warnings = sheet.warnings(alloc)?;

@@ -1,8 +1,8 @@
 //! Whether two profiles are the same.
 ghost use Rattle.std.specs.Prelude.{◌≡◌, true, map};
-ghost use Rattle.profile_types.specs.Plain.{plain, plain_rule, plain_initial};
+ghost use Rattle.bus_legal.specs.Plain.{plain, plain_rule, plain_initial};
 
-use profile_types::{InitialWords, ModeRule, Profile, Rule};
+use bus_legal::{InitialWords, ModeRule, Profile, Rule};
 
 /// Whether two profiles have the same settings.
 fn has_same_settings(a: &Profile, b: &Profile) -> bool

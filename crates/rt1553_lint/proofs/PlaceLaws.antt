@@ -2,11 +2,11 @@
 use Rattle.std.proofs.Common.{◌≡◌, ◌⊎◌, inl, inr, ℕ, ◌-◌, ◌<◌, zero, suc, Bool, true, List, [], ◌∷◌, map, length, get_or, Option, option_map, refl, sym, ap, ◌∙◌, subst, arith}
 use Rattle.std.specs.Option.{IsSomeAnd, IsSome}
 use Rattle.toml.specs.Data.{Members}
-use Rattle.toml_statements.specs.declared.statement.Statement.{Statement}
-use Rattle.toml_statements.specs.Found.{Seen, seen, statement_view}
-use Rattle.toml_statements.specs.Law.{expressions}
-use Rattle.toml_statements.specs.Statements.{Placed, statements_of}
-use Rattle.toml_statements.proofs.TreeLaws.{document_law}
+use Rattle.toml_places.specs.declared.statement.Statement.{Statement}
+use Rattle.toml_places.specs.Found.{Seen, seen, statement_view}
+use Rattle.toml_places.specs.StatementsLaw.{expressions}
+use Rattle.toml_places.specs.Parsed.{Placed, statements_of}
+use Rattle.toml_places.proofs.TreeLaws.{document_law}
 use Rattle.toml_places.specs.Places.{head}
 use Rattle.toml_places.specs.Statements.{head_of, IsPlace}
 use Rattle.bus_profile.specs.Read.{IsTree}

@@ -2,7 +2,7 @@
 use Rattle.std.proofs.Common.{◌≡◌, ◌<◌, ◌+◌, ◌==◌, ℕ, suc, arith, Bool, true, false, List, [], ◌∷◌, ◌++◌, map, length, get_or, drop, Option, Some, None, refl, ap, ◌∙◌, sym, append_assoc}
 use Rattle.std.proofs.lemmas.Bool.{eqb-true}
 use Rattle.std.proofs.lemmas.List.{drop_more, map-append}
-use Rattle.profile_types.specs.declared.profile.Profile
+use Rattle.bus_legal.specs.declared.profile.Profile
 use Rattle.bus_profile.specs.Read.{Accepts}
 use Rattle.spare_entries.specs.Spares.{places_of}
 use Rattle.spare_entries.specs.declared.spare.SparePlace.{SparePlace}

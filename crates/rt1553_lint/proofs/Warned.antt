@@ -3,11 +3,11 @@ use Rattle.std.proofs.Common.{◌≡◌, inl, inr, ℕ, zero, suc, ◌+◌, ◌<
 use Rattle.std.specs.List.{range_with_len}
 use Rattle.std.proofs.lemmas.List.{map-append, get_or_default}
 use Rattle.std.proofs.lemmas.List.FromFn.{map-range_with_len_more}
-use Rattle.profile_types.specs.declared.profile.Profile.{Profile}
+use Rattle.bus_legal.specs.declared.profile.Profile.{Profile}
 use Rattle.spare_entries.proofs.Zeroed.{zeroed_once}
 use Rattle.rt1553_lint.specs.declared.finding.Finding.{Finding}
 use Rattle.spare_entries.specs.declared.spare.SparePlace.{SparePlace}
-use Rattle.profile_types.specs.declared.entries.InitialWords.{InitialWords}
+use Rattle.bus_legal.specs.declared.entries.InitialWords.{InitialWords}
 use Rattle.bus_legal.specs.Meaning.{description_of}
 use Rattle.terminal_rules.specs.Same.{Same}
 use Rattle.spare_entries.specs.declared.spare.Setting.{Setting}

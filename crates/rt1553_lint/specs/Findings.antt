@@ -1,7 +1,7 @@
 -- What findings are of.
 use Rattle.std.specs.Prelude.{◌≡◌, ◌⊎◌, ℕ, List, [], ◌∷◌, ◌++◌, map, Option, Some, None}
 use Rattle.toml.specs.Data.{Members}
-use Rattle.profile_types.specs.declared.profile.Profile.{Profile}
+use Rattle.bus_legal.specs.declared.profile.Profile.{Profile}
 use Rattle.bus_profile.specs.declared.fault.ProfileFault.{ProfileFault}
 use Rattle.bus_profile.specs.FaultNames.{profile_fault_name, profile_fault_number}
 use Rattle.bus_profile.specs.AllFaults.{told_faults}

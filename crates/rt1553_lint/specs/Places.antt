@@ -2,10 +2,10 @@
 use Rattle.std.specs.Prelude.{◌≡◌, ℕ, ◌-◌, Bool, false, List, map, length, get_or, codes, Option, Some, None, IsSome}
 use Rattle.toml.specs.Data.{Members}
 use Rattle.toml.specs.Parse.{parse_document}
-use Rattle.toml_statements.specs.declared.statement.Statement.{Statement}
-use Rattle.toml_statements.specs.Found.{seen, statement_view}
-use Rattle.toml_statements.specs.Law.{expressions}
-use Rattle.toml_statements.specs.Statements.{statements_of}
+use Rattle.toml_places.specs.declared.statement.Statement.{Statement}
+use Rattle.toml_places.specs.Found.{seen, statement_view}
+use Rattle.toml_places.specs.StatementsLaw.{expressions}
+use Rattle.toml_places.specs.Parsed.{statements_of}
 use Rattle.toml_places.specs.Besides.{key_besides, item_besides}
 use Rattle.toml_places.specs.Places.{is_there, IsGivenBy}
 use Rattle.toml_places.specs.Statements.{whole_names}

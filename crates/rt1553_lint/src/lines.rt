@@ -4,7 +4,7 @@ ghost use Rattle.rt1553_lint.specs.Positions.{is_feed, begins_character, line_of
 
 use crate::finding::Position;
 use std::alloc::{AllocError, Global};
-use toml_statements::Statement;
+use toml_places::Statement;
 
 /// Whether a byte ends a line.
 fn is_feed(byte: u8) -> bool

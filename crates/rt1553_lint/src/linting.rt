@@ -23,7 +23,7 @@ use rt1553::{LoadFault, load};
 use std::alloc::{AllocError, Global};
 use toml::Table;
 use toml::de::Error;
-use toml_statements::{Statement, StatementsFault, statements_of};
+use toml_places::{Statement, StatementsFault, statements_of};
 
 /// The statements of a document. The only error is out of memory.
 fn statements_in(alloc: Global, text: &[u8]) -> Result<Vec<Statement>, AllocError>

@@ -11,8 +11,7 @@ use crate::tree::index_of;
 use bus_profile::{Key, Part};
 use spare_entries::{Setting, SparePlace};
 use std::alloc::{AllocError, Global};
-use toml_places::{ArrayPlaces, array_places, key_besides, key_place};
-use toml_statements::Statement;
+use toml_places::{ArrayPlaces, Statement, array_places, key_besides, key_place};
 
 /// Where the statements of a profile text stand, and which of them give it its entries.
 #[derive(Drop)]

@@ -1,3 +1,6 @@
+pub mod Numbers
+pub mod State
+pub mod Text
 pub mod PlainEvent
 pub mod PlainAnswer
 pub mod PlainFault

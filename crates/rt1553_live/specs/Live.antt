@@ -7,8 +7,8 @@ use Rattle.terminal_rules.specs.declared.event.Event.{Event}
 use Rattle.terminal_rules.specs.Out.{out, Silence}
 use Rattle.bus_terminal.specs.declared.terminal.Terminal.{Terminal}
 use Rattle.bus_terminal.specs.Stands.{StandsAt}
-use Rattle.saved_states.specs.State.{state_of, IsMade}
-use Rattle.saved_states.specs.Text.{StateText}
+use Rattle.rt1553_live.specs.State.{state_of, IsMade}
+use Rattle.rt1553_live.specs.Text.{StateText}
 use Rattle.rt1553_live.specs.declared.terminal.Live.{Live}
 use Rattle.rt1553_live.specs.PlainEvent.{plain_event}
 use Rattle.rt1553_live.specs.PlainAnswer.{answer_in}

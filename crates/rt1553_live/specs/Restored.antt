@@ -1,7 +1,7 @@
 -- Why no terminal is made of a text that is to be a saved state.
 use Rattle.std.specs.Prelude.{ℕ, List}
-use Rattle.saved_states.specs.Text.{IsNoState}
-use Rattle.saved_states.specs.declared.fault.StateFault.TheVariants.{Line, Trailing}
+use Rattle.rt1553_live.specs.Text.{IsNoState}
+use Rattle.rt1553_live.specs.declared.state_fault.StateFault.TheVariants.{Line, Trailing}
 use Rattle.rt1553_live.specs.declared.fault.PlainFault.{PlainFault}
 use Rattle.rt1553_live.specs.PlainFault.{TellsNumbers}
 use Rattle.rt1553_live.specs.declared.live.RestoreFault.{RestoreFault}

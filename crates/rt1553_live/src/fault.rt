@@ -5,13 +5,13 @@ ghost use Rattle.rt1553.specs.OneLine.{IsOneLine};
 ghost use Rattle.rt1553_live.specs.PlainFault.{plain_fault_kind, plain_fault_number, plain_fault_line, TellsNumbers, TellsFault};
 ghost use Rattle.rt1553_live.specs.Restored.{restore_status, TellsRestoreFault};
 
+use crate::StateFault;
 use crate::answer::put_first;
 use crate::live::RestoreFault;
 use arrayvec::ArrayString;
 use bus_canon::CanonFault;
 use bus_script::RunFault;
 use rt1553::{EngineFault, LoadFault, describe, fault_line};
-use saved_states::StateFault;
 
 /// Why a text was refused, or a call could not be done.
 #[repr(C)]

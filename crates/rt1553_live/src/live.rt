@@ -5,8 +5,8 @@ ghost use Rattle.bus_legal.specs.Parts.{description_in};
 ghost use Rattle.bus_legal.specs.Reach.{reach};
 ghost use Rattle.rt1553.specs.Load.{Of, IsNotLoaded};
 ghost use Rattle.terminal_rules.specs.Out.{Silence};
-ghost use Rattle.saved_states.specs.State.{state_of, IsMade};
-ghost use Rattle.saved_states.specs.Text.{StateText};
+ghost use Rattle.rt1553_live.specs.State.{state_of, IsMade};
+ghost use Rattle.rt1553_live.specs.Text.{StateText};
 ghost use Rattle.rt1553_live.specs.PlainAnswer.{answer_in};
 ghost use Rattle.rt1553_live.specs.Live.{AnswersAs, IsNew, Steps, IsCopy, IsRestored};
 ghost use Rattle.rt1553_live.specs.Restored.{IsNotRestored};
@@ -14,10 +14,10 @@ ghost use Rattle.rt1553_live.specs.Restored.{IsNotRestored};
 use crate::answer::{PlainAnswer, show};
 use crate::event::{PlainEvent, plain_event};
 use crate::terminal::Live;
+use crate::{StateFault, restore, save};
 use bus_legal::Normal;
 use bus_terminal::Terminal;
 use rt1553::{LoadFault, load};
-use saved_states::{StateFault, restore, save};
 use std::alloc::{AllocError, Global};
 
 /// Why no terminal is made of a text.

@@ -1,5 +1,5 @@
 //! A terminal with a place for the event that is played next and one for what was answered last.
-ghost use Rattle.saved_states.specs.State.{IsMade};
+ghost use Rattle.rt1553_live.specs.State.{IsMade};
 
 use crate::answer::PlainAnswer;
 use crate::event::PlainEvent;

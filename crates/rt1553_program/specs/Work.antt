@@ -10,7 +10,7 @@ use Rattle.rt1553.specs.Compare.{AreSame, AreDifferent}
 use Rattle.rt1553_args.specs.declared.args.Job.{Job}
 use Rattle.rt1553_args.specs.declared.args.Job.TheVariants as job
 
--- the text is of a terminal
+-- the text is accepted: some terminal is that of the text
 abbrev pub Accepted : List ℕ → Type 0
 Accepted text = (P : Description) × Of text P
 

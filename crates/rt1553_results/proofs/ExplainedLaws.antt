@@ -7,7 +7,7 @@ use Rattle.bus_legal.specs.Reach.{reach}
 use Rattle.terminal_rules.specs.declared.event.Event.{Event}
 use Rattle.terminal_rules.specs.Out.{Sending}
 use Rattle.terminal_exchanges.specs.Exchanges.{Exchange}
-use Rattle.terminal_complete_test.specs.CompleteTest.{tried}
+use Rattle.bus_complete_test.specs.CompleteTest.{tried}
 use Rattle.terminal_recordings.specs.Recordings.{Sighting, IsExplained}
 use Rattle.terminal_recordings.proofs.Tests.{is_sighting}
 use Rattle.recorded_terminal.specs.declared.watch.Marked.{Marked}

@@ -3,7 +3,7 @@ use Rattle.std.proofs.Common.{◌≡◌, ◌∙◌, ℕ, suc, ◌+◌, ◌≤◌
 use Rattle.bus_legal.specs.Description.{Description}
 use Rattle.bus_legal.specs.Parts.{Parts}
 use Rattle.terminal_exchanges.specs.Exchanges.{Exchange}
-use Rattle.terminal_complete_test.specs.CompleteTest.{tried}
+use Rattle.bus_complete_test.specs.CompleteTest.{tried}
 use Rattle.recorded_terminal.specs.declared.watch.Watch.{Watch}
 use Rattle.rt1553_results.specs.Recorded.{Replied, replied_then, replied_from, replied, slots_of}
 use Rattle.rt1553_results.specs.inner.Placed.{placed_from, placed_exchange, WatchesAll, Sees}

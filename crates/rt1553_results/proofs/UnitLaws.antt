@@ -14,11 +14,11 @@ use Rattle.bus_word.specs.declared.word.Bus.TheVariants.{A}
 use Rattle.terminal_exchanges.specs.Exchanges.{Exchange, command_event, data_event, words_then, slots_then, exchange_then, script_of}
 use Rattle.terminal_exchanges.specs.ExchangeLaws.{AreWhole, AreAnswered, history_of, after_words, after_slots, before_its_gap, end_of, silent_then, silent_slots, reply_to, reply_then}
 use Rattle.terminal_exchanges.proofs.ExchangeAnswers.{meant_exchange_law, unmeant_law}
-use Rattle.terminal_complete_test.specs.CompleteTest.{complete_test, tried}
-use Rattle.terminal_complete_test.proofs.Walk.{IsSound, AreSound, answered_more}
-use Rattle.terminal_complete_test.proofs.Sound.{tried_sound}
+use Rattle.bus_complete_test.specs.CompleteTest.{complete_test, tried}
+use Rattle.bus_complete_test.proofs.SlotWalk.{IsSound, AreSound, answered_more}
+use Rattle.bus_complete_test.proofs.Sound.{tried_sound}
 use Rattle.terminal_exchanges.proofs.Distinguish.Reached.{normal-reached}
-use Rattle.terminal_complete_test.proofs.Complete.{complete_test_law}
+use Rattle.bus_complete_test.proofs.Complete.{complete_test_law}
 use Rattle.rt1553_acceptance.specs.Label.{label_of}
 use Rattle.rt1553_results.specs.Rows.{Answered, sent_word, words_sent, row_at, after_exchange, rows_from}
 use Rattle.rt1553_results.specs.Compare.{ToldReply, replies_told, wrong_replies, missing_at, missing}

@@ -2,7 +2,7 @@
 use Rattle.std.specs.Prelude.{ℕ, suc, ◌≡◌, ◌↔◌, ◌<◌, Option, None, IfSome, List, [], ◌∷◌, ◌++◌, length}
 use Rattle.bus_legal.specs.Description.{Description}
 use Rattle.terminal_rules.specs.Out.{Sending}
-use Rattle.terminal_complete_test.specs.CompleteTest.{tried}
+use Rattle.bus_complete_test.specs.CompleteTest.{tried}
 use Rattle.terminal_recordings.specs.Recordings.{IsExplained}
 use Rattle.recorded_terminal.specs.SentWords.{word_shown}
 use Rattle.rt1553_acceptance.specs.Label.{label_of}

@@ -8,7 +8,7 @@ use Rattle.terminal_rules.specs.declared.event.Event.{Event}
 use Rattle.terminal_rules.specs.declared.event.Event.TheVariants.{Gap, Slot}
 use Rattle.terminal_rules.specs.Out.{Sending, sending}
 use Rattle.terminal_exchanges.specs.Exchanges.{Exchange, command_event, words_then}
-use Rattle.terminal_complete_test.specs.CompleteTest.{tried}
+use Rattle.bus_complete_test.specs.CompleteTest.{tried}
 use Rattle.terminal_recordings.specs.Recordings.{Sighting}
 
 -- an exchange, and the words that the unit replied to it

@@ -5,7 +5,7 @@ use Rattle.terminal_rules.specs.declared.event.Event.{Event}
 use Rattle.terminal_rules.specs.Past.{history_after}
 use Rattle.terminal_rules.specs.Out.{Handing, Out, SendsWord, HandsOver, outs_from}
 use Rattle.terminal_exchanges.specs.Exchanges.{Exchange, script_of}
-use Rattle.terminal_complete_test.specs.CompleteTest.{tried}
+use Rattle.bus_complete_test.specs.CompleteTest.{tried}
 
 -- What is answered to an exchange: the words that are sent in its slots, the status word first, and what is handed over at
 -- its gap.

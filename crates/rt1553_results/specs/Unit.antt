@@ -3,7 +3,7 @@ use Rattle.std.specs.Prelude.{◌≡◌, ℕ, ◌+◌, ◌↔◌, Option, Some, 
 use Rattle.bus_legal.specs.Description.{Description}
 use Rattle.bus_legal.specs.Parts.{Parts, description_in, IsNormal}
 use Rattle.terminal_rules.specs.Same.{Same}
-use Rattle.terminal_complete_test.specs.CompleteTest.{tried}
+use Rattle.bus_complete_test.specs.CompleteTest.{tried}
 use Rattle.rt1553_results.specs.declared.comparison.Comparison.{Comparison}
 use Rattle.rt1553_results.specs.Rows.{Answered, rows_from}
 use Rattle.rt1553_results.specs.Compare.{told_reply, numbers_in, Compares}

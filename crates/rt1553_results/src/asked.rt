@@ -11,8 +11,8 @@ use crate::fields::read_exchange_number;
 use crate::results::{ResultsFault, column_of};
 use crate::rows::Rows;
 use bus_legal::Normal;
-use bus_script::read_word;
 use csv_rows::{CellPlace, CsvRow, read_rows};
+use script_lines::read_word;
 use std::alloc::{AllocError, Global};
 
 /// The places of two columns in a header, from 0.

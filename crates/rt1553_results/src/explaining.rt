@@ -3,7 +3,7 @@ ghost use Rattle.std.specs.Prelude.{◌≡◌, ◌++◌, ℕ, List, Some, IfOk, 
 ghost use Rattle.bus_legal.specs.Description.{Description};
 ghost use Rattle.bus_legal.specs.Parts.{description_in};
 ghost use Rattle.bus_legal.specs.Reach.{reach};
-ghost use Rattle.terminal_complete_test.specs.CompleteTest.{tried};
+ghost use Rattle.bus_complete_test.specs.CompleteTest.{tried};
 ghost use Rattle.rt1553_results.specs.Results.{answer};
 ghost use Rattle.rt1553_results.specs.Compare.{missing, missing_at, numbers_in, AreNotCompared};
 ghost use Rattle.rt1553_results.specs.ExplainedResults.{ExplainsResults, TellsMissing};

@@ -5,7 +5,7 @@ ghost use Rattle.std.specs.Str.Parse.{digits_value};
 ghost use Rattle.rt1553_results.specs.Results.{words_said, at_most_33, reply_said, IsExchangeNumber};
 
 use arrayvec::ArrayVec;
-use bus_script::read_word;
+use script_lines::read_word;
 use std::str;
 
 /// The number in a field: decimal digits and nothing else, from 1 on.

@@ -8,10 +8,10 @@ ghost use Rattle.rt1553_results.specs.Table.{table_writer, csv_header, csv_row};
 use crate::playing::TestRow;
 use crate::texts::{data_words, handed_text, reply_text, words_text};
 use bus_legal::Normal;
-use bus_script::digits_of;
 use csv::{Terminator, WriterBuilder};
 use itoa::Buffer;
 use rt1553_acceptance::label_of;
+use script_lines::digits_of;
 use std::alloc::{AllocError, Global};
 
 /// The bytes of a record.

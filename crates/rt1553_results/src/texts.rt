@@ -9,8 +9,8 @@ ghost use Rattle.rt1553_results.specs.Table.{words_text, reply_text, handed_text
 
 use crate::playing::Handed;
 use bus_complete_test::Exchange;
-use bus_script::{digits_of, write_answer};
 use bus_terminal::{Answer, Hand};
+use script_lines::{digits_of, write_answer};
 use std::alloc::{AllocError, Global};
 
 /// Writes a word behind a space.

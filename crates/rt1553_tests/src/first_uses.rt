@@ -1,7 +1,7 @@
 //! First uses of crates, as their README.md has them.
 use bus_canon::{distinguish, read_canon, write_canon};
 use bus_complete_test::Exchanges;
-use bus_legal::{Legality, RuleList, normalise, setup_of};
+use bus_legal::{Entries, Legality, Numbers, Rule, RuleList, normalise, setup_of};
 use bus_profile::read_profile;
 use bus_terminal::{Answer, Event, Terminal, WordPlace};
 use bus_word::{Bus, Cell, Command, Kind, Raw, cell_of};
@@ -9,7 +9,6 @@ use csv_rows::{CsvFault, read_rows};
 use drawing_boxes::Caption;
 use line_format::{FieldKind, Lines, bit_line, put_number_line};
 use message_names::{MessageNames, NamedCells};
-use profile_types::{Entries, Numbers, Rule};
 use refused_lines::{misfit_of, refused_lines};
 use rt1553::{canonical, load};
 use rt1553_acceptance::label_of;
@@ -20,7 +19,6 @@ use rt1553_export::export_table;
 use rt1553_files::escaped;
 use rt1553_import::import_table;
 use rt1553_lint::lint;
-use rt1553_names::names_in;
 use rt1553_results::{compare_results, read_results};
 use rt1553_toml::toml_of;
 use rt1553_tool::read_word_line;
@@ -29,8 +27,8 @@ use spare_entries::{Setting, is_spare_setting};
 use std::test::Fail;
 use terminal_exchanges::{events_of, transmit};
 use terminal_state::{Decoded, GapEnd, InProgress};
-use toml_places::{array_places, key_place};
-use toml_statements::statements_of;
+use toml_places::{array_places, key_place, statements_of};
+use tool_names::names_in;
 
 #[test]
 fn words_of_the_bus(rt: HostRuntime) {

@@ -15,9 +15,9 @@ use Rattle.bus_profile.specs.declared.fault.ProfileFault.TheVariants.{RequiredCo
 use Rattle.bus_profile.specs.Checks.{Check, HasNoFault, in_order, first_fault}
 use Rattle.bus_profile.specs.Gives.{mode_in, modes_of}
 use Rattle.bus_profile.specs.inner.MissingCode.{missing_code}
-use Rattle.profile_types.specs.declared.entries.ModeRule.{ModeRule}
-use Rattle.profile_types.specs.Last.{last_of}
-use Rattle.profile_types.specs.OwnCodes.{contains_own, mode_says, is_own_code_legal, has_required_codes}
+use Rattle.bus_legal.specs.declared.entries.ModeRule.{ModeRule}
+use Rattle.bus_legal.specs.Last.{last_of}
+use Rattle.bus_legal.specs.OwnCodes.{contains_own, mode_says, is_own_code_legal, has_required_codes}
 use Rattle.bus_word.specs.Mask.{has_bit}
 use Rattle.bus_word.specs.Mode.{mode_row, is_required_code}
 use Rattle.bus_legal.specs.declared.tables.Tables.{Tables}

@@ -14,13 +14,13 @@ use Rattle.bus_word.specs.Cell.{is_data_place, allows_broadcast}
 use Rattle.bus_word.specs.Mode.{mode_row}
 use Rattle.bus_word.specs.Mask.{has_bit}
 use Rattle.bus_word.proofs.Places.{place_above, place_low}
-use Rattle.profile_types.specs.declared.entries.Rule.{Rule}
-use Rattle.profile_types.specs.declared.entries.ModeRule.{ModeRule}
-use Rattle.profile_types.specs.declared.entries.InitialWords.{InitialWords}
-use Rattle.profile_types.specs.declared.profile.Profile.{Profile}
-use Rattle.profile_types.specs.Last.{or_last, last_of}
-use Rattle.profile_types.specs.OwnCodes.{mode_says}
-use Rattle.profile_types.specs.Plain.{PlainRule, PlainInitial, PlainProfile, plain, plain_rule, plain_initial}
+use Rattle.bus_legal.specs.declared.entries.Rule.{Rule}
+use Rattle.bus_legal.specs.declared.entries.ModeRule.{ModeRule}
+use Rattle.bus_legal.specs.declared.entries.InitialWords.{InitialWords}
+use Rattle.bus_legal.specs.declared.profile.Profile.{Profile}
+use Rattle.bus_legal.specs.Last.{or_last, last_of}
+use Rattle.bus_legal.specs.OwnCodes.{mode_says}
+use Rattle.bus_legal.specs.Plain.{PlainRule, PlainInitial, PlainProfile, plain, plain_rule, plain_initial}
 use Rattle.bus_profile.specs.Gives.{each_of, rule_in, initial_in, initial_word_in, rules_of, initials_of, profile_of}
 use Rattle.bus_profile.specs.Kinds.{wrap_value}
 use Rattle.bus_profile.specs.RangesOf.{ranges_of}

@@ -1,8 +1,7 @@
 //! The text of a TOML profile.
 use crate::groups::{RuleGroup, broadcast_groups, held_len, named_wrap, own_codes, own_groups};
-use bus_legal::Normal;
+use bus_legal::{Normal, Numbers};
 use bus_word::mode_name;
-use profile_types::Numbers;
 use std::alloc::{AllocError, Global};
 use std::fmt;
 

@@ -6,7 +6,7 @@ ghost use Rattle.arrayvec.specs.ArrayVec.{array_vec_len};
 ghost use Rattle.rt1553_tool.specs.inner.Input.{TakesLine};
 
 use arrayvec::ArrayVec;
-use bus_script::{Sink, Source, write_all};
+use byte_streams::{Sink, Source, write_all};
 use thiserror::Error;
 
 /// Why lines are not answered to the end of the input.

@@ -12,9 +12,10 @@ use crate::input::{ServeFault, hand_on, put, take_line};
 use crate::word_texts::push_decimal;
 use arrayvec::{ArrayString, ArrayVec};
 use bus_legal::Legality;
-use bus_script::{Sink, Source, read_event, write_answer};
 use bus_terminal::Terminal;
+use byte_streams::{Sink, Source};
 use refused_lines::{Misfit, misfit_of};
+use script_lines::{read_event, write_answer};
 
 /// The bytes of a line that are kept: one more than it may have tells that it is too long.
 type Line = ArrayVec<u8, 65>;

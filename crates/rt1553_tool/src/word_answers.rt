@@ -9,7 +9,7 @@ ghost use Rattle.rt1553_tool.specs.inner.Told.{TellsLine};
 use crate::input::{ServeFault, hand_on, put, take_line};
 use crate::word_texts::answer_word_line;
 use arrayvec::ArrayVec;
-use bus_script::{Sink, Source};
+use byte_streams::{Sink, Source};
 
 /// The bytes of a line that are kept: one more than it may have tells that it is too long.
 type Line = ArrayVec<u8, 129>;

@@ -14,8 +14,8 @@ use crate::fields::{
     CommandFields, StatusFields, WordFields, command_fields, status_fields, word_with,
 };
 use crate::parts::{MOST, line_parts};
-use bus_script::read_word;
 use bus_word::{Kind, Raw, mode_row};
+use script_lines::read_word;
 
 /// The address of all terminals.
 const ALL_TERMINALS: u8 = 31;

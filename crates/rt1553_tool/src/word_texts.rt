@@ -10,8 +10,8 @@ ghost use Rattle.rt1553_tool.specs.WordTexts.{short_decimal, address_text, tr_te
 use crate::fields::{CommandFields, StatusFields, WordFields};
 use crate::word_lines::{WordLine, WordLineFault, read_word_line};
 use arrayvec::ArrayString;
-use bus_script::{digits_of, push_word};
 use bus_word::{Raw, mode_name, mode_row};
+use script_lines::{digits_of, push_word};
 
 /// A line that answers a line: one of 128 bytes has at most 512 where each is escaped.
 pub type AnswerLine = ArrayString<600>;

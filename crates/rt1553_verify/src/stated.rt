@@ -7,18 +7,12 @@ ghost use Rattle.rt1553_verify.specs.Stated.{shown, is_empty, states_answer, can
 ghost use Rattle.rt1553_verify.specs.declared.stated.StatedFault.TheVariants.{Memory};
 
 use crate::Matching;
-use bus_script::{LineFault, read_event};
 use bus_terminal::Event;
 use line_format::after;
 use refused_lines::{first_line, mistyped_answer};
+use script_lines::{LineFault, MAX_LINE, MAX_LINES, read_event};
 use std::alloc::{AllocError, AllocFailed, Global};
 use thiserror::Error;
-
-/// How many lines a script may have.
-const MAX_LINES: u64 = 1_048_576;
-
-/// How many bytes a line may have, its line feed not counted.
-const MAX_LINE: usize = 64;
 
 /// An event of a script, and what the script states of its answer.
 #[derive(Drop)]
@@ -257,7 +251,7 @@ pub fn read_stated(alloc: Global, script: &[u8]) -> Result<Vec<Stated>, StatedFa
     let mut lines = 0;
     while !rest.is_empty() {
         let (line, more) = first_line(rest);
-        if lines == MAX_LINES {
+        if lines == MAX_LINES as u64 {
             return Err(StatedFault::TooLong);
         }
         let known = read_stated_line(alloc, latest, lines + 1, line)?;

@@ -10,8 +10,8 @@ ghost use Rattle.rt1553_verify.specs.Verify.{told_answer, wrong_answer_at, wrong
 
 use crate::{Stated, StatedFault, read_stated};
 use bus_legal::{Legality, Normal};
-use bus_script::write_answer;
 use bus_terminal::Terminal;
+use script_lines::write_answer;
 use std::alloc::{AllocError, Global};
 
 /// An event that is not answered as a script states.

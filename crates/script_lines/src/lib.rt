@@ -13,7 +13,7 @@ mod usual;
 pub use digits::{digits_of, push_number, push_word, read_word};
 pub use event_line::{flag_name, write_event};
 pub use known_pairs::KnownPairs;
-pub use line::{LineFault, LineReader, read_bus, read_event};
+pub use line::{LineFault, LineReader, MAX_LINE, MAX_LINES, read_bus, read_event};
 pub use line_feed::find_line_feed;
 pub use transcript::{
     push_answer, push_data_words, push_field, push_received_by, received_by, write_answer,

@@ -13,6 +13,12 @@ use bus_terminal::{Event, Flag, WordPlace};
 use bus_word::{Bus, Kind, Raw};
 use line_format::after;
 
+/// How many lines a script may have.
+pub const MAX_LINES: u32 = 1_048_576;
+
+/// How many bytes a line of a script may have before its line feed.
+pub const MAX_LINE: usize = 64;
+
 /// A line that is refused.
 #[derive(Clone, Copy, Debug, PartialEq, Eq)]
 pub struct LineFault;

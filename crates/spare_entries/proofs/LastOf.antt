@@ -3,7 +3,7 @@ use Rattle.std.proofs.Common.{◌≡◌, ◌↔◌, ℕ, suc, ◌<◌, Bool, tru
 use Rattle.std.specs.List.{list_any}
 use Rattle.std.proofs.Math.Seq.{drop-cons}
 use Rattle.std.proofs.lemmas.List.{take-append-drop, take-set, drop-set-lt, drop-map, take-map, map-append}
-use Rattle.profile_types.specs.Last.{or_last, last_of}
+use Rattle.bus_legal.specs.Last.{or_last, last_of}
 use Rattle.spare_entries.specs.Without.{without}
 
 or_last-none : {X : Type 0} (a : Option X) → or_last a None ≡ a

@@ -4,10 +4,10 @@ use Rattle.std.proofs.lemmas.List.{length-map}
 use Rattle.bus_word.specs.declared.cell.Cell.{Cell}
 use Rattle.bus_word.specs.declared.cell.Cell.TheVariants as cell
 use Rattle.bus_word.specs.Mask.{has_bit}
-use Rattle.profile_types.specs.declared.entries.ModeRule.{ModeRule}
-use Rattle.profile_types.specs.declared.profile.Profile.{Profile}
-use Rattle.profile_types.specs.Last.{last_of}
-use Rattle.profile_types.specs.OwnCodes.{mode_says, is_own_code_legal, has_required_codes}
+use Rattle.bus_legal.specs.declared.entries.ModeRule.{ModeRule}
+use Rattle.bus_legal.specs.declared.profile.Profile.{Profile}
+use Rattle.bus_legal.specs.Last.{last_of}
+use Rattle.bus_legal.specs.OwnCodes.{mode_says, is_own_code_legal, has_required_codes}
 use Rattle.bus_legal.specs.Legal.{is_legal}
 use Rattle.bus_legal.specs.Meaning.{description_of}
 use Rattle.bus_legal.specs.Reach.{is_heard}

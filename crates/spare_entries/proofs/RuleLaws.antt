@@ -8,9 +8,9 @@ use Rattle.bus_word.specs.declared.cell.Cell.TheVariants as cell
 use Rattle.bus_word.specs.Cell.{is_data_place}
 use Rattle.bus_word.specs.Mask.{has_bit}
 use Rattle.bus_word.proofs.Places.{place_low, place_high}
-use Rattle.profile_types.specs.declared.entries.Rule.{Rule}
-use Rattle.profile_types.specs.declared.profile.Profile.{Profile}
-use Rattle.profile_types.specs.Last.{last_of}
+use Rattle.bus_legal.specs.declared.entries.Rule.{Rule}
+use Rattle.bus_legal.specs.declared.profile.Profile.{Profile}
+use Rattle.bus_legal.specs.Last.{last_of}
 use Rattle.bus_legal.specs.Legal.{is_legal, rule_says}
 use Rattle.bus_legal.specs.Meaning.{description_of}
 use Rattle.bus_legal.specs.Reach.{is_heard}

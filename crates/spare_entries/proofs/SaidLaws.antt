@@ -5,7 +5,7 @@ use Rattle.bus_legal.proofs.Last.{last_of-take}
 use Rattle.std.specs.List.{list_any}
 use Rattle.std.proofs.lemmas.Nat.{and_le_r}
 use Rattle.std.proofs.lemmas.List.{drop-map, get_or-map, length-map}
-use Rattle.profile_types.specs.Last.{last_of}
+use Rattle.bus_legal.specs.Last.{last_of}
 use Rattle.bus_word.specs.Mask.{has_bit}
 use Rattle.bus_legal.proofs.Bits.{has_bit-and}
 use Rattle.spare_entries.specs.declared.said.Said.{Said}

@@ -9,8 +9,8 @@ use Rattle.bus_word.specs.declared.cell.Cell.TheVariants.{OwnTransmit}
 use Rattle.bus_word.specs.Cell.{is_data_place}
 use Rattle.bus_word.specs.Mask.{has_bit}
 use Rattle.bus_word.proofs.Places.{place_from}
-use Rattle.profile_types.specs.declared.entries.InitialWords.{InitialWords}
-use Rattle.profile_types.specs.declared.profile.Profile.{Profile}
+use Rattle.bus_legal.specs.declared.entries.InitialWords.{InitialWords}
+use Rattle.bus_legal.specs.declared.profile.Profile.{Profile}
 use Rattle.bus_legal.specs.declared.tables.Tables.{Tables}
 use Rattle.bus_legal.specs.Initial.{gives_number, gives, word_given, initial_word}
 use Rattle.bus_legal.specs.Legal.{is_legal}

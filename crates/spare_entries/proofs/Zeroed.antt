@@ -1,7 +1,7 @@
 -- An initial entry with 0 at a word is one.
 use Rattle.std.proofs.Common.{◌≡◌, ◌≤◌, ◌+◌, ℕ, List, length, set, length-set, subst, sym, ◌∙◌, ap, refl}
 use Rattle.std.proofs.Props.{props}
-use Rattle.profile_types.specs.declared.entries.InitialWords.{InitialWords}
+use Rattle.bus_legal.specs.declared.entries.InitialWords.{InitialWords}
 use Rattle.spare_entries.specs.Without.{IsZeroed}
 
 abbrev Bounds : ℕ → ℕ → ℕ → List ℕ → Type 0

@@ -2,8 +2,8 @@
 use Rattle.std.specs.Prelude.{◌≡◌, ◌≢◌, ◌<◌, ◌⊎◌, ℕ, Bool, true, not, ◌==◌, IsFalse, HoldsAt, List, [], ◌∷◌, ◌++◌, map, flat_map, length, slice_index}
 use Rattle.std.specs.List.{range_with_len}
 use Rattle.bus_word.specs.Command.{wraparound_subaddress}
-use Rattle.profile_types.specs.declared.entries.InitialWords.{InitialWords}
-use Rattle.profile_types.specs.declared.profile.Profile.{Profile}
+use Rattle.bus_legal.specs.declared.entries.InitialWords.{InitialWords}
+use Rattle.bus_legal.specs.declared.profile.Profile.{Profile}
 use Rattle.bus_legal.specs.Meaning.{description_of}
 use Rattle.terminal_rules.specs.Same.{Same}
 use Rattle.spare_entries.specs.declared.spare.Setting.{Setting}

@@ -1,9 +1,9 @@
 -- What a profile describes without one of its entries, keys or words.
 use Rattle.std.specs.Prelude.{◌≡◌, ◌↔◌, ℕ, suc, Bool, false, List, take, drop, ◌++◌, set, HoldsAt, IsTrue}
 use Rattle.bus_word.specs.Command.{wraparound_subaddress}
-use Rattle.profile_types.specs.declared.entries.InitialWords.{InitialWords}
-use Rattle.profile_types.specs.declared.profile.Profile.{Profile}
-use Rattle.profile_types.specs.OwnCodes.{has_required_codes}
+use Rattle.bus_legal.specs.declared.entries.InitialWords.{InitialWords}
+use Rattle.bus_legal.specs.declared.profile.Profile.{Profile}
+use Rattle.bus_legal.specs.OwnCodes.{has_required_codes}
 use Rattle.bus_legal.specs.Description.{Description}
 use Rattle.bus_legal.specs.Initial.{initial_word}
 use Rattle.bus_legal.specs.Legal.{is_legal}

@@ -1,6 +1,6 @@
 //! What only calls show of the terminal, of scripts and of recordings: values that have no text, devices that fail, the numbers and names
-//! of faults, a terminal that no profile describes. What the programs answer to texts is tested by `scripts/texts.py` and
-//! `scripts/tool.sh`. Tests have crates of their own, since a crate with tests is proved twice.
+//! of faults, a terminal that no profile describes. What the programs answer to texts is tested by `tests/test_texts.py`
+//! and `tests/test_tool_*.py`. Tests have crates of their own, since a crate with tests is proved twice.
 #![tactic(auto)]
 
 #[cfg(test)]

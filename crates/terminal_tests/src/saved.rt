@@ -1,11 +1,11 @@
 //! Saved states: what is written of a terminal, and that it goes on from there.
-ghost use Rattle.saved_states.specs.State.{IsMade};
+ghost use Rattle.rt1553_live.specs.State.{IsMade};
 
 use bus_legal::Normal;
 use bus_terminal::{Answer, Event, Terminal};
 use bus_word::{Bus, Kind, Raw};
 use rt1553::load;
-use saved_states::{StateFault, restore, save};
+use rt1553_live::{StateFault, restore, save};
 use std::test::Fail;
 
 /// What stands in front of the words held ready, where two words of a message at subaddress 3 were received on bus B.

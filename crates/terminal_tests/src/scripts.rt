@@ -9,8 +9,9 @@ ghost use Rattle.std.specs.Prelude.{None, true, false};
 
 use super::terminals::{Every, equipped};
 use arrayvec::ArrayVec;
-use bus_script::{IoFailed, MemorySink, MemorySource, RunFault, Sink, run_script};
+use bus_script::{RunFault, run_script};
 use bus_terminal::Terminal;
+use byte_streams::{IoFailed, MemorySink, MemorySource, Sink};
 
 /// A script of six events with two answers.
 const ANSWERED: &[u8] = b"A c 2c02\nA gap\nslot\nA c 2c02\nA gap\nslot\n";

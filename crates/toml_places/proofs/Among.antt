@@ -4,7 +4,7 @@ use Rattle.std.specs.List.{slice_get}
 use Rattle.std.proofs.lemmas.List.{drop_more}
 use Rattle.std.specs.Borrow.{Bor}
 use Rattle.toml.specs.Data.{same_key}
-use Rattle.toml_statements.specs.declared.statement.Statement.{Statement}
+use Rattle.toml_places.specs.declared.statement.Statement.{Statement}
 use Rattle.toml_places.specs.Search.{entries_from}
 use Rattle.toml_places.specs.Statements.{whole_names}
 use Rattle.toml_places.specs.Besides.{is_one_of, name_besides, names_behind, item_besides}

@@ -2,7 +2,7 @@
 use Rattle.std.proofs.Common.{◌≡◌, ◌<◌, ◌+◌, ℕ, suc, Bool, true, false, List, ◌∷◌, take, length, Option, Some, option_map, refl, ap, ◌∙◌, arith}
 use Rattle.toml.specs.Data.{Members}
 use Rattle.toml.specs.Tables.{Expression, Document, Node, Nodes, get_node, close, close_node, define}
-use Rattle.toml_statements.specs.Statements.{defined}
+use Rattle.toml_places.specs.Parsed.{defined}
 use Rattle.toml_places.specs.Places.{is_there, entry_there}
 use Rattle.toml_places.proofs.Writes.{get_member-close}
 

@@ -5,7 +5,7 @@ use Rattle.std.proofs.Math.Dec.{eqb-suc-zero}
 use Rattle.std.proofs.lemmas.Option.{none-some, same_Some}
 use Rattle.toml.specs.Data.{table, Items, no_items, push_item, get_item, same_key}
 use Rattle.toml.specs.Tables.{Expression, Document, Nodes, no_nodes, open_array, get_node, close, define}
-use Rattle.toml_statements.specs.Statements.{defined}
+use Rattle.toml_places.specs.Parsed.{defined}
 use Rattle.toml_places.specs.Places.{is_there}
 use Rattle.toml_places.specs.Search.{key_from, whole_from, name_from, in_item_from, item_from, either}
 use Rattle.toml_places.proofs.Writes.{same_key-exact}

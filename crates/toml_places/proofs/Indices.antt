@@ -9,10 +9,10 @@ use Rattle.toml_parser.specs.Reading.{key_view}
 use Rattle.toml_parser.specs.Strings.{Key}
 use Rattle.toml.specs.Data.{Members}
 use Rattle.toml.specs.Tables.{no_nodes, Expression}
-use Rattle.toml_statements.specs.declared.statement.Statement.{Statement}
-use Rattle.toml_statements.specs.declared.statement.StatementKind.{StatementKind}
-use Rattle.toml_statements.specs.declared.statement.StatementKind.TheVariants.{Pair, Table, Entry}
-use Rattle.toml_statements.specs.Statements.{parts, names_with_kinds, section_after}
+use Rattle.toml_places.specs.declared.statement.Statement.{Statement}
+use Rattle.toml_places.specs.declared.statement.StatementKind.{StatementKind}
+use Rattle.toml_places.specs.declared.statement.StatementKind.TheVariants.{Pair, Table, Entry}
+use Rattle.toml_places.specs.Parsed.{parts, names_with_kinds, section_after}
 use Rattle.toml_places.specs.Places.{is_there, IsGivenBy, head}
 use Rattle.toml_places.specs.Search.{Named, kind_is_entry, gives_whole, adds_entry, whole_from, entries_from, in_item_from, item_from, index_of_key, index_of_item}
 use Rattle.toml_places.specs.Statements.{named_in, named_statement, section_behind, whole_names, name_behind, IsPlace}

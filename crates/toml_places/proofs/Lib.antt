@@ -1,3 +1,7 @@
+pub mod Faults
+pub mod Turns
+pub mod TreeLaws
+pub mod Listing
 pub mod Among
 pub mod Writes
 pub mod Steps

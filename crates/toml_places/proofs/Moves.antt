@@ -5,8 +5,8 @@ use Rattle.std.proofs.lemmas.Option.{none-some, same_Some}
 use Rattle.toml.specs.Data.{Data, table, Items, no_items, push_item, same_key}
 use Rattle.toml.specs.Tables.{Definition, key_value, std_table, array_table, Expression, Document, Node, Nodes, no_nodes, value, open_table, open_array, implicit, dotted, header, get_node, close, define}
 use Rattle.toml.proofs.NodeLaws.{same_key-self}
-use Rattle.toml_statements.specs.declared.statement.StatementKind.{StatementKind}
-use Rattle.toml_statements.specs.Statements.{defined, statement_kind, names_with_kinds, whole_name}
+use Rattle.toml_places.specs.declared.statement.StatementKind.{StatementKind}
+use Rattle.toml_places.specs.Parsed.{defined, statement_kind, names_with_kinds, whole_name}
 use Rattle.toml_places.specs.Places.{head}
 use Rattle.toml_places.specs.Search.{Named, begins_key, begins_both, is_alone, kind_is_pair, kind_is_entry, gives_whole, adds_entry}
 use Rattle.toml_places.proofs.Writes.{Writes, same_key-exact}

@@ -8,8 +8,8 @@ use Rattle.toml.specs.Data.{same_key}
 use Rattle.toml.specs.Tables.{no_nodes}
 use Rattle.toml.proofs.NodeLaws.{same_key-self}
 use Rattle.toml_parser.specs.Reading.{key_view}
-use Rattle.toml_statements.specs.declared.statement.Statement.{Statement}
-use Rattle.toml_statements.specs.Statements.{parts, names_with_kinds}
+use Rattle.toml_places.specs.declared.statement.Statement.{Statement}
+use Rattle.toml_places.specs.Parsed.{parts, names_with_kinds}
 use Rattle.toml_places.specs.Besides.{is_one_of, besides, key_besides, part_behind, name_besides, names_behind}
 use Rattle.toml_places.specs.Law.{NoOtherKey, NoOtherName, OtherKey, OtherName}
 use Rattle.toml_places.specs.Places.{head}

@@ -3,7 +3,7 @@ use Rattle.std.proofs.Common.{◌≡◌, ℕ, suc, List, [], ◌∷◌, Some, No
 use Rattle.std.proofs.lemmas.Option.{none-some, same_Some}
 use Rattle.toml.specs.Data.{Data, Items, get_item}
 use Rattle.toml.specs.Tables.{Expression, Document, Node, Nodes, no_nodes, value, open_array, get_node}
-use Rattle.toml_statements.specs.Statements.{defined}
+use Rattle.toml_places.specs.Parsed.{defined}
 use Rattle.toml_places.specs.Search.{whole_from}
 use Rattle.toml_places.proofs.Steps.{IsTable}
 use Rattle.toml_places.proofs.Moves.{names_after, NoItems, elsewhere, whole, first, next, tables, inside, step}

@@ -4,7 +4,7 @@ use Rattle.std.proofs.lemmas.Option.{none-some, same_Some}
 use Rattle.toml_parser.specs.Strings.{Key}
 use Rattle.toml.specs.Data.{Data, Items}
 use Rattle.toml.specs.Tables.{Definition, key_value, std_table, array_table, Document, Node, Nodes, no_nodes, value, open_table, open_array, Origin, implicit, dotted, header, get_node, insert, replace, Edit, header_node, dot_node, by_header, by_dot, along_header, along_dots, at_found, at_key, new_node, redefine, put, define}
-use Rattle.toml_statements.specs.Statements.{statement_kind, parts, whole_name, section_after}
+use Rattle.toml_places.specs.Parsed.{statement_kind, parts, whole_name, section_after}
 use Rattle.toml_places.proofs.Writes.{Writes, writes_insert, writes_replace}
 
 abbrev pub IsTable : Node → Type 0

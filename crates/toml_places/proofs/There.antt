@@ -5,9 +5,9 @@ use Rattle.std.proofs.Math.Dec.{eqb-suc-zero}
 use Rattle.std.proofs.lemmas.Option.{none-some, same_Some}
 use Rattle.toml.specs.Data.{table, Items, no_items, push_item, same_key}
 use Rattle.toml.specs.Tables.{Expression, Document, Node, Nodes, no_nodes, value, open_table, open_array, get_node, close}
-use Rattle.toml_statements.specs.declared.statement.StatementKind.{StatementKind}
-use Rattle.toml_statements.specs.declared.statement.StatementKind.TheVariants.{Pair, Table, Entry}
-use Rattle.toml_statements.specs.Statements.{defined}
+use Rattle.toml_places.specs.declared.statement.StatementKind.{StatementKind}
+use Rattle.toml_places.specs.declared.statement.StatementKind.TheVariants.{Pair, Table, Entry}
+use Rattle.toml_places.specs.Parsed.{defined}
 use Rattle.toml_places.specs.Search.{gives_whole, adds_entry, key_from, name_from, in_item_from, item_from}
 use Rattle.toml_places.proofs.Writes.{same_key-exact}
 use Rattle.toml_places.proofs.Steps.{IsTable}

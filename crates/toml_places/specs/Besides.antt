@@ -3,8 +3,8 @@ use Rattle.std.specs.Prelude.{ℕ, Bool, true, false, ◌||◌, if◌then◌else
 use Rattle.std.specs.List.{slice_get}
 use Rattle.toml.specs.Data.{same_key}
 use Rattle.toml_parser.specs.Reading.{key_view}
-use Rattle.toml_statements.specs.declared.statement.Statement.{Statement}
-use Rattle.toml_statements.specs.Statements.{parts}
+use Rattle.toml_places.specs.declared.statement.Statement.{Statement}
+use Rattle.toml_places.specs.Parsed.{parts}
 use Rattle.toml_places.specs.Search.{Named, begins_key, adds_entry, entries_from}
 use Rattle.toml_places.specs.Statements.{named_in, whole_names}
 

@@ -2,8 +2,8 @@
 use Rattle.std.specs.Prelude.{◌≡◌, ℕ, Bool, true, false, List, [], map, Option, Some, None}
 use Rattle.toml.specs.Data.{Members}
 use Rattle.toml.specs.Tables.{no_nodes, close, Expression, Document}
-use Rattle.toml_statements.specs.declared.statement.Statement.{Statement}
-use Rattle.toml_statements.specs.Statements.{defined}
+use Rattle.toml_places.specs.declared.statement.Statement.{Statement}
+use Rattle.toml_places.specs.Parsed.{defined}
 use Rattle.toml_places.specs.Besides.{is_one_of, key_besides, item_besides}
 use Rattle.toml_places.specs.Places.{head, is_there}
 use Rattle.toml_places.specs.Search.{whole_from}

@@ -1,3 +1,7 @@
+pub mod Parsed
+pub mod Found
+pub mod StatementsLaw
+pub mod inner
 pub mod Besides
 pub mod Law
 pub mod Places

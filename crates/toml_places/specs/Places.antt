@@ -3,8 +3,8 @@ use Rattle.std.specs.Prelude.{◌≡◌, ◌<◌, ℕ, suc, Bool, true, false, L
 use Rattle.toml_parser.specs.Strings.{Key}
 use Rattle.toml.specs.Data.{Data, Members, get, at, get_member}
 use Rattle.toml.specs.Tables.{no_nodes, close, Expression, Document}
-use Rattle.toml_statements.specs.Statements.{defined, statement_kind}
-use Rattle.toml_statements.specs.declared.statement.StatementKind.{StatementKind}
+use Rattle.toml_places.specs.Parsed.{defined, statement_kind}
+use Rattle.toml_places.specs.declared.statement.StatementKind.{StatementKind}
 
 -- the value is there, with such a key
 abbrev pub name_there : Option (List ℕ) → Option Data → Bool

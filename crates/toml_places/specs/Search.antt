@@ -1,8 +1,8 @@
 -- Where whole names of statements stand that begin with a key of the root, and those that are that key alone.
 use Rattle.std.specs.Prelude.{ℕ, suc, ◌-◌, Bool, true, false, ◌&&◌, ◌==◌, if◌then◌else◌, List, [], ◌∷◌, Option, Some, None}
 use Rattle.toml.specs.Data.{same_key}
-use Rattle.toml_statements.specs.declared.statement.StatementKind.{StatementKind}
-use Rattle.toml_statements.specs.declared.statement.StatementKind.TheVariants.{Pair, Entry}
+use Rattle.toml_places.specs.declared.statement.StatementKind.{StatementKind}
+use Rattle.toml_places.specs.declared.statement.StatementKind.TheVariants.{Pair, Entry}
 
 -- the whole name of a statement, and its kind
 abbrev pub Named : Type 0

@@ -6,9 +6,9 @@ use Rattle.toml.specs.Tables.{no_nodes, close, Expression, Document}
 use Rattle.toml_parser.specs.declared.key.Key as code
 use Rattle.toml_parser.specs.Strings.{Key}
 use Rattle.toml_parser.specs.Reading.{key_view}
-use Rattle.toml_statements.specs.declared.statement.Statement.{Statement}
-use Rattle.toml_statements.specs.declared.statement.StatementKind.{StatementKind}
-use Rattle.toml_statements.specs.Statements.{defined, parts, whole_name, section_after, names_with_kinds}
+use Rattle.toml_places.specs.declared.statement.Statement.{Statement}
+use Rattle.toml_places.specs.declared.statement.StatementKind.{StatementKind}
+use Rattle.toml_places.specs.Parsed.{defined, parts, whole_name, section_after, names_with_kinds}
 use Rattle.toml_places.specs.Places.{head, IsGivenBy}
 use Rattle.toml_places.specs.Search.{Named, name_from}
 

@@ -5,10 +5,10 @@ ghost use Rattle.toml_places.specs.Besides.{item_besides};
 ghost use Rattle.toml_places.specs.Search.{whole_from, entries_from, index_of_item};
 ghost use Rattle.toml_places.specs.Statements.{whole_names, name_behind, IsPlace};
 
+use crate::Statement;
 use crate::besides::name_besides;
 use crate::names::{adds_entry, begins_both, gives_whole, header_after};
 use std::alloc::{AllocError, Global};
-use toml_statements::Statement;
 
 /// The statements that give the items of an array at a key of the root, as `array_places` finds them.
 #[derive(Drop)]

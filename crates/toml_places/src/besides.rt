@@ -3,8 +3,8 @@ ghost use Rattle.std.specs.Prelude.{◌≡◌, ◌<◌, drop, length, map, optio
 ghost use Rattle.toml_places.specs.Besides.{is_one_of, key_besides, name_besides, names_behind};
 ghost use Rattle.toml_places.specs.Statements.{whole_names};
 
+use crate::Statement;
 use crate::names::{adds_entry, begins_key, header_after, name_part};
-use toml_statements::Statement;
 
 /// Whether a name is one of these.
 fn is_one_of(name: &str, known: &[&str]) -> bool

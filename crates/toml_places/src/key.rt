@@ -4,8 +4,8 @@ ghost use Rattle.toml_places.specs.Places.{is_there};
 ghost use Rattle.toml_places.specs.Search.{index_of_key};
 ghost use Rattle.toml_places.specs.Statements.{whole_names, IsPlace};
 
+use crate::Statement;
 use crate::names::{begins_key, header_after};
-use toml_statements::Statement;
 
 /// The index of the first statement whose whole name begins with a key.
 fn first_with(statements: &[Statement], key: &str) -> Option<usize>

@@ -2,12 +2,12 @@
 ghost use Rattle.std.specs.Prelude.{◌≡◌, option_copied};
 ghost use Rattle.std.specs.List.{slice_get};
 ghost use Rattle.toml_parser.specs.Reading.{key_view};
-ghost use Rattle.toml_statements.specs.Statements.{parts};
+ghost use Rattle.toml_places.specs.Parsed.{parts};
 ghost use Rattle.toml_places.specs.Search.{part_is, begins_key, begins_both, is_alone, gives_whole, adds_entry};
 ghost use Rattle.toml_places.specs.Statements.{section_view, name_in, named_statement, section_behind};
 
+use crate::{Statement, StatementKind};
 use toml_parser::Key;
-use toml_statements::{Statement, StatementKind};
 
 /// The part of a key at an index, where it has one.
 fn part(key: &Key, index: usize) -> Option<&str>

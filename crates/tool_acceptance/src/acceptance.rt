@@ -7,7 +7,7 @@ ghost use Rattle.tool_files.specs.Status.{RefusesText};
 
 use ascii_json::named_json;
 use bus_legal::Normal;
-use bus_script::{FromWrite, Sink};
+use byte_streams::{FromWrite, Sink};
 use message_names::{MessageNames, quoted};
 use rt1553_acceptance::{Progress, write_acceptance};
 use rt1553_files::escaped;

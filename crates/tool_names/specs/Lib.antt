@@ -1,1 +1,4 @@
+pub mod Numbers
+pub mod Rows
+pub mod Names
 pub mod Named

@@ -2,7 +2,7 @@
 use Rattle.std.specs.Prelude.{ℕ, List, Option, Some, None}
 use Rattle.std.specs.Borrow.{Bor}
 use Rattle.message_names.specs.NameRow.{NameRow}
-use Rattle.rt1553_names.specs.Names.{AreNamesOf}
+use Rattle.tool_names.specs.Names.{AreNamesOf}
 
 -- without a table there are no names, and with one they are those of a text that is a table without faults
 abbrev pub AreLoadedNames : Option (Bor (List ℕ)) → Option (List NameRow) → Type 0

@@ -1,8 +1,12 @@
-//! Tables of documents, for the commands of `rt1553-tool` that take them: the names of messages, and why a table is refused.
+//! The names of messages, from the tables of interface control documents, for the commands of `rt1553-tool` that take one.
 #![tactic(auto)]
 
 mod names;
+mod numbers;
+mod reading;
+mod rows;
 mod table;
 
 pub use names::{load_names, name_of_command};
+pub use reading::names_in;
 pub use table::table_fault;

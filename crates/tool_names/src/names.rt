@@ -2,12 +2,12 @@
 ghost use Rattle.std.specs.Prelude.{IfOk};
 ghost use Rattle.tool_names.specs.Named.{AreLoadedNames};
 
+use crate::names_in;
 use crate::table::table_fault;
 use bus_word::{Command, cell_of};
 use message_names::MessageNames;
 use rt1553::load;
 use rt1553_import::import_table;
-use rt1553_names::names_in;
 use std::rt::Files;
 use tool_files::{ToolFault, read_tool_profile, shown};
 

@@ -1,8 +1,8 @@
 //! The command `live`: lines are played as they come.
 ghost use Rattle.std.specs.Prelude.{◌≡◌, IfOk};
 
-use bus_script::{FromRead, FromWrite};
 use bus_terminal::Terminal;
+use byte_streams::{FromRead, FromWrite};
 use rt1553_tool::{ServeFault, serve};
 use std::io::{BufReader, Read, Write};
 use std::rt::Files;

@@ -1,8 +1,7 @@
 //! The command `recording`: the table of a monitor as the recording of a terminal.
 ghost use Rattle.std.specs.Prelude.{◌≡◌, IfOk};
 
-use bus_script::FromWrite;
-use byte_streams::Sink;
+use byte_streams::{FromWrite, Sink};
 use monitor_cells::{RecordingSetup, read_time};
 use monitor_tables::{LeftOutColumn, MonitorFault, open_table, write_recording};
 use rt1553_files::{FileFault, open_file};

@@ -1,7 +1,7 @@
 //! The command `words`: words of a bus by their fields and by their digits.
 ghost use Rattle.std.specs.Prelude.{◌≤◌, IfOk};
 
-use bus_script::{FromRead, FromWrite};
+use byte_streams::{FromRead, FromWrite};
 use rt1553_tool::{ServeFault, answer_words};
 use std::io::{BufReader, Read, Write};
 use tool_files::{DIFFERENT, ToolFault};

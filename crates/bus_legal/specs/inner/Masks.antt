@@ -3,10 +3,10 @@ use Rattle.std.specs.Prelude.{◌≡◌, ℕ, ◌<◌, Bool, false, ◌&&◌, Li
 use Rattle.bus_word.specs.Cell.{allows_broadcast}
 use Rattle.bus_word.specs.Mask.{has_bit}
 use Rattle.bus_word.specs.Mode.{mode_row}
-use Rattle.profile_types.specs.declared.entries.Rule.{Rule}
-use Rattle.profile_types.specs.declared.entries.ModeRule.{ModeRule}
-use Rattle.profile_types.specs.Last.{last_of}
-use Rattle.profile_types.specs.OwnCodes.{mode_says}
+use Rattle.bus_legal.specs.declared.entries.Rule.{Rule}
+use Rattle.bus_legal.specs.declared.entries.ModeRule.{ModeRule}
+use Rattle.bus_legal.specs.Last.{last_of}
+use Rattle.bus_legal.specs.OwnCodes.{mode_says}
 use Rattle.bus_legal.specs.Legal.{rule_says, contains_broadcast}
 
 -- the bits of a table are as said: for each mask, from 0, and each of its 32 bits

@@ -10,13 +10,13 @@ ghost use Rattle.bus_legal.specs.Tables.{tables_say, is_own_mask, is_broadcast_m
 ghost use Rattle.bus_legal.specs.Parts.{description_in, IsBlock, AreWords};
 
 use super::Normal;
+use crate::Profile;
 use crate::initial::put_initial;
 use crate::masks::largest_count;
 use crate::setup::Setup;
 use crate::tables::Tables;
 use bus_word::has_bit;
 use bus_word::mode::{BIT_WORD, DYNAMIC_BUS_CONTROL, VECTOR_WORD};
-use profile_types::Profile;
 
 /// Gives the masks of what a profile makes legal, without broadcast cells where its terminal hears none.
 fn heard_tables(profile: &Profile) -> Tables

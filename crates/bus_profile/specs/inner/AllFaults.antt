@@ -3,7 +3,7 @@ use Rattle.std.specs.Prelude.{ℕ, Bool, not, List, [], ◌∷◌, ◌++◌, Opt
 use Rattle.toml.specs.Data.{Data, Members, as_array}
 use Rattle.bus_profile.specs.declared.entry_faults.EntryKind.{EntryKind}
 use Rattle.bus_profile.specs.declared.entry_faults.EntryKind.TheVariants as kind
-use Rattle.profile_types.specs.declared.entries.ModeRule.{ModeRule}
+use Rattle.bus_legal.specs.declared.entries.ModeRule.{ModeRule}
 use Rattle.bus_profile.specs.declared.fault.Key.{Key}
 use Rattle.bus_profile.specs.declared.fault.Key.TheVariants as key
 use Rattle.bus_profile.specs.declared.fault.Part.{Part}
@@ -15,7 +15,7 @@ use Rattle.bus_profile.specs.Checks.{Check, first_fault}
 use Rattle.bus_profile.specs.Keys.{KeyRow, keys_of, address_row, broadcast_row, wraparound_row, accept_row, vector_row, bit_row, rules_key, modes_key, initials_key, to_row, direction_row, subaddresses_row, counts_row, legal_row, codes_row, subaddress_row, at_row, words_row, rule_rows, mode_rows, initial_rows}
 use Rattle.bus_profile.specs.Kinds.{has_unknown}
 use Rattle.bus_profile.specs.Faults.{row_checks, entry_checks, words_checks}
-use Rattle.profile_types.specs.OwnCodes.{is_own_code_legal}
+use Rattle.bus_legal.specs.OwnCodes.{is_own_code_legal}
 use Rattle.bus_profile.specs.AllFaults.{failing}
 
 -- the faults of several parts, one after the other

@@ -2,8 +2,8 @@
 use Rattle.std.specs.Prelude.{ℕ, not, List, Option}
 use Rattle.std.specs.List.{find}
 use Rattle.bus_word.specs.Mode.{required_codes}
-use Rattle.profile_types.specs.declared.entries.ModeRule.{ModeRule}
-use Rattle.profile_types.specs.OwnCodes.{is_own_code_legal}
+use Rattle.bus_legal.specs.declared.entries.ModeRule.{ModeRule}
+use Rattle.bus_legal.specs.OwnCodes.{is_own_code_legal}
 
 -- the least of those codes that isn't
 abbrev pub missing_code : List ModeRule → Option ℕ

@@ -34,8 +34,8 @@ use denote.Triple.Spec.{triple_of}
 use denote.Triple.Walked.{Stays, walk_of, stay_dropped, gave_ref, gave_slice, Goes-dropped, Goes-gave_ref, Goes-gave_slice}
 use denote.Triple.Table.{framed}
 use Rattle.std.specs.contracts.alloc.Global as heap
-use Rattle.saved_states.specs.State.{state_of}
-use Rattle.saved_states.specs.Text.{StateText}
+use Rattle.rt1553_live.specs.State.{state_of}
+use Rattle.rt1553_live.specs.Text.{StateText}
 use Rattle.rt1553_live.specs.declared.terminal.Live.{Live}
 use Rattle.rt1553_live.specs.contracts.terminal.Live.{the_row}
 use Rattle.rt1553_live.specs.contracts.fault.PlainFault as fault

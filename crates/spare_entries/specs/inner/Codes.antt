@@ -3,10 +3,10 @@ use Rattle.std.specs.Prelude.{◌≡◌, ℕ, ◌<◌, Bool, true, false, ◌&&�
 use Rattle.bus_word.specs.Cell.{allows_broadcast}
 use Rattle.bus_word.specs.Mask.{has_bit}
 use Rattle.bus_word.specs.Mode.{mode_row, is_required_code}
-use Rattle.profile_types.specs.declared.entries.ModeRule.{ModeRule}
-use Rattle.profile_types.specs.declared.profile.Profile.{Profile}
-use Rattle.profile_types.specs.Last.{last_of}
-use Rattle.profile_types.specs.OwnCodes.{mode_says}
+use Rattle.bus_legal.specs.declared.entries.ModeRule.{ModeRule}
+use Rattle.bus_legal.specs.declared.profile.Profile.{Profile}
+use Rattle.bus_legal.specs.Last.{last_of}
+use Rattle.bus_legal.specs.OwnCodes.{mode_says}
 use Rattle.spare_entries.specs.declared.said.Said.{Said}
 use Rattle.spare_entries.specs.declared.modes.CodeTable.{CodeTable}
 use Rattle.spare_entries.specs.declared.modes.CodeTable.TheVariants.{Own, Broadcast}

@@ -2,9 +2,9 @@
 use Rattle.std.specs.Prelude.{◌≡◌, ℕ, suc, ◌<◌, Bool, true, not, ◌&&◌, if◌then◌else◌, List, length, get_or, drop, HoldsAt, Option, Some, None}
 use Rattle.std.specs.List.{list_any}
 use Rattle.bus_word.specs.Mask.{has_bit}
-use Rattle.profile_types.specs.declared.entries.Rule.{Rule}
-use Rattle.profile_types.specs.declared.profile.Profile.{Profile}
-use Rattle.profile_types.specs.Last.{last_of}
+use Rattle.bus_legal.specs.declared.entries.Rule.{Rule}
+use Rattle.bus_legal.specs.declared.profile.Profile.{Profile}
+use Rattle.bus_legal.specs.Last.{last_of}
 use Rattle.bus_legal.specs.inner.Masks.{bit_said}
 use Rattle.spare_entries.specs.declared.said.Said.{Said}
 use Rattle.spare_entries.specs.declared.rules.Table.{Table}

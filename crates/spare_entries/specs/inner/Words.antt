@@ -3,7 +3,7 @@ use Rattle.std.specs.Prelude.{◌≡◌, ◌↔◌, ℕ, suc, ◌<◌, ◌+◌, 
 use Rattle.std.specs.List.{list_any}
 use Rattle.bus_word.specs.Cell.{is_data_place}
 use Rattle.bus_word.specs.Mask.{has_bit}
-use Rattle.profile_types.specs.declared.entries.InitialWords.{InitialWords}
+use Rattle.bus_legal.specs.declared.entries.InitialWords.{InitialWords}
 use Rattle.bus_legal.specs.Initial.{gives, initial_word}
 use Rattle.bus_legal.specs.Tables.{largest_in}
 use Rattle.spare_entries.specs.declared.initials.InitialSpares.{InitialSpares}

@@ -2,7 +2,8 @@
 ghost use Rattle.std.specs.Prelude.{◌≤◌};
 
 use super::terminal;
-use bus_script::{MemorySink, MemorySource, run_script};
+use bus_script::run_script;
+use byte_streams::{MemorySink, MemorySource};
 use std::test::Fail;
 
 /// In each row a name, the number of events, and the script, with `;` for its line feeds.

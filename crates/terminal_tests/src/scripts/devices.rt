@@ -2,7 +2,8 @@
 ghost use Rattle.std.specs.Prelude.{None};
 
 use super::{ANSWERED, terminal};
-use bus_script::{FromRead, FromWrite, RunFault, Sink, Source, run_script, write_all};
+use bus_script::{RunFault, run_script};
+use byte_streams::{FromRead, FromWrite, Sink, Source, write_all};
 use std::alloc::{AllocError, Global};
 use std::io::{self, ErrorKind, Read, Write};
 

@@ -1,7 +1,7 @@
 //! Events and the lines that mean them.
-use bus_script::{read_event, write_event};
 use bus_terminal::{Event, Flag, WordPlace};
 use bus_word::{Bus, Kind, Raw};
+use script_lines::{read_event, write_event};
 use std::process::Abort;
 
 /// The line means the event, and is written for it.

@@ -1,7 +1,8 @@
 //! Slots one after another, which are played in one go while they send words of a subaddress.
 use super::terminal;
 use arrayvec::ArrayString;
-use bus_script::{MemorySink, MemorySource, RunFault, run_script};
+use bus_script::{RunFault, run_script};
+use byte_streams::{MemorySink, MemorySource};
 use std::alloc::AllocError;
 use std::process::Abort;
 

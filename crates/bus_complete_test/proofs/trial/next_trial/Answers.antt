@@ -1,7 +1,7 @@
 use Rattle.std.proofs.Common.{◌++◌, ap, sym, ◌∙◌, subst, arith}
 use Rattle.bus_legal.specs.Description.{Description}
 use Rattle.bus_legal.specs.Parts.{description_in}
-use Rattle.terminal_complete_test.specs.CompleteTest.{option_tried, transmit_tried, own_code_tried, wraparound_tried}
+use Rattle.bus_complete_test.specs.CompleteTest.{option_tried, transmit_tried, own_code_tried, wraparound_tried}
 use Rattle.bus_complete_test.specs.declared.trial.Trial.TheVariants.{BroadcastOption, Transmit, OwnCode, Wraparound}
 use Rattle.bus_complete_test.specs.Trials.{IsTrialInRange}
 use Rattle.bus_complete_test.proofs.TrialLaws.{by_trial, place_first, place_end, code_end, subaddress_next, subaddress_last, after_transmits, after_codes, receives_first, heard_first}

@@ -1,5 +1,5 @@
 use Rattle.std.proofs.Common.{◌≡◌, ◌<◌, ◌+◌, ℕ, [], get_or, take, length}
-use Rattle.profile_types.specs.Last.{last_of}
+use Rattle.bus_legal.specs.Last.{last_of}
 use Rattle.bus_legal.specs.Initial.{gives, word_given}
 use Rattle.bus_legal.specs.Parts.{AreWords}
 use Rattle.bus_legal.proofs.initial.put_initial.Given as goal

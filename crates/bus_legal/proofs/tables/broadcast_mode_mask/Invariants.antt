@@ -1,7 +1,7 @@
 use Rattle.std.proofs.Common.{◌≡◌, ◌<◌, ℕ, false, take}
-use Rattle.profile_types.specs.Last.{last_of}
+use Rattle.bus_legal.specs.Last.{last_of}
 use Rattle.bus_word.specs.Mask.{has_bit}
-use Rattle.profile_types.specs.OwnCodes.{mode_says}
+use Rattle.bus_legal.specs.OwnCodes.{mode_says}
 use Rattle.bus_legal.specs.Legal.{contains_broadcast}
 use Rattle.bus_legal.proofs.tables.broadcast_mode_mask.Given as goal
 

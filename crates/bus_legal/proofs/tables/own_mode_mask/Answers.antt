@@ -1,7 +1,7 @@
 use Rattle.std.proofs.Common.{◌≡◌, take, arith}
 use Rattle.std.proofs.lemmas.List.{take_all}
 use Rattle.bus_word.specs.Mode.{is_required_code}
-use Rattle.profile_types.specs.OwnCodes.{contains_own}
+use Rattle.bus_legal.specs.OwnCodes.{contains_own}
 use Rattle.bus_legal.proofs.TableSteps.{mode_says-take, codes-said, kept-twice, required_codes-bits, own_codes-bits}
 use Rattle.bus_legal.proofs.tables.own_mode_mask.Goals as goal
 

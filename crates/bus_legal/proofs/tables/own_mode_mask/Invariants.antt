@@ -1,8 +1,8 @@
 use Rattle.std.proofs.Common.{◌≡◌, ◌<◌, ℕ, take}
 use Rattle.bus_word.specs.Mode.{is_required_code}
-use Rattle.profile_types.specs.Last.{last_of}
+use Rattle.bus_legal.specs.Last.{last_of}
 use Rattle.bus_word.specs.Mask.{has_bit}
-use Rattle.profile_types.specs.OwnCodes.{contains_own, mode_says}
+use Rattle.bus_legal.specs.OwnCodes.{contains_own, mode_says}
 use Rattle.bus_legal.proofs.tables.own_mode_mask.Given as goal
 
 -- the mask is that of the mode entries so far

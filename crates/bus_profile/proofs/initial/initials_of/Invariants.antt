@@ -2,7 +2,7 @@ use Rattle.std.proofs.Common.{◌≡◌, ◌+◌, ◌++◌, length, drop, map}
 use Rattle.toml.specs.View.{items_view}
 use Rattle.bus_profile.specs.inner.FirstFault.{fault_of_parts}
 use Rattle.bus_profile.specs.Faults.{initial_checks, each_item}
-use Rattle.profile_types.specs.Plain.{plain_initial}
+use Rattle.bus_legal.specs.Plain.{plain_initial}
 use Rattle.bus_profile.specs.Gives.{initial_in, each_of}
 use Rattle.bus_profile.proofs.initial.initials_of.Given as goal
 

@@ -1,7 +1,7 @@
 use Rattle.std.proofs.Common.{◌≡◌, drop}
 use Rattle.bus_word.specs.Mode.{is_required_code}
-use Rattle.profile_types.specs.OwnCodes.{contains_own, mode_says}
-use Rattle.profile_types.specs.Last.{last_of}
+use Rattle.bus_legal.specs.OwnCodes.{contains_own, mode_says}
+use Rattle.bus_legal.specs.Last.{last_of}
 use Rattle.bus_profile.proofs.own_codes.is_own_code_legal.Given as goal
 
 -- what is left, over what was said so far, says what all the entries say

@@ -1,7 +1,7 @@
 use Rattle.std.proofs.Common.{◌≡◌, List, ◌++◌, length}
 use Rattle.bus_legal.specs.Parts.{description_in}
 use Rattle.terminal_exchanges.specs.Exchanges.{Exchange}
-use Rattle.terminal_complete_test.specs.CompleteTest.{tried}
+use Rattle.bus_complete_test.specs.CompleteTest.{tried}
 use Rattle.bus_complete_test.specs.Left.{exchanges_left}
 use Rattle.rt1553_acceptance.specs.inner.Puts.{Puts}
 use Rattle.rt1553_acceptance.proofs.writing.put_exchanges.Given as goal

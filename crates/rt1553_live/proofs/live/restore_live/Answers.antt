@@ -1,8 +1,8 @@
 use Rattle.std.proofs.Common.{◌≡◌, ap, sym, ◌∙◌, subst}
-use Rattle.saved_states.specs.State.{state_of}
-use Rattle.saved_states.specs.Text.{StateText}
-use Rattle.saved_states.proofs.StateLaws.{stands_alike}
-use Rattle.saved_states.proofs.TextLaws.{one_state}
+use Rattle.rt1553_live.specs.State.{state_of}
+use Rattle.rt1553_live.specs.Text.{StateText}
+use Rattle.rt1553_live.proofs.StateLaws.{stands_alike}
+use Rattle.rt1553_live.proofs.TextLaws.{one_state}
 use Rattle.rt1553_live.specs.PlainAnswer.{answer_in}
 use Rattle.rt1553_live.specs.Live.{AnswersAs}
 use Rattle.rt1553_live.proofs.live.restore_live.Goals as goal

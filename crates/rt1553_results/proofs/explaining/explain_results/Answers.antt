@@ -1,6 +1,6 @@
 use Rattle.std.proofs.Common.{◌<◌, ◌^◌, ◌∙◌, [], length, sym, subst, arith}
 use Rattle.bus_legal.specs.Parts.{description_in}
-use Rattle.terminal_complete_test.specs.CompleteTest.{tried}
+use Rattle.bus_complete_test.specs.CompleteTest.{tried}
 use Rattle.rt1553_results.specs.Results.{answer}
 use Rattle.rt1553_results.proofs.WholeLaws.{whole_decided, whole_first}
 use Rattle.rt1553_results.proofs.ExplainedLaws.{explains, tells_missing, rows_long}

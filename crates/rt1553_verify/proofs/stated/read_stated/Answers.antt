@@ -4,10 +4,10 @@ use Rattle.rt1553_verify.specs.Stated.{shown}
 use Rattle.rt1553_verify.proofs.StatedLaws.{stated_on, stated_stops, stated_many, stated_all, stated-read}
 use Rattle.rt1553_verify.proofs.stated.read_stated.Goals as goal
 
-pub returns-then-lines-eq-MAX_LINES-clause-refused : goal.returns-then-lines-eq-MAX_LINES-clause-refused
-returns-then-lines-eq-MAX_LINES-clause-refused c other =
+pub returns-then-lines-clause-refused : goal.returns-then-lines-clause-refused
+returns-then-lines-clause-refused c other =
     stated_many 1048576 c.loop-rest.lines c.loop-rest.rest.now c.first_line.result.0.now c.first_line.result.1.now (option_map shown c.loop-rest.latest) (map shown c.loop-rest.read.items) _
-    (omega (arith, c.if-lines-eq-MAX_LINES.true)) c.first_line.ensures.lines c.loop-rest.invariant.1
+    (omega (arith, c.if-lines.true)) c.first_line.ensures.lines c.loop-rest.invariant.1
 
 pub returns-in_err-known-clause-refused : goal.returns-in_err-known-clause-refused
 returns-in_err-known-clause-refused c =
@@ -15,14 +15,14 @@ returns-in_err-known-clause-refused c =
     let r = c.from_residual in
     let p = err_from_is_err_and r.result r.ensures.1 in
     rw (p.1, p.2) (λ other. stated_stops 1048576 c.loop-rest.lines c.loop-rest.rest.now c.first_line.result.0.now c.first_line.result.1.now (option_map shown c.loop-rest.latest) (map shown c.loop-rest.read.items) _ _
-    (omega (arith, i.0, c.if-lines-eq-MAX_LINES.false)) c.first_line.ensures.lines (c.in_err-known.ensures.refused other) i.1)
+    (omega (arith, i.0, c.if-lines.false)) c.first_line.ensures.lines (c.in_err-known.ensures.refused other) i.1)
 
 pub loop-rest-preserved : goal.loop-rest-preserved
 loop-rest-preserved c =
     let i = c.loop-rest.invariant in (
-      omega (arith, i.0, c.if-lines-eq-MAX_LINES.false),
+      omega (arith, i.0, c.if-lines.false),
       stated_on 1048576 c.loop-rest.lines c.loop-rest.rest.now c.first_line.result.0.now c.first_line.result.1.now _ _ (map shown c.loop-rest.read.items) _ _ _
-          (omega (arith, i.0, c.if-lines-eq-MAX_LINES.false)) c.first_line.ensures.lines c.in_ok-known.ensures.said c.in_ok-push_if.ensures i.1,
+          (omega (arith, i.0, c.if-lines.false)) c.first_line.ensures.lines c.in_ok-known.ensures.said c.in_ok-push_if.ensures i.1,
     )
 
 pub returns-clause-accepted : goal.returns-clause-accepted

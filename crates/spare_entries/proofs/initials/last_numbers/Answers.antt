@@ -1,7 +1,7 @@
 use Rattle.std.proofs.Common.{◌≡◌, ◌&&◌, not, suc, get_or, map, drop, ap, ◌∙◌, rules}
 use Rattle.std.specs.List.{list_any}
 use Rattle.bus_word.specs.Mask.{has_bit}
-use Rattle.profile_types.specs.declared.entries.InitialWords.{InitialWords}
+use Rattle.bus_legal.specs.declared.entries.InitialWords.{InitialWords}
 use Rattle.spare_entries.specs.inner.Words.{numbers_at}
 use Rattle.spare_entries.proofs.Marks.{written}
 use Rattle.spare_entries.proofs.SaidLaws.{bits_last}

@@ -1,6 +1,6 @@
 use Rattle.std.proofs.Common.{◌≡◌, ◌≢◌, ◌≤◌, get_or, sym, subst, ⊎_elim, arith}
 use Rattle.std.proofs.lemmas.Bool.{cases_lt}
-use Rattle.profile_types.specs.declared.entries.InitialWords.{InitialWords}
+use Rattle.bus_legal.specs.declared.entries.InitialWords.{InitialWords}
 use Rattle.spare_entries.specs.inner.Words.{IsMarked}
 use Rattle.spare_entries.proofs.WordSteps.{some_entry}
 use Rattle.spare_entries.proofs.initials.mark_all.Goals as goal

@@ -2,7 +2,7 @@ use Rattle.std.proofs.Common.{◌<◌, ◌↔◌, ℕ, IsTrue, HoldsAt, List, le
 use Rattle.bus_word.specs.Mask.{has_bit}
 use Rattle.bus_legal.specs.Meaning.{description_of}
 use Rattle.terminal_rules.specs.Same.{Same}
-use Rattle.profile_types.specs.declared.entries.InitialWords.{InitialWords}
+use Rattle.bus_legal.specs.declared.entries.InitialWords.{InitialWords}
 use Rattle.spare_entries.specs.declared.initials.InitialSpares.{InitialSpares}
 use Rattle.spare_entries.specs.Without.{without_initial, SparesWord}
 use Rattle.spare_entries.specs.inner.Words.{IsMarked}

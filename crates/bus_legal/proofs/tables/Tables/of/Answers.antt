@@ -4,8 +4,8 @@ use Rattle.bus_word.specs.declared.cell.Cell.{Cell}
 use Rattle.bus_word.specs.declared.cell.Cell.TheVariants.{OwnReceive, OwnTransmit, BroadReceive, OwnMode, BroadMode}
 use Rattle.bus_word.specs.Cell.{is_allowed, allows_broadcast}
 use Rattle.bus_word.specs.Mode.{mode_row, is_required_code}
-use Rattle.profile_types.specs.Last.{last_of}
-use Rattle.profile_types.specs.OwnCodes.{contains_own, mode_says}
+use Rattle.bus_legal.specs.Last.{last_of}
+use Rattle.bus_legal.specs.OwnCodes.{contains_own, mode_says}
 use Rattle.bus_legal.specs.declared.tables.Tables.{Tables}
 use Rattle.bus_legal.specs.Legal.{contains_broadcast, last_says, is_legal}
 use Rattle.bus_legal.specs.Tables.{tables_say}

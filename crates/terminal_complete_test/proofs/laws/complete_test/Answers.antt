@@ -1,5 +1,0 @@
-use Rattle.terminal_complete_test.proofs.Complete.{complete_test_law}
-use Rattle.terminal_complete_test.proofs.laws.complete_test.Goals as goal
-
-pub returns : goal.returns
-returns c = complete_test_law

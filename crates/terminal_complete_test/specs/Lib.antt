@@ -1,2 +1,0 @@
-pub use Rattle.bus_legal.specs.Description
-pub mod CompleteTest

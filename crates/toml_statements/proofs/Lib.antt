@@ -1,4 +1,0 @@
-pub mod Faults
-pub mod Turns
-pub mod TreeLaws
-pub mod Listing

@@ -1,4 +1,0 @@
-pub mod Statements
-pub mod Found
-pub mod Law
-pub mod inner
