@@ -8,8 +8,8 @@
 
 Each crate is proved from nothing by one `rattle build`, with the words that `rt ci` gives it, over the statements of the libraries below.
 As many run side by side as there are processors, or as RT_JOBS says, and 3 GiB of memory for each: first what rt1553 stands on,
-and of that what has most to prove above it, with two jobs on four processors. Processors for which no crate is ready become further
-jobs of the proofs that start.
+and of that what has most to prove above it, with two jobs on four processors, and each before the rest where processors are scarce
+(`nice`). Processors for which no crate is ready become further jobs of the proofs that start.
 
 What is proved is kept in ~/.cache/rt1553, or in the folder that RT1553_KEPT names. It has to be the user's own: who can write to it
 can have a build take what nobody proved.
@@ -239,11 +239,11 @@ class Progress:
 class Proof:
     """A proof that runs: the process, where it leaves what it makes, and the file of what it prints."""
 
-    def __init__(self, crate, jobs, made, kept, group):
+    def __init__(self, crate, jobs, nice, made, kept, group):
         self.crate, self.jobs, self.began, self.room, self.copy = crate, jobs, time.time(), kept.room(), kept.room()
         self.said = tempfile.TemporaryFile("w+", errors="replace")
         crate.copy(self.copy)
-        self.process = group.start(crate.words(made, self.room, jobs), cwd=self.copy, stdout=self.said)
+        self.process = group.start(["nice", "-n", str(nice), *crate.words(made, self.room, jobs)], cwd=self.copy, stdout=self.said)
 
     def end(self):
         """The exit status, what was printed and the cost, once it has ended; else None."""
@@ -313,9 +313,11 @@ class Build:
             # what the others don't need, rounded up; two for what the first program waits for, though that may be one more than are idle
             is_awaited = crate is self.left[0] and crate in self.first and self.processors >= 4
             jobs = min(4, max(-(-idle // (len(ready) - at)), 2 if is_awaited else 1))
+            # what the first program waits for has the processors before the rest
+            nice = 0 if is_awaited else 5 if crate in self.first else 10
             idle -= jobs
             self.left.remove(crate)
-            self.running.append(Proof(crate, jobs, self.made, self.kept, self.group))
+            self.running.append(Proof(crate, jobs, nice, self.made, self.kept, self.group))
 
     def end_of(self, proof, status, said, cost):
         """Judges a proof that has ended, and keeps what it made."""
