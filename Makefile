@@ -34,8 +34,9 @@ library: ## proves and builds the library for C, C++, Python and Rust: bin/libra
 	@python3 scripts/build.py library
 
 test: ## the gate: proves and tests everything; the last line is 'N passed, M failed'; TARGET=aarch64 tests what is for ARM64
-	@bash scripts/need.sh rt python3 pip3 cc c++ cargo objdump groff mandoc aspell vim dpkg-deb dpkg-shlibdeps git script
-	bash scripts/$(if $(TARGET),arm64,gate).sh
+	@bash scripts/need.sh rt python3 pytest-3 import:xdist import:jsonschema shellcheck pyflakes3 pip3 cc c++ cargo rustc objdump groff mandoc \
+	    aspell vim dpkg-deb dpkg-shlibdeps git script aarch64-linux-gnu-gcc aarch64-linux-gnu-g++ qemu-aarch64
+	$(if $(TARGET),pytest-3 -q tests/test_arm64.py,bash scripts/gate.sh)
 
 bench: ## the speed beside that of three programs in plain Rust; no test
 	@bash scripts/need.sh rt rustc python3

@@ -26,11 +26,11 @@ by() {
 }
 
 debootstrap --variant=minbase --include=python3 bookworm "$root" >"$work/log" || { cat "$work/log"; exit 1; }
-cp "$here/sessions.py" "$root/srv" && cp "$archive" "$root/home" && chown 1000:1000 "$root/home" || exit 1
+cp "$here/../tests/sessions.py" "$root/srv" && cp "$archive" "$root/home" && chown 1000:1000 "$root/home" || exit 1
 by 1000 /home "tar -xf ${archive##*/}"
-by 1000 "$top" 'python3 /srv/sessions.py in . README.txt README.md docs/tutorial.md'
+by 1000 "$top" 'python3 /srv/sessions.py . README.txt README.md docs/tutorial.md'
 by 0 / "$(grep -o 'apt-get install [^`]*' "$root$top/docs/library.md") --yes --no-install-recommends"
-by 1000 "$top" 'python3 /srv/sessions.py in . docs/library.md'
+by 1000 "$top" 'python3 /srv/sessions.py . docs/library.md'
 while read -r line; do by 1000 "$top" "$line"; done < <(grep -E '^    (gcc|PREFIX=|python3)' "$root$top/README.txt")
 by 0 "$top" 'bash scripts/install.sh install && ldconfig'
 # pkg-config runs in the root

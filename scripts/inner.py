@@ -1,16 +1,11 @@
-#!/usr/bin/env python3
-"""Whether who reads the public contracts can do without specs/inner.
-
-    scripts/inner.py [ROOT]
+"""Whether who reads the public contracts can do without specs/inner: a part of tests/test_sources.py.
 
 Looks at each clause, `ensures` or `requires`, of the functions that callers of a library can reach, and at each definition under
 its specs/ but outside specs/inner. None of them may cite a name that is imported from a specs/inner, of its own crate or another;
-what private functions say may. ROOT is the repository, by default the one of this script. Prints what cites such a name, and at last
-'N passed, M failed', where N and M count clauses and definitions.
+what private functions say may.
 """
-import pathlib
+
 import re
-import sys
 
 USE = re.compile(r"^ *(pub )?(?:ghost )?use (\w+(?:\.\w+)*\.specs\.inner(?:\.\w+)*)(?:\.\{([^}]*)\})?(?: as (\w+))?", re.M)
 DEFINITION = re.compile(r"^(?:(?:abbrev|unfoldable|pub|record|data|postulate) )+(\S+)", re.M)
@@ -126,34 +121,19 @@ def reachable(crate):
         types = more
 
 
-def main():
-    root = pathlib.Path(sys.argv[1]) if len(sys.argv) > 1 else pathlib.Path(__file__).resolve().parent.parent
-    passed = failed = 0
-
-    def look(place, name, text, names, modules):
-        nonlocal passed, failed
-        wrong = sorted(set(cited(text, names, modules)))
-        if wrong:
-            failed += 1
-            print(f"{place}: {name} cites {', '.join(wrong)} of specs/inner")
-        else:
-            passed += 1
-
-    for crate in sorted(path.parent.parent for path in root.glob("crates/*/src/lib.rt")):
-        for path in sorted((crate / "specs").rglob("*.antt")):
-            if path == crate / "specs/inner.antt" or crate / "specs/inner" in path.parents:
-                continue
-            text = path.read_text()
-            for _ in (found for found in USE.finditer(text) if found[1]):
-                failed += 1
-                print(f"{path.relative_to(root)}: what is in specs/inner is handed on")
-            for definition, body in definitions(text):
-                look(path.relative_to(root), definition, body, *imported(text))
-        for path, (_, owner, function, head, clauses, scope) in reachable(crate):
-            for clause in clauses:
-                look(path.relative_to(root), f"{owner}::{function}" if owner else function, clause, *imported(scope))
-    print(f"{passed} passed, {failed} failed")
-    return failed > 0
+def public_specs(crate):
+    """The files of the specs of a crate that are outside of specs/inner."""
+    inner = crate / "specs/inner"
+    return [path for path in sorted((crate / "specs").rglob("*.antt")) if path != inner.with_suffix(".antt") and inner not in path.parents]
 
 
-sys.exit(main())
+def citations(crate):
+    """The definitions and clauses of a crate that its callers read: the file, the name, and which names of a specs/inner each cites;
+    and what a file hands on of one."""
+    for path in public_specs(crate):
+        text = path.read_text()
+        yield from ((path, "pub use", [found[2]]) for found in USE.finditer(text) if found[1])
+        yield from ((path, name, sorted(set(cited(body, *imported(text))))) for name, body in definitions(text))
+    for path, (_, owner, function, _, clauses, scope) in reachable(crate):
+        name = f"{owner}::{function}" if owner else function
+        yield from ((path, name, sorted(set(cited(clause, *imported(scope))))) for clause in clauses)

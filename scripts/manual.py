@@ -2,19 +2,15 @@
 """The man pages and the completions of the two programs, made of manual/arguments.toml, and the man pages of scripts and profiles,
 made of docs/script.md and docs/profile.md.
 
-    scripts/manual.py write                writes them
-    scripts/manual.py version              prints the version of the programs, as it stands in the program's source
-    scripts/manual.py check TOOL RT1553    whether the files are those that are written, and whether the description is what the
-                                           programs say of themselves and do; the last line is 'N passed, M failed'
+    scripts/manual.py write      writes them
+    scripts/manual.py version    prints the version of the programs, as it stands in the program's source
 
+tests/test_manual.py compares the files with what is written, and the description with what the programs say of themselves and do.
 The version in a page is that of `rt1553-tool --version`: both are the constant VERSION of the program's source.
 """
-import os
 import pathlib
 import re
-import subprocess
 import sys
-import tempfile
 import textwrap
 import tomllib
 
@@ -440,83 +436,6 @@ def made():
             yield TOP / f"manual/{name}{ending}", "\n".join(lines) + "\n"
 
 
-# --- whether the programs are what is described ---
-
-
-def run(*words):
-    """What a program prints, to either stream, and its status."""
-    done = subprocess.run(words, stdin=subprocess.DEVNULL, stdout=subprocess.PIPE, stderr=subprocess.STDOUT, text=True, check=False)
-    return done.stdout, done.returncode
-
-
-def usage_of(program):
-    """The usage line of `rt1553`, which tells its words."""
-    words = (" ".join([command["name"], *(takes["name"] for takes in command["takes"])]) for command in program["command"])
-    return f"usage: {program['name']} [{', '.join(words)}]\n", 3
-
-
-def rows_of(text, title):
-    """The rows of a part of clap's help: the first command of each with what stands behind it."""
-    part = re.search(rf"^{title}:\n((?:  .*\n?)*)", text, re.MULTILINE)
-    return [re.split(r"\s{2,}", line.strip(), maxsplit=1) for line in part[1].splitlines()] if part else []
-
-
-def option_row(option):
-    """A row of clap's help that tells an option."""
-    shown = option["name"] + (f" <{option['value']}>" if "value" in option else "")
-    values = f" [default: {option['values'][0]}] [possible values: {', '.join(option['values'])}]" if "values" in option else ""
-    return [shown, option["help"] + values]
-
-
-def told(tool, program):
-    """Rows: a name, what is described, and what `rt1553-tool` tells."""
-    text, _ = run(tool, "--help")
-    found = [row for row in rows_of(text, "Commands") if row[0] != "help"]
-    yield "the words of rt1553-tool", [[command["name"], command["about"]] for command in program["command"]], found
-    for command in program["command"]:
-        text, _ = run(tool, command["name"], "--help")
-        found = [[re.sub(r"[^A-Z]", "", name), help] for name, help in rows_of(text, "Arguments")]
-        yield f"what {command['name']} takes", [[takes["name"], takes["help"]] for takes in command["takes"]], found
-        found = [row for row in rows_of(text, "Options") if "--help" not in row[0]]
-        yield f"the options of {command['name']}", [option_row(option) for option in command.get("options", [])], found
-    number, canonical = version()
-    yield "the version", (f"rt1553-tool {number} (canonical text {canonical})\n", 0), run(tool, "--version")
-
-
-def examples(program, folder):
-    """Rows: what the examples of a page are to print, and what they print."""
-    for example in program["example"]:
-        done = subprocess.run(["bash", "-c", example["command"]], cwd=folder, env={**os.environ, "PATH": f"{folder}/bin:{os.environ['PATH']}"},
-                              stdin=subprocess.DEVNULL, stdout=subprocess.PIPE, stderr=subprocess.STDOUT, text=True, check=False)
-        yield example["command"], example["prints"], done.stdout
-
-
-def rows(tool, program):
-    """All that is compared: a name, what is wanted, and what is found."""
-    for path, text in made():
-        yield f"{path.name} is as it is written", text, path.read_text() if path.is_file() else None
-    first, second = PROGRAMS["program"]
-    yield "the usage line of rt1553", usage_of(first), run(program, "--help")
-    yield from told(tool, second)
-    with tempfile.TemporaryDirectory() as folder:
-        os.mkdir(f"{folder}/bin")
-        os.symlink(program, f"{folder}/bin/rt1553")
-        os.symlink(tool, f"{folder}/bin/rt1553-tool")
-        os.symlink(TOP / "examples", f"{folder}/examples")
-        yield from examples(first, folder)
-        yield from examples(second, folder)
-
-
-def check(tool, program):
-    passed = failed = 0
-    for name, wanted, found in rows(os.path.realpath(tool), os.path.realpath(program)):
-        passed, failed = passed + (wanted == found), failed + (wanted != found)
-        if wanted != found:
-            print(f"FAILED: {name}\nis to be\n{wanted}\nand is\n{found}")
-    print(f"{passed} passed, {failed} failed")
-    return 1 if failed or not passed else 0
-
-
 def main(words):
     match words:
         case ["write"]:
@@ -524,8 +443,6 @@ def main(words):
                 path.write_text(text)
         case ["version"]:
             print(version()[0])
-        case ["check", tool, program]:
-            return check(tool, program)
         case _:
             return __doc__
     return 0

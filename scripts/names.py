@@ -1,19 +1,17 @@
-#!/usr/bin/env python3
-"""Whether one name stands for one thing.
-
-    scripts/names.py [ROOT]
+"""Whether one name stands for one thing: a part of tests/test_sources.py.
 
 Finds types and public functions of crates/*/src whose name stands in two crates, and likewise definitions of crates/*/specs; types
-that a crate lets out and that docs/glossary.md doesn't list once, and names that it lists though no type or record has them; and phrases
-in the pages that have a better word. A function may have the name of the definition that it computes. ALIKE has the names that may
-stand twice, each with the reason. ROOT is the repository, by default that of this script. Prints what it finds, and at last
-'N passed, M failed', where N and M count names and pages.
+that a crate lets out and that its README.md doesn't list once, under "Types", and names there that no type or record of the crate has;
+and phrases in the pages that have a better word. A function may have the name of the definition that it computes. ALIKE has the names that may
+stand twice, each with the reason.
 """
+
 import collections
+import functools
 import pathlib
 import re
-import sys
 
+TOP = pathlib.Path(__file__).resolve().parent.parent
 TYPE = re.compile(r"^(?:pub(?:\(\w+\))? )?(?:struct|enum|trait|union|type) (\w+)", re.M)
 FUNCTION = re.compile(r'^pub (?:const |unsafe |extern "C" )*fn (\w+)', re.M)
 RECORD = re.compile(r"^(?:(?:abbrev|unfoldable) )*pub (?:record|data) ([^\s:]+)", re.M)
@@ -38,70 +36,60 @@ FOR_READERS_OF_CODE = {"docs/terminal.md", "docs/glossary.md", "docs/architectur
 
 
 def files_of(crate, folder, ending):
+    """The files in a folder of a crate that end so."""
     return sorted((crate / folder).rglob(f"*{ending}"))
 
 
-def named(root, folder, ending, *kinds):
+@functools.lru_cache(maxsize=None)
+def named(folder, ending, *kinds):
     """Each name of these kinds, with the crates in which it stands."""
     found = collections.defaultdict(set)
-    for crate in sorted((root / "crates").iterdir()):
+    for crate in sorted((TOP / "crates").iterdir()):
         for path in files_of(crate, folder, ending):
             text = path.read_text()
             for name in (name for kind in kinds for name in kind.findall(text)):
                 found[name].add(crate.name)
-    return sorted(found.items())
+    return found
+
+
+def names_of(crate):
+    """The names of a crate, each with all crates in which such a name stands."""
+    for name, crates in [*named("src", ".rt", TYPE, FUNCTION).items(), *named("specs", ".antt", DEFINITION).items()]:
+        if crate in crates:
+            yield name, sorted(crates)
 
 
 def let_out(crate):
     """The types that a library lets out."""
-    lib = crate / "src/lib.rt"
+    lib = TOP / "crates" / crate / "src/lib.rt"
     if not lib.exists():
         return set()
     names = set()
     for path, listed in EXPORT.findall(lib.read_text()):
         names |= {name.split(" as ")[0].strip() for name in (listed or path.split("::")[-1]).split(",")}
-    types = {name for path in files_of(crate, "src", ".rt") for name in TYPE.findall(path.read_text())}
+    types = {name for path in files_of(lib.parent.parent, "src", ".rt") for name in TYPE.findall(path.read_text())}
     return names & types
 
 
-def listed(root):
-    """How often the glossary lists each name of the code."""
-    page = (root / "docs/glossary.md").read_text()
-    table = page.split("## Names of the code", 1)[-1].split("\n## ")[0]
-    return collections.Counter(name for row in re.findall(r"^\| ([^|]*) \|", table, re.M) for name in re.findall(r"`([^`]+)`", row))
+def listed(crate):
+    """How often the page of a crate lists each name under "Types": before the colon of an item."""
+    part = (TOP / "crates" / crate / "README.md").read_text().partition("## Types\n")[2].partition("\n## ")[0]
+    return collections.Counter(name for item in re.findall(r"^- ([^:]*):", part, re.M) for name in re.findall(r"`([^`]+)`", item))
 
 
-def pages(root):
-    yield from [root / "README.md", *sorted((root / "docs").glob("*.md")), *sorted((root / "manual").glob("*.toml"))]
+def records(crate):
+    """The records of a crate's definitions."""
+    return {name for name, crates in named("specs", ".antt", RECORD).items() if crate in crates}
 
 
-def main():
-    root = pathlib.Path(sys.argv[1]) if len(sys.argv) > 1 else pathlib.Path(__file__).resolve().parent.parent
-    passed = failed = 0
-
-    def count(wrong, text):
-        nonlocal passed, failed
-        if wrong:
-            failed += 1
-            print(text)
-        else:
-            passed += 1
-
-    for name, crates in named(root, "src", ".rt", TYPE, FUNCTION) + named(root, "specs", ".antt", DEFINITION):
-        count(len(crates) > 1 and name not in ALIKE, f"{name} stands in {', '.join(sorted(crates))}")
-    rows = listed(root)
-    types = {name for crate in (root / "crates").iterdir() for name in let_out(crate)}
-    values = {name for name, _ in named(root, "specs", ".antt", RECORD)}
-    for name in sorted(types | set(rows)):
-        count(name not in types | values, f"docs/glossary.md: nothing is called {name}")
-        count(rows[name] != 1, f"docs/glossary.md: {name} is listed {rows[name]} times")
-    for path in pages(root):
-        text, place = " ".join(path.read_text().split()), str(path.relative_to(root))
-        wrong = [f"{found[0]} ({better})" for phrase, better in PHRASES.items() for found in re.finditer(phrase, text)
-                 if not (place in FOR_READERS_OF_CODE and "cell" in phrase)]
-        count(wrong, f"{place}: {'; '.join(wrong)}")
-    print(f"{passed} passed, {failed} failed")
-    return failed > 0
+def pages():
+    """The pages for users, by their paths."""
+    found = ["README.md", *sorted((TOP / "docs").glob("*.md")), *sorted((TOP / "manual").glob("*.toml"))]
+    return [str((TOP / path).relative_to(TOP)) for path in found]
 
 
-sys.exit(main())
+def phrases_in(page):
+    """The phrases of a page that have a better word, each with that."""
+    text = " ".join((TOP / page).read_text().split())
+    phrases = {it: better for it, better in PHRASES.items() if not (page in FOR_READERS_OF_CODE and "cell" in it)}
+    return [f"{found[0]} ({better})" for phrase, better in phrases.items() for found in re.finditer(phrase, text)]

@@ -1,22 +1,19 @@
-#!/usr/bin/env python3
-"""Whether something refers to each definition and each function of the crates.
-
-    scripts/unused.py [ROOT]
+"""Whether something refers to each definition and each function of the crates: a part of tests/test_sources.py.
 
 Looks at each definition and lemma of specs/ and proofs/, but for those in the files that `rt` seeks by their names, and at each
 function, constant and type of the .rt files. Another one must refer to it: of its own file, of a file that imports it, and to what a
 crate lets out one of library/, bench/ or examples/ may. An import alone refers to nothing. Laws, worked examples, tests, `main`, what
-an `impl` gives of a trait, and the functions for C need no caller. EXCEPT has what else needs none, with the reason. ROOT is the
-repository, by default the one of this script. Prints what nothing refers to, and at last 'N passed, M failed', where N and M count
-definitions, functions, constants and types.
+an `impl` gives of a trait, and the functions for C need no caller. EXCEPT has what else needs none, by its crate, with the reason.
 """
+
 import collections
+import functools
 import pathlib
 import re
-import sys
 
+TOP = pathlib.Path(__file__).resolve().parent.parent
 EXCEPT = {
-    ("rt1553_live", "live_is_sent"): "compiles only where a terminal may be handed from thread to thread",
+    "rt1553_live": {"live_is_sent": "compiles only where a terminal may be handed from thread to thread"},
 }
 # files in which `rt` seeks what it names itself
 SOUGHT_BY_NAME = {"Answers.antt", "Invariants.antt", "Proof.antt", "Lib.antt"}
@@ -30,7 +27,8 @@ CLAUSE = re.compile(r"\b(?:ensures|requires|invariant|assert)(?: \w+)? ?(?=\{)")
 BLOCK = re.compile(r"^ *(?:pub )?(?:unsafe )?(?:impl|trait)\b[^{;]*(?=\{)", re.M)
 ITEM = re.compile(r"^ *(pub(?:\([^)]*\))? )?(?:unsafe |extern \"\" )*(?:const )?(fn|const|static|struct|enum|trait|type) (\w+)", re.M)
 
-File = collections.namedtuple("File", "path crate text uses")
+# a file: its path and crate, its text without imports, these, and the whole text
+File = collections.namedtuple("File", "path crate text uses whole")
 
 
 def plain(text, mark):
@@ -59,7 +57,7 @@ def without_clauses(text):
     return "".join([*kept, text[at:]])
 
 
-def read(root, path):
+def read(path):
     """A file of a crate, without its imports, and these: the path of each, its names with those that they have here, and whether it
     hands them on."""
     text = plain(path.read_text(), "--" if path.suffix == ".antt" else "//")
@@ -70,7 +68,7 @@ def read(root, path):
             listed, place = f"{place[-1]} as {alias}" if alias else place[-1], place[:-1]
         names = [name.split(" as ") for name in re.split(r"[,{}]\s*", listed) if name.strip()]
         uses.append((place, {name[0].strip(): name[-1].strip() for name in names}, bool(public)))
-    return File(path, path.relative_to(root / "crates").parts[0], USE.sub("", text), uses)
+    return File(path, path.relative_to(TOP / "crates").parts[0], USE.sub("", text), uses, text)
 
 
 def stands(name, text):
@@ -127,11 +125,11 @@ def items(text):
         yield owner, found[3], found[2] == "fn", is_public, is_given, call, text[: found.start()] + text[end:]
 
 
-def exporters(files, crate, name):
+def exporters(crate, name):
     """The crates from which a name of a crate can be imported."""
     found = {crate}
     while True:
-        more = {file.crate for file in files if file.path.name == "lib.rt"
+        more = {file.crate for file in with_name(code, name) if file.path.name == "lib.rt"
                 for place, names, is_public in file.uses if is_public and place[0] in found and name in names}
         if more <= found:
             return found
@@ -150,45 +148,60 @@ def refers(file, crate, name, names_of):
     return re.search(rf"\b(?:{'|'.join(names_of)})::(?:\w+::)*{name}\b", file.text) is not None
 
 
-def main():
-    root = pathlib.Path(sys.argv[1]) if len(sys.argv) > 1 else pathlib.Path(__file__).resolve().parent.parent
-    files = [read(root, path) for path in sorted((root / "crates").glob("*/*/**/*"))
-             if path.suffix in (".rt", ".antt") and path.relative_to(root / "crates").parts[1] in ("src", "specs", "proofs")]
-    passed = failed = 0
-    used = set()
+@functools.lru_cache(maxsize=None)
+def files():
+    """The files of all crates."""
+    return [read(path) for path in sorted((TOP / "crates").glob("*/*/**/*"))
+            if path.suffix in (".rt", ".antt") and path.relative_to(TOP / "crates").parts[1] in ("src", "specs", "proofs")]
 
-    def tell(file, name, is_used):
-        nonlocal passed, failed
-        if not is_used and (file.crate, name) in EXCEPT:
-            used.add((file.crate, name))
-        elif not is_used:
-            failed += 1
-            print(f"{file.path.relative_to(root)}: nothing refers to {name}")
-            return
-        passed += 1
 
-    for file in files:
-        if file.path.suffix == ".antt" and file.path.name not in SOUGHT_BY_NAME:
+@functools.lru_cache(maxsize=None)
+def code():
+    """The modules of all crates, without their contracts."""
+    return [file._replace(text=without_clauses(file.text)) for file in files() if file.path.suffix == ".rt"]
+
+
+@functools.lru_cache(maxsize=None)
+def callers():
+    """The files outside of crates that may refer to what a crate lets out."""
+    paths = [path for folder in ("library", "bench", "examples") for path in sorted((TOP / folder).rglob("*")) if path.suffix in (".rs", ".rt")]
+    texts = {path: path.read_text(errors="replace") for path in paths}
+    return [File(path, path.name, text, [], text) for path, text in texts.items()]
+
+
+@functools.lru_cache(maxsize=None)
+def index(files_of):
+    """The files that a function gives, by the words that stand in them."""
+    found = collections.defaultdict(list)
+    for file in files_of():
+        for word in set(re.findall(r"\w+", file.whole)):
+            found[word].append(file)
+    return found
+
+
+def with_name(files_of, name):
+    """Those of the files that a function gives in which the longest word of a name stands: no others can refer to it."""
+    words = re.findall(r"\w+", name)
+    return index(files_of)[max(words, key=len)] if words else files_of()
+
+
+def definitions_of(crate):
+    """The definitions of a crate: the file, the name, and whether something refers to it."""
+    for file in files():
+        if file.crate == crate and file.path.suffix == ".antt" and file.path.name not in SOUGHT_BY_NAME:
             for name, others in definitions(file.text):
-                at = (file.crate, file.path.stem, name)
-                tell(file, name, stands(name, others) or any(is_imported(other, *at) for other in files if other is not file))
-    code = [file._replace(text=without_clauses(file.text)) for file in files if file.path.suffix == ".rt"]
-    callers = [File(path, path.name, path.read_text(errors="replace"), []) for folder in ("library", "bench", "examples")
-               for path in sorted((root / folder).rglob("*")) if path.suffix in (".rs", ".rt")]
-    for file in code:
+                at = (crate, file.path.stem, name)
+                yield file.path, name, stands(name, others) or any(is_imported(other, *at) for other in with_name(files, name) if other is not file)
+
+
+def items_of(crate):
+    """The functions, constants and types of a crate that need one that refers to them: the file, the name, and whether there is one."""
+    for file in (it for it in code() if it.crate == crate):
         for owner, name, is_function, is_public, is_given, call, others in items(file.text):
             if is_given or name == "main" or name.startswith("rt1553_") or is_function and file.path.name in WITHOUT_CALLER:
                 continue
-            names_of = exporters(code, file.crate, name)
-            where = [file._replace(text=others), *(other for other in code + callers if other.path != file.path)]
-            where = where if is_public else [other for other in where if other.crate == file.crate]
-            tell(file, f"{owner}::{name}" if owner else name, any(
-                re.search(call, other.text) if owner else refers(other, file.crate, name, names_of) for other in where))
-    for crate, name in sorted(EXCEPT.keys() - used):
-        failed += 1
-        print(f"crates/{crate}: {name} needs no exception")
-    print(f"{passed} passed, {failed} failed")
-    return failed > 0
-
-
-sys.exit(main())
+            names_of = exporters(crate, name)
+            where = [file._replace(text=others), *(other for other in with_name(code, name) + with_name(callers, name) if other.path != file.path)]
+            where = where if is_public else [other for other in where if other.crate == crate]
+            is_used = any(re.search(call, it.text) if owner else refers(it, crate, name, names_of) for it in where)
+            yield file.path, f"{owner}::{name}" if owner else name, is_used

@@ -1,5 +1,5 @@
 #!/usr/bin/env python3
-"""Writes further cases for vectors.py: cases.py FOLDER
+"""Writes further cases for vectors.py, as the table cases.txt in a folder: cases.py FOLDER
 
 Random messages to the terminals of the example profiles, and what each of the 31 terminals of examples/library/bus31.py meets.
 The transcripts are those of the model of the rules, tests/model/rules.py. Says where the package or the kept transcript
@@ -14,26 +14,20 @@ import sys
 import tomllib
 
 TOP = pathlib.Path(__file__).resolve().parent.parent.parent
-sys.path.insert(0, str(TOP / "tests/model"))
+sys.path[:0] = [str(TOP / it) for it in ("tests/model", "tests")]
 
 import play  # noqa: E402
 import random_scripts  # noqa: E402
 import rt1553  # noqa: E402
 import rules  # noqa: E402
+import vector_tables  # noqa: E402
 from told import tell  # noqa: E402
 
 EVENTS = 4000
 
 
-def write_case(folder, name, profile, lines, transcript):
-    files = {"toml": profile, "script": "\n".join([*lines, ""]), "args": f"run\n{name}.toml\n{name}.script\n",
-             "stdout": "\n".join([*transcript, ""]) if transcript else "", "stderr": "", "status": "0\n"}
-    for ending, content in files.items():
-        (folder / f"{name}.{ending}").write_text(content)
-
-
-def random_case(folder, name, profile, seed):
-    """Random messages to the terminal of a profile, as one list of events to the package. Whether it answers as the model."""
+def random_case(name, profile, seed):
+    """Random messages to the terminal of a profile, as one list of events to the package. Also whether it answers as the model."""
     lines, transcript = [], []
 
     def note(event, answer):
@@ -44,8 +38,8 @@ def random_case(folder, name, profile, seed):
     messages = random_scripts.Messages(play.setup_of(tomllib.loads(profile)), (1 + seed % 4, 30), seed, note)
     while len(lines) < EVENTS:
         messages.message()
-    write_case(folder, name, profile, lines, transcript)
-    return [answer.line() for _, answer in rt1553.Terminal(profile).play(lines)] == transcript
+    is_right = [answer.line() for _, answer in rt1553.Terminal(profile).play(lines)] == transcript
+    return random_scripts.run_case(name, profile, lines, transcript), is_right
 
 
 class Recorded(rt1553.Terminal):
@@ -76,26 +70,20 @@ def printed_by_bus():
     return printed.getvalue()
 
 
-def bus_cases(folder):
-    """What each terminal of the bus met. Whether it answered as the model."""
-    for number, terminal in enumerate(Recorded.made):
-        model = rules.Terminal(play.setup_of(tomllib.loads(terminal.text)))
-        transcript = play.transcript(model, map(play.read_event, (line.encode() for line in terminal.lines)))
-        write_case(folder, f"bus31-{number:02d}", terminal.text, terminal.lines, transcript)
-        yield f"bus31, terminal {number}", terminal.transcript == transcript
-
-
-def rows(folder):
-    for path in sorted((TOP / "examples/profiles").glob("*.toml")):
-        for seed in range(4):
-            name = f"random-{path.stem}-{seed}"
-            yield name, random_case(folder, name, path.read_text(), seed)
-    yield "bus31, what is printed", printed_by_bus() == (TOP / "examples/library/bus31.transcript").read_text()
-    yield from bus_cases(folder)
+def bus_case(number, terminal):
+    """What a terminal of the bus met. Also whether it answered as the model."""
+    model = rules.Terminal(play.setup_of(tomllib.loads(terminal.text)))
+    transcript = play.transcript(model, map(play.read_event, (line.encode() for line in terminal.lines)))
+    return random_scripts.run_case(f"bus31-{number:02d}", terminal.text, terminal.lines, transcript), terminal.transcript == transcript
 
 
 def main(folder):
-    return tell(rows(pathlib.Path(folder)))
+    cases = [random_case(f"random-{path.stem}-{seed}", path.read_text(), seed)
+             for path in sorted((TOP / "examples/profiles").glob("*.toml")) for seed in range(4)]  # fmt: skip
+    is_printed = printed_by_bus() == (TOP / "examples/library/bus31.transcript").read_text()
+    cases += [bus_case(*it) for it in enumerate(Recorded.made)]
+    vector_tables.write(pathlib.Path(folder, "cases.txt"), [vector_tables.block_of(case) for case, _ in cases])
+    return tell([*((case.name, is_right) for case, is_right in cases), ("bus31, what is printed", is_printed)])
 
 
 if __name__ == "__main__":

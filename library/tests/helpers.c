@@ -1,4 +1,4 @@
-/* What library/aarch64 has in place of the toolchain's C, called at its edges. What comes is printed: scripts/arm64.sh compares it with
+/* What library/aarch64 has in place of the toolchain's C, called at its edges. What comes is printed: tests/test_arm64.py compares it with
    what the toolchain's own archives print. The arguments and the environment are those that it gives. */
 #include <stdbool.h>
 #include <stddef.h>

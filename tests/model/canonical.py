@@ -7,8 +7,8 @@
     canonical.py changes FILE [STEP] how many texts that differ from the canonical text in one byte (in each one, or in
                                      each STEPth) are canonical texts of either version
 
-The files of examples/canonical were written by it, and so were the answers of tests/vectors/wraparound (wraparound.py)
-and the canonical texts of tests/vectors/profiles. The numbers that crates/changes has to print come from it.
+The files of examples/canonical were written by it, and so were the answers of tests/vectors/wraparound.txt (wraparound.py)
+and the canonical texts of tests/vectors/profiles.txt. The numbers that crates/changes has to print come from it.
 """
 
 import re

@@ -3,7 +3,7 @@
     play.py run PROFILE.toml SCRIPT        its transcript, its fault and its status
     play.py slots PROFILE.toml SCRIPT [N]  the script with as many slots after each gap as its reply has words, and N more
 
-The transcripts of examples/scripts and of tests/vectors/scripts were written by `run`. It takes profiles without faults.
+The transcripts of examples/scripts and of tests/vectors/scripts.txt were written by `run`. It takes profiles without faults.
 """
 
 import functools

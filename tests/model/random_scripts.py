@@ -1,7 +1,7 @@
 """Messages that look random, played to the model of the rules in `rules.py`.
 
-    random_scripts.py digests           what scripts/texts.py compares
-    random_scripts.py vectors FOLDER    scripts with their transcripts: the cases slots-NNNN of tests/vectors/scripts
+    random_scripts.py digests         what tests/test_texts.py compares
+    random_scripts.py vectors FILE    scripts with their transcripts, as a table: the cases slots-NNNN of tests/vectors/scripts.txt
 
 The same words give the same numbers, so that both can be made anew and compared.
 """
@@ -10,8 +10,12 @@ import pathlib
 import sys
 import tomllib
 
-import play
-import rules
+sys.path.append(str(pathlib.Path(__file__).resolve().parent.parent))
+
+import play  # noqa: E402
+import programs  # noqa: E402
+import rules  # noqa: E402
+import vector_tables  # noqa: E402
 
 MASK = 0xFFFFFFFF
 REQUIRED = [("own mode", code) for code in (2, 4, 5, 8)]
@@ -235,11 +239,10 @@ def truth(value):
     return "true" if value else "false"
 
 
-def write_case(folder, name, profile, lines, transcript):
-    files = {"toml": profile, "script": "".join(f"{line}\n" for line in lines), "args": f"run\n{name}.toml\n{name}.script\n",
-             "stdout": "".join(f"{line}\n" for line in transcript), "stderr": "", "status": "0\n"}
-    for ending, content in files.items():
-        (folder / f"{name}.{ending}").write_text(content)
+def run_case(name, profile, lines, transcript):
+    """The case of a script and its transcript."""
+    files = {f"{name}.toml": profile, f"{name}.script": "".join(f"{line}\n" for line in lines)}
+    return programs.Row(name, ("run", *files), output="".join(f"{line}\n" for line in transcript), files=files)
 
 
 def profile_of(number):
@@ -253,7 +256,8 @@ def profile_of(number):
         codes=("0-31", "0-8", "16-19", "6-18")[number % 4])
 
 
-def write_slots(folder, number):
+def slots_case(number):
+    """The case of the messages of a number, up to 15."""
     text = profile_of(number)
     lines, transcript = [], []
 
@@ -265,16 +269,15 @@ def write_slots(folder, number):
     messages = Messages(play.setup_of(tomllib.loads(text)), (29, 30), number, note)
     while len(lines) < 200:
         messages.message()
-    write_case(folder, f"slots-{number:04}", text, lines, transcript)
+    return run_case(f"slots-{number:04}", text, lines, transcript)
 
 
 def main():
     job, *rest = sys.argv[1:]
     if job == "digests":
         digests()
-        return
-    for number in range(VECTORS):
-        write_slots(pathlib.Path(*rest), number)
+    else:
+        vector_tables.write(pathlib.Path(*rest), [vector_tables.block_of(slots_case(it)) for it in range(VECTORS)])
 
 
 if __name__ == "__main__":

@@ -1,7 +1,5 @@
-#!/usr/bin/env python3
-"""Whether docs/terminal.md states each rule of tests/rows/rules.md, and whether the rule shows in the rows that are named for it.
-
-    reversed_rules.py      the last line is 'N passed, M failed', which counts reversals
+"""Whether docs/terminal.md states each rule of tests/rows/rules.md, and whether the rule shows in the rows that are named for it: a part of
+tests/test_sources.py.
 
 rules.md has a table for each section of the page that has rules. For each rule the table quotes the page and names rows. The quotation
 is in that section, once. So are the sections of the standard that the table gives; and a rule marked **Choice** is quoted from a
@@ -22,11 +20,10 @@ import tomllib
 import types
 from typing import NamedTuple
 
+import rows
+
 HERE = pathlib.Path(__file__).resolve().parent
 TOP = HERE.parent.parent
-sys.path.insert(0, str(TOP / "tests/rows"))
-
-import rows  # noqa: E402
 
 # the modules of the model, each after those that it imports
 MODULES = ("rules", "canonical", "play")
@@ -88,7 +85,8 @@ def quoted(sentences, quotation):
 def faults_of_page(page, rules, unshown):
     """Where the page and the list of rules differ."""
     sections = sections_of(page)
-    yield from (f'docs/terminal.md has no section "{heading}"' for heading in dict.fromkeys(rule.section for rule in rules) if heading not in sections)
+    named = dict.fromkeys(rule.section for rule in rules)
+    yield from (f'docs/terminal.md has no section "{heading}"' for heading in named if heading not in sections)
     for heading in sections:
         sentences = list(sentences_of(sections[heading]))
         left = set() if heading in unshown else set(range(len(sentences)))
@@ -203,12 +201,38 @@ def answers_as_stated(model, row):
     return True
 
 
-# ---- what passes
+# ---- what is wrong
 
 
-def faults_of(rule, reversals, known, count):
+@functools.lru_cache(maxsize=None)
+def known_rows():
+    """The rows by their names."""
+    return {row.name: row for row in rows.rows()}
+
+
+@functools.lru_cache(maxsize=None)
+def tables():
+    """The rules of rules.md, by their names, and what no row shows."""
+    found = list(tables_of((TOP / "tests/rows/rules.md").read_text()))
+    rules = [Rule(heading, *cells[:-1], cells[-1].strip("`")) for heading, cells in found if len(cells) == 5]
+    return {rule.name.replace("**Choice**: ", ""): rule for rule in rules}, [cells[0] for _, cells in found if len(cells) == 2]
+
+
+@functools.lru_cache(maxsize=None)
+def reversals():
+    """The rules of reversed_rules.txt, each with its reversals."""
+    return reversals_of((HERE / "reversed_rules.txt").read_text())
+
+
+def unanswered():
+    """The rows whose answers the unchanged model doesn't give as stated."""
+    model = model_of(SOURCES)
+    return [name for name, row in known_rows().items() if not answers_as_stated(model, row)]
+
+
+def faults_of(rule, reversals):
     """What is wrong with the reversals of a rule."""
-    shown, asked = set(), set()
+    known, shown, asked = known_rows(), set(), set()
     for it, changes in reversals:
         names = [name for name in rows_named(rule.named, rule.file, it) if name in known]
         asked |= set(names)
@@ -216,38 +240,11 @@ def faults_of(rule, reversals, known, count):
             model = model_of(changed(changes))
             differing = {name for name in names if not answers_as_stated(model, known[name])}
         except (Unfit, SyntaxError) as fault:
-            yield f"{rule.name}: {fault}"
+            yield f"{fault}"
             continue
         shown |= differing
-        count["passed"] += bool(differing)
         if not differing:
-            yield f"{rule.name}: makes no difference in {', '.join(names) or rule.named}: {changes}"
-    yield from (f"{rule.name}: no reversal shows in `{name}`" for name in sorted(asked - shown))
+            yield f"makes no difference in {', '.join(names) or rule.named}: {changes}"
+    yield from (f"no reversal shows in `{name}`" for name in sorted(asked - shown))
     if "the rows of" not in rule.named:
-        yield from (f"{rule.name}: no row `{name}`" for name in rows_named(rule.named, rule.file, "") if name not in known)
-
-
-def main():
-    known = {row.name: row for row in rows.rows()}
-    tables = list(tables_of((TOP / "tests/rows/rules.md").read_text()))
-    rules = [Rule(heading, *cells[:-1], cells[-1].strip("`")) for heading, cells in tables if len(cells) == 5]
-    unshown = [cells[0] for _, cells in tables if len(cells) == 2]
-    reversals = reversals_of((HERE / "reversed_rules.txt").read_text())
-    model, count = model_of(SOURCES), {"passed": 0}
-    faults = [f"the model doesn't answer `{name}` as stated" for name, row in known.items() if not answers_as_stated(model, row)]
-    faults += faults_of_page((TOP / "docs/terminal.md").read_text(), rules, unshown)
-    names = [rule.name.replace("**Choice**: ", "") for rule in rules]
-    faults += [f"{name}: not in tests/rows/rules.md" for name in reversals if name not in names]
-    for rule, name in zip(rules, names):
-        if not reversals.get(name):
-            faults.append(f"{name}: not reversed")
-            continue
-        faults += faults_of(rule, reversals[name], known, count)
-    for fault in faults:
-        print(fault)
-    print(f"{count['passed']} passed, {len(faults)} failed")
-    return bool(faults)
-
-
-if __name__ == "__main__":
-    sys.exit(main())
+        yield from (f"no row `{name}`" for name in rows_named(rule.named, rule.file, "") if name not in known)

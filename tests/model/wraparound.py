@@ -1,10 +1,10 @@
-"""Writes the cases of tests/vectors/wraparound by the model of the canonical text, apart from the program.
+"""Writes the cases of tests/vectors/wraparound.txt by the model of the canonical text, apart from the program.
 
-    wraparound.py FOLDER
+    wraparound.py FILE
 
 NAME.toml is a profile, NAME.rt1553 its canonical text, and NAME.first.rt1553 the text of version 1 that means the same,
-where there is one. compare-NAME.args and what stands beside it is a case of two that differ in their wraparound
-subaddress alone, or don't differ in what can be reached.
+where there is one. compare-NAME is a case of two profiles that differ in their wraparound subaddress alone, or don't differ
+in what can be reached.
 """
 
 import itertools
@@ -12,7 +12,10 @@ import pathlib
 import sys
 import tomllib
 
-from canonical import Fault, compared, reached_of, text_of
+sys.path.append(str(pathlib.Path(__file__).resolve().parent.parent))
+
+import vector_tables  # noqa: E402
+from canonical import Fault, compared, reached_of, text_of  # noqa: E402
 
 
 def rule(direction, subaddresses, counts, to="own"):
@@ -58,34 +61,32 @@ def profile_text(body, wraparound):
     return f"address = 5\n{line}{body}"
 
 
-def write_case(folder, name, words, output, status):
-    for end, text in ((".args", words), (".stdout", output), (".stderr", []), (".status", [str(status)])):
-        (folder / (name + end)).write_text("".join(line + "\n" for line in text))
+def texts_of(name, profile):
+    """A profile and its canonical texts, by the names of their files."""
+    reached = reached_of(tomllib.loads(profile))
+    texts = {f"{name}.toml": profile, f"{name}.rt1553": text_of(reached)}
+    try:
+        return {**texts, f"{name}.first.rt1553": text_of(reached, version=1)}
+    except Fault:
+        return texts
 
 
-def main():
-    folder = pathlib.Path(sys.argv[1])
+def comparison(name, *profiles):
+    """The block of a case that compares two profiles, which are the texts of two files."""
+    names, texts = zip(*profiles)
+    script = compared(*(reached_of(tomllib.loads(it)) for it in texts))
+    lines = [" ".join(("words: compare", *names)), f"status: {int(script != ['same'])}"]
+    return vector_tables.block(name, {"stdout": "".join(f"{line}\n" for line in script)}, lines)
+
+
+def blocks():
+    """The profiles of each shape, and its cases."""
     for shape, (body, values) in PROFILES.items():
-        reached = {}
-        for value in values:
-            name = f"{shape}-{value or 'default'}"
-            text = profile_text(body, value)
-            reached[name] = reached_of(tomllib.loads(text))
-            (folder / f"{name}.toml").write_text(text)
-            (folder / f"{name}.rt1553").write_text(text_of(reached[name]))
-            try:
-                (folder / f"{name}.first.rt1553").write_text(text_of(reached[name], version=1))
-            except Fault:
-                pass
-        for p, q in itertools.permutations(reached, 2):
-            script = compared(reached[p], reached[q])
-            write_case(
-                folder,
-                f"compare-{p}-{q.removeprefix(shape + '-')}",
-                ["compare", f"{p}.toml", f"{q}.toml"],
-                script,
-                0 if script == ["same"] else 1,
-            )
+        profiles = {value or "default": profile_text(body, value) for value in values}
+        for value, text in profiles.items():
+            yield vector_tables.block(f"{shape}-{value}", texts_of(f"{shape}-{value}", text))
+        for p, q in itertools.permutations(profiles, 2):
+            yield comparison(f"compare-{shape}-{p}-{q}", *((f"{shape}-{it}.toml", profiles[it]) for it in (p, q)))
 
 
-main()
+vector_tables.write(pathlib.Path(sys.argv[1]), blocks())

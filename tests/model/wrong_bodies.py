@@ -7,7 +7,6 @@ An edit is a file crates/NAME/must-fail/*.edit. `check` takes half a minute for 
 of the gate. With None in place of a seed the wrong body is right on each script.
 """
 
-import importlib.util
 import pathlib
 import random
 import re
@@ -22,6 +21,10 @@ import pieces
 import rules
 
 TOP = pathlib.Path(__file__).resolve().parents[2]
+sys.path.append(str(TOP / "scripts"))
+
+from edits import applied  # noqa: E402
+
 SCRIPTS, LINES = 400, 150
 # the player, and its line of crates.txt; it reads a canonical text and a script, parted by a line `!`
 NEEDED = "player: bus_terminal bus_script bus_canon byte_streams\n"
@@ -44,9 +47,6 @@ fn main(rt: HostRuntime) -> io::Result<()> {
     Ok(())
 }
 """
-spec = importlib.util.spec_from_file_location("must_fail", TOP / "scripts/must-fail.py")
-must_fail = importlib.util.module_from_spec(spec)
-spec.loader.exec_module(must_fail)
 
 
 class Script(pieces.Script):
@@ -110,7 +110,7 @@ class Script(pieces.Script):
 
 def differing(edit, seeds):
     """The first of these seeds whose script the terminal with this wrong body answers otherwise; or None."""
-    texts, fault = must_fail.applied(edit.read_text(), str(edit.parents[1]))
+    texts, fault = applied(edit.read_text(), str(edit.parents[1]))
     texts = {f"{edit.parents[1].name}/{path}": text for path, text in texts.items()}
     with tempfile.TemporaryDirectory() as room:
         crates, cases = pathlib.Path(room, "crates"), pathlib.Path(room, "cases")

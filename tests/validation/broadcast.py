@@ -3,7 +3,10 @@
 from itertools import product
 
 from errors import spoil, wrong_lengths
-from script import *
+from script import (
+    ALL, BCR, BROADCAST_MODES, BUSES, COUNTS, CS, FAULTS, ME, MODE_SUBADDRESSES, NR, OTHER, SUBADDRESSES, Script, TF,
+    command, data, mode, other_bus, pattern, receive, with_wrong_parity,
+)
 
 
 def families():

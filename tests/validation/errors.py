@@ -1,6 +1,9 @@
 """5.2.1.3 error injection, and 5.2.1.4 superseding commands on the same bus."""
 
-from script import *
+from script import (
+    ALL, BCR, BIT, BUSES, COUNTS, CS, FAULTS, ME, MODES, MODE_SUBADDRESSES, NR, OTHER, OWN, SUBADDRESSES, Script,
+    bits_of, command, data, mode, other_bus, own, pattern, receive, status_of, transmit,
+)
 
 
 def families():

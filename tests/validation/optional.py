@@ -2,7 +2,10 @@
 
 from itertools import product
 
-from script import *
+from script import (
+    ALL, BCR, BIT, BUSES, BUSY, COUNTS, CS, DBA, ME, NR, SR, SSF, SUBADDRESSES, Script, TF, VECTOR, bits_of, command,
+    other_bus, own, pattern, receive, transmit, with_wrong_parity,
+)
 
 
 def families():

@@ -1,6 +1,8 @@
 """5.2.1.5 required mode commands and 5.2.1.6 data wrap-around, of the profile with everything and of the least one."""
 
-from script import *
+from script import (
+    BIT, BUSES, COUNTS, CS, ME, NR, OTHER, Script, TF, VECTOR, mode, other_bus, own, pattern, receive, with_wrong_parity,
+)
 
 # the profiles, with a subaddress that each of them can receive at and transmit from, and the word held there
 PROFILES = {"full": (1, 0x0101), "notice2": (30, 0x0000)}

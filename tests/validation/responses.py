@@ -1,6 +1,9 @@
 """5.2.1.1 response to command words, 5.2.1.2 intermessage gap, 5.2.1.9 unique address."""
 
-from script import *
+from script import (
+    ALL, BCR, BIT, BUSES, CS, DBA, ME, MODES, MODE_SUBADDRESSES, NR, OTHER, OWN, SUBADDRESSES, Script, VECTOR, bits_of,
+    command, data, held, mode, other_bus, own, pattern, receive, status_of, transmit,
+)
 
 
 def families():

@@ -5,7 +5,10 @@ Only the second command is answered, on its bus. What was done at the gap of the
 
 from dataclasses import dataclass
 
-from script import *
+from script import (
+    ALL, BCR, BIT, BUSES, BUSY, CS, ME, NR, OTHER, OWN, Script, bits_of, data, held, mode, other_bus, receive, received,
+    transmit, with_wrong_parity,
+)
 
 
 def is_meant(word):

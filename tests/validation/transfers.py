@@ -3,7 +3,9 @@
 Each error is a list of words, noise and gaps, behind which comes a further gap.
 """
 
-from script import *
+from script import (
+    ALL, BCR, BUSES, CS, ME, NR, OWN, SR, SSF, Script, TF, held, receive, with_other_sync, with_wrong_parity,
+)
 
 WAITS = ["c 2842", "c 3442", "gap"]
 WORDS = ["d 0001", "d 0002"]

@@ -1,0 +1,348 @@
+"""What a drawing of `rt1553-tool draw` must be like.
+
+It is well-formed; each event has a column, in its order, with the number of its line and a title that says it; each word that comes,
+is sent or is handed over has a box, with its digits; a status word that the terminal waits for is drawn as one; no text leaves its
+box, in a font wider than most, nor the name of a message its place; no message is broken, and what has room stands on a page of
+paper; each colour has another one in the dark.
+"""
+
+import re
+import tomllib
+import unicodedata
+import xml.etree.ElementTree as xml
+
+import play
+import rules
+from programs import succeed
+
+SVG, HTML = "{http://www.w3.org/2000/svg}", "{http://www.w3.org/1999/xhtml}"
+# how wide the characters from the space to the tilde are in DejaVu Sans, in thousandths of its size; its Mono has one width
+SANS = [int(it) for it in """
+    318 401 460 838 636 950 780 275 390 390 500 838 318 361 318 337 636 636 636 636 636 636 636 636 636 636 337 337 838 838 838 531
+    1000 684 686 698 770 632 575 775 752 295 295 656 557 863 748 787 603 787 695 635 611 732 684 989 685 611 685 390 337 390 838 500
+    500 613 635 550 635 615 352 635 634 278 278 579 278 974 634 612 635 635 411 521 392 634 592 818 592 592 525 636 337 636 838
+""".split()]
+MONO, SIZE = 602, 12
+# the same for others: those of a double width in a terminal, those that combine with the one before, and the widest letters of DejaVu Sans
+DOUBLE, COMBINING, WIDEST = 1000, 0, 1480
+# how many characters of a name stand in a drawing at most
+MOST_OF_NAME = 40
+# a row is at most as wide as the paper, but where one message alone is wider; and a message has no more events
+PAPER, LONGEST = 960, 64
+# how many messages are folded together where there are more
+TOGETHER = 50
+
+
+def printed(*words):
+    """The text that a program prints, which has to end well."""
+    return succeed(*words).decode()
+
+
+def setup_of(profile):
+    """The terminal of the model, by the text of a profile."""
+    return play.setup_of(tomllib.loads(profile))
+
+
+# text and boxes
+
+
+def classes(it):
+    return it.get("class", "").split()
+
+
+def width_of_char(it):
+    """How wide a character is at most."""
+    if it <= "~":
+        return SANS[ord(it) - 32]
+    if unicodedata.combining(it):
+        return COMBINING
+    return DOUBLE if unicodedata.east_asian_width(it) in "WF" else WIDEST
+
+
+def width_of(text):
+    """How wide a `text` is that stands in a drawing."""
+    said = text.text or ""
+    each = (MONO if "digits" in classes(text) else width_of_char(it) for it in said)
+    return sum(each) * SIZE / 1000
+
+
+def number(it, name):
+    return float(it.get(name))
+
+
+def span_of(text):
+    """From where to where a `text` goes."""
+    width, at = width_of(text), number(text, "x")
+    return (at, at + width) if "name" in classes(text) else (at - width / 2, at + width / 2)
+
+
+def look_at_box(group):
+    """The lines of a box stay in it, one below the other, all of one size."""
+    box = next(it for it in group.iter(f"{SVG}rect") if "box" in classes(it))
+    left, top = number(box, "x"), number(box, "y")
+    right, bottom = left + number(box, "width"), top + number(box, "height")
+    tops = []
+    for text in group.iter(f"{SVG}text"):
+        assert text.text, "a line of a box is empty"
+        start, end = span_of(text)
+        assert left + 2 <= start and end <= right - 2, f"'{text.text}' leaves its box"
+        assert top + SIZE <= number(text, "y") <= bottom - 4, f"'{text.text}' stands above or below its box"
+        tops.append(number(text, "y"))
+    assert all(b - a >= SIZE + 2 for a, b in zip(tops, tops[1:])), "lines of a box cover each other"
+    return left, right
+
+
+# what is drawn
+
+
+class Column:
+    """A column of a message: the number of its line, and its boxes and marks, each with its title."""
+
+    def __init__(self, line):
+        self.line, self.middle, self.groups = int(line.text), number(line, "x"), []
+        self.span = span_of(line)
+
+    def marks(self):
+        """For each box its class, its digits and its title; for a gap and a slot without a word their class."""
+        for group in self.groups:
+            shape = [it for it in group if it.tag != f"{SVG}title" and it.tag != f"{SVG}text" and "area" not in classes(it)]
+            assert len(shape) == 1, "a mark has one shape"
+            digits = [it.text for it in group.iter(f"{SVG}text") if "digits" in classes(it)]
+            yield classes(shape[0])[-1], " ".join(digits), group.find(f"{SVG}title").text
+
+
+def columns_of(message):
+    columns = []
+    for it in message:
+        if it.tag == f"{SVG}text" and "number" in classes(it):
+            columns.append(Column(it))
+        elif it.tag == f"{SVG}g":
+            assert it.get("role") == "img" and it.find(f"{SVG}title") is not None, "a mark has no title or no role"
+            columns[-1].groups.append(it)
+    return columns
+
+
+def look_at_message(message, right):
+    """A message: its columns stand one behind the other, up to its right end, and its name has room."""
+    assert message.get("role") == "img" and message.find(f"{SVG}title").text, "a message has no title or no role"
+    columns = columns_of(message)
+    name = next(it for it in message if "name" in classes(it))
+    assert span_of(name)[1] + 2 <= right, "the name of a message goes into the next one"
+    at = number(message.find(f"{SVG}line"), "x1")
+    for column in columns:
+        assert at <= column.span[0] and column.span[1] <= right, "the number of a line has no room"
+        end = column.span[1]
+        for group in column.groups:
+            if any("box" in classes(it) for it in group):
+                left, end = look_at_box(group)
+                assert at <= left and end <= right, "a box goes into another column"
+        at = max(end, column.span[1])
+    return int(re.match(r"message (\d+)", name.text)[1]), message.find(f"{SVG}title").text, columns
+
+
+def middle_of(shape):
+    """How far down a box or a gap has its middle."""
+    if shape.tag == f"{SVG}rect":
+        return number(shape, "y") + number(shape, "height") / 2
+    return (number(shape, "y1") + number(shape, "y2")) / 2
+
+
+def look_at_row(row, width):
+    """A row: it has just the lanes in which something stands, their names have room, and it fits on paper."""
+    messages = [it for it in row if "message" in classes(it)]
+    lanes = {number(it, "y1"): number(it, "x1") for it in row if "lane" in classes(it)}
+    used = {middle_of(it) for it in row.iter() if {"box", "gap"} & set(classes(it))}
+    assert set(lanes) == used, "a lane is empty, or something stands in none"
+    names = [it for it in row if it.tag == f"{SVG}text"]
+    assert len(names) == len(lanes) + 1, "a lane has no name"
+    assert all(span_of(it)[1] <= at for it in names for at in lanes.values()), "the name of a lane goes into the lane"
+    assert width <= PAPER or len(messages) == 1, "a row of some messages is wider than paper"
+    edges = [number(it.find(f"{SVG}line"), "x1") for it in messages] + [width]
+    return [look_at_message(it, edge) for it, edge in zip(messages, edges[1:])]
+
+
+def look_at_drawing(svg):
+    """A drawing: it has a name and a role, and all stands within. Gives its messages."""
+    title = svg.find(f"{SVG}title").text
+    assert svg.get("role") == "img" and title and svg.get("aria-label") == title, "a drawing has no title or no role"
+    _, _, width, height = map(float, svg.get("viewBox").split())
+    assert (width, height) == (number(svg, "width"), number(svg, "height")), "a drawing has two sizes"
+    for it in svg.iter(f"{SVG}rect"):
+        assert number(it, "y") + number(it, "height") <= height if it.get("y") else True, "something stands below the drawing"
+    rows = [it for it in svg if "row" in classes(it)]
+    widths = [max(number(it, "x2") for it in row if "lane" in classes(it)) if any("lane" in classes(it) for it in row) else width for row in rows]
+    assert all(it <= width for it in widths), "a row goes out of the drawing"
+    return [message for row, at in zip(rows, widths) for message in look_at_row(row, at)]
+
+
+# what is to be drawn
+
+
+def mark_of_event(event, is_status):
+    """The class and the digits of an event's box, where it has one."""
+    name, *rest = event
+    if name == "word":
+        kind, bits, _ = rest[1]
+        if not rules.is_valid(rest[1]):
+            return "wrong", f"{bits:04x}"
+        return {"c": "status" if is_status else "command", "d": "data"}[kind], f"{bits:04x}"
+    if name == "gap":
+        return "gap", ""
+    if name == "noise":
+        return "wrong", ""
+    return "given", "" if name == "flag" else f"{rest[-1]:04x}"
+
+
+def mark_of_answer(line):
+    """The class and the digits of the box of a line of a transcript."""
+    words = line.split(" ")
+    if words[0] != "hand":
+        return "sent", words[2]
+    if words[1] == "receive":
+        return "handed", " ".join(words[4:7] + [".."] * (len(words) > 7))
+    return "handed", words[2] if len(words) > 2 and re.fullmatch("[0-9a-f]{4}", words[2]) else ""
+
+
+def is_awaited(terminal, event):
+    """Whether an event is a status word that the terminal of the model waits for."""
+    message = terminal.message
+    return (event[0] == "word" and rules.is_valid(event[2]) and event[2][0] == "c" and message is not None
+            and message.phase == "waiting" and message.bus == event[1] and event[2][1] >> 11 == message.awaited)
+
+
+class Transfer:
+    """What a message has had of a transfer in which the terminal transmits, whose receiver sends its status last."""
+
+    def __init__(self, setup):
+        self.own, self.words, self.sent, self.over = setup.address, [], False, False
+
+    def is_status(self, event):
+        """Whether a word is that status: the first after the reply, with the receiver's address."""
+        commands = [word for word in self.words if word and rules.is_valid(word) and word[0] == "c"]
+        return (self.over and event[0] == "word" and len(self.words) == len(commands) == 2 and rules.is_valid(event[2]) and event[2][0] == "c"
+                and rules.receives_data(commands[0][1]) and commands[0][1] >> 11 not in (self.own, 31)
+                and rules.is_transmit(commands[1][1]) and commands[1][1] >> 11 == self.own and commands[0][1] >> 11 == event[2][1] >> 11)
+
+    def take(self, event, answer, terminal):
+        if event[0] in ("word", "noise"):
+            self.words.append(event[2] if event[0] == "word" else None)
+        self.over = self.over or bool(answer) and answer[0] in ("status", "data") and terminal.reply is None
+
+
+def look_at_run(setup, script, messages):
+    """The columns of a drawing beside the events of the script, played to the model."""
+    terminal, columns = rules.Terminal(setup), [(message, it) for message in messages for it in message[2]]
+    events = [(at, event) for at, (_, event) in enumerate(play.events_of(script), 1) if event]
+    assert [it[1].line for it in columns] == [at for at, _ in events], "the columns are not those of the events, in their order"
+    assert [it[0] for it in messages] == list(range(1, len(messages) + 1)), "the messages are not numbered from 1"
+    last, transfer, begun = None, Transfer(setup), None
+    for (message, column), (at, event) in zip(columns, events):
+        if message is not last:
+            assert begun is not last or last is None or not must_go_on(terminal, event, last), f"line {at}: a message is broken"
+            transfer = Transfer(setup)
+        is_status = is_awaited(terminal, event) or transfer.is_status(event)
+        before = terminal.message
+        answer = terminal.step(event)
+        # the drawn message in which the message in progress, or the one that is answered, has begun
+        begun = message if terminal.message is not None and terminal.message is not before else begun
+        transfer.take(event, answer, terminal)
+        look_at_column(column, at, event, is_status, play.answer_line(answer) if answer else "")
+        last = message
+    for name, title, columns in messages:
+        assert title.startswith(f"message {name}, line {columns[0].line}" if columns else f"message {name}")
+
+
+def must_go_on(terminal, event, last):
+    """Whether an event belongs to the message before: one is in progress, and this isn't a command on the other bus."""
+    busy = terminal.message or terminal.reply
+    if busy is None or len(last[2]) >= LONGEST:
+        return False
+    return not (event[0] == "word" and event[1] != busy.bus and terminal.is_for_it(event[2]))
+
+
+def look_at_column(column, at, event, is_status, line):
+    marks = list(column.marks())
+    wanted = [] if event[0] == "slot" else [mark_of_event(event, is_status)]
+    wanted += [mark_of_answer(line)] if line else [("silence", "")] if event[0] == "slot" else []
+    assert [it[:2] for it in marks] == wanted, f"line {at} is drawn as {marks}, not as {wanted}"
+    for _, digits, title in marks:
+        said = re.match(r"line (\d+): ([^,]*)", title)
+        assert said and int(said[1]) == at and play.read_event(said[2].encode()) == event, f"the title '{title}' isn't of line {at}"
+        assert not line or f", {line}" in title or title.count(",") == 0, f"the title '{title}' lacks {line}"
+
+
+# colours
+
+
+def rules_of(style):
+    """The rules of a style sheet without blocks: what is said of each selector."""
+    return {name: dict(it.split(":", 1) for it in said.split(";")) for name, said in re.findall(r"([^{}]+)\{([^{}]*)\}", style)}
+
+
+def colours(rule):
+    return {name: said for name, said in rule.items() if name in ("fill", "stroke") and said != "none"}
+
+
+def brightness(colour):
+    digits = colour[1:] if len(colour) == 7 else "".join(it * 2 for it in colour[1:])
+    parts = [int(digits[at : at + 2], 16) / 255 for at in (0, 2, 4)]
+    red, green, blue = (it / 12.92 if it <= 0.03928 else ((it + 0.055) / 1.055) ** 2.4 for it in parts)
+    return 0.2126 * red + 0.7152 * green + 0.0722 * blue
+
+
+def contrast(one, other):
+    low, high = sorted((brightness(one), brightness(other)))
+    return (high + 0.05) / (low + 0.05)
+
+
+def look_at_style(style):
+    """One size of text; each colour has another one in the dark; text can be read on each box, in the light and in the dark."""
+    head, _, tail = style.partition("@media screen and (prefers-color-scheme:dark){text{")
+    assert tail and tail.endswith("}"), "there is no style for the dark"
+    light, dark = rules_of(head), rules_of("text{" + tail[:-1])
+    assert re.findall(r"(\d+)px", light["text"]["font"]) == [str(SIZE)] and "font-size" not in style, "text has more than one size"
+    for name, rule in light.items():
+        wanted = set(colours(rule))
+        assert wanted <= set(colours(dark.get(name, {}))), f"{name} has no colour in the dark"
+    for sheet in (light, dark):
+        for name in ("paper", "command", "status", "data", "wrong", "sent", "given", "handed"):
+            assert contrast(sheet["text"]["fill"], sheet[f".{name}"]["fill"]) >= 4.5, f"text is hard to read on {name}"
+        for name in (".name", ".number"):
+            assert contrast(sheet[name]["fill"], sheet[".paper"]["fill"]) >= 4.5, f"{name} is hard to read"
+    return {it.removeprefix(".") for it in light if colours(light[it])}
+
+
+def look_at_page(page, drawn, style):
+    """A page: a drawing of each message below a line that tells it, what the colours say, and no program."""
+    root = xml.fromstring(page)
+    metas = {it.get("name"): it.get("content") for it in root.iter(f"{HTML}meta")}
+    assert "width=device-width" in metas.get("viewport", ""), "the page tells no viewport"
+    assert not list(root.iter(f"{HTML}script")), "the page has a program"
+    sheet = root.find(f"{HTML}head/{HTML}style").text
+    assert style in sheet and "@page" in sheet and "@media print" in sheet, "the page lacks a style"
+    shapes = [space + shape for space in (SVG, HTML) for shape in ("rect", "line", "circle")]
+    keys = {classes(it)[-1] for key in root.iter(f"{HTML}ul") for it in key.iter() if it.tag in shapes}
+    assert keys == {"command", "status", "data", "wrong", "sent", "given", "handed", "gap", "silence"}, f"the page tells other colours: {keys}"
+    folds = [it for it in root.iter(f"{HTML}details") if it.find(f"{HTML}div") is not None]
+    told = [it.find(f"{HTML}summary").text for it in folds]
+    svgs = [it.find(f"{HTML}div/{SVG}svg") for it in folds]
+    assert told == [it.find(f"{SVG}title").text for it in svgs] == [it[1] for it in drawn], "a fold doesn't tell its message"
+    outer = [it for it in root.iter(f"{HTML}details") if it not in folds]
+    together = -(-len(drawn) // TOGETHER) - (len(drawn) % TOGETHER == 1) if len(drawn) > TOGETHER else 0
+    assert len(outer) == together, "messages are not folded together"
+    here = [message for svg in svgs for message in look_at_drawing(svg)]
+    flat = [[(it.line, list(it.marks())) for it in message[2]] for message in here]
+    assert flat == [[(it.line, list(it.marks())) for it in message[2]] for message in drawn], "the page draws something else"
+
+
+def look_at(tool, program, profile, script):
+    """The drawing and the page of a script, beside the script, its transcript and the model."""
+    svg = xml.fromstring(printed(tool, "draw", profile, script))
+    messages = look_at_drawing(svg)
+    style = svg.find(f"{SVG}style").text
+    look_at_style(style)
+    look_at_run(setup_of(profile.read_text()), script.read_bytes(), messages)
+    answers = printed(program, "run", profile, script).splitlines()
+    drawn = [it[:2] for message in messages for column in message[2] for it in column.marks() if it[0] in ("sent", "handed")]
+    assert drawn == [mark_of_answer(it) for it in answers], "the answers are not those of the transcript"
+    look_at_page(printed(tool, "draw", "--html", profile, script), messages, style)

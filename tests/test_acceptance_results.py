@@ -1,0 +1,215 @@
+"""Tables of results that `rt1553-tool acceptance --against` compares, files that can't be read or written, and progress."""
+
+import contextlib
+import csv
+import io
+import os
+import re
+import subprocess
+
+import canonical
+import pytest
+from exchanges import LARGEST, SMALLEST, modelled, results_in, results_text, table_of, told_by_against
+from programs import Given, Row, check_row, run, write_files
+
+# the exchanges of the largest test
+TOTAL = 3931
+NO_REPLY = "not `none`, or 1 to 33 words of four hexadecimal digits"
+NOT_A_NUMBER = "not the number of an exchange"
+AGAINST = ("acceptance", "profile", "--against", "results")
+REFUSED = [
+    ("", "row 1, column 1: no header"),
+    ("\n\r\n", "row 1, column 1: no header"),
+    ("1,none\n2,2800\n", "row 1, column 3: no column is named number"),
+    ("n,reply\n1,none\n", "row 1, column 3: no column is named number"),
+    ("Number,reply\n1,none\n", "row 1, column 3: no column is named number"),
+    ("number,answer\n1,none\n", "row 1, column 3: no column is named reply"),
+    ("number\n1\n", "row 1, column 2: no column is named reply"),
+    ("number,reply,number\n1,none,1\n", "row 1, column 3: a second column is named number"),
+    ("reply,number,note,reply\nnone,1,,none\n", "row 1, column 4: a second column is named reply"),
+    ("number,reply\n1\n", "row 2, column 2: not as many fields as the header"),
+    ("number,reply\n1,none\n2,2800,\n", "row 3, column 3: not as many fields as the header"),
+    ("number,reply\n0,none\n", f"row 2, column 1: {NOT_A_NUMBER}"),
+    ("number,reply\n1,none\n4294967296,none\n", f"row 3, column 1: {NOT_A_NUMBER}"),
+    ("number,reply\none,none\n", f"row 2, column 1: {NOT_A_NUMBER}"),
+    ("number,reply\n+1,none\n", f"row 2, column 1: {NOT_A_NUMBER}"),
+    ("number,reply\n 1,none\n", f"row 2, column 1: {NOT_A_NUMBER}"),
+    ("reply,number\nnone,1\n2c00,2\nnone,1\n", "row 4, column 2: the number of an earlier row"),
+    ("number,reply\n1,\n", f"row 2, column 2: {NO_REPLY}"),
+    ("number,reply\n1,none\n2,280\n", f"row 3, column 2: {NO_REPLY}"),
+    ("number,reply\n2,2800 \n", f"row 2, column 2: {NO_REPLY}"),
+    ("number,reply\n2,NONE\n", f"row 2, column 2: {NO_REPLY}"),
+    (f"reply,number\n{' '.join(['2800'] * 34)},3\n", f"row 2, column 1: {NO_REPLY}"),
+    (f"number,reply\n1,none\n{TOTAL + 1},none\n2,2800\n", "row 3: no exchange has this number"),
+    ("number,reply\n1,none\n4294967295,none\n", "row 3: no exchange has this number"),
+    # rows are lines of the text, from 1
+    ("\ufeffnumber,reply\r\n\r\n1,none\r\n\r\n0,none\r\n", f"row 5, column 1: {NOT_A_NUMBER}"),
+    ('note,number,reply\n"two\nlines",1,none\n,0,none\n', f"row 4, column 2: {NOT_A_NUMBER}"),
+]
+USAGE = "arguments: see --help\n"
+OUT_OF_RANGE = "profile: profile: root: address is out of range\n"
+FILES = {"profile": LARGEST, "results": "number,reply\n1,none\n"}
+FAILING = [
+    Row("--against with --format csv", (*AGAINST, "--format", "csv"), 3, errors=USAGE, files=FILES),
+    Row("--against with --format json", ("acceptance", "--format", "json", *AGAINST[1:]), 3, errors=USAGE, files=FILES),
+    Row("results that are not there", AGAINST, 4, errors="file: cannot read results\n", files={"profile": LARGEST}),
+    Row("results that are a folder", AGAINST, 4, errors="file: cannot read results\n", files={"profile": LARGEST, "results/in": ""}),
+    Row("a profile that is not there", ("acceptance", "profile"), 4, errors="file: cannot read profile\n"),
+]  # fmt: skip
+WRITES = [("acceptance", "profile"), ("acceptance", "profile", "--format", "csv"), ("acceptance", "profile", "--format", "json"), AGAINST]
+
+
+@pytest.fixture
+def largest(tmp_path):
+    """The exchanges of the test of the profile in the test's folder."""
+    write_files(tmp_path, {"profile": LARGEST})
+    return modelled(canonical.load(tmp_path / "profile"))
+
+
+@pytest.mark.parametrize("text, fault", REFUSED, ids=[f"{number} {fault}"[:60] for number, (_, fault) in enumerate(REFUSED, 1)])
+def test_refused(shipped, text, fault, tmp_path):
+    check_row(shipped.tool, Row("", AGAINST, 2, errors=f"results: results: {fault}\n", files={"profile": LARGEST, "results": text}), tmp_path)
+
+
+# ---- tables that are compared
+
+
+def csv_text(rows, quoting=csv.QUOTE_MINIMAL, end="\n"):
+    """Rows as CSV."""
+    text = io.StringIO()
+    csv.writer(text, lineterminator=end, quoting=quoting).writerows(rows)
+    return text.getvalue()
+
+
+def results_of(row_of, exchanges, header="number,reply", quoting=csv.QUOTE_MINIMAL):
+    """A table of the replies with this header, whose rows a function gives by number and reply."""
+    replies = [(number, " ".join(reply) or "none") for number, reply in results_in(exchanges).items()]
+    return csv_text([header.split(","), *(row_of(*it) for it in replies)], quoting)
+
+
+def with_commands(change, exchanges, number=None):
+    """The table with the command of the row of this number changed, or of each row."""
+    rows = list(csv.reader(io.StringIO(table_of(exchanges))))
+    for row in rows[1:]:
+        if number in (None, int(row[0])):
+            row[2] = change(row[2])
+    return csv_text(rows, end="\r\n")
+
+
+def reversed_rows(exchanges):
+    """The table with its last row first."""
+    header, *rows = table_of(exchanges).splitlines(True)
+    return "".join([header, *reversed(rows)])
+
+
+# tables that say what the exchanges say
+SAME = {
+    "lines that end in LF": lambda it: table_of(it).replace("\r\n", "\n"),
+    "no end of the last line": lambda it: table_of(it).removesuffix("\r\n"),
+    "a byte order mark": lambda it: "\ufeff" + table_of(it),
+    "rows the other way round": reversed_rows,
+    "empty lines": lambda it: "\n\n" + table_of(it).replace("\r\n", "\n\n"),
+    "more columns, in another order": lambda it: results_of(lambda number, reply: (f'a, "b"\n{number}', reply, number), it, "note,reply,number"),
+    "capital digits": lambda it: results_of(lambda number, reply: (number, reply if reply == "none" else reply.upper()), it),
+    "quoted fields": lambda it: results_of(lambda number, reply: (number, reply), it, quoting=csv.QUOTE_ALL),
+    "numbers with zeros before them": lambda it: results_of(lambda number, reply: (f"{number:08}", reply), it),
+    "commands in capital letters": lambda it: with_commands(str.upper, it),
+}
+ANOTHER_COMMAND = {"another command": lambda word: f"{int(word, 16) ^ 1:04x}", "a command of three digits": lambda word: word[1:]}
+MISSING = {
+    "no rows": ((), [f"no result for 1 to {TOTAL}", f"{TOTAL} of {TOTAL} exchanges have no result: no verdict"]),
+    "one row": ((1,), [f"no result for 2 to {TOTAL}", f"{TOTAL - 1} of {TOTAL} exchanges have no result: no verdict"]),
+    "rows that are missing": (
+        [number for number in range(1, TOTAL) if number != 12 and not 100 <= number <= 200],
+        ["no result for 12", "no result for 100 to 200", f"no result for {TOTAL}", f"103 of {TOTAL} exchanges have no result: no verdict"],
+    ),
+}
+
+
+def against(tool, folder, text):
+    """What the program tells of a table of results."""
+    write_files(folder, {"results": text})
+    return run(tool, *AGAINST, folder=folder)
+
+
+@pytest.mark.parametrize("name", SAME)
+def test_same(shipped, largest, name, tmp_path):
+    told = f"all {TOTAL} exchanges are answered as by this terminal: it is the same terminal\n"
+    assert against(shipped.tool, tmp_path, SAME[name](largest)) == Given(0, told.encode(), b"")
+
+
+@pytest.mark.parametrize("name", ANOTHER_COMMAND)
+def test_another_command(shipped, largest, name, tmp_path):
+    told = "results: results: row 4, column 3: another command than that of this exchange\n"
+    assert against(shipped.tool, tmp_path, with_commands(ANOTHER_COMMAND[name], largest, 3)) == Given(2, b"", told.encode())
+
+
+@pytest.mark.parametrize("name", MISSING)
+def test_missing_rows(shipped, largest, name, tmp_path):
+    numbers, told = MISSING[name]
+    rows = table_of(largest).split("\r\n")
+    text = "\n".join(rows[number] for number in [0, *numbers])
+    assert against(shipped.tool, tmp_path, text) == Given(1, "".join(f"{line}\n" for line in told).encode(), b"")
+
+
+def test_other_replies_and_a_missing_row(shipped, largest, tmp_path):
+    long = next(number for number, it in enumerate(largest, 1) if len(it.reply()) == 33)
+    words = largest[long - 1].reply()
+    results = {**results_in(largest), 1: ("2c10",), long: words[:-1]}
+    del results[7]
+    told = ["1: broadcast transmit status word: illegal: expected none, came 2c10",
+            f"{long}: {largest[long - 1].tries}: expected {' '.join(words)}, came {' '.join(words[:-1])}",
+            "no result for 7", f"2 of {TOTAL} exchanges are answered otherwise: it is another terminal"]  # fmt: skip
+    assert told_by_against(largest, results).output.decode().splitlines() == told
+    assert against(shipped.tool, tmp_path, results_text(results)) == told_by_against(largest, results)
+
+
+# ---- files that fail, and progress
+
+
+@pytest.mark.parametrize("row", FAILING, ids=lambda it: it.name)
+def test_failing(shipped, row, tmp_path):
+    check_row(shipped.tool, row, tmp_path)
+
+
+def test_results_that_are_too_large(shipped, tmp_path):
+    write_files(tmp_path, FILES)
+    os.truncate(tmp_path / "results", 68_157_441)
+    assert run(shipped.tool, *AGAINST, folder=tmp_path) == Given(4, b"", b"file: too large results\n")
+
+
+@pytest.mark.parametrize("words", WRITES, ids=" ".join)
+def test_profile_that_is_refused(shipped, words, tmp_path):
+    check_row(shipped.tool, Row("", words, 2, errors=OUT_OF_RANGE, files={**FILES, "profile": "address = 31\n"}), tmp_path)
+
+
+@pytest.mark.parametrize("words", WRITES, ids=" ".join)
+def test_output_that_is_full(shipped, words, tmp_path):
+    write_files(tmp_path, FILES)
+    with open("/dev/full", "wb") as full:
+        done = subprocess.run([shipped.tool, *words], cwd=tmp_path, stdin=subprocess.DEVNULL, stdout=full, stderr=subprocess.PIPE, check=False)
+    assert (done.returncode, done.stderr) == (4, b"output: write failed\n")
+
+
+def read_all(file):
+    """What is written to a terminal, until nobody writes to it any more: that is an error of the system."""
+    shown = b""
+    with contextlib.suppress(OSError):
+        while piece := os.read(file, 65536):
+            shown += piece
+    return shown
+
+
+def test_progress(shipped, tmp_path):
+    """Where somebody looks at the standard error alone, the exchanges are counted there, and the line is empty at the end."""
+    write_files(tmp_path, {"profile": SMALLEST})
+    quiet = run(shipped.tool, "acceptance", "profile", folder=tmp_path).output
+    master, slave = os.openpty()
+    words = [shipped.tool, "acceptance", "profile"]
+    done = subprocess.run(words, cwd=tmp_path, stdin=subprocess.DEVNULL, stdout=subprocess.PIPE, stderr=slave, check=False)
+    os.close(slave)
+    shown = read_all(master)
+    os.close(master)
+    steps = range(64, len(re.findall(rb"^# ", quiet, re.M)) + 1, 64)
+    wanted = "".join(f"\r{number} exchanges" for number in steps) + "\r\x1b[K"
+    assert (done.returncode, done.stdout == quiet, shown.decode()) == (0, True, wanted)

@@ -1,0 +1,217 @@
+"""The drawings of `rt1553-tool draw` beside the scripts, the transcripts of `rt1553 run` and the model of tests/model.
+
+Looks at the drawing and the page of each protocol test, of each example, and of scripts made here, with all status bits, all mode
+codes, long messages and much that looks random (tests/drawings.py tells what is looked at).
+"""
+
+import functools
+import random
+import re
+import xml.etree.ElementTree as xml
+
+import drawings
+import pytest
+import random_scripts
+import rules
+from drawings import HTML, MOST_OF_NAME, SVG, classes
+from programs import TOP, Row, check_row, run, write_files
+
+
+def examples():
+    """Profiles and scripts: those of the protocol tests, by the profile that each names, and the examples."""
+    folder = TOP / "examples/validation"
+    for script in sorted(folder.glob("scripts/*.script")):
+        yield folder / "profiles" / re.match(r"# Profile: (.*)\n", script.read_text())[1], script
+    for script in sorted(TOP.glob("examples/messages/*.script")):
+        yield script.parent / "terminal.toml", script
+    for script in sorted(TOP.glob("examples/scripts/*.script")):
+        for profile in sorted(TOP.glob("examples/profiles/*.toml")):
+            yield profile, script
+
+
+ALL = """address = 5
+broadcast = true
+accept_bus_control = true
+[[rule]]
+direction = "receive"
+subaddresses = "1-30"
+counts = "1-32"
+[[rule]]
+direction = "transmit"
+subaddresses = "1-30"
+counts = "1-32"
+[[rule]]
+to = "broadcast"
+direction = "receive"
+subaddresses = "1-30"
+counts = "1-32"
+[[mode]]
+codes = "0-8,16-19"
+[[mode]]
+to = "broadcast"
+codes = "1,3-8,17"
+"""
+
+
+def status_lines():
+    """Transfers in which the status word of the other terminal has each of its bits alone, all of them, and some."""
+    for bits in [0, *(1 << at for at in range(11)), 0x7FF, 0x700, 0x1F, 0x10C, 0x4E1]:
+        yield from ("A c 2862", "A c 3462", "A gap", f"A c {0x3000 + bits:04x}", "A d 0011", "A d ffff", "A gap", "slot", "slot")
+
+
+def flag_lines():
+    """Each flag and all of them, with a status word behind."""
+    for name in rules.FLAGS:
+        yield from (f"flag {name} 1", "B c 2c02", "B gap", "slot", "B c ffe1", "B d 0001", "B gap", "B c 2c02", "B gap", "slot")
+    yield from ("A c 2c00", "A gap", "slot", "A c 2c0d", "A gap", "slot", "A c 2c02", "A gap", "slot")
+
+
+def mode_lines():
+    """Each mode code, to this terminal, to all and to another one, to transmit and to receive."""
+    for code in range(32):
+        for address in (5, 31, 6):
+            for way in (0, 1):
+                word = [f"A d {code:04x}"] if code >= 16 and not way else []
+                yield from (f"A c {address << 11 | way << 10 | 31 * 32 * (code % 2) | code:04x}", *word, "A gap", "slot", "slot")
+
+
+def long_lines():
+    """The longest messages, and what goes on without end."""
+    words = [f"A d {at * 0x0101:04x}" for at in range(32)]
+    yield from ("A c 2860", *words, "A gap", "slot", "A c 2c60", "A gap", *["slot"] * 34)
+    yield from ("A c f860", "A c 3460", "A gap", "A c 37ff", *words, "A gap", "slot")
+    yield from ("A c 3060", "A c 2c60", "A gap", *["slot"] * 33, "A gap", "A c 3411", "A gap", "A c 2c02", "A gap", "slot")
+    yield from [*["A noise"] * 70, "A gap", *["write 30 32 ffff"] * 70, *["slot"] * 70, *["B gap"] * 70, *["B d 1234 0"] * 70]
+
+
+def transfer_lines():
+    """Transfers on both buses: some are superseded, some end in error, some are followed by what isn't the status."""
+    yield from """A c 2862|A c 3462|A gap|B c 2c02|B gap|slot|A c 3000|A gap|A c 3000|A gap
+A c 2862|A c 3462|A gap|A c 3800|A gap|A c 2862|A c 3462|A gap|B c 3000|A c 3000 1|A gap
+A c 3062|A c 2c62|A gap|slot|slot|slot|B c 3000|A c 3000|A gap|A c 3000|A gap
+A c 3062|A c 2c62|A gap|slot|slot|A c 3000|slot|flag busy 1|A c 3001|A gap
+A c 3062|A noise|A c 2c62|A gap|slot|slot|slot|A c 3000|A gap|A c f862|A c 2c62|A gap|slot|slot|slot|slot
+B c 3062|B c 2c02|B gap|slot|B c 3001|B gap|B c 3001|B gap|A c 2862|B c 3000|A d 0001|A d 0002|A gap|slot""".replace("\n", "|").split("|")
+
+
+def comment_lines():
+    """Comments that state answers where none can be."""
+    return ["#> A s 2800", "#+ more", "A c 2c02", "#> hand sync", "A gap", "slot", "#> A s 2800", "#> A s 2800", "#+", ""]
+
+
+def random_lines(seed):
+    """Messages that look random, to a terminal that may do all."""
+    lines = []
+    subaddresses = [1 + seed % 30, 1 + seed * 7 % 30]
+    messages = random_scripts.Messages(drawings.setup_of(ALL), subaddresses, seed, lambda event, answer: lines.append(random_scripts.line_of(event)))
+    while len(lines) < (3900 if seed == 1 else 40 + 5 * seed):
+        messages.message()
+    return lines[:4096]
+
+
+@functools.lru_cache(maxsize=None)
+def shuffled_lines():
+    """Events of other scripts in another order, five times."""
+    shuffled = random.Random(1553)
+    events = [*status_lines(), *mode_lines(), *flag_lines()]
+    return [shuffled.sample(events, 300) for _ in range(5)]
+
+
+# scripts that are made here, each when it is played
+MADE = {
+    **{it.__name__: it for it in (status_lines, flag_lines, mode_lines, long_lines, transfer_lines, comment_lines)},
+    "none": lambda: [],
+    "alone": lambda: ["slot"],
+    "gap_alone": lambda: ["B gap"],
+    "most": lambda: ["slot"] * 4096,
+    **{f"random-{seed}": functools.partial(random_lines, seed) for seed in range(1, 31)},
+    **{f"shuffled-{at}": lambda at=at: shuffled_lines()[at] for at in range(5)},
+}
+
+
+@pytest.mark.parametrize("profile, script", examples(), ids=lambda it: it.stem)
+def test_drawing(build, profile, script):
+    drawings.look_at(build.tool, build.rt1553, profile, script)
+
+
+@pytest.mark.parametrize("name", MADE)
+def test_drawing_of_what_is_made(build, name, tmp_path):
+    write_files(tmp_path, {"all.toml": ALL, "script": "".join(f"{line}\n" for line in MADE[name]())})
+    drawings.look_at(build.tool, build.rt1553, tmp_path / "all.toml", tmp_path / "script")
+
+
+@pytest.mark.parametrize("script", sorted(TOP.glob("examples/messages/*.script")), ids=lambda it: it.stem)
+def test_drawing_beside_its_script(tool, script):
+    """examples/messages has the drawing of each script, as `draw` makes it."""
+    assert drawings.printed(tool, "draw", script.parent / "terminal.toml", script) == script.with_suffix(".svg").read_text()
+
+
+# names of messages: long ones, wide ones, and such as mean something else in a page
+NAMES = [
+    "speed", 'a "b" \\ c', "<b>&amp;</b>'", "W" * 90, "m" * 40, "m" * 41, "\u901f" * 60, "\u901f" * 40, "\u00e4\u01c4" * 30, "e\u0301" * 20,
+    "\u2026" * 41, "\U0001f600" * 12,
+]  # fmt: skip
+
+
+def shown(name):
+    """A name as it is printed, without the quotes around it."""
+    return re.sub(r"""(["'\\])""", r"\\\1", name)
+
+
+@pytest.fixture
+def named(tmp_path):
+    """A folder with a table of names, and with a script that has a message at each of its subaddresses and one without a name."""
+    quoted = (name.replace('"', '""') for name in NAMES)
+    messages = [f"A c {5 << 11 | at << 5 | 2:04x}\nA d 0001\nA d 0002\nA gap\nslot\n" for at in range(1, len(NAMES) + 2)]
+    write_files(tmp_path, {
+        "all.toml": ALL,
+        "names.csv": "kind,value,subaddress,words,name\naddress,5,,,\n" + "".join(f'receive,,{at},2,"{name}"\n' for at, name in enumerate(quoted, 1)),
+        "empty.csv": "kind,value\naddress,5\n",
+        "script": "".join(messages),
+    })  # fmt: skip
+    return tmp_path
+
+
+def test_names_in_a_drawing(tool, named):
+    """Each name stands above its message, cut where it is long, and all of it in the title; with `--html` also in the summary."""
+    words = ["--names", named / "names.csv", named / "all.toml", named / "script"]
+    svg = xml.fromstring(drawings.printed(tool, "draw", *words))
+    drawn = [message for message in svg.iter(f"{SVG}g") if "message" in classes(message)]
+    drawings.look_at_drawing(svg)
+    summaries = list(xml.fromstring(drawings.printed(tool, "draw", "--html", *words)).iter(f"{HTML}summary"))
+    wanted = []
+    for at, name in enumerate([*NAMES, None], 1):
+        whole = "" if name is None else f' "{shown(name)}"'
+        short = whole if len(whole) <= MOST_OF_NAME + 3 else f' "{shown(name)[:MOST_OF_NAME]}\u2026"'
+        title = f"message {at}, line {5 * at - 4}: to 5: receive {at}, 2 words{whole}; status of 5"
+        wanted.append((f"message {at}{short}", title, title))
+    headings = [next(it for it in message if "name" in classes(it)).text for message in drawn]
+    titles = [message.find(f"{SVG}title").text for message in drawn]
+    assert list(zip(headings, titles, [it.text for it in summaries])) == wanted
+    assert len(drawn) == len(wanted)
+
+
+def test_table_without_names_changes_no_drawing(tool, named):
+    words = [named / "all.toml", named / "script"]
+    assert drawings.printed(tool, "draw", "--names", named / "empty.csv", *words) == drawings.printed(tool, "draw", *words)
+
+
+ROWS = [
+    Row("draw: a script that is refused", "draw five refused", 2,
+        errors="refused: script: line 3, column 5: a space at the end: nothing may follow the last field\n",
+        files={"five": "address = 5\n", "refused": "A c 2c02\nA gap\nslot \n"}),
+    Row("draw: too many events", "draw five most", 2,
+        errors="most: script: too many events to draw\n", files={"five": "address = 5\n", "most": "slot\n" * 4097}),
+]  # fmt: skip
+
+
+@pytest.mark.parametrize("row", ROWS, ids=lambda it: it.name)
+def test_what_is_not_drawn(tool, row, tmp_path):
+    check_row(tool, row, tmp_path)
+
+
+def test_as_many_events_as_may_be(tool, tmp_path):
+    write_files(tmp_path, {"five": "address = 5\n", "most": "slot\n" * 4096})
+    given = run(tool, "draw", "five", "most", folder=tmp_path)
+    assert (given.status, given.errors) == (0, b"")
+    assert b"</svg>" in given.output.splitlines()[-1]

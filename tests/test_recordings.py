@@ -1,0 +1,383 @@
+"""Recordings that look random, judged by `rt1553-tool verify --any-subsystem` and by a decision of its own.
+
+The model of the rules plays messages that look random, while a subsystem does something now and then. What a monitor on the buses sees of
+each run is a recording, which has to be explained, and `rt1553` plays the script that `--witness` prints to the recorded words. Then each
+is changed in one slot: a bit, the kind, silence or a word. Of some, data words are left open. `decided` tells how many sightings are
+explained then. Other runs are seen from some time on, with a pause in them: `--already-on` judges their first part that begins afresh,
+and `rt1553` plays the scripts that explain some of them. For some runs `infer` has to propose a profile that explains them. Units with
+such a subsystem also answer the acceptance test, right and with a changed reply."""
+
+import functools
+import random
+import re
+import tomllib
+
+import play
+import pytest
+import random_scripts
+import rules
+from decided import AnySubsystem, explained, explained_later, fresh_part
+from programs import Given, run, write_files
+
+PROFILES = range(16)
+RUNS, LATER_RUNS, SOME_RUNS, MESSAGES = 20_000, 5_000, 1_600, 8
+UNSEEN = ("write", "vector", "bit", "flag")
+PAUSE = (("gap", "A"), ("gap", "A"), ("gap", "B"), ("gap", "B"), ("slot",))
+
+
+# ---- recordings
+
+
+@functools.lru_cache(maxsize=None)
+def setup_of(number):
+    """The terminal of a profile."""
+    return play.setup_of(tomllib.loads(random_scripts.profile_of(number)))
+
+
+def messages_of(setup, seed):
+    """What plays messages that look random, and what is seen of them."""
+    recording = []
+
+    def note(event, answer):
+        if event[0] not in UNSEEN:
+            recording.append((event, answer if answer and answer[0] in ("status", "data") else None))
+
+    return random_scripts.Messages(setup, (29, 30), seed, note), recording
+
+
+def recorded(setup, seed):
+    """A run, as it is seen."""
+    messages, recording = messages_of(setup, seed)
+    for _ in range(MESSAGES):
+        messages.message()
+    return recording
+
+
+def recorded_later(setup, seed):
+    """A run of a unit that was on before, as it is seen from some time on. It has a pause."""
+    messages, recording = messages_of(setup, seed)
+    for _ in range(MESSAGES):
+        messages.message()
+    while messages.terminal.reply:
+        messages.take(("slot",))
+    begin = random.Random(seed).randrange(len(recording) + 1)
+    for event in PAUSE:
+        messages.take(event)
+    for _ in range(MESSAGES):
+        messages.message()
+    return recording[begin:]
+
+
+def other_word(draw, sent):
+    """Another word in place of one that was sent, or of none."""
+    if sent is None:
+        return (draw.choice(("status", "data")), draw.choice("AB"), draw.getrandbits(16))
+    kind, bus, bits = sent
+    flipped = [(kind, bus, bits ^ 1 << draw.randrange(16)) for _ in range(3)]
+    return draw.choice([None, ("data" if kind == "status" else "status", bus, bits), (kind, rules.other_bus(bus), bits), *flipped])
+
+
+def changed(recording, seed):
+    """The recording, with another word in one slot; None where it has no slot."""
+    draw = random.Random(seed)
+    slots = [n for n, (event, _) in enumerate(recording) if event == ("slot",)]
+    if not slots:
+        return None
+    at = draw.choice(slots)
+    return [*recording[:at], (("slot",), other_word(draw, recording[at][1])), *recording[at + 1 :]]
+
+
+def with_open_words(recording, seed):
+    """The recording, with half of its data words left open: they have no bits."""
+    draw = random.Random(seed)
+    return [(event, (*sent[:2], None) if sent and sent[0] == "data" and draw.random() < 0.5 else sent) for event, sent in recording]
+
+
+def whole_runs(number):
+    """The runs of a profile."""
+    return [recorded(setup_of(number), seed) for seed in range(number, RUNS, len(PROFILES))]
+
+
+def some_runs(number):
+    """The first of them."""
+    return [recorded(setup_of(number), seed) for seed in range(number, SOME_RUNS, len(PROFILES))]
+
+
+def opened(recordings, number):
+    """The first of these recordings of a profile with words left open."""
+    return [with_open_words(it, seed) for it, seed in zip(recordings, range(number, SOME_RUNS, len(PROFILES)))]
+
+
+def open_runs(number):
+    """The first runs of a profile with words left open."""
+    return opened(some_runs(number), number)
+
+
+def changed_runs(number):
+    """The runs of a profile, each changed in one slot, and some of these with words left open."""
+    others = [it for it in map(changed, whole_runs(number), range(number, RUNS, len(PROFILES))) if it]
+    return others + opened(others, number)
+
+
+def later_runs(number):
+    """The runs of a profile that are seen from some time on, as they are, changed, and with words left open."""
+    seeds = range(number, LATER_RUNS, len(PROFILES))
+    later = [recorded_later(setup_of(number), seed) for seed in seeds]
+    later += [it for it in map(changed, later, seeds) if it]
+    return later + opened(later, number)
+
+
+def some_later_runs(number):
+    """Each fifth of the runs that are seen from some time on."""
+    return later_runs(number)[::5]
+
+
+# ---- as scripts
+
+
+def stated(sent):
+    """The line of a word, of one that is left open its mask; and `nothing`."""
+    if not sent:
+        return "nothing"
+    return f"{sent[1]} d ...." if sent[2] is None else play.answer_line(sent)
+
+
+def script_of(recording):
+    """A recording as a script: its lines, and the number of the line of each event."""
+    lines, numbers = [], []
+    for event, sent in recording:
+        lines.append(random_scripts.line_of(event))
+        numbers.append(len(lines))
+        if sent:
+            lines.append(f"{'#~' if sent[2] is None else '#>'} {stated(sent)}")
+    return "".join(f"{line}\n" for line in lines), numbers
+
+
+def write_recordings(folder, number, recordings):
+    """Writes a profile and recordings, which are named by their numbers."""
+    files = {str(n): script_of(it)[0] for n, it in enumerate(recordings)}
+    write_files(folder, {"profile.toml": random_scripts.profile_of(number), **files})
+
+
+def sent_of(line):
+    """The word of a line, as `verify` prints it."""
+    if found := re.fullmatch("([AB]) ([sd]) ([0-9a-f]{4})", line):
+        return ("status" if found[2] == "s" else "data", found[1], int(found[3], 16))
+    return None
+
+
+# ---- what `verify` tells
+
+
+def told_of(text, end=":"):
+    """What is told of each recording, by its name."""
+    told = {}
+    for line in text.decode().splitlines():
+        told.setdefault(line.partition(end)[0], []).append(line)
+    return told
+
+
+def check_told(explains, recording, name, numbers, told):
+    """This is what is to be told of a recording, of which so many sightings are explained as `explains` says."""
+    count = explains(recording)
+    if count == len(recording):
+        assert told == []
+        return
+    event, sent = recording[count]
+    found = re.fullmatch("(.*), came (.*)", told[0]) if told else None
+    assert found and [found[1], *told[1:]] == [f"{name}:{numbers[count]}: expected {stated(sent)}", f"{name}: differences: 1"], told
+    assert explains([*recording[:count], (event, sent_of(found[2]))]) == count + 1, f"{name}: this can't come: {found[2]}"
+
+
+def verified(tool, folder, names, *options):
+    """What `verify` tells of recordings, and with what warnings, by the name of each."""
+    given = run(tool, "verify", "--any-subsystem", *options, "profile.toml", *names, folder=folder, timeout=600)
+    warnings = b"".join(it for it in given.errors.splitlines(True) if not it.endswith(b": warning: the script states no answer\n"))
+    return told_of(given.output), told_of(warnings)
+
+
+def check_judged(build, folder, setup, recordings):
+    """What is told of these recordings is what is to be told."""
+    told, warnings = verified(build.tool, folder, map(str, range(len(recordings))))
+    assert warnings == {}
+    for n, recording in enumerate(recordings):
+        check_told(functools.partial(explained, setup), recording, str(n), script_of(recording)[1], told.get(str(n), []))
+
+
+def check_explained(build, folder, setup, recordings):
+    """The same, where they are runs of the model: it explains them."""
+    assert [explained(setup, it) for it in recordings] == [len(it) for it in recordings], "the model does not explain its own runs"
+    check_judged(build, folder, setup, recordings)
+
+
+def check_judged_later(build, folder, setup, recordings):
+    """The same of recordings that begin later, and what part of each is judged."""
+    told, parts = verified(build.tool, folder, map(str, range(len(recordings))), "--already-on")
+    for n, recording in enumerate(recordings):
+        begin, lines, name = fresh_part(setup, recording), script_of(recording)[1], str(n)
+        if begin is None:
+            assert (told.get(name), parts[name]) == (None, [f"{name}: warning: nothing is judged: no part begins afresh after a pause"])
+        else:
+            assert parts[name] == [f"{name}: judged after line {lines[begin - 1]}"]
+            check_told(functools.partial(explained_later, setup), recording[begin:], name, lines[begin:], told.get(name, []))
+
+
+# ---- scripts that explain them
+
+
+def lines_of(recording):
+    """The lines of the events of a recording."""
+    return [random_scripts.line_of(event) for event, _ in recording]
+
+
+def witness_of(build, folder, name, *options):
+    """The status with which a build explains a recording, the events of the script that it prints, and the words to which `rt1553` plays it."""
+    made = run(build.tool, "verify", "--any-subsystem", "--witness", *options, "profile.toml", name, folder=folder)
+    ran = run(build.rt1553, "run", "profile.toml", "/dev/stdin", stdin=made.output, folder=folder)
+    events = [it for it in made.output.decode().splitlines() if not it.startswith(UNSEEN)]
+    return made.status or ran.status, events, [it for it in ran.output.decode().splitlines() if not it.startswith("hand ")]
+
+
+def check_words(lines, recording):
+    """These lines are the recorded words; of one that is left open only its bus and kind count."""
+    words = [stated(word) for _, word in recording if word]
+    assert [line[: len(word.rstrip("."))] for line, word in zip(lines, words)] == [word.rstrip(".") for word in words[: len(lines)]]
+    assert len(lines) == len(words)
+
+
+def check_played(build, folder, _, recordings):
+    """The script that explains each of these recordings has its events, and the program plays it to the recorded words."""
+    for n, recording in enumerate(recordings):
+        status, events, words = witness_of(build, folder, str(n))
+        assert (status, events) == (0, lines_of(recording)), n
+        check_words(words, recording)
+
+
+def check_inferred(build, folder, setup, recordings):
+    """For each of these recordings a profile is proposed, which explains it."""
+    for n in range(len(recordings)):
+        made = run(build.tool, "infer", str(n), "--address", str(setup.address), folder=folder)
+        write_files(folder, {f"{n}.toml": made.output})
+        ran = run(build.tool, "verify", "--any-subsystem", f"{n}.toml", str(n), folder=folder)
+        assert (made.status, ran.status) == (0, 0), n
+
+
+def check_played_later(build, folder, setup, recordings):
+    """The same as `check_played`, of recordings that begin later."""
+    for n, recording in enumerate(recordings):
+        check_one_played_later(build, folder, setup, recording, str(n))
+
+
+def check_one_played_later(build, folder, setup, recording, name):
+    """The script that explains a recording which began later shuts transmitters down and then has the events of the part that is judged,
+    and the program plays it to the words of the part; or it isn't explained, and the status says so."""
+    begin = fresh_part(setup, recording)
+    part = recording[len(recording) if begin is None else begin :]
+    status, events, words = witness_of(build, folder, name, "--already-on")
+    if explained_later(setup, part) != len(part):
+        assert status == 1, name
+        return
+    # in subaddress 0, transmitter shutdown on the other bus
+    shut = [line for bus in "AB" for line in (f"{bus} c {setup.address << 11 | 0x404:04x}", f"{bus} gap", "slot")]
+    before = len(events) - len(part)
+    assert (status, events[before:]) == (0, lines_of(part)), name
+    assert events[:before] in ([], shut[:3], shut[3:], shut[3:] + shut[:3], shut), name
+    # the first is answered; the second comes on a bus that is shut down by then
+    check_words(words[min(before // 3, 1) :], part)
+
+
+# ---- the acceptance test of a unit
+
+
+def exchanges_of(script):
+    """The events of an acceptance test, exchange by exchange."""
+    exchanges = []
+    for _, event in play.events_of(script):
+        if event and event[0] == "word" and event[2][0] == "c":
+            exchanges.append([])
+        if event:
+            exchanges[-1].append(event)
+    return exchanges
+
+
+def replies_of(setup, exchanges, seed):
+    """What a unit replies to each exchange, while its subsystem does something now and then."""
+    terminal, draw, replies = rules.Terminal(setup), random.Random(seed), []
+    for events in exchanges:
+        if draw.random() < 0.1:
+            terminal.step(("flag", draw.choice(rules.FLAGS), draw.randrange(2)))
+        answers = [terminal.step(it) for it in events]
+        replies.append([it[2] for it in answers if it and it[0] in ("status", "data")])
+    return replies
+
+
+def changed_replies(draw, replies):
+    """The replies, one of which has another last word, a word more or a word less."""
+    at = draw.randrange(len(replies))
+    reply = replies[at]
+    if reply and draw.random() < 0.5:
+        words = [*reply[:-1], reply[-1] ^ 1 << draw.randrange(16)]
+    else:
+        words = [*reply, draw.getrandbits(16)] if len(reply) < 33 else reply[:-1]
+    return [*replies[:at], words, *replies[at + 1 :]]
+
+
+def answered(setup, exchanges, replies):
+    """How many exchanges some behaviour of the subsystem explains with these replies, and then how many words of the next."""
+    terminal = AnySubsystem(setup)
+    for number, (events, reply) in enumerate(zip(exchanges, replies)):
+        for event in (it for it in events if it != ("slot",)):
+            terminal.step(event)
+        for at in range(max(len(reply), events.count(("slot",)))):
+            sent = (("data" if at else "status"), "A", reply[at]) if at < len(reply) else None
+            if not terminal.can_send(sent):
+                return number, at
+    return len(exchanges), 0
+
+
+def check_unit(tool, folder, setup, exchanges, replies):
+    """A build says of these replies to the acceptance test what is to be said."""
+    rows = [f"{n},{' '.join(f'{word:04x}' for word in reply) or 'none'}" for n, reply in enumerate(replies, 1)]
+    write_files(folder, {"results": "".join(f"{row}\n" for row in ["number,reply", *rows])})
+    given = run(tool, "acceptance", "--against", "results", "--any-subsystem", "profile.toml", folder=folder)
+    number, at = answered(setup, exchanges, replies)
+    if number == len(exchanges):
+        assert given == Given(0, f"some behaviour of the subsystem explains all {number} exchanges\n".encode(), b"")
+        return
+    found = re.match(r"(\d+): .*, word (\d+) can be .*\n", given.output.decode())
+    assert found and (given.status, int(found[1]), int(found[2])) == (1, number + 1, at + 1), given
+
+
+# ---- the tests, of each profile
+
+
+KINDS = {
+    "whole": (whole_runs, check_explained),
+    "whole, played": (whole_runs, check_played),
+    "inferred": (some_runs, check_inferred),
+    "changed": (changed_runs, check_judged),
+    "with open words": (open_runs, check_judged),
+    "with open words, played": (open_runs, check_played),
+    "later": (later_runs, check_judged_later),
+    "later, played": (some_later_runs, check_played_later),
+}
+
+
+@pytest.mark.parametrize("kind", KINDS)
+@pytest.mark.parametrize("number", PROFILES)
+def test_recordings(shipped, number, kind, count_runs, tmp_path):
+    recordings_of, check = KINDS[kind]
+    recordings = recordings_of(number)
+    write_recordings(tmp_path, number, recordings)
+    check(shipped, tmp_path, setup_of(number), recordings)
+    count_runs(len(recordings))
+
+
+@pytest.mark.parametrize("number", PROFILES)
+def test_units(shipped, number, count_runs, tmp_path):
+    write_recordings(tmp_path, number, [])
+    exchanges = exchanges_of(run(shipped.tool, "acceptance", "profile.toml", folder=tmp_path).output)
+    draw, replies = random.Random(number), replies_of(setup_of(number), exchanges, number)
+    for unit in [replies, changed_replies(draw, replies), changed_replies(draw, replies)]:
+        check_unit(shipped.tool, tmp_path, setup_of(number), exchanges, unit)
+    count_runs(3)

@@ -1,0 +1,279 @@
+"""The reports of `rt1553-tool` that machines read: `verify` and `coverage` in each format, and `lint` as SARIF.
+
+Plays the protocol tests, and scripts made here that pass, differ, are refused or can't be read. Names of files, clauses, answers,
+keys and values of profiles have each character that would mean something in XML, JSON or HTML or to a terminal. A report has no times,
+so that it is the same each time. What each must be like is in tests/reports.py.
+"""
+
+import json
+import os
+import subprocess
+from typing import NamedTuple
+
+import pytest
+import reports
+from programs import TOP, Row, check_row, run, with_files, write_files
+
+# what means something in XML, HTML, JSON or a URI, or is no text of XML, or lies beyond the first plane
+MARKED = ["<", ">", "&", '"', "'", "\\", "]]>", "-->", "%", "#", "?", ":", " ", "{", "é", "\ufffe", "\uffff", "\U0001f600", "\U000e0001"]
+HOSTILE = [*reports.CONTROLS, *reports.TURNING, *MARKED]
+FORMATS = ["json", "junit", "html"]
+GOOD = "A c 2c02\nA gap\nslot\n#> A s 2800\n"
+SILENT = "A c 2c02\nA gap\nslot\n"
+FIVE = {"five": "address = 5\n"}
+
+SMALL = {
+    **FIVE,
+    "good": f"# Plan: 5.2.1, 5.2.1.1\n{GOOD}",
+    "wrong": f"# Plan: 5.2.1\n{SILENT}#> A s 2c00\nslot\n#> A d 0000\nA gap\n{GOOD}{SILENT}",
+    "broken": "A c 2c02\nA gap\nslot \n",
+    "empty": "# a comment\n",
+    "unstated": "A gap\n",
+}
+FOLDER = {
+    **FIVE,
+    "six": "address = 6\n",
+    "one": f"# Profile: five\n# Plan: 2\n{GOOD}",
+    "two": f"# Profile: six\n# Standard: 10\n{GOOD}",
+    "bare": f"# Plan: 2\n{GOOD}",
+    "away": f"# Profile: ../five\n{GOOD}",
+    "gone": f"# Profile: seven\n{GOOD}",
+}
+LONG = {f"long{count}": "slot\n" * count + "#> A s 2800\n" for count in (4096, 4097)}
+HOSTILE_SCRIPTS = {
+    **{f"scr{it}ipt{at}": f"# Profile: pro{it}file\n# Plan: 5{it}2, x{it}, y\n{SILENT}#> A s {it}\n#+ {it}x\n" for at, it in enumerate(HOSTILE)},
+    "bytes": b"# Profile: \xff\n# Plan: \xff\x9b1m\nA c 2c02\nA gap\nslot\n#> A s \xff\n",
+}
+HOSTILE_FILES = {**FIVE, **HOSTILE_SCRIPTS, **{f"pro{it}file": "address = 5\n" for it in HOSTILE}}
+
+
+class Verified(NamedTuple):
+    """Scripts that are verified together, by `verify WORDS NAMES` in a folder with these files, or in this repository."""
+
+    name: str
+    words: list
+    names: list
+    files: "dict | None"
+
+
+VERIFIED = [
+    Verified("small scripts", ["five"], ["good", "wrong", "broken", "none"], SMALL),
+    Verified("nothing differs", ["five"], ["good"], SMALL),
+    Verified("scripts that show nothing", ["five"], ["empty", "unstated", "good"], SMALL),
+    Verified("a script that is refused alone", ["five"], ["broken"], SMALL),
+    Verified("each script names its profile", ["--profiles", "."], ["one", "two", "bare", "away", "gone", "none", "one"], FOLDER),
+    *(Verified(f"{name[4:]} events", ["five"], [name], {**FIVE, name: text}) for name, text in LONG.items()),
+    Verified("60 messages that differ", ["five"], ["each"], {**FIVE, "each": SILENT * 60}),
+    Verified("hostile names, clauses and answers", ["--profiles", "."], [*HOSTILE_SCRIPTS], HOSTILE_FILES),
+    Verified("hostile clauses and answers", ["five"], [*HOSTILE_SCRIPTS], HOSTILE_FILES),
+    Verified("hostile names that are not there", ["five"], [f"no{it}ne" for it in HOSTILE], FIVE),
+    Verified("the protocol tests", ["--profiles", "examples/validation/profiles"],
+             [str(it.relative_to(TOP)) for part in ("scripts", "choices") for it in sorted((TOP / "examples/validation" / part).glob("*"))], None),
+]  # fmt: skip
+# what is drawn on a page: the lines of the messages that differ; None where there are too many events
+DRAWN = {
+    "small scripts": ("wrong", [2, 3, 4, 6, 8, 13, 14, 15]),
+    "4096 events": ("long4096", [*range(4033, 4097)]),
+    "4097 events": ("long4097", None),
+    "60 messages that differ": ("each", [*range(1, 181)]),
+}
+
+
+@pytest.fixture(scope="module")
+def shown(tool):
+    return reports.Shown(tool)
+
+
+@pytest.fixture
+def verify(tool, tmp_path):
+    """Verifies scripts in a format, or with other options."""
+    def verify(it, *options):
+        write_files(tmp_path, it.files or {})
+        return run(tool, "verify", *options, *it.words, *it.names, folder=tmp_path if it.files else TOP)
+
+    return verify
+
+
+@pytest.mark.parametrize("it", VERIFIED, ids=lambda it: it.name)
+@pytest.mark.parametrize("form", FORMATS)
+def test_report(verify, shown, it, form):
+    """Each format says the same as the text format, and has the same status and the same faults."""
+    told = reports.Told(verify(it, "--summary"), [shown[name] for name in it.names])
+    given = verify(it, "--format", form)
+    assert (given.status, reports.lines_of(given.errors)) == (told.status, told.told)
+    profile = it.words[0] if len(it.words) == 1 else None
+    found = reports.look_at_json(verify(it, "--format", "json").output.decode(), told, it.names, profile, shown)
+    if form == "junit":
+        reports.look_at_junit(given.output.decode(), found, shown)
+    elif form == "html":
+        reports.look_at_page(given.output.decode(), found, told.clauses, shown)
+
+
+@pytest.mark.parametrize("it", [it for it in VERIFIED if it.name in DRAWN], ids=lambda it: it.name)
+def test_messages_that_are_drawn(verify, it):
+    name, lines = DRAWN[it.name]
+    assert reports.drawn_lines(verify(it, "--format", "html").output.decode(), name) == lines
+
+
+def test_profiles_in_a_report(verify):
+    it = next(it for it in VERIFIED if it.files is FOLDER)
+    found = reports.objects_of(verify(it, "--format", "json").output.decode())
+    assert [one["profile"] for one in found] == ["five", "six", None, "../five", "seven", None, "five"]
+
+
+ROWS = with_files(
+    SMALL,
+    Row("JSON to the byte", "verify --format json five good wrong broken none", 4,
+        '{"file":"good","profile":"five","passes":true,"answers":1,"warning":null,"clauses":["5.2.1","5.2.1.1"],"differences":[],"fault":null}\n'
+        '{"file":"wrong","profile":"five","passes":false,"answers":3,"warning":null,"clauses":["5.2.1"],"differences":['
+        '{"line":4,"expected":"A s 2c00","came":"A s 2800"},{"line":6,"expected":"A d 0000","came":null},'
+        '{"line":15,"expected":null,"came":"A s 2800"}],"fault":null}\n'
+        '{"file":"broken","profile":"five","passes":false,"answers":null,"warning":null,"clauses":[],"differences":[],'
+        '"fault":"broken: script: line 3, column 5: a space at the end: nothing may follow the last field"}\n'
+        '{"file":"none","profile":"five","passes":false,"answers":null,"warning":null,"clauses":[],"differences":[],'
+        '"fault":"file: cannot read none"}\n',
+        "broken: script: line 3, column 5: a space at the end: nothing may follow the last field\nfile: cannot read none\n"),
+    Row("JUnit to the byte", "verify --format junit five good wrong none", 4, """\
+<?xml version="1.0" encoding="UTF-8"?>
+<testsuites tests="3" failures="1" errors="1" skipped="0" time="0">
+<testsuite name="rt1553-tool verify" tests="3" failures="1" errors="1" skipped="0" time="0">
+<testcase name="good" classname="five" time="0">
+<properties>
+<property name="clause" value="5.2.1"/>
+<property name="clause" value="5.2.1.1"/>
+</properties>
+</testcase>
+<testcase name="wrong" classname="five" time="0">
+<properties>
+<property name="clause" value="5.2.1"/>
+</properties>
+<failure message="differences: 3">wrong:4: expected A s 2c00, came A s 2800
+wrong:6: expected A d 0000, came nothing
+wrong:15: expected nothing, came A s 2800
+</failure>
+</testcase>
+<testcase name="none" classname="five" time="0">
+<error message="file: cannot read none"/>
+</testcase>
+</testsuite>
+</testsuites>
+""", "file: cannot read none\n"),
+    *(Row(f"--summary beside {it}", f"verify --summary --format {it} five good", 3, errors="arguments: see --help\n") for it in FORMATS),
+    *(Row(f"a profile that is not there: {it}", f"verify --format {it} none good", 4, errors="file: cannot read none\n") for it in FORMATS),
+)  # fmt: skip
+
+
+@pytest.mark.parametrize("row", ROWS, ids=lambda it: it.name)
+def test_rows(tool, row, tmp_path):
+    check_row(tool, row, tmp_path)
+
+
+@pytest.mark.skipif(not os.path.exists("/dev/full"), reason="there is no /dev/full")
+@pytest.mark.parametrize("form", FORMATS)
+def test_failed_write(tool, form, tmp_path):
+    write_files(tmp_path, SMALL)
+    with open("/dev/full", "wb") as full:
+        words = [tool, "verify", "--format", form, "five", "wrong", "wrong"]
+        given = subprocess.run(words, cwd=tmp_path, stdout=full, stderr=subprocess.PIPE, check=False)
+    assert (given.returncode, given.stderr) == (4, b"output: write failed\n")
+
+
+def test_text_is_the_default(tool, tmp_path):
+    write_files(tmp_path, SMALL)
+    given = run(tool, "verify", "--format", "text", "five", "wrong", folder=tmp_path)
+    assert given == run(tool, "verify", "five", "wrong", folder=tmp_path)
+    assert given.status == 1
+
+
+# what recordings show, as a page
+
+COVERED = {
+    "few": 'address = 5\nbroadcast = true\n[[rule]]\nto = "both"\ndirection = "receive"\nsubaddresses = "1-2"\ncounts = "1-2"\n',
+    "came": f"{GOOD}A c 2821\nA d 1234\nA gap\nslot\n#> A s 2808\nA c f841\nA d 0001\nA gap\nA c 2822\nA d 0001\nA gap\n",
+    "illegal": "A c 2c61\nA gap\nslot\n#> A s 2c00\nA c 2802\nA gap\nslot\n#> A s 2c00\nA c fc02\nA gap\n",
+    "unnamed.csv": "kind,value,subaddress,words,name\naddress,5,,,\n",
+}
+
+
+class Covered(NamedTuple):
+    """A profile, recordings and a table of names, or None, and the files."""
+
+    name: str
+    profile: str
+    recordings: list
+    names: "str | None" = None
+    files: dict = COVERED
+
+
+def covered_with(it):
+    """A profile, a recording and a name that have this text in them."""
+    files = {f"few{it}": "address = 5\n", f"came{it}": "A c 2c02\nA gap\n",
+             "names.csv": f'kind,value,subaddress,words,code,name\naddress,5,,,,\nmode,,,,2,"na{it}me"\n'}  # fmt: skip
+    return Covered(ascii(it), f"few{it}", [f"came{it}"], "names.csv", files)
+
+
+COVERAGES = [
+    Covered("a recording", "few", ["came"]),
+    Covered("two recordings", "few", ["came", "illegal"]),
+    Covered("no name", "few", ["came", "illegal"], "unnamed.csv"),
+    *(covered_with(it) for it in HOSTILE if it != '"'),
+]
+
+
+@pytest.mark.parametrize("it", COVERAGES, ids=lambda it: it.name)
+def test_coverage(tool, shown, it, tmp_path):
+    write_files(tmp_path, it.files)
+    words = ["coverage", *(["--names", it.names] if it.names else []), it.profile, *it.recordings, "--format"]
+    told, page = (run(tool, *words, form, folder=tmp_path) for form in ("json", "html"))
+    assert [(given.status, given.errors) for given in (told, page)] == [(0, b"")] * 2
+    reports.look_at_coverage(page.output.decode(), json.loads(told.output), it.profile, it.recordings, bool(it.names), shown)
+
+
+# profiles as SARIF
+
+LINTED = {
+    "idle": "address = 5\nvector = 7\n",
+    "two": 'address = 31\n\n[[rule]]\ndirection = "up"\nsubadress = 3\n',
+    "open": "x = [\n",
+    "canonical": "rt1553 2\naddress 05\nbroadcast 2\n",
+    **FIVE,
+    "a b%c#d?e:f": "address = 5\nbit = 1\n",
+    **{f"pro{it}file": f'address = 5\n"k{it}" = "{it}"\n' for it in HOSTILE},
+    "deep": "address = 5\nvector = 7\n" + "".join(f"[[initial]]\nsubaddress = {it}\nwords = [{', '.join(['1'] * 32)}]\n" for it in range(1, 31)),
+}
+
+
+@pytest.fixture
+def sarif(tool, tmp_path):
+    """The run of SARIF over files, beside the same as JSON."""
+    write_files(tmp_path, LINTED)
+
+    def sarif(*names):
+        given, told = (run(tool, "lint", "--format", form, *names, folder=tmp_path) for form in ("sarif", "json"))
+        assert (given.status, given.errors) == (told.status, told.errors)
+        return reports.look_at_sarif(given.output.decode(), [json.loads(line) for line in reports.lines_of(told.output)])
+
+    return sarif
+
+
+@pytest.mark.parametrize("name", LINTED, ids=ascii)
+def test_sarif(sarif, name):
+    sarif(name)
+
+
+def test_sarif_of_a_path_from_the_root(sarif, tmp_path):
+    sarif(str(tmp_path / "idle"))
+
+
+def test_sarif_of_all_files(sarif, tmp_path):
+    sarif(*LINTED, str(tmp_path / "idle"), "none", "two")
+
+
+@pytest.mark.parametrize("name", ["five", "none"])
+def test_sarif_without_results(sarif, name):
+    assert sarif(name)["results"] == []
+
+
+def test_sarif_rules(sarif):
+    rules = [it["id"] for it in sarif("idle", "two", "open", "canonical")["tool"]["driver"]["rules"]]
+    assert rules == ["NoEffect", "OutOfRange", "UnknownKey", "Missing", "NotToml", "Line"]
