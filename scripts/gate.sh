@@ -48,7 +48,7 @@ part proved
 if [[ $failed -eq 0 ]]; then
     part linked rt1553_program rt1553
     part linked rt1553_tool_program rt1553-tool
-    part pytest-3 -q -n auto --built "$built" tests
+    part pytest-3 -q -n auto --built="$built" tests
     wait "$edits"
     edits=''
     part cat "$work/edits"
