@@ -8,8 +8,8 @@
 
 Each crate is proved from nothing by one `rattle build`, with the words that `rt ci` gives it, over the statements of the libraries below.
 As many run side by side as there are processors, or as RT_JOBS says, and 3 GiB of memory for each: first what rt1553 stands on,
-and of that what has most to prove above it, with two jobs on four processors, and each before the rest where processors are scarce
-(`nice`). Processors for which no crate is ready become further jobs of the proofs that start.
+and of that what has most to prove above it, with two jobs on four processors, and each before the rest where processors are scarce.
+Processors for which no crate is ready become further jobs of the proofs that start.
 
 What is proved is kept in ~/.cache/rt1553, or in the folder that RT1553_KEPT names. It has to be the user's own: who can write to it
 can have a build take what nobody proved.
@@ -243,7 +243,8 @@ class Proof:
         self.crate, self.jobs, self.began, self.room, self.copy = crate, jobs, time.time(), kept.room(), kept.room()
         self.said = tempfile.TemporaryFile("w+", errors="replace")
         crate.copy(self.copy)
-        self.process = group.start(["nice", "-n", str(nice), *crate.words(made, self.room, jobs)], cwd=self.copy, stdout=self.said)
+        self.process = group.start(crate.words(made, self.room, jobs), cwd=self.copy, stdout=self.said)
+        os.setpriority(os.PRIO_PROCESS, self.process.pid, nice)
 
     def end(self):
         """The exit status, what was printed and the cost, once it has ended; else None."""

@@ -18,7 +18,7 @@ EXCEPT = {
 # files in which `rt` seeks what it names itself
 SOUGHT_BY_NAME = {"Answers.antt", "Invariants.antt", "Proof.antt", "Lib.antt"}
 # files whose functions only state something
-WITHOUT_CALLER = {"laws.rt", "worked_examples.rt"}
+WITHOUT_CALLER = {"laws.rt", "tree_laws.rt", "worked_examples.rt"}
 EDGE = r"[\w'\-«»]"
 USE = re.compile(r"^ *(pub )?(?:ghost )?use ([\w.:]+?)(?:(?:\.|::)\{(.*?)\})?(?: as (\w+))?;?$", re.M | re.S)
 DEFINITION = re.compile(r"^(?:(?:abbrev|unfoldable|pub) )*(?:module .*|(?:record|data|postulate|ruleset) (\S+)|(\S+) :)", re.M)
