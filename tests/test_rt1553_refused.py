@@ -67,11 +67,10 @@ def shim(tmp_path_factory):
 @pytest.fixture(scope="session")
 def dynamic(rt1553, tmp_path_factory):
     """The program with the C library from outside: what is shipped holds the library, and beside it stands an object that doesn't."""
-    parts = rt1553.with_name(f"{rt1553.name}.o")
-    if not parts.exists():
+    if rt1553.name != "rt1553":
         return rt1553
     linked = tmp_path_factory.mktemp("dynamic") / "rt1553"
-    subprocess.run([os.environ.get("CC", "cc"), "-pie", "-o", linked, parts], check=True)
+    subprocess.run([os.environ.get("CC", "cc"), "-pie", "-o", linked, rt1553.with_name("rt1553.o")], check=True)
     return linked
 
 
