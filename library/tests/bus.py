@@ -376,6 +376,11 @@ def plans():
         yield f"a plan: {name}", [controller.mode(9, 2).errors for _ in range(4)], wanted
     plain = Terminal(profile(9))
     yield "a terminal that isn't recorded", BusController({9: Faulty(plain, [FaultyReply(drop=True)])}).mode(9, 2).errors, dropped
+    faulty = Faulty(plain, [None, FaultyReply(drop=True)])
+    yield "the rest of a plan", faulty.plan_left, 2
+    BusController({9: faulty}).mode(9, 2)
+    yield "the rest after a reply", faulty.plan_left, 1
+    yield "the rest of a plan without a length", Faulty(plain, (None for _ in range(2))).plan_left, None
     _, controller = system(9, [5, None])
     wanted = Raised(TypeError, "plan: FaultyReply or None is wanted, not int")
     yield "a plan of something else", ended(controller.mode, 9, 2), wanted
@@ -538,6 +543,9 @@ def made_wrong():
     yield "Faulty, one that is faulty", Faulty, {"terminal": Faulty(terminal, []), "plan": []}, wanted
     wanted = Raised(ValueError, "terminals: a terminal of its own is wanted for each address")
     yield "a terminal twice", BusController, {"terminals": {9: terminal, 10: terminal}}, wanted
+    wanted = Raised(ValueError, "terminals: the profile of the terminal at address 10 has address 9")
+    for name, other in (("a terminal", terminal), ("a recorder", Recorder(profile(9))), ("a faulty one", Faulty(Recorder(profile(9)), []))):
+        yield f"{name} at another address", BusController, {"terminals": {10: other}}, wanted
     for plan in (None, 5, FaultyReply(), FaultyReply, object()):
         wanted = Raised(TypeError, "plan: a row of FaultyReply and None is wanted")
         yield f"Faulty, the plan {plan!r}", Faulty, {"terminal": terminal, "plan": plan}, wanted
@@ -570,7 +578,7 @@ def wrong_arguments():
     yield "what is refused isn't recorded", (ended(shut.step, Write(31, 1, 0)), shut.script), (Raised(ValueError, "no event"), "")
     deleted = Terminal(profile(9))
     deleted.__del__()
-    yield "a terminal that was deleted", ended(BusController({9: deleted}).mode, 9, 2), Raised(RuntimeError, "deleted")
+    yield "a terminal that was deleted", ended(BusController, {9: deleted}), Raised(RuntimeError, "deleted")
 
 
 # --- random messages

@@ -107,6 +107,7 @@ def texts():
             yield f"{name}, {text!r}", WANTED, call, text
         for text in ("", "\0", b"", b"\xff\xfe", "x" * 2_000_000, b"\0" * 64):
             yield f"{name}, {text[:9]!r} of {len(text)}", Raises(Refused), call, text
+        yield f"{name}, the name of a file", Raises(Refused, "name of a file"), call, "pump.toml"
         yield f"{name}, a surrogate", Raises(UnicodeEncodeError), call, "\ud800"
         yield f"{name}, what was released", Raises(ValueError), call, released()
         for text in (PROFILE, PROFILE.encode(), bytearray(PROFILE, "ascii"), memoryview(PROFILE.encode()), LongBytes(PROFILE, "ascii"),

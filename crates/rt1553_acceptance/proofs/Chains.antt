@@ -20,6 +20,7 @@ use Rattle.terminal_exchanges.specs.Exchanges.{Exchange, script_of}
 use Rattle.terminal_exchanges.proofs.EventLaws.{exchange-append}
 use Rattle.script_lines.specs.Digits.{digits_of, decimal_digits}
 use Rattle.script_lines.specs.Line.{meaning}
+use Rattle.script_lines.specs.Text.{NoLineFeed}
 use Rattle.script_lines.specs.EventLine.{event_text}
 use Rattle.script_lines.specs.Transcript.{bus_letter, sent_kind, sent_text, word_field, received_by, answer_text, transcript}
 use Rattle.script_lines.proofs.RoundTrip.{event_read}
@@ -119,8 +120,8 @@ abbrev unanswered : ℕ → Event → StatedEvent
 unanswered n e = record { line = n; event = e; matching = Exact; answer = [] }
 
 -- the lines of an answer are read, at most four
-abbrev IsTold : ℕ → StatedEvent → Out → Type 0
-IsTold n s o = (m : ℕ) × Tells n m (answer_stated o) (Some s) (Some (answered s (answer_line o))) [] × (m ≤ n + 4)
+abbrev IsTold : ℕ → ℕ → StatedEvent → Out → Type 0
+IsTold most n s o = (m : ℕ) × Tells most n m (answer_stated o) (Some s) (Some (answered s (answer_line o))) [] × (m ≤ n + 4)
 
 -- a line that states an answer that the event can have
 states-line : (n k : ℕ) (e : Event) (line : List ℕ) → can_answer e line ≡ true
@@ -128,18 +129,18 @@ states-line : (n k : ℕ) (e : Event) (line : List ℕ) → can_answer e line �
 states-line n k e line can = ap (λ b. or_misplaced n (if b then Some (answered (unanswered k e) line) else None)) can
 
 -- an answer of one line
-one_line : (n k : ℕ) (e : Event) (line text : List ℕ) → n < 1048570 → IsLine 61 line → can_answer e line ≡ true → text ≡ codes "#> " ++ (line ++ 10 ∷ [])
-    → Tells n (n + 1) text (Some (unanswered k e)) (Some (answered (unanswered k e) line)) []
-one_line n k e line text few is can split =
+one_line : (most n k : ℕ) (e : Event) (line text : List ℕ) → n + 6 < most → IsLine 61 line → can_answer e line ≡ true → text ≡ codes "#> " ++ (line ++ 10 ∷ [])
+    → Tells most n (n + 1) text (Some (unanswered k e)) (Some (answered (unanswered k e) line)) []
+one_line most n k e line text few is can split =
     let whole : IsLine 64 (codes "#> " ++ line) = joined (codes "#> ") line (literal _ refl) is in
     Tells-same text (split ∙ sym (append_assoc (codes "#> ") line (10 ∷ [])))
-    (Tells-line n (codes "#> " ++ line) (Some (unanswered k e)) _ [] (omega (arith, few)) whole.short whole.feeds (states-line (n + 1) k e line can))
+    (Tells-line most n (codes "#> " ++ line) (Some (unanswered k e)) _ [] (omega (arith, few)) whole.short whole.feeds (states-line (n + 1) k e line can))
 
-told : (n k : ℕ) (e : Event) (o : Out) → n < 1048570 → CanBe e o → Fits o → IsTold n (unanswered k e) o
-told n k e Silence few can fits = (n, Tells-nil n (Some (unanswered k e)), omega arith)
-told n k event.Slot (SendsWord s) few can fits = (
+told : (most n k : ℕ) (e : Event) (o : Out) → n + 6 < most → CanBe e o → Fits o → IsTold most n (unanswered k e) o
+told most n k e Silence few can fits = (n, Tells-nil most n (Some (unanswered k e)), omega arith)
+told most n k event.Slot (SendsWord s) few can fits = (
   n + 1,
-  one_line n k event.Slot _ _ few (within (omega arith) (joined (bus_letter s.bus) _ (letter-line s.bus) (joined (sent_kind s.kind) _ (sent_kind-line s.kind) (digits-line s.bits))))
+  one_line most n k event.Slot _ _ few (within (omega arith) (joined (bus_letter s.bus) _ (letter-line s.bus) (joined (sent_kind s.kind) _ (sent_kind-line s.kind) (digits-line s.bits))))
       (on_bus s.bus s.kind) (ap (λ text. codes "#> " ++ text) (sym (line-text (SendsWord s)) ∙ with_feed s.bus s.kind)),
   omega arith,
 )
@@ -151,10 +152,10 @@ told n k event.Slot (SendsWord s) few can fits = (
     with_feed : (bus : Bus) (kind : Kind) → with_line_feed (bus_letter bus ++ (sent_kind kind ++ digits_of s.bits)) ≡ (bus_letter bus ++ (sent_kind kind ++ digits_of s.bits)) ++ 10 ∷ []
     with_feed A kind = refl
     with_feed B kind = refl
-told n k (event.Gap bus) (HandsOver (HandsReceived broadcast subaddress words)) few can fits =
+told most n k (event.Gap bus) (HandsOver (HandsReceived broadcast subaddress words)) few can fits =
     let front : List ℕ = codes "#> " ++ (received_by broadcast ++ decimal_digits subaddress) in
     let is : IsLine 28 front = within (omega arith) (joined (codes "#> ") _ (literal _ refl) (joined (received_by broadcast) _ (by_line broadcast) (decimal_digits-line subaddress))) in
-    let p = fields-added n 7 words front (received_by broadcast ++ decimal_digits subaddress) (Some (unanswered k (event.Gap bus))) (unanswered k (event.Gap bus))
+    let p = fields-added most n 7 words front (received_by broadcast ++ decimal_digits subaddress) (Some (unanswered k (event.Gap bus))) (unanswered k (event.Gap bus))
     refl is.feeds (omega (arith, is.short)) (omega arith) (some broadcast) (omega (arith, few, fits))
     (λ more. states-line (n + 1) k (event.Gap bus) ((received_by broadcast ++ decimal_digits subaddress) ++ more) (hands_line broadcast more)) in (
       p.0,
@@ -173,53 +174,53 @@ told n k (event.Gap bus) (HandsOver (HandsReceived broadcast subaddress words)) 
     hands_line : (broadcast : Bool) (more : List ℕ) → can_answer (event.Gap bus) ((received_by broadcast ++ decimal_digits subaddress) ++ more) ≡ true
     hands_line true more = refl
     hands_line false more = refl
-told n k (event.Gap bus) (HandsOver HandsSynchronize) few can fits =
-    (n + 1, one_line n k (event.Gap bus) _ _ few (within (omega arith) (literal (codes "hand sync") refl)) refl refl, omega arith)
-told n k (event.Gap bus) (HandsOver (HandsSynchronizeWith word)) few can fits =
-    (n + 1, one_line n k (event.Gap bus) _ _ few (within (omega arith) (joined (codes "hand sync ") (digits_of word) (literal _ refl) (digits-line word))) refl refl, omega arith)
-told n k (event.Gap bus) (HandsOver HandsSelfTest) few can fits =
-    (n + 1, one_line n k (event.Gap bus) _ _ few (within (omega arith) (literal (codes "hand self-test") refl)) refl refl, omega arith)
-told n k (event.Gap bus) (HandsOver HandsBusControl) few can fits =
-    (n + 1, one_line n k (event.Gap bus) _ _ few (within (omega arith) (literal (codes "hand bus-control") refl)) refl refl, omega arith)
-told n k (event.Word bus w) (SendsWord s) few can fits = absurd can
-told n k (event.Word bus w) (HandsOver h) few can fits = absurd can
-told n k (event.Noise bus) (SendsWord s) few can fits = absurd can
-told n k (event.Noise bus) (HandsOver h) few can fits = absurd can
-told n k (event.Gap bus) (SendsWord s) few can fits = absurd can
-told n k (event.Write place word) (SendsWord s) few can fits = absurd can
-told n k (event.Write place word) (HandsOver h) few can fits = absurd can
-told n k (event.Vector word) (SendsWord s) few can fits = absurd can
-told n k (event.Vector word) (HandsOver h) few can fits = absurd can
-told n k (event.Bit word) (SendsWord s) few can fits = absurd can
-told n k (event.Bit word) (HandsOver h) few can fits = absurd can
-told n k (event.Flag f value) (SendsWord s) few can fits = absurd can
-told n k (event.Flag f value) (HandsOver h) few can fits = absurd can
-told n k event.Slot (HandsOver h) few can fits = absurd can
+told most n k (event.Gap bus) (HandsOver HandsSynchronize) few can fits =
+    (n + 1, one_line most n k (event.Gap bus) _ _ few (within (omega arith) (literal (codes "hand sync") refl)) refl refl, omega arith)
+told most n k (event.Gap bus) (HandsOver (HandsSynchronizeWith word)) few can fits =
+    (n + 1, one_line most n k (event.Gap bus) _ _ few (within (omega arith) (joined (codes "hand sync ") (digits_of word) (literal _ refl) (digits-line word))) refl refl, omega arith)
+told most n k (event.Gap bus) (HandsOver HandsSelfTest) few can fits =
+    (n + 1, one_line most n k (event.Gap bus) _ _ few (within (omega arith) (literal (codes "hand self-test") refl)) refl refl, omega arith)
+told most n k (event.Gap bus) (HandsOver HandsBusControl) few can fits =
+    (n + 1, one_line most n k (event.Gap bus) _ _ few (within (omega arith) (literal (codes "hand bus-control") refl)) refl refl, omega arith)
+told most n k (event.Word bus w) (SendsWord s) few can fits = absurd can
+told most n k (event.Word bus w) (HandsOver h) few can fits = absurd can
+told most n k (event.Noise bus) (SendsWord s) few can fits = absurd can
+told most n k (event.Noise bus) (HandsOver h) few can fits = absurd can
+told most n k (event.Gap bus) (SendsWord s) few can fits = absurd can
+told most n k (event.Write place word) (SendsWord s) few can fits = absurd can
+told most n k (event.Write place word) (HandsOver h) few can fits = absurd can
+told most n k (event.Vector word) (SendsWord s) few can fits = absurd can
+told most n k (event.Vector word) (HandsOver h) few can fits = absurd can
+told most n k (event.Bit word) (SendsWord s) few can fits = absurd can
+told most n k (event.Bit word) (HandsOver h) few can fits = absurd can
+told most n k (event.Flag f value) (SendsWord s) few can fits = absurd can
+told most n k (event.Flag f value) (HandsOver h) few can fits = absurd can
+told most n k event.Slot (HandsOver h) few can fits = absurd can
 
 -- ---- events, one after the other
 
 -- After n lines and this latest event, the text says these events of the history h, with just their answers, and then m lines
 -- are behind. The latest event of all is not yet ended.
-pub record Chain (P : Description) (n m : ℕ) (h : List Event) (text : List ℕ) (latest later : Latest) (es : List Event) : Type 0 where
+pub record Chain (most : ℕ) (P : Description) (n m : ℕ) (h : List Event) (text : List ℕ) (latest later : Latest) (es : List Event) : Type 0 where
   pub said : List StatedEvent
   pub stated : List StatedEvent
-  pub tells : Tells n m text latest later said
+  pub tells : Tells most n m text latest later said
   pub splits : said ++ ended later ≡ ended latest ++ stated
   pub events : map (λ s. s.event) stated ≡ es
   pub answers : AreStatedAnswers P h stated
 
-abbrev Chained : Description → ℕ → List Event → List ℕ → Latest → List Event → ℕ → Type 0
-Chained P n h text latest es most = (m : ℕ) × (later : Latest) × Chain P n m h text latest later es × (m ≤ most)
+abbrev pub Chained : ℕ → Description → ℕ → List Event → List ℕ → Latest → List Event → ℕ → Type 0
+Chained most P n h text latest es high = (m : ℕ) × (later : Latest) × Chain most P n m h text latest later es × (m ≤ high)
 
-Chain-nil : (P : Description) (n : ℕ) (h : List Event) (latest : Latest) → Chain P n n h [] latest latest []
-Chain-nil P n h latest = record { said = []; stated = []; tells = Tells-nil n latest; splits = sym (append-nil (ended latest)); events = refl; answers = tt }
+pub Chain-nil : (most : ℕ) (P : Description) (n : ℕ) (h : List Event) (latest : Latest) → Chain most P n n h [] latest latest []
+Chain-nil most P n h latest = record { said = []; stated = []; tells = Tells-nil most n latest; splits = sym (append-nil (ended latest)); events = refl; answers = tt }
 
 answered-append : (P : Description) (h : List Event) (ss ts : List StatedEvent) → AreStatedAnswers P h ss → AreStatedAnswers P (history_after (map (λ s. s.event) ss) h) ts → AreStatedAnswers P h (ss ++ ts)
 answered-append P h [] ts a b = b
 answered-append P h (s ∷ ss) ts a b = (a.0, a.1, answered-append P (s.event ∷ h) ss ts a.2 b)
 
-Chain-trans : {P : Description} {n m k : ℕ} {h : List Event} {text more : List ℕ} {a b c : Latest} {es fs : List Event}
-    → Chain P n m h text a b es → Chain P m k (history_after es h) more b c fs → Chain P n k h (text ++ more) a c (es ++ fs)
+pub Chain-trans : {most : ℕ} {P : Description} {n m k : ℕ} {h : List Event} {text more : List ℕ} {a b c : Latest} {es fs : List Event}
+    → Chain most P n m h text a b es → Chain most P m k (history_after es h) more b c fs → Chain most P n k h (text ++ more) a c (es ++ fs)
 Chain-trans {P = P} {h = h} {a = a} {b = b} {c = c} p q = record {
   said = p.said ++ q.said;
   stated = p.stated ++ q.stated;
@@ -230,20 +231,18 @@ Chain-trans {P = P} {h = h} {a = a} {b = b} {c = c} p q = record {
   answers = answered-append P h p.stated q.stated p.answers (subst (λ xs. AreStatedAnswers P (history_after xs h) q.stated) (sym p.events) q.answers);
 }
 
--- an event, and what is stated of its answer
-one_event : (P : Description) (n : ℕ) (h : List Event) (e : Event) (latest : Latest) → n < 1048569 → IsProper e → Fits (out P h e)
-    → Chained P n h (event_stated P h e) latest (e ∷ []) (n + 5)
-one_event P n h e latest few proper fits =
-    let line = event-line e in
-    let event = Tells-line n (event_text e) latest (Some (unanswered (n + 1) e)) (ended latest) (omega (arith, few)) line.short line.feeds
-    (says-event (n + 1) latest (event_text e) e (event_read e proper)) in
-    let answer = told (n + 1) (n + 1) e (out P h e) (omega (arith, few)) (can_be P h e) fits in (
+-- the line of an event, and what is stated of its answer
+pub line_event : (most : ℕ) (P : Description) (n : ℕ) (h : List Event) (line : List ℕ) (e : Event) (latest : Latest) → n + 7 < most → length line ≤ 64 → NoLineFeed line
+    → meaning line ≡ Ok (Some e) → Fits (out P h e) → Chained most P n h (line ++ 10 ∷ answer_stated (out P h e)) latest (e ∷ []) (n + 5)
+line_event most P n h line e latest few short feeds means fits =
+    let event = Tells-line most n line latest (Some (unanswered (n + 1) e)) (ended latest) (omega (arith, few)) short feeds (says-event (n + 1) latest line e means) in
+    let answer = told most (n + 1) (n + 1) e (out P h e) (omega (arith, few)) (can_be P h e) fits in (
       answer.0,
       Some (answered (unanswered (n + 1) e) (answer_line (out P h e))),
       record {
         said = ended latest ++ [];
         stated = ended (Some (answered (unanswered (n + 1) e) (answer_line (out P h e))));
-        tells = Tells-same {m = answer.0} _ (sym (append_assoc (event_text e) (10 ∷ []) (answer_stated (out P h e)))) (Tells-trans event answer.1);
+        tells = Tells-same {m = answer.0} _ (sym (append_assoc line (10 ∷ []) (answer_stated (out P h e)))) (Tells-trans event answer.1);
         splits = ap (λ xs. xs ++ ended (Some (answered (unanswered (n + 1) e) (answer_line (out P h e))))) (append-nil (ended latest));
         events = refl;
         answers = (refl, line-text (out P h e), tt);
@@ -251,13 +250,14 @@ one_event P n h e latest few proper fits =
       omega (arith, answer.2),
     )
 
-some_events : (P : Description) (n : ℕ) (h es : List Event) (latest : Latest) → AreProper es → AllFit P h es → n + 5 * length es < 1048569
-    → Chained P n h (transcript (event_stated P) h es) latest es (n + 5 * length es)
+some_events : (most : ℕ) (P : Description) (n : ℕ) (h es : List Event) (latest : Latest) → AreProper es → AllFit P h es → n + 5 * length es + 7 < most
+    → Chained most P n h (transcript (event_stated P) h es) latest es (n + 5 * length es)
 unfolding transcript
-some_events P n h [] latest proper fits few = (n, latest, Chain-nil P n h latest, omega arith)
-some_events P n h (e ∷ es) latest proper fits few =
-    let first = one_event P n h e latest (omega (arith, few)) proper.0 fits.0 in
-    let rest = some_events P first.0 (e ∷ h) es first.1 proper.1 fits.1 (omega (arith, few, first.3)) in
+some_events most P n h [] latest proper fits few = (n, latest, Chain-nil most P n h latest, omega arith)
+some_events most P n h (e ∷ es) latest proper fits few =
+    let line = event-line e in
+    let first = line_event most P n h (event_text e) e latest (omega (arith, few)) line.short line.feeds (event_read e proper.0) fits.0 in
+    let rest = some_events most P first.0 (e ∷ h) es first.1 proper.1 fits.1 (omega (arith, few, first.3)) in
     (rest.0, rest.1, Chain-trans {k = rest.0} {c = rest.1} first.2 rest.2, omega (arith, first.3, rest.3))
 
 -- ---- exchanges, each behind its comment
@@ -295,47 +295,54 @@ label-front P c = by (is_broadcast c)
     by true = front-more (codes "broadcast ") (asked c ++ verdict) (λ more. refl)
     by false = front-more (asked c) verdict (asked-front c)
 
-comment_said : (rows : List NameRow) (P : Description) (n : ℕ) (h : List Event) (x : Exchange) (latest : Latest) → n < 1048576
-    → Chain P n (n + 1) h (comment_of rows P x) latest latest []
+-- a line that says nothing
+pub silent_said : (most : ℕ) (P : Description) (n : ℕ) (h : List Event) (line : List ℕ) (latest : Latest) → n < most → length line ≤ 64 → NoLineFeed line
+    → line_says (n + 1) latest line ≡ Ok (stays latest) → Chain most P n (n + 1) h (line ++ 10 ∷ []) latest latest []
+silent_said most P n h line latest few short feeds says = record {
+  said = [];
+  stated = [];
+  tells = Tells-line most n line latest latest [] few short feeds says;
+  splits = sym (append-nil (ended latest));
+  events = refl;
+  answers = tt;
+}
+
+comment_said : (rows : List NameRow) (most : ℕ) (P : Description) (n : ℕ) (h : List Event) (x : Exchange) (latest : Latest) → n < most
+    → Chain most P n (n + 1) h (comment_of rows P x) latest latest []
 unfolding meaning
-comment_said rows P n h x latest few =
+comment_said rows most P n h x latest few =
     let label = label_of P x.command in
     let remark = remark_of rows label x.command in
     let line : IsLine 64 (codes "# " ++ (label ++ remark)) = within (omega arith) (joined (codes "# ") (label ++ remark) (literal _ refl) (labelled-line rows P x.command)) in
-    record {
-      said = [];
-      stated = [];
-      tells = Tells-same (comment_of rows P x) (ap (λ text. codes "# " ++ text) (sym (append_assoc label remark (10 ∷ []))) ∙ sym (append_assoc (codes "# ") (label ++ remark) (10 ∷ [])))
-          (Tells-line n (codes "# " ++ (label ++ remark)) latest latest [] few line.short line.feeds (ap (silent_line (n + 1) latest) (label-front P x.command remark)));
-      splits = sym (append-nil (ended latest));
-      events = refl;
-      answers = tt;
-    }
+    let split : (codes "# " ++ (label ++ remark)) ++ 10 ∷ [] ≡ comment_of rows P x =
+        append_assoc (codes "# ") (label ++ remark) (10 ∷ []) ∙ ap (λ text. codes "# " ++ text) (append_assoc label remark (10 ∷ [])) in
+    subst (λ text. Chain most P n (n + 1) h text latest latest []) split
+        (silent_said most P n h (codes "# " ++ (label ++ remark)) latest few line.short line.feeds (ap (silent_line (n + 1) latest) (label-front P x.command remark)))
 
 proper-append : (es fs : List Event) → AreProper (es ++ fs) → AreProper es × AreProper fs
 proper-append [] fs p = (tt, p)
 proper-append (e ∷ es) fs p = let later = proper-append es fs p.1 in ((p.0, later.0), later.1)
 
-fit-append : (P : Description) (h es fs : List Event) → AllFit P h (es ++ fs) → AllFit P h es × AllFit P (history_after es h) fs
+pub fit-append : (P : Description) (h es fs : List Event) → AllFit P h (es ++ fs) → AllFit P h es × AllFit P (history_after es h) fs
 fit-append P h [] fs p = (tt, p)
 fit-append P h (e ∷ es) fs p = let later = fit-append P (e ∷ h) es fs p.1 in ((p.0, later.0), later.1)
 
-pub some_exchanges : (rows : List NameRow) (P : Description) (n : ℕ) (h : List Event) (xs : List Exchange) (latest : Latest) → AreProper (script_of xs) → AllFit P h (script_of xs)
-    → n + 6 * length (script_of xs) < 1048569 → Chained P n h (exchanges_stated rows P h xs) latest (script_of xs) (n + 6 * length (script_of xs))
+pub some_exchanges : (rows : List NameRow) (most : ℕ) (P : Description) (n : ℕ) (h : List Event) (xs : List Exchange) (latest : Latest) → AreProper (script_of xs) → AllFit P h (script_of xs)
+    → n + 6 * length (script_of xs) + 7 < most → Chained most P n h (exchanges_stated rows P h xs) latest (script_of xs) (n + 6 * length (script_of xs))
 unfolding exchanges_stated
-some_exchanges rows P n h [] latest proper fits few = (n, latest, Chain-nil P n h latest, omega arith)
-some_exchanges rows P n h (x ∷ xs) latest proper fits few =
+some_exchanges rows most P n h [] latest proper fits few = (n, latest, Chain-nil most P n h latest, omega arith)
+some_exchanges rows most P n h (x ∷ xs) latest proper fits few =
     let one : List Event = script_of (x ∷ []) in
     let parts : one ++ script_of xs ≡ script_of (x ∷ xs) = exchange-append x (script_of xs) in
     let long = ap length (sym parts) ∙ length-append one (script_of xs) in
     let some : 1 ≤ length one = omega arith in
     let propers = proper-append one (script_of xs) (subst AreProper (sym parts) proper) in
     let fit = fit-append P h one (script_of xs) (subst (AllFit P h) (sym parts) fits) in
-    let comment = comment_said rows P n h x latest (omega (arith, few)) in
-    let events = some_events P (n + 1) h one latest propers.0 fit.0 (omega (arith, few, long, some)) in
-    let rest = some_exchanges rows P events.0 (history_after one h) xs events.1 propers.1 fit.1 (omega (arith, few, long, some, events.3)) in (
+    let comment = comment_said rows most P n h x latest (omega (arith, few)) in
+    let events = some_events most P (n + 1) h one latest propers.0 fit.0 (omega (arith, few, long, some)) in
+    let rest = some_exchanges rows most P events.0 (history_after one h) xs events.1 propers.1 fit.1 (omega (arith, few, long, some, events.3)) in (
       rest.0,
       rest.1,
-      subst (Chain P n rest.0 h (exchanges_stated rows P h (x ∷ xs)) latest rest.1) parts (Chain-trans {k = rest.0} {c = rest.1} comment (Chain-trans {k = rest.0} {c = rest.1} events.2 rest.2)),
+      subst (Chain most P n rest.0 h (exchanges_stated rows P h (x ∷ xs)) latest rest.1) parts (Chain-trans {k = rest.0} {c = rest.1} comment (Chain-trans {k = rest.0} {c = rest.1} events.2 rest.2)),
       omega (arith, long, some, events.3, rest.3),
     )

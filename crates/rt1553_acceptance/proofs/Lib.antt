@@ -6,3 +6,4 @@ pub mod Chains
 pub mod Showing
 pub mod FieldSteps
 pub mod PutLaws
+pub mod AnswerLaws

@@ -112,13 +112,13 @@ told-none s came more exact e = pick (bytes_eq came s.answer) refl (ap (λ xs. x
     pick false is e = absurd (cc)
 
 -- nothing differs where just the answers of a terminal are stated
-none-differs : (Q : Description) (h : List Event) (ss : List StatedEvent) → AreStatedAnswers Q h ss → wrong_answers_from Q h ss ≡ []
+pub none-differs : (Q : Description) (h : List Event) (ss : List StatedEvent) → AreStatedAnswers Q h ss → wrong_answers_from Q h ss ≡ []
 unfolding wrong_answers_from
 none-differs Q h [] are = refl
 none-differs Q h (s ∷ ss) are = ap (λ xs. xs ++ wrong_answers_from Q (s.event ∷ h) ss) (told-same s (text_at Q h s.event) are.0 are.1) ∙ none-differs Q (s.event ∷ h) ss are.2
 
 -- where nothing differs, what is stated of the answers of one terminal is stated of those of the other
-all-answered : (P Q : Description) (g h : List Event) (ss : List StatedEvent) → AreStatedAnswers P g ss → wrong_answers_from Q h ss ≡ [] → AreStatedAnswers Q h ss
+pub all-answered : (P Q : Description) (g h : List Event) (ss : List StatedEvent) → AreStatedAnswers P g ss → wrong_answers_from Q h ss ≡ [] → AreStatedAnswers Q h ss
 unfolding wrong_answers_from
 all-answered P Q g h [] are e = tt
 all-answered P Q g h (s ∷ ss) are e =
@@ -133,14 +133,22 @@ same-sent P Q h (s ∷ ss) p q fits =
     let here = sym (same_word (out P h s.event) (out Q h s.event) fits.0 (sym p.1 ∙ q.1)) in
     let later = same-sent P Q (s.event ∷ h) ss p.2 q.2 fits.1 in (λ j. here j ∷ later j)
 
--- of terminals that answer alike the same answers are stated
-same-answered : (P Q : Description) (h : List Event) (ss : List StatedEvent) → AreStatedAnswers P h ss
-    → outs_from Q h (map (λ s. s.event) ss) ≡ outs_from P h (map (λ s. s.event) ss) → AreStatedAnswers Q h ss
-same-answered P Q h [] are same = tt
-same-answered P Q h (s ∷ ss) are same =
-    let here : out Q h s.event ≡ out P h s.event = cc in
-    let later : outs_from Q (s.event ∷ h) (map (λ s. s.event) ss) ≡ outs_from P (s.event ∷ h) (map (λ s. s.event) ss) = cc in
-    (are.0, are.1 ∙ ap answer_text (sym here), same-answered P Q (s.event ∷ h) ss are.2 later)
+-- terminals of which the same answers are stated have the same texts
+pub texts-alike : (P Q : Description) (h : List Event) (ss : List StatedEvent) → AreStatedAnswers P h ss → AreStatedAnswers Q h ss
+    → map answer_text (outs_from Q h (map (λ s. s.event) ss)) ≡ map answer_text (outs_from P h (map (λ s. s.event) ss))
+texts-alike P Q h [] p q = refl
+texts-alike P Q h (s ∷ ss) p q =
+    let here = sym q.1 ∙ p.1 in
+    let later = texts-alike P Q (s.event ∷ h) ss p.2 q.2 in (λ j. here j ∷ later j)
+
+-- of terminals with the same texts the same answers are stated
+pub texts-answered : (P Q : Description) (h : List Event) (ss : List StatedEvent) → AreStatedAnswers P h ss
+    → map answer_text (outs_from Q h (map (λ s. s.event) ss)) ≡ map answer_text (outs_from P h (map (λ s. s.event) ss)) → AreStatedAnswers Q h ss
+texts-answered P Q h [] are same = tt
+texts-answered P Q h (s ∷ ss) are same =
+    let here : answer_text (out Q h s.event) ≡ answer_text (out P h s.event) = cc in
+    let later : map answer_text (outs_from Q (s.event ∷ h) (map (λ s. s.event) ss)) ≡ map answer_text (outs_from P (s.event ∷ h) (map (λ s. s.event) ss)) = cc in
+    (are.0, are.1 ∙ sym here, texts-answered P Q (s.event ∷ h) ss are.2 later)
 
 -- ---- the test
 
@@ -148,7 +156,7 @@ pub acceptance-law : (rows : List NameRow) (v : Parts) → IsNormal v → AllFit
 acceptance-law rows v normal fits =
     let P = description_in v in
     let text = acceptance_text rows P in
-    let told = some_exchanges rows P 0 [] (tried P) None (complete_test_law.proper v normal) fits (omega (arith, complete_test_law.short v normal)) in
+    let told = some_exchanges rows 1048576 P 0 [] (tried P) None (complete_test_law.proper v normal) fits (omega (arith, complete_test_law.short v normal)) in
     let chain = told.2 in
     let reads : stated_in text ≡ Ok chain.stated = Tells-all chain.tells ∙ ap Ok chain.splits in
     let own : verified P text ≡ Ok [] = ap (by_script P) reads ∙ ap Ok (none-differs P [] chain.stated chain.answers) in record {
@@ -164,7 +172,8 @@ acceptance-law rows v normal fits =
             (complete_test_law.seen v w normal other).0 (ap (λ es. map sent_in (outs_from Q [] es)) (sym chain.events) ∙ same ∙ ap (λ es. map sent_in (outs_from P [] es)) chain.events)),
         (λ alike.
             let same = alike (complete_test P) (complete_test_law.proper v normal) in
-            let are = same-answered P Q [] chain.stated chain.answers (ap (outs_from Q []) chain.events ∙ same ∙ ap (outs_from P []) (sym chain.events)) in
+            let outs = ap (outs_from Q []) chain.events ∙ same ∙ ap (outs_from P []) (sym chain.events) in
+            let are = texts-answered P Q [] chain.stated chain.answers (ap (map answer_text) outs) in
             ap (by_script Q) reads ∙ ap Ok (none-differs Q [] chain.stated are)),
       );
     }

@@ -82,6 +82,16 @@ fn push_stated(text: &mut StatedLines, answer: &Answer)
     }
 }
 
+/// The lines of what is stated of this answer.
+pub fn answer_lines(answer: &Answer) -> StatedLines
+    requires { IsSmall (shown_answer answer.now) }
+    ensures { result.bytes ≡ answer_stated (shown_answer answer.now) }
+{
+    let mut text = StatedLines::new();
+    push_stated(&mut text, answer);
+    text
+}
+
 /// The lines of an event, and of what is stated of this answer to it.
 pub fn stated_lines(event: &Event, answer: &Answer) -> StatedLines
     requires { IsSmall (shown_answer answer.now) }

@@ -1,5 +1,5 @@
 -- Texts that are expanded line by line.
-use Rattle.std.proofs.Common.{ℕ, ◌≡◌, ◌∙◌, ◌+◌, ◌<◌, ◌≤◌, List, [], ◌∷◌, ◌++◌, length, refl, sym, ap, arith, append_assoc, append-nil, flat_map, replicate}
+use Rattle.std.proofs.Common.{ℕ, ◌≡◌, ◌∙◌, ◌+◌, ◌<◌, ◌≤◌, List, [], ◌∷◌, ◌++◌, Option, None, length, refl, sym, ap, arith, append_assoc, append-nil, flat_map, replicate}
 use Rattle.std.specs.List.{sum_by}
 use Rattle.std.proofs.lemmas.List.Sums.{sum_by-cons}
 use Rattle.terminal_rules.specs.declared.event.Event.{Event}
@@ -47,11 +47,11 @@ refusals-none : (n : ℕ) → refusals_from n (lines_of []) ≡ []
 unfolding refusals_from
 refusals-none n = ap (refusals_from n) no-lines
 
-pub refusals-on : (n : ℕ) (rest line more : List ℕ) (old new all : List Refusal) → lines_of rest ≡ line ∷ lines_of more → new ≡ old ++ refusal_at n (expansion_of line)
+pub refusals-on : (n : ℕ) (rest line more : List ℕ) (old new all : List Refusal) → lines_of rest ≡ line ∷ lines_of more → new ≡ old ++ refusal_at n (expansion_of None line)
     → all ≡ old ++ refusals_from n (lines_of rest) → all ≡ new ++ refusals_from (n + 1) (lines_of more)
 unfolding refusals_from
 refusals-on n rest line more old new all first added is =
-    is ∙ ap (λ ls. old ++ refusals_from n ls) first ∙ sym (append_assoc old (refusal_at n (expansion_of line)) (refusals_from (n + 1) (lines_of more)))
+    is ∙ ap (λ ls. old ++ refusals_from n ls) first ∙ sym (append_assoc old (refusal_at n (expansion_of None line)) (refusals_from (n + 1) (lines_of more)))
     ∙ ap (λ l. l ++ refusals_from (n + 1) (lines_of more)) (sym added)
 
 pub refusals-all : (n : ℕ) (rest : List ℕ) (old all : List Refusal) → length rest ≡ 0 → all ≡ old ++ refusals_from n (lines_of rest) → old ≡ all
@@ -60,17 +60,17 @@ refusals-all n (b ∷ bytes) old all none is = absurd (omega (arith, none))
 
 -- ---- where lines come from
 
-sources-none : (n : ℕ) → sources_from n (lines_of []) ≡ []
+sources-none : (own : Option ℕ) (n : ℕ) → sources_from own n (lines_of []) ≡ []
 unfolding sources_from
-sources-none n = ap (sources_from n) no-lines
+sources-none own n = ap (sources_from own n) no-lines
 
-pub sources-on : (n : ℕ) (rest line more : List ℕ) (old new all : List ℕ) → lines_of rest ≡ line ∷ lines_of more → new ≡ old ++ replicate (expanded_lines (expansion_of line)) n
-    → all ≡ old ++ sources_from n (lines_of rest) → all ≡ new ++ sources_from (n + 1) (lines_of more)
+pub sources-on : (own : Option ℕ) (n : ℕ) (rest line more : List ℕ) (old new all : List ℕ) → lines_of rest ≡ line ∷ lines_of more → new ≡ old ++ replicate (expanded_lines (expansion_of own line)) n
+    → all ≡ old ++ sources_from own n (lines_of rest) → all ≡ new ++ sources_from own (n + 1) (lines_of more)
 unfolding sources_from
-sources-on n rest line more old new all first added is =
-    is ∙ ap (λ ls. old ++ sources_from n ls) first ∙ sym (append_assoc old (replicate (expanded_lines (expansion_of line)) n) (sources_from (n + 1) (lines_of more)))
-    ∙ ap (λ l. l ++ sources_from (n + 1) (lines_of more)) (sym added)
+sources-on own n rest line more old new all first added is =
+    is ∙ ap (λ ls. old ++ sources_from own n ls) first ∙ sym (append_assoc old (replicate (expanded_lines (expansion_of own line)) n) (sources_from own (n + 1) (lines_of more)))
+    ∙ ap (λ l. l ++ sources_from own (n + 1) (lines_of more)) (sym added)
 
-pub sources-all : (n : ℕ) (rest : List ℕ) (old all : List ℕ) → length rest ≡ 0 → all ≡ old ++ sources_from n (lines_of rest) → old ≡ all
-sources-all n [] old all none is = sym (is ∙ ap (λ l. old ++ l) (sources-none n) ∙ append-nil old)
-sources-all n (b ∷ bytes) old all none is = absurd (omega (arith, none))
+pub sources-all : (own : Option ℕ) (n : ℕ) (rest : List ℕ) (old all : List ℕ) → length rest ≡ 0 → all ≡ old ++ sources_from own n (lines_of rest) → old ≡ all
+sources-all own n [] old all none is = sym (is ∙ ap (λ l. old ++ l) (sources-none own n) ∙ append-nil old)
+sources-all own n (b ∷ bytes) old all none is = absurd (omega (arith, none))

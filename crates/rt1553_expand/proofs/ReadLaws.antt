@@ -46,20 +46,20 @@ kept-read : (n : ℕ) (line : List ℕ) (said : Option Event) → length line �
 kept-read n line said short is none few =
     ReadsLines-line n line (events_said said) (omega (arith, few)) short none (λ r. said-read line said n r is)
 
-pub kept-reads : (line : List ℕ) (read : ReadLine) (said : Option Event) → read ≡ Kept said → IsWritable line read → NoLineFeed line → (n : ℕ) → LinesRead n (expansion_by line read)
-kept-reads line read said is sound none n =
+pub kept-reads : (own : Option ℕ) (line : List ℕ) (read : ReadLine) (said : Option Event) → read ≡ Kept said → IsWritable line read → NoLineFeed line → (n : ℕ) → LinesRead n (expansion_by own line read)
+kept-reads own line read said is sound none n =
     let fit = subst (IsWritable line) is sound in
-    subst (λ x. LinesRead n (expansion_by line x)) (sym is) (kept-read n line said fit.0 fit.1 none)
+    subst (λ x. LinesRead n (expansion_by own line x)) (sym is) (kept-read n line said fit.0 fit.1 none)
 
-pub written-reads : {old new : List ℕ} (line : List ℕ) (read : ReadLine) (bus : Bus) (message : BusMessage) → read ≡ Written bus message
-    → Wrote old new (message_events bus (said_message message)) → NoLineFeed line → (n : ℕ) → LinesRead n (expansion_by line read)
-written-reads line read bus message is wrote none n =
-    subst (λ x. LinesRead n (expansion_by line x)) (sym is) (written-read n (message_events bus (said_message message)) wrote.read)
+pub written-reads : {old new : List ℕ} (own : Option ℕ) (line : List ℕ) (read : ReadLine) (bus : Bus) (message : BusMessage) → read ≡ Written bus message
+    → Wrote old new (message_events own bus (said_message message)) → NoLineFeed line → (n : ℕ) → LinesRead n (expansion_by own line read)
+written-reads own line read bus message is wrote none n =
+    subst (λ x. LinesRead n (expansion_by own line x)) (sym is) (written-read n (message_events own bus (said_message message)) wrote.read)
 
 -- what was added for a line that is not refused
-pub added-by : (line : List ℕ) (x : Expansion) (old new : List ℕ) (n count : ℕ) → expansion_of line ≡ Ok x → new ≡ old ++ x.text → count ≡ x.lines → n + count ≤ 1048576
-    → (NoLineFeed line → (k : ℕ) → LinesRead k x) → Added old new line n (n + count)
-added-by line x old new n count is added counted few reads = record {
+pub added-by : (own : Option ℕ) (line : List ℕ) (x : Expansion) (old new : List ℕ) (n count : ℕ) → expansion_of own line ≡ Ok x → new ≡ old ++ x.text → count ≡ x.lines → n + count ≤ 1048576
+    → (NoLineFeed line → (k : ℕ) → LinesRead k x) → Added own old new line n (n + count)
+added-by own line x old new n count is added counted few reads = record {
   text = added ∙ ap (λ o. old ++ expanded_text o) (sym is);
   lines = ap (λ k. n + k) counted ∙ ap (λ o. n + expanded_lines o) (sym is);
   few = few;

@@ -1,5 +1,5 @@
 -- The events of a message.
-use Rattle.std.specs.Prelude.{ℕ, ◌+◌, Bool, true, false, nat_le, if◌then◌else◌, List, [], ◌∷◌, ◌++◌, map, Option, Some, None, replicate}
+use Rattle.std.specs.Prelude.{ℕ, ◌+◌, ◌==◌, Bool, true, false, nat_le, if◌then◌else◌, List, [], ◌∷◌, ◌++◌, map, Option, Some, None, replicate}
 use Rattle.bus_word.specs.declared.word.Bus.{Bus}
 use Rattle.bus_word.specs.Word.{valid_word}
 use Rattle.bus_word.specs.Command.{transmits, is_mode, is_broadcast, code_of, count_of}
@@ -42,6 +42,22 @@ abbrev pub sender_events : Bus → Option CommandFields → List Event
 sender_events bus None = []
 sender_events bus (Some f) = word_event bus (fields.Command f) ∷ event.Gap bus ∷ word_event bus (fields.Status (status_with f.address [])) ∷ []
 
--- the events of a message, in their order
-abbrev pub message_events : Bus → SaidMessage → List Event
-message_events bus m = word_event bus m.first ∷ (sender_events bus m.sender ++ (data_events bus m.words ++ message_end bus m.first))
+-- it is the terminal of this address that sends in a transfer
+abbrev pub is_own : Option ℕ → Option CommandFields → Bool
+is_own (Some address) (Some f) = f.address == address
+is_own (Some address) None = false
+is_own None sender = false
+
+-- Behind the command to receive, where the own terminal sends: the command to it, a gap, and a slot for each word of its reply. The words
+-- are its own, whatever the message says.
+abbrev pub own_events : Bus → Option CommandFields → List Event
+own_events bus None = []
+own_events bus (Some f) = word_event bus (fields.Command f) ∷ message_end bus (fields.Command f)
+
+-- behind the first word, what others put on the bus, and slots for the own terminal
+abbrev pub heard_events : Bus → SaidMessage → List Event
+heard_events bus m = sender_events bus m.sender ++ (data_events bus m.words ++ message_end bus m.first)
+
+-- the events of a message, in their order, for the terminal of this address, if there is one
+abbrev pub message_events : Option ℕ → Bus → SaidMessage → List Event
+message_events own bus m = word_event bus m.first ∷ (if is_own own m.sender then own_events bus m.sender else heard_events bus m)

@@ -1,14 +1,15 @@
 -- The script that a text of events and messages stands for.
-use Rattle.std.specs.Prelude.{ℕ, ◌+◌, ◌≡◌, ◌≢◌, ◌<◌, ◌≤◌, nat_lt, if◌then◌else◌, List, [], ◌∷◌, ◌++◌, length, map, drop, Option, Some, None, Result, Ok, Err}
+use Rattle.std.specs.Prelude.{ℕ, ◌+◌, ◌-◌, ◌≡◌, ◌≢◌, ◌<◌, ◌≤◌, ◌==◌, Bool, nat_lt, if◌then◌else◌, List, [], ◌∷◌, ◌++◌, length, get_or, map, drop, Option, Some, None, is_some, Result, Ok, Err}
 use Rattle.std.specs.List.{flat_map, sum_by}
 use Rattle.bus_word.specs.declared.word.Bus.{Bus}
 use Rattle.terminal_rules.specs.declared.event.Event.{Event}
+use Rattle.line_format.specs.Front.{after}
 use Rattle.script_lines.specs.declared.line.LineFault.{LineFault}
 use Rattle.script_lines.specs.Line.{meaning, bus_first}
 use Rattle.script_lines.specs.Text.{lines_of}
 use Rattle.script_lines.specs.EventLine.{script_text}
 use Rattle.rt1553_expand.specs.declared.fault.ExpandFault.{ExpandFault}
-use Rattle.rt1553_expand.specs.declared.fault.ExpandFault.TheVariants.{Long, LongComment, Neither}
+use Rattle.rt1553_expand.specs.declared.fault.ExpandFault.TheVariants.{Long, LongComment, Neither, Mark, Return}
 use Rattle.rt1553_expand.specs.declared.expanding.Expanded.{Expanded}
 use Rattle.rt1553_expand.specs.declared.expanding.Expanded.TheVariants.{Script, Refused, TooLong}
 use Rattle.rt1553_expand.specs.declared.expanding.UnexpandedLine.{UnexpandedLine}
@@ -35,23 +36,40 @@ abbrev pub from_events : List Event → Expansion
 from_events es = record { text = script_text es; events = es; lines = length es }
 
 -- a message on the bus gives the lines of its events, unless it has a fault
-abbrev pub message_expansion : Bus → Result SaidMessage ExpandFault → Result Expansion ExpandFault
-message_expansion bus (Err fault) = Err fault
-message_expansion bus (Ok message) = Ok (from_events (message_events bus message))
+abbrev pub message_expansion : Option ℕ → Bus → Result SaidMessage ExpandFault → Result Expansion ExpandFault
+message_expansion own bus (Err fault) = Err fault
+message_expansion own bus (Ok message) = Ok (from_events (message_events own bus message))
 
 -- a message begins with the letter of a bus; a line without one is no message
-abbrev pub by_bus_letter : Option Bus → List ℕ → Result Expansion ExpandFault
-by_bus_letter None text = Err Neither
-by_bus_letter (Some bus) text = message_expansion bus (message_in text)
+abbrev pub by_bus_letter : Option ℕ → Option Bus → List ℕ → Result Expansion ExpandFault
+by_bus_letter own None text = Err Neither
+by_bus_letter own (Some bus) text = message_expansion own bus (message_in text)
+
+-- the line ends in a carriage return
+abbrev pub ends_in_return : List ℕ → Bool
+ends_in_return line = get_or line (length line - 1) 0 == 13
+
+-- the line begins with a byte order mark
+abbrev pub has_mark : List ℕ → Bool
+has_mark line = is_some (after (239 ∷ 187 ∷ 191 ∷ []) line)
+
+-- why a line is refused: first for what editors add unseen
+abbrev pub named_fault : List ℕ → ExpandFault → ExpandFault
+named_fault line fault = if ends_in_return line then Return else if has_mark line then Mark else fault
+
+abbrev pub with_named_fault : List ℕ → Result Expansion ExpandFault → Result Expansion ExpandFault
+with_named_fault line (Ok expansion) = Ok expansion
+with_named_fault line (Err fault) = Err (named_fault line fault)
 
 -- a line of a script stays, unless it is a comment too long for a script; any other line is read as a message
-abbrev pub by_meaning : List ℕ → Result (Option Event) LineFault → Result Expansion ExpandFault
-by_meaning line (Ok said) = if nat_lt 64 (length line) then Err LongComment else Ok (kept line said)
-by_meaning line (Err fault) = by_bus_letter (bus_first line) (drop 2 line)
+abbrev pub by_meaning : Option ℕ → List ℕ → Result (Option Event) LineFault → Result Expansion ExpandFault
+by_meaning own line (Ok said) = if nat_lt 64 (length line) then Err LongComment else Ok (kept line said)
+by_meaning own line (Err fault) = with_named_fault line (by_bus_letter own (bus_first line) (drop 2 line))
 
--- what stands in the script for a line of the text, or why the line is refused
-abbrev pub expansion_of : List ℕ → Result Expansion ExpandFault
-expansion_of line = if nat_lt 256 (length line) then Err Long else by_meaning line (meaning line)
+-- What stands in the script for a line of the text, or why the line is refused; the script is for the terminal of this address, if there
+-- is one.
+abbrev pub expansion_of : Option ℕ → List ℕ → Result Expansion ExpandFault
+expansion_of own line = if nat_lt 256 (length line) then Err Long else by_meaning own line (meaning line)
 
 -- the lines that a line of the text adds to the script: none where it is refused
 abbrev pub expanded_text : Result Expansion ExpandFault → List ℕ
@@ -69,16 +87,16 @@ expanded_lines (Ok expansion) = expansion.lines
 expanded_lines (Err fault) = 0
 
 -- what stands in the script for lines, one behind the other
-abbrev pub script_in : List (List ℕ) → List ℕ
-script_in lines = flat_map (λ line. expanded_text (expansion_of line)) lines
+abbrev pub script_in : Option ℕ → List (List ℕ) → List ℕ
+script_in own lines = flat_map (λ line. expanded_text (expansion_of own line)) lines
 
 -- its events
-abbrev pub all_events : List (List ℕ) → List Event
-all_events lines = flat_map (λ line. expanded_events (expansion_of line)) lines
+abbrev pub all_events : Option ℕ → List (List ℕ) → List Event
+all_events own lines = flat_map (λ line. expanded_events (expansion_of own line)) lines
 
 -- how many lines these are
-abbrev pub line_count : List (List ℕ) → ℕ
-line_count lines = sum_by (λ line. expanded_lines (expansion_of line)) lines
+abbrev pub line_count : Option ℕ → List (List ℕ) → ℕ
+line_count own lines = sum_by (λ line. expanded_lines (expansion_of own line)) lines
 
 -- a line that is refused, by its number, and why
 pub record Refusal : Type 0 where
@@ -90,10 +108,10 @@ abbrev pub refusal_at : ℕ → Result Expansion ExpandFault → List Refusal
 refusal_at n (Ok expansion) = []
 refusal_at n (Err fault) = record { line = n; fault = fault } ∷ []
 
--- the lines that are refused, of which the first has number n
+-- the lines that are refused, of which the first has number n; whether a line is, no address changes
 unfoldable pub refusals_from : ℕ → List (List ℕ) → List Refusal
 refusals_from n [] = []
-refusals_from n (line ∷ lines) = refusal_at n (expansion_of line) ++ refusals_from (n + 1) lines
+refusals_from n (line ∷ lines) = refusal_at n (expansion_of None line) ++ refusals_from (n + 1) lines
 
 -- those of a text
 abbrev pub refusals_in : List ℕ → List Refusal
@@ -105,10 +123,10 @@ refusal_of line = record { line = line.line; fault = line.fault }
 
 -- What a text is expanded to. The three exclude one another: some lines are refused, and these are all of them; none is, and
 -- the script would have over 1,048,576 lines; or this is the script.
-abbrev pub IsExpansion : List ℕ → Expanded → Type 0
-IsExpansion text (Refused lines) = (map refusal_of lines.items ≡ refusals_in text) × (refusals_in text ≢ [])
-IsExpansion text TooLong = (refusals_in text ≡ []) × (1048576 < line_count (lines_of text))
-IsExpansion text (Script script) = (refusals_in text ≡ []) × (line_count (lines_of text) ≤ 1048576) × (script.items ≡ script_in (lines_of text))
+abbrev pub IsExpansion : Option ℕ → List ℕ → Expanded → Type 0
+IsExpansion own text (Refused lines) = (map refusal_of lines.items ≡ refusals_in text) × (refusals_in text ≢ [])
+IsExpansion own text TooLong = (refusals_in text ≡ []) × (1048576 < line_count own (lines_of text))
+IsExpansion own text (Script script) = (refusals_in text ≡ []) × (line_count own (lines_of text) ≤ 1048576) × (script.items ≡ script_in own (lines_of text))
 
 -- a fact of the script, where there is one
 abbrev pub IfScript : Expanded → (List ℕ → Type 0) → Type 0

@@ -138,6 +138,8 @@ pub fn column_of(line: &[u8], fault: ExpandFault) -> usize
             Some(misfit) => misfit.column,
             None => 1,
         },
+        ExpandFault::Mark => 1,
+        ExpandFault::Return => line.len().max(1),
         _ if line.len() < 2 => 1,
         _ => before_misfit(&line[2..], fault) + 3,
     }

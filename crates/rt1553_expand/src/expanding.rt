@@ -1,10 +1,10 @@
 //! Texts of events and messages, expanded to scripts.
-ghost use Rattle.std.specs.Prelude.{ℕ, ◌≡◌, ◌≢◌, ◌≤◌, ◌<◌, ◌+◌, ◌++◌, [], List, drop, length, map, true, false, Ok, Err, IfOk, IfErr, IfSome, OnOk, MatchOption};
+ghost use Rattle.std.specs.Prelude.{ℕ, ◌≡◌, ◌≢◌, ◌≤◌, ◌<◌, ◌+◌, ◌++◌, [], List, Option, None, drop, length, map, true, false, Ok, Err, IfOk, IfErr, IfSome, OnOk, MatchOption};
 ghost use Rattle.terminal_rules.specs.declared.event.Event.{Event};
 ghost use Rattle.script_lines.specs.Line.{bus_first};
 ghost use Rattle.script_lines.specs.Text.{lines_of, NoLineFeed};
 ghost use Rattle.bus_script.specs.Reading.{reading, adds, nothing};
-ghost use Rattle.rt1553_expand.specs.Expansion.{expansion_of, expanded_text, expanded_lines, script_in, all_events, line_count, refusal_at, refusals_in, refusal_of, by_bus_letter, IsExpansion, IfScript};
+ghost use Rattle.rt1553_expand.specs.Expansion.{expansion_of, expanded_text, expanded_lines, script_in, all_events, line_count, refusal_at, refusals_in, refusal_of, ends_in_return, named_fault, by_bus_letter, IsExpansion, IfScript};
 ghost use Rattle.rt1553_expand.specs.inner.Read.{expansion_by, IsWritable, LinesRead};
 ghost use Rattle.rt1553_expand.specs.inner.Added.{Added};
 
@@ -14,6 +14,7 @@ use crate::message::{BusMessage, MOST, read_message};
 use crate::writing::{message_lines, push_message};
 use bus_terminal::Event;
 use bus_word::Bus;
+use line_format::after;
 use refused_lines::first_line;
 use script_lines::{MAX_LINE, MAX_LINES, read_bus, read_event};
 use std::alloc::{AllocError, Global};
@@ -61,8 +62,8 @@ pub struct ScriptSoFar {
 /// Reads a line that is no line of a script.
 fn read_message_line(line: &[u8]) -> Result<ReadLine, ExpandFault>
     requires { length line.now ≤ 256 }
-    ensures said { IfOk result (λ read. by_bus_letter (bus_first line.now) (drop 2 line.now) ≡ Ok (expansion_by line.now read)) }
-    ensures refused { IfErr result (λ fault. by_bus_letter (bus_first line.now) (drop 2 line.now) ≡ Err fault) }
+    ensures said { (own : Option ℕ) → IfOk result (λ read. by_bus_letter own (bus_first line.now) (drop 2 line.now) ≡ Ok (expansion_by own line.now read)) }
+    ensures refused { (own : Option ℕ) → IfErr result (λ fault. by_bus_letter own (bus_first line.now) (drop 2 line.now) ≡ Err fault) }
     ensures sound { IfOk result (IsWritable line.now) }
 {
     let Some(bus) = read_bus(line) else {
@@ -72,10 +73,30 @@ fn read_message_line(line: &[u8]) -> Result<ReadLine, ExpandFault>
     Ok(ReadLine::Written(bus, message))
 }
 
+/// Whether a carriage return ends a line.
+fn ends_in_return(line: &[u8]) -> bool
+    ensures { result ≡ ends_in_return line.now }
+{
+    !line.is_empty() && line[line.len() - 1] == b'\r'
+}
+
+/// Why a line is refused that is none of a script and no message: first for what editors add unseen.
+fn named_fault(line: &[u8], fault: ExpandFault) -> ExpandFault
+    ensures { result ≡ named_fault line.now fault }
+{
+    if ends_in_return(line) {
+        ExpandFault::Return
+    } else if after(line, b"\xef\xbb\xbf").is_some() {
+        ExpandFault::Mark
+    } else {
+        fault
+    }
+}
+
 /// Reads a line.
 pub fn read_line(line: &[u8]) -> Result<ReadLine, ExpandFault>
-    ensures said { IfOk result (λ read. expansion_of line.now ≡ Ok (expansion_by line.now read)) }
-    ensures refused { IfErr result (λ fault. expansion_of line.now ≡ Err fault) }
+    ensures said { (own : Option ℕ) → IfOk result (λ read. expansion_of own line.now ≡ Ok (expansion_by own line.now read)) }
+    ensures refused { (own : Option ℕ) → IfErr result (λ fault. expansion_of own line.now ≡ Err fault) }
     ensures sound { IfOk result (IsWritable line.now) }
 {
     if line.len() > MOST {
@@ -84,61 +105,77 @@ pub fn read_line(line: &[u8]) -> Result<ReadLine, ExpandFault>
     match read_event(line) {
         Ok(_) if line.len() > MAX_LINE => Err(ExpandFault::LongComment),
         Ok(said) => Ok(ReadLine::Kept(said)),
-        Err(_) => read_message_line(line),
+        Err(_) => match read_message_line(line) {
+            Ok(read) => Ok(read),
+            Err(fault) => Err(named_fault(line, fault)),
+        },
     }
 }
 
 /// How many lines of a script stand for a line that was read, 1 to 70.
-pub fn lines_for(read: &ReadLine, line: &[u8]) -> usize
+pub fn lines_for(own: Option<u8>, read: &ReadLine, line: &[u8]) -> usize
     requires { IsWritable line.now read.now }
-    ensures value { result ≡ (expansion_by line.now read.now).lines }
+    ensures value { result ≡ (expansion_by own line.now read.now).lines }
     ensures few { result ≤ 70 }
 {
     match read {
         ReadLine::Kept(_) => 1,
-        ReadLine::Written(_, message) => message_lines(message),
+        ReadLine::Written(_, message) => message_lines(own, message),
     }
 }
 
 /// Writes what stands in the script for a line that was read.
-fn push_read(out: &mut Vec<u8>, line: &[u8], read: &ReadLine) -> Result<(), AllocError>
+fn push_read(
+    out: &mut Vec<u8>,
+    own: Option<u8>,
+    line: &[u8],
+    read: &ReadLine,
+) -> Result<(), AllocError>
     requires { IsWritable line.now read.now }
-    ensures text { OnOk result (out.new.items ≡ out.old.items ++ (expansion_by line.now read.now).text) }
-    ensures read { OnOk result (NoLineFeed line.now → (n : ℕ) → LinesRead n (expansion_by line.now read.now)) }
+    ensures text { OnOk result (out.new.items ≡ out.old.items ++ (expansion_by own line.now read.now).text) }
+    ensures read { OnOk result (NoLineFeed line.now → (n : ℕ) → LinesRead n (expansion_by own line.now read.now)) }
 {
     match read {
         ReadLine::Kept(_) => {
             out.extend_from_slice(line)?;
             out.push(b'\n')?;
         }
-        ReadLine::Written(bus, message) => push_message(out, *bus, message)?,
+        ReadLine::Written(bus, message) => push_message(out, own, *bus, message)?,
     }
     Ok(())
 }
 
 /// Adds what stands in the script for a line, where that has room. Tells whether it has.
-fn add_line(script: &mut ScriptSoFar, line: &[u8]) -> Result<bool, AllocError>
+fn add_line(
+    script: &mut ScriptSoFar,
+    own: Option<u8>,
+    line: &[u8],
+) -> Result<bool, AllocError>
     requires { script.old.lines ≤ 1048576 }
-    ensures added { IfOk result (λ has_room. has_room ≡ true → Added script.old.text.items script.new.text.items line.now script.old.lines script.new.lines) }
-    ensures full { IfOk result (λ has_room. has_room ≡ false → 1048576 < script.old.lines + expanded_lines (expansion_of line.now)) }
+    ensures added { IfOk result (λ has_room. has_room ≡ true → Added own script.old.text.items script.new.text.items line.now script.old.lines script.new.lines) }
+    ensures full { IfOk result (λ has_room. has_room ≡ false → 1048576 < script.old.lines + expanded_lines (expansion_of own line.now)) }
 {
     let Ok(read) = read_line(line) else {
         return Ok(true);
     };
-    let lines = script.lines + lines_for(&read, line);
+    let lines = script.lines + lines_for(own, &read, line);
     if lines > MAX_LINES as usize {
         return Ok(false);
     }
-    push_read(&mut script.text, line, &read)?;
+    push_read(&mut script.text, own, line, &read)?;
     script.lines = lines;
     Ok(true)
 }
 
 /// The script of a text, without what is refused of it; None where it would have over 1,048,576 lines.
-fn script_of(alloc: Global, text: &[u8]) -> Result<Option<Vec<u8>>, AllocError>
-    ensures text { IfOk result (λ o. IfSome o (λ script. script.items ≡ script_in (lines_of text.now))) }
-    ensures count { IfOk result (λ o. MatchOption o (1048576 < line_count (lines_of text.now)) (λ _. line_count (lines_of text.now) ≤ 1048576)) }
-    ensures read { IfOk result (λ o. IfSome o (λ script. reading 0 (lines_of script.items) ≡ adds (all_events (lines_of text.now)) nothing)) }
+fn script_of(
+    alloc: Global,
+    text: &[u8],
+    own: Option<u8>,
+) -> Result<Option<Vec<u8>>, AllocError>
+    ensures text { IfOk result (λ o. IfSome o (λ script. script.items ≡ script_in own (lines_of text.now))) }
+    ensures count { IfOk result (λ o. MatchOption o (1048576 < line_count own (lines_of text.now)) (λ _. line_count own (lines_of text.now) ≤ 1048576)) }
+    ensures read { IfOk result (λ o. IfSome o (λ script. reading 0 (lines_of script.items) ≡ adds (all_events own (lines_of text.now)) nothing)) }
 {
     let mut script = ScriptSoFar {
         text: Vec::new(alloc),
@@ -147,7 +184,7 @@ fn script_of(alloc: Global, text: &[u8]) -> Result<Option<Vec<u8>>, AllocError>
     let mut rest = text;
     while !rest.is_empty() {
         let (line, more) = first_line(rest);
-        if !add_line(&mut script, line)? {
+        if !add_line(&mut script, own, line)? {
             return Ok(None);
         }
         rest = more;
@@ -157,7 +194,7 @@ fn script_of(alloc: Global, text: &[u8]) -> Result<Option<Vec<u8>>, AllocError>
 
 /// Adds a line of this number where it is refused.
 fn push_refused(found: &mut Vec<UnexpandedLine>, line: &[u8], number: u64) -> Result<(), AllocError>
-    ensures { OnOk result (map refusal_of found.new.items ≡ map refusal_of found.old.items ++ refusal_at number (expansion_of line.now)) }
+    ensures { OnOk result (map refusal_of found.new.items ≡ map refusal_of found.old.items ++ refusal_at number (expansion_of None line.now)) }
 {
     if let Err(fault) = read_line(line) {
         found.push(UnexpandedLine {
@@ -188,16 +225,17 @@ fn unexpanded_lines(alloc: Global, text: &[u8]) -> Result<Vec<UnexpandedLine>, A
 /// Expands a text, line by line. A line of a script, a comment and an empty line stay as they are. A message, which is the
 /// letter of a bus and a space, a word by the names of its fields as `read_word_line` reads it, perhaps ` from ` with the address
 /// and the subaddress of the terminal that sends, and perhaps a colon and data words, gives the lines of its events. Any other
-/// line, one of over 256 bytes and a comment of over 64 are refused. The only error is out of memory.
-pub fn expand(alloc: Global, text: &[u8]) -> Result<Expanded, AllocError>
-    ensures expansion { IfOk result (IsExpansion text.now) }
-    ensures read { IfOk result (λ expanded. IfScript expanded (λ script. reading 0 (lines_of script) ≡ adds (all_events (lines_of text.now)) nothing)) }
+/// line, one of over 256 bytes and a comment of over 64 are refused. The script is for the terminal of the address `own`, 0 to 30, if
+/// there is one: where it sends in a transfer, slots stand in place of its words. The only error is out of memory.
+pub fn expand(alloc: Global, text: &[u8], own: Option<u8>) -> Result<Expanded, AllocError>
+    ensures expansion { IfOk result (IsExpansion own text.now) }
+    ensures read { IfOk result (λ expanded. IfScript expanded (λ script. reading 0 (lines_of script) ≡ adds (all_events own (lines_of text.now)) nothing)) }
 {
     let refused = unexpanded_lines(alloc, text)?;
     if !refused.is_empty() {
         return Ok(Expanded::Refused(refused));
     }
-    match script_of(alloc, text)? {
+    match script_of(alloc, text, own)? {
         Some(script) => Ok(Expanded::Script(script)),
         None => Ok(Expanded::TooLong),
     }

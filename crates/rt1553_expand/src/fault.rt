@@ -1,5 +1,6 @@
 //! Why a line is not expanded.
 
+use refused_lines::LineReason;
 use rt1553_tool::WordLineFault;
 use thiserror::Error;
 
@@ -15,6 +16,12 @@ pub enum ExpandFault {
     /// It is no line of a script, and no bus stands at its front, so that it is no message.
     #[error("neither a line of a script nor a message, which begins with A or B and a space")]
     Neither,
+    /// It is no line that can be expanded, and a byte order mark stands at its front.
+    #[error("{}", LineReason::Mark.text())]
+    Mark,
+    /// It is no line that can be expanded, and a carriage return stands at its end.
+    #[error("{}", LineReason::Return.text())]
+    Return,
     /// Something in a message is marked as a comment by `#`.
     #[error("a comment after a message: a comment is a line of its own")]
     Comment,

@@ -5,7 +5,7 @@ ghost use Rattle.bus_word.specs.Command.{AreOfTheirWidth};
 ghost use Rattle.terminal_rules.specs.declared.event.Event.TheVariants.{Slot as SlotEvent};
 ghost use Rattle.rt1553_tool.specs.Fields.{AreOfWidth, in_word};
 ghost use Rattle.rt1553_tool.specs.WordLines.{status_with};
-ghost use Rattle.rt1553_expand.specs.Events.{word_event, data_events, data_words_sent, reply_words, message_end, sender_events, message_events};
+ghost use Rattle.rt1553_expand.specs.Events.{word_event, data_events, data_words_sent, reply_words, message_end, sender_events, is_own, own_events, heard_events, message_events};
 ghost use Rattle.rt1553_expand.specs.inner.Said.{said_message};
 ghost use Rattle.rt1553_expand.specs.inner.Wrote.{Wrote};
 
@@ -139,25 +139,92 @@ fn end_lines(first: WordFields) -> usize
     }
 }
 
-/// How many lines a message has, 1 to 70.
-pub fn message_lines(message: &BusMessage) -> usize
-    requires { AreOfWidth message.now.first }
-    ensures value { (bus : Bus) → result ≡ length (message_events bus (said_message message.now)) }
-    ensures few { result ≤ 70 }
+/// Whether it is the terminal of this address that sends in a transfer.
+fn is_own(own: Option<u8>, sender: Option<CommandFields>) -> bool
+    ensures { result ≡ is_own own sender }
 {
-    let of_sender = if message.sender.is_some() { 3 } else { 0 };
-    1 + of_sender + message.words.len() + end_lines(message.first)
+    match (own, sender) {
+        (Some(address), Some(command)) => command.address == address,
+        _ => false,
+    }
 }
 
-/// Writes the lines of a message.
-pub fn push_message(out: &mut Vec<u8>, bus: Bus, message: &BusMessage) -> Result<(), AllocError>
+/// How many lines come behind the first word where the own terminal sends, 0 to 35.
+fn own_lines(sender: Option<CommandFields>) -> usize
+    requires { IfSome sender (λ s. AreOfTheirWidth (in_word s)) }
+    ensures value { (bus : Bus) → result ≡ length (own_events bus sender) }
+    ensures few { result ≤ 35 }
+{
+    match sender {
+        Some(command) => 1 + end_lines(WordFields::Command(command)),
+        None => 0,
+    }
+}
+
+/// How many lines others' words have behind the first, with the slots, 0 to 69.
+fn heard_lines(message: &BusMessage) -> usize
+    requires { AreOfWidth message.now.first }
+    ensures value { (bus : Bus) → result ≡ length (heard_events bus (said_message message.now)) }
+    ensures few { result ≤ 69 }
+{
+    let of_sender = if message.sender.is_some() { 3 } else { 0 };
+    of_sender + message.words.len() + end_lines(message.first)
+}
+
+/// How many lines a message has for the terminal of this address, if there is one: 1 to 70.
+pub fn message_lines(own: Option<u8>, message: &BusMessage) -> usize
     requires width { AreOfWidth message.now.first }
     requires sender { IfSome message.now.sender (λ s. AreOfTheirWidth (in_word s)) }
-    ensures { OnOk result (Wrote out.old.items out.new.items (message_events bus (said_message message.now))) }
+    ensures value { (bus : Bus) → result ≡ length (message_events own bus (said_message message.now)) }
+    ensures few { result ≤ 70 }
 {
-    push_word(out, bus, message.first)?;
+    if is_own(own, message.sender) {
+        1 + own_lines(message.sender)
+    } else {
+        1 + heard_lines(message)
+    }
+}
+
+/// Writes what comes behind the first word where the own terminal sends.
+fn push_own(out: &mut Vec<u8>, bus: Bus, sender: Option<CommandFields>) -> Result<(), AllocError>
+    requires { IfSome sender (λ s. AreOfTheirWidth (in_word s)) }
+    ensures { OnOk result (Wrote out.old.items out.new.items (own_events bus sender)) }
+{
+    if let Some(command) = sender {
+        push_word(out, bus, WordFields::Command(command))?;
+        push_end(out, bus, WordFields::Command(command))?;
+    }
+    Ok(())
+}
+
+/// Writes what others put on the bus behind the first word, and the slots.
+fn push_heard(out: &mut Vec<u8>, bus: Bus, message: &BusMessage) -> Result<(), AllocError>
+    requires width { AreOfWidth message.now.first }
+    requires sender { IfSome message.now.sender (λ s. AreOfTheirWidth (in_word s)) }
+    ensures { OnOk result (Wrote out.old.items out.new.items (heard_events bus (said_message message.now))) }
+{
     push_sender(out, bus, message.sender)?;
     push_data(out, bus, message.words.as_slice())?;
     push_end(out, bus, message.first)?;
+    Ok(())
+}
+
+/// Writes the lines of a message for the terminal of this address, if there is one.
+pub fn push_message(
+    out: &mut Vec<u8>,
+    own: Option<u8>,
+    bus: Bus,
+    message: &BusMessage,
+) -> Result<(), AllocError>
+    requires width { AreOfWidth message.now.first }
+    requires sender { IfSome message.now.sender (λ s. AreOfTheirWidth (in_word s)) }
+    ensures { OnOk result (Wrote out.old.items out.new.items (message_events own bus (said_message message.now))) }
+{
+    push_word(out, bus, message.first)?;
+    if is_own(own, message.sender) {
+        push_own(out, bus, message.sender)?;
+    } else {
+        push_heard(out, bus, message)?;
+    }
     Ok(())
 }

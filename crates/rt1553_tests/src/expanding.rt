@@ -4,12 +4,17 @@ use std::alloc::{AllocError, Global};
 use std::format;
 use std::test::Fail;
 
-/// The script of a text; nothing where there is none.
-fn script_of(alloc: Global, text: &[u8]) -> Result<Vec<u8>, AllocError> {
-    match expand(alloc, text)? {
+/// The script of a text for the terminal of an address, if there is one; nothing where there is none.
+fn script_for(alloc: Global, own: Option<u8>, text: &[u8]) -> Result<Vec<u8>, AllocError> {
+    match expand(alloc, text, own)? {
         Expanded::Script(script) => Ok(script),
         _ => Ok(Vec::new(alloc)),
     }
+}
+
+/// The script of a text for no terminal.
+fn script_of(alloc: Global, text: &[u8]) -> Result<Vec<u8>, AllocError> {
+    script_for(alloc, None, text)
 }
 
 /// Whether this is the script of a text.
@@ -20,7 +25,7 @@ fn expands(alloc: Global, text: &str, script: &str) -> Result<bool, AllocError> 
 
 /// The lines of a text that are refused.
 fn refused_of(alloc: Global, text: &[u8]) -> Result<Vec<UnexpandedLine>, AllocError> {
-    match expand(alloc, text)? {
+    match expand(alloc, text, None)? {
         Expanded::Refused(lines) => Ok(lines),
         _ => Ok(Vec::new(alloc)),
     }
@@ -61,6 +66,25 @@ fn forms(rt: HostRuntime) -> Result<(), Fail> {
     ];
     for (text, script) in forms {
         assert!(rt; expands(rt.alloc(), text, script)?, "{text}");
+    }
+    Ok(())
+}
+
+#[test]
+fn transfers_for_a_terminal(rt: HostRuntime) -> Result<(), Fail> {
+    let transfer = "A rx 5 3 2 from 6 4: 0001 0002";
+    let heard = "A c 2862\nA c 3482\nA gap\nA c 3000\nA d 0001\nA d 0002\nA gap\nslot\n";
+    let sent = "A c 2862\nA c 3482\nA gap\nslot\nslot\nslot\n";
+    let to_all = "B rx all 3 1 from 6 30: abcd";
+    for (own, text, script) in [
+        (5, transfer, heard),
+        (6, transfer, sent),
+        (3, transfer, heard),
+        (6, to_all, "B c f861\nB c 37c1\nB gap\nslot\nslot\n"),
+        (6, "A tx 6 4 1", "A c 3481\nA gap\nslot\nslot\n"),
+    ] {
+        let found = script_for(rt.alloc(), Some(own), text.as_bytes())?;
+        assert!(rt; found.as_slice() == script.as_bytes(), "{own}: {text}");
     }
     Ok(())
 }
@@ -145,7 +169,22 @@ fn kept_lines(rt: HostRuntime) -> Result<(), Fail> {
 
 #[test]
 fn columns(rt: HostRuntime) -> Result<(), Fail> {
-    let lines: [(&str, usize, &str); 32] = [
+    let lines: [(&str, usize, &str); 35] = [
+        (
+            "\u{feff}A mode 5 2",
+            1,
+            "a byte order mark: save the file as UTF-8 without it",
+        ),
+        (
+            "A rx 5 3 1: 0001\r",
+            17,
+            "a carriage return: a line ends in a line feed alone",
+        ),
+        (
+            "\r",
+            1,
+            "a carriage return: a line ends in a line feed alone",
+        ),
         (
             "wrte 01 01 0000",
             1,
@@ -335,8 +374,8 @@ fn too_many_lines(rt: HostRuntime) -> Result<(), Fail> {
     for _ in 0..11 {
         text.push(b'\n')?;
     }
-    assert!(rt; matches!(expand(rt.alloc(), text.as_slice())?, Expanded::Script(_)));
+    assert!(rt; matches!(expand(rt.alloc(), text.as_slice(), None)?, Expanded::Script(_)));
     text.push(b'\n')?;
-    assert!(rt; matches!(expand(rt.alloc(), text.as_slice())?, Expanded::TooLong));
+    assert!(rt; matches!(expand(rt.alloc(), text.as_slice(), None)?, Expanded::TooLong));
     Ok(())
 }

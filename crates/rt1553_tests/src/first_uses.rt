@@ -284,7 +284,7 @@ fn a_key_without_effect(rt: HostRuntime) -> Result<(), Fail> {
 
 #[test]
 fn messages_of_a_script(rt: HostRuntime) -> Result<(), Fail> {
-    let expanded = expand(rt.alloc(), b"A rx 5 3 1: 0001\n")?;
+    let expanded = expand(rt.alloc(), b"A rx 5 3 1: 0001\n", None)?;
     let Expanded::Script(script) = expanded else {
         panic!(rt; "the message is refused");
     };

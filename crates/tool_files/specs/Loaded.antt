@@ -1,5 +1,5 @@
 -- Scripts of files: as they stand there, or expanded.
-use Rattle.std.specs.Prelude.{ℕ, ◌≡◌, ◌-◌, Bool, true, false, List, [], ◌∷◌, Option, Some, None, option_map, get_or}
+use Rattle.std.specs.Prelude.{ℕ, ◌≡◌, ◌-◌, List, [], ◌∷◌, Option, Some, None, option_map, get_or}
 use Rattle.rt1553_expand.specs.declared.expanding.Expanded.TheVariants.{Script}
 use Rattle.rt1553_expand.specs.Expansion.{IsExpansion}
 use Rattle.rt1553_expand.specs.Sources.{sources_in}
@@ -8,10 +8,12 @@ use Rattle.tool_files.specs.declared.fault.ToolFault.{ToolFault}
 use Rattle.tool_files.specs.declared.fault.ToolFault.TheVariants.{Message}
 use Rattle.tool_files.specs.declared.loaded.LoadedScript.{LoadedScript}
 
--- the script of a file with this text: the text, or what it is expanded to, with the line of the file from which each line comes
-abbrev pub IsScriptOf : Bool → List ℕ → LoadedScript → Type 0
-IsScriptOf false text script = (script.text.items ≡ text) × (script.sources ≡ None)
-IsScriptOf true text script = IsExpansion text (Script script.text) × (option_map (λ lines. lines.items) script.sources ≡ Some (sources_in text))
+-- The script of a file with this text: the text, or what it is expanded to for the terminal of an address, with the line of the file from
+-- which each line comes.
+abbrev pub IsScriptOf : Option ℕ → List ℕ → LoadedScript → Type 0
+IsScriptOf None text script = (script.text.items ≡ text) × (script.sources ≡ None)
+IsScriptOf (Some own) text script =
+    IsExpansion (Some own) text (Script script.text) × (option_map (λ lines. lines.items) script.sources ≡ Some (sources_in (Some own) text))
 
 -- the line of the file that a line of its script stands for
 abbrev pub line_in_file : Option (List ℕ) → ℕ → ℕ

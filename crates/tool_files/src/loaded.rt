@@ -1,5 +1,5 @@
 //! Scripts of files: as they stand there, or expanded.
-ghost use Rattle.std.specs.Prelude.{◌≡◌, ◌⊎◌, IfOk, List, ℕ, option_map, true};
+ghost use Rattle.std.specs.Prelude.{◌≡◌, ◌⊎◌, IfOk, List, ℕ, option_map, Some};
 ghost use Rattle.tool_files.specs.Loaded.{IsScriptOf, TellsMessage, line_in_file};
 
 use crate::fault::ToolFault;
@@ -46,31 +46,35 @@ fn message_fault<R: AllocGlobal>(rt: &R, name: &str, refused: &[UnexpandedLine])
     }
 }
 
-/// The script of the messages in the file of this name.
-fn load_messages<R: Files + AllocGlobal>(rt: &R, name: &str) -> Result<LoadedScript, ToolFault>
-    ensures { IfOk result (λ script. (text : List ℕ) × IsScriptOf true text script) }
+/// The script of the messages in the file of this name, for the terminal of this address.
+fn load_messages<R: Files + AllocGlobal>(
+    rt: &R,
+    name: &str,
+    own: u8,
+) -> Result<LoadedScript, ToolFault>
+    ensures { IfOk result (λ script. (text : List ℕ) × IsScriptOf (Some own) text script) }
 {
     let text = read_script_file(rt, name)?;
-    match expand(rt.alloc(), text.as_slice())? {
+    match expand(rt.alloc(), text.as_slice(), Some(own))? {
         Expanded::Script(script) => Ok(LoadedScript {
             text: script,
-            sources: Some(source_lines(rt.alloc(), text.as_slice())?),
+            sources: Some(source_lines(rt.alloc(), text.as_slice(), Some(own))?),
         }),
         Expanded::Refused(lines) => Err(message_fault(rt, name, lines.as_slice())),
         Expanded::TooLong => Err(refused_file(rt, name, &RunFault::TooLong)),
     }
 }
 
-/// The script in the file of this name, or, where it is to be expanded, the script of the messages there.
+/// The script in the file of this name, or, where it has messages for the terminal of an address, 0 to 30, the script of these.
 pub fn load_script<R: Files + AllocGlobal>(
     rt: &R,
     name: &str,
-    expand: bool,
+    expand_for: Option<u8>,
 ) -> Result<LoadedScript, ToolFault>
-    ensures { IfOk result (λ script. (text : List ℕ) × IsScriptOf expand text script) }
+    ensures { IfOk result (λ script. (text : List ℕ) × IsScriptOf expand_for text script) }
 {
-    if expand {
-        return load_messages(rt, name);
+    if let Some(own) = expand_for {
+        return load_messages(rt, name, own);
     }
     Ok(LoadedScript {
         text: read_script_file(rt, name)?,

@@ -37,12 +37,12 @@ fn draw_file<R: Files + AllocGlobal>(
     normal: &Normal,
     names: Option<&MessageNames>,
     name: &str,
-    expand: bool,
+    expand_for: Option<u8>,
     folded: bool,
 ) -> Result<String, ToolFault>
-    ensures { IfOk result (λ drawing. (text : List ℕ) × (script : LoadedScript) × IsScriptOf expand text script × (refusal (reading 0 (lines_of script.text.items)) ≡ None)) }
+    ensures { IfOk result (λ drawing. (text : List ℕ) × (script : LoadedScript) × IsScriptOf expand_for text script × (refusal (reading 0 (lines_of script.text.items)) ≡ None)) }
 {
-    let script = load_script(rt, name, expand)?;
+    let script = load_script(rt, name, expand_for)?;
     let script = script.text.as_slice();
     let drawn = if folded {
         draw_folded(rt.alloc(), normal, names, script)
@@ -86,7 +86,12 @@ pub fn draw_run<R: Files + AllocGlobal + Eprint, W: Write>(
     let normal = load_profile(rt, asked.profile)?;
     let names = load_names(rt, asked.names, &[normal.address()])?;
     let names = names.as_ref();
-    let drawing = draw_file(rt, &normal, names, asked.script, asked.expand, asked.html)?;
+    let expand_for = if asked.expand {
+        Some(normal.address())
+    } else {
+        None
+    };
+    let drawing = draw_file(rt, &normal, names, asked.script, expand_for, asked.html)?;
     if asked.html {
         let (profile, script) = (shown(rt, asked.profile)?, shown(rt, asked.script)?);
         let title = format!(in rt.alloc(); "{profile}: {script}")?;

@@ -24,7 +24,8 @@ fn count_file<R: Files + AllocGlobal>(
     expand: bool,
     coverage: &mut Coverage,
 ) -> Result<(), ToolFault> {
-    let script = load_script(rt, name, expand)?;
+    let expand_for = if expand { Some(normal.address()) } else { None };
+    let script = load_script(rt, name, expand_for)?;
     match recorded_events(rt.alloc(), normal, script.text.as_slice()) {
         Ok(events) => {
             count_events(coverage, normal, events.as_slice());

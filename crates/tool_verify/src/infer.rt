@@ -22,7 +22,12 @@ pub fn infer_profile<R: Files + AllocGlobal, W: Write>(
     } else {
         Unseen::Illegal
     };
-    let script = load_script(rt, asked.script, asked.expand)?;
+    let expand_for = if asked.expand {
+        Some(asked.address)
+    } else {
+        None
+    };
+    let script = load_script(rt, asked.script, expand_for)?;
     let mut recording = match read_recording(rt.alloc(), asked.address, script.text.as_slice()) {
         Ok(recording) => recording,
         Err(fault) => return Err(recording_fault(rt, asked.script, &script, fault)),

@@ -48,17 +48,19 @@ fn open_recording<R: Files + AllocGlobal>(
     Ok(OpenScript { script, rest })
 }
 
-/// Opens the script in the file of this name, or, where it is to be expanded, loads the script of the messages there.
+/// Opens the script in the file of this name, or, where it has messages for the terminal of an address, loads the script of these.
 pub fn open_script<R: Files + AllocGlobal>(
     rt: &R,
     name: &str,
     kind: ScriptKind,
-    expand: bool,
+    expand_for: Option<u8>,
 ) -> Result<OpenScript<R::File>, ToolFault> {
     match kind {
-        ScriptKind::Recording | ScriptKind::LaterRecording if !expand => open_recording(rt, name),
+        ScriptKind::Recording | ScriptKind::LaterRecording if expand_for.is_none() => {
+            open_recording(rt, name)
+        }
         _ => Ok(OpenScript {
-            script: load_script(rt, name, expand)?,
+            script: load_script(rt, name, expand_for)?,
             rest: None,
         }),
     }

@@ -4,7 +4,7 @@ ghost use Rattle.bus_legal.specs.Parts.{Parts};
 ghost use Rattle.rt1553_report.specs.Results.{outcome_passes};
 ghost use Rattle.tool_verify.specs.Passing.{IsPlayedTo, SaysOf};
 
-use crate::opened::{OpenScript, open_script};
+use crate::opened::OpenScript;
 use crate::verify::{Played, PlayedScript, clauses_of, play_script};
 use ascii_json::json_line;
 use message_names::MessageNames;
@@ -155,7 +155,7 @@ fn report_file<R: Files + AllocGlobal + Eprint>(
     ensures passes { IfOk result (λ r. (r.1 ≡ 0) ↔ (outcome_passes r.0.outcome ≡ true)) }
     ensures most { IfOk result (λ r. r.1 ≤ 4) }
 {
-    let (script, outcome) = match open_script(rt, name, asked.kind, asked.expand) {
+    let (script, outcome) = match played.open(rt, name) {
         Ok(OpenScript { script, rest }) => {
             let drawn = matches!(asked.format, ReportFormat::Html);
             let outcome = outcome_of_script(rt, played, name, &script, rest, drawn);

@@ -20,7 +20,7 @@ use std::io::Write;
 use std::rt::Files;
 use tool_files::{
     DIFFERENT, Ink, LoadedScript, Screen, ToolFault, first_refused, load_profile, load_script,
-    put_in, refused_file, shown, status_or_stop, worst, write_bytes,
+    put_in, read_script_file, refused_file, shown, status_or_stop, worst, write_bytes,
 };
 use tool_names::{load_names, name_of_command};
 
@@ -100,6 +100,29 @@ impl Played<'_> {
             PlayedTo::One(normal) => Ok(*normal),
             PlayedTo::Folder(folder) => profile_in(rt, folder, name, script),
         }
+    }
+
+    /// The address of the terminal for which the messages in the file of this name are expanded; None where it has none.
+    fn expands_for<R: Files + AllocGlobal>(
+        &self,
+        rt: &R,
+        name: &str,
+    ) -> Result<Option<u8>, ToolFault> {
+        if !self.expand {
+            return Ok(None);
+        }
+        let messages = read_script_file(rt, name)?;
+        let normal = self.of_script(rt, name, messages.as_slice())?;
+        Ok(Some(normal.address()))
+    }
+
+    /// Opens the script in the file of this name; messages are expanded for the terminal to which they are played.
+    pub fn open<R: Files + AllocGlobal>(
+        &self,
+        rt: &R,
+        name: &str,
+    ) -> Result<OpenScript<R::File>, ToolFault> {
+        open_script(rt, name, self.kind, self.expands_for(rt, name)?)
     }
 }
 
@@ -365,7 +388,7 @@ fn play_file<R: Files + AllocGlobal + Eprint, W: Write>(
 ) -> Result<u8, ToolFault>
     ensures { IfOk result (λ status. status ≤ 1) }
 {
-    let OpenScript { script, rest } = match open_script(rt, name, played.kind, played.expand) {
+    let OpenScript { script, rest } = match played.open(rt, name) {
         Ok(opened) => opened,
         Err(fault) => {
             keep(rt.alloc(), tried, b"", false)?;
@@ -459,7 +482,7 @@ pub fn explain_recording<R: Files + AllocGlobal + Eprint, W: Write>(
         each: false,
         has_colours: screen.has_colours,
     };
-    let script = load_script(rt, asked.script, asked.expand)?;
+    let script = load_script(rt, asked.script, played.expands_for(rt, asked.script)?)?;
     if !tell_script(rt, &played, asked.script, &script, None, report, output)? {
         return Ok(DIFFERENT);
     }

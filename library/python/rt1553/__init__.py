@@ -438,10 +438,13 @@ def _of(text: Text) -> bytes:
     raise TypeError(f"a text is wanted, as str or bytes, not {_kind(text)}")
 
 
-def _told(status: int, fault: ctypes.Array[ctypes.c_char]) -> Fault:
-    """The fault of a refused call, as an exception."""
+def _told(status: int, fault: ctypes.Array[ctypes.c_char], *profiles: bytes) -> Fault:
+    """The fault of a refused call with these texts of profiles, as an exception."""
     kind, number, length, line, text = _FAULT.unpack(fault)
     said = text[:length].decode().rstrip("\n")
+    # no text of a profile is one line without a key
+    if kind == FaultKind.PROFILE and any(it and b"\n" not in it and b"=" not in it for it in profiles):
+        said += " (the text of a profile is wanted, and this may be the name of a file)"
     return (NoMemory if status == _NO_MEMORY else Refused)(said, FaultKind(kind), number, line)
 
 
@@ -464,7 +467,7 @@ def check(text: Text) -> None:
     """Raises `Refused` if a profile text or a canonical text is not accepted."""
     text, fault = _of(text), ctypes.create_string_buffer(_FAULT.size)
     if status := _check(text, len(text), fault):
-        raise _told(status, fault)
+        raise _told(status, fault, text)
 
 
 def canonical(text: Text) -> str:
@@ -472,7 +475,7 @@ def canonical(text: Text) -> str:
     text, fault = _of(text), ctypes.create_string_buffer(_FAULT.size)
     to, length = ctypes.create_string_buffer(_CANONICAL_ROOM), _size()
     if status := _canonical(text, len(text), to, len(to), ctypes.byref(length), fault):
-        raise _told(status, fault)
+        raise _told(status, fault, text)
     return to.raw[: length.value].decode()
 
 
@@ -485,7 +488,7 @@ def compare(first: Text, second: Text) -> Optional[str]:
         return None
     if status == _DIFFER:
         return to.raw[: length.value].decode()
-    raise _told(status, fault)
+    raise _told(status, fault, one, other)
 
 
 def _room(room: object) -> int:
@@ -515,7 +518,7 @@ def run(text: Text, script: Text, room: Optional[int] = None) -> str:
         raise NoRoom(f"no room: {length.value} bytes are needed")
     transcript = ctypes.string_at(to, length.value).decode()
     if status:
-        why = _told(status, fault)
+        why = _told(status, fault, text)
         why.transcript = transcript
         raise why
     return transcript
@@ -682,12 +685,12 @@ class _Memory:
 
     at: Any = None
 
-    def __init__(self, make: Callable[..., int], *arguments: object) -> None:
+    def __init__(self, make: Callable[..., int], *arguments: object, profile: bytes = b"") -> None:
         # calls of several threads come one after the other; a call in a signal handler comes between two others
         self.lock = threading.RLock()
         self.at, fault = _at(), ctypes.create_string_buffer(_FAULT.size)
         if status := make(*arguments, ctypes.byref(self.at), fault):
-            raise _told(status, fault)
+            raise _told(status, fault, profile)
 
     def __del__(self, free: Callable[[Any], object] = _free) -> None:
         free(self.at)
@@ -725,7 +728,7 @@ class Terminal:
     def __init__(self, text: Text) -> None:
         # a second call makes it anew; if the text is refused, it stays as it was
         data = _of(text)
-        self.__memory = _Memory(_new, data, len(data))
+        self.__memory = _Memory(_new, data, len(data), profile=data)
 
     def __del__(self) -> None:
         self.__memory = None
@@ -746,6 +749,16 @@ class Terminal:
         terminal, data = cls.__new__(cls), _of(state)
         terminal.__memory = _Memory(_restore, data, len(data))
         return terminal
+
+    @property
+    def address(self) -> int:
+        """The address of its profile, 0 to 30.
+
+        >>> Terminal("address = 5").address
+        5
+        """
+        line = next(it for it in self.save().split(b"\n") if it.startswith(b"address "))
+        return int(line.split(b" ")[1])
 
     def save(self) -> bytes:
         """Its saved state, a text of ASCII (docs/library.md).

@@ -293,6 +293,16 @@ class Faulty:
         self.terminal, self._plan = terminal, iter(plan)
         self._left: deque[Optional[_Heard]] = deque()
 
+    @property
+    def plan_left(self) -> Optional[int]:
+        """How many entries of the plan no reply has taken so far. None if the plan has no length, as a generator.
+
+        >>> Faulty(Terminal("address = 5"), [FaultyReply(drop=True)]).plan_left
+        1
+        """
+        left = operator.length_hint(self._plan, -1)
+        return None if left < 0 else left
+
     def _reply(self) -> list[Word]:
         """The whole reply that the terminal begins in this slot, if it begins one."""
         reply: list[Word] = []
@@ -313,6 +323,13 @@ class Faulty:
             if fault is not None:
                 self._left = deque(fault._sent(reply))
         return self._left.popleft() if self._left else None
+
+
+def _terminal_of(terminal: Union[Terminal, Recorder, Faulty]) -> Terminal:
+    """The terminal that a recorder keeps or that is faulty."""
+    while not isinstance(terminal, Terminal):
+        terminal = terminal.terminal
+    return terminal
 
 
 # --- the bus controller
@@ -375,8 +392,8 @@ def _read(reply: list[_Heard], address: int, count: int) -> tuple[Optional[Statu
 
 
 class BusController:
-    """A bus controller and the terminals on its two buses, by their addresses, 0 to 30, which should be those of their profiles.
-    Messages go one after the other, over bus A or over the one that `bus` names. It is for one thread at a time.
+    """A bus controller and the terminals on its two buses, by their addresses, 0 to 30, which have to be those of their
+    profiles. Messages go one after the other, over bus A or over the one that `bus` names. It is for one thread at a time.
 
     Each silence is one gap, and if no reply follows it, the no-response time-out is one more. A word is heard by all but its
     sender; two words at once are noise. While the controller waits for a reply, time passes in slots.
@@ -391,6 +408,9 @@ class BusController:
                 raise _unwanted("terminals", "a Terminal, a Recorder or a Faulty", terminal)
         if len(set(map(id, self._terminals.values()))) < len(self._terminals):
             raise ValueError("terminals: a terminal of its own is wanted for each address")
+        for address, terminal in self._terminals.items():
+            if (own := _terminal_of(terminal).address) != address:
+                raise ValueError(f"terminals: the profile of the terminal at address {address} has address {own}")
         self._handed: dict[int, list[HandedOver]] = {}
         # the buses that have had a word since their last gap
         self._in_use: set[Bus] = set()

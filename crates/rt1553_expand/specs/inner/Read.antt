@@ -1,5 +1,5 @@
 -- What was read of a line, and what it adds to a script.
-use Rattle.std.specs.Prelude.{ℕ, ◌≡◌, ◌≤◌, ◌+◌, ◌++◌, List, length, IfSome, Ok, Result}
+use Rattle.std.specs.Prelude.{ℕ, ◌≡◌, ◌≤◌, ◌+◌, ◌++◌, List, length, Option, IfSome, Ok, Result}
 use Rattle.bus_word.specs.Command.{AreOfTheirWidth}
 use Rattle.script_lines.specs.Line.{meaning}
 use Rattle.script_lines.specs.Text.{NoLineFeed}
@@ -12,9 +12,9 @@ use Rattle.rt1553_expand.specs.Expansion.{Expansion, kept, from_events}
 use Rattle.rt1553_expand.specs.inner.Said.{said_message}
 
 -- what a line that was read gives in the script
-abbrev pub expansion_by : List ℕ → ReadLine → Expansion
-expansion_by line (Kept said) = kept line said
-expansion_by line (Written bus message) = from_events (message_events bus (said_message message))
+abbrev pub expansion_by : Option ℕ → List ℕ → ReadLine → Expansion
+expansion_by own line (Kept said) = kept line said
+expansion_by own line (Written bus message) = from_events (message_events own bus (said_message message))
 
 -- a line that stays has room in a script and means this, and the fields of a message are of their width
 abbrev pub IsWritable : List ℕ → ReadLine → Type 0

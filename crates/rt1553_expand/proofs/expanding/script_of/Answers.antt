@@ -18,26 +18,26 @@ loop-rest-preserved c =
     let a = c.in_ok-add_line.ensures.added c.if-not-branch.false in
     record {
       few = a.few;
-      text = lists-on (λ l. expanded_text (expansion_of l)) rest line more _ _ _ first a.text i.text;
-      count = count-on (λ l. expanded_lines (expansion_of l)) rest line more _ _ _ first a.lines i.count;
+      text = lists-on (λ l. expanded_text (expansion_of c.args.own l)) rest line more _ _ _ first a.text i.text;
+      count = count-on (λ l. expanded_lines (expansion_of c.args.own l)) rest line more _ _ _ first a.lines i.count;
       read = (
-        i.read.0 ++ expanded_events (expansion_of line),
-        lists-on (λ l. expanded_events (expansion_of l)) rest line more i.read.0 _ _ first refl i.read.1,
-        subst (λ t. ReadsLines 0 t (i.read.0 ++ expanded_events (expansion_of line)) c.add_line.new.script.lines) (sym a.text)
+        i.read.0 ++ expanded_events (expansion_of c.args.own line),
+        lists-on (λ l. expanded_events (expansion_of c.args.own l)) rest line more i.read.0 _ _ first refl i.read.1,
+        subst (λ t. ReadsLines 0 t (i.read.0 ++ expanded_events (expansion_of c.args.own line)) c.add_line.new.script.lines) (sym a.text)
             (ReadsLines-trans i.read.2 (a.reads (line-no_feed rest line (lines_of more) first))),
       );
     }
 
 pub returns-clause-text : goal.returns-clause-text
-returns-clause-text c = lists-all (λ l. expanded_text (expansion_of l)) c.loop-rest.rest.now _ _ (grind arith) c.loop-rest.invariant.text
+returns-clause-text c = lists-all (λ l. expanded_text (expansion_of c.args.own l)) c.loop-rest.rest.now _ _ (grind arith) c.loop-rest.invariant.text
 
 pub returns-clause-count : goal.returns-clause-count
 returns-clause-count c =
-    let all = count-all (λ l. expanded_lines (expansion_of l)) c.loop-rest.rest.now c.loop-rest.script.lines _ (grind arith) c.loop-rest.invariant.count in
+    let all = count-all (λ l. expanded_lines (expansion_of c.args.own l)) c.loop-rest.rest.now c.loop-rest.script.lines _ (grind arith) c.loop-rest.invariant.count in
     omega (arith, all, c.loop-rest.invariant.few)
 
 pub returns-clause-read : goal.returns-clause-read
 returns-clause-read c =
     let i = c.loop-rest.invariant in
     all-read c.loop-rest.script.text.items i.read.0 c.loop-rest.script.lines i.read.2
-    ∙ ap (λ es. adds es nothing) (lists-all (λ l. expanded_events (expansion_of l)) c.loop-rest.rest.now i.read.0 _ (grind arith) i.read.1)
+    ∙ ap (λ es. adds es nothing) (lists-all (λ l. expanded_events (expansion_of c.args.own l)) c.loop-rest.rest.now i.read.0 _ (grind arith) i.read.1)

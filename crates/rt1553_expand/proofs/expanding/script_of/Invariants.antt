@@ -9,9 +9,9 @@ use Rattle.rt1553_expand.proofs.expanding.script_of.Given as goal
 abbrev pub invariant-loop-rest : goal.invariant-loop-rest
 invariant-loop-rest l = record {
   few : l.script.lines ≤ 1048576;
-  text : script_in (lines_of l.text) ≡ l.script.text.items ++ script_in (lines_of l.rest);
-  count : line_count (lines_of l.text) ≡ l.script.lines + line_count (lines_of l.rest);
-  read : (es : List Event) × (all_events (lines_of l.text) ≡ es ++ all_events (lines_of l.rest)) × ReadsLines 0 l.script.text.items es l.script.lines;
+  text : script_in l.own (lines_of l.text) ≡ l.script.text.items ++ script_in l.own (lines_of l.rest);
+  count : line_count l.own (lines_of l.text) ≡ l.script.lines + line_count l.own (lines_of l.rest);
+  read : (es : List Event) × (all_events l.own (lines_of l.text) ≡ es ++ all_events l.own (lines_of l.rest)) × ReadsLines 0 l.script.text.items es l.script.lines;
 }
 
 abbrev pub decreases-loop-rest : goal.decreases-loop-rest

@@ -5,7 +5,7 @@ use Rattle.rt1553_expand.proofs.source.source_lines.Given as goal
 
 abbrev pub invariant-loop-rest : goal.invariant-loop-rest
 invariant-loop-rest l = (l.number + length l.rest ≤ 1 + length l.text)
-    × (sources_from 1 (lines_of l.text) ≡ l.sources.items ++ sources_from l.number (lines_of l.rest))
+    × (sources_from l.own 1 (lines_of l.text) ≡ l.sources.items ++ sources_from l.own l.number (lines_of l.rest))
 
 abbrev pub decreases-loop-rest : goal.decreases-loop-rest
 decreases-loop-rest l = length l.rest
