@@ -1,31 +1,33 @@
 -- A script in which answers are stated says its events and just these answers.
-use Rattle.std.proofs.Common.{ℕ, ◌≡◌, ◌∙◌, ◌+◌, ◌*◌, ◌<◌, ◌≤◌, ◌==◌, ◌||◌, nat_lt, Bool, true, false, if◌then◌else◌, List, [], ◌∷◌, ◌++◌, Option, Some, None, is_some, Result, Ok, Err, length, map, flat_map, refl, sym, ap, subst, arith, append-nil, codes, ⊎_elim, inl, inr, ◌⊎◌}
+use Rattle.std.proofs.Common.{ℕ, ◌≡◌, ◌∙◌, ◌+◌, ◌*◌, ◌<◌, ◌≤◌, ◌==◌, ◌||◌, nat_lt, Bool, true, false, if◌then◌else◌, List, [], ◌∷◌, ◌++◌, Option, Some, None, is_some, Result, Ok, Err, length, refl, sym, ap, subst, arith, append_assoc, append-nil, codes, ⊎_elim, inl, inr, ◌⊎◌}
+use Rattle.std.specs.Result.{result_unwrap_or}
 use Rattle.std.proofs.lemmas.Bool.{cases_lt}
 use Rattle.std.proofs.lemmas.Bool.Decides.{nat_tests}
+use Rattle.bus_word.specs.declared.cell.Cell.{Cell}
 use Rattle.bus_legal.specs.Description.{Description}
 use Rattle.terminal_rules.specs.declared.event.Event.{Event}
 use Rattle.terminal_rules.specs.Past.{history_after}
-use Rattle.terminal_rules.specs.Out.{out, outs_from}
+use Rattle.bus_terminal.specs.declared.terminal.Terminal.{Terminal}
+use Rattle.bus_terminal.specs.Stands.{StandsAt}
 use Rattle.line_format.specs.Front.{after}
 use Rattle.script_lines.specs.declared.line.LineFault.{LineFault}
 use Rattle.script_lines.specs.Line.{meaning}
 use Rattle.script_lines.specs.Text.{onto_first, lines_of, NoLineFeed}
-use Rattle.script_lines.specs.Transcript.{answer_text}
 use Rattle.refused_lines.specs.Refused.{mistyped}
 use Rattle.bus_script.specs.Reading.{reading, adds, nothing, then_reads}
 use Rattle.bus_script.proofs.ReadingLaws.{reading-line, adds-adds}
 use Rattle.rt1553_verify.specs.declared.stated.StatedFault.{StatedFault}
 use Rattle.rt1553_verify.specs.declared.stated.StatedFault.TheVariants.{LongLine}
-use Rattle.rt1553_verify.specs.Stated.{StatedEvent, Latest, After, stays, silent_line, unstated_line, by_going_on, by_mask, by_answer, line_says, bounded_line, then_events, then_lines, stated_by, stated_in}
-use Rattle.rt1553_verify.specs.Verify.{wrong_answers_from, by_script, verified}
+use Rattle.rt1553_verify.specs.Stated.{StatedEvent, Latest, After, silent_line, unstated_line, by_going_on, by_mask, by_answer, line_says, bounded_line, then_events, then_lines, stated_by, stated_in}
+use Rattle.rt1553_verify.specs.Verify.{wrong_answers_from, by_script}
 use Rattle.rt1553_verify.proofs.StatedLaws.{stated-means, stated-line, stated-too_long}
-use Rattle.rt1553_acceptance.specs.Law.{AreStatedAnswers}
-use Rattle.rt1553_acceptance.specs.Answered.{states_line, event_meant, meant_by, stated_behind, line_answered, lines_answered, script_answered, StatesAnswers}
+use Rattle.rt1553_acceptance.specs.Answered.{if_event, states_line, event_meant, meant_by, stated_behind, line_answered, lines_answered, script_answered, StatesAnswers}
 use Rattle.rt1553_acceptance.specs.inner.Fits.{AllFit}
-use Rattle.rt1553_acceptance.specs.inner.Answering.{events_meant}
+use Rattle.rt1553_acceptance.specs.inner.Answering.{events_meant, Answers, IsLeft}
 use Rattle.rt1553_acceptance.proofs.Pieces.{Tells-all}
 use Rattle.rt1553_acceptance.proofs.Chains.{Chained, Chain-nil, Chain-trans, line_event, silent_said, fit-append}
 use Rattle.rt1553_acceptance.proofs.Showing.{none-differs, all-answered, texts-alike, texts-answered}
+use Rattle.rt1553_acceptance.proofs.PutLaws.{fit-joined}
 
 -- ---- lines of a script without fault
 
@@ -40,17 +42,17 @@ first-states : (line rest : List ℕ) → after (codes "#> ") line ≡ Some rest
 first-states line rest is = ap (λ o. is_some o || (is_some (after (codes "#~ ") line) || is_some (after (codes "#+ ") line))) is
 
 second-states : (line rest : List ℕ) → after (codes "#> ") line ≡ None → after (codes "#~ ") line ≡ Some rest → states_line line ≡ true
-second-states line rest no is =
-    ap (λ o. is_some o || (is_some (after (codes "#~ ") line) || is_some (after (codes "#+ ") line))) no ∙ ap (λ o. is_some o || is_some (after (codes "#+ ") line)) is
+second-states line rest other is =
+    ap (λ o. is_some o || (is_some (after (codes "#~ ") line) || is_some (after (codes "#+ ") line))) other ∙ ap (λ o. is_some o || is_some (after (codes "#+ ") line)) is
 
 third-states : (line : List ℕ) (o : Option (List ℕ)) → after (codes "#> ") line ≡ None → after (codes "#~ ") line ≡ None → after (codes "#+ ") line ≡ o → states_line line ≡ is_some o
-third-states line o no none is =
-    ap (λ o. is_some o || (is_some (after (codes "#~ ") line) || is_some (after (codes "#+ ") line))) no ∙ ap (λ o. is_some o || is_some (after (codes "#+ ") line)) none ∙ ap is_some is
+third-states line o other none is =
+    ap (λ o. is_some o || (is_some (after (codes "#~ ") line) || is_some (after (codes "#+ ") line))) other ∙ ap (λ o. is_some o || is_some (after (codes "#+ ") line)) none ∙ ap is_some is
 
 unstated-kind : (n : ℕ) (latest : Latest) (line : List ℕ) (result : After) (said : Result (Option Event) LineFault) → states_line line ≡ false → meaning line ≡ said
     → unstated_line n latest line said ≡ Ok result → Kind line
 unstated-kind n latest line result (Err fault) plain means e = absurd (cc)
-unstated-kind n latest line result (Ok (Some event)) plain means e = inr (inr (plain, event, means))
+unstated-kind n latest line result (Ok (Some event)) plain means e = inr (inr (plain, (event, means)))
 unstated-kind n latest line result (Ok None) plain means e = by_column (mistyped line) refl e
   where
     by_column : (o : Option ℕ) → mistyped line ≡ o → silent_line n latest o ≡ Ok result → Kind line
@@ -61,12 +63,12 @@ says-kind : (n : ℕ) (latest : Latest) (line : List ℕ) (result : After) → l
 says-kind n latest line result e = first (after (codes "#> ") line) refl e
   where
     third : after (codes "#> ") line ≡ None → after (codes "#~ ") line ≡ None → (o : Option (List ℕ)) → after (codes "#+ ") line ≡ o → by_going_on n latest line o ≡ Ok result → Kind line
-    third no none None is e = unstated-kind n latest line result (meaning line) (third-states line None no none is) refl e
-    third no none (Some rest) is e = inl (third-states line (Some rest) no none is, stated-means 43 line rest is)
+    third other none None is e = unstated-kind n latest line result (meaning line) (third-states line None other none is) refl e
+    third other none (Some rest) is e = inl (third-states line (Some rest) other none is, stated-means 43 line rest is)
 
     second : after (codes "#> ") line ≡ None → (o : Option (List ℕ)) → after (codes "#~ ") line ≡ o → by_mask n latest line o ≡ Ok result → Kind line
-    second no None is e = third no is (after (codes "#+ ") line) refl e
-    second no (Some rest) is e = inl (second-states line rest no is, stated-means 126 line rest is)
+    second other None is e = third other is (after (codes "#+ ") line) refl e
+    second other (Some rest) is e = inl (second-states line rest other is, stated-means 126 line rest is)
 
     first : (o : Option (List ℕ)) → after (codes "#> ") line ≡ o → by_answer n latest line o ≡ Ok result → Kind line
     first None is e = second is (after (codes "#~ ") line) refl e
@@ -80,12 +82,12 @@ plain-says n latest line plain = first (after (codes "#> ") line) refl
     Plain said = said ≡ unstated_line n latest line (meaning line)
 
     third : after (codes "#> ") line ≡ None → after (codes "#~ ") line ≡ None → (o : Option (List ℕ)) → after (codes "#+ ") line ≡ o → Plain (by_going_on n latest line o)
-    third no none None is = refl
-    third no none (Some rest) is = let states = sym (third-states line (Some rest) no none is) ∙ plain in absurd (cc)
+    third other none None is = refl
+    third other none (Some rest) is = let states = sym (third-states line (Some rest) other none is) ∙ plain in absurd (cc)
 
     second : after (codes "#> ") line ≡ None → (o : Option (List ℕ)) → after (codes "#~ ") line ≡ o → Plain (by_mask n latest line o)
-    second no None is = third no is (after (codes "#+ ") line) refl
-    second no (Some rest) is = let states = sym (second-states line rest no is) ∙ plain in absurd (cc)
+    second other None is = third other is (after (codes "#+ ") line) refl
+    second other (Some rest) is = let states = sym (second-states line rest other is) ∙ plain in absurd (cc)
 
     first : (o : Option (List ℕ)) → after (codes "#> ") line ≡ o → Plain (by_answer n latest line o)
     first None is = second is (after (codes "#~ ") line) refl
@@ -130,14 +132,14 @@ stated-fine most n latest (line ∷ lines) ss e low = ⊎_elim (few (λ latest s
     few read high = by_line read (bounded_line (n + 1) latest line) refl (sym (stated-line most n latest line lines high) ∙ e) high
 
     many : most ≤ n → Goal
-    many high = let no = sym (stated-too_long most n latest line lines high) ∙ e in absurd (cc)
+    many high = let many = sym (stated-too_long most n latest line lines high) ∙ e in absurd (cc)
 
 -- ---- the events are those that a run reads
 
 kind-reads : (n : ℕ) (line : List ℕ) (es : List Event) → Kind line → then_reads (meaning line) n (adds es nothing) ≡ adds (event_meant line ++ es) nothing
 kind-reads n line es (inl (states, means)) = ap (λ said. then_reads said n (adds es nothing)) means ∙ ap (λ said. adds (meant_by said ++ es) nothing) (sym means)
 kind-reads n line es (inr (inl (plain, means, typed))) = ap (λ said. then_reads said n (adds es nothing)) means ∙ ap (λ said. adds (meant_by said ++ es) nothing) (sym means)
-kind-reads n line es (inr (inr (plain, e, means))) =
+kind-reads n line es (inr (inr (plain, (e, means)))) =
     ap (λ said. then_reads said n (adds es nothing)) means ∙ adds-adds (e ∷ []) es nothing ∙ ap (λ said. adds (meant_by said ++ es) nothing) (sym means)
 
 fine-reads : (n : ℕ) (lines : List (List ℕ)) → AreFine lines → n + length lines ≤ 1048576 → reading n lines ≡ adds (events_meant lines) nothing
@@ -193,7 +195,7 @@ line-chain most P n h line latest few fine feeds fits = by_kind fine.kind
               (plain-says (n + 1) latest line plain ∙ ap (unstated_line (n + 1) latest line) means ∙ ap (silent_line (n + 1) latest) typed),
           omega arith,
         )
-    by_kind (inr (inr (plain, e, means))) =
+    by_kind (inr (inr (plain, (e, means)))) =
         let fit : AllFit P h (e ∷ []) = subst (AllFit P h) (ap meant_by means) fits in
         of (line ++ 10 ∷ stated_behind P h (e ∷ [])) (e ∷ []) (plain-text plain (e ∷ []) (ap meant_by means)) (ap meant_by means)
         (line_event most P n h line e latest few fine.short feeds means fit.0)
@@ -207,6 +209,72 @@ lines-chain most P n h (line ∷ lines) latest few fine are fits =
     let first = line-chain most P n h line latest (omega (arith, few)) fine.0 are.0 fit.0 in
     let rest = lines-chain most P first.0 (history_after (event_meant line) h) lines first.1 (omega (arith, few, first.3)) fine.1 are.1 fit.1 in
     (rest.0, rest.1, Chain-trans {k = rest.0} {c = rest.1} first.2 rest.2, omega (arith, first.3, rest.3))
+
+-- ---- what was written for a line
+
+states-means : (line : List ℕ) → states_line line ≡ true → meaning line ≡ Ok None
+states-means line states = first (after (codes "#> ") line) refl
+  where
+    third : after (codes "#> ") line ≡ None → after (codes "#~ ") line ≡ None → (o : Option (List ℕ)) → after (codes "#+ ") line ≡ o → meaning line ≡ Ok None
+    third other none None is = let plain = sym (third-states line None other none is) ∙ states in absurd (cc)
+    third other none (Some rest) is = stated-means 43 line rest is
+
+    second : after (codes "#> ") line ≡ None → (o : Option (List ℕ)) → after (codes "#~ ") line ≡ o → meaning line ≡ Ok None
+    second other None is = third other is (after (codes "#+ ") line) refl
+    second other (Some rest) is = stated-means 126 line rest is
+
+    first : (o : Option (List ℕ)) → after (codes "#> ") line ≡ o → meaning line ≡ Ok None
+    first None is = second is (after (codes "#~ ") line) refl
+    first (Some rest) is = stated-means 62 line rest is
+
+pub states-answered : {L : Type 0} (is_legal : L → Cell → Bool) (P : Description) (h : List Event) (t : Terminal L) (text line : List ℕ) → states_line line ≡ true → StandsAt is_legal P h t
+    → Answers is_legal P h t text text (line_answered P h line) (event_meant line)
+states-answered is_legal P h t text line states stands =
+    let none : event_meant line ≡ [] = ap meant_by (states-means line states) in
+    let empty : line_answered P h line ≡ [] = ap (λ b. if b then [] else line ++ 10 ∷ stated_behind P h (event_meant line)) states in
+    record {
+      at = subst (λ es. StandsAt is_legal P (history_after es h) t) (sym none) stands;
+      text = sym (append-nil text) ∙ ap (λ xs. text ++ xs) (sym empty);
+      fit = subst (AllFit P h) (sym none) tt;
+    }
+
+pub plain-answered : {L : Type 0} (is_legal : L → Cell → Bool) (P : Description) (h : List Event) (t : Terminal L) (old first second new line : List ℕ) (event : Option Event)
+    → states_line line ≡ false → first ≡ old ++ line → second ≡ first ++ 10 ∷ [] → event ≡ result_unwrap_or (meaning line) None
+    → Answers is_legal P h t second new (stated_behind P h (if_event event)) (if_event event) → Answers is_legal P h t old new (line_answered P h line) (event_meant line)
+plain-answered is_legal P h t old first second new line event plain copied fed says a =
+    let is : if_event event ≡ event_meant line = ap if_event says in
+    let behind = stated_behind P h (if_event event) in
+    record {
+      at = subst (λ es. StandsAt is_legal P (history_after es h) t) is a.at;
+      text = a.text ∙ ap (λ xs. xs ++ behind) (fed ∙ ap (λ xs. xs ++ 10 ∷ []) copied) ∙ append_assoc (old ++ line) (10 ∷ []) behind ∙ append_assoc old line (10 ∷ behind)
+          ∙ ap (λ es. old ++ (line ++ 10 ∷ stated_behind P h es)) is ∙ ap (λ b. old ++ (if b then [] else line ++ 10 ∷ stated_behind P h (event_meant line))) (sym plain);
+      fit = subst (AllFit P h) is a.fit;
+    }
+
+-- one line less is left
+pub left-on : {L : Type 0} {is_legal : L → Cell → Bool} {P : Description} {t t' : Terminal L} {text text' rest script : List ℕ} (i : IsLeft is_legal P t text rest script) (line more : List ℕ)
+    → lines_of rest ≡ line ∷ lines_of more → Answers is_legal P i.h t' text text' (line_answered P i.h line) (event_meant line) → IsLeft is_legal P t' text' more script
+unfolding lines_answered
+left-on {is_legal = is_legal} {P = P} {text = text} i line more first a =
+    let later = lines_answered P (history_after (event_meant line) i.h) (lines_of more) in
+    record {
+      h = history_after (event_meant line) i.h;
+      at = a.at;
+      all = ap (λ xs. xs ++ later) a.text ∙ append_assoc text (line_answered P i.h line) later ∙ ap (λ ls. text ++ lines_answered P i.h ls) (sym first) ∙ i.all;
+      fit = λ fits. i.fit (subst (λ ls. AllFit P i.h (events_meant ls)) (sym first) (fit-joined P i.h (event_meant line) (events_meant (lines_of more)) a.fit fits));
+    }
+
+pub no-lines : (rest : List ℕ) → length rest ≡ 0 → length (lines_of rest) ≡ 0
+unfolding lines_of
+no-lines [] none = refl
+no-lines (b ∷ rest) none = absurd (omega (arith, none))
+
+-- nothing is left
+pub left-all : {L : Type 0} {is_legal : L → Cell → Bool} {P : Description} {t : Terminal L} {text script : List ℕ} (rest : List ℕ) → length rest ≡ 0 → IsLeft is_legal P t text rest script
+    → (text ≡ script_answered P script) × AllFit P [] (events_meant (lines_of script))
+unfolding lines_answered lines_of
+left-all {text = text} [] none i = (sym (append-nil text) ∙ i.all, i.fit tt)
+left-all (b ∷ rest) none i = absurd (omega (arith, none))
 
 -- ---- the script with its answers
 
@@ -232,7 +300,7 @@ answers-law P script text before accepted fits is few =
     let told = lines-chain most P 0 [] lines None (omega arith) fine.0 (text-lines script) fits in
     let chain = told.2 in
     let reads : stated_in text ≡ Ok chain.stated =
-        stated-room 1048576 most 0 None (lines_of text) few (omega (arith, few)) ∙ ap (λ bytes. stated_by most 0 None (lines_of bytes)) is ∙ Tells-all chain.tells ∙ ap Ok chain.splits in
+        stated-room 1048576 most 0 None (lines_of text) (omega (arith, few)) (omega (arith, few)) ∙ ap (λ bytes. stated_by most 0 None (lines_of bytes)) is ∙ Tells-all chain.tells ∙ ap Ok chain.splits in
     record {
       is = is;
       before = before;

@@ -14,7 +14,7 @@ use Rattle.terminal_rules.specs.declared.event.Event.TheVariants as event
 use Rattle.terminal_rules.specs.Reply.{reply_now}
 use Rattle.terminal_rules.specs.Ends.{ends_now}
 use Rattle.terminal_rules.specs.Past.{past, history_after}
-use Rattle.terminal_rules.specs.Same.{IsProper, AreProper}
+use Rattle.terminal_rules.specs.Same.{AreProper}
 use Rattle.terminal_rules.specs.Out.{Sending, Handing, HandsReceived, HandsSynchronize, HandsSynchronizeWith, HandsSelfTest, HandsBusControl, Out, Silence, SendsWord, HandsOver, sends, hands, handing_over, sending_out, out}
 use Rattle.terminal_exchanges.specs.Exchanges.{Exchange, script_of}
 use Rattle.terminal_exchanges.proofs.EventLaws.{exchange-append}

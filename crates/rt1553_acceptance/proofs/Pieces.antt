@@ -1,8 +1,7 @@
 -- What pieces of a script say that states its answers, one after the other.
-use Rattle.std.proofs.Common.{ℕ, ◌≡◌, ◌∙◌, ◌+◌, ◌<◌, ◌≤◌, List, [], ◌∷◌, ◌++◌, None, Result, Ok, Err, length, refl, sym, ap, append_assoc, append-nil}
+use Rattle.std.proofs.Common.{ℕ, ◌≡◌, ◌∙◌, ◌+◌, ◌<◌, ◌≤◌, List, [], ◌∷◌, ◌++◌, None, Ok, length, sym, ap, append_assoc, append-nil}
 use Rattle.script_lines.specs.Text.{lines_of, NoLineFeed}
 use Rattle.script_lines.proofs.LineLaws.{lines-line}
-use Rattle.rt1553_verify.specs.declared.stated.StatedFault.{StatedFault}
 use Rattle.rt1553_verify.specs.Stated.{StatedEvent, Latest, ended, line_says, then_events, then_lines, stated_by, stated_within}
 use Rattle.rt1553_verify.proofs.StatedLaws.{bounded-short, stated-line, then-none, then-twice, stated-none}
 

@@ -1,5 +1,6 @@
 -- A script in which the answers of a terminal are stated.
-use Rattle.std.specs.Prelude.{ℕ, ◌≡◌, ◌≤◌, ◌<◌, ◌↔◌, ◌||◌, Bool, if◌then◌else◌, List, [], ◌∷◌, ◌++◌, length, map, Option, Some, None, is_some, Result, Ok, Err, codes}
+use Rattle.std.specs.Prelude.{ℕ, ◌≡◌, ◌≤◌, ◌<◌, ◌↔◌, ◌||◌, Bool, if◌then◌else◌, List, [], ◌∷◌, ◌++◌, length, map, Option, Some, None, is_some, Result, Ok, codes}
+use Rattle.std.specs.Result.{result_unwrap_or}
 use Rattle.bus_legal.specs.Description.{Description}
 use Rattle.terminal_rules.specs.declared.event.Event.{Event}
 use Rattle.terminal_rules.specs.Past.{history_after}
@@ -26,10 +27,9 @@ abbrev pub if_event : Option Event → List Event
 if_event None = []
 if_event (Some e) = e ∷ []
 
--- what a line says of a script
+-- the event that a line says, if it says one
 abbrev pub meant_by : Result (Option Event) LineFault → List Event
-meant_by (Ok said) = if_event said
-meant_by (Err fault) = []
+meant_by said = if_event (result_unwrap_or said None)
 
 abbrev pub event_meant : List ℕ → List Event
 event_meant line = meant_by (meaning line)

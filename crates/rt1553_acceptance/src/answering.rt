@@ -1,5 +1,5 @@
 //! A script in which the answers of a terminal are stated.
-ghost use Rattle.std.specs.Prelude.{ℕ, ◌≡◌, ◌≢◌, ◌×◌, [], List, length, Err, IfOk, IfErr, OnOk};
+ghost use Rattle.std.specs.Prelude.{ℕ, ◌≡◌, ◌≢◌, [], List, length, Err, IfOk, IfErr, OnOk};
 ghost use Rattle.bus_legal.specs.Description.{Description};
 ghost use Rattle.bus_legal.specs.Parts.{description_in};
 ghost use Rattle.terminal_rules.specs.declared.event.Event.{Event};
@@ -74,7 +74,8 @@ fn push_answered<L: Legality>(
 fn script_answered(alloc: Global, normal: &Normal, script: &[u8]) -> Result<Vec<u8>, AllocError>
     ensures { IfOk result (λ text. (text.items ≡ script_answered (description_in normal.now) script.now) × AllFit (description_in normal.now) [] (events_meant (lines_of script.now))) }
 {
-    let mut terminal = Terminal::power_up(normal.setup(), *normal);
+    let setup = normal.setup();
+    let mut terminal = Terminal::power_up(setup, *normal);
     let mut text = Vec::new(alloc);
     let mut rest = script;
     while !rest.is_empty() {

@@ -1,11 +1,9 @@
 -- Data words, read one behind the other.
-use Rattle.std.proofs.Common.{ℕ, zero, suc, ◌≡◌, ◌∙◌, ◌+◌, ◌-◌, ◌<◌, List, [], ◌∷◌, ◌++◌, Option, Some, None, Result, Ok, Err, length, replicate, refl, sym, ap, subst, arith, append-nil}
-use Rattle.line_format.specs.Front.{◌>>=◌}
+use Rattle.std.proofs.Common.{ℕ, zero, suc, ◌≡◌, ◌∙◌, ◌+◌, ◌-◌, ◌<◌, List, [], ◌∷◌, ◌++◌, Some, None, Err, replicate, refl, sym, ap, subst, arith}
 use Rattle.line_format.specs.Reading.{field_at, fields_at}
 use Rattle.line_format.specs.Shapes.{word}
 use Rattle.line_format.proofs.Steps.{fields_front, fields_more}
-use Rattle.rt1553_expand.specs.declared.fault.ExpandFault.{ExpandFault}
-use Rattle.rt1553_expand.specs.declared.fault.ExpandFault.TheVariants.{DataWord, Much}
+use Rattle.rt1553_expand.specs.declared.fault.ExpandFault.TheVariants.{DataWord}
 use Rattle.rt1553_expand.specs.Message.{nothing_behind, data_in}
 
 -- the words so far, and then so many more

@@ -1,10 +1,10 @@
 -- Texts that are expanded line by line.
-use Rattle.std.proofs.Common.{ℕ, ◌≡◌, ◌∙◌, ◌+◌, ◌<◌, ◌≤◌, List, [], ◌∷◌, ◌++◌, Option, None, length, refl, sym, ap, arith, append_assoc, append-nil, flat_map, replicate}
+use Rattle.std.proofs.Common.{ℕ, ◌≡◌, ◌∙◌, ◌+◌, List, [], ◌∷◌, ◌++◌, Option, None, length, refl, sym, ap, arith, append_assoc, append-nil, flat_map, replicate}
 use Rattle.std.specs.List.{sum_by}
 use Rattle.std.proofs.lemmas.List.Sums.{sum_by-cons}
 use Rattle.terminal_rules.specs.declared.event.Event.{Event}
 use Rattle.script_lines.specs.Text.{lines_of}
-use Rattle.bus_script.specs.Reading.{Reading, reading, adds, nothing}
+use Rattle.bus_script.specs.Reading.{reading, adds, nothing}
 use Rattle.bus_script.specs.inner.Lines.{ReadsLines}
 use Rattle.rt1553_expand.specs.Expansion.{expansion_of, expanded_lines, refusal_at, Refusal, refusals_from}
 use Rattle.rt1553_expand.specs.Sources.{sources_from}

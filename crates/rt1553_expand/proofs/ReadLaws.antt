@@ -1,5 +1,5 @@
 -- What a run reads of the lines that were written.
-use Rattle.std.proofs.Common.{ℕ, ◌≡◌, ◌≢◌, ◌∙◌, ◌+◌, ◌<◌, ◌≤◌, Bool, true, false, ◌==◌, List, [], ◌∷◌, ◌++◌, Option, Some, None, Ok, Err, length, refl, sym, ap, subst, arith, append-nil}
+use Rattle.std.proofs.Common.{ℕ, ◌≡◌, ◌≢◌, ◌∙◌, ◌+◌, ◌≤◌, Bool, true, false, ◌==◌, List, [], ◌∷◌, ◌++◌, Option, Some, None, Ok, length, refl, sym, ap, subst, arith}
 use Rattle.std.proofs.lemmas.Bool.Decides.{nat_tests}
 use Rattle.bus_word.specs.declared.word.Bus.{Bus}
 use Rattle.terminal_rules.specs.declared.event.Event.{Event}
@@ -9,7 +9,6 @@ use Rattle.script_lines.specs.EventLine.{event_text, event_line, script_text}
 use Rattle.bus_script.specs.Reading.{Reading, adds, then_reads}
 use Rattle.bus_script.specs.inner.Lines.{ReadsLines}
 use Rattle.bus_script.proofs.ReadingLaws.{ReadsLines-nil, ReadsLines-line, ReadsLines-trans}
-use Rattle.rt1553_expand.specs.declared.fault.ExpandFault.{ExpandFault}
 use Rattle.rt1553_expand.specs.declared.message.BusMessage.{BusMessage}
 use Rattle.rt1553_expand.specs.declared.expanding.ReadLine.{ReadLine}
 use Rattle.rt1553_expand.specs.declared.expanding.ReadLine.TheVariants.{Kept, Written}

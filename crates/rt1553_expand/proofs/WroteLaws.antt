@@ -1,12 +1,11 @@
 -- Events that were written, one behind the other.
-use Rattle.std.proofs.Common.{ℕ, zero, suc, ◌≡◌, ◌∙◌, ◌+◌, ◌<◌, if◌then◌else◌, List, [], ◌∷◌, ◌++◌, Option, Some, Ok, length, get_or, take, map, replicate, refl, sym, ap, subst, arith, append_assoc, append-nil}
+use Rattle.std.proofs.Common.{ℕ, ◌≡◌, ◌∙◌, ◌+◌, ◌<◌, if◌then◌else◌, List, [], ◌∷◌, ◌++◌, Option, Some, length, get_or, take, sym, ap, subst, append_assoc}
 use Rattle.std.proofs.lemmas.List.{map-append, take_more}
 use Rattle.std.proofs.lemmas.Grind.{flat_map-append}
 use Rattle.bus_word.specs.declared.word.Bus.{Bus}
 use Rattle.terminal_rules.specs.declared.event.Event.{Event}
-use Rattle.terminal_rules.specs.declared.event.Event.TheVariants.{Gap, Slot}
-use Rattle.script_lines.specs.Line.{meaning}
-use Rattle.script_lines.specs.EventLine.{event_text, event_line, script_text}
+use Rattle.terminal_rules.specs.declared.event.Event.TheVariants.{Gap}
+use Rattle.script_lines.specs.EventLine.{event_line, script_text}
 use Rattle.rt1553_tool.specs.declared.fields.WordFields.TheVariants.{Command, Status, Data}
 use Rattle.rt1553_tool.specs.declared.fields.CommandFields.{CommandFields}
 use Rattle.rt1553_tool.specs.declared.fields.StatusFields.{StatusFields}

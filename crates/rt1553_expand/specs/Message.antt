@@ -1,5 +1,5 @@
 -- Messages: what is written behind the letter of a bus and its space.
-use Rattle.std.specs.Prelude.{ℕ, Bool, true, false, ◌==◌, ◌||◌, if◌then◌else◌, List, [], ◌∷◌, ◌++◌, Option, Some, None, is_some, Result, Ok, Err, codes, replicate}
+use Rattle.std.specs.Prelude.{ℕ, ◌==◌, ◌||◌, if◌then◌else◌, List, [], ◌∷◌, ◌++◌, Option, Some, None, is_some, Result, Ok, Err, codes, replicate}
 use Rattle.bus_word.specs.Command.{is_receive, count_of, expected}
 use Rattle.line_format.specs.Front.{after}
 use Rattle.line_format.specs.Shapes.{word}

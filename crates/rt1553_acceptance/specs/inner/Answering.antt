@@ -1,5 +1,5 @@
 -- What was written while the answers of a script are stated.
-use Rattle.std.specs.Prelude.{ℕ, ◌≡◌, Bool, List, [], ◌∷◌, ◌++◌}
+use Rattle.std.specs.Prelude.{ℕ, ◌≡◌, Bool, List, [], ◌++◌}
 use Rattle.std.specs.List.{flat_map}
 use Rattle.bus_word.specs.declared.cell.Cell.{Cell}
 use Rattle.bus_legal.specs.Description.{Description}
@@ -8,7 +8,7 @@ use Rattle.terminal_rules.specs.Past.{history_after}
 use Rattle.bus_terminal.specs.declared.terminal.Terminal.{Terminal}
 use Rattle.bus_terminal.specs.Stands.{StandsAt}
 use Rattle.script_lines.specs.Text.{lines_of}
-use Rattle.rt1553_acceptance.specs.Answered.{event_meant, line_answered, lines_answered, stated_behind}
+use Rattle.rt1553_acceptance.specs.Answered.{event_meant, lines_answered}
 use Rattle.rt1553_acceptance.specs.inner.Fits.{AllFit}
 
 -- the events that lines say

@@ -1,8 +1,7 @@
 -- What was read of a line, and what it adds to a script.
-use Rattle.std.specs.Prelude.{ℕ, ◌≡◌, ◌≤◌, ◌+◌, ◌++◌, List, length, Option, IfSome, Ok, Result}
+use Rattle.std.specs.Prelude.{ℕ, ◌≡◌, ◌≤◌, ◌+◌, List, length, Option, IfSome, Ok}
 use Rattle.bus_word.specs.Command.{AreOfTheirWidth}
 use Rattle.script_lines.specs.Line.{meaning}
-use Rattle.script_lines.specs.Text.{NoLineFeed}
 use Rattle.bus_script.specs.inner.Lines.{ReadsLines}
 use Rattle.rt1553_tool.specs.Fields.{AreOfWidth, in_word}
 use Rattle.rt1553_expand.specs.declared.expanding.ReadLine.{ReadLine}

@@ -1,4 +1,4 @@
-use Rattle.std.proofs.Common.{ap, sym, arith}
+use Rattle.std.proofs.Common.{ap, sym}
 use Rattle.rt1553_expand.proofs.CutLaws.{cut-on, cut-found, cut-end}
 use Rattle.rt1553_expand.proofs.message.cut.Goals as goal
 
