@@ -1,94 +1,65 @@
-"""What terminals must answer, by `rt1553-tool verify`: the protocol tests, their families and the rows with worked answers all pass.
-
-A protocol test in which an answer was changed, or of which one was dropped, differs at its event.
-"""
+"""`rt1553-tool answers`: what is stated in scripts, which ones are refused, and that `verify` finds the stated answers right."""
 
 import re
-from typing import NamedTuple
 
-import generate
 import pytest
-import rows
-from programs import TOP, run, write_files
+import vector_tables
+from programs import Row, check_row, run, succeed, with_files, write_files
 
-VALIDATION = TOP / "examples/validation"
-PROTOCOL_TESTS = [it for part in ("scripts", "choices") for it in sorted((VALIDATION / part).glob("*.script"))]
-
-
-def warning_of(name, text):
-    """What `verify` warns of in a script: that it shows nothing, where it does."""
-    if not re.search("^[^#\n]", text, re.MULTILINE):
-        return f"{name}: warning: the script has no event\n"
-    return "" if re.search("^#[>~]", text, re.MULTILINE) else f"{name}: warning: the script states no answer\n"
-
-
-def named_profile(text):
-    """The profile that the first line of a script names."""
-    return text.split("\n", 1)[0].removeprefix("# Profile: ")
-
-
-def verified(tool, folder, profile, text):
-    """What `verify` gives for a script, but for its warning, which must be told exactly where there is one."""
-    write_files(folder, {"it": text})
-    given = run(tool, "verify", profile, "it", folder=folder)
-    assert given.errors.decode() == warning_of("it", text)
-    return given.status, given.output.decode()
-
-
-@pytest.mark.parametrize("path", PROTOCOL_TESTS, ids=lambda it: f"{it.parent.name}-{it.stem}"[:60])
-def test_protocol_test(tool, path, tmp_path):
-    text = path.read_text()
-    assert verified(tool, tmp_path, VALIDATION / "profiles" / named_profile(text), text) == (0, "")
-
-
-@pytest.mark.parametrize("row", rows.rows(), ids=lambda it: it.name[:60])
-def test_row(tool, row, tmp_path):
-    write_files(tmp_path, {"profile.toml": row.profile})
-    assert verified(tool, tmp_path, "profile.toml", f"# Profile: profile.toml\n{row.script}") == (0, "")
+ASK = "A c 2c02\nA gap\nslot\n"
+WORDS = "".join(f"A d {number:04x}\n" for number in range(32))
+FILES = {
+    "five": 'address = 5\n[[rule]]\ndirection = "receive"\nsubaddresses = "1-3"\n',
+    "nine": 'address = 9\n[[rule]]\ndirection = "transmit"\nsubaddresses = 1\n',
+    "plain": f"# asks\n\n{ASK}# and again\nslot",
+    "stated": f"{ASK}# that of another\n#> A s 2c00\nslot\n#~ *\nA gap\n#> hand sync\n#+ 0001\n",
+    "messages": "A rx 6 1 2 from 9 1: 0001 0002\nA tx 9 1 1\n",
+}
+REFUSED = {
+    "line": (f"{ASK}slot \n", "line 4, column 5: a space at the end: nothing may follow the last field"),
+    "mistyped": ("A gap\n#>hand sync\n", "line 2, column 3: looks like a stated answer and is a comment: one space comes after #>, #~ or #+, and none before it"),
+    "misplaced": ("A c 2c02\n#> A s 2800\n", "line 2: the event before it cannot have this answer"),
+    "many": (f"{ASK}" + "\n" * 1048573, "too many lines"),
+}  # fmt: skip
+ROWS = with_files(
+    FILES,
+    Row("answers behind their events", "answers five plain", output=f"# asks\n\n{ASK}#> A s 2800\n# and again\nslot\n"),
+    Row("others are replaced", "answers five stated", output=f"{ASK}#> A s 2800\n# that of another\nslot\nA gap\n"),
+    Row("its own transfer", "answers --expand nine messages",
+        output="A c 3022\nA c 4c22\nA gap\nslot\n#> A s 4800\nslot\n#> A d 0000\nslot\n#> A d 0000\n"
+        "A c 4c21\nA gap\nslot\n#> A s 4800\nslot\n#> A d 0000\n"),
+    Row("32 words", "answers five long",
+        output=f"A c 2820\n{WORDS}A gap\n#> hand receive own 01 0000 0001 0002 0003 0004 0005 0006\n"
+        "#+ 0007 0008 0009 000a 000b 000c 000d 000e 000f 0010 0011 0012\n"
+        "#+ 0013 0014 0015 0016 0017 0018 0019 001a 001b 001c 001d 001e\n#+ 001f\nslot\n#> A s 2800\n",
+        files={"long": f"A c 2820\n{WORDS}A gap\nslot\n"}),
+    Row("just enough lines", "answers five full", output=f"{ASK}#> A s 2800\n" + "\n" * 1048572, files={"full": ASK + "\n" * 1048572}),
+    *(Row(f"refused: {name}", f"answers five {name}", 2, errors=f"{name}: script: {why}\n", files={name: text}) for name, (text, why) in REFUSED.items()),
+)  # fmt: skip
 
 
-@pytest.mark.parametrize("part", generate.PARTS, ids=lambda it: it.__name__)
-def test_families(tool, part, tmp_path, count_runs):
-    scripts = list(part.families())
-    for script in scripts:
-        profile = VALIDATION / "profiles" / named_profile(script.text())
-        if not profile.exists():
-            profile = tmp_path / profile.name
-            profile.write_text(f"address = {int(re.fullmatch('address_([0-9]{2}).toml', profile.name)[1])}\n")
-        assert (script.name, *verified(tool, tmp_path, profile, script.text())) == (script.name, 0, "")
-    assert scripts
-    count_runs(len(scripts))
+@pytest.mark.parametrize("row", ROWS, ids=lambda it: it.name)
+def test_rows(tool, row, tmp_path):
+    check_row(tool, row, tmp_path)
 
 
-class Broken(NamedTuple):
-    """A protocol test of which an answer was dropped or changed: what is stated now at the line of its event, and what comes."""
-
-    name: str
-    profile: str
-    text: str
-    event: int
-    stated: str
-    came: str
+def accepted_runs():
+    """Runs of the vectors: a profile, and a script without fault; the longest scripts are left out."""
+    for table in vector_tables.tables().values():
+        for row in table.rows:
+            if row.words[0] == "run" and row.status == 0 and len(row.files) == 2 and len(row.files[row.words[2]]) < 100_000:
+                yield row
 
 
-def broken_copies(path):
-    """The broken copies of a protocol test, by its first answer; none where it has no answer, or one that goes on in the next line."""
-    lines = path.read_text().split("\n")
-    at = next((at for at, line in enumerate(lines) if line.startswith("#> ")), None)
-    if at is None or lines[at + 1].startswith("#+ "):
-        return
-    came = lines[at][len("#> "):]
-    event = max(number for number, line in enumerate(lines[:at], 1) if re.match("[^#]", line))
-    profile = named_profile(lines[0])
-    yield Broken(f"dropped-{path.stem}", profile, "\n".join(lines[:at] + lines[at + 1:]), event, "nothing", came)
-    if not came.startswith("hand"):
-        yield Broken(f"changed-{path.stem}", profile, "\n".join([*lines[:at], "#> A s ffff", *lines[at + 1:]]), event, "A s ffff", came)
-
-
-BROKEN = [it for path in sorted((VALIDATION / "scripts").glob("*.script")) for it in broken_copies(path)]
-
-
-@pytest.mark.parametrize("copy", BROKEN, ids=lambda it: it.name[:60])
-def test_broken_protocol_test(tool, copy, tmp_path):
-    told = f"it:{copy.event}: expected {copy.stated}, came {copy.came}\nit: differences: 1\n"
-    assert verified(tool, tmp_path, VALIDATION / "profiles" / copy.profile, copy.text) == (1, told)
+def test_verify_finds_what_is_stated_right(tool, once, tmp_path):
+    """The answers are those of the transcript, and `verify` passes them."""
+    runs = list(accepted_runs())
+    assert len(runs) > 100
+    for row in runs:
+        _, profile, script = row.words
+        write_files(tmp_path, row.files)
+        text = succeed(tool, "answers", profile, script, folder=tmp_path)
+        stated = re.sub(rb"\n#\+ ", b" ", text)
+        assert b"".join(it[3:] + b"\n" for it in stated.splitlines() if it.startswith(b"#> ")) == row.output
+        given = run(tool, "verify", profile, "/dev/stdin", stdin=text, folder=tmp_path)
+        assert (given.status, given.output) == (0, b"")
