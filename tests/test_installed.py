@@ -202,3 +202,21 @@ def test_check_tells_of_a_script_without_its_profile(check):
 
 def test_check_warns_of_a_profile_that_nothing_tests(check):
     assert "::warning file=PROFILES/one.toml::it has neither a script nor a canonical text of its name" in check(UNTESTED)[1]
+
+
+# a name that would be a command of its own, and one with what separates the properties of an annotation
+SHY = "a\n::warning::b"
+ODD = "c,d:e%f|g&h"
+
+
+def test_check_escapes_the_names_of_files(check):
+    files = {f"{SHY}.toml": "address = 5\n", f"{ODD}.toml": "address = 5\n", f"{ODD}.rt1553": "address = 6\n"}
+    status, lines = check(files)
+    assert status == 1 and all(it.startswith(("::warning file=PROFILES/", "::error file=PROFILES/")) for it in lines), lines
+    assert "::warning file=PROFILES/a%0A%3A%3Awarning%3A%3Ab.toml::it has neither a script nor a canonical text of its name" in lines
+    assert any(it.startswith("::error file=PROFILES/c%2Cd%3Ae%25f|g&h.toml::") for it in lines), lines
+
+
+def test_check_escapes_the_name_of_a_folder(shipped, tmp_path):
+    given = run("bash", CHECK, tmp_path / "x\n::warning::y", PATH=f"{shipped.tool.parent}{os.pathsep}{os.environ['PATH']}")
+    assert (given.status, given.output.decode()) == (1, f"::error::there is no profile in {tmp_path}/x%0A::warning::y\n")

@@ -21,34 +21,33 @@ KINDS = [*SETTINGS, *MESSAGES, "mode"]
 COLUMNS = ["kind", "value", "subaddress", "words", "code", "to", "initial", "legal", "name"]
 # what a column becomes in an entry of a profile
 KEYS = {"subaddress": "subaddresses", "words": "counts", "code": "codes", "to": "to", "legal": "legal"}
-# faults of a row that has some kind: a column, a text for it, and what is told, with `{}` for the number of the entry
-OF_SETTING = {"address": ("31", "is out of range"), "broadcast": ("2", "has the wrong kind"), "wraparound": ("31", "is out of range")}
+# columns whose texts may have capitals
+IN_CAPITALS = ["kind", "to", "legal"]
+# faults of a row that has some kind: a column, a text for it, and what is told behind both
+OF_SETTING = {
+    "address": (["31", "4294967296", "99999999999999999999"], "allowed is 0 to 30"),
+    "broadcast": (["2"], "allowed is yes or no"),
+    "wraparound": (["31"], "allowed is yes, no or 1 to 30"),
+    "accept_bus_control": (["x"], "allowed is yes or no"),
+}
+OF_WORD = (["x", "65536", "0x123456789"], "allowed is 0 to 65535, or 0x0000 to 0xffff")
 OF_ENTRY = [
-    ("kind", "recieve", f"table: not a kind; known are {', '.join(KINDS)}"),
-    ("to", "all", "profile: {part} {{}}: to is out of range"),
-    ("legal", "maybe", "profile: {part} {{}}: legal has the wrong kind"),
+    ("kind", "recieve", f"allowed is {', '.join(KINDS)}"),
+    ("to", "all", "allowed is own, broadcast or both"),
+    ("legal", "maybe", "allowed is yes or no"),
 ]
-OF_MODE = [
-    ("code", "32", "profile: mode {}: codes is out of range"),
-    ("code", "1-", "profile: mode {}: codes is not a list of ranges"),
-    ("code", "", "profile: mode {}: codes is missing"),
-]
-OF_MESSAGE = [
-    ("words", "33", "profile: rule {}: counts is out of range"),
-    ("words", "a", "profile: rule {}: counts is not a list of ranges"),
-]
-WITHOUT_INITIAL = [
-    ("subaddress", "31", "profile: rule {}: subaddresses is out of range"),
-    ("subaddress", "", "profile: rule {}: subaddresses is missing"),
-]
+OF_MODE = [("code", it, 'allowed is 0 to 31, as "1-3, 5"') for it in ("32", "1-", "", "4294967296")]
+OF_MESSAGE = [("words", it, 'allowed is 1 to 32, as "1-3, 5"') for it in ("33", "a", "02-Aug")]
+WITHOUT_INITIAL = [("subaddress", it, 'allowed is 1 to 30, as "1-3, 5"') for it in ("31", "", "9999999999")]
 WITH_INITIAL = [
-    ("subaddress", "1-2", "table: initial words want one subaddress, a number"),
-    ("initial", "12345", "table: not words of 1 to 4 hexadecimal digits with spaces between them"),
+    ("subaddress", "1-2", "allowed beside initial words is 1 to 30, one number"),
+    ("initial", "12345", 'allowed is at most 32 words of 1 to 4 hexadecimal digits, as "0001 00ff"'),
 ]
 
 
 class Fault(NamedTuple):
-    """A fault that is planted: the row that has it, by its index; the column, or None for the last; and what is told."""
+    """A fault that is planted: the row that has it, by its index; the column, or None for the last; and what is told, of a column behind
+    its name and its text."""
 
     row: int
     column: Optional[str]
@@ -142,31 +141,53 @@ def profile_of(rows):
 
 
 class Layout:
-    """How a table is saved: the order of its columns, what stands between fields, quotes, line ends, a byte order mark."""
+    """How a table is saved: the order of its columns, what stands between fields, blanks, quotes, capitals, line ends, a byte order mark."""
 
     def __init__(self, draw):
+        self.draw, self.blanks, self.case = draw, draw.choice([0, 0.1]), draw.choice([str, str, str.capitalize, str.upper])
         self.columns = draw.sample(COLUMNS, len(COLUMNS))
         if draw.random() < 0.3:
             self.columns.insert(draw.randrange(1, 5), "remarks")
-        self.between, self.end = draw.choice(",;"), draw.choice(["\n", "\r\n"])
+        self.between, self.end = draw.choice(",;\t"), draw.choice(["\n", "\r\n", "\r"])
         self.quotes_all, self.mark = draw.random() < 0.3, draw.choice(["", "\ufeff"])
 
     def field(self, text):
-        return '"' + text.replace('"', '""') + '"' if self.quotes_all or any(c in text for c in ',;"\n') else text
+        if self.draw.random() < self.blanks:
+            text = f" {text}  "
+        return '"' + text.replace('"', '""') + '"' if self.quotes_all or any(c in text for c in ',;"\n\t') else text
+
+    def cell(self, column, text):
+        return self.case(text) if column in IN_CAPITALS else text
+
+    def empty(self):
+        """Perhaps an empty row."""
+        return self.between * (len(self.columns) - 1) + self.end if self.draw.random() < self.blanks else ""
 
     def record(self, fields):
         return self.between.join(map(self.field, fields)) + self.end
 
     def records(self, header, rows):
-        return [self.record(header), *(self.record([*(row.get(it, "") for it in self.columns), *row.get("more", [])]) for row in rows)]
+        """The header and the rows as they are saved, each behind an empty row, perhaps."""
+        cells = [[self.case(it) for it in header], *([*(self.cell(it, row.get(it, "")) for it in self.columns), *row.get("more", [])] for row in rows)]
+        return [(self.empty(), self.record(it)) for it in cells]
 
-    def text(self, header, rows):
-        return self.mark + "".join(self.records(header, rows))
-
-    def lines(self, header, rows):
-        """The line on which each row begins."""
+    def saved(self, header, rows):
+        """The text, and the line on which each record begins, the header first."""
         records = self.records(header, rows)
-        return [1 + "".join(records[:number]).count("\n") for number in range(1, len(records))]
+        text = "".join(empty + record for empty, record in records)
+        end = "\n" if "\n" in text else "\r"
+        lines = [1 + ("".join(map("".join, records[:number])) + records[number][0]).count(end) for number in range(len(records))]
+        return self.mark + text, lines
+
+    def warnings(self, header, rows, lines):
+        """What is warned of, without the name of the file."""
+        left_out = [(at, it) for at, it in enumerate(header, 1) if it not in COLUMNS]
+        counts = [(line, row) for line, row in zip(lines[1:], rows) if row["kind"] in MESSAGES and not row.get("words")]
+        return [
+            *(f'{lines[0]}:{at}: warning: the column "{self.case(it)}" is left out' for at, it in left_out),
+            *(f"{line}:{header.index('words') + 1}: warning: {self.case('words')}: empty, so all counts 1 to 32: is this meant?"
+              for line, _ in counts if "kind" in header),
+        ]  # fmt: skip
 
 
 # ---- faults
@@ -176,12 +197,11 @@ def ways_of(draw, row):
     """The faults that can be planted in a row."""
     kind = row["kind"]
     extra = draw.choice([column for column in COLUMNS if column not in ("kind", "name", *takes(kind))])
-    ways = [(extra, "1", f"table: a row of this kind takes no text in the column {extra}")]
+    ways = [(extra, "1", "a row of this kind takes nothing here")]
     if kind in SETTINGS:
-        text, why = OF_SETTING.get(kind, ("x", "has the wrong kind"))
-        return [*ways, ("value", text, f"profile: root: {kind} {why}")]
-    part = "mode" if kind == "mode" else "rule"
-    ways += [(column, text, told.format(part=part)) for column, text, told in OF_ENTRY]
+        texts, told = OF_SETTING.get(kind, OF_WORD)
+        return [*ways, *(("value", text, told) for text in texts)]
+    ways += OF_ENTRY
     if kind == "mode":
         return ways + OF_MODE
     return ways + OF_MESSAGE + (WITH_INITIAL if row.get("initial") else WITHOUT_INITIAL)
@@ -193,44 +213,49 @@ def plant(draw, rows):
     for index in draw.sample(range(len(rows)), min(len(rows), draw.randint(1, FAULTS))):
         if draw.random() < 0.1:
             rows[index]["more"] = [""]
-            faults.append(Fault(index, None, "table: not as many fields as the header"))
+            faults.append(Fault(index, None, "fields, and the header has"))
         else:
             column, text, told = draw.choice(ways_of(draw, rows[index]))
             rows[index][column] = text
             faults.append(Fault(index, column, told))
     if len(faults) < FAULTS and draw.random() < 0.3:
         rows.append(setting_row(draw, "address"))
-        faults.append(Fault(len(rows) - 1, "kind", "table: an earlier row has this setting"))
+        faults.append(Fault(len(rows) - 1, "kind", "an earlier row has this setting"))
     return faults
 
 
-def entry_numbers(rows):
-    """The number of the entry that each row becomes, from 1."""
-    counts, numbers = {}, []
-    for row in rows:
-        part = "rule" if row["kind"] in MESSAGES else row["kind"]
-        counts[part] = counts.get(part, 0) + 1
-        numbers.append(counts[part])
-    return numbers
+def told_of(layout, rows, lines, fault):
+    """The line in which a fault is told, without the name of the file."""
+    number = len(layout.columns)
+    if fault.column is None:
+        return f"{lines[fault.row + 1]}:{number}: error: {number + 1} {fault.text} {number}"
+    text = layout.cell(fault.column, rows[fault.row][fault.column])
+    said = f'"{text}"' if text else "empty"
+    return f"{lines[fault.row + 1]}:{layout.columns.index(fault.column) + 1}: error: {layout.case(fault.column)}: {said}: {fault.text}"
 
 
-def with_faults(draw, layout, rows):
-    """Plants faults in the rows; gives the lines in which they are told, without the name of the file."""
-    faults, numbers = plant(draw, rows), entry_numbers(rows)
-    lines, places = layout.lines(layout.columns, rows), {column: at for at, column in enumerate(layout.columns, 1)}
-    return [f"{lines[row]}:{places.get(column, len(places))}: error: {text.format(numbers[row])}" for row, column, text in faults]
-
-
-def with_broken_header(draw, header, rows):
-    """Plants a fault in the header, and gives how it is told."""
+def break_header(draw, header, rows):
+    """Plants a fault in the header; gives the number of the column where it is told, and how."""
     if draw.random() < 0.5:
-        header[header.index("kind")] = "Kind"
-        return ["1:1: error: table: no column is named kind"]
+        header[header.index("kind")] = "kinds"
+        return 1, "no column is named kind"
     column = draw.choice(COLUMNS)
     header.append(column)
     for row in rows:
         row["more"] = [""]
-    return [f"1:{len(header)}: error: table: a second column is named {column}"]
+    return len(header), f"a second column is named {column}"
+
+
+def with_faults(draw, layout, rows):
+    """A table with faults in the header or in the rows, and the lines in which they are told."""
+    header = list(layout.columns)
+    if draw.random() < 0.1:
+        at, why = break_header(draw, header, rows)
+        text, lines = layout.saved(header, rows)
+        return text, [f"{lines[0]}:{at}: error: {why}", *layout.warnings(header, rows, lines)]
+    faults = plant(draw, rows)
+    text, lines = layout.saved(header, rows)
+    return text, [*(told_of(layout, rows, lines, it) for it in faults), *layout.warnings(header, rows, lines)]
 
 
 # ---- what the programs do
@@ -258,20 +283,18 @@ def check_exported(build, folder, draw):
 def check_imported(build, folder, draw):
     """A random table means the profile of its rows."""
     layout, rows = Layout(draw), rows_of(draw)
-    write_files(folder, {"table.csv": layout.text(layout.columns, rows), "wanted": profile_of(rows)})
+    text, lines = layout.saved(layout.columns, rows)
+    write_files(folder, {"table.csv": text, "wanted": profile_of(rows)})
     given = run(build.tool, "import", "table.csv", folder=folder)
-    header = enumerate(layout.columns, 1)
-    assert told(given) == [f"1:{at}: warning: the column \"remarks\" is left out" for at, column in header if column == "remarks"]
+    assert told(given) == sorted(layout.warnings(layout.columns, rows, lines))
     write_files(folder, {"given": given.output})
     assert run(build.rt1553, "compare", "given", "wanted", folder=folder) == Given(0, b"same\n", b"")
 
 
 def check_faults(build, folder, draw):
-    """The faults of a table are all that is told of it."""
-    layout, rows = Layout(draw), rows_of(draw)
-    header = list(layout.columns)
-    wanted = with_broken_header(draw, header, rows) if draw.random() < 0.1 else with_faults(draw, layout, rows)
-    write_files(folder, {"table.csv": layout.text(header, rows)})
+    """The faults of a table are all that is told of it, besides what is warned of."""
+    text, wanted = with_faults(draw, Layout(draw), rows_of(draw))
+    write_files(folder, {"table.csv": text})
     given = run(build.tool, "import", "table.csv", folder=folder)
     assert (told(given, 2), given.output) == (sorted(wanted), b"")
 

@@ -13,7 +13,7 @@ IMPORTS = [
           errors="".join(f"{it.name}:{line}\n" for line in it.with_suffix(".told").read_text().splitlines())) for it in FAULTY),
     Row("semicolons, quotes and CR LF", "import office.csv", 0, "address = 5\n", files={"office.csv": 'kind;value\r\n"address";"5"\r\n'}),
     Row("a byte order mark, and an address that is too large", "import marked.csv", 2,
-        errors="marked.csv:2:2: error: profile: root: address is out of range\n", files={"marked.csv": "\ufeffkind,value\naddress,0x1f\n"}),
+        errors='marked.csv:2:2: error: value: "0x1f": allowed is 0 to 30\n', files={"marked.csv": "\ufeffkind,value\naddress,0x1f\n"}),
     Row("a table that is not UTF-8", "import bytes.csv", 2,
         errors="bytes.csv: table: not UTF-8\n", files={"bytes.csv": b"kind,value\naddress,\xff\n"}),
     Row("a table that is not there", "import none", 4, errors="file: cannot read none\n"),
@@ -22,11 +22,12 @@ IMPORTS = [
 
 @pytest.mark.parametrize("path", DOCUMENTS, ids=lambda it: it.stem)
 def test_table_of_a_document(tool, path, tmp_path):
-    """It gives the profile beside it, warns of no column but the remarks, and `lint` says nothing."""
+    """It gives the profile beside it, warns of no column but the remarks, and of messages with all counts; `lint` says nothing."""
     write_files(tmp_path, {path.name: path.read_bytes()})
     given = run(tool, "import", path.name, folder=tmp_path)
     assert (given.status, given.output) == (0, path.with_suffix(".toml").read_bytes())
-    assert [it for it in given.errors.decode().splitlines() if not it.endswith(': warning: the column "remarks" is left out')] == []
+    warned = (': warning: the column "remarks" is left out', ": warning: words: empty, so all counts 1 to 32: is this meant?")
+    assert [it for it in given.errors.decode().splitlines() if not it.endswith(warned)] == []
     assert run(tool, "lint", path.with_suffix(".toml")).status == 0
 
 
@@ -64,8 +65,8 @@ NAMED_FILES = {
 }  # fmt: skip
 CHANGES = [("counts = 4", "counts = 3"), ('"1-4, 8"', '"1-3, 5"'), ('codes = "16,19"', "codes = 16"), ("words = [1, 2]", "words = [1, 3]")]
 FAULTS = (
-    "wrong.csv:3:1: error: table: not a kind; known are address, broadcast, wraparound, accept_bus_control, vector, bit, receive, transmit, "
-    "both, mode\nwrong.csv:2:2: error: profile: root: address is out of range\n"
+    'wrong.csv:3:1: error: kind: "recieve": allowed is address, broadcast, wraparound, accept_bus_control, vector, bit, receive, transmit, '
+    'both, mode\nwrong.csv:2:2: error: value: "31": allowed is 0 to 30\n'
 )
 # commands that take names
 WITH_NAMES = ["explain named.toml", "differ named.toml changed.toml", "verify named.toml v", "draw --html named.toml v", "acceptance named.toml"]

@@ -21,13 +21,49 @@ fi
 folder=$1
 status=0
 
+# a text as an annotation has it, on one line: escaped TEXT
+escaped() {
+    local text=${1//'%'/%25}
+    text=${text//$'\r'/%0D}
+    printf '%s' "${text//$'\n'/%0A}"
+}
+
+# a name as a property of an annotation has it: property NAME
+property() {
+    local text
+    text=$(escaped "$1")
+    text=${text//:/%3A}
+    printf '%s' "${text//,/%2C}"
+}
+
+# an annotation: tell KIND FILE WHERE TEXT, where WHERE is empty or begins with a comma
+tell() { printf '::%s file=%s%s::%s\n' "$1" "$(property "$2")" "$3" "$(escaped "$4")"; }
+
 # findings in lines FILE:LINE:COLUMN: KIND: TEXT, or FILE:LINE: TEXT, or FILE: TEXT, as annotations
 annotate() {
-    sed -E -e 's/%/%25/g' \
-        -e 's/^([^:]+):([0-9]+):([0-9]+): (error|warning): (.*)$/::\4 file=\1,line=\2,col=\3::\5/; t' \
-        -e 's/^([^:]+):([0-9]+): (.*)$/::error file=\1,line=\2::\3/; t' \
-        -e 's/^file: cannot read (.*)$/::error file=\1::cannot read it/; t' \
-        -e 's/^([^:]+): (.*)$/::error file=\1::\2/'
+    local line
+    while IFS= read -r line; do
+        if [[ $line =~ ^([^:]+):([0-9]+):([0-9]+):\ (error|warning):\ (.*)$ ]]; then
+            tell "${BASH_REMATCH[4]}" "${BASH_REMATCH[1]}" ",line=${BASH_REMATCH[2]},col=${BASH_REMATCH[3]}" "${BASH_REMATCH[5]}"
+        elif [[ $line =~ ^([^:]+):([0-9]+):\ (.*)$ ]]; then
+            tell error "${BASH_REMATCH[1]}" ",line=${BASH_REMATCH[2]}" "${BASH_REMATCH[3]}"
+        elif [[ $line =~ ^file:\ cannot\ read\ (.*)$ ]]; then
+            tell error "${BASH_REMATCH[1]}" '' 'cannot read it'
+        elif [[ $line =~ ^([^:]+):\ (.*)$ ]]; then
+            tell error "${BASH_REMATCH[1]}" '' "${BASH_REMATCH[2]}"
+        else
+            printf '::error::%s\n' "$(escaped "$line")"
+        fi
+    done
+}
+
+# lines as annotations of a file, without the blanks that align a table: annotate_file FILE
+annotate_file() {
+    local line
+    while IFS= read -r line; do
+        [[ $line =~ ^([^:]*):\ \ +(.*)$ ]] && line="${BASH_REMATCH[1]}: ${BASH_REMATCH[2]}"
+        tell error "$1" '' "$line"
+    done
 }
 
 # ends the check with a failure where a status is at least this one: failed_from LEAST STATUS
@@ -36,14 +72,14 @@ failed_from() { (($2 < $1)) || status=1; }
 shopt -s nullglob
 profiles=("$folder"/*.toml)
 if ((${#profiles[@]} == 0)); then
-    echo "::error::there is no profile in $folder"
+    printf '::error::there is no profile in %s\n' "$(escaped "$folder")"
     exit 1
 fi
 for profile in "${profiles[@]}"; do
     rt1553-tool lint "$profile" 2>&1 | annotate
     failed_from 2 "${PIPESTATUS[0]}"
     if [[ ! -e ${profile%.toml}.script && ! -e ${profile%.toml}.rt1553 ]]; then
-        echo "::warning file=$profile::it has neither a script nor a canonical text of its name"
+        tell warning "$profile" '' 'it has neither a script nor a canonical text of its name'
     fi
 done
 for script in "$folder"/*.script; do
@@ -52,8 +88,7 @@ for script in "$folder"/*.script; do
 done
 for kept in "$folder"/*.rt1553; do
     profile=${kept%.rt1553}.toml
-    # in one line, without the blanks that align a table
-    rt1553-tool differ "$kept" "$profile" 2>&1 | sed -E "s|:  +|: |; s|^|$profile: |" | annotate
+    rt1553-tool differ "$kept" "$profile" 2>&1 | annotate_file "$profile"
     failed_from 1 "${PIPESTATUS[0]}"
 done
 exit "$status"

@@ -1,3 +1,4 @@
 pub mod MarkLaws
+pub mod RowLaws
 pub mod ScanLaws
 pub mod WrittenLaws

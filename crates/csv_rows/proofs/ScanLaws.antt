@@ -5,7 +5,7 @@ use Rattle.std.proofs.lemmas.List.{drop_more, drop_all}
 use Rattle.csv_rows.specs.declared.place.CellPlace.{CellPlace}
 use Rattle.csv_rows.specs.declared.field.FieldState.{FieldState}
 use Rattle.csv_rows.specs.declared.field.FieldState.TheVariants.{Start, Plain, Quoted, Closed}
-use Rattle.csv_rows.specs.Csv.{is_separator, is_unquoted, all_unquoted, doubled, quoted, IsField, IsBroken, AreFields, joined, IsCsv, line_feeds, column_after, IsBrokenAt, CsvOrBroken}
+use Rattle.csv_rows.specs.Csv.{is_separator, is_unquoted, all_unquoted, doubled, quoted, IsField, IsBroken, AreFields, joined, IsCsv, line_ends, column_after, line_end_of, IsBrokenAt, CsvOrBroken}
 use Rattle.csv_rows.specs.inner.Scan.{next_state, line_after, place_after}
 
 -- ---- the walk over a text
@@ -30,9 +30,9 @@ found_on more at None = Some at
 found_on more at (Some next) = more next
 
 -- what is found from a state on, in a field that began at this place
-unfoldable pub scan : ℕ → FieldState → CellPlace → ℕ → List ℕ → Option CellPlace
-scan d s at line [] = at_end s at
-scan d s at line (b ∷ bs) = found_on (λ next. scan d next (place_on d next at (line_after line b) b) (line_after line b) bs) at (next_state d s b)
+unfoldable pub scan : ℕ → ℕ → FieldState → CellPlace → ℕ → List ℕ → Option CellPlace
+scan feed d s at line [] = at_end s at
+scan feed d s at line (b ∷ bs) = found_on (λ next. scan feed d next (place_on d next at (line_after feed line b) b) (line_after feed line b) bs) at (next_state d s b)
 
 -- ---- fields as far as they are read
 
@@ -166,15 +166,15 @@ step_by d f b at Is more (Some Plain) a broken ends goes = goes Plain a (λ line
 step_by d f b at Is more (Some Quoted) a broken ends goes = goes Quoted a (λ line. refl)
 step_by d f b at Is more (Some Closed) a broken ends goes = goes Closed a (λ line. refl)
 
-pub none_found : (d : ℕ) (s : FieldState) (f : List ℕ) (at : CellPlace) (line : ℕ) (xs : List ℕ) → Held d s f → scan d s at line xs ≡ None → IsCsv d (f ++ xs)
+pub none_found : (feed : ℕ) (d : ℕ) (s : FieldState) (f : List ℕ) (at : CellPlace) (line : ℕ) (xs : List ℕ) → Held d s f → scan feed d s at line xs ≡ None → IsCsv d (f ++ xs)
 unfolding scan
-none_found d s f at line [] held none = csv_end d f (field_at_end d s f at held none)
-none_found d s f at line (b ∷ bs) held none =
+none_found feed d s f at line [] held none = csv_end d f (field_at_end d s f at held none)
+none_found feed d s f at line (b ∷ bs) held none =
     step_by d f b at (λ o. o ≡ None → IsCsv d (f ++ b ∷ bs))
-    (λ next. scan d next (place_on d next at (line_after line b) b) (line_after line b) bs) (next_state d s b) (after d s f b held)
+    (λ next. scan feed d next (place_on d next at (line_after feed line b) b) (line_after feed line b) bs) (next_state d s b) (after d s f b held)
     (λ broken e. cc e)
-    (λ is separates e. csv_more d f b bs is separates (none_found d Start [] (place_after d at (line_after line b) b) (line_after line b) bs refl e))
-    (λ next held here e. subst (IsCsv d) (append_assoc f (b ∷ []) bs) (none_found d next (f ++ b ∷ []) (place_on d next at (line_after line b) b) (line_after line b) bs held e))
+    (λ is separates e. csv_more d f b bs is separates (none_found feed d Start [] (place_after d at (line_after feed line b) b) (line_after feed line b) bs refl e))
+    (λ next held here e. subst (IsCsv d) (append_assoc f (b ∷ []) bs) (none_found feed d next (f ++ b ∷ []) (place_on d next at (line_after feed line b) b) (line_after feed line b) bs held e))
     none
 
 -- ---- what is found is where the text is broken
@@ -183,37 +183,37 @@ feeds_by : (q : Bool) (n m : ℕ) → (if q then suc (n + m) else n + m) ≡ (if
 feeds_by true n m = omega arith
 feeds_by false n m = refl
 
-feeds_append : (f ys : List ℕ) → line_feeds (f ++ ys) ≡ line_feeds f + line_feeds ys
-unfolding line_feeds
-feeds_append [] ys = omega arith
-feeds_append (b ∷ f) ys = ap (λ n. if b == 10 then suc n else n) (feeds_append f ys) ∙ feeds_by (b == 10) (line_feeds f) (line_feeds ys)
+feeds_append : (feed : ℕ) (f ys : List ℕ) → line_ends feed (f ++ ys) ≡ line_ends feed f + line_ends feed ys
+unfolding line_ends
+feeds_append feed [] ys = omega arith
+feeds_append feed (b ∷ f) ys = ap (λ n. if b == feed then suc n else n) (feeds_append feed f ys) ∙ feeds_by (b == feed) (line_ends feed f) (line_ends feed ys)
 
 line_by : (q : Bool) (row feeds line n : ℕ) → line ≡ row + feeds → (if q then suc line else line) + n ≡ row + (feeds + (if q then suc n else n))
 line_by true row feeds line n is = omega (arith, is)
 line_by false row feeds line n is = omega (arith, is)
 
 -- the line after a byte, and the line feeds from there on
-line_on : (row line : ℕ) (f : List ℕ) (b : ℕ) (more : List ℕ) → line ≡ row + line_feeds f → line_after line b + line_feeds more ≡ row + line_feeds (f ++ b ∷ more)
-unfolding line_feeds
-line_on row line f b more is = line_by (b == 10) row (line_feeds f) line (line_feeds more) is ∙ ap (λ n. row + n) (sym (feeds_append f (b ∷ more)))
+line_on : (feed : ℕ) (row line : ℕ) (f : List ℕ) (b : ℕ) (more : List ℕ) → line ≡ row + line_ends feed f → line_after feed line b + line_ends feed more ≡ row + line_ends feed (f ++ b ∷ more)
+unfolding line_ends
+line_on feed row line f b more is = line_by (b == feed) row (line_ends feed f) line (line_ends feed more) is ∙ ap (λ n. row + n) (sym (feeds_append feed f (b ∷ more)))
 
-line_more : (row line : ℕ) (f : List ℕ) (b : ℕ) → line ≡ row + line_feeds f → line_after line b ≡ row + line_feeds (f ++ b ∷ [])
-unfolding line_feeds
-line_more row line f b is = let on : line_after line b + 0 ≡ row + line_feeds (f ++ b ∷ []) = line_on row line f b [] is in omega (arith, on)
+line_more : (feed : ℕ) (row line : ℕ) (f : List ℕ) (b : ℕ) → line ≡ row + line_ends feed f → line_after feed line b ≡ row + line_ends feed (f ++ b ∷ [])
+unfolding line_ends
+line_more feed row line f b is = let on : line_after feed line b + 0 ≡ row + line_ends feed (f ++ b ∷ []) = line_on feed row line f b [] is in omega (arith, on)
 
 -- from the field at this place on, the text is broken
-pub record BrokenFrom (d : ℕ) (text : List ℕ) (at place : CellPlace) : Type 0 where
+pub record BrokenFrom (feed d : ℕ) (text : List ℕ) (at place : CellPlace) : Type 0 where
   pub fields : List (List ℕ × ℕ)
   pub rest : List ℕ
   pub are : AreFields d fields
   pub broken : IsBroken d rest
   pub whole : text ≡ joined fields rest
-  pub row : place.row ≡ at.row + line_feeds (joined fields [])
+  pub row : place.row ≡ at.row + line_ends feed (joined fields [])
   pub column : place.column ≡ column_after d at.column fields
 
-broken_here : (d : ℕ) (text : List ℕ) (at place : CellPlace) → IsBroken d text → at ≡ place → BrokenFrom d text at place
-unfolding AreFields joined line_feeds column_after
-broken_here d text at place broken is = record {
+broken_here : (feed : ℕ) (d : ℕ) (text : List ℕ) (at place : CellPlace) → IsBroken d text → at ≡ place → BrokenFrom feed d text at place
+unfolding AreFields joined line_ends column_after
+broken_here feed d text at place broken is = record {
   fields = [];
   rest = text;
   are = tt;
@@ -223,72 +223,72 @@ broken_here d text at place broken is = record {
   column = sym (ap (λ p. p.column) is);
 }
 
-broken_next : (d : ℕ) (f : List ℕ) (b : ℕ) (bs : List ℕ) (at place : CellPlace) (line : ℕ) → IsField d f → is_separator d b ≡ true → line ≡ at.row + line_feeds f
-    → BrokenFrom d bs (place_after d at (line_after line b) b) place → BrokenFrom d (f ++ b ∷ bs) at place
+broken_next : (feed : ℕ) (d : ℕ) (f : List ℕ) (b : ℕ) (bs : List ℕ) (at place : CellPlace) (line : ℕ) → IsField d f → is_separator d b ≡ true → line ≡ at.row + line_ends feed f
+    → BrokenFrom feed d bs (place_after d at (line_after feed line b) b) place → BrokenFrom feed d (f ++ b ∷ bs) at place
 unfolding AreFields joined column_after
-broken_next d f b bs at place line is separates on more = record {
+broken_next feed d f b bs at place line is separates on more = record {
   fields = (f, b) ∷ more.fields;
   rest = more.rest;
   are = (is, separates, more.are);
   broken = more.broken;
   whole = ap (λ bs. f ++ b ∷ bs) more.whole;
-  row = more.row ∙ line_on at.row line f b (joined more.fields []) on;
+  row = more.row ∙ line_on feed at.row line f b (joined more.fields []) on;
   column = more.column;
 }
 
-broken_end : (d : ℕ) (s : FieldState) (f : List ℕ) (at place : CellPlace) → Held d s f → at_end s at ≡ Some place → BrokenFrom d f at place
-broken_end d Start f at place held some = cc some
-broken_end d Plain f at place held some = cc some
-broken_end d Quoted f at place held some = broken_here d f at place (inr (inr held)) (cc some)
-broken_end d Closed f at place held some = cc some
+broken_end : (feed : ℕ) (d : ℕ) (s : FieldState) (f : List ℕ) (at place : CellPlace) → Held d s f → at_end s at ≡ Some place → BrokenFrom feed d f at place
+broken_end feed d Start f at place held some = cc some
+broken_end feed d Plain f at place held some = cc some
+broken_end feed d Quoted f at place held some = broken_here feed d f at place (inr (inr held)) (cc some)
+broken_end feed d Closed f at place held some = cc some
 
-pub some_found : (d : ℕ) (s : FieldState) (f : List ℕ) (at : CellPlace) (line : ℕ) (xs : List ℕ) (place : CellPlace) → Held d s f → line ≡ at.row + line_feeds f
-    → scan d s at line xs ≡ Some place → BrokenFrom d (f ++ xs) at place
-unfolding scan line_feeds
-some_found d s f at line [] place held on some = subst (λ f. BrokenFrom d f at place) (sym (append-nil f)) (broken_end d s f at place held some)
-some_found d s f at line (b ∷ bs) place held on some =
-    step_by d f b at (λ o. o ≡ Some place → BrokenFrom d (f ++ b ∷ bs) at place)
-    (λ next. scan d next (place_on d next at (line_after line b) b) (line_after line b) bs) (next_state d s b) (after d s f b held)
-    (λ broken e. broken_here d (f ++ b ∷ bs) at place (broken bs) (cc e))
-    (λ is separates e. broken_next d f b bs at place line is separates on
-    (some_found d Start [] (place_after d at (line_after line b) b) (line_after line b) bs place refl (omega arith) e))
-    (λ next held here e. subst (λ text. BrokenFrom d text at place) (append_assoc f (b ∷ []) bs)
-    (some_found d next (f ++ b ∷ []) at (line_after line b) bs place held (line_more at.row line f b on)
-    (ap (λ at. scan d next at (line_after line b) bs) (sym (here (line_after line b))) ∙ e)))
+pub some_found : (feed : ℕ) (d : ℕ) (s : FieldState) (f : List ℕ) (at : CellPlace) (line : ℕ) (xs : List ℕ) (place : CellPlace) → Held d s f → line ≡ at.row + line_ends feed f
+    → scan feed d s at line xs ≡ Some place → BrokenFrom feed d (f ++ xs) at place
+unfolding scan line_ends
+some_found feed d s f at line [] place held on some = subst (λ f. BrokenFrom feed d f at place) (sym (append-nil f)) (broken_end feed d s f at place held some)
+some_found feed d s f at line (b ∷ bs) place held on some =
+    step_by d f b at (λ o. o ≡ Some place → BrokenFrom feed d (f ++ b ∷ bs) at place)
+    (λ next. scan feed d next (place_on d next at (line_after feed line b) b) (line_after feed line b) bs) (next_state d s b) (after d s f b held)
+    (λ broken e. broken_here feed d (f ++ b ∷ bs) at place (broken bs) (cc e))
+    (λ is separates e. broken_next feed d f b bs at place line is separates on
+    (some_found feed d Start [] (place_after d at (line_after feed line b) b) (line_after feed line b) bs place refl (omega arith) e))
+    (λ next held here e. subst (λ text. BrokenFrom feed d text at place) (append_assoc f (b ∷ []) bs)
+    (some_found feed d next (f ++ b ∷ []) at (line_after feed line b) bs place held (line_more feed at.row line f b on)
+    (ap (λ at. scan feed d next at (line_after feed line b) bs) (sym (here (line_after feed line b))) ∙ e)))
     some
 
 abbrev pub first_place : CellPlace
 first_place = record { row = 1; column = 1 }
 
-pub csv_found : (d : ℕ) (text : List ℕ) → scan d Start first_place 1 text ≡ None → IsCsv d text
-csv_found d text none = none_found d Start [] first_place 1 text refl none
+pub csv_found : (feed : ℕ) (d : ℕ) (text : List ℕ) → scan feed d Start first_place 1 text ≡ None → IsCsv d text
+csv_found feed d text none = none_found feed d Start [] first_place 1 text refl none
 
-pub broken_found : (d : ℕ) (text : List ℕ) (place : CellPlace) → scan d Start first_place 1 text ≡ Some place → IsBrokenAt d text place
-unfolding line_feeds
+pub broken_found : (d : ℕ) (text : List ℕ) (place : CellPlace) → scan (line_end_of text) d Start first_place 1 text ≡ Some place → IsBrokenAt d text place
+unfolding line_ends
 broken_found d text place some =
-    let from : BrokenFrom d text first_place place = some_found d Start [] first_place 1 text place refl refl some in
+    let from : BrokenFrom (line_end_of text) d text first_place place = some_found (line_end_of text) d Start [] first_place 1 text place refl refl some in
     record { fields = from.fields; rest = from.rest; are = from.are; broken = from.broken; whole = from.whole; row = (let row = from.row in omega (arith, row)); column = from.column }
 
 -- ---- steps at a place of a text
 
-pub scan_breaks : (d : ℕ) (s : FieldState) (at : CellPlace) (line : ℕ) (text : List ℕ) (i : ℕ) → i < length text → next_state d s (slice_index_or text i 0) ≡ None
-    → scan d s at line (drop i text) ≡ Some at
+pub scan_breaks : (feed : ℕ) (d : ℕ) (s : FieldState) (at : CellPlace) (line : ℕ) (text : List ℕ) (i : ℕ) → i < length text → next_state d s (slice_index_or text i 0) ≡ None
+    → scan feed d s at line (drop i text) ≡ Some at
 unfolding scan
-scan_breaks d s at line text i few is =
+scan_breaks feed d s at line text i few is =
     let b = slice_index_or text i 0 in
-    ap (scan d s at line) (drop_more text i 0 few)
-    ∙ ap (found_on (λ next. scan d next (place_on d next at (line_after line b) b) (line_after line b) (drop (i + 1) text)) at) is
+    ap (scan feed d s at line) (drop_more text i 0 few)
+    ∙ ap (found_on (λ next. scan feed d next (place_on d next at (line_after feed line b) b) (line_after feed line b) (drop (i + 1) text)) at) is
 
-pub scan_goes_on : (d : ℕ) (s next : FieldState) (at at' : CellPlace) (line line' : ℕ) (text : List ℕ) (i : ℕ) → i < length text → next_state d s (slice_index_or text i 0) ≡ Some next
-    → line' ≡ line_after line (slice_index_or text i 0) → at' ≡ place_on d next at line' (slice_index_or text i 0)
-    → scan d next at' line' (drop (i + 1) text) ≡ scan d s at line (drop i text)
+pub scan_goes_on : (feed : ℕ) (d : ℕ) (s next : FieldState) (at at' : CellPlace) (line line' : ℕ) (text : List ℕ) (i : ℕ) → i < length text → next_state d s (slice_index_or text i 0) ≡ Some next
+    → line' ≡ line_after feed line (slice_index_or text i 0) → at' ≡ place_on d next at line' (slice_index_or text i 0)
+    → scan feed d next at' line' (drop (i + 1) text) ≡ scan feed d s at line (drop i text)
 unfolding scan
-scan_goes_on d s next at at' line line' text i few is l p =
+scan_goes_on feed d s next at at' line line' text i few is l p =
     let b = slice_index_or text i 0 in
-    let place : at' ≡ place_on d next at (line_after line b) b = p ∙ ap (λ line. place_on d next at line b) l in
-    (λ j. scan d next (place j) (l j) (drop (i + 1) text))
-    ∙ (sym (ap (found_on (λ next. scan d next (place_on d next at (line_after line b) b) (line_after line b) (drop (i + 1) text)) at) is)
-    ∙ sym (ap (scan d s at line) (drop_more text i 0 few)))
+    let place : at' ≡ place_on d next at (line_after feed line b) b = p ∙ ap (λ line. place_on d next at line b) l in
+    (λ j. scan feed d next (place j) (l j) (drop (i + 1) text))
+    ∙ (sym (ap (found_on (λ next. scan feed d next (place_on d next at (line_after feed line b) b) (line_after feed line b) (drop (i + 1) text)) at) is)
+    ∙ sym (ap (scan feed d s at line) (drop_more text i 0 few)))
 
 pub place_kept : (d : ℕ) (next : FieldState) (at : CellPlace) (line b : ℕ) → (next ≡ Start → ⊥) → place_on d next at line b ≡ at
 place_kept d Start at line b other = absurd (other refl)
@@ -300,9 +300,9 @@ pub few_on : (q : Bool) (x y n : ℕ) → x ≤ n → y ≤ n + 1 → (if q then
 few_on true x y n few other = omega (arith, few)
 few_on false x y n few other = other
 
-pub scan_ends : (d : ℕ) (s : FieldState) (at : CellPlace) (line : ℕ) (text : List ℕ) (i : ℕ) → length text ≤ i → scan d s at line (drop i text) ≡ at_end s at
+pub scan_ends : (feed : ℕ) (d : ℕ) (s : FieldState) (at : CellPlace) (line : ℕ) (text : List ℕ) (i : ℕ) → length text ≤ i → scan feed d s at line (drop i text) ≡ at_end s at
 unfolding scan
-scan_ends d s at line text i over = ap (scan d s at line) (drop_all i text over)
+scan_ends feed d s at line text i over = ap (scan feed d s at line) (drop_all i text over)
 
 pub none_at_end : (s : FieldState) (at : CellPlace) → (s ≡ Quoted → ⊥) → at_end s at ≡ None
 none_at_end Start at other = refl
@@ -359,85 +359,85 @@ plain_breaks : (d : ℕ) → d ≢ 34 → next_state d Plain 34 ≡ None
 plain_breaks d other = let s = quote_is_no_separator d other in λ j. if s j then Some Start else None
 
 -- what holds from every place and line
-abbrev Everywhere : (Option CellPlace → Type 0) → ℕ → FieldState → List ℕ → Type 0
-Everywhere Is d s xs = (at : CellPlace) (line : ℕ) → Is (scan d s at line xs)
+abbrev Everywhere : ℕ → (Option CellPlace → Type 0) → ℕ → FieldState → List ℕ → Type 0
+Everywhere feed Is d s xs = (at : CellPlace) (line : ℕ) → Is (scan feed d s at line xs)
 
-plain_run : (Is : Option CellPlace → Type 0) (d : ℕ) (f ys : List ℕ) → all_unquoted d f ≡ true → Everywhere Is d Plain ys → Everywhere Is d Plain (f ++ ys)
+plain_run : (feed : ℕ) (Is : Option CellPlace → Type 0) (d : ℕ) (f ys : List ℕ) → all_unquoted d f ≡ true → Everywhere feed Is d Plain ys → Everywhere feed Is d Plain (f ++ ys)
 unfolding scan all_unquoted
-plain_run Is d [] ys all end at line = end at line
-plain_run Is d (b ∷ f) ys all end at line =
-    on_next Is (λ next. scan d next (place_on d next at (line_after line b) b) (line_after line b) (f ++ ys)) at (next_state d Plain b) (Some Plain) (plain_plain d b (and_first (is_unquoted d b) (all_unquoted d f) all))
-    (plain_run Is d f ys (and_second (is_unquoted d b) (all_unquoted d f) all) end at (line_after line b))
+plain_run feed Is d [] ys all end at line = end at line
+plain_run feed Is d (b ∷ f) ys all end at line =
+    on_next Is (λ next. scan feed d next (place_on d next at (line_after feed line b) b) (line_after feed line b) (f ++ ys)) at (next_state d Plain b) (Some Plain) (plain_plain d b (and_first (is_unquoted d b) (all_unquoted d f) all))
+    (plain_run feed Is d f ys (and_second (is_unquoted d b) (all_unquoted d f) all) end at (line_after feed line b))
 
-first_plain : (Is : Option CellPlace → Type 0) (d b : ℕ) (f ys : List ℕ) → all_unquoted d (b ∷ f) ≡ true → Everywhere Is d Plain ys → Everywhere Is d Start ((b ∷ f) ++ ys)
+first_plain : (feed : ℕ) (Is : Option CellPlace → Type 0) (d b : ℕ) (f ys : List ℕ) → all_unquoted d (b ∷ f) ≡ true → Everywhere feed Is d Plain ys → Everywhere feed Is d Start ((b ∷ f) ++ ys)
 unfolding scan all_unquoted
-first_plain Is d b f ys all end at line =
-    on_next Is (λ next. scan d next (place_on d next at (line_after line b) b) (line_after line b) (f ++ ys)) at (next_state d Start b) (Some Plain) (start_plain d b (and_first (is_unquoted d b) (all_unquoted d f) all))
-    (plain_run Is d f ys (and_second (is_unquoted d b) (all_unquoted d f) all) end at (line_after line b))
+first_plain feed Is d b f ys all end at line =
+    on_next Is (λ next. scan feed d next (place_on d next at (line_after feed line b) b) (line_after feed line b) (f ++ ys)) at (next_state d Start b) (Some Plain) (start_plain d b (and_first (is_unquoted d b) (all_unquoted d f) all))
+    (plain_run feed Is d f ys (and_second (is_unquoted d b) (all_unquoted d f) all) end at (line_after feed line b))
 
-quoted_step : (Is : Option CellPlace → Type 0) (d b : ℕ) (t ys : List ℕ) (q : Bool) → (b == 34) ≡ q → Everywhere Is d Quoted (t ++ ys) → Everywhere Is d Quoted ((if q then 34 ∷ 34 ∷ t else b ∷ t) ++ ys)
+quoted_step : (feed : ℕ) (Is : Option CellPlace → Type 0) (d b : ℕ) (t ys : List ℕ) (q : Bool) → (b == 34) ≡ q → Everywhere feed Is d Quoted (t ++ ys) → Everywhere feed Is d Quoted ((if q then 34 ∷ 34 ∷ t else b ∷ t) ++ ys)
 unfolding scan
-quoted_step Is d b t ys true e more at line = more at line
-quoted_step Is d b t ys false e more at line =
-    on_next Is (λ next. scan d next (place_on d next at (line_after line b) b) (line_after line b) (t ++ ys)) at (next_state d Quoted b) (Some Quoted) (λ j. if e j then Some Closed else Some Quoted)
-    (more at (line_after line b))
+quoted_step feed Is d b t ys true e more at line = more at (line_after feed (line_after feed line 34) 34)
+quoted_step feed Is d b t ys false e more at line =
+    on_next Is (λ next. scan feed d next (place_on d next at (line_after feed line b) b) (line_after feed line b) (t ++ ys)) at (next_state d Quoted b) (Some Quoted) (λ j. if e j then Some Closed else Some Quoted)
+    (more at (line_after feed line b))
 
-quoted_run : (Is : Option CellPlace → Type 0) (d : ℕ) (text ys : List ℕ) → Everywhere Is d Quoted ys → Everywhere Is d Quoted (doubled text ++ ys)
+quoted_run : (feed : ℕ) (Is : Option CellPlace → Type 0) (d : ℕ) (text ys : List ℕ) → Everywhere feed Is d Quoted ys → Everywhere feed Is d Quoted (doubled text ++ ys)
 unfolding doubled
-quoted_run Is d [] ys end = end
-quoted_run Is d (b ∷ text) ys end = quoted_step Is d b (doubled text) ys (b == 34) refl (quoted_run Is d text ys end)
+quoted_run feed Is d [] ys end = end
+quoted_run feed Is d (b ∷ text) ys end = quoted_step feed Is d b (doubled text) ys (b == 34) refl (quoted_run feed Is d text ys end)
 
-first_quoted : (Is : Option CellPlace → Type 0) (d : ℕ) (text ys : List ℕ) → Everywhere Is d Closed ys → Everywhere Is d Start (quoted text ++ ys)
+first_quoted : (feed : ℕ) (Is : Option CellPlace → Type 0) (d : ℕ) (text ys : List ℕ) → Everywhere feed Is d Closed ys → Everywhere feed Is d Start (quoted text ++ ys)
 unfolding scan
-first_quoted Is d text ys end at line =
-    subst (λ xs. Is (scan d Quoted at line xs)) (sym (append_assoc (doubled text) (34 ∷ []) ys)) (quoted_run Is d text (34 ∷ ys) (λ at line. end at line) at line)
+first_quoted feed Is d text ys end at line =
+    subst (λ xs. Is (scan feed d Quoted at (line_after feed line 34) xs)) (sym (append_assoc (doubled text) (34 ∷ []) ys)) (quoted_run feed Is d text (34 ∷ ys) (λ at line. end at (line_after feed line 34)) at (line_after feed line 34))
 
-ends_by : (Is : Option CellPlace → Type 0) (d : ℕ) (s : FieldState) (b : ℕ) (ys : List ℕ) → next_state d s b ≡ Some Start → Everywhere Is d Start ys → Everywhere Is d s (b ∷ ys)
+ends_by : (feed : ℕ) (Is : Option CellPlace → Type 0) (d : ℕ) (s : FieldState) (b : ℕ) (ys : List ℕ) → next_state d s b ≡ Some Start → Everywhere feed Is d Start ys → Everywhere feed Is d s (b ∷ ys)
 unfolding scan
-ends_by Is d s b ys is more at line =
-    on_next Is (λ next. scan d next (place_on d next at (line_after line b) b) (line_after line b) ys) at (next_state d s b) (Some Start) is (more (place_after d at (line_after line b) b) (line_after line b))
+ends_by feed Is d s b ys is more at line =
+    on_next Is (λ next. scan feed d next (place_on d next at (line_after feed line b) b) (line_after feed line b) ys) at (next_state d s b) (Some Start) is (more (place_after d at (line_after feed line b) b) (line_after feed line b))
 
-field_then : (Is : Option CellPlace → Type 0) (d : ℕ) (f : List ℕ) (b : ℕ) (ys : List ℕ) → d ≢ 34 → IsField d f → is_separator d b ≡ true → Everywhere Is d Start ys → Everywhere Is d Start (f ++ b ∷ ys)
-field_then Is d [] b ys other (inl all) separates more = ends_by Is d Start b ys (start_ends d b other separates) more
-field_then Is d (x ∷ f) b ys other (inl all) separates more = first_plain Is d x f (b ∷ ys) all (ends_by Is d Plain b ys (plain_ends d b separates) more)
-field_then Is d f b ys other (inr is) separates more =
-    subst (λ f. Everywhere Is d Start (f ++ b ∷ ys)) (sym is.1) (first_quoted Is d is.0 (b ∷ ys) (ends_by Is d Closed b ys (closed_ends d b other separates) more))
+field_then : (feed : ℕ) (Is : Option CellPlace → Type 0) (d : ℕ) (f : List ℕ) (b : ℕ) (ys : List ℕ) → d ≢ 34 → IsField d f → is_separator d b ≡ true → Everywhere feed Is d Start ys → Everywhere feed Is d Start (f ++ b ∷ ys)
+field_then feed Is d [] b ys other (inl all) separates more = ends_by feed Is d Start b ys (start_ends d b other separates) more
+field_then feed Is d (x ∷ f) b ys other (inl all) separates more = first_plain feed Is d x f (b ∷ ys) all (ends_by feed Is d Plain b ys (plain_ends d b separates) more)
+field_then feed Is d f b ys other (inr is) separates more =
+    subst (λ f. Everywhere feed Is d Start (f ++ b ∷ ys)) (sym is.1) (first_quoted feed Is d is.0 (b ∷ ys) (ends_by feed Is d Closed b ys (closed_ends d b other separates) more))
 
-fields_then : (Is : Option CellPlace → Type 0) (d : ℕ) (fields : List (List ℕ × ℕ)) (rest : List ℕ) → d ≢ 34 → AreFields d fields → Everywhere Is d Start rest → Everywhere Is d Start (joined fields rest)
+fields_then : (feed : ℕ) (Is : Option CellPlace → Type 0) (d : ℕ) (fields : List (List ℕ × ℕ)) (rest : List ℕ) → d ≢ 34 → AreFields d fields → Everywhere feed Is d Start rest → Everywhere feed Is d Start (joined fields rest)
 unfolding AreFields joined
-fields_then Is d [] rest other are more = more
-fields_then Is d (p ∷ fields) rest other are more = field_then Is d p.0 p.1 (joined fields rest) other are.0 are.1 (fields_then Is d fields rest other are.2 more)
+fields_then feed Is d [] rest other are more = more
+fields_then feed Is d (p ∷ fields) rest other are more = field_then feed Is d p.0 p.1 (joined fields rest) other are.0 are.1 (fields_then feed Is d fields rest other are.2 more)
 
 abbrev IsNothing : Option CellPlace → Type 0
 IsNothing o = o ≡ None
 
-last_field : (d : ℕ) (f : List ℕ) → IsField d f → Everywhere IsNothing d Start f
+last_field : (feed : ℕ) (d : ℕ) (f : List ℕ) → IsField d f → Everywhere feed IsNothing d Start f
 unfolding scan
-last_field d [] (inl all) at line = refl
-last_field d (x ∷ f) (inl all) at line = subst (λ f. IsNothing (scan d Start at line f)) (append-nil (x ∷ f)) (first_plain IsNothing d x f [] all (λ at line. refl) at line)
-last_field d f (inr is) at line = subst (λ f. IsNothing (scan d Start at line f)) (append-nil (quoted is.0) ∙ sym is.1) (first_quoted IsNothing d is.0 [] (λ at line. refl) at line)
+last_field feed d [] (inl all) at line = refl
+last_field feed d (x ∷ f) (inl all) at line = subst (λ f. IsNothing (scan feed d Start at line f)) (append-nil (x ∷ f)) (first_plain feed IsNothing d x f [] all (λ at line. refl) at line)
+last_field feed d f (inr is) at line = subst (λ f. IsNothing (scan feed d Start at line f)) (append-nil (quoted is.0) ∙ sym is.1) (first_quoted feed IsNothing d is.0 [] (λ at line. refl) at line)
 
 abbrev IsFound : Option CellPlace → Type 0
 IsFound o = o ≡ None → ⊥
 
-breaks_by : (d : ℕ) (s : FieldState) (b : ℕ) (ys : List ℕ) → next_state d s b ≡ None → Everywhere IsFound d s (b ∷ ys)
+breaks_by : (feed : ℕ) (d : ℕ) (s : FieldState) (b : ℕ) (ys : List ℕ) → next_state d s b ≡ None → Everywhere feed IsFound d s (b ∷ ys)
 unfolding scan
-breaks_by d s b ys is at line =
-    on_next IsFound (λ next. scan d next (place_on d next at (line_after line b) b) (line_after line b) ys) at (next_state d s b) None is (λ none. cc none)
+breaks_by feed d s b ys is at line =
+    on_next IsFound (λ next. scan feed d next (place_on d next at (line_after feed line b) b) (line_after feed line b) ys) at (next_state d s b) None is (λ none. cc none)
 
-broken_rest : (d : ℕ) (rest : List ℕ) → d ≢ 34 → IsBroken d rest → Everywhere IsFound d Start rest
+broken_rest : (feed : ℕ) (d : ℕ) (rest : List ℕ) → d ≢ 34 → IsBroken d rest → Everywhere feed IsFound d Start rest
 unfolding scan
-broken_rest d rest other (inl (b, bs, after, all, is)) at line =
-    subst (λ xs. IsFound (scan d Start at line xs)) (sym is) (first_plain IsFound d b bs (34 ∷ after) all (breaks_by d Plain 34 after (plain_breaks d other)) at line)
-broken_rest d rest other (inr (inl (text, b, after, plain, is))) at line =
-    subst (λ xs. IsFound (scan d Start at line xs)) (sym is) (first_quoted IsFound d text (b ∷ after) (breaks_by d Closed b after (closed_plain d b plain)) at line)
-broken_rest d rest other (inr (inr (text, is))) at line =
-    subst (λ xs. IsFound (scan d Start at line xs)) (sym is)
-    (subst (λ xs. IsFound (scan d Quoted at line xs)) (append-nil (doubled text)) (quoted_run IsFound d text [] (λ at line none. cc none) at line))
+broken_rest feed d rest other (inl (b, bs, after, all, is)) at line =
+    subst (λ xs. IsFound (scan feed d Start at line xs)) (sym is) (first_plain feed IsFound d b bs (34 ∷ after) all (breaks_by feed d Plain 34 after (plain_breaks d other)) at line)
+broken_rest feed d rest other (inr (inl (text, b, after, plain, is))) at line =
+    subst (λ xs. IsFound (scan feed d Start at line xs)) (sym is) (first_quoted feed IsFound d text (b ∷ after) (breaks_by feed d Closed b after (closed_plain d b plain)) at line)
+broken_rest feed d rest other (inr (inr (text, is))) at line =
+    subst (λ xs. IsFound (scan feed d Start at line xs)) (sym is)
+    (subst (λ xs. IsFound (scan feed d Quoted at (line_after feed line 34) xs)) (append-nil (doubled text)) (quoted_run feed IsFound d text [] (λ at line none. cc none) at (line_after feed line 34)))
 
 pub csv_or_broken : CsvOrBroken
 csv_or_broken d text place other csv broken =
-    let none : scan d Start place 0 text ≡ None =
-    ap (λ xs. scan d Start place 0 xs) csv.whole ∙ fields_then IsNothing d csv.fields csv.last other csv.are (last_field d csv.last csv.is) place 0 in
-    fields_then IsFound d broken.fields broken.rest other broken.are (broken_rest d broken.rest other broken.broken) place 0
-    (ap (λ xs. scan d Start place 0 xs) (sym broken.whole) ∙ none)
+    let none : scan 10 d Start place 0 text ≡ None =
+    ap (λ xs. scan 10 d Start place 0 xs) csv.whole ∙ fields_then 10 IsNothing d csv.fields csv.last other csv.are (last_field 10 d csv.last csv.is) place 0 in
+    fields_then 10 IsFound d broken.fields broken.rest other broken.are (broken_rest 10 d broken.rest other broken.broken) place 0
+    (ap (λ xs. scan 10 d Start place 0 xs) (sym broken.whole) ∙ none)

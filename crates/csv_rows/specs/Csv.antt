@@ -1,5 +1,6 @@
 -- CSV as RFC 4180 has it, section 2: fields with separators between them, each in quotes or without any; and where a text breaks this.
 use Rattle.std.specs.Prelude.{◌≡◌, ◌≢◌, ◌⊎◌, ⊤, ℕ, suc, ◌==◌, ◌&&◌, ◌||◌, not, Bool, true, if◌then◌else◌, List, [], ◌∷◌, ◌++◌}
+use Rattle.std.specs.List.{list_any}
 use Rattle.csv_rows.specs.declared.place.CellPlace.{CellPlace}
 
 -- a byte that ends a field: the delimiter, or one of a line end
@@ -54,10 +55,14 @@ pub record IsCsv (d : ℕ) (text : List ℕ) : Type 0 where
   pub is : IsField d last
   pub whole : text ≡ joined fields last
 
--- how many line feeds a text has
-unfoldable pub line_feeds : List ℕ → ℕ
-line_feeds [] = 0
-line_feeds (b ∷ bs) = if b == 10 then suc (line_feeds bs) else line_feeds bs
+-- the byte that ends a line: a line feed, or in a text without one a carriage return
+abbrev pub line_end_of : List ℕ → ℕ
+line_end_of text = if list_any (λ b. b == 10) text then 10 else 13
+
+-- how many times a text has this byte
+unfoldable pub line_ends : ℕ → List ℕ → ℕ
+line_ends feed [] = 0
+line_ends feed (b ∷ bs) = if b == feed then suc (line_ends feed bs) else line_ends feed bs
 
 -- the number in its row of the field after these, of which the first has this number
 unfoldable pub column_after : ℕ → ℕ → List (List ℕ × ℕ) → ℕ
@@ -71,7 +76,7 @@ pub record IsBrokenAt (d : ℕ) (text : List ℕ) (place : CellPlace) : Type 0 w
   pub are : AreFields d fields
   pub broken : IsBroken d rest
   pub whole : text ≡ joined fields rest
-  pub row : place.row ≡ suc (line_feeds (joined fields []))
+  pub row : place.row ≡ suc (line_ends (line_end_of text) (joined fields []))
   pub column : place.column ≡ column_after d 1 fields
 
 -- no text is CSV and broken too

@@ -2,11 +2,13 @@
 #![tactic(auto)]
 
 mod broken;
+mod delimiter;
 mod field;
 pub mod laws;
 mod place;
 mod rows;
 
 pub use broken::broken_field;
+pub use delimiter::delimiter_of;
 pub use place::CellPlace;
 pub use rows::{CsvFault, CsvRow, read_rows};

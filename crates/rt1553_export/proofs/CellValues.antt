@@ -1,5 +1,5 @@
 -- What the cells of the full table say.
-use Rattle.std.proofs.Common.{◌≡◌, ◌≢◌, ℕ, zero, suc, ◌+◌, ◌/◌, ◌%◌, ◌^◌, ◌<◌, ◌≤◌, ◌==◌, ◌&&◌, nat_lt, nat_le, Bool, true, false, cond, pos, List, [], ◌∷◌, ◌++◌, map, Some, None, codes, refl, ap, sym, subst, ◌∙◌, ◌⊎◌, inl, inr, ⊎_elim, append-nil, arith}
+use Rattle.std.proofs.Common.{◌≡◌, ◌≢◌, ℕ, zero, suc, min, ◌+◌, ◌/◌, ◌%◌, ◌^◌, ◌<◌, ◌≤◌, ◌==◌, ◌&&◌, nat_lt, nat_le, Bool, true, false, cond, pos, List, [], ◌∷◌, ◌++◌, map, Some, None, codes, refl, ap, sym, subst, ◌∙◌, ◌⊎◌, inl, inr, ⊎_elim, append-nil, arith}
 use Rattle.std.proofs.lemmas.Bool.{cases_lt, eqb-true}
 use Rattle.std.proofs.lemmas.Bool.Decides.{nat_tests}
 use Rattle.std.specs.Char.{is_digit, digit_value}
@@ -304,18 +304,17 @@ no_number n rest l =
     let text : List ℕ = two_digits n ++ (45 ∷ rest) in
     let none : is_numeral 10 text ≡ false = ap (λ b. is_digit (48 + n / 10) 10 && b) (and_false (is_digit (48 + n % 10) 10)) ∙ and_false (is_digit (48 + n / 10) 10) in
     ap (λ b. cond b (number_in 16 (drop 2 text)) (number_in 10 text)) (two_decimal n (45 ∷ rest))
-    ∙ ap (λ b. cond (b && nat_lt (digits_value 10 text) (2 ^ 32)) (Some (digits_value 10 text)) None) none
+    ∙ ap (λ b. cond b (Some (min (digits_value 10 text) 4294967295)) None) none
 
 no_truth : (n : ℕ) (rest : List ℕ) → n < 100 → cell_truth (two_digits n ++ (45 ∷ rest)) ≡ None
 no_truth n rest l =
     let small : n / 10 < 10 = omega arith in
+    let low : nat_lt (48 + n / 10) 65 ≡ true = grind (arith, nat_tests) in
     let a : (48 + n / 10 == 121) ≡ false = grind (arith, nat_tests) in
     let b : (48 + n / 10 == 116) ≡ false = grind (arith, nat_tests) in
-    let c : (48 + n / 10 == 84) ≡ false = grind (arith, nat_tests) in
     let d : (48 + n / 10 == 110) ≡ false = grind (arith, nat_tests) in
     let e : (48 + n / 10 == 102) ≡ false = grind (arith, nat_tests) in
-    let f : (48 + n / 10 == 70) ≡ false = grind (arith, nat_tests) in
-    rw (a, b, c, d, e, f) refl
+    rw (low, a, b, d, e) refl
 
 text_says : (n : ℕ) (rest : List ℕ) → n < 100 → cell_value (two_digits n ++ (45 ∷ rest)) ≡ string (two_digits n ++ (45 ∷ rest))
 text_says n rest l =

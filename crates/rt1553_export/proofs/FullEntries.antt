@@ -1,7 +1,7 @@
 -- What the rows of the full table become: rules, mode entries and initial entries.
 use Rattle.std.proofs.Common.{◌≡◌, ℕ, suc, ◌+◌, ◌^◌, ◌<◌, ◌≤◌, ◌==◌, Bool, true, false, not, cond, pos, Some, List, [], ◌∷◌, ◌++◌, map, filter, length, get_or, codes, refl, ap, ◌∙◌, arith}
 use Rattle.std.specs.List.{zip}
-use Rattle.std.specs.Str.{trim}
+use Rattle.std.specs.Str.{str_to_ascii_lowercase, trim}
 use Rattle.toml.specs.Data.{Data, string, integer, boolean, array, table, no_members, member}
 use Rattle.toml.specs.View.{items_of}
 use Rattle.bus_legal.specs.Parts.{IsBlock}
@@ -45,11 +45,22 @@ receive_cell = plain_says (codes "receive") (string (codes "receive")) (plain_by
 pub transmit_cell : Says (codes "transmit") (string (codes "transmit"))
 transmit_cell = plain_says (codes "transmit") (string (codes "transmit")) (plain_by (codes "transmit") refl) refl
 
-pub own_cell : Says (codes "own") (string (codes "own"))
-own_cell = plain_says (codes "own") (string (codes "own")) (plain_by (codes "own") refl) refl
+-- a cell in the column `to`: a word in small letters
+pub record IsWordCell (to : List ℕ) : Type 0 where
+  pub says : Says to (string to)
+  pub small : Says (str_to_ascii_lowercase to) (string to)
 
-pub broadcast_cell : Says (codes "broadcast") (string (codes "broadcast"))
-broadcast_cell = plain_says (codes "broadcast") (string (codes "broadcast")) (plain_by (codes "broadcast") refl) refl
+own_says : Says (codes "own") (string (codes "own"))
+own_says = plain_says (codes "own") (string (codes "own")) (plain_by (codes "own") refl) refl
+
+pub own_cell : IsWordCell (codes "own")
+own_cell = record { says = own_says; small = own_says }
+
+broadcast_says : Says (codes "broadcast") (string (codes "broadcast"))
+broadcast_says = plain_says (codes "broadcast") (string (codes "broadcast")) (plain_by (codes "broadcast") refl) refl
+
+pub broadcast_cell : IsWordCell (codes "broadcast")
+broadcast_cell = record { says = broadcast_says; small = broadcast_says }
 
 pub mode_plain : IsPlain (codes "mode")
 mode_plain = plain_by (codes "mode") refl
@@ -122,20 +133,20 @@ module _ (s : Sheet) (header : row_fields s.header ≡ header_cells) where
   -- ---- a message of data
 
   rule_made : (f : List (List ℕ)) (direction sub words to initial legal : List ℕ) (dd ds dw dt dl : Data) → f ≡ message_cells direction sub words to initial legal
-      → Says direction dd → Says sub ds → Says words dw → Says to dt → trim initial ≡ initial → Says legal dl
+      → Says direction dd → Says (str_to_ascii_lowercase direction) dd → Says sub ds → Says words dw → Says to dt → Says (str_to_ascii_lowercase to) dt → trim initial ≡ initial → Says legal dl
       → rule_entry_data s (row_of f) ≡ table (member (codes "counts") dw (member (codes "direction") dd (member (codes "legal") dl (member (codes "subaddresses") ds (member (codes "to") dt no_members)))))
-  rule_made f direction sub words to initial legal dd ds dw dt dl is a b k t i l =
+  rule_made f direction sub words to initial legal dd ds dw dt dl is a a' b k t t' i l =
       let at = cell_is s header (row_of f) (message_cells direction sub words to initial legal) (row_made f ∙ is) (a.trimmed, (trim_nothing, (b.trimmed, (k.trimmed, (trim_nothing, (t.trimmed, (i, (l.trimmed, (trim_nothing, tt))))))))) in
-      (λ j. table (with_text (codes "legal") (at column.Legal j) (with_text (codes "to") (at column.To j)
-      (with_text (codes "counts") (at column.Words j) (with_text (codes "subaddresses") (at column.Subaddress j) (with_text (codes "direction") (at column.Kind j) no_members))))))
-      ∙ (λ j. table (text_put (codes "legal") legal dl (text_put (codes "to") to dt (text_put (codes "counts") words dw (text_put (codes "subaddresses") sub ds (text_put (codes "direction") direction dd no_members a j) b j) k j) t j) l j))
+      (λ j. table (with_text (codes "legal") (at column.Legal j) (with_text (codes "to") (str_to_ascii_lowercase (at column.To j))
+      (with_text (codes "counts") (at column.Words j) (with_text (codes "subaddresses") (at column.Subaddress j) (with_text (codes "direction") (str_to_ascii_lowercase (at column.Kind j)) no_members))))))
+      ∙ (λ j. table (text_put (codes "legal") legal dl (text_put (codes "to") (str_to_ascii_lowercase to) dt (text_put (codes "counts") words dw (text_put (codes "subaddresses") sub ds (text_put (codes "direction") (str_to_ascii_lowercase direction) dd no_members a' j) b j) k j) t' j) l j))
 
   mode_made : (f : List (List ℕ)) (set to legal : List ℕ) (dc dt dl : Data) → f ≡ mode_cells set to legal []
-      → Says set dc → Says to dt → Says legal dl → mode_entry_data s (row_of f) ≡ table (member (codes "codes") dc (member (codes "legal") dl (member (codes "to") dt no_members)))
-  mode_made f set to legal dc dt dl is k t l =
+      → Says set dc → Says to dt → Says (str_to_ascii_lowercase to) dt → Says legal dl → mode_entry_data s (row_of f) ≡ table (member (codes "codes") dc (member (codes "legal") dl (member (codes "to") dt no_members)))
+  mode_made f set to legal dc dt dl is k t t' l =
       let at = cell_is s header (row_of f) (mode_cells set to legal []) (row_made f ∙ is) (trim_plain (codes "mode") mode_plain, (trim_nothing, (trim_nothing, (trim_nothing, (k.trimmed, (t.trimmed, (trim_nothing, (l.trimmed, (trim_nothing, tt))))))))) in
-      (λ j. table (with_text (codes "legal") (at column.Legal j) (with_text (codes "to") (at column.To j) (with_text (codes "codes") (at column.Code j) no_members))))
-      ∙ (λ j. table (text_put (codes "legal") legal dl (text_put (codes "to") to dt (text_put (codes "codes") set dc no_members k j) t j) l j))
+      (λ j. table (with_text (codes "legal") (at column.Legal j) (with_text (codes "to") (str_to_ascii_lowercase (at column.To j)) (with_text (codes "codes") (at column.Code j) no_members))))
+      ∙ (λ j. table (text_put (codes "legal") legal dl (text_put (codes "to") (str_to_ascii_lowercase to) dt (text_put (codes "codes") set dc no_members k j) t' j) l j))
 
   -- what a message of data becomes, by its direction and its initial words
   message_entry : (f : List (List ℕ)) (direction sub words to initial legal : List ℕ) (dd ds dw dt dl : Data) → f ≡ message_cells direction sub words to initial legal
@@ -144,27 +155,27 @@ module _ (s : Sheet) (header : row_fields s.header ≡ header_cells) where
       let at = cell_is s header (row_of f) (message_cells direction sub words to initial legal) (row_made f ∙ is) (a.trimmed, (trim_nothing, (b.trimmed, (k.trimmed, (trim_nothing, (t.trimmed, (i, (l.trimmed, (trim_nothing, tt))))))))) in
       entry_is s header (row_of f) direction initial (at column.Kind) (at column.Initial)
 
-  pub receive_entry : (to : List ℕ) → Says to (string to) → (n mask : ℕ) → n ≤ 30 → mask < 2 ^ 32 → (e : Entry) → is_entry s e (row_of (receive_row to n mask)) ≡ is_entry_by e (codes "receive") []
+  pub receive_entry : (to : List ℕ) → IsWordCell to → (n mask : ℕ) → n ≤ 30 → mask < 2 ^ 32 → (e : Entry) → is_entry s e (row_of (receive_row to n mask)) ≡ is_entry_by e (codes "receive") []
   receive_entry to t n mask l fits =
-      message_entry (receive_row to n mask) (codes "receive") (two_digits n) (set_text 1 mask) to [] (is_said mask) _ _ _ _ _ refl receive_cell (two_cell n (omega arith)) (set_cell 1 mask (omega arith) fits) t trim_nothing (truth_cell (not (mask == 0)))
+      message_entry (receive_row to n mask) (codes "receive") (two_digits n) (set_text 1 mask) to [] (is_said mask) _ _ _ _ _ refl receive_cell (two_cell n (omega arith)) (set_cell 1 mask (omega arith) fits) t.says trim_nothing (truth_cell (not (mask == 0)))
 
-  pub receive_rule : (to : List ℕ) → Says to (string to) → (n mask : ℕ) → n ≤ 30 → mask < 2 ^ 32 → Becomes entry.Rule (receive_row to n mask) (rule_data to (codes "receive") n mask)
+  pub receive_rule : (to : List ℕ) → IsWordCell to → (n mask : ℕ) → n ≤ 30 → mask < 2 ^ 32 → Becomes entry.Rule (receive_row to n mask) (rule_data to (codes "receive") n mask)
   receive_rule to t n mask l fits = record {
     is = receive_entry to t n mask l fits entry.Rule;
-    data_is = rule_made (receive_row to n mask) (codes "receive") (two_digits n) (set_text 1 mask) to [] (is_said mask) _ _ _ _ _ refl receive_cell (two_cell n (omega arith)) (set_cell 1 mask (omega arith) fits) t trim_nothing (truth_cell (not (mask == 0)));
+    data_is = rule_made (receive_row to n mask) (codes "receive") (two_digits n) (set_text 1 mask) to [] (is_said mask) _ _ _ _ _ refl receive_cell receive_cell (two_cell n (omega arith)) (set_cell 1 mask (omega arith) fits) t.says t.small trim_nothing (truth_cell (not (mask == 0)));
   }
 
   -- ---- a subaddress with the words that it holds
 
   pub transmit_entry : (n : ℕ) (held : ℕ × List ℕ) → n ≤ 30 → IsHeld held → (e : Entry) → is_entry s e (row_of (transmit_row n held)) ≡ is_entry_by e (codes "transmit") (words_cell held.1)
   transmit_entry n held l is =
-      message_entry (transmit_row n held) (codes "transmit") (two_digits n) (set_text 1 held.0) (codes "own") (words_cell held.1) (is_said held.0) _ _ _ _ _ refl transmit_cell (two_cell n (omega arith)) (set_cell 1 held.0 (omega arith) is.0) own_cell
+      message_entry (transmit_row n held) (codes "transmit") (two_digits n) (set_text 1 held.0) (codes "own") (words_cell held.1) (is_said held.0) _ _ _ _ _ refl transmit_cell (two_cell n (omega arith)) (set_cell 1 held.0 (omega arith) is.0) own_cell.says
       (trim_plain (words_cell held.1) (block_cell held.1 is.1).plain) (truth_cell (not (held.0 == 0)))
 
   pub transmit_rule : (n : ℕ) (held : ℕ × List ℕ) → n ≤ 30 → IsHeld held → Becomes entry.Rule (transmit_row n held) (rule_data (codes "own") (codes "transmit") n held.0)
   transmit_rule n held l is = record {
     is = transmit_entry n held l is entry.Rule;
-    data_is = rule_made (transmit_row n held) (codes "transmit") (two_digits n) (set_text 1 held.0) (codes "own") (words_cell held.1) (is_said held.0) _ _ _ _ _ refl transmit_cell (two_cell n (omega arith)) (set_cell 1 held.0 (omega arith) is.0) own_cell
+    data_is = rule_made (transmit_row n held) (codes "transmit") (two_digits n) (set_text 1 held.0) (codes "own") (words_cell held.1) (is_said held.0) _ _ _ _ _ refl transmit_cell transmit_cell (two_cell n (omega arith)) (set_cell 1 held.0 (omega arith) is.0) own_cell.says own_cell.small
         (trim_plain (words_cell held.1) (block_cell held.1 is.1).plain) (truth_cell (not (held.0 == 0)));
   }
 
@@ -173,7 +184,7 @@ module _ (s : Sheet) (header : row_fields s.header ≡ header_cells) where
       let words = block_cell held.1 is.1 in
       let sub = two_cell n (omega arith) in
       let at = cell_is s header (row_of (transmit_row n held)) (transmit_row n held) (row_made (transmit_row n held))
-      (transmit_cell.trimmed, (trim_nothing, (sub.trimmed, ((set_cell 1 held.0 (omega arith) is.0).trimmed, (trim_nothing, (own_cell.trimmed, (trim_plain (words_cell held.1) words.plain, ((truth_cell (not (held.0 == 0))).trimmed, (trim_nothing, tt))))))))) in
+      (transmit_cell.trimmed, (trim_nothing, (sub.trimmed, ((set_cell 1 held.0 (omega arith) is.0).trimmed, (trim_nothing, (own_cell.says.trimmed, (trim_plain (words_cell held.1) words.plain, ((truth_cell (not (held.0 == 0))).trimmed, (trim_nothing, tt))))))))) in
       record {
         is = transmit_entry n held l is entry.Initial ∙ ap (λ b. not b) (plain_some (words_cell held.1) words.plain);
         data_is = (λ j. table (member_put (codes "words") (array (items_of (words_data (at column.Initial j)))) (with_text (codes "subaddress") (at column.Subaddress j) no_members)))
@@ -182,16 +193,16 @@ module _ (s : Sheet) (header : row_fields s.header ≡ header_cells) where
 
   -- ---- mode codes
 
-  pub codes_entry : (to : List ℕ) → Says to (string to) → (mask : ℕ) → mask < 2 ^ 32 → (e : Entry) → is_entry s e (row_of (mode_codes_row to mask)) ≡ is_entry_by e (codes "mode") []
+  pub codes_entry : (to : List ℕ) → IsWordCell to → (mask : ℕ) → mask < 2 ^ 32 → (e : Entry) → is_entry s e (row_of (mode_codes_row to mask)) ≡ is_entry_by e (codes "mode") []
   codes_entry to t mask fits =
       let at = cell_is s header (row_of (mode_codes_row to mask)) (mode_codes_row to mask) (row_made (mode_codes_row to mask))
-      (trim_plain (codes "mode") mode_plain, (trim_nothing, (trim_nothing, (trim_nothing, ((set_cell 0 mask (omega arith) fits).trimmed, (t.trimmed, (trim_nothing, ((truth_cell (not (mask == 0))).trimmed, (trim_nothing, tt))))))))) in
+      (trim_plain (codes "mode") mode_plain, (trim_nothing, (trim_nothing, (trim_nothing, ((set_cell 0 mask (omega arith) fits).trimmed, (t.says.trimmed, (trim_nothing, ((truth_cell (not (mask == 0))).trimmed, (trim_nothing, tt))))))))) in
       entry_is s header (row_of (mode_codes_row to mask)) (codes "mode") [] (at column.Kind) (at column.Initial)
 
-  pub codes_mode : (to : List ℕ) → Says to (string to) → (mask : ℕ) → mask < 2 ^ 32 → Becomes entry.Mode (mode_codes_row to mask) (mode_data to mask)
+  pub codes_mode : (to : List ℕ) → IsWordCell to → (mask : ℕ) → mask < 2 ^ 32 → Becomes entry.Mode (mode_codes_row to mask) (mode_data to mask)
   codes_mode to t mask fits = record {
     is = codes_entry to t mask fits entry.Mode;
-    data_is = mode_made (mode_codes_row to mask) (set_text 0 mask) to (is_said mask) _ _ _ refl (set_cell 0 mask (omega arith) fits) t (truth_cell (not (mask == 0)));
+    data_is = mode_made (mode_codes_row to mask) (set_text 0 mask) to (is_said mask) _ _ _ refl (set_cell 0 mask (omega arith) fits) t.says t.small (truth_cell (not (mask == 0)));
   }
 
   -- ---- all rows

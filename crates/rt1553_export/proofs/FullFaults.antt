@@ -2,7 +2,7 @@
 use Rattle.std.proofs.Common.{◌≡◌, ℕ, ◌+◌, ◌^◌, ◌<◌, ◌≤◌, ◌==◌, ◌||◌, ◌&&◌, nat_lt, Bool, true, false, not, cond, is_none, Option, Some, None, List, [], ◌∷◌, ◌++◌, map, filter, length, get_or, codes, refl, ap, ◌∙◌, inl, inr, arith}
 use Rattle.std.proofs.lemmas.Bool.Decides.{nat_tests}
 use Rattle.std.specs.List.{flat_map, zip}
-use Rattle.std.specs.Str.{bytes_eq, trim}
+use Rattle.std.specs.Str.{str_eq_ignore_ascii_case, trim}
 use Rattle.toml.specs.Data.{Data, string}
 use Rattle.toml.specs.View.{items_of}
 use Rattle.bus_profile.specs.AllFaults.{failing, HasShortArrays, told_faults}
@@ -25,7 +25,7 @@ use Rattle.rt1553_import.specs.Kinds.{kind_name, row_kind, is_setting, takes}
 use Rattle.rt1553_import.specs.Reading.{row_fields}
 use Rattle.rt1553_import.specs.Tree.{table_tree}
 use Rattle.rt1553_import.specs.Places.{placed, is_hidden, told}
-use Rattle.rt1553_import.specs.TableFaults.{fault_where, fault_if_any, header_place, second_fault, second_place, column_fault, no_kind_fault, header_faults, is_set_in, kind_fault, initial_fault, taken_fault, cell_fault, kind_faults, last_place, is_blank_row, row_faults, rows_faults, or_others, table_faults}
+use Rattle.rt1553_import.specs.TableFaults.{fault_where, fault_if_any, header_place, second_fault, second_place, column_fault, no_kind_fault, header_faults, is_set_in, kind_fault, initial_fault, taken_fault, cell_fault, kind_faults, last_place, row_faults, rows_faults, or_others, table_faults}
 use Rattle.rt1553_toml.specs.Sets.{two_digits}
 use Rattle.rt1553_toml.specs.inner.FullTree.{from_number, initial_data, rules_by, modes_by, initials_by, full_tree}
 use Rattle.rt1553_toml.proofs.TreeFaults.{AllIn, AllIn-append, IsMask32, all_masks, from_number_in, own_mode_fits, broadcast_mode_fits, rules_few, length-from_number, count_items_of, full_tree_faultless}
@@ -34,7 +34,7 @@ use Rattle.rt1553_export.specs.inner.Full.{yes_no, word_cell, wrap_cell, words_c
 use Rattle.rt1553_export.proofs.Trimmed.{IsPlain, plain_by, trim_plain, trim_nothing}
 use Rattle.rt1553_export.proofs.CellValues.{two_number}
 use Rattle.rt1553_export.proofs.FullSheet.{row_of, row_made, Says, column_place, place_is, cell_is}
-use Rattle.rt1553_export.proofs.FullEntries.{IsHeld, two_cell, set_cell, truth_cell, own_cell, broadcast_cell, receive_cell, transmit_cell, mode_plain, block_cell}
+use Rattle.rt1553_export.proofs.FullEntries.{IsHeld, IsWordCell, two_cell, set_cell, truth_cell, own_cell, broadcast_cell, receive_cell, transmit_cell, mode_plain, block_cell}
 use Rattle.rt1553_export.proofs.FullTable.{all_held, zip_long, setting_at, setting_kind, address_says, wrap_is, vector_says, bit_says, full_table_tree}
 
 -- ---- the tree has none
@@ -87,17 +87,14 @@ module _ (s : Sheet) (header : row_fields s.header ≡ header_cells) where
 
   row_faultless : (before : List TableRow) (row : TableRow) (fs : List (List ℕ)) (k : RowKind) → row_fields row ≡ fs → (length fs == 9) ≡ true → row_kind (cell s row column.Kind) ≡ Some k
       → ((c : TableColumn) → cell_fault s before row k c ≡ None) → row_faults s before row ≡ []
-  row_faultless before row fs k e nine is all = pick (is_blank_row row)
+  row_faultless before row fs k e nine is all =
+      ap (λ b. cond b (kind_faults s before row (row_kind (cell s row column.Kind))) (fault_where (last_place s row) fault.Fields ∷ [])) long ∙ columns
     where
       long : (length (row_fields row) == length (row_fields s.header)) ≡ true
       long = (λ j. length (e j) == length (header j)) ∙ nine
 
       columns : kind_faults s before row (row_kind (cell s row column.Kind)) ≡ []
       columns = ap (kind_faults s before row) is ∙ flat_none (cell_fault s before row k) all_columns all
-
-      pick : (b : Bool) → cond b [] (cond (length (row_fields row) == length (row_fields s.header)) (kind_faults s before row (row_kind (cell s row column.Kind))) (fault_where (last_place s row) fault.Fields ∷ [])) ≡ []
-      pick true = refl
-      pick false = ap (λ b. cond b (kind_faults s before row (row_kind (cell s row column.Kind))) (fault_where (last_place s row) fault.Fields ∷ [])) long ∙ columns
 
   empty_cell : (before : List TableRow) (row : TableRow) (k : RowKind) (c : TableColumn) → cell s row c ≡ [] → cell_fault s before row k c ≡ None
   empty_cell before row k c e = ap (λ t. cond (has_no_text t) None (cond (takes k c) (taken_fault s before row k c) (Some (fault_where (row_place s row c) (fault.NotTaken c))))) e
@@ -114,7 +111,7 @@ module _ (s : Sheet) (header : row_fields s.header ≡ header_cells) where
 
   -- ---- settings
 
-  none_set : (k : RowKind) (settings : List (List ℕ × List ℕ)) → AllIn (λ x. IsPlain x.0 × (trim x.1 ≡ x.1) × (bytes_eq x.0 (kind_name k) ≡ false)) settings → (v : Parts) (is : IsNormal v) → is_set_in s k (map (λ x. row_of (setting_cells x.0 x.1)) settings) ≡ false
+  none_set : (k : RowKind) (settings : List (List ℕ × List ℕ)) → AllIn (λ x. IsPlain x.0 × (trim x.1 ≡ x.1) × (str_eq_ignore_ascii_case x.0 (kind_name k) ≡ false)) settings → (v : Parts) (is : IsNormal v) → is_set_in s k (map (λ x. row_of (setting_cells x.0 x.1)) settings) ≡ false
   none_set k [] h v is = refl
   none_set k (x ∷ xs) h v is = λ j. (setting_kind s header v is x.0 x.1 k h.0.0 h.0.1 ∙ h.0.2) j || none_set k xs h.1 v is j
 
@@ -141,12 +138,12 @@ module _ (s : Sheet) (header : row_fields s.header ≡ header_cells) where
 
   -- ---- messages of data
 
-  receive_faultless : (to : List ℕ) → Says to (string to) → (n mask : ℕ) → n ≤ 30 → mask < 2 ^ 32 → IsFaultless (receive_row to n mask)
+  receive_faultless : (to : List ℕ) → IsWordCell to → (n mask : ℕ) → n ≤ 30 → mask < 2 ^ 32 → IsFaultless (receive_row to n mask)
   receive_faultless to t n mask l fits before = row_faultless before (row_of (receive_row to n mask)) (receive_row to n mask) kind.Receive (row_made (receive_row to n mask)) refl (ap row_kind (at column.Kind)) columns
     where
       at : (c : TableColumn) → cell s (row_of (receive_row to n mask)) c ≡ get_or (receive_row to n mask) (column_place c) []
       at c = cell_is s header (row_of (receive_row to n mask)) (receive_row to n mask) (row_made (receive_row to n mask))
-          (receive_cell.trimmed, (trim_nothing, ((two_cell n (omega arith)).trimmed, ((set_cell 1 mask (omega arith) fits).trimmed, (trim_nothing, (t.trimmed, (trim_nothing, ((truth_cell (not (mask == 0))).trimmed, (trim_nothing, tt))))))))) c
+          (receive_cell.trimmed, (trim_nothing, ((two_cell n (omega arith)).trimmed, ((set_cell 1 mask (omega arith) fits).trimmed, (trim_nothing, (t.says.trimmed, (trim_nothing, ((truth_cell (not (mask == 0))).trimmed, (trim_nothing, tt))))))))) c
 
       columns : (c : TableColumn) → cell_fault s before (row_of (receive_row to n mask)) kind.Receive c ≡ None
       columns column.Kind = taken_cell before (row_of (receive_row to n mask)) kind.Receive column.Kind refl refl
@@ -164,7 +161,7 @@ module _ (s : Sheet) (header : row_fields s.header ≡ header_cells) where
     where
       at : (c : TableColumn) → cell s (row_of (transmit_row n held)) c ≡ get_or (transmit_row n held) (column_place c) []
       at c = cell_is s header (row_of (transmit_row n held)) (transmit_row n held) (row_made (transmit_row n held))
-          (transmit_cell.trimmed, (trim_nothing, ((two_cell n (omega arith)).trimmed, ((set_cell 1 held.0 (omega arith) h.0).trimmed, (trim_nothing, (own_cell.trimmed, (trim_plain (words_cell held.1) (block_cell held.1 h.1).plain, ((truth_cell (not (held.0 == 0))).trimmed, (trim_nothing, tt))))))))) c
+          (transmit_cell.trimmed, (trim_nothing, ((two_cell n (omega arith)).trimmed, ((set_cell 1 held.0 (omega arith) h.0).trimmed, (trim_nothing, (own_cell.says.trimmed, (trim_plain (words_cell held.1) (block_cell held.1 h.1).plain, ((truth_cell (not (held.0 == 0))).trimmed, (trim_nothing, tt))))))))) c
 
       number : cell_number (cell s (row_of (transmit_row n held)) column.Subaddress) ≡ Some n
       number = ap cell_number (at column.Subaddress) ∙ two_number n (omega arith)
@@ -189,12 +186,12 @@ module _ (s : Sheet) (header : row_fields s.header ≡ header_cells) where
 
   -- ---- mode codes
 
-  codes_faultless : (to : List ℕ) → Says to (string to) → (mask : ℕ) → mask < 2 ^ 32 → IsFaultless (mode_codes_row to mask)
+  codes_faultless : (to : List ℕ) → IsWordCell to → (mask : ℕ) → mask < 2 ^ 32 → IsFaultless (mode_codes_row to mask)
   codes_faultless to t mask fits before = row_faultless before (row_of (mode_codes_row to mask)) (mode_codes_row to mask) kind.Mode (row_made (mode_codes_row to mask)) refl (ap row_kind (at column.Kind)) columns
     where
       at : (c : TableColumn) → cell s (row_of (mode_codes_row to mask)) c ≡ get_or (mode_codes_row to mask) (column_place c) []
       at c = cell_is s header (row_of (mode_codes_row to mask)) (mode_codes_row to mask) (row_made (mode_codes_row to mask))
-          (trim_plain (codes "mode") mode_plain, (trim_nothing, (trim_nothing, (trim_nothing, ((set_cell 0 mask (omega arith) fits).trimmed, (t.trimmed, (trim_nothing, ((truth_cell (not (mask == 0))).trimmed, (trim_nothing, tt))))))))) c
+          (trim_plain (codes "mode") mode_plain, (trim_nothing, (trim_nothing, (trim_nothing, ((set_cell 0 mask (omega arith) fits).trimmed, (t.says.trimmed, (trim_nothing, ((truth_cell (not (mask == 0))).trimmed, (trim_nothing, tt))))))))) c
 
       columns : (c : TableColumn) → cell_fault s before (row_of (mode_codes_row to mask)) kind.Mode c ≡ None
       columns column.Kind = taken_cell before (row_of (mode_codes_row to mask)) kind.Mode column.Kind refl refl
@@ -235,7 +232,7 @@ module _ (s : Sheet) (header : row_fields s.header ≡ header_cells) where
 
     -- a setting whose kind is known, behind settings of other kinds
     next_setting : (k : RowKind) (value : List ℕ) (settings : List (List ℕ × List ℕ)) (rows : List TableRow) → IsPlain (kind_name k) → trim value ≡ value → is_setting k ≡ true → row_kind (kind_name k) ≡ Some k → takes k column.Value ≡ true
-        → AllIn (λ x. IsPlain x.0 × (trim x.1 ≡ x.1) × (bytes_eq x.0 (kind_name k) ≡ false)) settings
+        → AllIn (λ x. IsPlain x.0 × (trim x.1 ≡ x.1) × (str_eq_ignore_ascii_case x.0 (kind_name k) ≡ false)) settings
         → rows_faults s (map (λ x. row_of (setting_cells x.0 x.1)) settings ++ row_of (setting_cells (kind_name k) value) ∷ []) rows ≡ []
         → rows_faults s (map (λ x. row_of (setting_cells x.0 x.1)) settings) (row_of (setting_cells (kind_name k) value) ∷ rows) ≡ []
     next_setting k value settings rows plain trimmed setting named taken other more =

@@ -1,7 +1,7 @@
 -- The full table as a sheet: its rows, and what their cells say.
 use Rattle.std.proofs.Common.{◌≡◌, ℕ, zero, suc, ◌+◌, ◌-◌, ◌||◌, ◌&&◌, Bool, false, not, cond, Some, List, [], ◌∷◌, ◌++◌, length, get_or, take, drop, codes, refl, ap, sym, ◌∙◌, append_assoc, length-append, arith}
 use Rattle.std.proofs.lemmas.List.{drop_at, take_at}
-use Rattle.std.specs.Str.{bytes_eq, trim}
+use Rattle.std.specs.Str.{str_eq_ignore_ascii_case, trim}
 use Rattle.csv.specs.Records.{cut_from, field_at}
 use Rattle.toml.specs.Data.{Data, Members}
 use Rattle.rt1553_import.specs.declared.column.TableColumn.{TableColumn}
@@ -90,9 +90,9 @@ text_put key text d ms h = ap (λ b. cond b ms (member_put key (cell_value text)
 
 -- the kinds of row that a text and initial words make
 abbrev pub is_entry_by : Entry → List ℕ → List ℕ → Bool
-is_entry_by entry.Rule kind initial = (bytes_eq kind (codes "receive") || bytes_eq kind (codes "transmit")) || bytes_eq kind (codes "both")
-is_entry_by entry.Mode kind initial = bytes_eq kind (codes "mode")
-is_entry_by entry.Initial kind initial = bytes_eq kind (codes "transmit") && not (has_no_text initial)
+is_entry_by entry.Rule kind initial = (str_eq_ignore_ascii_case kind (codes "receive") || str_eq_ignore_ascii_case kind (codes "transmit")) || str_eq_ignore_ascii_case kind (codes "both")
+is_entry_by entry.Mode kind initial = str_eq_ignore_ascii_case kind (codes "mode")
+is_entry_by entry.Initial kind initial = str_eq_ignore_ascii_case kind (codes "transmit") && not (has_no_text initial)
 
 module _ (s : Sheet) (header : row_fields s.header ≡ header_cells) where
   pub place_is : (c : TableColumn) → place_of s c ≡ Some (column_place c)
@@ -101,8 +101,8 @@ module _ (s : Sheet) (header : row_fields s.header ≡ header_cells) where
   pub cell_is : (row : TableRow) (fs : List (List ℕ)) → row_fields row ≡ fs → AllTrimmed fs → (c : TableColumn) → cell s row c ≡ get_or fs (column_place c) []
   cell_is row fs same trimmed c = (λ j. field_text (same j) (place_is c j)) ∙ trimmed_at fs (column_place c) trimmed
 
-  pub kind_is : (row : TableRow) (text : List ℕ) → cell s row column.Kind ≡ text → (k : RowKind) → is_kind s k row ≡ bytes_eq text (kind_name k)
-  kind_is row text is k = ap (λ t. bytes_eq t (kind_name k)) is
+  pub kind_is : (row : TableRow) (text : List ℕ) → cell s row column.Kind ≡ text → (k : RowKind) → is_kind s k row ≡ str_eq_ignore_ascii_case text (kind_name k)
+  kind_is row text is k = ap (λ t. str_eq_ignore_ascii_case t (kind_name k)) is
 
   pub entry_is : (row : TableRow) (text initial : List ℕ) → cell s row column.Kind ≡ text → cell s row column.Initial ≡ initial → (e : Entry) → is_entry s e row ≡ is_entry_by e text initial
   entry_is row text initial is held entry.Rule = λ j. (kind_is row text is kind.Receive j || kind_is row text is kind.Transmit j) || kind_is row text is kind.Both j

@@ -1,7 +1,7 @@
 -- The tree of the full table is the full tree.
 use Rattle.std.proofs.Common.{◌≡◌, ℕ, ◌^◌, ◌<◌, false, cond, pos, Option, Some, List, [], ◌∷◌, ◌++◌, map, filter, length, get_or, codes, refl, ap, sym, ◌∙◌, append-nil, arith}
 use Rattle.std.specs.List.{find, zip}
-use Rattle.std.specs.Str.{bytes_eq, trim}
+use Rattle.std.specs.Str.{str_eq_ignore_ascii_case, trim}
 use Rattle.toml.specs.Data.{Data, integer, boolean, array, Members, no_members}
 use Rattle.toml.specs.View.{items_of}
 use Rattle.bus_legal.specs.Parts.{Parts, IsBlock, IsNormal}
@@ -209,18 +209,18 @@ module _ (s : Sheet) (header : row_fields s.header ≡ header_cells) (v : Parts)
   setting_at kind value c a b =
       cell_is s header (row_of (setting_cells kind value)) (setting_cells kind value) (row_made (setting_cells kind value)) (trim_plain kind a, (b, (trim_nothing, (trim_nothing, (trim_nothing, (trim_nothing, (trim_nothing, (trim_nothing, (trim_nothing, tt))))))))) c
 
-  pub setting_kind : (kind value : List ℕ) (k : RowKind) → IsPlain kind → trim value ≡ value → is_kind s k (row_of (setting_cells kind value)) ≡ bytes_eq kind (kind_name k)
+  pub setting_kind : (kind value : List ℕ) (k : RowKind) → IsPlain kind → trim value ≡ value → is_kind s k (row_of (setting_cells kind value)) ≡ str_eq_ignore_ascii_case kind (kind_name k)
   setting_kind kind value k a b = kind_is s header (row_of (setting_cells kind value)) kind (setting_at kind value column.Kind a b) k
 
   -- the setting of a kind, by the texts of the kinds
   abbrev by_kind : RowKind → Option TableRow
   by_kind k =
-      cond (bytes_eq (codes "address") (kind_name k)) (Some (row_of (setting_cells (codes "address") (two_digits v.address))))
-      (cond (bytes_eq (codes "broadcast") (kind_name k)) (Some (row_of (setting_cells (codes "broadcast") (yes_no v.broadcast))))
-      (cond (bytes_eq (codes "wraparound") (kind_name k)) (Some (row_of (setting_cells (codes "wraparound") (wrap_cell v.wrap))))
-      (cond (bytes_eq (codes "accept_bus_control") (kind_name k)) (Some (row_of (setting_cells (codes "accept_bus_control") (yes_no v.accept))))
-      (cond (bytes_eq (codes "vector") (kind_name k)) (Some (row_of (setting_cells (codes "vector") (word_cell v.vector))))
-      (cond (bytes_eq (codes "bit") (kind_name k)) (Some (row_of (setting_cells (codes "bit") (word_cell v.bit))))
+      cond (str_eq_ignore_ascii_case (codes "address") (kind_name k)) (Some (row_of (setting_cells (codes "address") (two_digits v.address))))
+      (cond (str_eq_ignore_ascii_case (codes "broadcast") (kind_name k)) (Some (row_of (setting_cells (codes "broadcast") (yes_no v.broadcast))))
+      (cond (str_eq_ignore_ascii_case (codes "wraparound") (kind_name k)) (Some (row_of (setting_cells (codes "wraparound") (wrap_cell v.wrap))))
+      (cond (str_eq_ignore_ascii_case (codes "accept_bus_control") (kind_name k)) (Some (row_of (setting_cells (codes "accept_bus_control") (yes_no v.accept))))
+      (cond (str_eq_ignore_ascii_case (codes "vector") (kind_name k)) (Some (row_of (setting_cells (codes "vector") (word_cell v.vector))))
+      (cond (str_eq_ignore_ascii_case (codes "bit") (kind_name k)) (Some (row_of (setting_cells (codes "bit") (word_cell v.bit))))
       (find (is_kind s k) rest_rows))))))
 
   pub address_says : Says (two_digits v.address) (integer (pos v.address))

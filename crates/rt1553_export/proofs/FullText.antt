@@ -10,9 +10,10 @@ use Rattle.bus_profile.specs.Gives.{profile_of}
 use Rattle.bus_legal.specs.Parts.{Parts, IsNormal}
 use Rattle.rt1553_import.specs.declared.sheet.Sheet.{Sheet}
 use Rattle.csv_rows.specs.Csv.{IsCsv}
-use Rattle.csv_rows.specs.Rows.{AreRows}
+use Rattle.csv_rows.specs.Rows.{AreRowsBy, AreRows}
 use Rattle.csv_rows.proofs.WrittenLaws.{no_rows, written_row}
-use Rattle.rt1553_import.specs.Reading.{delimiter_of, row_fields, IsSheetOf}
+use Rattle.csv_rows.specs.Delimiter.{delimiter_of}
+use Rattle.rt1553_import.specs.Reading.{row_fields, IsSheetOf}
 use Rattle.rt1553_toml.specs.inner.FullTree.{from_number}
 use Rattle.rt1553_toml.proofs.TreeFaults.{AllIn, AllIn-append, length-map, length-from_number}
 use Rattle.rt1553_toml.proofs.TreeMeaning.{full_tree_gives}
@@ -23,6 +24,7 @@ use Rattle.rt1553_export.proofs.RowLaws.{length-zip}
 use Rattle.rt1553_export.proofs.FullSheet.{row_of, row_made}
 use Rattle.rt1553_export.proofs.FullTable.{full_table_tree}
 use Rattle.rt1553_export.proofs.FullFaults.{full_table_faultless}
+use Rattle.rt1553_export.proofs.FullKept.{full_kept}
 
 -- ---- rows that were written are read
 
@@ -91,13 +93,13 @@ unfolding row_bytes
 rows_csv [] = no_rows
 rows_csv (row ∷ rows) = written_row row (rows_text rows) (rows_csv rows)
 
-rows_are : (v : Parts) → AreRows (delimiter_of (full_text v)) (full_text v) (header_cells ∷ full_rows v)
-rows_are v =
+rows_are : (v : Parts) → IsNormal v → AreRows (full_text v) (header_cells ∷ full_rows v)
+rows_are v is =
     let rows = header_cells ∷ full_rows v in
     let plain : AreRecords default_config StartRecord (full_text v) rows = (StartRecord, [], rows_read rows (all_read v), ends) in
-    subst (λ d. AreRows d (full_text v) rows) (sym (commas v)) (record {
+    subst (λ d. AreRowsBy d (full_text v) rows) (sym (commas v)) (record {
       csv = subst (IsCsv 44) (sym (no_mark v)) (rows_csv rows);
-      records = subst (λ t. AreRecords default_config StartRecord t rows) (sym (no_mark v)) plain;
+      are = record { records = rows; read = subst (λ t. AreRecords default_config StartRecord t rows) (sym (no_mark v)) plain; kept = sym (full_kept v is) };
     })
 
 -- ---- a sheet with these rows
@@ -143,7 +145,7 @@ sheet_of block v is = record {
 
 sheet_read : (block : Vec ℕ Global) (v : Parts) (is : IsNormal v) → IsSheetOf (full_text v) (sheet_of block v is)
 unfolding sheet_of
-sheet_read block v is = record { records = header_cells ∷ full_rows v; read = rows_are v; has = (row_made header_cells, rows_made (full_rows v)) }
+sheet_read block v is = record { records = header_cells ∷ full_rows v; read = rows_are v is; has = (row_made header_cells, rows_made (full_rows v)) }
 
 -- the text is a table of the terminal
 pub full_is_table : (block : Vec ℕ Global) (v : Parts) → IsNormal v → IsTableOf (full_text v) v

@@ -2,6 +2,7 @@ pub mod CellValues
 pub mod FullAscii
 pub mod FullEntries
 pub mod FullFaults
+pub mod FullKept
 pub mod FullSheet
 pub mod FullTable
 pub mod FullText

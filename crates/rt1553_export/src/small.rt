@@ -50,11 +50,8 @@ fn push_settings(alloc: Global, text: &mut Vec<u8>, normal: &Normal) -> Result<(
     push_word(alloc, text, b"bit", normal.bit())
 }
 
-/// The text of word counts: none where all are meant.
+/// The text of word counts.
 fn counts_text(alloc: Global, counts: u32) -> Result<String, AllocError> {
-    if counts == u32::MAX {
-        return Ok(String::new(alloc));
-    }
     format!(in alloc;
         "{}",
         Numbers {

@@ -1,12 +1,12 @@
 -- Numbers in cells.
-use Rattle.std.proofs.Common.{◌≡◌, ℕ, zero, suc, ◌^◌, ◌<◌, ◌≤◌, ◌&&◌, nat_lt, Bool, true, false, cond, Option, Some, None, List, [], ◌∷◌, ◌++◌, map, option_map, Bor, drop, refl, sym, ap, subst, ◌∙◌, arith}
+use Rattle.std.proofs.Common.{◌≡◌, ℕ, zero, suc, min, ◌+◌, ◌^◌, ◌<◌, ◌≤◌, ◌==◌, ◌&&◌, nat_lt, not, Bool, true, false, cond, Option, Some, None, List, [], ◌∷◌, ◌++◌, map, option_map, Bor, length, drop, slice_index_or, refl, sym, ap, subst, ◌∙◌, arith}
 use Rattle.std.specs.Char.{is_digit, digit_value}
 use Rattle.std.specs.List.{list_all}
 use Rattle.std.specs.Str.{IsUtf8, IsAscii}
 use Rattle.std.specs.Str.Parse.{AllDigits, IsNumeral, digits_value, without_leading_plus}
 use Rattle.std.proofs.lemmas.Bool.Decides.{nat_tests}
+use Rattle.std.proofs.lemmas.List.{drop_more, drop_all}
 use Rattle.std.proofs.lemmas.Str.{IsUtf8-from_ascii}
-use Rattle.rt1553_import.specs.inner.Texts.{has_plus}
 use Rattle.rt1553_import.specs.Cells.{is_numeral, number_in, words_of_parts}
 
 both : (a b : Bool) → (a && b) ≡ true → (a ≡ true) × (b ≡ true)
@@ -26,7 +26,7 @@ digits_to radix (c ∷ cs) h =
     let here : is_digit c radix ≡ true = grind (arith, nat_tests, h.0) in
     λ j. here j && digits_to radix cs h.1 j
 
-numeral_from : (radix : ℕ) (text : List ℕ) → is_numeral radix text ≡ true → IsNumeral radix text
+pub numeral_from : (radix : ℕ) (text : List ℕ) → is_numeral radix text ≡ true → IsNumeral radix text
 numeral_from radix [] e = cc e
 numeral_from radix (c ∷ cs) e = (omega arith, digits_from radix (c ∷ cs) e)
 
@@ -37,17 +37,12 @@ numeral_to radix (c ∷ cs) h = digits_to radix (c ∷ cs) h.1
 -- the number of a text that is a numeral and small enough
 pub number_there : (radix : ℕ) (text : List ℕ) → IsNumeral radix text → digits_value radix text < 2 ^ 32 → number_in radix text ≡ Some (digits_value radix text)
 number_there radix text is low =
-    let small : nat_lt (digits_value radix text) (2 ^ 32) ≡ true = grind (arith, nat_tests) in
-    λ j. cond (numeral_to radix text is j && small j) (Some (digits_value radix text)) None
+    let same : min (digits_value radix text) 4294967295 ≡ digits_value radix text = omega (arith, low) in
+    λ j. cond (numeral_to radix text is j) (Some (same j)) None
 
--- no number of a text that is none, or not small enough
-pub number_none : (radix : ℕ) (text : List ℕ) → (IsNumeral radix text × (digits_value radix text < 2 ^ 32) → ⊥) → number_in radix text ≡ None
-number_none radix text wrong = by_test (is_numeral radix text) (nat_lt (digits_value radix text) (2 ^ 32)) refl refl
-  where
-    by_test : (a b : Bool) → is_numeral radix text ≡ a → nat_lt (digits_value radix text) (2 ^ 32) ≡ b → cond (a && b) (Some (digits_value radix text)) None ≡ None
-    by_test false b e f = refl
-    by_test true false e f = refl
-    by_test true true e f = let low : digits_value radix text < 2 ^ 32 = grind (arith, nat_tests) in absurd (wrong (numeral_from radix text e, low))
+-- no number of a text that is none
+pub number_none : (radix : ℕ) (text : List ℕ) → is_numeral radix text ≡ false → None ≡ number_in radix text
+number_none radix text wrong = sym (ap (λ b. cond b (Some (min (digits_value radix text) 4294967295)) None) wrong)
 
 -- a digit is an ASCII character
 digit_low : (c : ℕ) → digit_value c < 36 → c < 128
@@ -66,33 +61,64 @@ ascii_from radix (c ∷ cs) few h (suc i) = ascii_from radix cs few h.1 i
 pub numeral_is_text : (radix : ℕ) (text : List ℕ) → radix ≤ 36 → IsNumeral radix text → IsUtf8 text
 numeral_is_text radix text few is = IsUtf8-from_ascii text (ascii_from radix text few is.1)
 
--- a text without a plus in front is all digits or none
-no_plus : (text : List ℕ) → has_plus text ≡ false → without_leading_plus text ≡ text
-no_plus [] e = refl
-no_plus (b ∷ bs) e = ap (λ t. drop (cond t 1 0) (b ∷ bs)) e
+-- a numeral has no plus in front
+no_plus : (radix : ℕ) (text : List ℕ) → radix ≤ 36 → IsNumeral radix text → without_leading_plus text ≡ text
+no_plus radix [] few is = refl
+no_plus radix (b ∷ bs) few is = ap (λ t. drop (cond t 1 0) (b ∷ bs)) (by_test (b == 43) refl)
+  where
+    by_test : (t : Bool) → (b == 43) ≡ t → (b == 43) ≡ false
+    by_test false e = e
+    by_test true e =
+        let plus_is : b ≡ 43 = grind (arith, nat_tests) in
+        let low : digit_value 43 < radix = subst (λ c. digit_value c < radix) plus_is is.1.0 in
+        absurd (omega (arith, low, few))
 
-pub number_read : (radix : ℕ) (digits text : List ℕ) (n : ℕ) → has_plus digits ≡ false → text ≡ digits
+pub number_read : (radix : ℕ) (digits text : List ℕ) (n : ℕ) → radix ≤ 36 → is_numeral radix digits ≡ true → text ≡ digits
     → (IsNumeral radix (without_leading_plus text) × (digits_value radix (without_leading_plus text) < 2 ^ 32)) × (n ≡ digits_value radix (without_leading_plus text)) → Some n ≡ number_in radix digits
-number_read radix digits text n plain same h =
-    let whole : without_leading_plus text ≡ digits = ap without_leading_plus same ∙ no_plus digits plain in
+number_read radix digits text n few is same h =
+    let whole : without_leading_plus text ≡ digits = ap without_leading_plus same ∙ no_plus radix digits few (numeral_from radix digits is) in
     let fits = subst (λ t. IsNumeral radix t × (digits_value radix t < 2 ^ 32)) whole h.0 in
     ap Some (h.1 ∙ ap (digits_value radix) whole) ∙ sym (number_there radix digits fits.0 fits.1)
 
-pub number_wrong : (radix : ℕ) (digits text : List ℕ) → has_plus digits ≡ false → text ≡ digits
-    → (IsNumeral radix (without_leading_plus text) × (digits_value radix (without_leading_plus text) < 2 ^ 32) → ⊥) → None ≡ number_in radix digits
-number_wrong radix digits text plain same wrong =
-    let whole : without_leading_plus text ≡ digits = ap without_leading_plus same ∙ no_plus digits plain in
-    sym (number_none radix digits (λ h. wrong (subst (λ t. IsNumeral radix t × (digits_value radix t < 2 ^ 32)) (sym whole) h)))
+pub number_large : (radix : ℕ) (digits text : List ℕ) → radix ≤ 36 → is_numeral radix digits ≡ true → text ≡ digits
+    → (IsNumeral radix (without_leading_plus text) × (digits_value radix (without_leading_plus text) < 2 ^ 32) → ⊥) → Some 4294967295 ≡ number_in radix digits
+number_large radix digits text few is same wrong =
+    λ j. cond (sym is j) (Some (sym top j)) None
+  where
+    numeral : IsNumeral radix digits
+    numeral = numeral_from radix digits is
 
-plus_high : (radix : ℕ) (text : List ℕ) → radix ≤ 36 → has_plus text ≡ true → IsNumeral radix text → ⊥
-plus_high radix [] few plus is = cc plus
-plus_high radix (b ∷ bs) few plus is =
-    let plus_is : b ≡ 43 = grind (arith, nat_tests) in
-    let low : digit_value 43 < radix = subst (λ c. digit_value c < radix) plus_is is.1.0 in
-    omega (arith, low, few)
+    whole : without_leading_plus text ≡ digits
+    whole = ap without_leading_plus same ∙ no_plus radix digits few numeral
 
-pub number_plus : (radix : ℕ) (text : List ℕ) → radix ≤ 36 → has_plus text ≡ true → None ≡ number_in radix text
-number_plus radix text few plus = sym (number_none radix text (λ h. plus_high radix text few plus h.0))
+    by_test : (t : Bool) → nat_lt (digits_value radix digits) (2 ^ 32) ≡ t → min (digits_value radix digits) 4294967295 ≡ 4294967295
+    by_test true e =
+        let low : digits_value radix digits < 2 ^ 32 = grind (arith, nat_tests) in
+        absurd (wrong (subst (λ t. IsNumeral radix t × (digits_value radix t < 2 ^ 32)) (sym whole) (numeral, low)))
+    by_test false e = let high : 2 ^ 32 ≤ digits_value radix digits = grind (arith, nat_tests) in omega (arith, high)
+
+    top : min (digits_value radix digits) 4294967295 ≡ 4294967295
+    top = by_test (nat_lt (digits_value radix digits) (2 ^ 32)) refl
+
+-- ---- digit by digit
+
+pub digit_not : (radix : ℕ) (text : List ℕ) (i : ℕ) (all : Bool) → i < length text → is_digit (slice_index_or text i 0) radix ≡ false → list_all (λ c. is_digit c radix) (drop i text) ≡ all → false ≡ all
+digit_not radix text i all within not_digit so_far =
+    sym (ap (list_all (λ c. is_digit c radix)) (drop_more text i 0 within) ∙ ap (λ b. b && list_all (λ c. is_digit c radix) (drop (i + 1) text)) not_digit) ∙ so_far
+
+pub digit_on : (radix : ℕ) (text : List ℕ) (i : ℕ) (all : Bool) → i < length text → is_digit (slice_index_or text i 0) radix ≡ true → list_all (λ c. is_digit c radix) (drop i text) ≡ all → list_all (λ c. is_digit c radix) (drop (i + 1) text) ≡ all
+digit_on radix text i all within digit so_far =
+    sym (ap (list_all (λ c. is_digit c radix)) (drop_more text i 0 within) ∙ ap (λ b. b && list_all (λ c. is_digit c radix) (drop (i + 1) text)) digit) ∙ so_far
+
+pub none_is_numeral : (radix : ℕ) (text : List ℕ) → false ≡ list_all (λ c. is_digit c radix) text → false ≡ is_numeral radix text
+none_is_numeral radix [] e = refl
+none_is_numeral radix (c ∷ cs) e = e
+
+pub all_digits : (radix : ℕ) (text : List ℕ) (i : ℕ) (empty : Bool) → length text ≤ i → list_all (λ c. is_digit c radix) (drop i text) ≡ list_all (λ c. is_digit c radix) text → empty ≡ (length text == 0) → not empty ≡ is_numeral radix text
+all_digits radix [] i empty over so_far is = ap (λ b. not b) is
+all_digits radix (c ∷ cs) i empty over so_far is =
+    let some : (length (c ∷ cs) == 0) ≡ false = grind (arith, nat_tests) in
+    ap (λ b. not b) (is ∙ some) ∙ (sym (ap (list_all (λ c. is_digit c radix)) (drop_all i (c ∷ cs) over)) ∙ so_far)
 
 -- ---- words
 

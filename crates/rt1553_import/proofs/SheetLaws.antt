@@ -1,7 +1,7 @@
 -- A text is one table: the tables whose records are those of the text have one tree.
 use Rattle.std.proofs.Common.{◌≡◌, ℕ, Bool, true, false, cond, ◌||◌, ◌&&◌, not, Option, Some, None, List, [], ◌∷◌, map, filter, codes, refl, sym, ap, subst, ◌∙◌}
 use Rattle.std.specs.List.{find}
-use Rattle.std.specs.Str.{bytes_eq}
+use Rattle.std.specs.Str.{str_to_ascii_lowercase, str_eq_ignore_ascii_case}
 use Rattle.csv.specs.Machine.{Read, next_record}
 use Rattle.csv.specs.Reading.{Reached, AreRecords, strip_bom}
 use Rattle.csv.specs.declared.parser.Config.{Config}
@@ -20,8 +20,9 @@ use Rattle.rt1553_import.specs.declared.tree.Entry.TheVariants as entry
 use Rattle.rt1553_import.specs.Columns.{column_name, place_from, field_text, cell}
 use Rattle.rt1553_import.specs.Kinds.{kind_name}
 use Rattle.rt1553_import.specs.Cells.{has_no_text}
-use Rattle.csv_rows.specs.Rows.{csv_config}
-use Rattle.rt1553_import.specs.Reading.{delimiter_of, row_fields, HasRecords, IsSheetOf}
+use Rattle.csv_rows.specs.Delimiter.{delimiter_of}
+use Rattle.csv_rows.specs.Rows.{csv_config, kept_rows}
+use Rattle.rt1553_import.specs.Reading.{row_fields, HasRecords, IsSheetOf}
 use Rattle.rt1553_import.specs.Tree.{member_put, with_text, with_entries, words_data, is_kind, is_entry, entry_data, entries_of, value_in, setting_text, table_tree}
 
 -- ---- a text has no other records
@@ -68,7 +69,7 @@ module _ (a b : Sheet) (header : row_fields a.header ≡ row_fields b.header) wh
   cell_alike r q same c = λ j. field_text (same j) (place_from (column_name c) 0 (header j))
 
   kind_alike : (k : RowKind) (r q : TableRow) → row_fields r ≡ row_fields q → is_kind a k r ≡ is_kind b k q
-  kind_alike k r q same = ap (λ t. bytes_eq t (kind_name k)) (cell_alike r q same column.Kind)
+  kind_alike k r q same = ap (λ t. str_eq_ignore_ascii_case t (kind_name k)) (cell_alike r q same column.Kind)
 
   is_entry_alike : (e : Entry) (r q : TableRow) → row_fields r ≡ row_fields q → is_entry a e r ≡ is_entry b e q
   is_entry_alike entry.Rule r q same = λ j. (kind_alike kind.Receive r q same j || kind_alike kind.Transmit r q same j) || kind_alike kind.Both r q same j
@@ -78,11 +79,11 @@ module _ (a b : Sheet) (header : row_fields a.header ≡ row_fields b.header) wh
   entry_alike : (e : Entry) (r q : TableRow) → row_fields r ≡ row_fields q → entry_data a e r ≡ entry_data b e q
   entry_alike entry.Rule r q same =
       let at = cell_alike r q same in
-      λ j. table (with_text (codes "legal") (at column.Legal j) (with_text (codes "to") (at column.To j)
-      (with_text (codes "counts") (at column.Words j) (with_text (codes "subaddresses") (at column.Subaddress j) (with_text (codes "direction") (at column.Kind j) no_members)))))
+      λ j. table (with_text (codes "legal") (at column.Legal j) (with_text (codes "to") (str_to_ascii_lowercase (at column.To j))
+      (with_text (codes "counts") (at column.Words j) (with_text (codes "subaddresses") (at column.Subaddress j) (with_text (codes "direction") (str_to_ascii_lowercase (at column.Kind j)) no_members)))))
   entry_alike entry.Mode r q same =
       let at = cell_alike r q same in
-      λ j. table (with_text (codes "legal") (at column.Legal j) (with_text (codes "to") (at column.To j) (with_text (codes "codes") (at column.Code j) no_members)))
+      λ j. table (with_text (codes "legal") (at column.Legal j) (with_text (codes "to") (str_to_ascii_lowercase (at column.To j)) (with_text (codes "codes") (at column.Code j) no_members)))
   entry_alike entry.Initial r q same =
       let at = cell_alike r q same in
       λ j. table (member_put (codes "words") (array (items_of (words_data (at column.Initial j)))) (with_text (codes "subaddress") (at column.Subaddress j) no_members))
@@ -135,5 +136,6 @@ parts_alike a b (p ∷ ps) (q ∷ qs) e x y =
 
 pub one_table : (text : List ℕ) (a b : Sheet) → IsSheetOf text a → IsSheetOf text b → table_tree a ≡ table_tree b
 one_table text a b x y =
-    let parts = parts_alike a b x.records y.records (records_one (csv_config (delimiter_of text)) StartRecord (strip_bom text) x.records y.records x.read.records y.read.records) x.has y.has in
+    let same = records_one (csv_config (delimiter_of text)) StartRecord (strip_bom text) x.read.are.records y.read.are.records x.read.are.read y.read.are.read in
+    let parts = parts_alike a b x.records y.records (x.read.are.kept ∙ (ap kept_rows same ∙ sym y.read.are.kept)) x.has y.has in
     tree_alike a b parts.0 (alike_from a.rows.items b.rows.items parts.1)

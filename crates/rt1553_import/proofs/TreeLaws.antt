@@ -2,6 +2,7 @@
 use Rattle.std.proofs.Common.{◌≡◌, ℕ, ◌≤◌, Bool, true, false, cond, ◌&&◌, Option, Some, None, List, [], ◌∷◌, map, Ordering, Less, Equal, Greater, refl, arith}
 use Rattle.std.specs.Ordering.{nat_cmp, match_ordering}
 use Rattle.std.specs.Cmp.Lexicographic.{slice_cmp}
+use Rattle.std.specs.Str.{str_to_ascii_lowercase}
 use Rattle.toml.specs.Data.{Data, array, table, Members, no_members, member, depth, items_depth, members_depth, has_valid_dates, items_have_valid_dates, members_have_valid_dates}
 use Rattle.toml.specs.View.{items_of}
 use Rattle.rt1553_import.specs.declared.column.TableColumn.TheVariants as column
@@ -84,10 +85,10 @@ table_low : (ms : Members) → AreLow 1 ms → IsLow 2 (table ms)
 table_low ms a = record { low = omega (arith, a.low); dates = a.dates }
 
 rule_low : (s : Sheet) (r : TableRow) → IsLow 2 (rule_entry_data s r)
-rule_low s r = table_low _ (text_low 1 _ (cell s r column.Legal) _ (text_low 1 _ (cell s r column.To) _ (text_low 1 _ (cell s r column.Words) _ (text_low 1 _ (cell s r column.Subaddress) _ (text_low 1 _ (cell s r column.Kind) _ (none_low 1))))))
+rule_low s r = table_low _ (text_low 1 _ (cell s r column.Legal) _ (text_low 1 _ (str_to_ascii_lowercase (cell s r column.To)) _ (text_low 1 _ (cell s r column.Words) _ (text_low 1 _ (cell s r column.Subaddress) _ (text_low 1 _ (str_to_ascii_lowercase (cell s r column.Kind)) _ (none_low 1))))))
 
 mode_low : (s : Sheet) (r : TableRow) → IsLow 2 (mode_entry_data s r)
-mode_low s r = table_low _ (text_low 1 _ (cell s r column.Legal) _ (text_low 1 _ (cell s r column.To) _ (text_low 1 _ (cell s r column.Code) _ (none_low 1))))
+mode_low s r = table_low _ (text_low 1 _ (cell s r column.Legal) _ (text_low 1 _ (str_to_ascii_lowercase (cell s r column.To)) _ (text_low 1 _ (cell s r column.Code) _ (none_low 1))))
 
 initial_low : (s : Sheet) (r : TableRow) → IsLow 2 (initial_entry_data s r)
 initial_low s r = table_low _ (put_low 1 _ _ _ (each_low (cell_words (cell s r column.Initial))) (text_low 1 _ (cell s r column.Subaddress) _ (none_low 1)))

@@ -1,8 +1,8 @@
 -- What the texts of cells say: values of the profile, and words.
-use Rattle.std.specs.Prelude.{ℕ, ◌^◌, ◌||◌, ◌&&◌, nat_lt, nat_le, ◌==◌, Bool, true, false, if◌then◌else◌, pos, List, [], ◌∷◌, drop, length, Option, Some, None, codes}
+use Rattle.std.specs.Prelude.{ℕ, min, not, ◌||◌, ◌&&◌, nat_le, ◌==◌, Bool, true, false, if◌then◌else◌, pos, List, [], ◌∷◌, drop, length, Option, Some, None, codes}
 use Rattle.std.specs.List.{slice_split, list_all}
 use Rattle.std.specs.Char.{is_digit}
-use Rattle.std.specs.Str.{bytes_eq}
+use Rattle.std.specs.Str.{str_eq_ignore_ascii_case}
 use Rattle.std.specs.Str.Parse.{digits_value}
 use Rattle.toml.specs.Data.{Data, string, integer, boolean}
 
@@ -13,12 +13,11 @@ has_no_text (b ∷ bs) = false
 
 -- digits of this radix, one or more, and nothing else
 abbrev pub is_numeral : ℕ → List ℕ → Bool
-is_numeral radix [] = false
-is_numeral radix text = list_all (λ c. is_digit c radix) text
+is_numeral radix text = not (has_no_text text) && list_all (λ c. is_digit c radix) text
 
--- the number that digits of this radix write, if it is below 2 ^ 32
+-- the number that digits of this radix write, or 2 ^ 32 - 1 for all above, which no value of a profile reaches
 abbrev pub number_in : ℕ → List ℕ → Option ℕ
-number_in radix text = if is_numeral radix text && nat_lt (digits_value radix text) (2 ^ 32) then Some (digits_value radix text) else None
+number_in radix text = if is_numeral radix text then Some (min (digits_value radix text) 4294967295) else None
 
 -- the text begins with `0x`
 abbrev pub is_hexadecimal : List ℕ → Bool
@@ -29,13 +28,13 @@ is_hexadecimal _ = false
 abbrev pub cell_number : List ℕ → Option ℕ
 cell_number text = if is_hexadecimal text then number_in 16 (drop 2 text) else number_in 10 text
 
--- a spelling of true: `yes`, `true` or `TRUE`
+-- a spelling of true: `yes` or `true`, in any capitals
 abbrev pub is_yes : List ℕ → Bool
-is_yes text = bytes_eq text (codes "yes") || bytes_eq text (codes "true") || bytes_eq text (codes "TRUE")
+is_yes text = str_eq_ignore_ascii_case text (codes "yes") || str_eq_ignore_ascii_case text (codes "true")
 
--- a spelling of false: `no`, `false` or `FALSE`
+-- a spelling of false: `no` or `false`, in any capitals
 abbrev pub is_no : List ℕ → Bool
-is_no text = bytes_eq text (codes "no") || bytes_eq text (codes "false") || bytes_eq text (codes "FALSE")
+is_no text = str_eq_ignore_ascii_case text (codes "no") || str_eq_ignore_ascii_case text (codes "false")
 
 -- the truth value that a text names
 abbrev pub cell_truth : List ℕ → Option Bool

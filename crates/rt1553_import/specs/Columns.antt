@@ -1,7 +1,7 @@
 -- The columns of a table that count, and the text of a row in a column.
 use Rattle.std.specs.Prelude.{ℕ, ◌+◌, Bool, false, List, [], ◌∷◌, drop, Option, Some, None, codes}
 use Rattle.std.specs.List.{position_from}
-use Rattle.std.specs.Str.{bytes_eq, trim}
+use Rattle.std.specs.Str.{str_eq_ignore_ascii_case, trim}
 use Rattle.csv.specs.Records.{fields_of, field_at}
 use Rattle.rt1553_import.specs.declared.column.TableColumn.{TableColumn}
 use Rattle.rt1553_import.specs.declared.column.TableColumn.TheVariants as column
@@ -25,14 +25,14 @@ column_name column.Name = codes "name"
 abbrev pub all_columns : List TableColumn
 all_columns = column.Kind ∷ column.Value ∷ column.Subaddress ∷ column.Words ∷ column.Code ∷ column.To ∷ column.Initial ∷ column.Legal ∷ column.Name ∷ []
 
--- the field is there and has this text
+-- the field is there and has this text, but for capitals
 abbrev pub is_field : List ℕ → Option (List ℕ) → Bool
 is_field text None = false
-is_field text (Some field) = bytes_eq field text
+is_field text (Some field) = str_eq_ignore_ascii_case field text
 
--- the place, from 0, of the first field with this text, from a start on
+-- the place, from 0, of the first field with this text, but for capitals, from a start on
 abbrev pub place_from : List ℕ → ℕ → List (List ℕ) → Option ℕ
-place_from text start fields = position_from (λ field. bytes_eq field text) start (drop start fields)
+place_from text start fields = position_from (λ field. str_eq_ignore_ascii_case field text) start (drop start fields)
 
 -- the place of a column in the header
 abbrev pub place_of : Sheet → TableColumn → Option ℕ

@@ -1,7 +1,7 @@
 -- What the rows of a table are, and which columns each kind takes.
 use Rattle.std.specs.Prelude.{ℕ, Bool, true, false, not, List, [], ◌∷◌, Option, codes}
 use Rattle.std.specs.List.{find}
-use Rattle.std.specs.Str.{bytes_eq}
+use Rattle.std.specs.Str.{str_eq_ignore_ascii_case}
 use Rattle.rt1553_import.specs.declared.column.TableColumn.{TableColumn}
 use Rattle.rt1553_import.specs.declared.column.TableColumn.TheVariants as column
 use Rattle.rt1553_import.specs.declared.kind.RowKind.{RowKind}
@@ -24,9 +24,9 @@ kind_name kind.Mode = codes "mode"
 abbrev pub all_kinds : List RowKind
 all_kinds = kind.Address ∷ kind.Broadcast ∷ kind.Wraparound ∷ kind.AcceptBusControl ∷ kind.Vector ∷ kind.Bit ∷ kind.Receive ∷ kind.Transmit ∷ kind.Both ∷ kind.Mode ∷ []
 
--- the kind that a text names
+-- the kind that a text names, in any capitals
 abbrev pub row_kind : List ℕ → Option RowKind
-row_kind text = find (λ k. bytes_eq text (kind_name k)) all_kinds
+row_kind text = find (λ k. str_eq_ignore_ascii_case text (kind_name k)) all_kinds
 
 -- a message of data
 abbrev pub is_message : RowKind → Bool

@@ -7,4 +7,3 @@ pub mod Places
 pub mod Reading
 pub mod NoTable
 pub mod Import
-pub mod inner

@@ -1,14 +1,11 @@
 -- Why a text is no table.
 use Rattle.std.specs.Prelude.{ℕ, ◌<◌, List, [], length, get_or, ⊤}
-use Rattle.csv.specs.Reading.{strip_bom}
 use Rattle.csv.specs.Records.{AllText}
 use Rattle.csv_rows.specs.declared.rows.CsvFault.{CsvFault}
 use Rattle.csv_rows.specs.declared.rows.CsvFault.TheVariants as csv
-use Rattle.csv_rows.specs.Csv.{IsBrokenAt}
-use Rattle.csv_rows.specs.Rows.{AreRows}
+use Rattle.csv_rows.specs.Rows.{AreRows, AreNoRows}
 use Rattle.rt1553_import.specs.declared.fault.ImportFault.{ImportFault}
-use Rattle.rt1553_import.specs.declared.fault.ImportFault.TheVariants.{Faults, NotText, NotCsv, Memory}
-use Rattle.rt1553_import.specs.Reading.{delimiter_of}
+use Rattle.rt1553_import.specs.declared.fault.ImportFault.TheVariants.{Faults, LongNames, NotText, NotCsv, Memory}
 
 -- the same fault, of a table
 abbrev pub table_fault_of : CsvFault → ImportFault
@@ -30,12 +27,13 @@ IsUnreadable rows _ = ⊥
 -- the text is CSV, and one of its rows is not UTF-8
 pub record IsUntext (text : List ℕ) : Type 0 where
   pub rows : List (List (List ℕ))
-  pub read : AreRows (delimiter_of text) text rows
+  pub read : AreRows text rows
   pub has : HasNoText rows
 
 -- why a text is no table: it is no CSV, or not UTF-8; want of memory says nothing of it
 abbrev pub IsNoTable : List ℕ → ImportFault → Type 0
 IsNoTable text (Faults faults) = ⊥
 IsNoTable text (NotText line) = IsUntext text
-IsNoTable text (NotCsv place) = IsBrokenAt (delimiter_of text) (strip_bom text) place
+IsNoTable text (LongNames place) = ⊥
+IsNoTable text (NotCsv place) = AreNoRows text (csv.NotCsv place)
 IsNoTable text Memory = ⊤

@@ -1,14 +1,9 @@
 -- How a text is read as a table.
-use Rattle.std.specs.Prelude.{◌≡◌, ℕ, ◌==◌, if◌then◌else◌, List, [], ◌∷◌, map}
+use Rattle.std.specs.Prelude.{◌≡◌, ℕ, List, [], ◌∷◌, map}
 use Rattle.csv.specs.Records.{fields_of}
 use Rattle.csv_rows.specs.Rows.{AreRows}
 use Rattle.rt1553_import.specs.declared.sheet.Sheet.{Sheet}
 use Rattle.rt1553_import.specs.declared.sheet.TableRow.{TableRow}
-
--- what stands between two fields: a semicolon, if the first line of the text has one, and otherwise a comma
-abbrev pub delimiter_of : List ℕ → ℕ
-delimiter_of [] = 44
-delimiter_of (b ∷ bs) = if b == 10 then 44 else if b == 59 then 59 else delimiter_of bs
 
 -- the fields of a row
 abbrev pub row_fields : TableRow → List (List ℕ)
@@ -22,5 +17,5 @@ HasRecords (header ∷ rows) sheet = (row_fields sheet.header ≡ header) × (ma
 -- the text is CSV, and its records are those of the table
 pub record IsSheetOf (text : List ℕ) (sheet : Sheet) : Type 0 where
   pub records : List (List (List ℕ))
-  pub read : AreRows (delimiter_of text) text records
+  pub read : AreRows text records
   pub has : HasRecords records sheet

@@ -1,6 +1,6 @@
 -- The faults of a table itself, apart from the profile that it says.
 use Rattle.std.specs.Prelude.{ℕ, ◌+◌, ◌==◌, ◌&&◌, min, Bool, if◌then◌else◌, is_none, List, [], ◌∷◌, ◌++◌, flat_map, length, Option, Some, None}
-use Rattle.std.specs.List.{list_all, list_any}
+use Rattle.std.specs.List.{list_any}
 use Rattle.csv.specs.Records.{fields_of}
 use Rattle.rt1553_import.specs.declared.column.TableColumn.{TableColumn}
 use Rattle.rt1553_import.specs.declared.column.TableColumn.TheVariants as column
@@ -92,15 +92,10 @@ kind_faults sheet before row (Some k) = flat_map (λ c. fault_if_any (cell_fault
 abbrev pub last_place : Sheet → TableRow → CellPlace
 last_place sheet row = record { row = row.line; column = min (length (fields_of row.fields)) (length (fields_of sheet.header.fields)) }
 
--- a row whose fields are all empty says nothing
-abbrev pub is_blank_row : TableRow → Bool
-is_blank_row row = list_all has_no_text (fields_of row.fields)
-
 -- the faults of a row, with the rows before it
 abbrev pub row_faults : Sheet → List TableRow → TableRow → List TableFault
 row_faults sheet before row =
-    if is_blank_row row then []
-    else if length (fields_of row.fields) == length (fields_of sheet.header.fields) then kind_faults sheet before row (row_kind (cell sheet row column.Kind))
+    if length (fields_of row.fields) == length (fields_of sheet.header.fields) then kind_faults sheet before row (row_kind (cell sheet row column.Kind))
     else fault_where (last_place sheet row) fault.Fields ∷ []
 
 -- the faults of rows, behind other rows

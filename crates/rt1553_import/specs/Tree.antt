@@ -3,7 +3,7 @@ use Rattle.std.specs.Prelude.{ℕ, Bool, true, false, not, ◌||◌, ◌&&◌, i
 use Rattle.std.specs.List.{find}
 use Rattle.std.specs.Ordering.{nat_cmp, match_ordering}
 use Rattle.std.specs.Cmp.Lexicographic.{slice_cmp}
-use Rattle.std.specs.Str.{bytes_eq}
+use Rattle.std.specs.Str.{str_to_ascii_lowercase, str_eq_ignore_ascii_case}
 use Rattle.toml.specs.Data.{Data, integer, array, table, Members, no_members, member}
 use Rattle.toml.specs.View.{items_of}
 use Rattle.rt1553_import.specs.declared.column.TableColumn.TheVariants as column
@@ -19,9 +19,9 @@ use Rattle.rt1553_import.specs.Cells.{has_no_text, cell_words, cell_value}
 
 -- ---- which rows become what
 
--- the row is of this kind
+-- the row is of this kind, in any capitals
 abbrev pub is_kind : Sheet → RowKind → TableRow → Bool
-is_kind sheet k row = bytes_eq (cell sheet row column.Kind) (kind_name k)
+is_kind sheet k row = str_eq_ignore_ascii_case (cell sheet row column.Kind) (kind_name k)
 
 -- the row is a message of data
 abbrev pub is_data_row : Sheet → TableRow → Bool
@@ -44,6 +44,10 @@ member_put k d (member l e ms) = match_ordering (slice_cmp nat_cmp k l) (member 
 abbrev pub with_text : List ℕ → List ℕ → Members → Members
 with_text key text ms = if has_no_text text then ms else member_put key (cell_value text) ms
 
+-- a text with small letters in place of capitals, at a key, where there is a text
+abbrev pub with_small_text : List ℕ → List ℕ → Members → Members
+with_small_text key text ms = with_text key (str_to_ascii_lowercase text) ms
+
 -- the list is empty
 abbrev pub has_none : List Data → Bool
 has_none [] = true
@@ -57,7 +61,7 @@ with_entries key ds ms = if has_none ds then ms else member_put key (array (item
 
 -- to which address the commands of a row go, and whether they are legal
 abbrev pub with_scope : Sheet → TableRow → Members → Members
-with_scope sheet row ms = with_text (codes "legal") (cell sheet row column.Legal) (with_text (codes "to") (cell sheet row column.To) ms)
+with_scope sheet row ms = with_text (codes "legal") (cell sheet row column.Legal) (with_small_text (codes "to") (cell sheet row column.To) ms)
 
 -- a message of data, as a rule
 abbrev pub rule_entry_data : Sheet → TableRow → Data
@@ -65,7 +69,7 @@ rule_entry_data sheet row =
     table (with_scope sheet row
     (with_text (codes "counts") (cell sheet row column.Words)
     (with_text (codes "subaddresses") (cell sheet row column.Subaddress)
-    (with_text (codes "direction") (cell sheet row column.Kind) no_members))))
+    (with_small_text (codes "direction") (cell sheet row column.Kind) no_members))))
 
 -- mode codes, as a mode entry
 abbrev pub mode_entry_data : Sheet → TableRow → Data

@@ -2,30 +2,34 @@
 ghost use Rattle.std.specs.Prelude.{◌≡◌, ◌≤◌, ◌==◌, IfOk, map, option_map};
 ghost use Rattle.std.specs.List.{slice_split};
 ghost use Rattle.toml.specs.View.{view};
-ghost use Rattle.rt1553_import.specs.inner.Texts.{has_plus};
-ghost use Rattle.rt1553_import.specs.Cells.{number_in, cell_number, cell_truth, cell_word, cell_words, cell_value};
+ghost use Rattle.rt1553_import.specs.Cells.{is_numeral, is_yes, is_no, number_in, cell_number, cell_truth, cell_word, cell_words, cell_value};
 
+use crate::alike::is_alike;
 use std::alloc::{AllocError, Global};
 use std::str;
 use toml::Value;
 
-/// Whether a text begins with a plus.
-fn has_plus(text: &[u8]) -> bool
-    ensures { result ≡ has_plus text.now }
+/// Whether a text is digits of this radix, one or more, and nothing else.
+fn is_numeral(radix: u32, text: &[u8]) -> bool
+    requires low { 2 ≤ radix }
+    requires high { radix ≤ 36 }
+    ensures { result ≡ is_numeral radix text.now }
 {
-    match text {
-        [first, ..] => *first == b'+',
-        _ => false,
+    for byte in text {
+        if !char::from(*byte).is_digit(radix) {
+            return false;
+        }
     }
+    !text.is_empty()
 }
 
-/// The number that digits of this radix write, if it is below 2 ^ 32.
+/// The number that digits of this radix write, or 2 ^ 32 - 1 for all above.
 fn number_in(radix: u32, digits: &[u8]) -> Option<u32>
     requires low { 2 ≤ radix }
     requires high { radix ≤ 36 }
     ensures { result ≡ number_in radix digits.now }
 {
-    if has_plus(digits) {
+    if !is_numeral(radix, digits) {
         return None;
     }
     let Ok(text) = str::from_utf8(digits) else {
@@ -33,11 +37,12 @@ fn number_in(radix: u32, digits: &[u8]) -> Option<u32>
     };
     match u32::from_str_radix(text, radix) {
         Ok(number) => Some(number),
-        Err(_) => None,
+        Err(_) => Some(u32::MAX),
     }
 }
 
-/// The number in a text: decimal digits, or hexadecimal digits behind `0x`.
+/// The number in a text: decimal digits, or hexadecimal digits behind `0x`. One that is too large for the type is given as 2 ^ 32 - 1,
+/// which no value of a profile reaches.
 pub fn cell_number(text: &[u8]) -> Option<u32>
     ensures { result ≡ cell_number text.now }
 {
@@ -47,14 +52,30 @@ pub fn cell_number(text: &[u8]) -> Option<u32>
     }
 }
 
-/// The truth value that a text names.
+/// Whether a text is a spelling of true.
+fn is_yes(text: &str) -> bool
+    ensures { result ≡ is_yes text.now }
+{
+    is_alike(text, "yes") || is_alike(text, "true")
+}
+
+/// Whether a text is a spelling of false.
+fn is_no(text: &str) -> bool
+    ensures { result ≡ is_no text.now }
+{
+    is_alike(text, "no") || is_alike(text, "false")
+}
+
+/// The truth value that a text names, in any capitals.
 fn cell_truth(text: &str) -> Option<bool>
     ensures { result ≡ cell_truth text.now }
 {
-    match text {
-        "yes" | "true" | "TRUE" => Some(true),
-        "no" | "false" | "FALSE" => Some(false),
-        _ => None,
+    if is_yes(text) {
+        Some(true)
+    } else if is_no(text) {
+        Some(false)
+    } else {
+        None
     }
 }
 

@@ -2,6 +2,7 @@
 use crate::column::TableColumn;
 use crate::sheet::{Sheet, TableRow};
 use crate::tree::Entry;
+use csv_rows::CellPlace;
 use rt1553_files::escaped;
 use std::alloc::{AllocError, Global};
 
@@ -16,6 +17,20 @@ fn entry_of(line: &str) -> Option<Entry> {
 }
 
 impl Sheet {
+    /// The place of the longest name.
+    pub fn longest_name(&self) -> CellPlace {
+        let mut most = 0;
+        let mut place = self.place(&self.header, TableColumn::Name);
+        for row in self.rows.as_slice() {
+            let len = self.cell(row, TableColumn::Name).len();
+            if len > most {
+                most = len;
+                place = self.place(row, TableColumn::Name);
+            }
+        }
+        place
+    }
+
     /// The first row, from a place on, that became such an entry, with the place of the row after it.
     fn next_row(&self, entry: Entry, start: usize) -> Option<(usize, &TableRow)> {
         for (at, row) in self.rows.as_slice().iter().enumerate() {

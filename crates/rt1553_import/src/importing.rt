@@ -6,15 +6,16 @@ ghost use Rattle.toml.specs.View.{table_view};
 ghost use Rattle.bus_profile.specs.Gives.{profile_of};
 ghost use Rattle.bus_profile.specs.Read.{Accepts};
 ghost use Rattle.rt1553_import.specs.Tree.{table_tree};
-ghost use Rattle.rt1553_import.specs.Import.{SaysTable, IsFaultless, IsImported, IsTableRefused};
+ghost use Rattle.rt1553_import.specs.Import.{SaysTable, IsFaultless, IsImported, IsTableRefused, IsImportRefused};
 
-use crate::fault::ImportFault;
+use crate::fault::{FaultyTable, ImportFault};
 use crate::reading::read_sheet;
 use crate::same::is_same_profile;
 use crate::sheet::Sheet;
-use crate::warnings::ColumnWarning;
+use crate::warnings::TableWarning;
 use bus_legal::Profile;
-use bus_profile::read_profile;
+use bus_profile::{ProfileFault, read_profile};
+use rt1553_files::PROFILE_BYTES;
 use std::alloc::{AllocError, Global};
 use toml::Table;
 use toml::ser::Error;
@@ -24,8 +25,8 @@ use toml::ser::Error;
 pub struct Imported {
     /// The text of a profile.
     pub profile: String,
-    /// The columns that were left out.
-    pub warnings: Vec<ColumnWarning>,
+    /// What of the table is worth a look.
+    pub warnings: Vec<TableWarning>,
 }
 
 /// A table's tree as a text.
@@ -60,6 +61,7 @@ fn named_text(alloc: Global, sheet: &Sheet, text: String) -> Result<String, Allo
     let named = sheet.with_names(alloc, text.as_str())?;
     match read_profile(alloc, named.as_str().as_bytes()) {
         Ok(back) if is_same_profile(&back, &profile) => Ok(named),
+        Err(ProfileFault::Memory) => Err(AllocError),
         _ => Ok(text),
     }
 }
@@ -77,22 +79,26 @@ pub fn faultless_sheet(alloc: Global, text: &[u8]) -> Result<(Sheet, Table), Imp
     let root = sheet.table_of(alloc)?;
     let faults = sheet.told(alloc, &root)?;
     if !faults.as_slice().is_empty() {
-        return Err(ImportFault::Faults(faults));
+        return Err(ImportFault::Faults(FaultyTable { sheet, faults }));
     }
     Ok((sheet, root))
 }
 
-/// Gives the profile of the table of an interface control document: CSV with a header, in UTF-8, with commas or semicolons
-/// between fields. Each row is a setting, a message of data, or mode codes. Columns that are not known are left out.
+/// Gives the profile of the table of an interface control document: CSV with a header, in UTF-8, with commas, semicolons
+/// or tabs between fields. Each row is a setting, a message of data, or mode codes. Columns that are not known are left out.
 ///
-/// A table with faults gives no profile: all its faults are told, each with its place.
+/// A table with faults gives no profile: all its faults are told, each with its place. Neither does one whose names make the
+/// profile larger than a profile may be.
 pub fn import_table(alloc: Global, text: &[u8]) -> Result<Imported, ImportFault>
     ensures imported { IfOk result (λ imported. IsImported text.now (string_bytes imported.profile)) }
-    ensures refused { IfErr result (IsTableRefused text.now) }
+    ensures refused { IfErr result (IsImportRefused text.now) }
 {
     let (sheet, root) = faultless_sheet(alloc, text)?;
     let plain = text_of(alloc, &sheet, &root)?;
     let profile = named_text(alloc, &sheet, plain)?;
+    if profile.len() > PROFILE_BYTES {
+        return Err(ImportFault::LongNames(sheet.longest_name()));
+    }
     let warnings = sheet.warnings(alloc)?;
     Ok(Imported { profile, warnings })
 }

@@ -2,6 +2,7 @@
 ghost use Rattle.std.specs.Prelude.{◌≡◌};
 ghost use Rattle.rt1553_import.specs.Kinds.{kind_name, row_kind, is_setting, is_message, takes};
 
+use crate::alike::is_alike;
 use crate::column::TableColumn;
 
 /// What a row is. Its text is what `name` gives.
@@ -22,6 +23,20 @@ pub enum RowKind {
     Mode,
 }
 
+/// All the kinds.
+pub const KINDS: [RowKind; 10] = [
+    RowKind::Address,
+    RowKind::Broadcast,
+    RowKind::Wraparound,
+    RowKind::AcceptBusControl,
+    RowKind::Vector,
+    RowKind::Bit,
+    RowKind::Receive,
+    RowKind::Transmit,
+    RowKind::Both,
+    RowKind::Mode,
+];
+
 impl RowKind {
     /// The text that names the kind in the column `kind`.
     pub fn name(self) -> &'static str
@@ -41,23 +56,16 @@ impl RowKind {
         }
     }
 
-    /// The kind that this text names, if there is one.
+    /// The kind that this text names, in any capitals, if there is one.
     pub fn of(text: &str) -> Option<RowKind>
         ensures { result ≡ row_kind text.now }
     {
-        match text {
-            "address" => Some(RowKind::Address),
-            "broadcast" => Some(RowKind::Broadcast),
-            "wraparound" => Some(RowKind::Wraparound),
-            "accept_bus_control" => Some(RowKind::AcceptBusControl),
-            "vector" => Some(RowKind::Vector),
-            "bit" => Some(RowKind::Bit),
-            "receive" => Some(RowKind::Receive),
-            "transmit" => Some(RowKind::Transmit),
-            "both" => Some(RowKind::Both),
-            "mode" => Some(RowKind::Mode),
-            _ => None,
+        for kind in KINDS {
+            if is_alike(text, kind.name()) {
+                return Some(kind);
+            }
         }
+        None
     }
 
     /// Whether it is a key of the profile that holds one value.

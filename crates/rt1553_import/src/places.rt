@@ -16,7 +16,7 @@ use std::alloc::{AllocError, Global};
 use toml::Table;
 
 /// The column from which a key comes.
-fn key_column(key: Key) -> TableColumn
+pub fn key_column(key: Key) -> TableColumn
     ensures { result ≡ key_column key }
 {
     match key {

@@ -2,28 +2,13 @@
 ghost use Rattle.std.specs.Prelude.{◌≡◌, IfOk, IfErr, map};
 ghost use Rattle.csv_rows.specs.Rows.{record_fields};
 ghost use Rattle.rt1553_import.specs.NoTable.{IsUnreadable, IsNoTable};
-ghost use Rattle.rt1553_import.specs.Reading.{delimiter_of, row_fields, HasRecords, IsSheetOf};
+ghost use Rattle.rt1553_import.specs.Reading.{row_fields, HasRecords, IsSheetOf};
 
 use crate::fault::ImportFault;
 use crate::sheet::{Sheet, TableRow};
 use csv::StringRecord;
 use csv_rows::{CsvRow, read_rows};
 use std::alloc::Global;
-
-/// What stands between two fields.
-fn delimiter_of(text: &[u8]) -> u8
-    ensures { result ≡ delimiter_of text.now }
-{
-    for byte in text {
-        if *byte == b'\n' {
-            return b',';
-        }
-        if *byte == b';' {
-            return b';';
-        }
-    }
-    b','
-}
 
 /// The rows with their fields as text, or the line of the first row whose fields are not all UTF-8.
 fn text_rows(alloc: Global, rows: Vec<CsvRow>) -> Result<Vec<TableRow>, ImportFault>
@@ -63,7 +48,7 @@ pub fn read_sheet(alloc: Global, text: &[u8]) -> Result<Sheet, ImportFault>
     ensures refused { IfErr result (IsNoTable text.now) }
     ensures sheet { IfOk result (IsSheetOf text.now) }
 {
-    let records = read_rows(alloc, text, delimiter_of(text))?;
+    let records = read_rows(alloc, text)?;
     let rows = text_rows(alloc, records)?;
     Ok(sheet_of(alloc, rows))
 }

@@ -3,12 +3,13 @@ ghost use Rattle.std.specs.Prelude.{◌≡◌, ◌<◌, ◌-◌, ◌^◌, IfSome
 ghost use Rattle.csv.specs.Records.{fields_of, field_at};
 ghost use Rattle.rt1553_import.specs.Columns.{is_field, place_from, place_of, field_text, cell, row_place};
 
+use crate::alike::is_alike;
 use crate::column::TableColumn;
 use csv::StringRecord;
 use csv_rows::CellPlace;
 
 /// A record of a table.
-#[derive(Drop)]
+#[derive(Debug, Drop)]
 pub struct TableRow {
     /// The line of the text on which it begins, from 1.
     pub line: u64,
@@ -17,7 +18,7 @@ pub struct TableRow {
 }
 
 /// A table.
-#[derive(Drop)]
+#[derive(Debug, Drop)]
 pub struct Sheet {
     /// The names of the columns.
     pub header: TableRow,
@@ -25,17 +26,17 @@ pub struct Sheet {
     pub rows: Vec<TableRow>,
 }
 
-/// Whether a field has this text.
+/// Whether a field has this text, but for capitals.
 fn is_field(fields: &StringRecord, place: usize, text: &str) -> bool
     ensures { result ≡ is_field text.now (field_at (fields_of fields.now) place) }
 {
     match fields.get(place) {
-        Some(field) => field == text,
+        Some(field) => is_alike(field, text),
         None => false,
     }
 }
 
-/// The place, from 0, of the first field with this text, from a start on.
+/// The place, from 0, of the first field with this text, but for capitals, from a start on.
 pub fn place_from(fields: &StringRecord, text: &str, start: usize) -> Option<usize>
     ensures place { result ≡ place_from text.now start (fields_of fields.now) }
     ensures few { IfSome result (λ place. place < 2 ^ 64 - 1) }

@@ -1,16 +1,13 @@
 //! The faults of a table itself, apart from the profile that it says.
 ghost use Rattle.std.specs.Prelude.{◌≡◌, ◌<◌, ◌-◌, ◌^◌, ◌++◌, [], IfOk, OnOk, flat_map};
-ghost use Rattle.csv.specs.Records.{fields_of, field_at};
-ghost use Rattle.rt1553_import.specs.inner.Texts.{has_text};
 ghost use Rattle.rt1553_import.specs.Columns.{all_columns};
-ghost use Rattle.rt1553_import.specs.TableFaults.{fault_if_any, header_place, column_fault, no_kind_fault, header_faults, is_set_in, kind_fault, initial_fault, taken_fault, cell_fault, kind_faults, last_place, is_blank_row, row_faults, rows_faults, table_faults};
+ghost use Rattle.rt1553_import.specs.TableFaults.{fault_if_any, header_place, column_fault, no_kind_fault, header_faults, is_set_in, kind_fault, initial_fault, taken_fault, cell_fault, kind_faults, last_place, row_faults, rows_faults, table_faults};
 
 use crate::cells::{cell_number, cell_words};
 use crate::column::{COLUMNS, TableColumn};
 use crate::fault::{TableFault, TableFaultKind};
 use crate::kind::RowKind;
 use crate::sheet::{Sheet, TableRow, place_from};
-use csv::StringRecord;
 use csv_rows::CellPlace;
 use std::alloc::{AllocError, Global};
 
@@ -22,30 +19,6 @@ fn push_some(faults: &mut Vec<TableFault>, fault: Option<TableFault>) -> Result<
         faults.push(fault)?;
     }
     Ok(())
-}
-
-/// Whether a field is there and has text.
-fn has_text(fields: &StringRecord, place: usize) -> bool
-    ensures { result ≡ has_text (field_at (fields_of fields.now) place) }
-{
-    match fields.get(place) {
-        Some(field) => !field.is_empty(),
-        None => false,
-    }
-}
-
-impl TableRow {
-    /// Whether all fields are empty.
-    fn is_blank_row(&self) -> bool
-        ensures { result ≡ is_blank_row self.now }
-    {
-        for place in 0..self.fields.len() {
-            if has_text(&self.fields, place) {
-                return false;
-            }
-        }
-        true
-    }
 }
 
 impl Sheet {
@@ -224,9 +197,6 @@ impl Sheet {
     ) -> Result<(), AllocError>
         ensures { OnOk result (faults.new.items ≡ faults.old.items ++ row_faults self.now before.now row.now) }
     {
-        if row.is_blank_row() {
-            return Ok(());
-        }
         if row.fields.len() != self.header.fields.len() {
             faults.push(TableFault {
                 place: self.last_place(row),

@@ -1,8 +1,9 @@
 //! The tree of a table: the profile that it says, as a TOML table.
 ghost use Rattle.std.specs.Prelude.{◌≡◌, IfOk, OnOk, map, string_bytes, option_map};
 ghost use Rattle.toml.specs.View.{table_view, view};
-ghost use Rattle.rt1553_import.specs.Tree.{words_data, is_kind, is_data_row, is_entry, member_put, with_text, with_entries, with_scope, rule_entry_data, mode_entry_data, initial_entry_data, entry_data, entries_of, setting_row, setting_text, with_setting, with_settings, with_arrays, table_tree};
+ghost use Rattle.rt1553_import.specs.Tree.{words_data, is_kind, is_data_row, is_entry, member_put, with_text, with_small_text, with_entries, with_scope, rule_entry_data, mode_entry_data, initial_entry_data, entry_data, entries_of, setting_row, setting_text, with_setting, with_settings, with_arrays, table_tree};
 
+use crate::alike::is_alike;
 use crate::cells::{cell_value, cell_words};
 use crate::column::TableColumn;
 use crate::kind::RowKind;
@@ -38,6 +39,19 @@ fn put_text(alloc: Global, members: &mut Table, key: &str, text: &str) -> Result
     put(alloc, members, key, cell_value(alloc, text)?)
 }
 
+/// Puts the value of a text, with small letters in place of capitals, at a key of a table, if there is a text.
+fn put_small_text(
+    alloc: Global,
+    members: &mut Table,
+    key: &str,
+    text: &str,
+) -> Result<(), AllocError>
+    ensures { OnOk result (table_view members.new ≡ with_small_text key.now text.now (table_view members.old)) }
+{
+    let small = text.to_ascii_lowercase(alloc)?;
+    put_text(alloc, members, key, small.as_str())
+}
+
 /// Puts an array of entries at a key of a table, if there are any.
 fn put_entries(
     alloc: Global,
@@ -67,11 +81,11 @@ fn word_values(alloc: Global, text: &str) -> Result<Vec<Value>, AllocError>
 }
 
 impl Sheet {
-    /// Whether a row is of this kind.
+    /// Whether a row is of this kind, in any capitals.
     pub fn is_kind(&self, row: &TableRow, kind: RowKind) -> bool
         ensures { result ≡ is_kind self.now kind row.now }
     {
-        self.cell(row, TableColumn::Kind) == kind.name()
+        is_alike(self.cell(row, TableColumn::Kind), kind.name())
     }
 
     /// Whether a row is a message of data.
@@ -106,7 +120,7 @@ impl Sheet {
     ) -> Result<(), AllocError>
         ensures { OnOk result (table_view members.new ≡ with_scope self.now row.now (table_view members.old)) }
     {
-        put_text(alloc, members, "to", self.cell(row, TableColumn::To))?;
+        put_small_text(alloc, members, "to", self.cell(row, TableColumn::To))?;
         put_text(alloc, members, "legal", self.cell(row, TableColumn::Legal))
     }
 
@@ -116,7 +130,7 @@ impl Sheet {
     {
         let mut members = Table::new(alloc);
         let kind = self.cell(row, TableColumn::Kind);
-        put_text(alloc, &mut members, "direction", kind)?;
+        put_small_text(alloc, &mut members, "direction", kind)?;
         let subaddresses = self.cell(row, TableColumn::Subaddress);
         put_text(alloc, &mut members, "subaddresses", subaddresses)?;
         let counts = self.cell(row, TableColumn::Words);

@@ -36,11 +36,11 @@ pub asked_all : (P : Description) (rows : Rows) (commands : List ℕ) (s : SoFar
 asked_all P rows commands s over = sym (append-nil commands) ∙ ap (λ left. commands ++ commands_in left) (sym over) ∙ s.all
 
 -- the rows under a header, as a table
-pub asked_rows : (text : List ℕ) (rows : List CsvRow) (first : CsvRow) → 0 < length rows → first ≡ get_or rows 0 first → AreRows 44 text (map record_fields rows)
-    → AreRows 44 text (record_fields first ∷ map record_fields (take (length rows - 1) (drop 1 rows)))
+pub asked_rows : (text : List ℕ) (rows : List CsvRow) (first : CsvRow) → 0 < length rows → first ≡ get_or rows 0 first → AreRows text (map record_fields rows)
+    → AreRows text (record_fields first ∷ map record_fields (take (length rows - 1) (drop 1 rows)))
 asked_rows text rows first some is records =
     let whole : take (length rows - 1) (drop 1 rows) ≡ drop 1 rows = take_all (length rows - 1) (drop 1 rows) (omega (arith, length-drop 1 rows)) in
-    subst (AreRows 44 text) (under_header rows first some is ∙ ap (λ rest. record_fields first ∷ map record_fields rest) (sym whole)) records
+    subst (AreRows text) (under_header rows first some is ∙ ap (λ rest. record_fields first ∷ map record_fields rest) (sym whole)) records
 
 pub one_place : (header : List (List ℕ)) (a b : AskedColumns) → AreAskedColumns header a → AreAskedColumns header b → a ≡ b
 one_place header a b is other =

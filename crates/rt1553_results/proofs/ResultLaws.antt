@@ -130,7 +130,7 @@ around_row rows first i row some is few here =
 
 -- a row that is wrong, behind rows that were read
 pub first_wrong : (text : List ℕ) (all : List (List (List ℕ))) (header : List (List ℕ)) (before : List (List (List ℕ))) (row : List (List ℕ)) (after : List (List (List ℕ)))
-    (columns : Columns) (results : Results) (f : ResultsFault) → AreRows 44 text all → all ≡ header ∷ before ++ row ∷ after → AreColumns header columns → (so_far : SoFar columns before results)
+    (columns : Columns) (results : Results) (f : ResultsFault) → AreRows text all → all ≡ header ∷ before ++ row ∷ after → AreColumns header columns → (so_far : SoFar columns before results)
     → IsWrongRow columns so_far.pairs row f → AreNoResults text f
 first_wrong text all header before row after columns results f records parts found so_far wrong = wrong_row text f (record {
   header = header;
@@ -139,7 +139,7 @@ first_wrong text all header before row after columns results f records parts fou
   after = after;
   columns = columns;
   pairs = so_far.pairs;
-  records = subst (AreRows 44 text) parts records;
+  records = subst (AreRows text) parts records;
   found = found;
   read = so_far.read;
   once = so_far.once;

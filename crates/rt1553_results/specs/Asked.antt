@@ -51,7 +51,7 @@ pub record AsksAnother (P : Description) (text : List ℕ) : Type 0 where
   pub header : List (List ℕ)
   pub rows : List (List (List ℕ))
   pub columns : AskedColumns
-  pub records : AreRows 44 text (header ∷ rows)
+  pub records : AreRows text (header ∷ rows)
   pub found : AreAskedColumns header columns
   pub other : HasOtherRow (commands_of P) columns rows
 
@@ -62,4 +62,4 @@ AskTheTest P (header ∷ rows) = (columns : AskedColumns) → AreAskedColumns he
 
 -- no row of the table does, if it has these columns
 abbrev pub AsksTheTest : Description → List ℕ → Type 0
-AsksTheTest P text = (rows : List (List (List ℕ))) × AreRows 44 text rows × AskTheTest P rows
+AsksTheTest P text = (rows : List (List (List ℕ))) × AreRows text rows × AskTheTest P rows

@@ -2,12 +2,10 @@
 use Rattle.std.specs.Prelude.{ℕ, ◌≡◌, ◌≢◌, ◌⊎◌, ◌<◌, nat_eq, Option, Some, None, IsSome, List, [], ◌∷◌, ◌++◌, length, map, codes, ⊤}
 use Rattle.std.specs.List.{IsDistinct}
 use Rattle.std.specs.Map.{lookup}
-use Rattle.csv.specs.Reading.{strip_bom}
 use Rattle.csv.specs.Records.{field_at}
 use Rattle.csv_rows.specs.declared.rows.CsvFault.{CsvFault}
 use Rattle.csv_rows.specs.declared.rows.CsvFault.TheVariants as csv
-use Rattle.csv_rows.specs.Csv.{IsBrokenAt}
-use Rattle.csv_rows.specs.Rows.{AreRows}
+use Rattle.csv_rows.specs.Rows.{AreRows, AreNoRows}
 use Rattle.rt1553_results.specs.declared.results.ResultsFault.{ResultsFault}
 use Rattle.rt1553_results.specs.declared.results.ResultsFault.TheVariants as fault
 use Rattle.rt1553_results.specs.declared.results.Columns.{Columns}
@@ -73,7 +71,7 @@ pub record HasWrongRow (text : List ℕ) (f : ResultsFault) : Type 0 where
   pub after : List (List (List ℕ))
   pub columns : Columns
   pub pairs : List (ℕ × List ℕ)
-  pub records : AreRows 44 text (header ∷ before ++ row ∷ after)
+  pub records : AreRows text (header ∷ before ++ row ∷ after)
   pub found : AreColumns header columns
   pub read : AreResultsRead columns before pairs
   pub once : IsDistinct nat_eq (map (λ pair. pair.0) pairs)
@@ -83,14 +81,14 @@ pub record HasWrongRow (text : List ℕ) (f : ResultsFault) : Type 0 where
 pub record HasWrongHeader (text : List ℕ) (f : ResultsFault) : Type 0 where
   pub header : List (List ℕ)
   pub rows : List (List (List ℕ))
-  pub records : AreRows 44 text (header ∷ rows)
+  pub records : AreRows text (header ∷ rows)
   pub wrong : AreNoColumns header f
 
 -- why a text is no table of results; want of memory says nothing of it
 abbrev pub AreNoResults : List ℕ → ResultsFault → Type 0
-AreNoResults text (fault.NoHeader place) = AreRows 44 text []
+AreNoResults text (fault.NoHeader place) = AreRows text []
 AreNoResults text (fault.NoColumn place name) = HasWrongHeader text (fault.NoColumn place name)
 AreNoResults text (fault.TwoColumns place name) = HasWrongHeader text (fault.TwoColumns place name)
-AreNoResults text (fault.NotCsv place) = IsBrokenAt 44 (strip_bom text) place
+AreNoResults text (fault.NotCsv place) = AreNoRows text (csv.NotCsv place)
 AreNoResults text fault.Memory = ⊤
 AreNoResults text f = HasWrongRow text f

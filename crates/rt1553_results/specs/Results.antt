@@ -84,7 +84,7 @@ pub record SaysResults (text : List ℕ) (results : Results) : Type 0 where
   pub rows : List (List (List ℕ))
   pub columns : Columns
   pub pairs : List (ℕ × List ℕ)
-  pub records : AreRows 44 text (header ∷ rows)
+  pub records : AreRows text (header ∷ rows)
   pub found : AreColumns header columns
   pub read : AreResultsRead columns rows pairs
   pub once : IsDistinct nat_eq (map (λ pair. pair.0) pairs)

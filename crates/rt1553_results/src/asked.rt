@@ -113,7 +113,7 @@ pub fn other_command(
 ) -> Result<Option<CellPlace>, ResultsFault>
     ensures { IfOk result (λ place. MatchOption place (AsksTheTest (description_in normal.now) text.now) (λ _. AsksAnother (description_in normal.now) text.now)) }
 {
-    let records = read_rows(alloc, text, b',')?;
+    let records = read_rows(alloc, text)?;
     let [header, rows @ ..] = records.as_slice() else {
         return Ok(None);
     };

@@ -225,7 +225,7 @@ pub fn read_results(alloc: Global, text: &[u8]) -> Result<Results, ResultsFault>
     ensures said { IfOk result (SaysResults text.now) }
     ensures refused { IfErr result (AreNoResults text.now) }
 {
-    let records = read_rows(alloc, text, b',')?;
+    let records = read_rows(alloc, text)?;
     let rows = records.as_slice();
     if rows.is_empty() {
         return Err(ResultsFault::NoHeader(CellPlace { row: 1, column: 1 }));

@@ -192,7 +192,7 @@ fn what_an_exchange_tries(rt: HostRuntime) -> Result<(), Fail> {
 
 #[test]
 fn rows_of_csv(rt: HostRuntime) -> Result<(), Fail> {
-    let rows = read_rows(rt.alloc(), b"number,reply\n1,\"28\"00\n", b',');
+    let rows = read_rows(rt.alloc(), b"number,reply\n1,\"28\"00\n");
     let Err(CsvFault::NotCsv(place)) = rows else {
         return Err("read")?;
     };

@@ -1,5 +1,5 @@
 //! What only calls show: the lines of faults, names as comments, warnings, and tables as spreadsheets save them.
-use rt1553_import::{ImportFault, import_table};
+use rt1553_import::{ImportFault, import_table, told_text};
 use std::alloc::{AllocError, Global};
 use std::test::Fail;
 
@@ -79,22 +79,15 @@ fn names_and_warnings(rt: HostRuntime) -> Result<(), Fail> {
 
 /// What is told of a table that is refused.
 fn told(alloc: Global, text: &[u8]) -> Result<String, AllocError> {
-    let mut lines = String::new(alloc);
-    let Err(fault) = import_table(alloc, text) else {
-        return Ok(lines);
-    };
-    if let ImportFault::Faults(faults) = &fault {
-        for fault in faults {
-            writeln!(lines, "{fault}")?;
-        }
-    } else {
-        write!(lines, "{fault}")?;
+    match import_table(alloc, text) {
+        Ok(_) => Ok(String::new(alloc)),
+        Err(ImportFault::Faults(table)) => told_text(alloc, "t", &table),
+        Err(fault) => format!(in alloc; "{fault}"),
     }
-    Ok(lines)
 }
 
 /// Tables that are refused, and what is told.
-const REFUSED: [(&[u8], &str); 16] = [
+const REFUSED: [(&[u8], &str); 18] = [
     (
         b"kind,value\naddress,\"1\"2\n",
         "table: row 2, column 2: not CSV, a quote is misplaced or missing",
@@ -108,48 +101,59 @@ const REFUSED: [(&[u8], &str); 16] = [
         "table: row 6, column 2: not CSV, a quote is misplaced or missing",
     ),
     (
+        b"kind,value\raddress,1\rbit,1\"\r",
+        "table: row 3, column 2: not CSV, a quote is misplaced or missing",
+    ),
+    (
         b"\xef\xbb\xbf\"kind\"\r\n\"address\" ,1\r\n",
         "table: row 2, column 1: not CSV, a quote is misplaced or missing",
     ),
     (b"kind,value\naddress,\xff\n", "table: not UTF-8"),
-    (b"", "1:1: error: table: no column is named kind\n"),
+    (b"", "t:1:1: error: no column is named kind"),
     (
         b"\nvalue,to,value\n",
-        "2:1: error: table: no column is named kind\n2:3: error: table: a second column is named value\n",
+        "t:2:1: error: no column is named kind\nt:2:3: error: a second column is named value",
     ),
     (
         b"kind,value\naddress,1,\nnothing,\n,x\naddress,2\naddress,3\n",
-        "2:2: error: table: not as many fields as the header\n3:1: error: table: not a kind; known are address, broadcast, wraparound, accept_bus_control, vector, bit, receive, transmit, both, mode\n4:1: error: table: not a kind; known are address, broadcast, wraparound, accept_bus_control, vector, bit, receive, transmit, both, mode\n5:1: error: table: an earlier row has this setting\n6:1: error: table: an earlier row has this setting\n",
+        "t:2:2: error: 3 fields, and the header has 2\nt:3:1: error: kind: \"nothing\": allowed is address, broadcast, wraparound, accept_bus_control, vector, bit, receive, transmit, both, mode\nt:4:1: error: kind: empty: allowed is address, broadcast, wraparound, accept_bus_control, vector, bit, receive, transmit, both, mode\nt:5:1: error: kind: \"address\": an earlier row has this setting\nt:6:1: error: kind: \"address\": an earlier row has this setting",
+    ),
+    (
+        b"kind,value\raddress,1\rbit,x\r",
+        "t:3:2: error: value: \"x\": allowed is 0 to 65535, or 0x0000 to 0xffff",
     ),
     (
         b"kind,value,code,initial,subaddress\naddress,1,2,,\nreceive,,,0001,3\n",
-        "2:3: error: table: a row of this kind takes no text in the column code\n3:4: error: table: a row of this kind takes no text in the column initial\n",
+        "t:2:3: error: code: \"2\": a row of this kind takes nothing here\nt:3:4: error: initial: \"0001\": a row of this kind takes nothing here",
     ),
     (
         b"kind,value,subaddress,initial\naddress,1,,\ntransmit,,1-2,0001\ntransmit,,2,00001\ntransmit,,2,xyz\n",
-        "3:3: error: table: initial words want one subaddress, a number\n4:4: error: table: not words of 1 to 4 hexadecimal digits with spaces between them\n5:4: error: table: not words of 1 to 4 hexadecimal digits with spaces between them\n",
+        "t:3:3: error: subaddress: \"1-2\": allowed beside initial words is 1 to 30, one number\nt:4:4: error: initial: \"00001\": allowed is at most 32 words of 1 to 4 hexadecimal digits, as \"0001 00ff\"\nt:5:4: error: initial: \"xyz\": allowed is at most 32 words of 1 to 4 hexadecimal digits, as \"0001 00ff\"",
     ),
     (
         b"kind,value\nbit,1\n",
-        "1:1: error: profile: root: address is missing\n",
+        "t:1:1: error: no row is of the kind address; its value is 0 to 30",
     ),
     (
         b"value,kind\n31,address\nx,bit\n",
-        "2:1: error: profile: root: address is out of range\n3:1: error: profile: root: bit has the wrong kind\n",
+        "t:2:1: error: value: \"31\": allowed is 0 to 30\nt:3:1: error: value: \"x\": allowed is 0 to 65535, or 0x0000 to 0xffff",
     ),
     (
         b"kind,value,subaddress,words,to,name\naddress,1,,,,\nreceive,,1,33,,\n\"receive\",,,,,\"two\nlines\"\nboth,,31,x,all,\n",
-        "3:4: error: profile: rule 1: counts is out of range\n4:3: error: profile: rule 2: subaddresses is missing\n6:5: error: profile: rule 3: to is out of range\n6:3: error: profile: rule 3: subaddresses is out of range\n6:4: error: profile: rule 3: counts is not a list of ranges\n",
+        "t:4:4: warning: words: empty, so all counts 1 to 32: is this meant?\nt:3:4: error: words: \"33\": allowed is 1 to 32, as \"1-3, 5\"\nt:4:3: error: subaddress: empty: allowed is 1 to 30, as \"1-3, 5\"\nt:6:5: error: to: \"all\": allowed is own, broadcast or both\nt:6:3: error: subaddress: \"31\": allowed is 1 to 30, as \"1-3, 5\"\nt:6:4: error: words: \"x\": allowed is 1 to 32, as \"1-3, 5\"",
     ),
     (
         b"kind,value,code,legal\naddress,1,,\nmode,,0-31,no\n",
-        "1:1: error: profile: mode code 2 must be legal\n1:1: error: profile: mode code 4 must be legal\n1:1: error: profile: mode code 5 must be legal\n1:1: error: profile: mode code 8 must be legal\n",
+        "t:1:1: error: mode code 2 must be legal\nt:1:1: error: mode code 4 must be legal\nt:1:1: error: mode code 5 must be legal\nt:1:1: error: mode code 8 must be legal",
     ),
     (
         b"kind,value,subaddress,initial\naddress,1,,\ntransmit,,3,\ntransmit,,31,1 2\n",
-        "4:3: error: profile: rule 2: subaddresses is out of range\n4:3: error: profile: initial 1: subaddress is out of range\n",
+        "t:4:3: error: subaddress: \"31\": allowed is 1 to 30, as \"1-3, 5\"\nt:4:3: error: subaddress: \"31\": allowed is 1 to 30",
     ),
-    (b"kind,value\naddress,\xff\n", "table: not UTF-8"),
+    (
+        b"Kind,Subaddress ,counts\nAddress,1,\n",
+        "t:1:3: warning: the column \"counts\" is left out\nt:2:2: error: Subaddress: \"1\": a row of this kind takes nothing here\nt:2:1: error: no column is named value: allowed is 0 to 30",
+    ),
 ];
 
 #[test]

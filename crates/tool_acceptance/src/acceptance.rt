@@ -7,7 +7,7 @@ ghost use Rattle.tool_files.specs.Status.{RefusesText};
 
 use ascii_json::named_json;
 use bus_legal::Normal;
-use byte_streams::{FromWrite, Sink};
+use byte_streams::{FromWrite, Sink, write_all};
 use message_names::{MessageNames, quoted};
 use rt1553_acceptance::{Progress, write_acceptance};
 use rt1553_files::escaped;
@@ -86,6 +86,16 @@ fn csv_name(
     Ok(Some(escaped(alloc, name.as_bytes())?))
 }
 
+/// Adds bytes to those that are written.
+fn put<S: Sink>(sink: &mut S, bytes: &[u8]) -> Result<(), ToolFault> {
+    write_all(sink, bytes).map_err(|_| ToolFault::Output)
+}
+
+/// Writes out what is left in a buffer.
+fn put_rest<S: Sink>(sink: &mut S) -> Result<(), ToolFault> {
+    sink.flush().map_err(|_| ToolFault::Output)
+}
+
 /// Writes the test as a table in CSV.
 fn put_csv<P: Progress, W: Write>(
     alloc: Global,
@@ -94,15 +104,16 @@ fn put_csv<P: Progress, W: Write>(
     progress: &mut P,
     output: &mut W,
 ) -> Result<(), ToolFault> {
-    write_bytes(output, csv_header(alloc, names.is_some())?.as_slice())?;
+    let mut sink = FromWrite::new(output);
+    put(&mut sink, csv_header(alloc, names.is_some())?.as_slice())?;
     let mut rows = Rows::new(normal);
     while let Some(row) = rows.next() {
         let name = csv_name(alloc, names, row.exchange.command)?;
         let name = name.as_ref().map(|name| name.as_str().as_bytes());
-        write_bytes(output, csv_row(alloc, normal, &row, name)?.as_slice())?;
+        put(&mut sink, csv_row(alloc, normal, &row, name)?.as_slice())?;
         progress.exchange_written();
     }
-    Ok(())
+    put_rest(&mut sink)
 }
 
 /// Writes the test as a table, an object of JSON a line.
@@ -113,15 +124,16 @@ fn put_json<P: Progress, W: Write>(
     progress: &mut P,
     output: &mut W,
 ) -> Result<(), ToolFault> {
+    let mut sink = FromWrite::new(output);
     let mut rows = Rows::new(normal);
     while let Some(row) = rows.next() {
         let name = names.map(|names| name_of_command(names, row.exchange.command));
         let json = json_row(alloc, normal, &row, name);
         let line = named_json(alloc, json, names.is_some())?;
-        write_bytes(output, line.as_str().as_bytes())?;
+        put(&mut sink, line.as_str().as_bytes())?;
         progress.exchange_written();
     }
-    Ok(())
+    put_rest(&mut sink)
 }
 
 /// Writes the acceptance test of the terminal of a profile. The status is 0.

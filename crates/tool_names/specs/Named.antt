@@ -1,7 +1,12 @@
--- The names of messages that a command is given.
-use Rattle.std.specs.Prelude.{ℕ, List, Option, Some, None}
+-- The names of messages that a command is given, and of a command word.
+use Rattle.std.specs.Prelude.{ℕ, if◌then◌else◌, List, Option, Some, None}
 use Rattle.std.specs.Borrow.{Bor}
+use Rattle.bus_word.specs.declared.cell.Cell.{Cell}
+use Rattle.bus_word.specs.declared.cell.Cell.TheVariants.{OwnMode, BroadMode}
+use Rattle.bus_word.specs.Cell.{cell_of}
+use Rattle.bus_word.specs.Command.{code_of, is_mode, is_broadcast}
 use Rattle.message_names.specs.NameRow.{NameRow}
+use Rattle.message_names.specs.Names.{name_of}
 use Rattle.tool_names.specs.Names.{AreNamesOf}
 
 -- without a table there are no names, and with one they are those of a text that is a table without faults
@@ -9,3 +14,20 @@ abbrev pub AreLoadedNames : Option (Bor (List ℕ)) → Option (List NameRow) �
 AreLoadedNames None None = Unit {0}
 AreLoadedNames (Some name) (Some names) = (table : List ℕ) × AreNamesOf table names
 AreLoadedNames _ _ = ⊥
+
+-- the cell of a mode code and its addressee, whether or not it can be legal
+abbrev pub code_cell_said : ℕ → Cell
+code_cell_said command = if is_broadcast command then BroadMode (code_of command) else OwnMode (code_of command)
+
+-- the cell of a command, also of a mode code that no terminal may have
+abbrev pub cell_said : ℕ → Option Cell
+cell_said command = if is_mode command then Some (code_cell_said command) else cell_of command
+
+-- the name of a cell, if there is one
+abbrev pub name_at : List NameRow → Option Cell → Option (List ℕ)
+name_at names None = None
+name_at names (Some cell) = name_of names cell
+
+-- the name of the message of a command word
+abbrev pub name_said : List NameRow → ℕ → Option (List ℕ)
+name_said names word = name_at names (cell_said word)

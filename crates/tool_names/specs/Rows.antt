@@ -1,6 +1,6 @@
 -- What the rows of a table are the names of.
 use Rattle.std.specs.Prelude.{ℕ, Bool, true, false, ◌||◌, if◌then◌else◌, List, Option, Some, None, codes}
-use Rattle.std.specs.Str.{bytes_eq}
+use Rattle.std.specs.Str.{str_eq_ignore_ascii_case}
 use Rattle.message_names.specs.declared.cells.NamedCells.{NamedCells}
 use Rattle.message_names.specs.NameRow.{NameRow}
 use Rattle.message_names.specs.Names.{with_row}
@@ -28,11 +28,11 @@ is_transmitted _ = false
 
 -- the text in the column `to` says the own address, as no text does
 abbrev pub goes_to_own : List ℕ → Bool
-goes_to_own to = (has_no_text to || bytes_eq to (codes "own")) || bytes_eq to (codes "both")
+goes_to_own to = (has_no_text to || str_eq_ignore_ascii_case to (codes "own")) || str_eq_ignore_ascii_case to (codes "both")
 
 -- it says broadcast
 abbrev pub goes_by_broadcast : List ℕ → Bool
-goes_by_broadcast to = bytes_eq to (codes "broadcast") || bytes_eq to (codes "both")
+goes_by_broadcast to = str_eq_ignore_ascii_case to (codes "broadcast") || str_eq_ignore_ascii_case to (codes "both")
 
 -- the set, or no number at all
 abbrev pub if_so : Bool → ℕ → ℕ

@@ -1,13 +1,13 @@
 //! The names of messages that a command is given.
-ghost use Rattle.std.specs.Prelude.{IfOk};
-ghost use Rattle.tool_names.specs.Named.{AreLoadedNames};
+ghost use Rattle.std.specs.Prelude.{◌≡◌, IfOk, option_map};
+ghost use Rattle.tool_names.specs.Named.{AreLoadedNames, cell_said, name_said};
 
 use crate::names_in;
 use crate::table::table_fault;
-use bus_word::{Command, cell_of};
+use bus_word::{Cell, Command, cell_of};
 use message_names::MessageNames;
-use rt1553::load;
-use rt1553_import::import_table;
+use rt1553::{LoadFault, load};
+use rt1553_import::{ImportFault, import_table};
 use std::rt::Files;
 use tool_files::{ToolFault, read_tool_profile, shown};
 
@@ -18,11 +18,15 @@ fn warn_of_address<R: AllocGlobal + Eprint>(
     table: &[u8],
     addresses: &[u8],
 ) -> Result<(), ToolFault> {
-    let Ok(imported) = import_table(rt.alloc(), table) else {
-        return Ok(());
+    let imported = match import_table(rt.alloc(), table) {
+        Ok(imported) => imported,
+        Err(ImportFault::Memory) => return Err(ToolFault::Memory),
+        Err(_) => return Ok(()),
     };
-    let Ok(normal) = load(rt.alloc(), imported.profile.as_str().as_bytes()) else {
-        return Ok(());
+    let normal = match load(rt.alloc(), imported.profile.as_str().as_bytes()) {
+        Ok(normal) => normal,
+        Err(LoadFault::Memory) => return Err(ToolFault::Memory),
+        Err(_) => return Ok(()),
     };
     let address = normal.address();
     if !addresses.is_empty() && !addresses.contains(&address) {
@@ -56,9 +60,27 @@ pub fn load_names<R: Files + AllocGlobal + Eprint>(
     }
 }
 
-/// The name of the message of a command word, where it has one.
-pub fn name_of_command(names: &MessageNames, word: u16) -> Option<&str> {
-    match cell_of(Command::of(word)) {
+/// The cell of a command, also of a mode code that no terminal may have: one that the standard reserves, with the other T/R, or not by
+/// broadcast. None for a broadcast transmit command to a subaddress of data.
+fn cell_said(command: Command) -> Option<Cell>
+    ensures { result ≡ cell_said command }
+{
+    if !command.is_mode() {
+        return cell_of(command);
+    }
+    let code = command.code();
+    if command.is_broadcast() {
+        Some(Cell::BroadMode(code))
+    } else {
+        Some(Cell::OwnMode(code))
+    }
+}
+
+/// The name of the message of a command word, where it has one: that of its cell, of a mode code whether or not it can be legal.
+pub fn name_of_command(names: &MessageNames, word: u16) -> Option<&str>
+    ensures { option_map (λ name. name.now) result ≡ name_said names.now word }
+{
+    match cell_said(Command::of(word)) {
         Some(cell) => names.name_of(cell),
         None => None,
     }

@@ -4,7 +4,7 @@ ghost use Rattle.tool_names.specs.Rows.{is_received, is_transmitted, goes_to_own
 
 use crate::numbers::{counts_in, numbers_named};
 use message_names::{MessageNames, NamedCells};
-use rt1553_import::{RowKind, Sheet, TableColumn, TableRow};
+use rt1553_import::{RowKind, Sheet, TableColumn, TableRow, is_alike};
 use std::alloc::{AllocError, Global};
 
 /// Whether a row of this kind speaks of words that are received.
@@ -25,14 +25,14 @@ fn is_transmitted(kind: RowKind) -> bool
 fn goes_to_own(to: &str) -> bool
     ensures { result ≡ goes_to_own to.now }
 {
-    matches!(to, "" | "own" | "both")
+    to.is_empty() || is_alike(to, "own") || is_alike(to, "both")
 }
 
 /// Whether a row speaks of commands by broadcast, by its text in the column `to`.
 fn goes_by_broadcast(to: &str) -> bool
     ensures { result ≡ goes_by_broadcast to.now }
 {
-    matches!(to, "broadcast" | "both")
+    is_alike(to, "broadcast") || is_alike(to, "both")
 }
 
 /// The set, if this is so, and otherwise none of it.

@@ -2,13 +2,13 @@
 ghost use Rattle.std.specs.Prelude.{IfOk, List, ℕ};
 ghost use Rattle.tool_profiles.specs.Found.{EndsImport};
 
-use rt1553_import::{ImportFault, Imported, TableFault, import_table};
+use rt1553_import::{ImportFault, Imported, import_table, told_text};
 use std::io::Write;
 use std::rt::Files;
 use tool_files::{REFUSED, ToolFault, read_tool_profile, shown, write_bytes};
 use tool_names::table_fault;
 
-/// Writes the profile, and on the standard error which columns of the table in the file of this name are left out.
+/// Writes the profile, and on the standard error what of the table in the file of this name is worth a look.
 fn put_imported<R: Eprint, W: Write>(
     rt: &R,
     name: &str,
@@ -19,13 +19,6 @@ fn put_imported<R: Eprint, W: Write>(
         let _ = eprintln!(rt; "{name}:{warning}");
     }
     write_bytes(output, imported.profile.as_str().as_bytes())
-}
-
-/// Writes the faults of the table in the file of this name on the standard error.
-fn tell_faults<R: Eprint>(rt: &R, name: &str, faults: &[TableFault]) {
-    for fault in faults {
-        let _ = eprintln!(rt; "{name}:{fault}");
-    }
 }
 
 /// Writes the profile that a table means, or on the standard error all that is wrong with the table. Gives the status to end with.
@@ -43,8 +36,9 @@ pub fn import_file<R: Files + AllocGlobal + Eprint, W: Write>(
             put_imported(rt, shown_name.as_str(), &imported, output)?;
             Ok(0)
         }
-        Err(ImportFault::Faults(faults)) => {
-            tell_faults(rt, shown_name.as_str(), faults.as_slice());
+        Err(ImportFault::Faults(faulty)) => {
+            let told = told_text(rt.alloc(), shown_name.as_str(), &faulty)?;
+            let _ = eprintln!(rt; "{}", told.as_str());
             Ok(REFUSED)
         }
         Err(fault) => Err(table_fault(rt, name, fault)),

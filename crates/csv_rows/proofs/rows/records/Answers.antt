@@ -1,11 +1,11 @@
-use Rattle.std.proofs.Common.{Bor, List, ℕ, ◌∙◌, sym, ap, refl, inl, inr, map, Some, []}
-use Rattle.std.proofs.lemmas.List.{map-append}
+use Rattle.std.proofs.Common.{Bor, List, ℕ, ◌∙◌, ◌++◌, ◌∷◌, sym, ap, refl, inl, inr, Some, []}
 use Rattle.csv.specs.Reading.{Reached, strip_bom, builder_trim, builder_names_headers, builder_config}
 use Rattle.csv.specs.Records.{fields_of}
 use Rattle.csv.specs.declared.parser.State.TheVariants as st
 use Rattle.csv.specs.declared.parser.Config.{Config}
 use Rattle.csv.proofs.ReadFacts.{rows-end, rows-more}
-use Rattle.csv_rows.specs.Rows.{csv_config, record_fields}
+use Rattle.csv_rows.specs.Rows.{csv_config, kept_rows}
+use Rattle.csv_rows.proofs.RowLaws.{kept-append}
 use Rattle.csv_rows.proofs.rows.records.Goals as goal
 
 with_delimiter : Config → ℕ → Config
@@ -28,6 +28,8 @@ loop-record-init c =
       fr.config ∙ (ap builder_config d ∙ (ap (λ config. with_delimiter config c.args.delimiter) (ap builder_config e ∙ (ap builder_config h ∙ c.new.ensures.config)))),
       strip_bom c.args.text.now,
       fr.source,
+      [],
+      refl,
       (sym fr.state, refl),
     )
 
@@ -35,12 +37,12 @@ pub loop-record-preserved : goal.loop-record-preserved
 loop-record-preserved c =
     let inv = c.loop-record.invariant in
     let s = rw (c.in-Some.is, c.in-Ok.is) at ((c.next.ensures.steps inv.2 inv.0).0 inv.1) in
-    let items = c.in_ok-push.ensures.items in
-    let m = rows-more (λ (s : Bor (List ℕ)). Some s.now) c.loop-record.record-iterator.rdr c.next.new.self.rdr (fields_of c.in-Ok.fields) (csv_config c.args.delimiter) st.StartRecord (strip_bom c.args.text.now) inv.4 (map record_fields c.loop-record.rows.items) inv.3 inv.5 inv.6 s.0 in
-    (s.0.3 ∙ inv.0, inl s.1, s.2, s.0.2 ∙ inv.3, m.0, m.1, rw (items, map-append record_fields c.loop-record.rows.items _) m.2)
+    let m = rows-more (λ (s : Bor (List ℕ)). Some s.now) c.loop-record.record-iterator.rdr c.next.new.self.rdr (fields_of c.in-Ok.fields) (csv_config c.args.delimiter) st.StartRecord (strip_bom c.args.text.now) inv.4 inv.6 inv.3 inv.5 inv.8 s.0 in
+    let more = c.in_ok-push_record.ensures ∙ (ap (λ rows. rows ++ kept_rows (fields_of c.in-Ok.fields ∷ [])) inv.7 ∙ sym (kept-append inv.6 (fields_of c.in-Ok.fields ∷ []))) in
+    (s.0.3 ∙ inv.0, inl s.1, s.2, s.0.2 ∙ inv.3, m.0, m.1, inv.6 ++ fields_of c.in-Ok.fields ∷ [], more, m.2)
 
 pub returns : goal.returns
 returns c =
     let inv = c.loop-record.invariant in
     let s = rw c.in-None.is at ((c.next.ensures.steps inv.2 inv.0).0 inv.1) in
-    (c.loop-record.record-iterator.rdr.state, inv.4, inv.6, rows-end (λ (s : Bor (List ℕ)). Some s.now) c.loop-record.record-iterator.rdr c.next.new.self.rdr [] (csv_config c.args.delimiter) inv.4 inv.3 inv.5 s)
+    record { records = inv.6; kept = inv.7; read = (c.loop-record.record-iterator.rdr.state, inv.4, inv.8, rows-end (λ (s : Bor (List ℕ)). Some s.now) c.loop-record.record-iterator.rdr c.next.new.self.rdr [] (csv_config c.args.delimiter) inv.4 inv.3 inv.5 s) }

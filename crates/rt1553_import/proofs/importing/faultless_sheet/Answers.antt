@@ -8,7 +8,6 @@ returns-in-Err-clause-refused c = no_table c.args.text.now c.in-Err.fault c.in-E
 
 pub returns-then-not-is_empty-clause-refused : goal.returns-then-not-is_empty-clause-refused
 returns-then-not-is_empty-clause-refused c = record {
-  sheet = c.in-Ok.sheet;
   read = c.in-Ok.ensures.sheet;
   all = c.in_ok-faults.ensures;
   some = some_faults c.in_ok-faults.faults.items (c.if-not-is_empty.ensures ∙ ap (λ fs. length fs == 0) c.as_slice.ensures.value);

@@ -21,7 +21,7 @@ returns-in-Some-first_other c =
       rows = under;
       columns = columns;
       records = asked_rows c.args.text.now rows c.header-item.result (omega (arith, c.in-len1-up.len_at_least)) c.header-item.is
-          (subst (λ xs. AreRows 44 c.args.text.now (map record_fields xs)) (sym c.as_slice.ensures.value) c.in_ok-records.ensures.rows);
+          (subst (λ xs. AreRows c.args.text.now (map record_fields xs)) (sym c.as_slice.ensures.value) c.in_ok-records.ensures.rows);
       found = record {
         number = c.in_ok-number.ensures.found;
         command = subst (λ o. MatchOption o (IsMissing (codes "command") header) (IsColumn (codes "command") header)) c.in-Some.is c.in_ok-command.ensures;
@@ -42,7 +42,7 @@ returns c =
     } in (
       header ∷ under,
       asked_rows c.args.text.now rows c.header-item.result (omega (arith, c.in-len1-up.len_at_least)) c.header-item.is
-          (subst (λ xs. AreRows 44 c.args.text.now (map record_fields xs)) (sym c.as_slice.ensures.value) c.in_ok-records.ensures.rows),
+          (subst (λ xs. AreRows c.args.text.now (map record_fields xs)) (sym c.as_slice.ensures.value) c.in_ok-records.ensures.rows),
       (λ others is. subst (λ columns. All (IsAskedRow (commands_of (description_in c.args.normal.now)) columns) under) (one_place header columns others found is)
           (subst (λ cs. All (IsAskedRow cs columns) under) all c.in-None.ensures)),
     )

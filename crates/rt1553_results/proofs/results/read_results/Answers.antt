@@ -25,7 +25,7 @@ returns-in_err-entry-clause-refused c =
     let some : 0 < length rows = grind (arith, nat_tests, c.is_empty.ensures, c.if-is_empty.false) in
     let r = c.from_residual-in_err-entry in
     let p = err_from_is_err_and r.result r.ensures.1 in
-    let records = subst (λ xs. AreRows 44 c.args.text.now (map record_fields xs)) (sym c.as_slice-rows.ensures.value) c.in_ok-records.ensures.rows in
+    let records = subst (λ xs. AreRows c.args.text.now (map record_fields xs)) (sym c.as_slice-rows.ensures.value) c.in_ok-records.ensures.rows in
     rw (p.1, p.2)
     (first_wrong c.args.text.now (map record_fields rows) (record_fields first) (map record_fields (take i under)) (record_fields row) (map record_fields (drop (i + 1) under))
     c.in_ok-columns.columns c.loop-row.results c.in_err-entry.field-0.0 records (around_row rows first i row some c.index-rows-0.is (omega (arith, c.loop-row-test.true)) c.row-item.is)
@@ -42,7 +42,7 @@ returns-in_err-keep-clause-refused c =
     let some : 0 < length rows = grind (arith, nat_tests, c.is_empty.ensures, c.if-is_empty.false) in
     let r = c.from_residual-in_err-keep in
     let p = err_from_is_err_and r.result r.ensures.1 in
-    let records = subst (λ xs. AreRows 44 c.args.text.now (map record_fields xs)) (sym c.as_slice-rows.ensures.value) c.in_ok-records.ensures.rows in
+    let records = subst (λ xs. AreRows c.args.text.now (map record_fields xs)) (sym c.as_slice-rows.ensures.value) c.in_ok-records.ensures.rows in
     let f = c.in_err-keep.field-0.0 in
     rw (p.1, p.2)
     (first_wrong c.args.text.now (map record_fields rows) (record_fields first) (map record_fields (take i under)) (record_fields row) (map record_fields (drop (i + 1) under))

@@ -7,5 +7,5 @@ pub returns : goal.returns
 returns c =
     c.from.ensures
     ∙ rule_made c.args.self.now c.args.row.now _ _ _ _ _ _ _ _ (ap members_view c.new-members.ensures.empty)
-    c.in_ok-put_text.ensures c.in_ok-put_text-2.ensures c.in_ok-put_text-3.ensures c.in_ok-put_scope.ensures
+    c.in_ok-put_small_text.ensures c.in_ok-put_text.ensures c.in_ok-put_text-2.ensures c.in_ok-put_scope.ensures
     c.cell-kind.ensures c.cell-subaddresses.ensures c.cell-counts.ensures

@@ -1,2 +1,0 @@
--- What the contracts of private functions speak of.
-pub mod Texts
