@@ -476,13 +476,21 @@ def pickles():
         for terminal in (controller(), controller(bus.Recorder(PROFILE)), controller(bus.Faulty(Terminal(PROFILE), [None]))):
             yield f"{way}, a controller", controller().mode(5, 2), lambda it=terminal, through=through: through(it).mode(5, 2)
         for terminal in (deleted(), Terminal.__new__(Terminal)):
-            for held in ([terminal], {"terminal": terminal}, controller(terminal)):
+            yield "a controller of a terminal that was not made", NOT_MADE, controller, terminal
+            for held in ([terminal], {"terminal": terminal}, later_in_controller(terminal)):
                 if way != "copy":
                     yield f"{way}, a terminal that was not made, in a {type(held).__name__}", NOT_MADE, through, held
 
 
 def controller(terminal=None):
     return bus.BusController({5: terminal or Terminal(PROFILE)})
+
+
+def later_in_controller(terminal):
+    """A controller of a terminal that was made when it began, and now of this one."""
+    held = controller()
+    held._terminals[5] = terminal
+    return held
 
 
 def raises_in_worker(what):
