@@ -3,7 +3,7 @@ _rt1553_tool() {
     local now=${COMP_WORDS[COMP_CWORD]} before=${COMP_WORDS[COMP_CWORD - 1]} flags='' kinds=() many='' count=0 index kind
     COMPREPLY=()
     if ((COMP_CWORD == 1)); then
-        mapfile -t COMPREPLY < <(compgen -W 'lint check-script verify recording coverage infer import export expand toml explain differ acceptance draw words live --help --version' -- "$now")
+        mapfile -t COMPREPLY < <(compgen -W 'check canon compare run lint check-script verify answers recording coverage infer import export expand toml explain differ acceptance draw words live --help --version' -- "$now")
         return
     fi
     case ${COMP_WORDS[1]}:$before in
@@ -29,9 +29,14 @@ _rt1553_tool() {
         draw:--names) mapfile -t COMPREPLY < <(compgen -f -X '!*.csv' -- "$now"; compgen -d -- "$now"); return ;;
     esac
     case ${COMP_WORDS[1]} in
+        check) flags='--help' kinds=(profile) many='' ;;
+        canon) flags='--help' kinds=(profile) many='' ;;
+        compare) flags='--help' kinds=(profile profile) many='' ;;
+        run) flags='--help' kinds=(profile script) many='' ;;
         lint) flags='--format --help' kinds=(profile) many='profile' ;;
         check-script) flags='--help' kinds=(script) many='script' ;;
         verify) flags='--summary --bus-only --any-subsystem --already-on --witness --expand --profiles --format --names --help' kinds=(profile script) many='script' ;;
+        answers) flags='--expand --help' kinds=(profile script) many='' ;;
         recording) flags='--address --gap --no-response --pause --help' kinds=(table) many='' ;;
         coverage) flags='--expand --format --names --help' kinds=(profile script) many='script' ;;
         infer) flags='--address --unseen --expand --help' kinds=(script) many='' ;;

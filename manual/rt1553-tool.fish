@@ -2,6 +2,14 @@
 complete -c rt1553-tool -f
 complete -c rt1553-tool -n __fish_use_subcommand -l help -d 'lists the commands'
 complete -c rt1553-tool -n __fish_use_subcommand -l version -d 'prints the versions'
+complete -c rt1553-tool -n __fish_use_subcommand -a check -d 'Prints ok, or the faults of a profile'
+complete -c rt1553-tool -n '__fish_seen_subcommand_from check' -F
+complete -c rt1553-tool -n __fish_use_subcommand -a canon -d 'Prints the canonical text of a profile'
+complete -c rt1553-tool -n '__fish_seen_subcommand_from canon' -F
+complete -c rt1553-tool -n __fish_use_subcommand -a compare -d 'Prints same, or a script that two terminals answer differently'
+complete -c rt1553-tool -n '__fish_seen_subcommand_from compare' -F
+complete -c rt1553-tool -n __fish_use_subcommand -a run -d 'Prints the transcript of a script'
+complete -c rt1553-tool -n '__fish_seen_subcommand_from run' -F
 complete -c rt1553-tool -n __fish_use_subcommand -a lint -d 'Prints all faults of profiles, and what has no effect'
 complete -c rt1553-tool -n '__fish_seen_subcommand_from lint' -l format -x -a 'text json sarif' -d 'the output format'
 complete -c rt1553-tool -n '__fish_seen_subcommand_from lint' -F
@@ -18,6 +26,9 @@ complete -c rt1553-tool -n '__fish_seen_subcommand_from verify' -l profiles -x -
 complete -c rt1553-tool -n '__fish_seen_subcommand_from verify' -l format -x -a 'text json junit html' -d 'the output format'
 complete -c rt1553-tool -n '__fish_seen_subcommand_from verify' -l names -r -F -d 'puts the names of messages in TABLE beside their numbers'
 complete -c rt1553-tool -n '__fish_seen_subcommand_from verify' -F
+complete -c rt1553-tool -n __fish_use_subcommand -a answers -d 'Writes a script with the answers of a terminal stated'
+complete -c rt1553-tool -n '__fish_seen_subcommand_from answers' -l expand -d 'takes messages, too, as `expand` does'
+complete -c rt1553-tool -n '__fish_seen_subcommand_from answers' -F
 complete -c rt1553-tool -n __fish_use_subcommand -a recording -d 'Writes the recording of a terminal that the table of a monitor has'
 complete -c rt1553-tool -n '__fish_seen_subcommand_from recording' -l address -x -d 'the address of the terminal, 0 to 30; it has to be given'
 complete -c rt1553-tool -n '__fish_seen_subcommand_from recording' -l gap -x -d 'a longer silence is a gap, in microseconds (default: 1)'

@@ -3,9 +3,14 @@
 _rt1553_tool() {
     local -a commands
     commands=(
+        'check:Prints ok, or the faults of a profile'
+        'canon:Prints the canonical text of a profile'
+        'compare:Prints same, or a script that two terminals answer differently'
+        'run:Prints the transcript of a script'
         'lint:Prints all faults of profiles, and what has no effect'
         'check-script:Prints which lines of scripts are refused, where and why'
         'verify:Prints where a terminal does not answer as scripts state'
+        'answers:Writes a script with the answers of a terminal stated'
         'recording:Writes the recording of a terminal that the table of a monitor has'
         'coverage:Prints which messages of a terminal came in recordings, and which never'
         'infer:Proposes a profile that explains a recording'
@@ -29,9 +34,14 @@ _rt1553_tool() {
     shift words
     ((CURRENT--))
     case $command in
+        check) _arguments '--help[prints what the command takes]' '1:P:_files -g "*.(toml|rt1553)(-.)"' ;;
+        canon) _arguments '--help[prints what the command takes]' '1:P:_files -g "*.(toml|rt1553)(-.)"' ;;
+        compare) _arguments '--help[prints what the command takes]' '1:P:_files -g "*.(toml|rt1553)(-.)"' '2:Q:_files -g "*.(toml|rt1553)(-.)"' ;;
+        run) _arguments '--help[prints what the command takes]' '1:P:_files -g "*.(toml|rt1553)(-.)"' '2:SCRIPT:_files -g "*.(script)(-.)"' ;;
         lint) _arguments '--help[prints what the command takes]' '--format[the output format]:format:(text json sarif)' '*:P:_files -g "*.(toml|rt1553)(-.)"' ;;
         check-script) _arguments '--help[prints what the command takes]' '*:SCRIPT:_files -g "*.(script)(-.)"' ;;
         verify) _arguments '--help[prints what the command takes]' '--summary[prints what passes, too, clause by clause]' '--bus-only[ignores hand-overs that a script does not state]' '--any-subsystem[takes scripts as recordings\: some behaviour of the subsystem is to explain them]' '--already-on[with --any-subsystem takes recordings that began while the unit was on]' '--witness[with --any-subsystem prints a script that explains the recording]' '--expand[takes messages, too, as `expand` does]' '(1)--profiles[in place of P\: each script names its profile in FOLDER]:FOLDER:_files -/' '--format[the output format]:format:(text json junit html)' '--names[puts the names of messages in TABLE beside their numbers]:TABLE:_files -g "*.(csv)(-.)"' '(--profiles)1:P:_files -g "*.(toml|rt1553)(-.)"' '*:SCRIPT:_files -g "*.(script)(-.)"' ;;
+        answers) _arguments '--help[prints what the command takes]' '--expand[takes messages, too, as `expand` does]' '1:P:_files -g "*.(toml|rt1553)(-.)"' '2:SCRIPT:_files -g "*.(script)(-.)"' ;;
         recording) _arguments '--help[prints what the command takes]' '--address[the address of the terminal, 0 to 30; it has to be given]:N: ' '--gap[a longer silence is a gap, in microseconds (default\: 1)]:TIME: ' '--no-response[a status word after a longer silence is no reply, in microseconds (default\: 12)]:TIME: ' '--pause[a longer silence of both buses is a pause, in microseconds (default\: 100)]:TIME: ' '1:TABLE:_files -g "*.(csv)(-.)"' ;;
         coverage) _arguments '--help[prints what the command takes]' '--expand[takes messages, too, as `expand` does]' '--format[the output format]:format:(text json html)' '--names[puts the names of messages in TABLE beside their numbers]:TABLE:_files -g "*.(csv)(-.)"' '1:P:_files -g "*.(toml|rt1553)(-.)"' '*:SCRIPT:_files -g "*.(script)(-.)"' ;;
         infer) _arguments '--help[prints what the command takes]' '--address[the address of the terminal, 0 to 30; it has to be given]:N: ' '--unseen[what a message is of which nothing showed whether it is legal]:unseen:(illegal legal)' '--expand[takes messages, too, as `expand` does]' '1:SCRIPT:_files -g "*.(script)(-.)"' ;;

@@ -34,7 +34,7 @@ class Shown(dict):
 
     def __missing__(self, text):
         told = run(self.tool, "toml", f"no/{text}").errors.decode()
-        self[text] = told.removeprefix("file: cannot read no/").removesuffix("\n")
+        self[text] = told.removeprefix("file: cannot read no/").removesuffix("\n").removesuffix(": no such file")
         return self[text]
 
 

@@ -52,9 +52,9 @@ FILES = {"profile": LARGEST, "results": "number,reply\n1,none\n"}
 FAILING = [
     Row("--against with --format csv", (*AGAINST, "--format", "csv"), 3, errors=USAGE, files=FILES),
     Row("--against with --format json", ("acceptance", "--format", "json", *AGAINST[1:]), 3, errors=USAGE, files=FILES),
-    Row("results that are not there", AGAINST, 4, errors="file: cannot read results\n", files={"profile": LARGEST}),
-    Row("results that are a folder", AGAINST, 4, errors="file: cannot read results\n", files={"profile": LARGEST, "results/in": ""}),
-    Row("a profile that is not there", ("acceptance", "profile"), 4, errors="file: cannot read profile\n"),
+    Row("results that are not there", AGAINST, 4, errors="file: cannot read results: no such file\n", files={"profile": LARGEST}),
+    Row("results that are a folder", AGAINST, 4, errors="file: cannot read results: it is a folder\n", files={"profile": LARGEST, "results/in": ""}),
+    Row("a profile that is not there", ("acceptance", "profile"), 4, errors="file: cannot read profile: no such file\n"),
 ]  # fmt: skip
 WRITES = [("acceptance", "profile"), ("acceptance", "profile", "--format", "csv"), ("acceptance", "profile", "--format", "json"), AGAINST]
 
@@ -175,7 +175,7 @@ def test_failing(shipped, row, tmp_path):
 def test_results_that_are_too_large(shipped, tmp_path):
     write_files(tmp_path, FILES)
     os.truncate(tmp_path / "results", 68_157_441)
-    assert run(shipped.tool, *AGAINST, folder=tmp_path) == Given(4, b"", b"file: too large results\n")
+    assert run(shipped.tool, *AGAINST, folder=tmp_path) == Given(4, b"", b"file: too large results: at most 68,157,440 bytes\n")
 
 
 @pytest.mark.parametrize("words", WRITES, ids=" ".join)

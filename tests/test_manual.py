@@ -29,7 +29,10 @@ rt1553 check .|a.toml b.rt1553 sub
 rt1553 run a.toml .|c.script sub
 rt1553 run a.toml c.script .|
 rt1553 compare a.toml .|a.toml b.rt1553 sub
-rt1553-tool .|--help --version acceptance check-script coverage differ draw expand explain export import infer lint live recording toml verify words
+rt1553-tool .|--help --version acceptance answers canon check check-script compare coverage differ draw expand explain export import infer lint live recording run toml verify words
+rt1553-tool answers --|--expand --help
+rt1553-tool run a.toml .|c.script sub
+rt1553-tool compare a.toml .|a.toml b.rt1553 sub
 rt1553-tool l|lint live
 rt1553-tool lint a.toml .|a.toml b.rt1553 sub
 rt1553-tool lint --|--format --help
@@ -121,8 +124,12 @@ def test_usage_line_of_rt1553(shipped):
 
 
 def test_words_of_tool(shipped):
-    found = [row for row in rows_of(printed(shipped.tool, "--help"), "Commands") if row[0] != "help"]
-    assert found == [[it["name"], it["about"]] for it in TOOL["command"]]
+    """Under each heading in the order of the description."""
+    said = printed(shipped.tool, "--help")
+    wanted = {}
+    for it in TOOL["command"]:
+        wanted.setdefault(it["heading"], []).append([it["name"], it["about"]])
+    assert {it: rows_of(said, it) for it in wanted} == wanted
 
 
 @pytest.mark.parametrize("command", COMMANDS)
@@ -139,7 +146,7 @@ def test_options_of_command(command, shipped):
 
 def test_version_of_tool(shipped):
     number, canonical = manual.version()
-    assert run(shipped.tool, "--version") == (0, f"rt1553-tool {number} (canonical text {canonical})\n".encode(), b"")
+    assert run(shipped.tool, "-V") == (0, f"rt1553-tool {number} (canonical text {canonical})\n".encode(), b"")
 
 
 @pytest.mark.parametrize("example", EXAMPLES, ids=lambda it: it["command"][:60])

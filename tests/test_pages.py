@@ -12,6 +12,7 @@ and is in no session fails, and so do a block of TOML that is no accepted profil
 import json
 import re
 import shutil
+import textwrap
 
 import manual
 import pytest
@@ -156,7 +157,7 @@ def test_name_of_archive():
 
 
 def test_versions_in_changelog(shipped):
-    assert f"    {succeed(shipped.tool, '--version').decode()}".rstrip("\n") in TEXTS["CHANGELOG.md"]
+    assert textwrap.indent(succeed(shipped.tool, "--version").decode(), "    ") in TEXTS["CHANGELOG.md"]
 
 
 def test_version_of_vscode_package():

@@ -131,8 +131,8 @@ ROWS = with_files(
         '{"file":"broken","profile":"five","passes":false,"answers":null,"warning":null,"clauses":[],"differences":[],'
         '"fault":"broken: script: line 3, column 5: a space at the end: nothing may follow the last field"}\n'
         '{"file":"none","profile":"five","passes":false,"answers":null,"warning":null,"clauses":[],"differences":[],'
-        '"fault":"file: cannot read none"}\n',
-        "broken: script: line 3, column 5: a space at the end: nothing may follow the last field\nfile: cannot read none\n"),
+        '"fault":"file: cannot read none: no such file"}\n',
+        "broken: script: line 3, column 5: a space at the end: nothing may follow the last field\nfile: cannot read none: no such file\n"),
     Row("JUnit to the byte", "verify --format junit five good wrong none", 4, """\
 <?xml version="1.0" encoding="UTF-8"?>
 <testsuites tests="3" failures="1" errors="1" skipped="0" time="0">
@@ -153,13 +153,13 @@ wrong:15: expected nothing, came A s 2800
 </failure>
 </testcase>
 <testcase name="none" classname="five" time="0">
-<error message="file: cannot read none"/>
+<error message="file: cannot read none: no such file"/>
 </testcase>
 </testsuite>
 </testsuites>
-""", "file: cannot read none\n"),
+""", "file: cannot read none: no such file\n"),
     *(Row(f"--summary beside {it}", f"verify --summary --format {it} five good", 3, errors="arguments: see --help\n") for it in FORMATS),
-    *(Row(f"a profile that is not there: {it}", f"verify --format {it} none good", 4, errors="file: cannot read none\n") for it in FORMATS),
+    *(Row(f"a profile that is not there: {it}", f"verify --format {it} none good", 4, errors="file: cannot read none: no such file\n") for it in FORMATS),
 )  # fmt: skip
 
 

@@ -1,4 +1,4 @@
-"""`rt1553` where the system refuses memory, a read or a write, gives or takes few bytes at once, or interrupts a call.
+"""The programs where the system refuses memory, a read or a write, gives or takes few bytes at once, or interrupts a call.
 
 tests/refuse.c does so, loaded before a program that takes the C library from outside.
 """
@@ -39,6 +39,16 @@ GROWTH_ROWS = [
     growth_row("run of a refused profile", "run bad script", ""),
     growth_row("run, an absent script", "run five absent", ""),
 ]
+# the same of `rt1553-tool`
+TOOL_GROWTH_ROWS = [
+    *GROWTH_ROWS,
+    growth_row("help", "--help", ""),
+    growth_row("the version", "--version", ""),
+    growth_row("no command", "chek five", ""),
+    growth_row("an option left out", "infer script", ""),
+    growth_row("lint", "lint bad", ""),
+    growth_row("check-script", "check-script script", ""),
+]
 FAILING_ROWS = [
     ("REFUSE_READ", "", READ_FAILED),
     ("REFUSE_READ", "check five", "file: cannot read five\n"),
@@ -64,14 +74,23 @@ def shim(tmp_path_factory):
     return made
 
 
+def linked(program, folder):
+    """A program with the C library from outside: what is shipped holds the library, and beside it stands an object that doesn't."""
+    if program.suffix == ".by-rattle":
+        return program
+    to = folder / program.name
+    subprocess.run([os.environ.get("CC", "cc"), "-pie", "-o", to, program.with_name(f"{program.name}.o")], check=True)
+    return to
+
+
 @pytest.fixture(scope="session")
 def dynamic(rt1553, tmp_path_factory):
-    """The program with the C library from outside: what is shipped holds the library, and beside it stands an object that doesn't."""
-    if rt1553.name != "rt1553":
-        return rt1553
-    linked = tmp_path_factory.mktemp("dynamic") / "rt1553"
-    subprocess.run([os.environ.get("CC", "cc"), "-pie", "-o", linked, rt1553.with_name("rt1553.o")], check=True)
-    return linked
+    return linked(rt1553, tmp_path_factory.mktemp("dynamic"))
+
+
+@pytest.fixture(scope="session")
+def dynamic_tool(tool, tmp_path_factory):
+    return linked(tool, tmp_path_factory.mktemp("dynamic"))
 
 
 @pytest.fixture(scope="session")
@@ -111,15 +130,24 @@ def strikes(strike):
     return play
 
 
-@pytest.mark.parametrize("row", GROWTH_ROWS, ids=lambda it: it.name)
-def test_growths(dynamic, strikes, row, tmp_path, count_runs):
-    """Each growth of memory refused: the answer is the ample one, or `out of memory`."""
-    write_files(tmp_path, row.files)
-    ample = run(dynamic, *row.words.split(), stdin=row.stdin, folder=tmp_path)
-    for number, given, struck in strikes(dynamic, row.words, "REFUSE_GROWTH", MOST_GROWTHS, row.stdin):
+def check_growths(program, strikes, row, folder):
+    """Refuses each growth of memory in turn: the answer is the ample one, or `out of memory`. Gives how many there are."""
+    write_files(folder, row.files)
+    ample = run(program, *row.words.split(), stdin=row.stdin, folder=folder)
+    for number, given, struck in strikes(program, row.words, "REFUSE_GROWTH", MOST_GROWTHS, row.stdin):
         assert given == ample or struck and given == OUT_OF_MEMORY, f"growth {number}"
     assert number > 1
-    count_runs(number)
+    return number
+
+
+@pytest.mark.parametrize("row", GROWTH_ROWS, ids=lambda it: it.name)
+def test_growths(dynamic, strikes, row, tmp_path, count_runs):
+    count_runs(check_growths(dynamic, strikes, row, tmp_path))
+
+
+@pytest.mark.parametrize("row", TOOL_GROWTH_ROWS, ids=lambda it: it.name)
+def test_growths_of_tool(dynamic_tool, strikes, row, tmp_path, count_runs):
+    count_runs(check_growths(dynamic_tool, strikes, row, tmp_path))
 
 
 def test_growths_of_each_call(probe, strikes, tmp_path, count_runs):

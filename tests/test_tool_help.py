@@ -2,12 +2,16 @@
 
 import os
 import pty
+import re
 import subprocess
 
 import pytest
-from programs import run, write_files
+from programs import TOP, run, write_files
 
-WORDS = ["lint", "check-script", "verify", "import", "export", "expand", "toml", "explain", "differ", "acceptance", "draw", "words", "live"]
+WORDS = [
+    "check", "canon", "compare", "run", "lint", "check-script", "verify", "answers", "recording", "coverage", "infer", "import", "export",
+    "expand", "toml", "explain", "differ", "acceptance", "draw", "words", "live",
+]  # fmt: skip
 BOLD, GREEN, RED, PLAIN = "\033[1m", "\033[32m", "\033[31m", "\033[0m"
 FILES = {
     "five": "address = 5\n",
@@ -17,8 +21,32 @@ FILES = {
 }
 
 
+# what is nearly a command, or wants more, with a line of what is said of it
+NEARLY = {
+    "veryfi": "  tip: a similar subcommand exists: 'verify'",
+    "chek": "  tip: some similar subcommands exist: 'check-script', 'check'",
+    "explan P": "  tip: a similar subcommand exists: 'explain'",
+    "recording T": "  --address <N>",
+    "infer S": "  --address <N>",
+    "lint --formt json P": "  tip: a similar argument exists: '--format'",
+    "compare P": "  <Q>",
+    "run P": "  <SCRIPT>",
+    "answers P": "  <SCRIPT>",
+}
+
+
 def test_version(tool):
-    assert run(tool, "--version") == (0, b"rt1553-tool 0.1 (canonical text 2)\n", b"")
+    """The toolchain is that of the Makefile."""
+    kit = re.search("^export KIT = (.*)$", (TOP / "Makefile").read_text(encoding="utf-8"), re.MULTILINE)[1]
+    first = "rt1553-tool 0.1 (canonical text 2)\n"
+    assert run(tool, "-V") == (0, first.encode(), b"")
+    assert run(tool, "--version") == (0, f"{first}proved and built by {kit}\n".encode(), b"")
+
+
+@pytest.mark.parametrize("words", NEARLY)
+def test_words_that_are_nearly_right(tool, words):
+    given = run(tool, *words.split())
+    assert (given.status, given.output) == (3, b"") and NEARLY[words] in given.errors.decode().splitlines()
 
 
 @pytest.mark.parametrize("word", WORDS)
@@ -30,8 +58,13 @@ def test_help(tool, word):
 
 
 def test_help_of_all(tool):
+    """It has the commands under headings."""
     given = run(tool, "--help")
     assert (given.status, given.errors) == (0, b"")
+    lines = given.output.decode().splitlines()
+    assert [it for it in lines if it.endswith(":")] == ["Profiles:", "Scripts:", "Units and recordings:", "Documents:", "Options:"]
+    assert sorted(it.split()[0] for it in lines if it.startswith("  ") and not it.startswith("  -")) == sorted(WORDS)
+    assert run(tool, "help") == given
 
 
 @pytest.mark.parametrize("words", [[it] for it in WORDS if it != "words"] + [[], ["none"]], ids=lambda it: " ".join(it) or "no word")

@@ -63,7 +63,7 @@ LINT = with_files(
     Row("lint: files that are fine, refused and not there", "lint five open none idle", 4,
         "open:2:8: error: profile: not TOML: unclosed array table, expected `]]`\n"
         "idle:2:1: warning: vector has no effect: mode code 16 is not legal\n",
-        "file: cannot read none\n"),
+        "file: cannot read none: no such file\n"),
     Row("lint: JSON", "lint --format json idle", 1,
         '{"file":"idle","line":2,"column":1,"severity":"warning","number":null,"name":null,"message":"vector has no effect: mode code 16 is '
         'not legal"}\n'),

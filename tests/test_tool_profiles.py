@@ -66,7 +66,7 @@ DIFFERING = with_files(
         "    slot\n"),
     Row("word counts as JSON", "differ --scripts --format json five six", 1,
         '[{"what":"address","subaddresses":[],"numbers":[],"first":"5","second":"6","script":["A c 2c02","A gap","slot"]}]\n'),
-    Row("a profile that is not there", "differ five none", 4, errors="file: cannot read none\n"),
+    Row("a profile that is not there", "differ five none", 4, errors="file: cannot read none: no such file\n"),
 )  # fmt: skip
 AS_TOML = [
     Row("the smallest profile as TOML", "toml five", 0, "address = 5\n", files={"five": "address = 5\n"}),

@@ -16,7 +16,7 @@ IMPORTS = [
         errors='marked.csv:2:2: error: value: "0x1f": allowed is 0 to 30\n', files={"marked.csv": "\ufeffkind,value\naddress,0x1f\n"}),
     Row("a table that is not UTF-8", "import bytes.csv", 2,
         errors="bytes.csv: table: not UTF-8\n", files={"bytes.csv": b"kind,value\naddress,\xff\n"}),
-    Row("a table that is not there", "import none", 4, errors="file: cannot read none\n"),
+    Row("a table that is not there", "import none", 4, errors="file: cannot read none: no such file\n"),
 ]  # fmt: skip
 
 
@@ -102,7 +102,7 @@ NAMED = [
         '2: transmit status word: legal: expected 2c10, came 2c00\n1030: "settings": receive 3, 4 words: legal: expected 2800, came 2c00\n'
         "no result for 3 to 1027\nno result for 1029\nno result for 1031 to 3873\n"
         "2 of 3873 exchanges are answered otherwise: it is another terminal\n"),
-    Row("a table of names that is not there", "verify --names none named.toml v", 4, errors="file: cannot read none\n"),
+    Row("a table of names that is not there", "verify --names none named.toml v", 4, errors="file: cannot read none: no such file\n"),
     Row("verify with names, each script with its profile", "verify --names names.csv --profiles folder own", 1,
         'own:5: "e\\u{1b}[2Kf\\u{202e}g": expected hand receive broadcast 01 0001, came hand receive broadcast 01 0001 0002\n'
         "own: differences: 1\n"),

@@ -9,7 +9,7 @@ use Rattle.clap.specs.Walk.{rows_of}
 use Rattle.clap.specs.declared.parser.matches.Found.{Found}
 use Rattle.clap.specs.declared.parser.matches.ArgMatches.{ArgMatches}
 use Rattle.rt1553_tool_args.specs.declared.command.ToolCommand.{ToolCommand}
-use Rattle.rt1553_tool_args.specs.declared.command.ToolCommand.TheVariants.{Lint, CheckScript, Verify, Witness, Monitor, Coverage, Infer, Import, Export, Expand, Toml, Explain, Differ, Acceptance, Against, Draw, Words, Live}
+use Rattle.rt1553_tool_args.specs.declared.command.ToolCommand.TheVariants.{Lint, CheckScript, Verify, Witness, Monitor, Coverage, Infer, Import, Export, Expand, Toml, Explain, Differ, Acceptance, Against, Draw, Words, Live, Answers, Check, Canon, Run, Compare}
 use Rattle.rt1553_tool_args.specs.declared.command.Profiles.{Profiles}
 use Rattle.rt1553_tool_args.specs.declared.command.Profiles.TheVariants.{One, Folder}
 use Rattle.rt1553_tool_args.specs.declared.command.ScriptKind.{ScriptKind}
@@ -123,6 +123,11 @@ command_name (Against asked) = codes "acceptance"
 command_name (Draw asked) = codes "draw"
 command_name Words = codes "words"
 command_name (Live p) = codes "live"
+command_name (Answers asked) = codes "answers"
+command_name (Check p) = codes "check"
+command_name (Canon p) = codes "canon"
+command_name (Run p script) = codes "run"
+command_name (Compare p q) = codes "compare"
 
 -- what a command says of its arguments
 abbrev pub Asks : Found → ToolCommand → Type 0
@@ -162,6 +167,12 @@ Asks f (Draw asked) =
     × (asked.html ≡ is_given f (codes "html")) × HasNames f asked.names
 Asks f Words = Unit {0}
 Asks f (Live p) = HasValue f (codes "profile") p.now
+Asks f (Answers asked) =
+    HasValue f (codes "profile") asked.profile.now × HasValue f (codes "script") asked.script.now × (asked.expand ≡ is_given f (codes "expand"))
+Asks f (Check p) = HasValue f (codes "profile") p.now
+Asks f (Canon p) = HasValue f (codes "profile") p.now
+Asks f (Run p script) = HasValue f (codes "profile") p.now × HasValue f (codes "script") script.now
+Asks f (Compare p q) = HasValue f (codes "profile") p.now × HasValue f (codes "other") q.now
 
 -- clap met the subcommand of this command, with these arguments
 pub record IsAskedBy (m : ArgMatches) (command : ToolCommand) : Type 0 where

@@ -5,14 +5,26 @@ ghost use Rattle.clap.specs.declared.parser.matches.ArgMatches.{ArgMatches as Ma
 ghost use Rattle.rt1553_tool_args.specs.Commands.{IsAskedBy};
 
 use crate::command::{ToolCommand, tool_command_of};
-use crate::table::{Argument, COMMANDS, CommandRow, Occurrence};
+use crate::table::{Argument, COMMANDS, CommandGroup, CommandRow, HEADINGS, Occurrence};
 use clap::error::ErrorKind;
 use clap::{Arg, ArgAction, Command};
 use rt1553_files::escaped;
 use std::alloc::{AllocError, AllocFailed, Global};
 
-/// What `--version` tells: the program's version, and that of the canonical text that it reads and writes.
+/// The program's version, and that of the canonical text that it reads and writes.
 pub const VERSION: &str = "0.1 (canonical text 2)";
+
+/// The same with the toolchain by which the program is proved and built, as `--version` tells it.
+const VERSIONS: &str =
+    "0.1 (canonical text 2)\nproved and built by rattle-kit-13f logic dac8208d650f15bf";
+
+/// What the program does.
+const ABOUT: &str = "Checks, explains, compares and tests profiles of a remote terminal";
+
+/// What follows the commands in the help.
+const OPTIONS: &str = "\nOptions:\n\
+    \x20 -h, --help     Print help; behind a command what the command takes\n\
+    \x20 -V, --version  Print version; --version also the toolchain\n";
 
 /// Why no job is given.
 #[derive(Clone, Copy)]
@@ -80,6 +92,12 @@ fn argument<'a>(alloc: Global, row: &Argument) -> Result<Arg<'a>, AllocError> {
                 .action(ArgAction::Set)
                 .value_name(row.value),
         ),
+        Occurrence::Needed => Ok(
+            arg.required(true)
+                .long(row.id)
+                .action(ArgAction::Set)
+                .value_name(row.value),
+        ),
         Occurrence::Flag => Ok(arg.long(row.id).action(ArgAction::SetTrue)),
         Occurrence::OneOf(default, values) => Ok(
             arg.long(row.id)
@@ -105,7 +123,8 @@ fn subcommand<'a>(alloc: Global, row: &CommandRow) -> Result<Command<'a>, AllocE
 fn bare_program<'a>(alloc: Global) -> Command<'a> {
     Command::new(alloc, "rt1553-tool")
         .version(VERSION)
-        .about("Checks, explains, compares and tests profiles of a remote terminal")
+        .long_version(VERSIONS)
+        .about(ABOUT)
         .subcommand_required(true)
 }
 
@@ -116,6 +135,29 @@ fn program<'a>(alloc: Global) -> Result<Command<'a>, AllocError> {
         program = program.subcommand(subcommand(alloc, row)?)?;
     }
     Ok(program)
+}
+
+/// Adds a heading, and a line for each command under it.
+fn push_commands(text: &mut String, group: CommandGroup, title: &str) -> Result<(), AllocError> {
+    write!(text, "\n{title}:\n")?;
+    for row in &COMMANDS {
+        if row.group == group {
+            let (name, about) = (row.name, row.about);
+            write!(text, "  {name:<12}  {about}\n")?;
+        }
+    }
+    Ok(())
+}
+
+/// The help of the program: its commands under their headings.
+fn help_text(alloc: Global) -> Result<String, AllocError> {
+    let mut text = String::from_str(alloc, ABOUT)?;
+    text.push_str("\n\nUsage: rt1553-tool <COMMAND>\n")?;
+    for row in &HEADINGS {
+        push_commands(&mut text, row.0, row.1)?;
+    }
+    text.push_str(OPTIONS)?;
+    Ok(text)
 }
 
 /// The arguments as they are printed.
@@ -130,8 +172,9 @@ fn shown_args(alloc: Global, args: &[String]) -> Result<Vec<String>, AllocError>
 /// Prints what clap says of arguments that it finds a fault with, or that ask for help or for the version. What clap repeats of them is
 /// escaped.
 fn say<R: AllocGlobal + Print + Eprint>(rt: &R, args: &[String]) -> Result<NoCommand, NoCommand> {
-    let shown = shown_args(rt.alloc(), args)?;
-    let Err(error) = program(rt.alloc())?.try_get_matches_from(shown.as_slice()) else {
+    let (shown, help) = (shown_args(rt.alloc(), args)?, help_text(rt.alloc())?);
+    let told = program(rt.alloc())?.override_help(help.as_str());
+    let Err(error) = told.try_get_matches_from(shown.as_slice()) else {
         return Ok(NoCommand::Usage);
     };
     if error.kind() == ErrorKind::OutOfMemory {
@@ -157,6 +200,9 @@ pub fn read_tool_args<'a, R: AllocGlobal + Print + Eprint>(
 {
     match program(rt.alloc())?.try_get_matches_from(args) {
         Ok(matches) => tool_command_of(rt.alloc(), &matches),
-        Err(_) => Err(say(rt, args)?),
+        Err(error) => match error.kind() {
+            ErrorKind::OutOfMemory => Err(NoCommand::Memory),
+            _ => Err(say(rt, args)?),
+        },
     }
 }

@@ -137,6 +137,15 @@ pub struct AskedProfile<'a> {
     pub expand: bool,
 }
 
+/// What is asked for of a script whose answers are to be stated.
+#[derive(Clone, Copy)]
+pub struct AskedAnswers<'a> {
+    pub profile: &'a str,
+    pub script: &'a str,
+    /// The file has messages, which are expanded first.
+    pub expand: bool,
+}
+
 /// What is asked for of two terminals.
 #[derive(Clone, Copy)]
 pub struct AskedComparison<'a> {
@@ -225,6 +234,22 @@ pub enum ToolCommand<'a> {
     Words,
     /// Lines played as they come.
     Live(&'a str),
+    /// A script with the answers of a terminal stated.
+    Answers(AskedAnswers<'a>),
+    /// Whether a profile is accepted.
+    Check(&'a str),
+    /// The canonical text of a terminal.
+    Canon(&'a str),
+    /// The transcript of a script.
+    Run {
+        profile: &'a str,
+        script: &'a str,
+    },
+    /// Whether two profiles mean the same terminal, and a script that two answer differently.
+    Compare {
+        profile: &'a str,
+        other: &'a str,
+    },
 }
 
 /// The value of an argument that has to be there.
@@ -522,6 +547,37 @@ fn draw_command<'a>(given: &ArgMatches<'a>) -> Result<ToolCommand<'a>, NoCommand
     }))
 }
 
+/// What `answers` is asked for.
+fn answers_command<'a>(given: &ArgMatches<'a>) -> Result<ToolCommand<'a>, NoCommand>
+    ensures { IfOk result (λ command. (command_name command ≡ codes "answers") × Asks (found_of given.now) command) }
+{
+    Ok(ToolCommand::Answers(AskedAnswers {
+        profile: required(given, "profile")?,
+        script: required(given, "script")?,
+        expand: is_flag_given(given, "expand"),
+    }))
+}
+
+/// What `run` is asked for.
+fn run_command<'a>(given: &ArgMatches<'a>) -> Result<ToolCommand<'a>, NoCommand>
+    ensures { IfOk result (λ command. (command_name command ≡ codes "run") × Asks (found_of given.now) command) }
+{
+    Ok(ToolCommand::Run {
+        profile: required(given, "profile")?,
+        script: required(given, "script")?,
+    })
+}
+
+/// What `compare` is asked for.
+fn compare_command<'a>(given: &ArgMatches<'a>) -> Result<ToolCommand<'a>, NoCommand>
+    ensures { IfOk result (λ command. (command_name command ≡ codes "compare") × Asks (found_of given.now) command) }
+{
+    Ok(ToolCommand::Compare {
+        profile: required(given, "profile")?,
+        other: required(given, "other")?,
+    })
+}
+
 /// What the command of this name is asked for.
 fn command_of<'a>(
     alloc: Global,
@@ -548,6 +604,11 @@ fn command_of<'a>(
         "draw" => draw_command(given),
         "words" => Ok(ToolCommand::Words),
         "live" => Ok(ToolCommand::Live(required(given, "profile")?)),
+        "answers" => answers_command(given),
+        "check" => Ok(ToolCommand::Check(required(given, "profile")?)),
+        "canon" => Ok(ToolCommand::Canon(required(given, "profile")?)),
+        "run" => run_command(given),
+        "compare" => compare_command(given),
         _ => Err(NoCommand::Usage),
     }
 }

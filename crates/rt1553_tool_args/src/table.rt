@@ -13,6 +13,8 @@ pub enum Occurrence {
     OftenOr(&'static str),
     /// As an option with a value, which may be left out.
     Value,
+    /// As an option with a value, which has to be given.
+    Needed,
     /// As an option without a value.
     Flag,
     /// As an option with this value where it is left out, or one of these.
@@ -30,10 +32,28 @@ pub struct Argument {
     pub help: &'static str,
 }
 
+/// What commands are about: the headings of the help.
+#[derive(Clone, Copy, PartialEq, Eq)]
+pub enum CommandGroup {
+    Profiles,
+    Scripts,
+    Units,
+    Documents,
+}
+
+/// The headings with their texts, in the order of the help.
+pub const HEADINGS: [(CommandGroup, &str); 4] = [
+    (CommandGroup::Profiles, "Profiles"),
+    (CommandGroup::Scripts, "Scripts"),
+    (CommandGroup::Units, "Units and recordings"),
+    (CommandGroup::Documents, "Documents"),
+];
+
 /// A command.
 #[derive(Clone, Copy)]
 pub struct CommandRow {
     pub name: &'static str,
+    pub group: CommandGroup,
     pub about: &'static str,
     pub example: &'static str,
     pub arguments: &'static [Argument],
@@ -169,7 +189,7 @@ const RECORDING: [Argument; 5] = [
     },
     Argument {
         id: "address",
-        given: Occurrence::Value,
+        given: Occurrence::Needed,
         value: "N",
         help: "the address of the terminal, 0 to 30; it has to be given",
     },
@@ -220,7 +240,7 @@ const INFER: [Argument; 4] = [
     },
     Argument {
         id: "address",
-        given: Occurrence::Value,
+        given: Occurrence::Needed,
         value: "N",
         help: "the address of the terminal, 0 to 30; it has to be given",
     },
@@ -247,16 +267,31 @@ const EXPAND: [Argument; 1] = [Argument {
     help: "messages, and lines of a script",
 }];
 
+const SCRIPT: Argument = Argument {
+    id: "script",
+    given: Occurrence::Once,
+    value: "SCRIPT",
+    help: "a script",
+};
+
+const OTHER: Argument = Argument {
+    id: "other",
+    given: Occurrence::Once,
+    value: "Q",
+    help: "another profile or canonical text",
+};
+
+const RUN: [Argument; 2] = [PROFILE, SCRIPT];
+
+const COMPARE: [Argument; 2] = [PROFILE, OTHER];
+
+const ANSWERS: [Argument; 3] = [PROFILE, SCRIPT, EXPANDED];
+
 const EXPLAIN: [Argument; 3] = [PROFILE, FORMAT, NAMES];
 
 const DIFFER: [Argument; 5] = [
     PROFILE,
-    Argument {
-        id: "other",
-        given: Occurrence::Once,
-        value: "Q",
-        help: "another profile or canonical text",
-    },
+    OTHER,
     Argument {
         id: "scripts",
         given: Occurrence::Flag,
@@ -269,12 +304,7 @@ const DIFFER: [Argument; 5] = [
 
 const DRAW: [Argument; 5] = [
     PROFILE,
-    Argument {
-        id: "script",
-        given: Occurrence::Once,
-        value: "SCRIPT",
-        help: "a script",
-    },
+    SCRIPT,
     EXPANDED,
     Argument {
         id: "html",
@@ -310,94 +340,144 @@ const ACCEPTANCE: [Argument; 5] = [
 
 const ONE_PROFILE: [Argument; 1] = [PROFILE];
 
-/// The commands, in the order of the help.
-pub const COMMANDS: [CommandRow; 16] = [
+/// The commands; under each heading of the help they stand in this order.
+pub const COMMANDS: [CommandRow; 21] = [
+    CommandRow {
+        name: "check",
+        group: CommandGroup::Profiles,
+        about: "Prints ok, or the faults of a profile",
+        example: "Example: rt1553-tool check pump.toml",
+        arguments: &ONE_PROFILE,
+    },
+    CommandRow {
+        name: "canon",
+        group: CommandGroup::Profiles,
+        about: "Prints the canonical text of a profile",
+        example: "Example: rt1553-tool canon pump.toml > pump.rt1553",
+        arguments: &ONE_PROFILE,
+    },
+    CommandRow {
+        name: "compare",
+        group: CommandGroup::Profiles,
+        about: "Prints same, or a script that two terminals answer differently",
+        example: "Example: rt1553-tool compare old.toml new.toml",
+        arguments: &COMPARE,
+    },
+    CommandRow {
+        name: "run",
+        group: CommandGroup::Scripts,
+        about: "Prints the transcript of a script",
+        example: "Example: rt1553-tool run pump.toml pump.script",
+        arguments: &RUN,
+    },
     CommandRow {
         name: "lint",
+        group: CommandGroup::Profiles,
         about: "Prints all faults of profiles, and what has no effect",
         example: "Example: rt1553-tool lint pump.toml",
         arguments: &LINT,
     },
     CommandRow {
         name: "check-script",
+        group: CommandGroup::Scripts,
         about: "Prints which lines of scripts are refused, where and why",
         example: "Example: rt1553-tool check-script pump.script",
         arguments: &CHECK_SCRIPT,
     },
     CommandRow {
         name: "verify",
+        group: CommandGroup::Scripts,
         about: "Prints where a terminal does not answer as scripts state",
         example: "Example: rt1553-tool verify pump.toml pump.script",
         arguments: &VERIFY,
     },
     CommandRow {
+        name: "answers",
+        group: CommandGroup::Scripts,
+        about: "Writes a script with the answers of a terminal stated",
+        example: "Example: rt1553-tool answers pump.toml pump.script > pump.test",
+        arguments: &ANSWERS,
+    },
+    CommandRow {
         name: "recording",
+        group: CommandGroup::Units,
         about: "Writes the recording of a terminal that the table of a monitor has",
         example: "Example: rt1553-tool recording monitor.csv --address 5 > pump.script",
         arguments: &RECORDING,
     },
     CommandRow {
         name: "coverage",
+        group: CommandGroup::Units,
         about: "Prints which messages of a terminal came in recordings, and which never",
         example: "Example: rt1553-tool coverage pump.toml pump.script",
         arguments: &COVERAGE,
     },
     CommandRow {
         name: "infer",
+        group: CommandGroup::Units,
         about: "Proposes a profile that explains a recording",
         example: "Example: rt1553-tool infer pump.script --address 5 > pump.toml",
         arguments: &INFER,
     },
     CommandRow {
         name: "import",
+        group: CommandGroup::Documents,
         about: "Writes the profile that a table means",
         example: "Example: rt1553-tool import pump.csv > pump.toml",
         arguments: &IMPORT,
     },
     CommandRow {
         name: "export",
+        group: CommandGroup::Documents,
         about: "Writes the table of a profile",
         example: "Example: rt1553-tool export pump.toml > pump.csv",
         arguments: &ONE_PROFILE,
     },
     CommandRow {
         name: "expand",
+        group: CommandGroup::Scripts,
         about: "Writes messages as the lines of a script",
         example: "Example: rt1553-tool expand pump.messages > pump.script",
         arguments: &EXPAND,
     },
     CommandRow {
         name: "toml",
+        group: CommandGroup::Profiles,
         about: "Writes a small profile that means the same terminal",
         example: "Example: rt1553-tool toml pump.canon > pump.toml",
         arguments: &ONE_PROFILE,
     },
     CommandRow {
         name: "explain",
+        group: CommandGroup::Profiles,
         about: "Prints what a terminal does, as a table",
         example: "Example: rt1553-tool explain pump.toml",
         arguments: &EXPLAIN,
     },
     CommandRow {
         name: "differ",
+        group: CommandGroup::Profiles,
         about: "Prints all differences between two terminals",
         example: "Example: rt1553-tool differ --scripts old.toml new.toml",
         arguments: &DIFFER,
     },
     CommandRow {
         name: "acceptance",
+        group: CommandGroup::Units,
         about: "Writes the test that distinguishes a terminal from every other",
         example: "Example: rt1553-tool acceptance pump.toml > pump.script",
         arguments: &ACCEPTANCE,
     },
     CommandRow {
         name: "draw",
+        group: CommandGroup::Scripts,
         about: "Draws a run: the words on the buses, and what is handed over",
         example: "Example: rt1553-tool draw pump.toml pump.script > pump.svg",
         arguments: &DRAW,
     },
     CommandRow {
         name: "words",
+        group: CommandGroup::Scripts,
         about: "Converts between words of the bus and their fields",
         example: "Lines:\n\
             \x20 rx A S N, tx A S N             receive or transmit N words, 1 to 32, at subaddress S, 1 to 30\n\
@@ -412,6 +492,7 @@ pub const COMMANDS: [CommandRow; 16] = [
     },
     CommandRow {
         name: "live",
+        group: CommandGroup::Scripts,
         about: "Plays lines as they come, and ends each answer with a dot",
         example: "Example: printf 'A c 2c02\\nA gap\\nslot\\n' | rt1553-tool live pump.toml",
         arguments: &ONE_PROFILE,

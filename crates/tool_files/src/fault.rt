@@ -18,12 +18,51 @@ pub const REFUSED: u8 = 2;
 /// The status of arguments that the program does not accept.
 pub const USAGE: u8 = 3;
 
+/// Why a file isn't read, as far as the system tells.
+#[derive(Clone, Copy)]
+pub enum UnreadCause {
+    /// There is none of this name.
+    Missing,
+    /// There is none of the name `-`, by which many programs mean the standard input.
+    Hyphen,
+    /// The user may not read it.
+    Forbidden,
+    /// It is a folder.
+    Folder,
+    /// It has more bytes than this.
+    TooLarge(usize),
+    /// Another cause.
+    Other,
+}
+
+impl fmt::Display for UnreadCause {
+    /// What follows the name of the file.
+    fn fmt<W: fmt::Write>(&self, f: &mut fmt::Formatter<W>) -> fmt::Result {
+        match self {
+            UnreadCause::Missing => f.write_str(": no such file"),
+            UnreadCause::Hyphen => f.write_str(": no such file; use /dev/stdin"),
+            UnreadCause::Forbidden => f.write_str(": no permission"),
+            UnreadCause::Folder => f.write_str(": it is a folder"),
+            UnreadCause::TooLarge(most) => {
+                let most = *most;
+                let (millions, thousands) = (most / 1_000_000, most / 1_000 % 1_000);
+                write!(
+                    f,
+                    ": at most {millions},{thousands:03},{:03} bytes",
+                    most % 1_000
+                )
+            }
+            UnreadCause::Other => Ok(()),
+        }
+    }
+}
+
 /// Why the program ends early. A text is the name of a file, escaped, but for `Refused`.
 #[derive(Drop)]
 pub enum ToolFault {
     /// Out of memory.
     Memory,
-    /// A file isn't read.
+    /// A file can't be read on.
     File(FileFault),
     /// The name of a file is empty.
     NoName,
@@ -43,6 +82,8 @@ pub enum ToolFault {
     NotText,
     /// A word is missing.
     Usage,
+    /// A file isn't read, for this cause.
+    Unread(String, UnreadCause),
 }
 
 /// The line of a script that is refused, and why.
@@ -79,6 +120,10 @@ impl fmt::Display for ToolFault {
             ToolFault::Refused(told) => f.write_str(told.as_str()),
             ToolFault::NotText => f.write_str("arguments: one is not UTF-8"),
             ToolFault::Usage => f.write_str("arguments: see --help"),
+            ToolFault::Unread(name, UnreadCause::TooLarge(most)) => {
+                write!(f, "file: too large {name}{}", UnreadCause::TooLarge(*most))
+            }
+            ToolFault::Unread(name, cause) => write!(f, "file: cannot read {name}{cause}"),
         }
     }
 }

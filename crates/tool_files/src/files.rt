@@ -3,9 +3,10 @@ ghost use Rattle.std.specs.Prelude.{◌≡◌, ◌≤◌, IfErr, IfOk, length};
 ghost use Rattle.tool_files.specs.Status.{IsLoaded};
 
 use crate::fault::ToolFault;
+use crate::unread::unread_file;
 use bus_legal::Normal;
 use rt1553::load;
-use rt1553_files::{PROFILE_BYTES, SCRIPT_BYTES, escaped, read_file};
+use rt1553_files::{PROFILE_BYTES, SCRIPT_BYTES, escaped, open_file, read_file};
 use std::io::Write;
 use std::rt::Files;
 
@@ -24,7 +25,21 @@ fn read_named<R: Files + AllocGlobal>(rt: &R, name: &str, most: usize) -> Result
     if name.is_empty() {
         return Err(ToolFault::NoName);
     }
-    Ok(read_file(rt, name, most)?)
+    match read_file(rt, name, most) {
+        Ok(bytes) => Ok(bytes),
+        Err(fault) => Err(unread_file(rt, name, most, fault)),
+    }
+}
+
+/// The file of this name, opened to be read.
+pub fn open_named<R: Files + AllocGlobal>(rt: &R, name: &str) -> Result<R::File, ToolFault> {
+    if name.is_empty() {
+        return Err(ToolFault::NoName);
+    }
+    match open_file(rt, name) {
+        Ok(file) => Ok(file),
+        Err(fault) => Err(unread_file(rt, name, SCRIPT_BYTES, fault)),
+    }
 }
 
 /// The bytes of a profile file or a table, of at most 1,048,576 bytes.

@@ -7,10 +7,14 @@ mod files;
 mod loaded;
 mod refused;
 mod several;
+mod unread;
 
 pub use colours::{Ink, Screen, put_in, put_lines};
-pub use fault::{DIFFERENT, REFUSED, ToolFault, USAGE};
-pub use files::{load_profile, read_script_file, read_tool_profile, shown, write_bytes};
+pub use fault::{DIFFERENT, REFUSED, ToolFault, USAGE, UnreadCause};
+pub use files::{
+    load_profile, open_named, read_script_file, read_tool_profile, shown, write_bytes,
+};
 pub use loaded::{LoadedScript, load_script};
 pub use refused::{first_refused, refused_file};
 pub use several::{status_or_stop, worst};
+pub use unread::unread_file;
