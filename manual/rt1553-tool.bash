@@ -19,6 +19,7 @@ _rt1553_tool() {
         coverage:--names) mapfile -t COMPREPLY < <(compgen -f -X '!*.csv' -- "$now"; compgen -d -- "$now"); return ;;
         infer:--address) return ;;
         infer:--unseen) mapfile -t COMPREPLY < <(compgen -W 'illegal legal' -- "$now"); return ;;
+        expand:--for) mapfile -t COMPREPLY < <(compgen -f -X '!*.toml' -- "$now"; compgen -f -X '!*.rt1553' -- "$now"; compgen -d -- "$now"); return ;;
         explain:--format) mapfile -t COMPREPLY < <(compgen -W 'text json' -- "$now"); return ;;
         explain:--names) mapfile -t COMPREPLY < <(compgen -f -X '!*.csv' -- "$now"; compgen -d -- "$now"); return ;;
         differ:--format) mapfile -t COMPREPLY < <(compgen -W 'text json' -- "$now"); return ;;
@@ -42,7 +43,7 @@ _rt1553_tool() {
         infer) flags='--address --unseen --expand --help' kinds=(script) many='' ;;
         import) flags='--help' kinds=(table) many='' ;;
         export) flags='--help' kinds=(profile) many='' ;;
-        expand) flags='--help' kinds=(messages) many='' ;;
+        expand) flags='--for --help' kinds=(messages) many='' ;;
         toml) flags='--help' kinds=(profile) many='' ;;
         explain) flags='--format --names --help' kinds=(profile) many='' ;;
         differ) flags='--scripts --format --names --help' kinds=(profile profile) many='' ;;
@@ -66,6 +67,7 @@ _rt1553_tool() {
             coverage:--names) index=$((index + 1)) ;;
             infer:--address) index=$((index + 1)) ;;
             infer:--unseen) index=$((index + 1)) ;;
+            expand:--for) index=$((index + 1)) ;;
             explain:--format) index=$((index + 1)) ;;
             explain:--names) index=$((index + 1)) ;;
             differ:--format) index=$((index + 1)) ;;

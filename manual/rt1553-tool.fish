@@ -50,6 +50,7 @@ complete -c rt1553-tool -n '__fish_seen_subcommand_from import' -F
 complete -c rt1553-tool -n __fish_use_subcommand -a export -d 'Writes the table of a profile'
 complete -c rt1553-tool -n '__fish_seen_subcommand_from export' -F
 complete -c rt1553-tool -n __fish_use_subcommand -a expand -d 'Writes messages as the lines of a script'
+complete -c rt1553-tool -n '__fish_seen_subcommand_from expand' -l for -r -F -d 'for the terminal of P: slots in place of its words in a transfer'
 complete -c rt1553-tool -n '__fish_seen_subcommand_from expand' -F
 complete -c rt1553-tool -n __fish_use_subcommand -a toml -d 'Writes a small profile that means the same terminal'
 complete -c rt1553-tool -n '__fish_seen_subcommand_from toml' -F

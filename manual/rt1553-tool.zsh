@@ -47,7 +47,7 @@ _rt1553_tool() {
         infer) _arguments '--help[prints what the command takes]' '--address[the address of the terminal, 0 to 30; it has to be given]:N: ' '--unseen[what a message is of which nothing showed whether it is legal]:unseen:(illegal legal)' '--expand[takes messages, too, as `expand` does]' '1:SCRIPT:_files -g "*.(script)(-.)"' ;;
         import) _arguments '--help[prints what the command takes]' '1:TABLE:_files -g "*.(csv)(-.)"' ;;
         export) _arguments '--help[prints what the command takes]' '1:P:_files -g "*.(toml|rt1553)(-.)"' ;;
-        expand) _arguments '--help[prints what the command takes]' '1:MESSAGES:_files -g "*.(messages)(-.)"' ;;
+        expand) _arguments '--help[prints what the command takes]' '--for[for the terminal of P\: slots in place of its words in a transfer]:P:_files -g "*.(toml|rt1553)(-.)"' '1:MESSAGES:_files -g "*.(messages)(-.)"' ;;
         toml) _arguments '--help[prints what the command takes]' '1:P:_files -g "*.(toml|rt1553)(-.)"' ;;
         explain) _arguments '--help[prints what the command takes]' '--format[the output format]:format:(text json)' '--names[puts the names of messages in TABLE beside their numbers]:TABLE:_files -g "*.(csv)(-.)"' '1:P:_files -g "*.(toml|rt1553)(-.)"' ;;
         differ) _arguments '--help[prints what the command takes]' '--scripts[prints the script that shows each difference, if there is one]' '--format[the output format]:format:(text json)' '--names[puts the names of messages in TABLE beside their numbers]:TABLE:_files -g "*.(csv)(-.)"' '1:P:_files -g "*.(toml|rt1553)(-.)"' '2:Q:_files -g "*.(toml|rt1553)(-.)"' ;;

@@ -114,7 +114,7 @@ command_name (Coverage asked scripts) = codes "coverage"
 command_name (Infer asked) = codes "infer"
 command_name (Import table) = codes "import"
 command_name (Export p) = codes "export"
-command_name (Expand messages) = codes "expand"
+command_name (Expand messages profile) = codes "expand"
 command_name (Toml p) = codes "toml"
 command_name (Explain p json names) = codes "explain"
 command_name (Differ asked) = codes "differ"
@@ -150,7 +150,7 @@ Asks f (Infer asked) =
     × (asked.unseen_is_legal ≡ is_value (codes "legal") (first_value f (codes "unseen"))) × (asked.expand ≡ is_given f (codes "expand"))
 Asks f (Import table) = HasValue f (codes "table") table.now
 Asks f (Export p) = HasValue f (codes "profile") p.now
-Asks f (Expand messages) = HasValue f (codes "messages") messages.now
+Asks f (Expand messages profile) = HasValue f (codes "messages") messages.now × HasOption f (codes "for") profile
 Asks f (Toml p) = HasValue f (codes "profile") p.now
 Asks f (Explain p json names) = HasValue f (codes "profile") p.now × (json ≡ is_json f) × HasNames f names
 Asks f (Differ asked) =

@@ -207,7 +207,11 @@ pub enum ToolCommand<'a> {
     /// The table of a document that a terminal has.
     Export(&'a str),
     /// Messages as the lines of a script.
-    Expand(&'a str),
+    Expand {
+        messages: &'a str,
+        /// The profile of the terminal for which they are expanded, where one is given.
+        profile: Option<&'a str>,
+    },
     /// A small profile that means the same terminal.
     Toml(&'a str),
     /// What a terminal does, as a table.
@@ -547,6 +551,16 @@ fn draw_command<'a>(given: &ArgMatches<'a>) -> Result<ToolCommand<'a>, NoCommand
     }))
 }
 
+/// What `expand` is asked for.
+fn expand_command<'a>(given: &ArgMatches<'a>) -> Result<ToolCommand<'a>, NoCommand>
+    ensures { IfOk result (λ command. (command_name command ≡ codes "expand") × Asks (found_of given.now) command) }
+{
+    Ok(ToolCommand::Expand {
+        messages: required(given, "messages")?,
+        profile: given.get_str("for"),
+    })
+}
+
 /// What `answers` is asked for.
 fn answers_command<'a>(given: &ArgMatches<'a>) -> Result<ToolCommand<'a>, NoCommand>
     ensures { IfOk result (λ command. (command_name command ≡ codes "answers") × Asks (found_of given.now) command) }
@@ -596,7 +610,7 @@ fn command_of<'a>(
         "infer" => infer_command(given),
         "import" => Ok(ToolCommand::Import(required(given, "table")?)),
         "export" => Ok(ToolCommand::Export(required(given, "profile")?)),
-        "expand" => Ok(ToolCommand::Expand(required(given, "messages")?)),
+        "expand" => expand_command(given),
         "toml" => Ok(ToolCommand::Toml(required(given, "profile")?)),
         "explain" => explain_command(given),
         "differ" => differ_command(given),

@@ -260,12 +260,20 @@ const IMPORT: [Argument; 1] = [Argument {
     help: "a table in CSV",
 }];
 
-const EXPAND: [Argument; 1] = [Argument {
-    id: "messages",
-    given: Occurrence::Once,
-    value: "MESSAGES",
-    help: "messages, and lines of a script",
-}];
+const EXPAND: [Argument; 2] = [
+    Argument {
+        id: "messages",
+        given: Occurrence::Once,
+        value: "MESSAGES",
+        help: "messages, and lines of a script",
+    },
+    Argument {
+        id: "for",
+        given: Occurrence::Value,
+        value: "P",
+        help: "for the terminal of P: slots in place of its words in a transfer",
+    },
+];
 
 const SCRIPT: Argument = Argument {
     id: "script",

@@ -23,4 +23,4 @@ CanEnd (tool.CheckScript files) status = status ≤ 4
 CanEnd (tool.Witness asked) status = status ≤ 1
 CanEnd (tool.Verify asked scripts) status = status ≤ 4
 CanEnd (tool.Import table) status = status ≤ 2
-CanEnd (tool.Expand messages) status = status ≤ 2
+CanEnd (tool.Expand messages profile) status = status ≤ 2

@@ -38,7 +38,7 @@ fn do_command<R: Files + AllocGlobal + Eprint, I: Read + Drop, W: Write>(
         ToolCommand::Infer(asked) => infer_profile(rt, *asked, output),
         ToolCommand::Import(table) => import_file(rt, table, output),
         ToolCommand::Export(profile) => export_file(rt, profile, output),
-        ToolCommand::Expand(messages) => expand_file(rt, messages, output),
+        ToolCommand::Expand { messages, profile } => expand_file(rt, messages, *profile, output),
         ToolCommand::Toml(profile) => write_toml(rt, profile, output),
         ToolCommand::Explain {
             profile,

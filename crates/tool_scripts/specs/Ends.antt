@@ -1,5 +1,5 @@
 -- The statuses of scripts, and of messages that are expanded.
-use Rattle.std.specs.Prelude.{ℕ, ◌≡◌, List, [], ◌∷◌}
+use Rattle.std.specs.Prelude.{ℕ, ◌≡◌, List, [], ◌∷◌, Option}
 use Rattle.rt1553_expand.specs.declared.expanding.Expanded.{Expanded}
 use Rattle.rt1553_expand.specs.declared.expanding.Expanded.TheVariants.{Script}
 use Rattle.rt1553_expand.specs.Expansion.{IsExpansion}
@@ -14,6 +14,6 @@ abbrev pub expansion_status : Expanded → ℕ
 expansion_status (Script script) = 0
 expansion_status _ = 2
 
--- `expand` ends with the status of what a text is expanded to
-abbrev pub EndsExpansion : List ℕ → ℕ → Type 0
-EndsExpansion text status = (expanded : Expanded) × IsExpansion text expanded × (status ≡ expansion_status expanded)
+-- `expand` ends with the status of what a text is expanded to, for the terminal of an address if there is one
+abbrev pub EndsExpansion : Option ℕ → List ℕ → ℕ → Type 0
+EndsExpansion own text status = (expanded : Expanded) × IsExpansion own text expanded × (status ≡ expansion_status expanded)

@@ -1,12 +1,14 @@
 //! The command `expand`: messages as the lines of a script.
-ghost use Rattle.std.specs.Prelude.{IfOk, List, ℕ};
+ghost use Rattle.std.specs.Prelude.{IfOk, List, Option, ℕ};
 ghost use Rattle.tool_scripts.specs.Ends.{EndsExpansion};
 
 use bus_script::RunFault;
 use rt1553_expand::{Expanded, UnexpandedLine, expand};
 use std::io::Write;
 use std::rt::Files;
-use tool_files::{REFUSED, ToolFault, read_script_file, refused_file, shown, write_bytes};
+use tool_files::{
+    REFUSED, ToolFault, load_profile, read_script_file, refused_file, shown, write_bytes,
+};
 
 /// Writes the lines of the file of this name that are refused on the standard error.
 fn tell_refused<R: Eprint>(rt: &R, name: &str, refused: &[UnexpandedLine]) {
@@ -16,18 +18,23 @@ fn tell_refused<R: Eprint>(rt: &R, name: &str, refused: &[UnexpandedLine]) {
     }
 }
 
-/// Writes the script that a file of events and messages stands for, or on the standard error each line that is refused. Gives the
-/// status to end with.
+/// Writes the script that a file of events and messages stands for, for the terminal of a profile if one is given, or on the standard
+/// error each line that is refused. Gives the status to end with.
 pub fn expand_file<R: Files + AllocGlobal + Eprint, W: Write>(
     rt: &R,
     name: &str,
+    profile: Option<&str>,
     output: &mut W,
 ) -> Result<u8, ToolFault>
-    ensures { IfOk result (λ status. (text : List ℕ) × EndsExpansion text status) }
+    ensures { IfOk result (λ status. (own : Option ℕ) × (text : List ℕ) × EndsExpansion own text status) }
 {
+    let own = match profile {
+        Some(profile) => Some(load_profile(rt, profile)?.address()),
+        None => None,
+    };
     let text = read_script_file(rt, name)?;
     let shown_name = shown(rt, name)?;
-    match expand(rt.alloc(), text.as_slice())? {
+    match expand(rt.alloc(), text.as_slice(), own)? {
         Expanded::Script(script) => {
             write_bytes(output, script.as_slice())?;
             Ok(0)
