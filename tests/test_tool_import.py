@@ -85,8 +85,8 @@ SCRIPT = "A c fc02\nA gap\nslot\n#> A s 2800\nA c 2c09\nA gap\nslot\n#> A s 2800
 OTHERS = with_files(
     {"five": "address = 5\nbroadcast = true\n", "names.csv": NAMES, "s": SCRIPT},
     Row("names of commands that are never legal", "verify --names names.csv five s", 1,
-        's:4: "all status": expected A s 2800, came nothing\ns:8: "reserved": expected A s 2800, came A s 2c00\n'
-        's:12: "shut down": expected A s 2800, came A s 2c00\ns: differences: 3\n'),
+        's:3: "all status": expected A s 2800, came nothing\ns:7: "reserved": expected A s 2800, came A s 2c00\n'
+        's:11: "shut down": expected A s 2800, came A s 2c00\ns: differences: 3\n'),
     *(Row(f"results: {name}", "acceptance --against r five", 2, "", "r: results: row 3, column 2: not `none`, or 1 to 33 words of four hexadecimal digits\n",
           files={"r": text}) for name, text in (
         ("semicolons", "number;reply\n1;2800\n2;x\n"), ("tabs", "number\treply\n1\t2800\n2\tx\n"), ("CR alone", "number,reply\r1,2800\r2,x\r"),
