@@ -23,7 +23,7 @@ TABLES = [
     table("a quote that stays open", 'kind,value\naddress,"5\nbit,1\n', 2, "", " table: row 2, column 2: not CSV, a quote is misplaced or missing"),
     table("CR alone", "kind,value\raddress,5\r", 0, FIVE),
     table("CR alone: the rows of faults", "kind,value\raddress,5\rbit,x\rvector,70000\r", 2, "",
-          '3:2: error: value: "x": allowed is 0 to 65535, or 0x0000 to 0xffff', '4:2: error: value: "70000": allowed is 0 to 65535, or 0x0000 to 0xffff'),
+          '4:2: error: value: "70000": allowed is 0 to 65535, or 0x0000 to 0xffff', '3:2: error: value: "x": allowed is 0 to 65535, or 0x0000 to 0xffff'),
     table("CR alone: the row of a quote", 'kind,value\raddress,5\rbit,1"\r', 2, "", " table: row 3, column 2: not CSV, a quote is misplaced or missing"),
     # --- what stands between fields
     table("tabs", "kind\tvalue\naddress\t5\n", 0, FIVE),
@@ -85,8 +85,8 @@ SCRIPT = "A c fc02\nA gap\nslot\n#> A s 2800\nA c 2c09\nA gap\nslot\n#> A s 2800
 OTHERS = with_files(
     {"five": "address = 5\nbroadcast = true\n", "names.csv": NAMES, "s": SCRIPT},
     Row("names of commands that are never legal", "verify --names names.csv five s", 1,
-        's:4: "all status": expected A s 2800, came nothing\ns:8: "reserved": expected A s 2800, came A s 2c00\n'
-        's:12: "shut down": expected A s 2800, came A s 2c00\ns: differences: 3\n'),
+        's:3: "all status": expected A s 2800, came nothing\ns:7: "reserved": expected A s 2800, came A s 2c00\n'
+        's:11: "shut down": expected A s 2800, came A s 2c00\ns: differences: 3\n'),
     *(Row(f"results: {name}", "acceptance --against r five", 2, "", "r: results: row 3, column 2: not `none`, or 1 to 33 words of four hexadecimal digits\n",
           files={"r": text}) for name, text in (
         ("semicolons", "number;reply\n1;2800\n2;x\n"), ("tabs", "number\treply\n1\t2800\n2\tx\n"), ("CR alone", "number,reply\r1,2800\r2,x\r"),
