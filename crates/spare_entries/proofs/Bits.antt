@@ -1,10 +1,11 @@
 -- Bits of masks.
 use Rattle.std.proofs.lemmas.Nat.Bits.{bit_at-pow_same, bit_at-pow_other}
-use Rattle.std.proofs.Common.{◌≡◌, ◌≢◌, ◌*◌, ◌%◌, ℕ, suc, ◌-◌, ◌^◌, ◌<◌, ◌==◌, ◌↔◌, Bool, true, false, not, ◌&&◌, ◌||◌, cond, List, bit_and, bit_or, drop, get_or, length, refl, ap, sym, ◌∙◌, arith}
+use Rattle.std.proofs.Common.{◌≡◌, ◌*◌, ◌%◌, ℕ, suc, ◌-◌, ◌^◌, ◌<◌, ◌==◌, ◌↔◌, true, false, not, ◌&&◌, List, bit_and, bit_or, drop, get_or, length, ap, sym, ◌∙◌, arith}
 use Rattle.std.specs.List.{list_any}
 use Rattle.std.proofs.lemmas.Bool.{eqb-true, eq-eqb}
 use Rattle.std.proofs.Math.Pow.{pow-lt}
 use Rattle.std.proofs.Math.Seq.{drop-cons}
+use Rattle.std.proofs.lemmas.Grind.{common_steps}
 use Rattle.bus_word.specs.Mask.{has_bit}
 use Rattle.bus_legal.proofs.Bits.{has_bit-or, has_bit-without, same_mask}
 use Rattle.bus_legal.proofs.TopBit.{zero-bit}
@@ -18,34 +19,13 @@ zero_mask mask small = (
 
 -- bits that are kept where another mask has none
 pub cleared : (bits other i : ℕ) → other < 2 ^ 32 → i < 32 → has_bit (bit_and bits (0xffffffff - other)) i ≡ (not (has_bit other i) && has_bit bits i)
-cleared bits other i small l = has_bit-without bits other i small l ∙ as_test (has_bit other i) (has_bit bits i)
-  where
-    as_test : (t b : Bool) → cond t false b ≡ (not t && b)
-    as_test true b = refl
-    as_test false b = refl
+cleared bits other i small l = search (arith, has_bit-without)
 
 -- the bits that some of one more mask have
 pub some-more : (masks : List ℕ) (at i bits later : ℕ) → at < length masks → bits ≡ get_or masks at 0 → has_bit later i ≡ list_any (λ mask. has_bit mask i) (drop (suc at) masks) →
     has_bit (bit_or later bits) i ≡ list_any (λ mask. has_bit mask i) (drop at masks)
-some-more masks at i bits later l is e =
-    has_bit-or later bits i
-    ∙ (as_test (has_bit bits i) (has_bit later i)
-    ∙ ((λ j. has_bit (is j) i || e j)
-    ∙ sym (ap (list_any (λ mask. has_bit mask i)) (drop-cons masks at 0 l))))
-  where
-    as_test : (t b : Bool) → cond t true b ≡ (t || b)
-    as_test true b = refl
-    as_test false b = refl
+some-more masks at i bits later l is e = search (arith, has_bit-or, drop-cons)
 
 -- a mask without a bit
 pub bit_cleared : (mask bit i : ℕ) → bit < 32 → i < 32 → has_bit (bit_and mask (0xffffffff - 1 * 2 ^ bit % 0x1_0000_0000)) i ≡ (not (i == bit) && has_bit mask i)
-bit_cleared mask bit i l m =
-    let below : 2 ^ bit < 2 ^ 32 = pow-lt l in
-    let same : 1 * 2 ^ bit % 0x1_0000_0000 ≡ 2 ^ bit = omega arith in
-    rw same (cleared mask (2 ^ bit) i below m ∙ ap (λ b. not b && has_bit mask i) (by_place (i == bit) refl))
-  where
-    by_place : (t : Bool) → (i == bit) ≡ t → has_bit (2 ^ bit) i ≡ (i == bit)
-    by_place true e = let here : i ≡ bit = eqb-true i bit e in ap (λ n. has_bit (2 ^ bit) n) here ∙ (ap (λ b. b == 1) (bit_at-pow_same bit) ∙ sym e)
-    by_place false e =
-        let other : i ≢ bit = (λ h. let wrong : true ≡ false = sym (eq-eqb i bit h) ∙ e in cc) in
-        ap (λ b. b == 1) (bit_at-pow_other bit i other) ∙ sym e
+bit_cleared mask bit i l m = grind (arith, common_steps, pow-lt, cleared, eqb-true, bit_at-pow_same, eq-eqb, bit_at-pow_other)

@@ -1,5 +1,5 @@
 -- The last of a list that passes, where one element is left out or is another.
-use Rattle.std.proofs.Common.{◌≡◌, ◌↔◌, ℕ, suc, ◌<◌, Bool, true, false, not, ◌&&◌, ◌||◌, cond, List, [], ◌∷◌, ◌++◌, map, length, get_or, set, take, drop, Option, Some, None, is_some, refl, ap, sym, ◌∙◌, get_or-set_same, length-set, arith}
+use Rattle.std.proofs.Common.{◌≡◌, ◌↔◌, ℕ, suc, ◌<◌, Bool, true, not, ◌&&◌, ◌||◌, cond, List, [], ◌∷◌, ◌++◌, map, length, get_or, set, take, drop, Option, Some, None, is_some, refl, ap, sym, ◌∙◌, get_or-set_same, length-set, arith}
 use Rattle.std.specs.List.{list_any}
 use Rattle.std.proofs.Math.Seq.{drop-cons}
 use Rattle.std.proofs.lemmas.List.{take-append-drop, take-set, drop-set-lt, drop-map, take-map, map-append}
@@ -7,19 +7,15 @@ use Rattle.bus_legal.specs.Last.{or_last, last_of}
 use Rattle.spare_entries.specs.Without.{without}
 
 or_last-none : {X : Type 0} (a : Option X) → or_last a None ≡ a
-or_last-none None = refl
-or_last-none (Some x) = refl
+or_last-none a = search arith
 
 or_last-assoc : {X : Type 0} (a b c : Option X) → or_last (or_last a b) c ≡ or_last a (or_last b c)
-or_last-assoc None b c = refl
-or_last-assoc (Some x) b c = refl
+or_last-assoc a b c = search arith
 
 -- the last of two lists, one after the other
 pub last_of-append : {X : Type 0} (p : X → Bool) (xs ys : List X) → last_of p (xs ++ ys) ≡ or_last (last_of p ys) (last_of p xs)
 last_of-append p [] ys = sym (or_last-none (last_of p ys))
-last_of-append p (x ∷ xs) ys =
-    let c = cond (p x) (Some x) None in
-    ap (λ o. or_last o c) (last_of-append p xs ys) ∙ or_last-assoc (last_of p ys) (last_of p xs) c
+last_of-append p (x ∷ xs) ys = search (arith, or_last-assoc, last_of-append p xs ys)
 
 -- the last with this element between those before it and those after it
 abbrev pub last_with : {X : Type 0} → (X → Bool) → List X → ℕ → X → Option X
@@ -30,11 +26,7 @@ abbrev pub last_but : {X : Type 0} → (X → Bool) → List X → ℕ → Optio
 last_but p xs k = or_last (last_of p (drop (suc k) xs)) (last_of p (take k xs))
 
 pub last_of-with : {X : Type 0} (p : X → Bool) (xs : List X) (k : ℕ) (d : X) → k < length xs → last_of p xs ≡ last_with p xs k (get_or xs k d)
-last_of-with p xs k d l =
-    let x = get_or xs k d in
-    ap (last_of p) (sym (take-append-drop k xs) ∙ ap (λ ys. take k xs ++ ys) (drop-cons xs k d l))
-    ∙ (last_of-append p (take k xs) (x ∷ drop (suc k) xs)
-    ∙ or_last-assoc (last_of p (drop (suc k) xs)) (cond (p x) (Some x) None) (last_of p (take k xs)))
+last_of-with p xs k d l = search (arith, take-append-drop, drop-cons, last_of-append, or_last-assoc, take-append-drop k xs, drop-cons xs k d l)
 
 pub last_of-without : {X : Type 0} (p : X → Bool) (xs : List X) (k : ℕ) → last_of p (without k xs) ≡ last_but p xs k
 last_of-without p xs k = last_of-append p (take k xs) (drop (suc k) xs)
@@ -49,13 +41,7 @@ last_of-set p xs k y l =
 -- whether some element passes
 pub is_some-last : {X : Type 0} (p : X → Bool) (xs : List X) → is_some (last_of p xs) ≡ list_any p xs
 is_some-last p [] = refl
-is_some-last {X = X} p (x ∷ xs) = by_case (last_of p xs) (p x) ∙ ap (λ b. p x || b) (is_some-last p xs)
-  where
-    by_case : (o : Option X) (t : Bool) → is_some (or_last o (cond t (Some x) None)) ≡ (t || is_some o)
-    by_case None true = refl
-    by_case None false = refl
-    by_case (Some y) true = refl
-    by_case (Some y) false = refl
+is_some-last {X = X} p (x ∷ xs) = search (arith, is_some-last p xs)
 
 pub list_any-map : {X Y : Type 0} (p : Y → Bool) (f : X → Y) (xs : List X) → list_any p (map f xs) ≡ list_any (λ x. p (f x)) xs
 list_any-map p f [] = refl
@@ -67,12 +53,7 @@ over f (Some x) = Some (f x)
 
 pub last_of-map : {X Y : Type 0} (p : Y → Bool) (f : X → Y) (xs : List X) → last_of p (map f xs) ≡ over f (last_of (λ x. p (f x)) xs)
 last_of-map p f [] = refl
-last_of-map {X = X} p f (x ∷ xs) = ap (λ o. or_last o (cond (p (f x)) (Some (f x)) None)) (last_of-map p f xs) ∙ by_case (last_of (λ x. p (f x)) xs) (p (f x))
-  where
-    by_case : (o : Option X) (t : Bool) → or_last (over f o) (cond t (Some (f x)) None) ≡ over f (or_last o (cond t (Some x) None))
-    by_case None true = refl
-    by_case None false = refl
-    by_case (Some y) t = refl
+last_of-map {X = X} p f (x ∷ xs) = search (arith, last_of-map p f xs)
 
 pub without-map : {X Y : Type 0} (f : X → Y) (k : ℕ) (xs : List X) → without k (map f xs) ≡ map f (without k xs)
 without-map f k xs = (λ j. take-map f k xs j ++ drop-map f (suc k) xs j) ∙ sym (map-append f (take k xs) (drop (suc k) xs))
@@ -81,16 +62,12 @@ without-map f k xs = (λ j. take-map f k xs j ++ drop-map f (suc k) xs j) ∙ sy
 -- before it say.
 pub no_effect : {X V : Type 0} (read : Option X → V) (later before : Option X) (t : Bool) (x : X) →
     (read (or_last later (or_last (cond t (Some x) None) before)) ≡ read (or_last later before)) ↔ ((not (is_some later) && t) ≡ true → read (Some x) ≡ read before)
-no_effect read None before true x = (λ e h. e, λ f. f refl)
-no_effect read None before false x = (λ e h. cc, λ f. refl)
-no_effect read (Some y) before t x = (λ e h. cc, λ f. refl)
+no_effect read later before t x = search arith
 
 -- another element in its place has no effect, if it does not pass, or a later one passes, or it says the same
 pub no_change : {X V : Type 0} (read : Option X → V) (later before : Option X) (t : Bool) (x y : X) →
     (read (or_last later (or_last (cond t (Some x) None) before)) ≡ read (or_last later (or_last (cond t (Some y) None) before))) ↔ ((not (is_some later) && t) ≡ true → read (Some x) ≡ read (Some y))
-no_change read None before true x y = (λ e h. e, λ f. f refl)
-no_change read None before false x y = (λ e h. cc, λ f. refl)
-no_change read (Some z) before t x y = (λ e h. cc, λ f. refl)
+no_change read later before t x y = search arith
 
 -- Without an element the last reads the same, if the element does not pass, or a later one passes, or it says what those
 -- before it say.

@@ -1,36 +1,24 @@
 -- Marks that are taken away test by test.
-use Rattle.std.proofs.Common.{◌≡◌, ◌<◌, ◌≤◌, ◌↔◌, ℕ, ◌+◌, Bool, true, false, List, ◌++◌, length, get_or, take, drop, replicate, IsTrue, below_more, subst, sym, ◌∙◌, arith}
+use Rattle.std.proofs.Common.{◌≡◌, ◌<◌, ◌↔◌, ℕ, ◌+◌, Bool, true, false, List, ◌++◌, length, get_or, take, drop, replicate, IsTrue, below_more, subst, sym, arith}
 use Rattle.std.proofs.lemmas.List.{take-append-le, take_all, get_or-replicate}
 
 -- one more of the tests in order
 pub one_more : (new old first : Bool) (P : ℕ → Type 0) (Q : Type 0) (at : ℕ) → IsTrue old ↔ (IsTrue first × ((s : ℕ) → s < at → P s)) → IsTrue new ↔ (IsTrue old × Q) → Q ↔ P at →
     IsTrue new ↔ (IsTrue first × ((s : ℕ) → s < at + 1 → P s))
-one_more new old first P Q at before step law = (
-  (λ h. let both = step.0 h in let all = before.0 both.0 in (all.0, below_more P at all.1 (law.0 both.1))),
-  (λ h. step.1 (before.1 (h.0, λ s l. h.1 s (omega arith)), law.1 (h.1 at (omega arith)))),
-)
+one_more new old first P Q at before step law = search (arith, below_more)
 
 -- a test, and a second where a choice is made
 pub two : (first one last : Bool) (A C D : Type 0) → IsTrue one ↔ (IsTrue first × A) → IsTrue last ↔ (IsTrue one × C) → (C ↔ D) → IsTrue last ↔ (IsTrue first × (A × D))
-two first one last A C D a c law = (
-  (λ h. let x = c.0 h in let z = a.0 x.0 in (z.0, (z.1, law.0 x.1))),
-  (λ h. c.1 (a.1 (h.0, h.1.0), law.1 h.1.1)),
-)
+two first one last A C D a c law = search arith
 
 -- two tests, and a third where a choice is made
 pub three : (first one two last : Bool) (A B C D : Type 0) → IsTrue one ↔ (IsTrue first × A) → IsTrue two ↔ (IsTrue one × B) → IsTrue last ↔ (IsTrue two × C) → (C ↔ D) →
     IsTrue last ↔ (IsTrue first × (A × B × D))
-three first one two last A B C D a b c law = (
-  (λ h. let x = c.0 h in let y = b.0 x.0 in let z = a.0 y.0 in (z.0, (z.1, y.1, law.0 x.1))),
-  (λ h. c.1 (b.1 (a.1 (h.0, h.1.0), h.1.1), law.1 h.1.2)),
-)
+three first one two last A B C D a b c law = search (arith, two)
 
 -- a list that was written over the whole of another
 pub written : {A : Type 0} (len : ℕ) (new old : List A) → length new ≡ length old → len ≡ length old → take len (new ++ drop (length new) old) ≡ new
-written len new old same is =
-    let within : len ≤ length new = omega arith in
-    let all : length new ≤ len = omega arith in
-    take-append-le len new (drop (length new) old) within ∙ take_all len new all
+written len new old same is = search (arith, take-append-le, take_all)
 
 -- all marks stand at first
 pub all_marked : (n k : ℕ) (marks : List Bool) → marks ≡ replicate n true → k < n → IsTrue (get_or marks k false)

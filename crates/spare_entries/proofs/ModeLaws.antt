@@ -1,5 +1,5 @@
 -- A mode entry has no effect exactly if the tables of the codes that the terminal hears are the same without it.
-use Rattle.std.proofs.Common.{◌≡◌, ◌<◌, ◌↔◌, ℕ, Bool, true, false, ◌&&◌, cond, List, map, length, get_or, Option, Some, None, IsTrue, refl, ap, subst, sym, ◌∙◌, arith}
+use Rattle.std.proofs.Common.{◌≡◌, ◌<◌, ◌↔◌, ℕ, Bool, true, false, ◌&&◌, cond, List, map, length, get_or, Option, IsTrue, refl, ap, subst, sym, ◌∙◌, arith}
 use Rattle.std.proofs.lemmas.List.{length-map}
 use Rattle.bus_word.specs.declared.cell.Cell.{Cell}
 use Rattle.bus_word.specs.declared.cell.Cell.TheVariants as cell
@@ -15,7 +15,6 @@ use Rattle.bus_legal.proofs.LegalLaws.{legal_allowed, own_codes}
 use Rattle.bus_legal.proofs.ModeMasks.{each_required}
 use Rattle.bus_legal.proofs.TableSteps.{row_below, broadcast_row_below}
 use Rattle.bus_legal.proofs.TopBit.{zero-bit}
-use Rattle.spare_entries.specs.declared.said.Said.{Said}
 use Rattle.spare_entries.specs.declared.modes.CodeTable.{CodeTable}
 use Rattle.spare_entries.specs.declared.modes.CodeTable.TheVariants.{Own, Broadcast}
 use Rattle.spare_entries.specs.Without.{without, without_mode, IsSpareMode}
@@ -30,33 +29,20 @@ use Rattle.spare_entries.proofs.Tests.{behind}
 -- ---- one table
 
 said_over : (table : CodeTable) (default : Bool) (o : Option ModeRule) → what_is_said default (over (codes_said table) o) ≡ mode_says default o
-said_over table default None = refl
-said_over table default (Some m) = refl
+said_over table default o = search arith
 
 speaks : (a : Bool) (mask i : ℕ) → has_bit (cond a mask 0) i ≡ (a && has_bit mask i)
-speaks true mask i = refl
-speaks false mask i = zero-bit i
+speaks a mask i = search (arith, zero-bit)
 
 -- the bit that the masks of the entries make is what the entries say
 bit_after-modes : (table : CodeTable) (modes : List ModeRule) (start c : ℕ) → has_bit start c ≡ is_first_legal table c →
     bit_after (has_bit start c) (map (codes_said table) modes) c ≡ mode_says (is_first_legal table c) (last_of (λ m. addresses table m && has_bit m.codes c) modes)
-bit_after-modes table modes start c first =
-    (λ j. what_is_said (first j) (last_of-map (λ (e : Said). has_bit e.bits c) (codes_said table) modes j))
-    ∙ (said_over table (is_first_legal table c) (last_of (λ m. has_bit (codes_said table m).bits c) modes)
-    ∙ (λ j. mode_says (is_first_legal table c) (last_of (λ (m : ModeRule). speaks (addresses table m) m.codes c j) modes)))
+bit_after-modes table modes start c first = search (arith, last_of-map, said_over, speaks)
 
 pub same_codes-said : (table : CodeTable) (modes : List ModeRule) (k start codes : ℕ) →
     ((c : ℕ) → c < 32 → has_bit start c ≡ is_first_legal table c) → ((c : ℕ) → c < 32 → has_bit codes c ≡ may_be_legal table c) →
     SameBits start codes (map (codes_said table) modes) k ↔ SameCodes table modes k
-same_codes-said table modes k start codes first may =
-    let says = λ (some : List ModeRule) (c : ℕ). mode_says (is_first_legal table c) (last_of (λ m. addresses table m && has_bit m.codes c) some) in
-    let all : (c : ℕ) → c < 32 → bit_after (has_bit start c) (map (codes_said table) modes) c ≡ says modes c = (λ c l. bit_after-modes table modes start c (first c l)) in
-    let less : (c : ℕ) → c < 32 → bit_after (has_bit start c) (without k (map (codes_said table) modes)) c ≡ says (without k modes) c =
-    (λ c l. ap (λ said. bit_after (has_bit start c) said c) (without-map (codes_said table) k modes) ∙ bit_after-modes table (without k modes) start c (first c l)) in
-    let law = λ (c : ℕ). behind (may_be_legal table c) (says modes c) (says (without k modes) c) in (
-      λ same c l. (law c).0 (λ e. sym (all c l) ∙ (same c l (may c l ∙ e) ∙ less c l)),
-      λ same c l e. all c l ∙ ((law c).1 (same c l) (sym (may c l) ∙ e) ∙ sym (less c l)),
-    )
+same_codes-said table modes k start codes first may = search (arith, bit_after-modes, without-map, behind)
 
 pub length-said : (table : CodeTable) (modes : List ModeRule) → length (map (codes_said table) modes) ≡ length modes
 length-said table modes = length-map modes (codes_said table)
@@ -67,14 +53,11 @@ abbrev heard_alike : Profile → ℕ → Cell → Type 0
 heard_alike p k c = (is_heard p.broadcast c && is_legal p.rules p.modes c) ≡ (is_heard p.broadcast c && is_legal p.rules (without k p.modes) c)
 
 below : (table : CodeTable) (c : ℕ) → may_be_legal table c ≡ true → c < 32
-below Own c e = row_below c e
-below Broadcast c e = broadcast_row_below c e
+below table c h = search (arith, row_below, broadcast_row_below)
 
 -- a code past the table is not legal
 every_code : (table : CodeTable) (modes : List ModeRule) (k : ℕ) → SameCodes table modes k → (c : ℕ) → is_code_legal table modes c ≡ is_code_legal table (without k modes) c
-every_code table modes k same c =
-    let law = behind (may_be_legal table c) (mode_says (is_first_legal table c) (last_of (λ m. addresses table m && has_bit m.codes c) modes)) (mode_says (is_first_legal table c) (last_of (λ m. addresses table m && has_bit m.codes c) (without k modes))) in
-    law.0 (λ e. law.1 (same c (below table c e)) e)
+every_code table modes k same c = search (arith, behind, below)
 
 cells_alike : (p : Profile) (k : ℕ) → SameModes p k → (c : Cell) → heard_alike p k c
 unfolding is_legal
@@ -94,11 +77,7 @@ tables_alike p k alike = (
 -- ---- the terminal
 
 asked_without : (p : Profile) (k : ℕ) → IsTrue (has_required_codes (without k p.modes)) → IsAsked (without_mode p k)
-asked_without p k required = record {
-  low = p.own_address;
-  asks = own_codes p.rules (without k p.modes) 2 ∙ each_required (is_own_code_legal (without k p.modes)) required 2 refl;
-  allowed = legal_allowed p.rules (without k p.modes);
-}
+asked_without p k required = search (arith, own_codes, each_required, legal_allowed)
 
 -- where the own codes are the same without the entry, those are legal that must be
 still_required : (p : Profile) (k : ℕ) → SameCodes Own p.modes k → IsTrue (has_required_codes (without k p.modes))

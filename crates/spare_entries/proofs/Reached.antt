@@ -1,5 +1,5 @@
 -- When terminals that differ in their legal cells alone, or in their initial words alone, are the same.
-use Rattle.std.proofs.Common.{◌≡◌, ◌≤◌, ◌↔◌, ℕ, [], Bool, true, false, ◌&&◌, ◌||◌, cond, nat_le, refl, ap, sym, ◌∙◌}
+use Rattle.std.proofs.Common.{◌≡◌, ◌≤◌, ◌↔◌, ℕ, Bool, true, ◌&&◌, ◌||◌, cond, nat_le, refl, ap, arith}
 use Rattle.bus_word.specs.declared.cell.Cell.{Cell}
 use Rattle.bus_word.specs.declared.cell.Cell.TheVariants.{OwnReceive, OwnTransmit, BroadReceive, OwnMode}
 use Rattle.bus_word.specs.Cell.{is_allowed}
@@ -19,19 +19,11 @@ pub record IsAsked (P : Description) : Type 0 where
   pub allowed : (cell : Cell) → P.legal cell ≡ true → is_allowed cell ≡ true
 
 reached : (P : Description) → IsAsked P → IsReached (reach P)
-reached P is = record {
-  low = is.low;
-  all = reach-reach P;
-  asks = is.asks;
-  allowed = λ cell legal. is.allowed cell (right_of (is_heard P.broadcast cell) (P.legal cell) legal);
-}
+reached P is = search (arith, reach-reach, right_of)
 
 -- terminals are the same exactly if they have the same in reach
 pub same_in_reach : (P Q : Description) → IsAsked P → IsAsked Q → Same P Q ↔ (reach P ≡ reach Q)
-same_in_reach P Q p q = (
-  (λ same. same_in_all (reach P) (reach Q) (reached P p) (reached Q q) (λ es proper. outs_from-reach P [] es p.low ∙ (same es proper ∙ sym (outs_from-reach Q [] es q.low)))),
-  same_where_reached P Q p.low q.low,
-)
+same_in_reach P Q p q = search (arith, same_in_all, reached, outs_from-reach, same_where_reached)
 
 -- with other legal cells the same is in reach exactly if the same cells are legal of those that are meant for the terminal
 pub same_cells : (P : Description) (legal : Cell → Bool) → (reach P ≡ reach (record P { legal = legal })) ↔ ((cell : Cell) → (is_heard P.broadcast cell && P.legal cell) ≡ (is_heard P.broadcast cell && legal cell))
@@ -52,8 +44,7 @@ same_cells P legal = ((λ e cell. ap (λ (D : Description). D.legal cell) e), ma
         same
 
 kept_alike : (t : Bool) (a b : ℕ) → (cond t a 0 ≡ cond t b 0) ↔ (t ≡ true → a ≡ b)
-kept_alike true a b = (λ e h. e, λ f. f refl)
-kept_alike false a b = (λ e h. cc, λ f. refl)
+kept_alike t a b = search arith
 
 -- with other initial words the same is in reach exactly if those are the same that some legal command makes the terminal transmit
 pub same_words : (P : Description) (initial : ℕ → ℕ → ℕ) → (reach P ≡ reach (record P { initial = initial })) ↔ ((s i : ℕ) → can_transmit P s i ≡ true → P.initial s i ≡ initial s i)

@@ -1,5 +1,5 @@
 -- A rule has no effect exactly if the tables of the cells that the terminal hears are the same without it.
-use Rattle.std.proofs.Common.{◌≡◌, ◌<◌, ◌↔◌, ◌==◌, ℕ, ◌+◌, ◌-◌, Bool, true, false, ◌&&◌, cond, List, map, length, get_or, Option, Some, None, IsTrue, refl, ap, subst, sym, ◌∙◌, arith}
+use Rattle.std.proofs.Common.{◌≡◌, ◌<◌, ◌↔◌, ◌==◌, ℕ, ◌+◌, ◌-◌, Bool, true, false, ◌&&◌, cond, List, map, length, get_or, Option, IsTrue, refl, ap, sym, ◌∙◌, arith}
 use Rattle.std.proofs.lemmas.Bool.Decides.{nat_tests}
 use Rattle.std.proofs.lemmas.Nat.Bits.{bit_at_ones}
 use Rattle.std.proofs.lemmas.List.{length-map}
@@ -10,7 +10,6 @@ use Rattle.bus_word.specs.Mask.{has_bit}
 use Rattle.bus_word.proofs.Places.{place_low, place_high}
 use Rattle.bus_legal.specs.declared.entries.Rule.{Rule}
 use Rattle.bus_legal.specs.declared.profile.Profile.{Profile}
-use Rattle.bus_legal.specs.Last.{last_of}
 use Rattle.bus_legal.specs.Legal.{is_legal, rule_says}
 use Rattle.bus_legal.specs.Meaning.{description_of}
 use Rattle.bus_legal.specs.Reach.{is_heard}
@@ -19,7 +18,6 @@ use Rattle.bus_legal.proofs.Bools.{guarded}
 use Rattle.bus_legal.proofs.LegalLaws.{legal_allowed, own_codes, required_codes}
 use Rattle.bus_legal.proofs.TopBit.{zero-bit}
 use Rattle.terminal_rules.specs.Same.{Same}
-use Rattle.spare_entries.specs.declared.said.Said.{Said}
 use Rattle.spare_entries.specs.declared.rules.Table.{Table}
 use Rattle.spare_entries.specs.declared.rules.Table.TheVariants.{OwnReceive, OwnTransmit, BroadcastReceive}
 use Rattle.spare_entries.specs.Without.{without, without_rule}
@@ -32,20 +30,14 @@ use Rattle.spare_entries.proofs.Reached.{IsAsked, same_in_reach, same_cells}
 -- ---- one table, at one subaddress
 
 said_over : (table : Table) (s : ℕ) (o : Option Rule) → what_is_said false (over (counts_said table s) o) ≡ rule_says o
-said_over table s None = refl
-said_over table s (Some r) = refl
+said_over table s o = search arith
 
 speaks : (a b : Bool) (mask i : ℕ) → has_bit (cond (a && b) mask 0) i ≡ (a && (b && has_bit mask i))
-speaks true true mask i = refl
-speaks true false mask i = zero-bit i
-speaks false b mask i = zero-bit i
+speaks a b mask i = search (arith, zero-bit)
 
 -- the bit that the masks of the rules make is the one that the rules say
 bit_after-rules : (table : Table) (rules : List Rule) (s i : ℕ) → bit_after (has_bit 0 i) (map (counts_said table s) rules) i ≡ bit_said (concerns table) rules s i
-bit_after-rules table rules s i =
-    (λ j. what_is_said (zero-bit i j) (last_of-map (λ (e : Said). has_bit e.bits i) (counts_said table s) rules j))
-    ∙ (said_over table s (last_of (λ r. has_bit (counts_said table s r).bits i) rules)
-    ∙ (λ j. rule_says (last_of (λ (r : Rule). speaks (concerns table r) (has_bit r.subaddresses s) r.counts i j) rules)))
+bit_after-rules table rules s i = search (arith, zero-bit, last_of-map, said_over, speaks)
 
 pub same_mask-said : (table : Table) (rules : List Rule) (k s : ℕ) → SameBits 0 0xffffffff (map (counts_said table s) rules) k ↔ SameMask table rules k s
 same_mask-said table rules k s =
@@ -69,13 +61,7 @@ same_places : (table : Table) (rules : List Rule) (k : ℕ) → SameTable table 
 same_places table rules k same = λ s n. guarded (is_data_place s n) _ _ (λ place. same (s - 1) (place_low s n place) (n - 1) (place_high s n place))
 
 same_table : (table : Table) (rules : List Rule) (k : ℕ) → SaidAlike table rules (without k rules) → SameTable table rules k
-same_table table rules k alike s l i m =
-    let place : is_data_place (s + 1) (i + 1) ≡ true = data_place s i l m in
-    let row : s + 1 - 1 ≡ s = omega arith in
-    let number : i + 1 - 1 ≡ i = omega arith in
-    let at : (some : List Rule) → (is_data_place (s + 1) (i + 1) && bit_said (concerns table) some (s + 1 - 1) (i + 1 - 1)) ≡ bit_said (concerns table) some s i =
-    (λ some. (λ j. place j && bit_said (concerns table) some (row j) (number j))) in
-    sym (at rules) ∙ (alike (s + 1) (i + 1) ∙ at (without k rules))
+same_table table rules k alike s l i m = search (arith, data_place, data_place s i l m)
 
 abbrev heard_alike : Profile → ℕ → Cell → Type 0
 heard_alike p k c = (is_heard p.broadcast c && is_legal p.rules p.modes c) ≡ (is_heard p.broadcast c && is_legal (without k p.rules) p.modes c)
@@ -102,11 +88,7 @@ pub asked : (p : Profile) → IsAsked (description_of p)
 asked p = record { low = p.own_address; asks = required_codes p 2 refl; allowed = legal_allowed p.rules p.modes }
 
 asked_without : (p : Profile) (k : ℕ) → IsAsked (without_rule p k)
-asked_without p k = record {
-  low = p.own_address;
-  asks = own_codes (without k p.rules) p.modes 2 ∙ (sym (own_codes p.rules p.modes 2) ∙ required_codes p 2 refl);
-  allowed = legal_allowed (without k p.rules) p.modes;
-}
+asked_without p k = search (arith, own_codes, required_codes, legal_allowed)
 
 pub spare_rule : (p : Profile) (k : ℕ) → SameTables p k ↔ Same (description_of p) (without_rule p k)
 spare_rule p k =
@@ -126,20 +108,4 @@ Made table rules old new = (k : ℕ) → k < length rules → IsTrue (get_or new
 pub made_all : (p : Profile) (rules : List Rule) (old one two last : List Bool) → rules ≡ p.rules → Made OwnReceive rules old one → Made OwnTransmit rules one two →
     (p.broadcast ≡ true → Made BroadcastReceive rules two last) → (p.broadcast ≡ false → last ≡ two) →
     (k : ℕ) → k < length p.rules → IsTrue (get_or last k false) ↔ (IsTrue (get_or old k false) × SameTables p k)
-made_all p rules old one two last is a b hears deaf k l = by_option p.broadcast refl
-  where
-    first : Made OwnReceive p.rules old one
-    first = subst (λ rs. Made OwnReceive rs old one) is a
-
-    second : Made OwnTransmit p.rules one two
-    second = subst (λ rs. Made OwnTransmit rs one two) is b
-
-    by_option : (t : Bool) → p.broadcast ≡ t → IsTrue (get_or last k false) ↔ (IsTrue (get_or old k false) × SameTables p k)
-    by_option true e =
-        let third : Made BroadcastReceive p.rules two last = subst (λ rs. Made BroadcastReceive rs two last) is (hears e) in
-        three _ (get_or one k false) (get_or two k false) _ (SameTable OwnReceive p.rules k) (SameTable OwnTransmit p.rules k) (SameTable BroadcastReceive p.rules k) (p.broadcast ≡ true → SameTable BroadcastReceive p.rules k)
-        (first k l) (second k l) (third k l) (λ same _. same, λ same. same e)
-    by_option false e =
-        let same : get_or last k false ≡ get_or two k false = ap (λ marks. get_or marks k false) (deaf e) in
-        three _ (get_or one k false) (get_or two k false) _ (SameTable OwnReceive p.rules k) (SameTable OwnTransmit p.rules k) (Unit {0}) (p.broadcast ≡ true → SameTable BroadcastReceive p.rules k)
-        (first k l) (second k l) (λ h. (sym same ∙ h, tt), λ h. same ∙ h.0) (λ _ h. (let wrong : true ≡ false = sym h ∙ e in cc), λ _. tt)
+made_all p rules old one two last is a b hears deaf k l = search (arith, three)

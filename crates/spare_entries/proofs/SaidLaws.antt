@@ -1,5 +1,5 @@
 -- Which entries have no effect on the bits of a mask.
-use Rattle.std.proofs.Common.{◌≡◌, ◌≢◌, ◌↔◌, ℕ, suc, ◌+◌, ◌^◌, ◌<◌, ◌≤◌, ◌==◌, Bool, true, false, not, ◌&&◌, cond, IsTrue, List, length, map, get_or, set, take, drop, Option, Some, bit_and, refl, ap, subst, sym, ◌∙◌, get_or-set_same, get_or-set_other, ⊎_elim, arith}
+use Rattle.std.proofs.Common.{◌≡◌, ◌↔◌, ℕ, suc, ◌+◌, ◌^◌, ◌<◌, ◌≤◌, ◌==◌, Bool, true, false, not, ◌&&◌, cond, IsTrue, List, length, map, get_or, set, take, drop, Option, Some, bit_and, ap, sym, ◌∙◌, get_or-set_same, get_or-set_other, arith}
 use Rattle.std.proofs.lemmas.Bool.{cases_lt}
 use Rattle.bus_legal.proofs.Last.{last_of-take}
 use Rattle.std.specs.List.{list_any}
@@ -15,15 +15,7 @@ use Rattle.spare_entries.proofs.LastOf.{same_without, list_any-map}
 
 -- a bit is not among those that change
 masked : (n u left b : Bool) → ((n && (cond u (not b) b && left)) ≡ false) ↔ (n ≡ true → left ≡ true → u ≡ b)
-masked false u left b = (λ e h l. cc, λ f. refl)
-masked true true false true = (λ e h l. cc, λ f. refl)
-masked true true false false = (λ e h l. cc, λ f. refl)
-masked true false false true = (λ e h l. cc, λ f. refl)
-masked true false false false = (λ e h l. cc, λ f. refl)
-masked true true true true = (λ e h l. refl, λ f. refl)
-masked true true true false = (λ e h l. e, λ f. f refl refl)
-masked true false true true = (λ e h l. sym e, λ f. sym (f refl refl))
-masked true false true false = (λ e h l. refl, λ f. refl)
+masked n u left b = search arith
 
 -- Of an entry: the mask before it, the bits of which it is the last to speak, and those of them that it changes.
 pub same_bits : (entries : List Said) (k : ℕ) (d : Said) (start numbers before last effect : ℕ) → k < length entries → numbers < 2 ^ 32 →
@@ -45,8 +37,7 @@ same_bits entries k d start numbers before last effect l small befores lasts eff
 
 -- one more entry
 said_of-cond : (default t : Bool) (e : Said) (o : Option Said) → what_is_said default (cond t (Some e) o) ≡ cond t e.legal (what_is_said default o)
-said_of-cond default true e o = refl
-said_of-cond default false e o = refl
+said_of-cond default t e o = search arith
 
 pub bit_after-take : (default : Bool) (entries : List Said) (at : ℕ) (d : Said) (old new i : ℕ) → at < length entries → has_bit old i ≡ bit_after default (take at entries) i →
     has_bit new i ≡ cond (has_bit (get_or entries at d).bits i) (get_or entries at d).legal (has_bit old i) → has_bit new i ≡ bit_after default (take (at + 1) entries) i
@@ -56,34 +47,16 @@ bit_after-take default entries at d old new i l e f =
     f ∙ (ap (cond (p x) x.legal) e ∙ sym (ap (what_is_said default) (last_of-take p entries at d l) ∙ said_of-cond default (p x) x (last_of p (take at entries))))
 
 both : (a b : Bool) (P : Type 0) → (b ≡ true) ↔ P → IsTrue (a && b) ↔ (IsTrue a × P)
-both true b P law = (λ h. (refl, law.0 h), λ h. law.1 h.1)
-both false b P law = (λ (h : false ≡ true). cc, λ h. (let wrong : false ≡ true = h.0 in cc))
+both a b P h = search arith
 
 -- one more mark, made by a test
 pub marked : (spares old : List Bool) (at : ℕ) (test : Bool) (P : ℕ → Type 0) → at < length spares → get_or spares at false ≡ get_or old at false →
     ((j : ℕ) → j < at → IsTrue (get_or spares j false) ↔ (IsTrue (get_or old j false) × P j)) → (test ≡ true) ↔ P at →
     (j : ℕ) → j < at + 1 → IsTrue (get_or (set spares at (get_or spares at false && test)) j false) ↔ (IsTrue (get_or old j false) × P j)
-marked spares old at test P l is made law j k =
-    let new : Bool = get_or spares at false && test in
-    ⊎_elim
-    (λ lt.
-    let other : j ≢ at = omega arith in
-    subst (λ b. IsTrue b ↔ (IsTrue (get_or old j false) × P j)) (sym (get_or-set_other spares at j new false other)) (made j lt))
-    (λ le.
-    let here : at ≡ j = omega arith in
-    subst (λ n. IsTrue (get_or (set spares at new) n false) ↔ (IsTrue (get_or old n false) × P n)) here
-    (subst (λ b. IsTrue b ↔ (IsTrue (get_or old at false) × P at)) (sym (get_or-set_same spares at new false l))
-    (subst (λ b. IsTrue (get_or spares at false && test) ↔ (IsTrue b × P at)) is (both (get_or spares at false) test (P at) law))))
-    (cases_lt j at)
+marked spares old at test P l is made law j k = search (arith, get_or-set_other, get_or-set_same, both, cases_lt)
 
 -- the bits of the entries, of which each mask kept its last
 pub bits_last : {X : Type 0} (bits : X → ℕ) (entries : List X) (old new : List ℕ) (k i : ℕ) (d : X) → old ≡ map bits entries → k < length entries → i < 32 →
     ((k i : ℕ) → k < length old → i < 32 → has_bit (get_or new k 0) i ≡ (not (list_any (λ mask. has_bit mask i) (drop (suc k) old)) && has_bit (get_or old k 0) i)) →
     has_bit (get_or new k 0) i ≡ (not (list_any (λ e. has_bit (bits e) i) (drop (suc k) entries)) && has_bit (bits (get_or entries k d)) i)
-bits_last {X} bits entries old new k i d is l m kept =
-    let inside : k < length old = omega (arith, ap length is, length-map entries bits) in
-    let later : list_any (λ mask. has_bit mask i) (drop (suc k) (map bits entries)) ≡ list_any (λ (e : X). has_bit (bits e) i) (drop (suc k) entries) =
-    ap (list_any (λ mask. has_bit mask i)) (drop-map bits (suc k) entries) ∙ list_any-map (λ mask. has_bit mask i) bits (drop (suc k) entries) in
-    kept k i inside m
-    ∙ ((λ j. not (list_any (λ mask. has_bit mask i) (drop (suc k) (is j))) && has_bit (get_or (is j) k 0) i)
-    ∙ (λ j. not (later j) && has_bit (get_or-map bits entries k d 0 l j) i))
+bits_last {X} bits entries old new k i d is l m kept = search (arith, length-map, drop-map, list_any-map, get_or-map)

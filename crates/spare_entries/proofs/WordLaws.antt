@@ -1,6 +1,5 @@
 -- An initial entry, or a word of it, has no effect exactly if the words that are held and transmitted are the same without it.
-use Rattle.std.proofs.Common.{◌≡◌, ◌≢◌, ◌↔◌, ℕ, suc, ◌+◌, ◌-◌, ◌<◌, ◌≤◌, ◌==◌, Bool, true, false, not, ◌&&◌, nat_le, nat_lt, List, length, get_or, set, take, drop, IsTrue, refl, ap, subst, sym, ◌∙◌, get_or-set_same, get_or-set_other, arith}
-use Rattle.std.specs.List.{list_any}
+use Rattle.std.proofs.Common.{◌≡◌, ◌≢◌, ◌↔◌, ℕ, ◌+◌, ◌-◌, ◌<◌, ◌≤◌, ◌==◌, Bool, true, false, ◌&&◌, nat_le, nat_lt, List, length, get_or, set, take, IsTrue, refl, ap, subst, sym, ◌∙◌, get_or-set_same, get_or-set_other, arith}
 use Rattle.std.proofs.lemmas.Bool.{eqb-true, eq-eqb}
 use Rattle.std.proofs.lemmas.Bool.Decides.{nat_tests}
 use Rattle.std.proofs.lemmas.List.Elements.{at_read}
@@ -12,7 +11,7 @@ use Rattle.bus_word.proofs.Places.{place_from}
 use Rattle.bus_legal.specs.declared.entries.InitialWords.{InitialWords}
 use Rattle.bus_legal.specs.declared.profile.Profile.{Profile}
 use Rattle.bus_legal.specs.declared.tables.Tables.{Tables}
-use Rattle.bus_legal.specs.Initial.{gives_number, gives, word_given, initial_word}
+use Rattle.bus_legal.specs.Initial.{gives, word_given, initial_word}
 use Rattle.bus_legal.specs.Legal.{is_legal}
 use Rattle.bus_legal.specs.Meaning.{description_of}
 use Rattle.bus_legal.specs.Reach.{largest_count, transmits_at, can_transmit}
@@ -41,49 +40,18 @@ pub record IsEntry (sent : List ℕ) (entries : List InitialWords) (k : ℕ) (e 
 
 pub is_entry : (sent : List ℕ) (entries : List InitialWords) (k : ℕ) (e : InitialWords) (s last largest : ℕ) → k < length entries → e ≡ get_or entries k e → e.subaddress ≡ s →
     largest ≡ largest_in (get_or sent (s - 1) 0) → ((i : ℕ) → i < 32 → has_bit last i ≡ gives_last entries k s (i + 1) (get_or entries k e)) → IsEntry sent entries k e last largest
-is_entry sent entries k e s last largest l is here most lasts = record {
-  inside = l;
-  is = is;
-  largest_is = most ∙ ap (λ n. largest_in (get_or sent (n - 1) 0)) (sym here);
-  last_is = λ i m. lasts i m ∙ (λ j. gives_last entries k (sym here j) (i + 1) (sym is j));
-}
+is_entry sent entries k e s last largest l is here most lasts = search arith
 
 both_true : (a b : Bool) → a ≡ true → b ≡ true → (a && b) ≡ true
-both_true a b e f = λ j. cases a b e f j
-  where
-    cases : (a b : Bool) → a ≡ true → b ≡ true → (a && b) ≡ true
-    cases true b e f = f
-    cases false b e f = e
+both_true a b e f = search arith
 
 below : (w len : ℕ) → nat_lt w len ≡ true → w < len
 below w len e = grind (arith, nat_tests)
 
-test_below : (w len : ℕ) → w < len → nat_lt w len ≡ true
-test_below w len l = grind (arith, nat_tests)
-
-place_of : (s first len w : ℕ) → 1 ≤ s → s ≤ 30 → 1 ≤ first → first + len ≤ 33 → w < len → is_data_place s (first + w) ≡ true
-place_of s first len w low high from room l = grind (arith, nat_tests)
-
-number_from : (first len n : ℕ) → (nat_le first n && nat_lt n (first + len)) ≡ true → first ≤ n
-number_from first len n e = grind (arith, nat_tests)
-
-number_to : (first len n : ℕ) → (nat_le first n && nat_lt n (first + len)) ≡ true → n < first + len
-number_to first len n e = grind (arith, nat_tests)
-
 -- a word that is held stands at a number that is transmitted, and that the entry is the last to give
 held_to : (sent : List ℕ) (entries : List InitialWords) (k : ℕ) (e : InitialWords) (last largest : ℕ) → IsEntry sent entries k e last largest → (w : ℕ) → is_held e last largest w ≡ true →
     (may_be_sent sent e.subaddress (e.first + w) ≡ true) × (gives_last entries k e.subaddress (e.first + w) e ≡ true)
-held_to sent entries k e last largest at w held =
-    let from : 1 ≤ e.first = e.first_low in
-    let room : e.first + e.len ≤ 33 = e.room in
-    let l : w < e.len = below w e.len (left_of _ _ held) in
-    let rest : (nat_lt (e.first - 1 + w) largest && has_bit last (e.first - 1 + w)) ≡ true = right_of (nat_lt w e.len) _ held in
-    let number : e.first - 1 + w + 1 ≡ e.first + w = omega arith in
-    let index : e.first + w - 1 ≡ e.first - 1 + w = omega arith in
-    let within : e.first - 1 + w < 32 = omega arith in (
-      both_true _ _ (place_of e.subaddress e.first e.len w e.subaddress_low e.subaddress_high from room l) ((λ j. nat_lt (index j) (sym at.largest_is j)) ∙ left_of _ _ rest),
-      ap (λ n. gives_last entries k e.subaddress n e) (sym number) ∙ (sym (at.last_is (e.first - 1 + w) within) ∙ right_of (nat_lt (e.first - 1 + w) largest) _ rest),
-    )
+held_to sent entries k e last largest at w held = search (arith, below, left_of, right_of, both_true, nat_tests)
 
 -- a place that is transmitted, and that the entry is the last to give
 record IsPlace (e : InitialWords) (last largest s n : ℕ) : Type 0 where
@@ -94,26 +62,7 @@ record IsPlace (e : InitialWords) (last largest s n : ℕ) : Type 0 where
 
 held_from : (sent : List ℕ) (entries : List InitialWords) (k : ℕ) (e : InitialWords) (last largest : ℕ) → IsEntry sent entries k e last largest → (s n : ℕ) →
     may_be_sent sent s n ≡ true → gives_last entries k s n e ≡ true → IsPlace e last largest s n
-held_from sent entries k e last largest at s n t g =
-    let from : 1 ≤ e.first = e.first_low in
-    let room : e.first + e.len ≤ 33 = e.room in
-    let given : gives s n e ≡ true = right_of (not (list_any (gives s n) (drop (suc k) entries))) _ g in
-    let same : s ≡ e.subaddress = eqb-true s e.subaddress (left_of _ _ given) in
-    let inside : gives_number n e ≡ true = right_of (s == e.subaddress) _ given in
-    let low : e.first ≤ n = number_from e.first e.len n inside in
-    let high : n < e.first + e.len = number_to e.first e.len n inside in
-    let number : e.first - 1 + (n - e.first) + 1 ≡ n = omega arith in
-    let index : n - 1 ≡ e.first - 1 + (n - e.first) = omega arith in
-    let within : e.first - 1 + (n - e.first) < 32 = omega arith in
-    let count : nat_lt (n - 1) (largest_in (get_or sent (s - 1) 0)) ≡ true = right_of (is_data_place s n) _ t in
-    record {
-      same = same;
-      small = omega arith;
-      number = number;
-      held = both_true _ _ (test_below (n - e.first) e.len (omega arith)) (both_true _ _
-          ((λ j. nat_lt (sym index j) (at.largest_is j)) ∙ ((λ j. nat_lt (n - 1) (largest_in (get_or sent (sym same j - 1) 0))) ∙ count))
-          (at.last_is (e.first - 1 + (n - e.first)) within ∙ ((λ j. gives_last entries k (sym same j) (number j) e) ∙ g)));
-    }
+held_from sent entries k e last largest at s n t g = search (arith, right_of, eqb-true, left_of, both_true, nat_tests)
 
 -- ---- the entry
 
@@ -229,9 +178,7 @@ same_terminal p t others legal =
 -- what is told of an entry, of the terminal
 pub entry_told : (p : Profile) (t : Tables) (k : ℕ) (spare : InitialSpares) → ((cell : Cell) → tables_say t cell ≡ is_legal p.rules p.modes cell) → IsMarked t.own_transmit p.initials k spare →
     IsTrue spare.entry ↔ Same (description_of p) (without_initial p k)
-entry_told p t k spare legal told =
-    let law = same_terminal p t (without k p.initials) legal in
-    (λ h. law.0 (told.entry.0 h), λ same. told.entry.1 (law.1 same))
+entry_told p t k spare legal told = search (arith, same_terminal, same_terminal p t (without k p.initials) legal)
 
 pub word_told : (p : Profile) (t : Tables) (k : ℕ) (spare : InitialSpares) → ((cell : Cell) → tables_say t cell ≡ is_legal p.rules p.modes cell) → IsMarked t.own_transmit p.initials k spare →
     (w : ℕ) → w < 32 → SparesWord p k w (has_bit spare.words w)

@@ -1,5 +1,5 @@
 -- The numbers that initial entries give, and the words that they set up, one entry after the other.
-use Rattle.std.proofs.Common.{◌≡◌, ◌≢◌, ◌↔◌, IsTrue, ℕ, ◌+◌, ◌-◌, ◌*◌, ◌%◌, ◌^◌, ◌<◌, ◌≤◌, ◌==◌, Bool, true, false, not, ◌&&◌, cond, nat_le, nat_lt, List, length, get_or, set, take, replicate, HoldsAt, Option, Some, refl, ap, subst, sym, ◌∙◌, get_or-set_same, get_or-set_other, ⊎_elim, ◌⊎◌, inl, inr, arith}
+use Rattle.std.proofs.Common.{◌≡◌, ◌≢◌, ◌↔◌, IsTrue, ℕ, ◌+◌, ◌-◌, ◌*◌, ◌%◌, ◌^◌, ◌<◌, ◌≤◌, ◌==◌, Bool, true, false, not, ◌&&◌, cond, List, length, get_or, set, take, replicate, HoldsAt, Option, Some, refl, ap, subst, sym, ◌∙◌, get_or-set_same, get_or-set_other, ⊎_elim, arith}
 use Rattle.std.proofs.Math.Pow.{pow_mono}
 use Rattle.std.proofs.lemmas.Bool.{cases_lt, eq-eqb}
 use Rattle.std.proofs.lemmas.Bool.Decides.{nat_tests}
@@ -7,7 +7,6 @@ use Rattle.std.proofs.lemmas.List.{get_or_default}
 use Rattle.std.proofs.lemmas.Nat.Bits.{bit_at_mask_below, bit_at_mask_inside, bit_at_mask_above}
 use Rattle.bus_word.specs.Mask.{has_bit}
 use Rattle.bus_legal.specs.declared.entries.InitialWords.{InitialWords}
-use Rattle.bus_legal.specs.Last.{last_of}
 use Rattle.bus_legal.specs.Initial.{gives_number, gives, word_given, initial_word}
 use Rattle.bus_legal.proofs.Last.{last_of-take}
 use Rattle.bus_legal.proofs.TopBit.{zero-bit}
@@ -16,29 +15,8 @@ use Rattle.spare_entries.specs.inner.Words.{numbers_at, IsMarked}
 
 -- ---- the numbers as a mask
 
-pub mask_bit : (first len i : ℕ) → 1 ≤ first → has_bit (2 ^ (first - 1 + len) - 2 ^ (first - 1)) i ≡ (nat_le first (i + 1) && nat_lt (i + 1) (first + len))
-mask_bit first len i low = by_place (cases_lt i (first - 1)) (cases_lt i (first - 1 + len))
-  where
-    by_place : (i < first - 1) ⊎ (first - 1 ≤ i) → (i < first - 1 + len) ⊎ (first - 1 + len ≤ i) →
-        has_bit (2 ^ (first - 1 + len) - 2 ^ (first - 1)) i ≡ (nat_le first (i + 1) && nat_lt (i + 1) (first + len))
-    by_place (inl lt) c =
-        let test : nat_le first (i + 1) ≡ false = grind (arith, nat_tests) in
-        ap (λ b. b == 1) (bit_at_mask_below (first - 1) (first - 1 + len) i lt) ∙ sym (ap (λ t. t && nat_lt (i + 1) (first + len)) test)
-    by_place (inr le) (inl lt) =
-        let test : nat_le first (i + 1) ≡ true = grind (arith, nat_tests) in
-        let within : nat_lt (i + 1) (first + len) ≡ true = grind (arith, nat_tests) in
-        ap (λ b. b == 1) (bit_at_mask_inside (first - 1) (first - 1 + len) i le lt) ∙ sym (λ j. test j && within j)
-    by_place (inr le) (inr past) =
-        let test : nat_le first (i + 1) ≡ true = grind (arith, nat_tests) in
-        let outside : nat_lt (i + 1) (first + len) ≡ false = grind (arith, nat_tests) in
-        ap (λ b. b == 1) (bit_at_mask_above (first - 1) (first - 1 + len) i past) ∙ sym (λ j. test j && outside j)
-
 pub numbers-bit : (s i : ℕ) (e : InitialWords) → has_bit (numbers_at s e) i ≡ gives s (i + 1) e
-numbers-bit s i e = by_subaddress (s == e.subaddress) ∙ ap (λ t. (s == e.subaddress) && t) (mask_bit e.first e.len i e.first_low)
-  where
-    by_subaddress : (t : Bool) → has_bit (cond t (2 ^ (e.first - 1 + e.len) - 2 ^ (e.first - 1)) 0) i ≡ (t && has_bit (2 ^ (e.first - 1 + e.len) - 2 ^ (e.first - 1)) i)
-    by_subaddress true = refl
-    by_subaddress false = zero-bit i
+numbers-bit s i e = search (arith, zero-bit, cases_lt, nat_tests, bit_at_mask_below, bit_at_mask_inside, bit_at_mask_above)
 
 -- a power that fits
 pub small_power : (k : ℕ) → k ≤ 32 → 1 * 2 ^ k % 0x1_0000_0000_0000_0000 ≡ 2 ^ k
@@ -48,24 +26,17 @@ small_power k l = let below : 2 ^ k ≤ 2 ^ 32 = pow_mono l in omega arith
 
 word_given-cond : (default number : ℕ) (t : Bool) (e : InitialWords) (o : Option InitialWords) →
     word_given default number (cond t (Some e) o) ≡ cond t (get_or e.words (number - e.first) 0) (word_given default number o)
-word_given-cond default number true e o = refl
-word_given-cond default number false e o = refl
+word_given-cond default number t e o = search arith
 
 word-take : (entries : List InitialWords) (at : ℕ) (e : InitialWords) (s n : ℕ) → at < length entries → e ≡ get_or entries at e →
     initial_word (take (at + 1) entries) s n ≡ cond (gives s n e) (get_or e.words (n - e.first) 0) (initial_word (take at entries) s n)
-word-take entries at e s n l is =
-    let P : InitialWords → Type 0 = λ x. last_of (gives s n) (take (at + 1) entries) ≡ cond (gives s n x) (Some x) (last_of (gives s n) (take at entries)) in
-    ap (word_given 0 n) (subst P (sym is) (last_of-take (gives s n) entries at e l)) ∙ word_given-cond 0 n (gives s n e) e _
+word-take entries at e s n l is = search (arith, last_of-take, word_given-cond, last_of-take (gives s n) entries)
 
 -- a row with the words of an entry of its subaddress
 pub row-put : (entries : List InitialWords) (at : ℕ) (e : InitialWords) (s i : ℕ) (old new : ℕ) → at < length entries → e ≡ get_or entries at e → e.subaddress ≡ s →
     old ≡ initial_word (take at entries) s (i + 1) → new ≡ cond (gives_number (i + 1) e) (get_or e.words (i + 1 - e.first) 0) old →
     new ≡ initial_word (take (at + 1) entries) s (i + 1)
-row-put entries at e s i old new l is here before written =
-    let test : (s == e.subaddress) ≡ true = eq-eqb s e.subaddress (sym here) in
-    written
-    ∙ (ap (cond (gives_number (i + 1) e) (get_or e.words (i + 1 - e.first) 0)) before
-    ∙ sym (word-take entries at e s (i + 1) l is ∙ ap (λ t. cond (t && gives_number (i + 1) e) (get_or e.words (i + 1 - e.first) 0) (initial_word (take at entries) s (i + 1))) test))
+row-put entries at e s i old new l is here before written = search (arith, eq-eqb, word-take, eq-eqb s e.subaddress (sym here), word-take entries)
 
 -- a row beside an entry of another subaddress
 pub row-left : (entries : List InitialWords) (at : ℕ) (e : InitialWords) (s i : ℕ) (old : ℕ) → at < length entries → e ≡ get_or entries at e → e.subaddress ≢ s →
@@ -103,36 +74,20 @@ Left entries s old new j = HoldsAt (λ e. e.subaddress ≢ s → HoldsAt (λ bef
 
 pub left-put : (entries : List InitialWords) (s at : ℕ) (old spares new : List InitialSpares) (spare : InitialSpares) (e : InitialWords) → at < length entries → e ≡ get_or entries at e → e.subaddress ≡ s →
     new ≡ set spares at spare → (j : ℕ) → Left entries s old spares j → Left entries s old new j
-left-put entries s at old spares new spare e l is here put j before d apart d' d'' =
-    let other : j ≢ at = (λ f. apart (sym (ap (λ (x : InitialWords). x.subaddress) (is ∙ (get_or_default entries at e d l ∙ ap (λ n. get_or entries n d) (sym f)))) ∙ here)) in
-    ap (λ list. get_or list j d'') put ∙ (get_or-set_other spares at j spare d'' other ∙ before d apart d' d'')
+left-put entries s at old spares new spare e l is here put j before d apart d' d'' = search (arith, get_or_default, get_or-set_other)
 
 -- ---- a mask of words, bit by bit
 
 pub clear_step : (spare new at : ℕ) (H : ℕ → Type 0) → at < 32 → ((i : ℕ) → i < 32 → has_bit new i ≡ (not (i == at) && has_bit spare i)) → (H at → ⊥) →
     ((w : ℕ) → w < at → IsTrue (has_bit spare w) ↔ H w) → (w : ℕ) → w < at + 1 → IsTrue (has_bit new w) ↔ H w
-clear_step spare new at H small bits none before w l = ⊎_elim
-    (λ lt.
-    let other : (w == at) ≡ false = grind (arith, nat_tests) in
-    let same : has_bit new w ≡ has_bit spare w = bits w (omega arith) ∙ ap (λ t. not t && has_bit spare w) other in
-    subst (λ b. IsTrue b ↔ H w) (sym same) (before w lt))
-    (λ le.
-    let here : w ≡ at = omega arith in
-    let is : has_bit new w ≡ false = bits w (omega arith) ∙ ap (λ t. not t && has_bit spare w) (eq-eqb w at here) in
-    (λ h. (let wrong : false ≡ true = sym is ∙ h in cc), λ h. absurd (none (subst H here h))))
-    (cases_lt w at)
+clear_step spare new at H small bits none before w l = search (arith, nat_tests, eq-eqb, cases_lt)
 
 pub clear_left : (spare new at : ℕ) → ((i : ℕ) → i < 32 → has_bit new i ≡ (not (i == at) && has_bit spare i)) → ((w : ℕ) → at ≤ w → w < 32 → has_bit spare w ≡ true) →
     (w : ℕ) → at + 1 ≤ w → w < 32 → has_bit new w ≡ true
-clear_left spare new at bits left w l small =
-    let other : (w == at) ≡ false = grind (arith, nat_tests) in
-    bits w small ∙ (ap (λ t. not t && has_bit spare w) other ∙ left w (omega arith) small)
+clear_left spare new at bits left w l small = search (arith, nat_tests)
 
 pub keep_step : (spare at : ℕ) (H : ℕ → Type 0) → has_bit spare at ≡ true → H at → ((w : ℕ) → w < at → IsTrue (has_bit spare w) ↔ H w) → (w : ℕ) → w < at + 1 → IsTrue (has_bit spare w) ↔ H w
-keep_step spare at H stands holds before w l = ⊎_elim
-    (before w)
-    (λ le. let here : at ≡ w = omega arith in subst (λ n. IsTrue (has_bit spare n) ↔ H n) here ((λ _. holds), (λ _. stands)))
-    (cases_lt w at)
+keep_step spare at H stands holds before w l = search (arith, cases_lt)
 
 -- an entry, to read a list of them
 pub some_entry : InitialWords

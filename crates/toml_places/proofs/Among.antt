@@ -1,8 +1,9 @@
 -- Names that are known, one after the other.
-use Rattle.std.proofs.Common.{◌≡◌, ℕ, ◌+◌, ◌<◌, Bool, true, false, ◌||◌, List, drop, map, get_or, length, ap, ◌∙◌, sym, Option, Some, None, option_and_then}
+use Rattle.std.proofs.Common.{◌≡◌, ℕ, ◌+◌, ◌<◌, Bool, true, false, ◌||◌, List, drop, map, get_or, length, ap, ◌∙◌, sym, Option, option_and_then, arith}
 use Rattle.std.specs.List.{slice_get}
 use Rattle.std.proofs.lemmas.List.{drop_more}
 use Rattle.std.specs.Borrow.{Bor}
+use Rattle.std.proofs.lemmas.Grind.{common_steps}
 use Rattle.toml.specs.Data.{same_key}
 use Rattle.toml_places.specs.declared.statement.Statement.{Statement}
 use Rattle.toml_places.specs.Search.{entries_from}
@@ -12,21 +13,17 @@ use Rattle.toml_places.specs.Besides.{is_one_of, name_besides, names_behind, ite
 -- the names from an index on: that one, and those from the next on
 among_more : (name : List ℕ) (known : List (Bor (List ℕ))) (i : ℕ) (d : Bor (List ℕ)) (is : Bool) → i < length known → is ≡ same_key name (get_or known i d).now
     → is_one_of name (map (λ k. k.now) (drop i known)) ≡ (is || is_one_of name (map (λ k. k.now) (drop (i + 1) known)))
-among_more name known i d is within same =
-    ap (λ ks. is_one_of name (map (λ (k : Bor (List ℕ)). k.now) ks)) (drop_more known i d within)
-    ∙ ap (λ b. b || is_one_of name (map (λ (k : Bor (List ℕ)). k.now) (drop (i + 1) known))) (sym same)
+among_more name known i d is within same = search (arith, drop_more)
 
 -- it is the name
 pub among_here : (name : List ℕ) (known : List (Bor (List ℕ))) (i : ℕ) (d : Bor (List ℕ)) (is : Bool) → i < length known → is ≡ same_key name (get_or known i d).now → is ≡ true
     → is_one_of name (map (λ k. k.now) (drop i known)) ≡ true
-among_here name known i d is within same holds =
-    among_more name known i d is within same ∙ ap (λ b. b || is_one_of name (map (λ (k : Bor (List ℕ)). k.now) (drop (i + 1) known))) holds
+among_here name known i d is within same holds = grind (arith, common_steps, among_more)
 
 -- it is another
 pub among_later : (name : List ℕ) (known : List (Bor (List ℕ))) (i : ℕ) (d : Bor (List ℕ)) (is : Bool) → i < length known → is ≡ same_key name (get_or known i d).now → is ≡ false
     → is_one_of name (map (λ k. k.now) (drop i known)) ≡ is_one_of name (map (λ k. k.now) (drop (i + 1) known))
-among_later name known i d is within same fails =
-    among_more name known i d is within same ∙ ap (λ b. b || is_one_of name (map (λ (k : Bor (List ℕ)). k.now) (drop (i + 1) known))) fails
+among_later name known i d is within same fails = grind (arith, common_steps, among_more)
 
 -- what a look-up among the headers of an array finds
 pub item_at : (key : List ℕ) (i : ℕ) (known : List (List ℕ)) (statements : List Statement) (entries : List ℕ) (found : Option ℕ) → entries ≡ entries_from 0 key (whole_names statements)

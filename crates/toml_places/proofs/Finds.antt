@@ -1,5 +1,5 @@
 -- What it is to find the statement that gives what is looked for.
-use Rattle.std.proofs.Common.{◌≡◌, ◌<◌, ◌+◌, ℕ, suc, Bool, true, false, List, ◌∷◌, take, length, Option, Some, option_map, refl, ap, ◌∙◌, arith}
+use Rattle.std.proofs.Common.{◌≡◌, ◌<◌, ◌+◌, ℕ, suc, Bool, true, false, List, ◌∷◌, take, length, Option, Some, option_map, ap, ◌∙◌, arith}
 use Rattle.toml.specs.Data.{Members}
 use Rattle.toml.specs.Tables.{Expression, Document, Node, Nodes, get_node, close, close_node, define}
 use Rattle.toml_places.specs.Parsed.{defined}
@@ -29,19 +29,7 @@ Found sought at doc es o = (j : ℕ) × (o ≡ Some (at + j)) × GivesAfter soug
 
 pub found_here : (sought : Members → Bool) (at : ℕ) (doc after : Document) (e : Expression) (es : List Expression) (o : Option ℕ) → define doc e ≡ Some after
     → sought (close doc.0) ≡ false → sought (close after.0) ≡ true → o ≡ Some at → Found sought at doc (e ∷ es) o
-found_here sought at doc after e es o is without with found = (
-  0,
-  found ∙ ap Some (omega arith),
-  record {
-    within = omega arith;
-    before = doc;
-    is_before = refl;
-    without = without;
-    after = after;
-    is_after = rw is;
-    with = with;
-  },
-)
+found_here sought at doc after e es o is without with found = search arith
 
 pub found_later : (sought : Members → Bool) (at : ℕ) (doc after : Document) (e : Expression) (es : List Expression) (o p : Option ℕ) → define doc e ≡ Some after
     → o ≡ p → Found sought (suc at) after es p → Found sought at doc (e ∷ es) o

@@ -17,9 +17,7 @@ use Rattle.toml_places.proofs.Stays.{value_stays, table_stays, item_stays, no_wh
 -- a key that no statement gave yet
 pub key_law : (key : List ℕ) (at : ℕ) (es : List Expression) (doc final : Document) → defined doc es ≡ Some final → get_node key doc.0 ≡ None
     → node_has None None (get_node key final.0) ≡ true → Found (is_there key None None) at doc es (key_from at key (names_after doc es))
-key_law key at [] doc final h none there =
-    let same : doc ≡ final = same_Some doc final h in
-    absurd (false≢true (rw (← same, none) at there))
+key_law key at [] doc final h none there = search (arith, same_Some, false≢true)
 key_law key at (e ∷ es) doc final h none there =
     let s = step key doc e es final h in
     let n = ap (key_from at key) s.names in
@@ -41,8 +39,7 @@ key_law key at (e ∷ es) doc final h none there =
 pub name_law : (key : List ℕ) (i : ℕ) (n : List ℕ) (at : ℕ) (es : List Expression) (doc final : Document) (done : Items) (last : Nodes) → defined doc es ≡ Some final
     → get_node key doc.0 ≡ Some (open_array done last) → i ≡ count done → get_node n last ≡ None → node_has (Some i) (Some n) (get_node key final.0) ≡ true
     → Found (is_there key (Some i) (Some n)) at doc es (name_from at key n (names_after doc es))
-name_law key i n at [] doc final done last h found e none there =
-    absurd (false≢true (rw (← same_Some doc final h, found, last_has i n done last e, none) at there))
+name_law key i n at [] doc final done last h found e none there = search (arith, false≢true, same_Some, last_has)
 name_law key i n at (e ∷ es) doc final done last h found c none there =
     let s = step key doc e es final h in
     let names_with_kinds = ap (name_from at key n) s.names in
@@ -99,8 +96,7 @@ entry_step key i (suc m) name at e es doc after final done o is rest found c wit
 pub more_law : (key : List ℕ) (i m : ℕ) (name : Option (List ℕ)) (at : ℕ) (es : List Expression) (doc final : Document) (done : Items) (last : Nodes) → defined doc es ≡ Some final
     → get_node key doc.0 ≡ Some (open_array done last) → i ≡ count done + suc m → node_has (Some i) name (get_node key final.0) ≡ true
     → Found (is_there key (Some i) name) at doc es (item_from at key m name (names_after doc es))
-more_law key i m name at [] doc final done last h found c there =
-    absurd (false≢true (rw (← same_Some doc final h, found, past_there i m name done last c) at there))
+more_law key i m name at [] doc final done last h found c there = search (arith, false≢true, same_Some, past_there, same_Some doc final h, past_there i m name done last c)
 more_law key i m name at (e ∷ es) doc final done last h found c there =
     let s = step key doc e es final h in
     let names_with_kinds = ap (item_from at key m name) s.names in

@@ -5,13 +5,11 @@ use Rattle.std.proofs.lemmas.Bool.{cases_Bool, and_parts, false≢true}
 use Rattle.std.proofs.lemmas.Option.{none-some, same_Some}
 use Rattle.std.specs.List.{slice_get}
 use Rattle.std.specs.Option.{IfSome}
-use Rattle.toml_parser.specs.Reading.{key_view}
 use Rattle.toml_parser.specs.Strings.{Key}
 use Rattle.toml.specs.Data.{Members}
 use Rattle.toml.specs.Tables.{no_nodes, Expression}
 use Rattle.toml_places.specs.declared.statement.Statement.{Statement}
 use Rattle.toml_places.specs.declared.statement.StatementKind.{StatementKind}
-use Rattle.toml_places.specs.declared.statement.StatementKind.TheVariants.{Pair, Table, Entry}
 use Rattle.toml_places.specs.Parsed.{parts, names_with_kinds, section_after}
 use Rattle.toml_places.specs.Places.{is_there, IsGivenBy, head}
 use Rattle.toml_places.specs.Search.{Named, kind_is_entry, gives_whole, adds_entry, whole_from, entries_from, in_item_from, item_from, index_of_key, index_of_item}
@@ -20,19 +18,7 @@ use Rattle.toml_places.proofs.Finds.{Found, there_node}
 use Rattle.toml_places.proofs.Gives.{key_law, item_law}
 
 gives_it : (sought : Members → Bool) (es : List Expression) (place other : Option ℕ) → place ≡ other → Found sought 0 (no_nodes, []) es other → (j : ℕ) × (place ≡ Some j) × IsGivenBy sought es j
-gives_it sought es place other same (j, is, g) = (
-  j,
-  same ∙ is ∙ ap Some (omega arith),
-  record {
-    within = g.within;
-    before = g.before;
-    is_before = g.is_before;
-    without = g.without;
-    after = g.after;
-    is_after = g.is_after;
-    with = g.with;
-  },
-)
+gives_it sought es place other same (j, is, g) = search arith
 
 pub key_is_place : (key : List ℕ) (statements : List Statement) (place : Option ℕ) → place ≡ index_of_key key (whole_names statements) → IsPlace (is_there key None None) statements place
 key_is_place key statements place found es final heads defines there =
@@ -73,24 +59,13 @@ pub record IsEntry (at : ℕ) (key : List ℕ) (i j : ℕ) (section : List (List
   pub name : (n : List ℕ) → item_from at key i (Some n) (named_in section statements) ≡ name_behind j key n (drop m statements)
 
 entry_section : (section : List (List ℕ)) (key : Key) (kind : StatementKind) → kind_is_entry kind ≡ true → section_after section key kind ≡ parts key
-entry_section section key Pair h = absurd (false≢true h)
-entry_section section key Table h = refl
-entry_section section key Entry h = refl
+entry_section section key kind h = search (arith, false≢true)
 
 entry_behind : (at : ℕ) (key : List ℕ) (i j : ℕ) (section : List (List ℕ)) (s : Statement) (statements : List Statement) → adds_entry key (named_statement section s) ≡ true
     → slice_get (at ∷ entries_from (suc at) key (named_in (section_behind section s) statements)) i ≡ Some j
     → ((k : ℕ) → slice_get (entries_from (suc at) key (named_in (section_behind section s) statements)) k ≡ Some j → IsEntry (suc at) key k j (section_behind section s) statements)
     → IsEntry at key i j section (s ∷ statements)
-entry_behind at key zero j section s statements adds h more =
-    let here : at ≡ j = same_Some at j h in
-    let behind : section_behind section s ≡ parts (key_view s.key) = entry_section section (key_view s.key) s.kind (and_parts (kind_is_entry s.kind) _ adds).0 in
-    record {
-      m = 0;
-      index = sym here ∙ omega arith;
-      within = omega arith;
-      item = rw adds h;
-      name = λ n. rw (adds, ← here, behind);
-    }
+entry_behind at key zero j section s statements adds h more = search (arith, same_Some, entry_section, and_parts)
 entry_behind at key (suc i) j section s statements adds h more =
     let e = more i h in
     let fewer : suc i - 1 ≡ i = omega arith in
@@ -131,12 +106,10 @@ whole_before_end at key section (s ∷ statements) j h =
 
 -- the pair that gives the whole array is one of the statements
 pub whole_within : (key : List ℕ) (statements : List Statement) (whole : Option ℕ) → whole ≡ whole_from 0 key (whole_names statements) → IfSome whole (λ j. j < length statements)
-whole_within key statements None h = tt
-whole_within key statements (Some j) h = omega (arith, whole_before_end 0 key [] statements j (sym h))
+whole_within key statements whole h = search (arith, whole_before_end)
 
 unwhole : (key : List ℕ) (i : ℕ) (name : Option (List ℕ)) (ss : List Named) (whole : Option ℕ) → is_some whole ≡ false → whole ≡ whole_from 0 key ss → index_of_item key i name ss ≡ item_from 0 key i name ss
-unwhole key i name ss None none h = rw (← h)
-unwhole key i name ss (Some j) none h = absurd (false≢true (sym none))
+unwhole key i name ss whole h h1 = search (arith, false≢true)
 
 -- the headers, and what a look-up among them finds where no pair gives the whole array
 module _ (key : List ℕ) (statements : List Statement) (entries : List ℕ) (all : entries ≡ entries_from 0 key (whole_names statements)) (i : ℕ) where
@@ -151,10 +124,7 @@ module _ (key : List ℕ) (statements : List Statement) (entries : List ℕ) (al
     header_item j found = sym (unwhole key i None (whole_names statements) whole none pair ∙ (entry_of j found).item)
 
     pub header_name : (n : List ℕ) (j : ℕ) → slice_get entries i ≡ Some j → name_behind j key n (drop j statements) ≡ index_of_item key i (Some n) (whole_names statements)
-    header_name n j found =
-        let e = entry_of j found in
-        let at : e.m ≡ j = omega (arith, e.index) in
-        sym (unwhole key i (Some n) (whole_names statements) whole none pair ∙ e.name n ∙ ap (λ m. name_behind j key n (drop m statements)) at)
+    header_name n j found = search (arith, entry_of, unwhole, entry_of j found)
 
     pub header_none : (name : Option (List ℕ)) → slice_get entries i ≡ None → None ≡ index_of_item key i name (whole_names statements)
     header_none name found = sym (unwhole key i name (whole_names statements) whole none pair ∙ no_entry 0 key i name (whole_names statements) (rw (← all) found))

@@ -2,7 +2,7 @@
 use Rattle.std.proofs.Common.{◌≡◌, ◌+◌, ℕ, zero, suc, true, false, List, Option, Some, None, option_map, is_some, refl, ap, arith}
 use Rattle.std.proofs.lemmas.Option.{none-some}
 use Rattle.toml.specs.Data.{Data, table, Items, no_items, item, push_item, get_item}
-use Rattle.toml.specs.Tables.{Node, Nodes, value, open_table, open_array, get_node, close, close_node}
+use Rattle.toml.specs.Tables.{Node, Nodes, open_array, get_node, close, close_node}
 use Rattle.toml_places.proofs.Writes.{get_member-close}
 use Rattle.toml_places.proofs.Steps.{IsTable}
 use Rattle.toml_places.proofs.Finds.{node_has}
@@ -34,8 +34,7 @@ get_item-push_front zero (item y ds) d x h = h
 get_item-push_front (suc i) (item y ds) d x h = get_item-push_front i ds d x h
 
 is_some-map : {A B : Type 0} (f : A → B) (o : Option A) → is_some (option_map f o) ≡ is_some o
-is_some-map f None = refl
-is_some-map f (Some x) = refl
+is_some-map f o = search arith
 
 -- what the last item has
 pub last_has : (i : ℕ) (n : List ℕ) (done : Items) (last : Nodes) → i ≡ count done → node_has (Some i) (Some n) (Some (open_array done last)) ≡ is_some (get_node n last)
@@ -53,6 +52,4 @@ pub front_has : (i : ℕ) (n : List ℕ) (done : Items) (last ns : Nodes) → ge
 front_has i n done last ns e = rw (get_item-push_front i done (table (close last)) _ e, get_member-close n ns) (is_some-map close_node (get_node n ns))
 
 pub table_has : (i : ℕ) (name : Option (List ℕ)) (x : Node) → IsTable x → node_has (Some i) name (Some x) ≡ false
-table_has i name (value d) h = absurd h
-table_has i name (open_table origin ns) h = refl
-table_has i name (open_array done last) h = absurd h
+table_has i name x h = search arith

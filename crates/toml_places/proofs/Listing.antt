@@ -1,13 +1,11 @@
 -- The statements that were read so far, and those that are left.
-use Rattle.std.proofs.Common.{◌≡◌, ℕ, suc, ◌-◌, ◌≤◌, ◌==◌, true, false, List, [], ◌∷◌, ◌++◌, length, map, Option, Some, None, is_some, option_map, refl, sym, ap, ◌∙◌, append_assoc}
+use Rattle.std.proofs.Common.{◌≡◌, ℕ, suc, ◌-◌, ◌≤◌, ◌==◌, true, false, List, [], ◌∷◌, ◌++◌, length, map, Some, sym, ap, ◌∙◌, append_assoc, arith}
 use Rattle.std.proofs.lemmas.List.{map-append, append-nil}
 use Rattle.std.proofs.lemmas.List.Elements.{All-append, All-cons, All-nil}
 use Rattle.std.specs.List.{All}
 use Rattle.std.specs.Option.{IsSome}
 use Rattle.toml_parser.specs.Lexical.{skip_blank}
-use Rattle.toml_parser.specs.Reading.{key_view}
-use Rattle.toml.specs.Data.{Members}
-use Rattle.toml.specs.Tables.{Expression, Document, no_nodes, close}
+use Rattle.toml.specs.Tables.{Expression, Document, no_nodes}
 use Rattle.toml.specs.Parse.{read_map, line, lines, skip_bom, parse_document}
 use Rattle.toml_places.specs.declared.statement.Statement.{Statement}
 use Rattle.toml_places.specs.Parsed.{Placed, statements}
@@ -15,16 +13,10 @@ use Rattle.toml_places.specs.Found.{Seen, seen, statement_view}
 use Rattle.toml_places.specs.inner.Steps.{Heading, heading, heading_view}
 use Rattle.toml_places.proofs.Turns.{lines_done, some_lines_on}
 
-some_mapped : {A B : Type 0} (f : A → B) (o : Option A) → is_some (option_map f o) ≡ true → (x : A) × (o ≡ Some x)
-some_mapped f None h = absurd cc
-some_mapped f (Some x) h = (x, refl)
-
 -- a document has lines to its end
 pub document_lines : (text : List ℕ) → IsSome (parse_document text) → (final : Document) × (lines (suc (length text)) (no_nodes, []) (skip_bom text) ≡ Some final)
 unfolding parse_document
-document_lines text h =
-    let tree_of : Document → Members = λ doc. close doc.0 in
-    some_mapped tree_of (lines (suc (length text)) (no_nodes, []) (skip_bom text)) h
+document_lines text h = search arith
 
 -- a statement before others
 abbrev put_before : Expression → ℕ → List Placed → List Placed
@@ -35,20 +27,11 @@ abbrev WithRest : ℕ → List Statement → List Placed → List Seen → Type 
 WithRest len found left all = map statement_view found ++ map (seen len) left ≡ all
 
 seen_as_kept : (len : ℕ) (s : Statement) (e : Expression) (left : ℕ) → s.at ≡ len - left → heading_view (s.key, s.kind) ≡ heading e → statement_view s ≡ seen len (e, left)
-seen_as_kept len s e left place what =
-    let at_place : ℕ → Seen = λ n. (n, key_view s.key, s.kind) in
-    let headed : Heading → Seen = λ h. (len - left, h.0, h.1) in
-    ap at_place place ∙ ap headed what
+seen_as_kept len s e left place what = search arith
 
 one_more : (len : ℕ) (found new : List Statement) (s : Statement) (ps : List Placed) (e : Expression) (left : ℕ) (rest : List Placed) (all : List Seen)
     → WithRest len found ps all → ps ≡ put_before e left rest → new ≡ found ++ s ∷ [] → statement_view s ≡ seen len (e, left) → WithRest len new rest all
-one_more len found new s ps e left rest all whole split pushed same =
-    ap (λ xs. map statement_view xs ++ map (seen len) rest) pushed
-    ∙ ap (λ front. front ++ map (seen len) rest) (map-append statement_view found (s ∷ []))
-    ∙ append_assoc (map statement_view found) (statement_view s ∷ []) (map (seen len) rest)
-    ∙ ap (λ x. map statement_view found ++ x ∷ map (seen len) rest) same
-    ∙ ap (λ ps. map statement_view found ++ map (seen len) ps) (sym split)
-    ∙ whole
+one_more len found new s ps e left rest all whole split pushed same = search (arith, map-append, append_assoc)
 
 -- a text of this length whose rest, where these statements were found before it, gives the others
 pub record Left (len : ℕ) (final : Document) (all : List Seen) (found : List Statement) (rest : List ℕ) : Type 0 where
@@ -60,10 +43,7 @@ pub record Left (len : ℕ) (final : Document) (all : List Seen) (found : List S
 -- at the end none is left
 pub left_none : (len : ℕ) (final : Document) (all : List Seen) (found : List Statement) (rest start : List ℕ) → Left len final all found rest → start ≡ skip_blank rest → (length start == 0) ≡ true
     → map statement_view found ≡ all
-left_none len final all found rest start l start_is over =
-    let here : (length (skip_blank rest) == 0) ≡ true = ap (λ t. length t == 0) (sym start_is) ∙ over in
-    let (same, none) = lines_done l.fuel l.doc final rest l.read here in
-    sym (append-nil (map statement_view found)) ∙ ap (λ ps. map statement_view found ++ map (seen len) ps) (sym none) ∙ l.whole
+left_none len final all found rest start l start_is over = search (arith, lines_done, append-nil)
 
 -- before the end there is a statement to read
 pub left_some : (len : ℕ) (final : Document) (all : List Seen) (found : List Statement) (rest start : List ℕ) → Left len final all found rest → start ≡ skip_blank rest → (length start == 0) ≡ false

@@ -1,5 +1,5 @@
 -- What a statement does at one key of the root.
-use Rattle.std.proofs.Common.{◌≡◌, ℕ, Bool, true, false, ◌&&◌, List, [], ◌∷◌, map, Option, Some, None, option_and_then, refl, sym, ap, ◌∙◌, subst, inl, inr}
+use Rattle.std.proofs.Common.{◌≡◌, ℕ, Bool, true, false, ◌&&◌, List, [], ◌∷◌, map, Option, Some, None, option_and_then, refl, sym, ap, subst, inl, inr, arith}
 use Rattle.std.proofs.lemmas.Bool.{cases_Bool}
 use Rattle.std.proofs.lemmas.Option.{none-some, same_Some}
 use Rattle.toml.specs.Data.{Data, table, Items, no_items, push_item, same_key}
@@ -8,7 +8,7 @@ use Rattle.toml.proofs.NodeLaws.{same_key-self}
 use Rattle.toml_places.specs.declared.statement.StatementKind.{StatementKind}
 use Rattle.toml_places.specs.Parsed.{defined, statement_kind, names_with_kinds, whole_name}
 use Rattle.toml_places.specs.Places.{head}
-use Rattle.toml_places.specs.Search.{Named, begins_key, begins_both, is_alone, kind_is_pair, kind_is_entry, gives_whole, adds_entry}
+use Rattle.toml_places.specs.Search.{Named, begins_key, begins_both, kind_is_pair, kind_is_entry, gives_whole, adds_entry}
 use Rattle.toml_places.proofs.Writes.{Writes, same_key-exact}
 use Rattle.toml_places.proofs.Steps.{IsTable, made, Within, Changes, defines}
 
@@ -33,8 +33,7 @@ pub data Move (key : List ℕ) (s : Named) (old new : Option Node) : Type 0 wher
       → ((n : List ℕ) → begins_both key n s.0 ≡ same_key n g) → old ≡ Some (open_array done last) → new ≡ Some (open_array done after) → Writes g last after y → Move key s old new
 
 and_false : (b : Bool) → (b && false) ≡ false
-and_false true = refl
-and_false false = refl
+and_false b = search arith
 
 move_alone : (key : List ℕ) (what : Definition) (o : Option Node) (x : Node) → made what o ≡ Some x → Move key (key ∷ [], statement_kind what) o (Some x)
 move_alone key (key_value d) None x h = whole d (same_key-self key) (same_key-self key) refl (sym h)
@@ -64,24 +63,8 @@ move_here : (key : List ℕ) (what : Definition) (rest : List (List ℕ)) (a b :
 move_here key what [] a b (x, w, is) = rw w.here (move_alone key what (get_node key a) x is)
 move_here key what (g ∷ rest) a b (x, w, inner) = rw w.here (move_inside key g rest (statement_kind what) (get_node key a) x inner)
 
-others_here : (what : Definition) (key k : List ℕ) (rest : List (List ℕ)) (a b : Nodes) → same_key key k ≡ false → Changes what (k ∷ rest) a b → get_node key b ≡ get_node key a
-others_here what key k [] a b other (x, w, is) = w.others key other
-others_here what key k (g ∷ rest) a b other (x, w, is) = w.others key other
-
-alone_other : (key k : List ℕ) (rest : List (List ℕ)) → same_key key k ≡ false → is_alone key (k ∷ rest) ≡ false
-alone_other key k [] other = other
-alone_other key k (g ∷ rest) other = refl
-
-both_other : (key k n : List ℕ) (rest : List (List ℕ)) → same_key key k ≡ false → begins_both key n (k ∷ rest) ≡ false
-both_other key k n rest other = rw other
-
 move_other : (key k : List ℕ) (what : Definition) (rest : List (List ℕ)) (a b : Nodes) → same_key key k ≡ false → Changes what (k ∷ rest) a b → Move key (k ∷ rest, statement_kind what) (get_node key a) (get_node key b)
-move_other key k what rest a b other h =
-    elsewhere other
-    (ap (λ t. kind_is_pair (statement_kind what) && t) (alone_other key k rest other) ∙ and_false (kind_is_pair (statement_kind what)))
-    (ap (λ t. kind_is_entry (statement_kind what) && t) (alone_other key k rest other) ∙ and_false (kind_is_entry (statement_kind what)))
-    (λ n. both_other key k n rest other)
-    (others_here what key k rest a b other h)
+move_other key k what rest a b other h = search (arith, and_false)
 
 move : (key : List ℕ) (what : Definition) (name : List (List ℕ)) (a b : Nodes) → Changes what name a b → Move key (name, statement_kind what) (get_node key a) (get_node key b)
 move key what [] a b h = absurd h
@@ -104,8 +87,7 @@ pub record Step (key : List ℕ) (doc : Document) (e : Expression) (es : List Ex
   pub moves : Move key s (get_node key doc.0) (get_node key after.0)
 
 split : (o : Option Document) (es : List Expression) (final : Document) → option_and_then (λ next. defined next es) o ≡ Some final → (after : Document) × (o ≡ Some after) × (defined after es ≡ Some final)
-split None es final h = absurd (none-some final h)
-split (Some after) es final h = (after, refl, h)
+split o es final h = search (arith, none-some)
 
 pub step : (key : List ℕ) (doc : Document) (e : Expression) (es : List Expression) (final : Document) → defined doc (e ∷ es) ≡ Some final → Step key doc e es final
 step key doc e es final h =

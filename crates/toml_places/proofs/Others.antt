@@ -1,5 +1,5 @@
 -- What the searches for another name find is there, and where they find none, each name that is there is known.
-use Rattle.std.proofs.Common.{◌≡◌, ℕ, suc, Bool, true, false, ◌&&◌, if◌then◌else◌, List, [], ◌∷◌, drop, map, Option, Some, None, refl, sym, ap, ◌∙◌, subst, inl, inr, ◌⊎◌, arith}
+use Rattle.std.proofs.Common.{◌≡◌, ℕ, suc, Bool, true, false, if◌then◌else◌, List, [], ◌∷◌, drop, Option, Some, None, refl, sym, ap, ◌∙◌, subst, inl, inr, ◌⊎◌, arith}
 use Rattle.std.proofs.lemmas.Bool.{and_parts, false≢true}
 use Rattle.std.proofs.lemmas.Option.{none-some, same_Some}
 use Rattle.std.specs.List.{slice_get}
@@ -12,8 +12,7 @@ use Rattle.toml_places.specs.declared.statement.Statement.{Statement}
 use Rattle.toml_places.specs.Parsed.{parts, names_with_kinds}
 use Rattle.toml_places.specs.Besides.{is_one_of, besides, key_besides, part_behind, name_besides, names_behind}
 use Rattle.toml_places.specs.Law.{NoOtherKey, NoOtherName, OtherKey, OtherName}
-use Rattle.toml_places.specs.Places.{head}
-use Rattle.toml_places.specs.Search.{Named, begins_key, begins_both, adds_entry, key_from, name_from, entries_from, item_from, either, index_of_key, index_of_item}
+use Rattle.toml_places.specs.Search.{Named, begins_both, adds_entry, key_from, name_from, entries_from, item_from, index_of_key, index_of_item}
 use Rattle.toml_places.specs.Statements.{named_in, whole_names, name_behind}
 use Rattle.toml_places.proofs.Writes.{same_key-exact}
 use Rattle.toml_places.proofs.Finds.{there_node}
@@ -23,19 +22,10 @@ use Rattle.toml_places.proofs.There.{key_there, item_there}
 -- ---- where no part is answered, no later one is, and this one is known
 
 besides-later : (known : List (List ℕ)) (o later : Option (List ℕ)) → besides known o later ≡ None → later ≡ None
-besides-later known None later h = h
-besides-later known (Some part) later h = by_test (is_one_of part known) h
-  where
-    by_test : (t : Bool) → (if t then later else Some part) ≡ None → later ≡ None
-    by_test true h = h
-    by_test false h = absurd (none-some part (sym h))
+besides-later known o later h = search (arith, none-some)
 
 besides-known : (known : List (List ℕ)) (part : List ℕ) (later : Option (List ℕ)) → besides known (Some part) later ≡ None → is_one_of part known ≡ true
-besides-known known part later h = by_test (is_one_of part known) refl h
-  where
-    by_test : (t : Bool) → is_one_of part known ≡ t → (if t then later else Some part) ≡ None → is_one_of part known ≡ true
-    by_test true e h = e
-    by_test false e h = absurd (none-some part (sym h))
+besides-known known part later h = search (arith, none-some)
 
 -- ---- keys of the root
 
@@ -52,8 +42,7 @@ key_known name known at j ((part ∷ parts, kind) ∷ ss) found none =
 
 pub no_other_key : NoOtherKey
 no_other_key known statements none es final name heads defines there =
-    let (j, found, given) = key_is_place name statements (index_of_key name (whole_names statements)) refl es final heads defines there in
-    key_known name known 0 j (whole_names statements) found none
+    search (arith, key_is_place, key_known, key_is_place name statements (index_of_key name (whole_names statements)) refl es final heads defines there)
 
 -- ---- names in an item
 
@@ -85,35 +74,25 @@ name_known key name known at j (s ∷ ss) found none = by_entry (adds_entry key 
 
 behind_known : (key name : List ℕ) (known : List (List ℕ)) (at j : ℕ) (statements : List Statement) → name_behind at key name statements ≡ Some j
     → name_besides key known (names_behind statements) ≡ None → is_one_of name known ≡ true
-behind_known key name known at j [] found none = absurd (none-some j found)
-behind_known key name known at j (s ∷ statements) found none = name_known key name known (suc at) j (named_in (parts (key_view s.key)) statements) found none
+behind_known key name known at j statements h h1 = search (arith, none-some, name_known)
 
 -- where the header of the item is, if there is one
 item_known : (key : List ℕ) (i : ℕ) (known : List (List ℕ)) (statements : List Statement) (name : List ℕ) (j : ℕ) (header : Option ℕ)
     → slice_get (entries_from 0 key (whole_names statements)) i ≡ header → option_and_then (λ k. name_besides key known (names_behind (drop k statements))) header ≡ None
     → item_from 0 key i (Some name) (whole_names statements) ≡ Some j → is_one_of name known ≡ true
 item_known key i known statements name j None at none found = absurd (none-some j (sym (no_entry 0 key i (Some name) (whole_names statements) at) ∙ found))
-item_known key i known statements name j (Some k) at none found =
-    let entry = is_entry_at 0 key i k [] statements at in
-    let here : entry.m ≡ k = omega (arith, entry.index) in
-    behind_known key name known k j (drop k statements) (ap (λ m. name_behind k key name (drop m statements)) (sym here) ∙ sym (entry.name name) ∙ found) none
+item_known key i known statements name j (Some k) at none found = search (arith, is_entry_at, behind_known, is_entry_at 0 key i k [] statements)
 
 pub no_other_name : NoOtherName
 no_other_name key i known statements whole none es final name heads defines there =
-    let (j, found, given) = item_is_place key i (Some name) statements (index_of_item key i (Some name) (whole_names statements)) refl es final heads defines there in
-    let item : item_from 0 key i (Some name) (whole_names statements) ≡ Some j = sym (ap (λ o. either o (item_from 0 key i (Some name) (whole_names statements))) whole) ∙ found in
-    item_known key i known statements name j (slice_get (entries_from 0 key (whole_names statements)) i) refl none item
+    search (arith, item_is_place, item_known, item_is_place key i (Some name) statements (index_of_item key i (Some name) (whole_names statements)) refl es final heads defines there)
 
 -- ---- what is answered is there
 
 -- what is known of a part that is answered: it is none of the known ones, and a statement of these gives it
 besides-some : (known : List (List ℕ)) (part name : List ℕ) (later : Option (List ℕ)) → besides known (Some part) later ≡ Some name
     → ((is_one_of part known ≡ false) × (part ≡ name)) ⊎ (later ≡ Some name)
-besides-some known part name later h = by_test (is_one_of part known) refl h
-  where
-    by_test : (t : Bool) → is_one_of part known ≡ t → (if t then later else Some part) ≡ Some name → ((is_one_of part known ≡ false) × (part ≡ name)) ⊎ (later ≡ Some name)
-    by_test true e h = inr h
-    by_test false e h = inl (e, same_Some part name h)
+besides-some known part name later h = search (arith, same_Some)
 
 key_found : (known : List (List ℕ)) (name : List ℕ) (at : ℕ) (ss : List Named) → key_besides known ss ≡ Some name → (is_one_of name known ≡ false) × ((j : ℕ) × (key_from at name ss ≡ Some j))
 key_found known name at [] h = absurd (none-some name h)
@@ -144,16 +123,7 @@ other_key known statements name h =
 
 -- the part that is answered stands behind the key
 part_both : (key name : List ℕ) (names : List (List ℕ)) → part_behind key names ≡ Some name → begins_both key name names ≡ true
-part_both key name [] h = absurd (none-some name h)
-part_both key name (part ∷ names) h = by_test (same_key key part) refl h
-  where
-    by_test : (t : Bool) → same_key key part ≡ t → (if t then slice_get (part ∷ names) 1 else None) ≡ Some name → begins_both key name (part ∷ names) ≡ true
-    by_test true e h = rw e (first_is names h)
-      where
-        first_is : (names : List (List ℕ)) → slice_get (part ∷ names) 1 ≡ Some name → begins_key name names ≡ true
-        first_is [] h = absurd (none-some name h)
-        first_is (next ∷ rest) h = rw (same_Some next name h) (same_key-self name)
-    by_test false e h = absurd (none-some name h)
+part_both key name names h = search (arith, none-some, same_Some, same_key-self)
 
 name_found : (key name : List ℕ) (known : List (List ℕ)) (at : ℕ) (ss : List Named) → name_besides key known ss ≡ Some name → (is_one_of name known ≡ false) × ((j : ℕ) × (name_from at key name ss ≡ Some j))
 name_found key name known at [] h = absurd (none-some name h)
@@ -191,18 +161,7 @@ item_found : (key : List ℕ) (i : ℕ) (known : List (List ℕ)) (statements : 
     → slice_get (entries_from 0 key (whole_names statements)) i ≡ header → option_and_then (λ k. name_besides key known (names_behind (drop k statements))) header ≡ Some name
     → (is_one_of name known ≡ false) × ((j : ℕ) × (item_from 0 key i (Some name) (whole_names statements) ≡ Some j))
 item_found key i known statements name None at h = absurd (none-some name h)
-item_found key i known statements name (Some k) at h =
-    let entry = is_entry_at 0 key i k [] statements at in
-    let here : entry.m ≡ k = omega (arith, entry.index) in
-    let (other, (j, found)) = behind_found key name known k (drop k statements) h in
-    (other, (j, entry.name name ∙ ap (λ m. name_behind k key name (drop m statements)) here ∙ found))
+item_found key i known statements name (Some k) at h = search (arith, is_entry_at, behind_found, is_entry_at 0 key i k [] statements, behind_found key name known k (drop k statements) h)
 
 pub other_name : OtherName
-other_name key i known statements name h =
-    let (other, (j, found)) = item_found key i known statements name (slice_get (entries_from 0 key (whole_names statements)) i) refl h in
-    record {
-      other = other;
-      has = λ es final heads defines.
-          there_node key (Some i) (Some name) final.0
-          ∙ item_there key name i j es final defines (ap (λ hs. item_from 0 key i (Some name) (names_with_kinds [] hs)) heads ∙ found);
-    }
+other_name key i known statements name h = search (arith, item_found, there_node, item_there, item_found key i known statements name (slice_get (entries_from 0 key (whole_names statements)) i) refl h)

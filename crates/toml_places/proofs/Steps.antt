@@ -1,9 +1,9 @@
 -- What a statement does to the nodes of the root.
-use Rattle.std.proofs.Common.{◌≡◌, ℕ, ◌<◌, List, [], ◌∷◌, ◌++◌, length, Option, Some, None, option_map, refl, sym, arith, length-append}
+use Rattle.std.proofs.Common.{◌≡◌, ℕ, ◌<◌, List, [], ◌∷◌, ◌++◌, length, Option, Some, None, option_map, refl, arith, length-append}
 use Rattle.std.proofs.lemmas.Option.{none-some, same_Some}
 use Rattle.toml_parser.specs.Strings.{Key}
-use Rattle.toml.specs.Data.{Data, Items}
-use Rattle.toml.specs.Tables.{Definition, key_value, std_table, array_table, Document, Node, Nodes, no_nodes, value, open_table, open_array, Origin, implicit, dotted, header, get_node, insert, replace, Edit, header_node, dot_node, by_header, by_dot, along_header, along_dots, at_found, at_key, new_node, redefine, put, define}
+use Rattle.toml.specs.Data.{Data}
+use Rattle.toml.specs.Tables.{Definition, key_value, Document, Node, Nodes, no_nodes, value, open_table, open_array, Origin, implicit, dotted, get_node, insert, replace, Edit, header_node, dot_node, by_header, by_dot, along_header, along_dots, at_found, at_key, new_node, redefine, put, define}
 use Rattle.toml_places.specs.Parsed.{statement_kind, parts, whole_name, section_after}
 use Rattle.toml_places.proofs.Writes.{Writes, writes_insert, writes_replace}
 
@@ -35,24 +35,13 @@ wrote_over k ns after x None found e = absurd (none-some after e)
 wrote_over k ns after x (Some y) found e = (y, refl, rw (← same_Some _ after e) (writes_replace k x y ns found))
 
 inner_table : (w : Origin) (o : Option Nodes) (y : Node) → option_map (open_table w) o ≡ Some y → IsTable y
-inner_table w None y e = absurd (none-some y e)
-inner_table w (Some x) y e = rw (← same_Some _ y e) tt
-
-inner_array : (done : Items) (o : Option Nodes) (y : Node) → option_map (open_array done) o ≡ Some y → (after : Nodes) × (y ≡ open_array done after) × (o ≡ Some after)
-inner_array done None y e = absurd (none-some y e)
-inner_array done (Some x) y e = (x, sym (same_Some _ y e), refl)
+inner_table w o y h = search (arith, none-some, same_Some)
 
 header_inner : (e : Edit) (x y : Node) → header_node e x ≡ Some y → Inner e (Some x) y
-header_inner e (value d) y h = none-some y h
-header_inner e (open_table origin ns) y h = inner_table origin (e ns) y h
-header_inner e (open_array done last) y h = inner_array done (e last) y h
+header_inner e x y h = search (arith, none-some, inner_table, same_Some)
 
 dot_inner : (e : Edit) (x y : Node) → dot_node e x ≡ Some y → Inner e (Some x) y
-dot_inner e (value d) y h = none-some y h
-dot_inner e (open_table implicit ns) y h = inner_table dotted (e ns) y h
-dot_inner e (open_table dotted ns) y h = inner_table dotted (e ns) y h
-dot_inner e (open_table header ns) y h = absurd (none-some y h)
-dot_inner e (open_array done last) y h = absurd (none-some y h)
+dot_inner e x y h = search (arith, none-some, inner_table)
 
 -- the key is written, and the node there is what the edit made of it
 record Stepped (k : List ℕ) (e : Edit) (before after : Nodes) : Type 0 where
@@ -61,27 +50,16 @@ record Stepped (k : List ℕ) (e : Edit) (before after : Nodes) : Type 0 where
   inner : Inner e (get_node k before) node
 
 header_step : (k : List ℕ) (e : Edit) (ns after : Nodes) (o : Option Node) → get_node k ns ≡ o → by_header k e ns o ≡ Some after → Stepped k e ns after
-header_step k e ns after None found h =
-    let (x, is, w) = wrote_new k ns after (open_table implicit) (e no_nodes) h in
-    record { node = open_table implicit x; writes = w; inner = rw found tt }
-header_step k e ns after (Some x) found h =
-    let (y, is, w) = wrote_over k ns after x (header_node e x) found h in
-    record { node = y; writes = w; inner = rw found (header_inner e x y is) }
+header_step k e ns after None found h = search (arith, wrote_new, wrote_new k ns after (open_table implicit) (e no_nodes) h)
+header_step k e ns after (Some x) found h = search (arith, wrote_over, header_inner)
 
 dot_step : (k : List ℕ) (e : Edit) (ns after : Nodes) (o : Option Node) → get_node k ns ≡ o → by_dot k e ns o ≡ Some after → Stepped k e ns after
-dot_step k e ns after None found h =
-    let (x, is, w) = wrote_new k ns after (open_table dotted) (e no_nodes) h in
-    record { node = open_table dotted x; writes = w; inner = rw found tt }
-dot_step k e ns after (Some x) found h =
-    let (y, is, w) = wrote_over k ns after x (dot_node e x) found h in
-    record { node = y; writes = w; inner = rw found (dot_inner e x y is) }
+dot_step k e ns after None found h = search (arith, wrote_new, wrote_new k ns after (open_table dotted) (e no_nodes) h)
+dot_step k e ns after (Some x) found h = search (arith, wrote_over, dot_inner)
 
 at_step : (k : List ℕ) (what : Definition) (ns after : Nodes) (o : Option Node) → get_node k ns ≡ o → at_found k what ns o ≡ Some after
     → (x : Node) × Writes k ns after x × (made what o ≡ Some x)
-at_step k what ns after None found h = (new_node what, rw (← same_Some _ after h) (writes_insert k (new_node what) ns), refl)
-at_step k what ns after (Some x) found h =
-    let (y, is, w) = wrote_over k ns after x (redefine what x) found h in
-    (y, w, is)
+at_step k what ns after o h h1 = search (arith, same_Some, writes_insert, wrote_over, writes_insert k (new_node what) ns)
 
 -- the edit writes the first name of the path
 abbrev Touches : List (List ℕ) → Edit → Type 0
@@ -114,10 +92,7 @@ Within g (Some (open_table origin ns)) x = IsTable x
 Within g (Some (open_array done last)) x = (after : Nodes) × (x ≡ open_array done after) × ((y : Node) × Writes g last after y)
 
 within : (g : List ℕ) (rest : List (List ℕ)) (e : Edit) (o : Option Node) (x : Node) → Touches (g ∷ rest) e → Inner e o x → Within g o x
-within g rest e None x touches h = h
-within g rest e (Some (value d)) x touches h = h
-within g rest e (Some (open_table origin ns)) x touches h = h
-within g rest e (Some (open_array done last)) x touches h = (h.0, h.1, touches last h.0 h.2)
+within g rest e o x h h1 = search arith
 
 -- what a statement of this whole name does to the nodes of the root
 abbrev pub Changes : Definition → List (List ℕ) → Nodes → Nodes → Type 0
@@ -126,8 +101,7 @@ Changes what (k ∷ []) before after = (x : Node) × Writes k before after x × 
 Changes what (k ∷ g ∷ rest) before after = (x : Node) × Writes k before after x × Within g (get_node k before) x
 
 changes_inside : (what : Definition) (k : List ℕ) (rest : List (List ℕ)) (e : Edit) (ns after : Nodes) → 0 < length rest → Touches rest e → Stepped k e ns after → Changes what (k ∷ rest) ns after
-changes_inside what k [] e ns after some touches s = absurd (omega arith)
-changes_inside what k (g ∷ rest) e ns after some touches s = (s.node, s.writes, within g rest e (get_node k ns) s.node touches s.inner)
+changes_inside what k rest e ns after h h1 h2 = search (arith, within)
 
 some_parts : (path : List (List ℕ)) (k : List ℕ) → 0 < length (path ++ k ∷ [])
 some_parts path k = omega (arith, length-append path (k ∷ []))
@@ -142,23 +116,18 @@ changes_at k what ns after h = at_step k what ns after (get_node k ns) refl h
 changes_dots : (what : Definition) (path : List (List ℕ)) (k : List ℕ) (ns after : Nodes) → along_dots path (at_key k what) ns ≡ Some after → Changes what (path ++ k ∷ []) ns after
 unfolding along_dots
 changes_dots what [] k ns after h = changes_at k what ns after h
-changes_dots what (l ∷ path) k ns after h =
-    changes_inside what l (path ++ k ∷ []) _ ns after (some_parts path k) (touches_dots path k what) (dot_step l (along_dots path (at_key k what)) ns after (get_node l ns) refl h)
+changes_dots what (l ∷ path) k ns after h = search (arith, changes_inside, some_parts path k, touches_dots path k what, dot_step l (along_dots path (at_key k what)) ns after (get_node l ns) refl h)
 
 changes_header : (what : Definition) (path : List (List ℕ)) (k : List ℕ) (ns after : Nodes) → along_header path (at_key k what) ns ≡ Some after → Changes what (path ++ k ∷ []) ns after
 unfolding along_header
 changes_header what [] k ns after h = changes_at k what ns after h
-changes_header what (l ∷ path) k ns after h =
-    changes_inside what l (path ++ k ∷ []) _ ns after (some_parts path k) (touches_header path (k ∷ []) (at_key k what) (touches_at k what))
-    (header_step l (along_header path (at_key k what)) ns after (get_node l ns) refl h)
+changes_header what (l ∷ path) k ns after h = search (arith, changes_inside, some_parts path k, touches_header path (k ∷ []) (at_key k what) (touches_at k what), header_step l (along_header path (at_key k what)) ns after (get_node l ns) refl h)
 
 changes_pair : (d : Data) (section : List (List ℕ)) (key : Key) (ns after : Nodes) → along_header section (put key d) ns ≡ Some after → Changes (key_value d) (section ++ parts key) ns after
 unfolding along_header
 changes_pair d [] key ns after h = changes_dots (key_value d) key.0 key.1 ns after h
 changes_pair d (l ∷ section) key ns after h =
-    changes_inside (key_value d) l (section ++ parts key) _ ns after (some_after section (parts key) (some_parts key.0 key.1))
-    (touches_header section (parts key) (put key d) (touches_dots key.0 key.1 (key_value d)))
-    (header_step l (along_header section (put key d)) ns after (get_node l ns) refl h)
+    search (arith, changes_inside, some_after section (parts key) (some_parts key.0 key.1), touches_header section (parts key) (put key d) (touches_dots key.0 key.1 (key_value d)), header_step l (along_header section (put key d)) ns after (get_node l ns) refl h)
 
 -- what a statement does to a document: a change of the root, and the section after it
 pub record Defines (what : Definition) (name section : List (List ℕ)) (before after : Document) : Type 0 where
@@ -167,14 +136,9 @@ pub record Defines (what : Definition) (name section : List (List ℕ)) (before 
 
 with_section : (what : Definition) (name section : List (List ℕ)) (before after : Document) (o : Option Nodes) → option_map (λ (root : Nodes). let doc : Document = (root, section) in doc) o ≡ Some after
     → ((new : Nodes) → o ≡ Some new → Changes what name before.0 new) → Defines what name section before after
-with_section what name section before after None e h = absurd (none-some after e)
-with_section what name section before after (Some new) e h =
-    let same : (new, section) ≡ after = same_Some _ after e in
-    rw (← same) (record { root = h new refl; sections = refl })
+with_section what name section before after o h h1 = search (arith, none-some, same_Some)
 
 pub defines : (doc next : Document) (key : Key) (what : Definition) → define doc (key, what) ≡ Some next
     → Defines what (whole_name doc.1 key (statement_kind what)) (section_after doc.1 key (statement_kind what)) doc next
 unfolding define
-defines doc next key (key_value d) e = with_section (key_value d) _ doc.1 doc next _ e (λ new h. changes_pair d doc.1 key doc.0 new h)
-defines doc next key std_table e = with_section std_table _ (parts key) doc next _ e (λ new h. changes_header std_table key.0 key.1 doc.0 new h)
-defines doc next key array_table e = with_section array_table _ (parts key) doc next _ e (λ new h. changes_header array_table key.0 key.1 doc.0 new h)
+defines doc next key what h = search (arith, with_section, changes_pair, changes_header)

@@ -1,12 +1,11 @@
 -- What statements give is there at the end.
-use Rattle.std.proofs.Common.{◌≡◌, ◌-◌, ◌+◌, ◌==◌, ℕ, zero, suc, ◌&&◌, if◌then◌else◌, Bool, true, false, List, [], ◌∷◌, Option, Some, None, is_some, refl, sym, ap, ◌∙◌, subst, inl, inr, arith}
-use Rattle.std.proofs.lemmas.Bool.{cases_Bool, and_parts, false≢true}
+use Rattle.std.proofs.Common.{◌≡◌, ◌-◌, ◌+◌, ◌==◌, ℕ, suc, if◌then◌else◌, true, false, List, [], ◌∷◌, Option, Some, None, refl, sym, ap, ◌∙◌, subst, inl, inr, arith}
+use Rattle.std.proofs.lemmas.Bool.{cases_Bool, false≢true}
 use Rattle.std.proofs.Math.Dec.{eqb-suc-zero}
 use Rattle.std.proofs.lemmas.Option.{none-some, same_Some}
 use Rattle.toml.specs.Data.{table, Items, no_items, push_item, same_key}
 use Rattle.toml.specs.Tables.{Expression, Document, Node, Nodes, no_nodes, value, open_table, open_array, get_node, close}
 use Rattle.toml_places.specs.declared.statement.StatementKind.{StatementKind}
-use Rattle.toml_places.specs.declared.statement.StatementKind.TheVariants.{Pair, Table, Entry}
 use Rattle.toml_places.specs.Parsed.{defined}
 use Rattle.toml_places.specs.Search.{gives_whole, adds_entry, key_from, name_from, in_item_from, item_from}
 use Rattle.toml_places.proofs.Writes.{same_key-exact}
@@ -107,14 +106,10 @@ SoFar (Some (open_table origin ns)) c = Unit {0}
 SoFar (Some (open_array done last)) c = c ≡ suc (count done)
 
 table_so_far : (x : Node) (c : ℕ) → IsTable x → SoFar (Some x) c
-table_so_far (value d) c is = absurd is
-table_so_far (open_table origin ns) c is = tt
-table_so_far (open_array done last) c is = absurd is
+table_so_far x c h = search arith
 
 pair_adds_none : (key : List ℕ) (names : List (List ℕ)) (kind : StatementKind) → gives_whole key (names, kind) ≡ true → adds_entry key (names, kind) ≡ false
-pair_adds_none key names Pair gives = refl
-pair_adds_none key names Table gives = absurd (false≢true gives)
-pair_adds_none key names Entry gives = absurd (false≢true gives)
+pair_adds_none key names kind h = search (arith, false≢true)
 
 -- where a header adds an item: it is the sought one, or one before it
 item_step : (key n : List ℕ) (i c at k : ℕ) (es : List Expression) (after final : Document) (done : Items) → defined after es ≡ Some final
@@ -122,13 +117,7 @@ item_step : (key n : List ℕ) (i c at k : ℕ) (es : List Expression) (after fi
     → (if i == 0 then in_item_from at key (Some n) (names_after after es) else item_from (suc at) key (i - 1) (Some n) (names_after after es)) ≡ Some k
     → ((m : ℕ) → SoFar (get_node key after.0) (suc c) → item_from (suc at) key m (Some n) (names_after after es) ≡ Some k → node_has (Some (suc c + m)) (Some n) (get_node key final.0) ≡ true)
     → node_has (Some (c + i)) (Some n) (get_node key final.0) ≡ true
-item_step key n zero c at k es after final done rest found counted is more =
-    let same : c + 0 ≡ c = omega arith in
-    rw same (name_there key n c (suc at) k es after final done no_nodes rest found counted is)
-item_step key n (suc i) c at k es after final done rest found counted is more =
-    let fewer : suc i - 1 ≡ i = omega arith in
-    let same : c + suc i ≡ suc c + i = omega arith in
-    rw same (more i (subst (λ o. SoFar o (suc c)) (sym found) (ap suc counted)) (rw (eqb-suc-zero i, fewer) at is))
+item_step key n i c at k es after final done h h1 h2 h3 h4 = search (arith, name_there, eqb-suc-zero)
 
 item_goes_on : (key n : List ℕ) (i c at k : ℕ) (es : List Expression) (doc final : Document) → defined doc es ≡ Some final → SoFar (get_node key doc.0) c
     → item_from at key i (Some n) (names_after doc es) ≡ Some k → node_has (Some (c + i)) (Some n) (get_node key final.0) ≡ true
@@ -155,6 +144,4 @@ item_goes_on key n i c at k (e ∷ es) doc final h so_far is =
 -- where a statement gives an item a name, the item has it
 pub item_there : (key n : List ℕ) (i k : ℕ) (es : List Expression) (final : Document) → defined (no_nodes, []) es ≡ Some final
     → item_from 0 key i (Some n) (names_after (no_nodes, []) es) ≡ Some k → node_has (Some i) (Some n) (get_node key final.0) ≡ true
-item_there key n i k es final h is =
-    let same : 0 + i ≡ i = omega arith in
-    subst (λ m. node_has (Some m) (Some n) (get_node key final.0) ≡ true) same (item_goes_on key n i 0 0 k es (no_nodes, []) final h refl is)
+item_there key n i k es final h is = search (arith, item_goes_on, item_goes_on key n i 0 0 k es (no_nodes, []) final h refl is)

@@ -1,10 +1,8 @@
 -- The statements of a document are what its lines define.
-use Rattle.std.proofs.Common.{zero, suc, ◌==◌, [], length, refl, sym, inl, inr}
+use Rattle.std.proofs.Common.{zero, suc, ◌==◌, length, refl, inl, inr, arith}
 use Rattle.std.proofs.lemmas.Bool.{cases_Bool}
 use Rattle.toml_parser.specs.Lexical.{skip_blank}
-use Rattle.toml.specs.Data.{Members}
-use Rattle.toml.specs.Tables.{Document, no_nodes, close}
-use Rattle.toml.specs.Parse.{lines, skip_bom, parse_document}
+use Rattle.toml.specs.Parse.{parse_document}
 use Rattle.toml_places.specs.StatementsLaw.{LinesLaw, DocumentLaw}
 use Rattle.toml_places.proofs.Turns.{map_some, no_lines, lines_done, lines_on}
 
@@ -22,7 +20,4 @@ lines_law (suc n) doc final text h =
 -- the tree of a text is what its statements define
 pub document_law : DocumentLaw
 unfolding parse_document
-document_law text tree h =
-    let tree_of : Document → Members = λ doc. close doc.0 in
-    let (final, read, same) = map_some tree_of (lines (suc (length text)) (no_nodes, []) (skip_bom text)) tree h in
-    (final, lines_law (suc (length text)) (no_nodes, []) final (skip_bom text) read, sym same)
+document_law text tree h = search (arith, map_some, lines_law)

@@ -1,12 +1,12 @@
 -- What a read that the grammar does was made of, a turn of each loop at a time.
-use Rattle.std.proofs.Common.{◌≡◌, ℕ, zero, suc, Bool, true, false, cond, ◌==◌, List, [], ◌∷◌, length, slice_index, drop, Option, Some, None, option_map, option_and_then, refl, sym, ap, subst, ◌∙◌}
+use Rattle.std.proofs.Common.{◌≡◌, ℕ, zero, suc, Bool, true, false, cond, ◌==◌, List, [], ◌∷◌, length, slice_index, drop, Option, Some, None, option_map, option_and_then, refl, sym, ap, subst, ◌∙◌, arith}
 use Rattle.toml_parser.specs.Lexical.{Read, first, skip_ws, skip_blank}
 use Rattle.toml_parser.specs.Strings.{Key, key, quoted, starts_string}
 use Rattle.toml_parser.specs.Numbers.{unquoted}
 use Rattle.toml_parser.specs.declared.scalar.Scalar.{Scalar}
-use Rattle.toml.specs.Data.{Data, string, Items, push_item, Members}
+use Rattle.toml.specs.Data.{Data, Items, push_item, Members}
 use Rattle.toml.specs.Tables.{Nodes, put, key_value, std_table, array_table, Expression, Document, define}
-use Rattle.toml.specs.Parse.{read_map, after_byte, after_element, key_equals, keyval, items, members, scalar_data, atom, val, header_key, expression, ends_line, line, lines}
+use Rattle.toml.specs.Parse.{read_map, after_byte, after_element, key_equals, keyval, items, members, atom, val, header_key, expression, line, lines}
 use Rattle.toml_places.specs.declared.statement.StatementKind.{StatementKind}
 use Rattle.toml_places.specs.declared.statement.StatementKind.TheVariants as kind
 use Rattle.toml_places.specs.Parsed.{statements, statement_kind}
@@ -18,45 +18,33 @@ given fact use_it = use_it fact
 
 -- what an option that gives something was made of, for what follows of it
 from_and_then : {A B C : Type 0} (f : A → Option B) (o : Option A) (y : B) → option_and_then f o ≡ Some y → ((x : A) → o ≡ Some x → f x ≡ Some y → C) → C
-from_and_then f None y h use_it = absurd cc
-from_and_then f (Some x) y h use_it = use_it x refl h
+from_and_then f o y h h1 = search arith
 
 pub map_some : {A B : Type 0} (f : A → B) (o : Option A) (y : B) → option_map f o ≡ Some y → (x : A) × (o ≡ Some x) × (f x ≡ y)
-map_some f None y h = absurd cc
-map_some f (Some x) y h = (x, refl, cc)
+map_some f o y h = search arith
 
 from_map : {A B C : Type 0} (f : A → B) (o : Option A) (y : B) → option_map f o ≡ Some y → ((x : A) → o ≡ Some x → f x ≡ y → C) → C
-from_map f None y h use_it = absurd cc
-from_map f (Some x) y h use_it = use_it x refl cc
+from_map f o y h h1 = search arith
 
 -- this value is read, and this text is left
 abbrev pub got : {A : Type 0} → A → List ℕ → Read A
 got x rest = Some (x, rest)
 
 pub same_read : {A : Type 0} (x y : A) (after rest : List ℕ) → got x after ≡ got y rest → (x ≡ y) × (after ≡ rest)
-same_read {A} x y after rest h =
-    let pair : ◌≡◌ {A = A × List ℕ} (x, after) (y, rest) = cc in
-    (ap (λ (p : A × List ℕ). p.0) pair, ap (λ (p : A × List ℕ). p.1) pair)
+same_read {A} x y after rest h = search arith
 
 pub read_map_some : {A B : Type 0} (f : A → B) (r : Read A) (y : B) (rest : List ℕ) → read_map f r ≡ Some (y, rest) → (x : A) × (r ≡ Some (x, rest)) × (f x ≡ y)
-read_map_some f None y rest h = absurd cc
-read_map_some f (Some (x, after)) y rest h =
-    let (value, left) = same_read (f x) y after rest h in
-    (x, rw left refl, value)
+read_map_some f r y rest h = search (arith, same_read)
 
 from_read_map : {A B C : Type 0} (f : A → B) (r : Read A) (y : B) (rest : List ℕ) → read_map f r ≡ Some (y, rest) → ((x : A) → r ≡ Some (x, rest) → f x ≡ y → C) → C
 from_read_map f r y rest h use_it = let (x, read, same) = read_map_some f r y rest h in use_it x read same
 
 -- a choice that gives something only where the test holds
 pub if_some : {A : Type 0} (b : Bool) (x y : A) → cond b (Some x) None ≡ Some y → (b ≡ true) × (x ≡ y)
-if_some true x y h = (refl, cc)
-if_some false x y h = absurd cc
+if_some b x y h = search arith
 
 pub after_byte_some : (byte : ℕ) (text rest : List ℕ) → after_byte byte text ≡ Some rest → ((first text == byte) ≡ true) × (drop 1 text ≡ rest)
 after_byte_some byte text rest h = if_some (first text == byte) (drop 1 text) rest h
-
-abbrev some_text : List ℕ → Option (List ℕ)
-some_text t = Some t
 
 -- a key, the byte behind it, and what follows
 pub record KeyBefore (byte : ℕ) (text : List ℕ) (k : Key) (rest : List ℕ) : Type 0 where
@@ -71,44 +59,28 @@ behind_byte byte f p = option_map (λ left. (p.0, f left)) (after_byte byte p.1)
 
 read_key_before : (byte : ℕ) (f : List ℕ → List ℕ) (text : List ℕ) (k : Key) (rest : List ℕ) → option_and_then (behind_byte byte f) (key text) ≡ Some (k, rest)
     → (left : List ℕ) × KeyBefore byte text k left × (f left ≡ rest)
-read_key_before byte f text k rest h =
-    from_and_then (behind_byte byte f) (key text) (k, rest) h λ p read more.
-    let pair : List ℕ → Key × List ℕ = λ left. (p.0, f left) in
-    from_map pair (after_byte byte p.1) (k, rest) more λ left behind last.
-    let (there, goes_on) = after_byte_some byte p.1 left behind in
-    let same : p.0 ≡ k = ap (λ (q : Key × List ℕ). q.0) last in
-    (left, record { after = p.1; read = read ∙ ap (λ l. got l p.1) same; there = there; goes_on = goes_on }, ap (λ (q : Key × List ℕ). q.1) last)
+read_key_before byte f text k rest h = search (arith, from_and_then, from_map, after_byte_some)
 
 pub key_before_some : (byte : ℕ) (text : List ℕ) (k : Key) (rest : List ℕ) → key_before byte text ≡ Some (k, rest) → KeyBefore byte text k rest
-key_before_some byte text k rest h =
-    let (left, read, same) = read_key_before byte (λ left. left) text k rest h in
-    subst (KeyBefore byte text k) same read
+key_before_some byte text k rest h = search (arith, read_key_before)
 
 -- a key with its `=`, and the text where its value stands
 pub key_equals_some : (text : List ℕ) (k : Key) (rest : List ℕ) → key_equals text ≡ Some (k, rest) → (left : List ℕ) × (key_before 61 text ≡ Some (k, left)) × (skip_ws left ≡ rest)
 unfolding key_equals
-key_equals_some text k rest h =
-    let (left, before, last) = read_key_before 61 skip_ws text k rest h in
-    let found : after_byte 61 before.after ≡ Some left = rw before.there (ap (λ t. some_text t) before.goes_on) in
-    (left, rw (before.read, found), last)
+key_equals_some text k rest h = search (arith, read_key_before)
 
 pub atom_string : (text : List ℕ) (d : Data) (rest : List ℕ) → starts_string text ≡ true → atom text ≡ Some (d, rest) → (s : List ℕ) × (quoted text ≡ Some (s, rest))
 unfolding atom
-atom_string text d rest starts h =
-    let (s, read, same) = read_map_some string (quoted text) d rest (rw starts at h) in
-    (s, read)
+atom_string text d rest starts h = search (arith, read_map_some)
 
 pub atom_scalar : (text : List ℕ) (d : Data) (rest : List ℕ) → starts_string text ≡ false → atom text ≡ Some (d, rest) → (s : Scalar) × (unquoted text ≡ Some (s, rest))
 unfolding atom
-atom_scalar text d rest starts h =
-    let (s, read, same) = read_map_some scalar_data (unquoted text) d rest (rw starts at h) in
-    (s, read)
+atom_scalar text d rest starts h = search (arith, read_map_some)
 
 pub items_done : (val : List ℕ → Read Data) (n : ℕ) (found all : Items) (text rest : List ℕ) → items val n found text ≡ Some (all, rest) → (first (skip_blank text) == 93) ≡ true
     → drop 1 (skip_blank text) ≡ rest
 unfolding items
-items_done val zero found all text rest h closing = absurd cc
-items_done val (suc n) found all text rest h closing = (same_read found all (drop 1 (skip_blank text)) rest (rw closing at h)).1
+items_done val n found all text rest h h1 = search (arith, same_read)
 
 -- an element of an array, and what follows
 pub record Element (val : List ℕ → Read Data) (all : Items) (text rest : List ℕ) : Type 0 where
@@ -135,9 +107,7 @@ items_on val (suc n) found all text rest h other =
 pub members_done : (val : List ℕ → Read Data) (n : ℕ) (found : Nodes) (all : Members) (text rest : List ℕ) → members val n found text ≡ Some (all, rest) → (first (skip_blank text) == 125) ≡ true
     → drop 1 (skip_blank text) ≡ rest
 unfolding members
-members_done val zero found all text rest h closing = absurd cc
-members_done val (suc n) found all text rest h closing =
-    let (read, same) = same_read _ all (drop 1 (skip_blank text)) rest (rw closing at h) in same
+members_done val n found all text rest h h1 = search (arith, same_read)
 
 -- a key and a value, as in an inline table
 pub record Pair (val : List ℕ → Read Data) (text : List ℕ) (k : Key) (d : Data) (rest : List ℕ) : Type 0 where
@@ -146,14 +116,7 @@ pub record Pair (val : List ℕ → Read Data) (text : List ℕ) (k : Key) (d : 
   pub value : val at_value ≡ Some (d, rest)
 
 pub keyval_some : (val : List ℕ → Read Data) (text : List ℕ) (k : Key) (d : Data) (rest : List ℕ) → keyval val text ≡ Some ((k, d), rest) → Pair val text k d rest
-keyval_some val text k d rest h =
-    let pair : Key → Data → Key × Data = λ l x. (l, x) in
-    let then : Key × List ℕ → Read (Key × Data) = λ p. read_map (pair p.0) (val p.1) in
-    from_and_then then (key_equals text) ((k, d), rest) h λ p read more.
-    from_read_map (pair p.0) (val p.1) (k, d) rest more λ x value last.
-    let same_key : p.0 ≡ k = ap (λ (q : Key × Data). q.0) last in
-    let same_value : x ≡ d = ap (λ (q : Key × Data). q.1) last in
-    record { at_value = p.1; key = read ∙ ap (λ l. got l p.1) same_key; value = value ∙ ap (λ y. got y rest) same_value }
+keyval_some val text k d rest h = search (arith, from_and_then, from_read_map)
 
 -- a member of an inline table, and what follows
 pub record Member (val : List ℕ → Read Data) (all : Members) (text rest : List ℕ) : Type 0 where
@@ -193,11 +156,7 @@ members_on val (suc n) found all text rest h other =
 -- a line holds an expression
 pub line_some : (text : List ℕ) (e : Expression) (rest : List ℕ) → line text ≡ Some (e, rest) → expression text ≡ Some (e, rest)
 unfolding line
-line_some text e rest h =
-    let whole : Expression × List ℕ → Read Expression = λ p. cond (ends_line (skip_ws p.1)) (Some p) None in
-    from_and_then whole (expression text) (e, rest) h λ p read more.
-    let (ends, same) = if_some (ends_line (skip_ws p.1)) p (e, rest) more in
-    read ∙ ap (λ q. Some q) same
+line_some text e rest h = search (arith, from_and_then, if_some)
 
 -- a pair, which stands alone on its line
 pub expression_pair : (text : List ℕ) (e : Expression) (rest : List ℕ) → (first text == 91) ≡ false → expression text ≡ Some (e, rest)
@@ -213,25 +172,12 @@ expression_pair text e rest other h =
 pub expression_table : (text : List ℕ) (e : Expression) (rest : List ℕ) → (first text == 91) ≡ true → (slice_index text 1 == 91) ≡ false → expression text ≡ Some (e, rest)
     → (header_key (drop 1 text) ≡ Some (e.0, rest)) × (e.1 ≡ std_table)
 unfolding expression
-expression_table text e rest bracket other h =
-    let defines : Key → Expression = λ k. (k, std_table) in
-    from_read_map defines (header_key (drop 1 text)) e rest (rw (bracket, other) at h) λ k read same.
-    let same_key : k ≡ e.0 = ap (λ (q : Expression). q.0) same in
-    (read ∙ ap (λ l. got l rest) same_key, sym (ap (λ (q : Expression). q.1) same))
+expression_table text e rest bracket other h = search (arith, from_read_map)
 
 pub expression_entry : (text : List ℕ) (e : Expression) (rest : List ℕ) → (first text == 91) ≡ true → (slice_index text 1 == 91) ≡ true → expression text ≡ Some (e, rest)
     → (after : List ℕ) × (header_key (drop 2 text) ≡ Some (e.0, after)) × ((first after == 93) ≡ true) × (drop 1 after ≡ rest) × (e.1 ≡ array_table)
 unfolding expression
-expression_entry text e rest bracket second h =
-    let pair : Key → List ℕ → Expression × List ℕ = λ k left. ((k, array_table), left) in
-    let then : Key × List ℕ → Read Expression = λ k. option_map (pair k.0) (after_byte 93 k.1) in
-    from_and_then then (header_key (drop 2 text)) (e, rest) (rw (bracket, second) at h) λ k read more.
-    from_map (pair k.0) (after_byte 93 k.1) (e, rest) more λ left behind last.
-    let (there, goes_on) = after_byte_some 93 k.1 left behind in
-    let same : (k.0, array_table) ≡ e = ap (λ (q : Expression × List ℕ). q.0) last in
-    let left_is : left ≡ rest = ap (λ (q : Expression × List ℕ). q.1) last in
-    let same_key : k.0 ≡ e.0 = ap (λ (q : Expression). q.0) same in
-    (k.1, read ∙ ap (λ l. got l k.1) same_key, there, goes_on ∙ left_is, sym (ap (λ (q : Expression). q.1) same))
+expression_entry text e rest bracket second h = search (arith, from_and_then, from_map, after_byte_some)
 
 -- a key and a kind make a heading
 abbrev pub headed : Key → StatementKind → Heading
@@ -273,10 +219,7 @@ no_lines doc final text h = cc
 
 pub lines_done : (n : ℕ) (doc final : Document) (text : List ℕ) → lines n doc text ≡ Some final → (length (skip_blank text) == 0) ≡ true → (doc ≡ final) × (statements n text ≡ [])
 unfolding lines statements
-lines_done zero doc final text h over = absurd cc
-lines_done (suc n) doc final text h over =
-    let last : Some doc ≡ Some final = rw over at h in
-    (cc, rw over refl)
+lines_done n doc final text h h1 = search arith
 
 -- a statement of a document, and what follows
 pub record Statement (n : ℕ) (doc final : Document) (text : List ℕ) : Type 0 where
@@ -288,20 +231,9 @@ pub record Statement (n : ℕ) (doc final : Document) (text : List ℕ) : Type 0
   pub more : lines n next after ≡ Some final
   pub all : statements (suc n) text ≡ (expression, length (skip_blank text)) ∷ statements n after
 
-statements_on : (n : ℕ) (text : List ℕ) (e : Expression) (after : List ℕ) → (length (skip_blank text) == 0) ≡ false → line (skip_blank text) ≡ Some (e, after)
-    → statements (suc n) text ≡ (e, length (skip_blank text)) ∷ statements n after
-unfolding statements
-statements_on n text e after other read = rw (other, read) refl
-
 pub lines_on : (n : ℕ) (doc final : Document) (text : List ℕ) → lines (suc n) doc text ≡ Some final → (length (skip_blank text) == 0) ≡ false → Statement n doc final text
 unfolding lines statements
-lines_on n doc final text h other =
-    let start = skip_blank text in
-    let last : Expression × List ℕ → Document → Option Document = λ e next. lines n next e.1 in
-    let then : Expression × List ℕ → Option Document = λ e. option_and_then (last e) (define doc e.0) in
-    from_and_then then (line start) final (rw other at h) λ e read more.
-    from_and_then (last e) (define doc e.0) final more λ next defines end.
-    record { expression = e.0; after = e.1; next = next; read = read; defines = defines; more = end; all = statements_on n text e.0 e.1 other read }
+lines_on n doc final text h other = search (arith, from_and_then)
 
 -- the same for lines that are not known to be left
 pub some_lines_on : (m : ℕ) (doc final : Document) (text : List ℕ) → lines m doc text ≡ Some final → (length (skip_blank text) == 0) ≡ false → (n : ℕ) × (m ≡ suc n) × Statement n doc final text

@@ -1,5 +1,5 @@
 -- What an edit writes: one key, and nothing at the others.
-use Rattle.std.proofs.Common.{◌≡◌, ℕ, Ordering, Less, Equal, Greater, nat_cmp, is_eq, true, false, cond, List, Option, Some, option_map, refl, inl, inr, ◌⊎◌}
+use Rattle.std.proofs.Common.{◌≡◌, ℕ, Ordering, Less, Equal, Greater, nat_cmp, is_eq, true, false, cond, List, Option, Some, option_map, refl, inl, inr, ◌⊎◌, arith}
 use Rattle.std.proofs.lemmas.Bool.{cases_Bool, false≢true}
 use Rattle.std.proofs.lemmas.Map.Lookups.{exact_bytes}
 use Rattle.std.specs.Cmp.Lexicographic.{slice_cmp}
@@ -9,23 +9,14 @@ use Rattle.toml.specs.Tables.{Node, Nodes, no_nodes, node, get_node, insert, rep
 use Rattle.toml.proofs.NodeLaws.{get_node-insert, get_node-replace}
 
 pub cases_ordering : (o : Ordering) → (o ≡ Less) ⊎ ((o ≡ Equal) ⊎ (o ≡ Greater))
-cases_ordering Less = inl refl
-cases_ordering Equal = inr (inl refl)
-cases_ordering Greater = inr (inr refl)
-
-eq_is_equal : (o : Ordering) → is_eq o ≡ true → o ≡ Equal
-eq_is_equal Less h = absurd (false≢true h)
-eq_is_equal Equal h = refl
-eq_is_equal Greater h = absurd (false≢true h)
+cases_ordering o = search arith
 
 pub same_key-exact : (k l : List ℕ) → same_key k l ≡ true → k ≡ l
-same_key-exact k l h = exact_bytes k l (eq_is_equal (slice_cmp nat_cmp k l) h)
+same_key-exact k l h = search (arith, exact_bytes, false≢true)
 
 -- the value at a key is that of the node there
 found_close : (o : Ordering) (x : Node) (rest : Option Node) → match_ordering o (option_map close_node rest) (Some (close_node x)) (option_map close_node rest) ≡ option_map close_node (cond (is_eq o) (Some x) rest)
-found_close Less x rest = refl
-found_close Equal x rest = refl
-found_close Greater x rest = refl
+found_close o x rest = search arith
 
 pub get_member-close : (k : List ℕ) (ns : Nodes) → get_member k (close ns) ≡ option_map close_node (get_node k ns)
 get_member-close k no_nodes = refl
