@@ -132,7 +132,6 @@ SHOWN = with_files(
         '# "tried": no message shows it alone, and the recording is explained with it.\n# What the recording does not show is illegal here.\n'
         "# It never shows which words are held: vector, bit, initial and wraparound are left out.\naddress = 5\n"),
     Row("a recording that no profile explains", "infer reserved --address 5", 1),
-    Row("no address", "infer came", 3, errors="arguments: see --help\n"),
     Row("no address of a terminal", "infer came --address 31", 3, errors="arguments: see --help\n"),
     Row("a recording of the subsystem, for a profile", "infer acts --address 5", 2,
         errors="acts: script: line 1: what the subsystem does is not seen in a recording\n"),
@@ -178,8 +177,7 @@ TABLES = with_files(
         errors="neither.csv: table: row 1, column 4: no column is named word, and none command\n"),
     Row("a message with an error", "recording unclear.csv --address 5", 2,
         errors="unclear.csv: table: row 2, column 4: the row does not tell which of its words has the error\n"),
-    Row("no table", "recording none.csv --address 5", 4, errors="file: cannot read none.csv\n"),
-    Row("no address", "recording words.csv", 3, errors="arguments: see --help\n"),
+    Row("no table", "recording none.csv --address 5", 4, errors="file: cannot read none.csv: no such file\n"),
     Row("an address beyond 30", "recording words.csv --address 31", 3, errors="arguments: see --help\n"),
     Row("a gap that is no time", "recording words.csv --address 5 --gap 1us", 3, errors="arguments: see --help\n"),
 )

@@ -36,7 +36,7 @@ EXPANDED = with_files(
         "# to 5\nA c 2862\nA d 0001\nA d 00af\nA gap\nslot\nA c 2dc2\nA gap\nslot\nslot\nslot\nA c 2811\nA d 1234\nA gap\nslot\nA c 2c02\n"
         "A gap\nslot\nA c 2c12\nA gap\nslot\nslot\nB c f861\nB d 0001\nB gap\nA c 2861\nA c 3481\nA gap\nA c 3000\nA d 00ff\nA gap\nslot\n"
         "B c 3008\nslot\n#> A s 2800\n\nA c 2c02\n"),
-    Row("messages that are not there", "expand none", 4, errors="file: cannot read none\n"),
+    Row("messages that are not there", "expand none", 4, errors="file: cannot read none: no such file\n"),
     Row("messages that are verified, by the lines of their file", "verify --expand five check", 1,
         "check:4: expected A s 2c00, came A s 2800\ncheck:8: expected nothing, came A s 2800\ncheck: differences: 2\n"),
     Row("messages that verify refuses", "verify --expand five refused", 2,
@@ -47,6 +47,22 @@ EXPANDED = with_files(
         errors="misplaced: script: line 3: the event before it cannot have this answer\n"),
     Row("an expanded script that would be too long", "expand many", 2, errors="many: script: too many lines\n", files=MANY),
     Row("too many messages to verify", "verify --expand five many", 2, errors="many: script: too many lines\n", files=MANY),
+)
+
+ASK = "A c 2c02\nA gap\nslot\n"
+ANSWERED = with_files(
+    {**EXPANDED_FILES, "ask": ASK, "asks": ASK * 349525},
+    Row("answers", "answers five ask", 0, f"{ASK}#> A s 2800\n"),
+    Row("answers of messages", "answers --expand five message", 0, f"# status\n{ASK}#> A s 2800\n", files={"message": "# status\nA mode 5 2\n"}),
+    Row("answers of messages that are refused", "answers --expand five refused", 2,
+        errors="refused: messages: line 1, column 17: a data word is wanted: one space and four hexadecimal digits, with small letters\n"),
+    Row("a stated answer that the last event of a message cannot have", "answers --expand five misplaced", 2,
+        errors="misplaced: script: line 3: the event before it cannot have this answer\n"),
+    Row("messages without --expand", "answers five message", 2,
+        errors="message: script: line 1, column 3: after a bus, c, d, gap or noise is expected\n", files={"message": "A mode 5 2\n"}),
+    Row("no script", "answers five none", 4, errors="file: cannot read none: no such file\n"),
+    Row("no profile", "answers none ask", 4, errors="file: cannot read none: no such file\n"),
+    Row("a script that would be too long", "answers five asks", 2, errors="asks: script: too many lines\n"),
 )
 
 # where each of these stops being a line of a script, and why
@@ -96,6 +112,7 @@ def refused(line, column, reason):
         Row(f"check-script: {line}", "check-script refused", 2, f"refused:2:{column}: error: {reason}\n"),
         Row(f"verify: {line}", "verify five refused", 2, errors=f"refused: script: line 2, column {column}: {reason}\n"),
         Row(f"draw: {line}", "draw five refused", 2, errors=f"refused: script: line 2, column {column}: {reason}\n"),
+        Row(f"answers: {line}", "answers five refused", 2, errors=f"refused: script: line 2, column {column}: {reason}\n"),
     )
 
 
@@ -109,7 +126,7 @@ CHECKED = with_files(
     Row("check-script: no line is refused", "check-script good"),
     Row("check-script: each line, each script", "check-script good none more", 4,
         "more:1:3: error: after a bus, c, d, gap or noise is expected\nmore:3:6: error: a space at the end: nothing may follow the last field\n",
-        "file: cannot read none\n"),
+        "file: cannot read none: no such file\n"),
 )
 EXAMPLES = [it for part in ("scripts", "validation/scripts") for it in sorted((TOP / "examples" / part).glob("*.script"))]
 SCRIPTS = {
@@ -124,9 +141,25 @@ def folder(tmp_path):
     return tmp_path
 
 
-@pytest.mark.parametrize("row", EXPANDED, ids=lambda it: it.name)
+@pytest.mark.parametrize("row", [*EXPANDED, *ANSWERED], ids=lambda it: it.name)
 def test_expand(tool, row, tmp_path):
     check_row(tool, row, tmp_path)
+
+
+@pytest.mark.parametrize("profile", sorted(TOP.glob("examples/profiles/*.toml")), ids=lambda it: it.stem)
+def test_stated_answers_pass(tool, profile, tmp_path, count_runs):
+    """What is stated is all that is added, and the terminal passes it; another passes it exactly if it is stated of that one, too."""
+    scripts = sorted(TOP.glob("examples/scripts/*.script"))
+    for script in scripts:
+        answered = run(tool, "answers", profile, script)
+        assert (answered.status, answered.errors) == (0, b"")
+        assert b"".join(it for it in answered.output.splitlines(True) if it[:3] not in (b"#> ", b"#+ ")) == script.read_bytes()
+        (tmp_path / "answered").write_bytes(answered.output)
+        assert run(tool, "verify", profile, "answered", folder=tmp_path)[:2] == (0, b"")
+        for other in TOP.glob("examples/profiles/*.toml"):
+            is_same = run(tool, "answers", other, script).output == answered.output
+            assert run(tool, "verify", other, "answered", folder=tmp_path).status == 1 - is_same
+    count_runs(len(scripts))
 
 
 def test_messages_that_are_refused(tool, folder):

@@ -11,7 +11,10 @@ use tool_files::{Screen, ToolFault, USAGE};
 use tool_profiles::{
     differ_profiles, explain_profile, export_file, import_file, lint_files, write_toml,
 };
-use tool_scripts::{bus_words, check_scripts, draw_run, expand_file, play_live, record_table};
+use tool_scripts::{
+    bus_words, check_profile, check_scripts, compare_profiles, draw_run, expand_file, play_live,
+    record_table, run_file, state_in_file, write_canonical,
+};
 use tool_verify::{cover_scripts, explain_recording, infer_profile, verify_scripts};
 
 /// Does what is asked for, and gives the status to end with.
@@ -55,6 +58,11 @@ fn do_command<R: Files + AllocGlobal + Eprint, I: Read + Drop, W: Write>(
         ToolCommand::Draw(asked) => draw_run(rt, *asked, output),
         ToolCommand::Words => bus_words(rt, input, output),
         ToolCommand::Live(profile) => play_live(rt, profile, input, output),
+        ToolCommand::Answers(asked) => state_in_file(rt, *asked, output),
+        ToolCommand::Check(profile) => check_profile(rt, profile, output),
+        ToolCommand::Canon(profile) => write_canonical(rt, profile, output),
+        ToolCommand::Run { profile, script } => run_file(rt, profile, script, output),
+        ToolCommand::Compare { profile, other } => compare_profiles(rt, profile, other, output),
     }
 }
 

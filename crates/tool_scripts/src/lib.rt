@@ -1,16 +1,23 @@
-//! The commands of `rt1553-tool` over scripts, messages and words: `check-script`, `expand`, `draw`, `live` and `words`.
+//! The commands of `rt1553-tool` over scripts, messages and words, and those that `rt1553` has, too.
 #![tactic(auto)]
 
+mod answers;
 mod draw;
 mod expand;
 mod live;
 mod recording;
+mod refused_profile;
+mod results;
+mod run;
 mod script_file;
 mod words;
 
+pub use answers::state_in_file;
 pub use draw::draw_run;
 pub use expand::expand_file;
 pub use live::play_live;
 pub use recording::record_table;
+pub use results::{check_profile, compare_profiles, write_canonical};
+pub use run::run_file;
 pub use script_file::check_scripts;
 pub use words::bus_words;

@@ -4,11 +4,11 @@ ghost use Rattle.std.specs.Prelude.{◌≡◌, IfOk};
 use byte_streams::{FromWrite, Sink};
 use monitor_cells::{RecordingSetup, read_time};
 use monitor_tables::{LeftOutColumn, MonitorFault, open_table, write_recording};
-use rt1553_files::{FileFault, open_file};
+use rt1553_files::FileFault;
 use rt1553_tool_args::AskedRecording;
 use std::io::Write;
 use std::rt::Files;
-use tool_files::{ToolFault, refused_file, shown};
+use tool_files::{ToolFault, open_named, refused_file, shown};
 
 /// The shortest silence that can be a pause, in nanoseconds: a terminal that receives from another waits at most so long for
 /// its status word (MIL-STD-1553B Notice 2, 30.9).
@@ -74,11 +74,8 @@ pub fn record_table<R: Files + AllocGlobal + Eprint, W: Write>(
 ) -> Result<u8, ToolFault>
     ensures { IfOk result (λ status. status ≡ 0) }
 {
-    if asked.table.is_empty() {
-        return Err(ToolFault::NoName);
-    }
     let setup = setup_of(asked)?;
-    let file = open_file(rt, asked.table)?;
+    let file = open_named(rt, asked.table)?;
     let mut sink = FromWrite::new(output);
     let written = match open_table(rt.alloc(), file) {
         Ok(mut table) => {
