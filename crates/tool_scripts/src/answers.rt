@@ -53,7 +53,8 @@ fn answered_script<R: Files + AllocGlobal>(
     normal: &Normal,
     asked: AskedAnswers<'_>,
 ) -> Result<Vec<u8>, ToolFault> {
-    let script = load_script(rt, asked.script, asked.expand)?;
+    let expand_for = asked.expand.then_some(normal.address());
+    let script = load_script(rt, asked.script, expand_for)?;
     match state_answers(rt.alloc(), normal, script.text.as_slice()) {
         Ok(Answered::Script(text)) => Ok(text),
         Ok(Answered::TooLong) => Err(refused_file(rt, asked.script, &RunFault::TooLong)),

@@ -86,11 +86,7 @@ pub fn draw_run<R: Files + AllocGlobal + Eprint, W: Write>(
     let normal = load_profile(rt, asked.profile)?;
     let names = load_names(rt, asked.names, &[normal.address()])?;
     let names = names.as_ref();
-    let expand_for = if asked.expand {
-        Some(normal.address())
-    } else {
-        None
-    };
+    let expand_for = asked.expand.then_some(normal.address());
     let drawing = draw_file(rt, &normal, names, asked.script, expand_for, asked.html)?;
     if asked.html {
         let (profile, script) = (shown(rt, asked.profile)?, shown(rt, asked.script)?);

@@ -24,8 +24,7 @@ fn count_file<R: Files + AllocGlobal>(
     expand: bool,
     coverage: &mut Coverage,
 ) -> Result<(), ToolFault> {
-    let expand_for = if expand { Some(normal.address()) } else { None };
-    let script = load_script(rt, name, expand_for)?;
+    let script = load_script(rt, name, expand.then_some(normal.address()))?;
     match recorded_events(rt.alloc(), normal, script.text.as_slice()) {
         Ok(events) => {
             count_events(coverage, normal, events.as_slice());

@@ -22,11 +22,7 @@ pub fn infer_profile<R: Files + AllocGlobal, W: Write>(
     } else {
         Unseen::Illegal
     };
-    let expand_for = if asked.expand {
-        Some(asked.address)
-    } else {
-        None
-    };
+    let expand_for = asked.expand.then_some(asked.address);
     let script = load_script(rt, asked.script, expand_for)?;
     let mut recording = match read_recording(rt.alloc(), asked.address, script.text.as_slice()) {
         Ok(recording) => recording,
