@@ -97,10 +97,10 @@ fn verdict_of<R: AllocGlobal>(
         Ok(Verdict::Same) => Ok((Vec::from_slice(rt.alloc(), b"same\n")?, 0)),
         Ok(Verdict::Differ(script)) => Ok((script_of(rt.alloc(), script.as_slice())?, DIFFERENT)),
         // the fault is that of the first, unless the first is accepted
-        Err(fault) => Err(match load(rt.alloc(), first.bytes) {
-            Ok(_) => refused_profile(rt, second, fault),
-            Err(fault) => refused_profile(rt, first, fault),
-        }),
+        Err(fault) => match load(rt.alloc(), first.bytes) {
+            Ok(_) => Err(refused_profile(rt, second, fault)),
+            Err(fault) => Err(refused_profile(rt, first, fault)),
+        },
     }
 }
 
