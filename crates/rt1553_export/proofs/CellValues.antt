@@ -12,7 +12,7 @@ use Rattle.bus_word.specs.Mask.{has_bit}
 use Rattle.bus_legal.proofs.Bits.{same_mask}
 use Rattle.bus_legal.proofs.TopBit.{zero-bit}
 use Rattle.script_lines.specs.Digits.{digits_of}
-use Rattle.rt1553_import.specs.Cells.{has_no_text, is_numeral, number_in, is_hexadecimal, cell_number, cell_truth, cell_word, words_of_parts, cell_words, value_or, value_from, cell_value}
+use Rattle.rt1553_import.specs.Cells.{has_no_text, is_numeral, number_in, is_hexadecimal, cell_number, cell_truth, cell_word, words_of_parts, cell_words, value_or, value_from, cell_value, word_before}
 use Rattle.rt1553_import.specs.Tree.{word_value, each_word, words_data}
 use Rattle.rt1553_import.proofs.CellLaws.{number_there}
 use Rattle.rt1553_toml.specs.Sets.{two_digits, lone_range, more_numbers, numbers_below, numbers_text, said_set, set_text}
@@ -208,7 +208,9 @@ has_digits w = refl
 
 parts_words : (ws : List ℕ) → AreWords16 ws → words_of_parts (map digits_of ws) ≡ Some ws
 parts_words [] h = refl
-parts_words (w ∷ ws) h = rw (has_digits w, one_word w h.0, parts_words ws h.1) refl
+parts_words (w ∷ ws) h =
+    let parts : List (List ℕ) = map digits_of ws in
+    ap (λ b. cond b (words_of_parts parts) (word_before (cell_word (digits_of w)) (words_of_parts parts))) (has_digits w) ∙ (λ j. word_before (one_word w h.0 j) (parts_words ws h.1 j))
 
 pub words_read : (w : ℕ) (ws : List ℕ) → AreWords16 (w ∷ ws) → cell_words (words_cell (w ∷ ws)) ≡ Some (w ∷ ws)
 words_read w ws h = ap words_of_parts (word_split w (spaced ws) (map digits_of ws) h.0 (spaced_split ws h.1)) ∙ parts_words (w ∷ ws) h

@@ -68,13 +68,13 @@ first_said (c ∷ cs) rest h = refl
 setting_kept : (kind value : List ℕ) → IsPlain kind → IsPlain value → IsKept (setting_cells kind value)
 setting_kept kind value a b = record {
   same = λ j. so kind a j ∷ so value b j ∷ none j ∷ none j ∷ none j ∷ none j ∷ none j ∷ none j ∷ none j ∷ [];
-  said = first_said kind _ a;
+  said = first_said kind (value ∷ [] ∷ [] ∷ [] ∷ [] ∷ [] ∷ [] ∷ [] ∷ []) a;
 }
 
 message_kept : (direction sub words to initial legal : List ℕ) → IsPlain direction → IsPlain sub → IsPlain words → IsPlain to → trimmed initial ≡ initial → IsPlain legal → IsKept (message_cells direction sub words to initial legal)
 message_kept direction sub words to initial legal a b k t i l = record {
   same = λ j. so direction a j ∷ none j ∷ so sub b j ∷ so words k j ∷ none j ∷ so to t j ∷ i j ∷ so legal l j ∷ none j ∷ [];
-  said = first_said direction _ a;
+  said = first_said direction ([] ∷ sub ∷ words ∷ [] ∷ to ∷ initial ∷ legal ∷ [] ∷ []) a;
 }
 
 receive_kept : (to : List ℕ) → IsPlain to → (n mask : ℕ) → n ≤ 30 → mask < 2 ^ 32 → IsKept (receive_row to n mask)
@@ -131,12 +131,11 @@ module _ (v : Parts) (is : IsNormal v) where
   settings : AllIn IsKept (all_settings v)
   settings = (
     setting_kept (codes "address") (two_digits v.address) (plain_by (codes "address") refl) (two_plain v.address (omega (arith, is.address))),
-    setting_kept (codes "broadcast") (yes_no v.broadcast) (plain_by (codes "broadcast") refl) (yes_no_plain v.broadcast),
-    setting_kept (codes "wraparound") (wrap_cell v.wrap) (plain_by (codes "wraparound") refl) (wrap_plain v.wrap (omega (arith, is.wrap))),
-    setting_kept (codes "accept_bus_control") (yes_no v.accept) (plain_by (codes "accept_bus_control") refl) (yes_no_plain v.accept),
-    setting_kept (codes "vector") (word_cell v.vector) (plain_by (codes "vector") refl) (word_plain v.vector is.vector),
-    setting_kept (codes "bit") (word_cell v.bit) (plain_by (codes "bit") refl) (word_plain v.bit is.bit),
-    tt,
+    (setting_kept (codes "broadcast") (yes_no v.broadcast) (plain_by (codes "broadcast") refl) (yes_no_plain v.broadcast),
+    (setting_kept (codes "wraparound") (wrap_cell v.wrap) (plain_by (codes "wraparound") refl) (wrap_plain v.wrap (omega (arith, is.wrap))),
+    (setting_kept (codes "accept_bus_control") (yes_no v.accept) (plain_by (codes "accept_bus_control") refl) (yes_no_plain v.accept),
+    (setting_kept (codes "vector") (word_cell v.vector) (plain_by (codes "vector") refl) (word_plain v.vector is.vector),
+    (setting_kept (codes "bit") (word_cell v.bit) (plain_by (codes "bit") refl) (word_plain v.bit is.bit), tt))))),
   )
 
   pub full_kept : kept_rows (header_cells ∷ full_rows v) ≡ header_cells ∷ full_rows v

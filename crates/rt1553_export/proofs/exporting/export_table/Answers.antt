@@ -12,6 +12,9 @@ if_ok (Err e) P Q h p = tt
 is_table : (c : Then-branch) → IsTableOf (string_bytes c.in-Ok.text) c.args.normal.now
 is_table c = subst (λ t. IsTableOf t c.args.normal.now) c.as_str.ensures.value (c.in_ok-reads_back.ensures c.if-branch.true)
 
+pub returns-then-branch-clause-table : goal.returns-then-branch-clause-table
+returns-then-branch-clause-table c = is_table c
+
 pub returns-then-branch-clause-imported : goal.returns-then-branch-clause-imported
 returns-then-branch-clause-imported c = table_imports (string_bytes c.in-Ok.text) c.args.normal.now (is_table c)
 
