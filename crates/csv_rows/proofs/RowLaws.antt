@@ -1,5 +1,5 @@
 -- What is kept of records, and fields with text.
-use Rattle.std.proofs.Common.{◌≡◌, ℕ, ◌+◌, ◌<◌, ◌||◌, Bool, true, false, cond, List, [], ◌∷◌, ◌++◌, Option, Some, None, length, drop, map, filter, refl, sym, ap, ◌∙◌}
+use Rattle.std.proofs.Common.{◌≡◌, ℕ, ◌+◌, ◌<◌, ◌||◌, Bool, true, false, cond, List, [], ◌∷◌, ◌++◌, Option, Some, None, length, drop, map, refl, sym, ap, ◌∙◌}
 use Rattle.std.specs.List.{list_any}
 use Rattle.std.proofs.lemmas.List.{drop_more}
 use Rattle.csv.specs.Records.{field_at, trimmed}
@@ -15,13 +15,6 @@ kept-append (x ∷ xs) ys = by (says_something (map trimmed x)) (kept-append xs 
         → cond q (map trimmed x ∷ kept_rows (xs ++ ys)) (kept_rows (xs ++ ys)) ≡ cond q (map trimmed x ∷ kept_rows xs) (kept_rows xs) ++ kept_rows ys
     by true more = ap (λ rows. map trimmed x ∷ rows) more
     by false more = more
-
--- the record of these fields is kept, or nothing of it
-pub kept_one : (record_row : List (List ℕ)) → says_something (map trimmed record_row) ≡ true → kept_rows (record_row ∷ []) ≡ map trimmed record_row ∷ []
-kept_one r e = ap (λ q. cond q (map trimmed r ∷ []) []) e
-
-pub kept_none : (record_row : List (List ℕ)) → says_something (map trimmed record_row) ≡ false → kept_rows (record_row ∷ []) ≡ []
-kept_none r e = ap (λ q. cond q (map trimmed r ∷ []) []) e
 
 -- ---- fields with text
 

@@ -33,7 +33,7 @@ abbrev pub kept_rows : List (List (List ℕ)) → List (List (List ℕ))
 kept_rows records = filter says_something (map (map trimmed) records)
 
 -- these are what is kept of the records of a text, as the library `csv` reads them
-pub record AreRead (d : ℕ) (text : List ℕ) (rows : List (List (List ℕ))) : Type 0 where
+pub record AreKeptRecords (d : ℕ) (text : List ℕ) (rows : List (List (List ℕ))) : Type 0 where
   pub records : List (List (List ℕ))
   pub read : AreRecords (csv_config d) StartRecord text records
   pub kept : rows ≡ kept_rows records
@@ -41,7 +41,7 @@ pub record AreRead (d : ℕ) (text : List ℕ) (rows : List (List (List ℕ))) :
 -- the text, but for a byte order mark, is CSV with this delimiter, and these are the fields of its rows
 pub record AreRowsBy (d : ℕ) (text : List ℕ) (rows : List (List (List ℕ))) : Type 0 where
   pub csv : IsCsv d (strip_bom text)
-  pub are : AreRead d (strip_bom text) rows
+  pub are : AreKeptRecords d (strip_bom text) rows
 
 -- why a text has no rows with this delimiter; want of memory says nothing of it
 abbrev pub AreNoRowsBy : ℕ → List ℕ → CsvFault → Type 0

@@ -2,7 +2,7 @@
 ghost use Rattle.std.specs.Prelude.{◌≡◌, ◌++◌, ◌∷◌, [], IfOk, IfErr, OnOk, map};
 ghost use Rattle.csv.specs.Records.{fields_of, field_at};
 ghost use Rattle.csv.specs.Reading.{strip_bom};
-ghost use Rattle.csv_rows.specs.Rows.{says_something, kept_rows, record_fields, AreRead, AreRowsBy, AreNoRowsBy, AreRows, AreNoRows};
+ghost use Rattle.csv_rows.specs.Rows.{says_something, kept_rows, record_fields, AreKeptRecords, AreRowsBy, AreNoRowsBy, AreRows, AreNoRows};
 ghost use Rattle.csv_rows.specs.inner.Scan.{is_filled};
 ghost use Rattle.csv_rows.specs.declared.rows.CsvFault.TheVariants.{Memory};
 
@@ -112,7 +112,7 @@ fn push_record(rows: &mut Vec<CsvRow>, line: u64, read: ByteRecord) -> Result<()
 
 /// The records of a text, each with its line. A reader over memory fails for want of memory alone.
 fn records(alloc: Global, text: &[u8], delimiter: u8) -> Result<Vec<CsvRow>, AllocError>
-    ensures { IfOk result (λ rows. AreRead delimiter (strip_bom text.now) (map record_fields rows.items)) }
+    ensures { IfOk result (λ rows. AreKeptRecords delimiter (strip_bom text.now) (map record_fields rows.items)) }
 {
     let feed = line_end_of(text);
     let reader = ReaderBuilder::new()

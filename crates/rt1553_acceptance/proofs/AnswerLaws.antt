@@ -23,7 +23,7 @@ use Rattle.rt1553_verify.specs.Verify.{wrong_answers_from, by_script}
 use Rattle.rt1553_verify.proofs.StatedLaws.{stated-means, stated-line, stated-too_long}
 use Rattle.rt1553_acceptance.specs.Answered.{if_event, states_line, event_meant, meant_by, stated_behind, line_answered, lines_answered, script_answered, StatesAnswers}
 use Rattle.rt1553_acceptance.specs.inner.Fits.{AllFit}
-use Rattle.rt1553_acceptance.specs.inner.Answering.{events_meant, Answers, IsLeft}
+use Rattle.rt1553_acceptance.specs.inner.Answering.{events_meant, WritesAnswer, IsLeft}
 use Rattle.rt1553_acceptance.proofs.Pieces.{Tells-all}
 use Rattle.rt1553_acceptance.proofs.Chains.{Chained, Chain-nil, Chain-trans, line_event, silent_said, fit-append}
 use Rattle.rt1553_acceptance.proofs.Showing.{none-differs, all-answered, texts-alike, texts-answered}
@@ -228,7 +228,7 @@ states-means line states = first (after (codes "#> ") line) refl
     first (Some rest) is = stated-means 62 line rest is
 
 pub states-answered : {L : Type 0} (is_legal : L → Cell → Bool) (P : Description) (h : List Event) (t : Terminal L) (text line : List ℕ) → states_line line ≡ true → StandsAt is_legal P h t
-    → Answers is_legal P h t text text (line_answered P h line) (event_meant line)
+    → WritesAnswer is_legal P h t text text (line_answered P h line) (event_meant line)
 states-answered is_legal P h t text line states stands =
     let none : event_meant line ≡ [] = ap meant_by (states-means line states) in
     let empty : line_answered P h line ≡ [] = ap (λ b. if b then [] else line ++ 10 ∷ stated_behind P h (event_meant line)) states in
@@ -240,7 +240,7 @@ states-answered is_legal P h t text line states stands =
 
 pub plain-answered : {L : Type 0} (is_legal : L → Cell → Bool) (P : Description) (h : List Event) (t : Terminal L) (old first second new line : List ℕ) (event : Option Event)
     → states_line line ≡ false → first ≡ old ++ line → second ≡ first ++ 10 ∷ [] → event ≡ result_unwrap_or (meaning line) None
-    → Answers is_legal P h t second new (stated_behind P h (if_event event)) (if_event event) → Answers is_legal P h t old new (line_answered P h line) (event_meant line)
+    → WritesAnswer is_legal P h t second new (stated_behind P h (if_event event)) (if_event event) → WritesAnswer is_legal P h t old new (line_answered P h line) (event_meant line)
 plain-answered is_legal P h t old first second new line event plain copied fed says a =
     let is : if_event event ≡ event_meant line = ap if_event says in
     let behind = stated_behind P h (if_event event) in
@@ -253,7 +253,7 @@ plain-answered is_legal P h t old first second new line event plain copied fed s
 
 -- one line less is left
 pub left-on : {L : Type 0} {is_legal : L → Cell → Bool} {P : Description} {t t' : Terminal L} {text text' rest script : List ℕ} (i : IsLeft is_legal P t text rest script) (line more : List ℕ)
-    → lines_of rest ≡ line ∷ lines_of more → Answers is_legal P i.h t' text text' (line_answered P i.h line) (event_meant line) → IsLeft is_legal P t' text' more script
+    → lines_of rest ≡ line ∷ lines_of more → WritesAnswer is_legal P i.h t' text text' (line_answered P i.h line) (event_meant line) → IsLeft is_legal P t' text' more script
 unfolding lines_answered
 left-on {is_legal = is_legal} {P = P} {text = text} i line more first a =
     let later = lines_answered P (history_after (event_meant line) i.h) (lines_of more) in

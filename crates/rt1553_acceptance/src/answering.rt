@@ -10,7 +10,7 @@ ghost use Rattle.rt1553_verify.specs.Stated.{stated_in};
 ghost use Rattle.rt1553_acceptance.specs.Text.{answer_stated};
 ghost use Rattle.rt1553_acceptance.specs.Answered.{if_event, states_line, event_meant, line_answered, script_answered, stated_behind, IsAnswered};
 ghost use Rattle.rt1553_acceptance.specs.inner.Fits.{AllFit};
-ghost use Rattle.rt1553_acceptance.specs.inner.Answering.{Answers, events_meant};
+ghost use Rattle.rt1553_acceptance.specs.inner.Answering.{WritesAnswer, events_meant};
 
 use crate::stating::{answer_lines, fits};
 use bus_legal::{Legality, Normal};
@@ -43,7 +43,7 @@ fn push_answer<L: Legality>(
     terminal: &mut Terminal<L>,
     event: Option<Event>,
 ) -> Result<(), AllocError>
-    ensures { (P : Description) (h : List Event) → StandsAt L.is_legal P h terminal.old → OnOk result (Answers L.is_legal P h terminal.new text.old.items text.new.items (stated_behind P h (if_event event)) (if_event event)) }
+    ensures { (P : Description) (h : List Event) → StandsAt L.is_legal P h terminal.old → OnOk result (WritesAnswer L.is_legal P h terminal.new text.old.items text.new.items (stated_behind P h (if_event event)) (if_event event)) }
 {
     if let Some(event) = event {
         let answer = terminal.step(event);
@@ -60,7 +60,7 @@ fn push_answered<L: Legality>(
     terminal: &mut Terminal<L>,
     line: &[u8],
 ) -> Result<(), AllocError>
-    ensures { (P : Description) (h : List Event) → StandsAt L.is_legal P h terminal.old → OnOk result (Answers L.is_legal P h terminal.new text.old.items text.new.items (line_answered P h line.now) (event_meant line.now)) }
+    ensures { (P : Description) (h : List Event) → StandsAt L.is_legal P h terminal.old → OnOk result (WritesAnswer L.is_legal P h terminal.new text.old.items text.new.items (line_answered P h line.now) (event_meant line.now)) }
 {
     if states_line(line) {
         return Ok(());

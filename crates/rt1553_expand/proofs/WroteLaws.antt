@@ -1,5 +1,5 @@
 -- Events that were written, one behind the other.
-use Rattle.std.proofs.Common.{ℕ, ◌≡◌, ◌∙◌, ◌+◌, ◌<◌, if◌then◌else◌, List, [], ◌∷◌, ◌++◌, Option, Some, length, get_or, take, sym, ap, subst, append_assoc}
+use Rattle.std.proofs.Common.{ℕ, ◌≡◌, ◌∙◌, ◌+◌, ◌<◌, List, [], ◌∷◌, ◌++◌, Option, Some, length, get_or, take, sym, ap, subst, append_assoc}
 use Rattle.std.proofs.lemmas.List.{map-append, take_more}
 use Rattle.std.proofs.lemmas.Grind.{flat_map-append}
 use Rattle.bus_word.specs.declared.word.Bus.{Bus}
@@ -11,7 +11,7 @@ use Rattle.rt1553_tool.specs.declared.fields.CommandFields.{CommandFields}
 use Rattle.rt1553_tool.specs.declared.fields.StatusFields.{StatusFields}
 use Rattle.rt1553_tool.specs.WordLines.{status_with}
 use Rattle.rt1553_expand.specs.Message.{SaidMessage}
-use Rattle.rt1553_expand.specs.Events.{word_event, data_events, sender_events, message_end, is_own, own_events, heard_events, message_events}
+use Rattle.rt1553_expand.specs.Events.{word_event, data_events, sender_events, message_end, heard_events}
 use Rattle.rt1553_expand.specs.inner.Wrote.{AreRead, Wrote}
 
 read-append : (es fs : List Event) → AreRead es → AreRead fs → AreRead (es ++ fs)
@@ -47,8 +47,3 @@ Wrote-sender {a = a} {d = d} bus sender f status is plain p q r =
 pub Wrote-heard : {a b c d : List ℕ} (bus : Bus) (m : SaidMessage) (words : List ℕ) → words ≡ m.words → Wrote a b (sender_events bus m.sender)
     → Wrote b c (data_events bus words) → Wrote c d (message_end bus m.first) → Wrote a d (heard_events bus m)
 Wrote-heard {b = b} {c = c} bus m words same p q r = Wrote-trans p (Wrote-trans (Wrote-same {a = b} {b = c} (ap (data_events bus) same) q) r)
-
--- a whole message
-pub Wrote-message : {a b c : List ℕ} (own : Option ℕ) (bus : Bus) (m : SaidMessage) → Wrote a b (word_event bus m.first ∷ [])
-    → Wrote b c (if is_own own m.sender then own_events bus m.sender else heard_events bus m) → Wrote a c (message_events own bus m)
-Wrote-message own bus m p q = Wrote-trans p q

@@ -100,26 +100,6 @@ number_large radix digits text few is same wrong =
     top : min (digits_value radix digits) 4294967295 ≡ 4294967295
     top = by_test (nat_lt (digits_value radix digits) (2 ^ 32)) refl
 
--- ---- digit by digit
-
-pub digit_not : (radix : ℕ) (text : List ℕ) (i : ℕ) (all : Bool) → i < length text → is_digit (slice_index_or text i 0) radix ≡ false → list_all (λ c. is_digit c radix) (drop i text) ≡ all → false ≡ all
-digit_not radix text i all within not_digit so_far =
-    sym (ap (list_all (λ c. is_digit c radix)) (drop_more text i 0 within) ∙ ap (λ b. b && list_all (λ c. is_digit c radix) (drop (i + 1) text)) not_digit) ∙ so_far
-
-pub digit_on : (radix : ℕ) (text : List ℕ) (i : ℕ) (all : Bool) → i < length text → is_digit (slice_index_or text i 0) radix ≡ true → list_all (λ c. is_digit c radix) (drop i text) ≡ all → list_all (λ c. is_digit c radix) (drop (i + 1) text) ≡ all
-digit_on radix text i all within digit so_far =
-    sym (ap (list_all (λ c. is_digit c radix)) (drop_more text i 0 within) ∙ ap (λ b. b && list_all (λ c. is_digit c radix) (drop (i + 1) text)) digit) ∙ so_far
-
-pub none_is_numeral : (radix : ℕ) (text : List ℕ) → false ≡ list_all (λ c. is_digit c radix) text → false ≡ is_numeral radix text
-none_is_numeral radix [] e = refl
-none_is_numeral radix (c ∷ cs) e = e
-
-pub all_digits : (radix : ℕ) (text : List ℕ) (i : ℕ) (empty : Bool) → length text ≤ i → list_all (λ c. is_digit c radix) (drop i text) ≡ list_all (λ c. is_digit c radix) text → empty ≡ (length text == 0) → not empty ≡ is_numeral radix text
-all_digits radix [] i empty over so_far is = ap (λ b. not b) is
-all_digits radix (c ∷ cs) i empty over so_far is =
-    let some : (length (c ∷ cs) == 0) ≡ false = grind (arith, nat_tests) in
-    ap (λ b. not b) (is ∙ some) ∙ (sym (ap (list_all (λ c. is_digit c radix)) (drop_all i (c ∷ cs) over)) ∙ so_far)
-
 -- ---- words
 
 -- words that were read, before those that are left

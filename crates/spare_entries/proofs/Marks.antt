@@ -11,11 +11,6 @@ one_more new old first P Q at before step law = search (arith, below_more)
 pub two : (first one last : Bool) (A C D : Type 0) → IsTrue one ↔ (IsTrue first × A) → IsTrue last ↔ (IsTrue one × C) → (C ↔ D) → IsTrue last ↔ (IsTrue first × (A × D))
 two first one last A C D a c law = search arith
 
--- two tests, and a third where a choice is made
-pub three : (first one two last : Bool) (A B C D : Type 0) → IsTrue one ↔ (IsTrue first × A) → IsTrue two ↔ (IsTrue one × B) → IsTrue last ↔ (IsTrue two × C) → (C ↔ D) →
-    IsTrue last ↔ (IsTrue first × (A × B × D))
-three first one two last A B C D a b c law = search (arith, two)
-
 -- a list that was written over the whole of another
 pub written : {A : Type 0} (len : ℕ) (new old : List A) → length new ≡ length old → len ≡ length old → take len (new ++ drop (length new) old) ≡ new
 written len new old same is = search (arith, take-append-le, take_all)

@@ -96,26 +96,3 @@ spare_mode p k =
       λ tables. (let required = still_required p k tables.0 in (required, (same required).1 (cells.1 (cells_alike p k tables)))),
       λ spare. tables_alike p k (cells.0 ((same spare.0).0 spare.1)),
     )
-
--- ---- marks
-
--- the marks were taken from the entries without which the table is another
-abbrev pub Made : CodeTable → List ModeRule → List Bool → List Bool → Type 0
-Made table modes old new = (k : ℕ) → k < length modes → IsTrue (get_or new k false) ↔ (IsTrue (get_or old k false) × SameCodes table modes k)
-
-pub made_all : (p : Profile) (modes : List ModeRule) (old one last : List Bool) → modes ≡ p.modes → Made Own modes old one →
-    (p.broadcast ≡ true → Made Broadcast modes one last) → (p.broadcast ≡ false → last ≡ one) →
-    (k : ℕ) → k < length p.modes → IsTrue (get_or last k false) ↔ (IsTrue (get_or old k false) × SameModes p k)
-made_all p modes old one last is a hears deaf k l = by_option p.broadcast refl
-  where
-    first : Made Own p.modes old one
-    first = subst (λ ms. Made Own ms old one) is a
-
-    by_option : (t : Bool) → p.broadcast ≡ t → IsTrue (get_or last k false) ↔ (IsTrue (get_or old k false) × SameModes p k)
-    by_option true e =
-        let second : Made Broadcast p.modes one last = subst (λ ms. Made Broadcast ms one last) is (hears e) in
-        two _ (get_or one k false) _ (SameCodes Own p.modes k) (SameCodes Broadcast p.modes k) (p.broadcast ≡ true → SameCodes Broadcast p.modes k) (first k l) (second k l) (λ same _. same, λ same. same e)
-    by_option false e =
-        let same : get_or last k false ≡ get_or one k false = ap (λ marks. get_or marks k false) (deaf e) in
-        two _ (get_or one k false) _ (SameCodes Own p.modes k) (Unit {0}) (p.broadcast ≡ true → SameCodes Broadcast p.modes k)
-        (first k l) (λ h. (sym same ∙ h, tt), λ h. same ∙ h.0) (λ _ h. (let wrong : true ≡ false = sym h ∙ e in cc), λ _. tt)

@@ -23,7 +23,7 @@ use Rattle.spare_entries.specs.declared.rules.Table.TheVariants.{OwnReceive, Own
 use Rattle.spare_entries.specs.Without.{without, without_rule}
 use Rattle.spare_entries.specs.inner.Says.{what_is_said, bit_after, SameBits, concerns, counts_said, SameMask, SameTable, SameTables}
 use Rattle.spare_entries.proofs.LastOf.{over, last_of-map, without-map}
-use Rattle.spare_entries.proofs.Marks.{three}
+use Rattle.spare_entries.proofs.Marks.
 use Rattle.spare_entries.proofs.Tests.{behind}
 use Rattle.spare_entries.proofs.Reached.{IsAsked, same_in_reach, same_cells}
 
@@ -98,14 +98,3 @@ spare_rule p k =
 
 pub length-said : (table : Table) (s : ℕ) (rules : List Rule) → length (map (counts_said table s) rules) ≡ length rules
 length-said table s rules = length-map rules (counts_said table s)
-
--- ---- marks
-
--- the marks were taken from the rules without which the table is another
-abbrev pub Made : Table → List Rule → List Bool → List Bool → Type 0
-Made table rules old new = (k : ℕ) → k < length rules → IsTrue (get_or new k false) ↔ (IsTrue (get_or old k false) × SameTable table rules k)
-
-pub made_all : (p : Profile) (rules : List Rule) (old one two last : List Bool) → rules ≡ p.rules → Made OwnReceive rules old one → Made OwnTransmit rules one two →
-    (p.broadcast ≡ true → Made BroadcastReceive rules two last) → (p.broadcast ≡ false → last ≡ two) →
-    (k : ℕ) → k < length p.rules → IsTrue (get_or last k false) ↔ (IsTrue (get_or old k false) × SameTables p k)
-made_all p rules old one two last is a b hears deaf k l = search (arith, three)

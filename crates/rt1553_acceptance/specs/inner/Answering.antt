@@ -16,7 +16,7 @@ abbrev pub events_meant : List (List ℕ) → List Event
 events_meant lines = flat_map event_meant lines
 
 -- a terminal of P took the event, if there is one, and what is stated behind it was written
-pub record Answers {L : Type 0} (is_legal : L → Cell → Bool) (P : Description) (h : List Event) (t : Terminal L) (old new front : List ℕ) (es : List Event) : Type 0 where
+pub record WritesAnswer {L : Type 0} (is_legal : L → Cell → Bool) (P : Description) (h : List Event) (t : Terminal L) (old new front : List ℕ) (es : List Event) : Type 0 where
   pub at : StandsAt is_legal P (history_after es h) t
   pub text : new ≡ old ++ front
   pub fit : AllFit P h es

@@ -1,6 +1,5 @@
 use Rattle.std.proofs.Common.{◌≡◌, ◌≤◌, ◌+◌, drop}
 use Rattle.csv_rows.specs.declared.field.FieldState.TheVariants.{Start}
-use Rattle.csv_rows.specs.Csv.{line_end_of}
 use Rattle.csv_rows.proofs.ScanLaws.{scan, first_place}
 use Rattle.csv_rows.proofs.broken.broken_field.Given as goal
 
