@@ -23,7 +23,6 @@ use Rattle.spare_entries.specs.declared.rules.Table.TheVariants.{OwnReceive, Own
 use Rattle.spare_entries.specs.Without.{without, without_rule}
 use Rattle.spare_entries.specs.inner.Says.{what_is_said, bit_after, SameBits, concerns, counts_said, SameMask, SameTable, SameTables}
 use Rattle.spare_entries.proofs.LastOf.{over, last_of-map, without-map}
-use Rattle.spare_entries.proofs.Marks.
 use Rattle.spare_entries.proofs.Tests.{behind}
 use Rattle.spare_entries.proofs.Reached.{IsAsked, same_in_reach, same_cells}
 
