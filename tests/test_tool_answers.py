@@ -47,14 +47,14 @@ def accepted_runs():
     """Runs of the vectors: a profile, and a script without fault; the longest scripts are left out."""
     for table in vector_tables.tables().values():
         for row in table.rows:
-            if row.words[0] == "run" and row.status == 0 and len(row.files) == 2 and len(row.files[row.words[2]]) < 100_000:
+            if row.words[:1] == ("run",) and row.status == 0 and len(row.files[row.words[2]]) < 100_000:
                 yield row
 
 
-def test_verify_finds_what_is_stated_right(tool, once, tmp_path):
+def test_verify_finds_what_is_stated_right(tool, tmp_path):
     """The answers are those of the transcript, and `verify` passes them."""
     runs = list(accepted_runs())
-    assert len(runs) > 100
+    assert len(runs) > 70
     for row in runs:
         _, profile, script = row.words
         write_files(tmp_path, row.files)

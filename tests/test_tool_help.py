@@ -25,7 +25,7 @@ FILES = {
 NEARLY = {
     "veryfi": "  tip: a similar subcommand exists: 'verify'",
     "chek": "  tip: some similar subcommands exist: 'check-script', 'check'",
-    "explan P": "  tip: a similar subcommand exists: 'explain'",
+    "explan P": "  tip: some similar subcommands exist: 'expand', 'explain'",
     "recording T": "  --address <N>",
     "infer S": "  --address <N>",
     "lint --formt json P": "  tip: a similar argument exists: '--format'",

@@ -55,7 +55,7 @@ TABLES = [
     table("no address", "kind,value\nbit,1\n", 2, "", "1:1: error: no row is of the kind address; its value is 0 to 30"),
     table("a fault that would end its line", 'kind,value\naddress,"5\n\x1b[2K"\n', 2, "", '2:2: error: value: "5\\n\\u{1b}[2K": allowed is 0 to 30'),
     # --- names
-    table("a name with which the profile is too large", f"kind,value,subaddress,words,name\naddress,5,,,\nreceive,,1,2,{'x' * (MOST - 100)}\n", 2, "",
+    table("a name with which the profile is too large", f"kind,value,subaddress,words,name\naddress,5,,,\nreceive,,1,2,{'x' * (MOST - 60)}\n", 2, "",
           " table: row 3, column 5: names as long as this make a profile of over 1,048,576 bytes"),
     table("a name that is large once it is escaped", f"kind,value,subaddress,words,name\naddress,5,,,\nreceive,,1,2,{chr(1) * 300_000}\n", 2, "",
           " table: row 3, column 5: names as long as this make a profile of over 1,048,576 bytes"),

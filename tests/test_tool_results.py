@@ -46,14 +46,15 @@ CAUSES = with_files(
     Row("a profile that is too large", "check over", 4, errors="file: too large over: at most 1,048,576 bytes\n", files=files_named("over")),
 )
 FAULTS = with_files(
-    files_named("five bad cut trailing"),
+    {**files_named("five bad cut trailing"), "script": ASK},
     *(Row(it, it, 2, errors=OUT_OF_RANGE)
       for it in ("check bad", "canon bad", "run bad script", "compare bad five", "compare five bad", "compare bad bad", "compare bad cut")),
     Row("a canonical text", "check cut", 2, errors="cut:64:1: error: canonical text: line 64\n"),
-    Row("bytes after a canonical text", "canon trailing", 2, errors="trailing:65:1: error: canonical text: bytes after the end\n"),
-    Row("no TOML", "check text", 2, errors="text:1:4: error: profile: is no TOML\n", files={"text": "no TOML\n"}),
+    Row("bytes after a canonical text", "canon trailing", 2, errors="trailing:66:1: error: canonical text: bytes after the end\n"),
+    Row("no TOML", "check text", 2, errors="text:1:4: error: profile: not TOML: key with no value, expected `=`\n", files={"text": "no TOML\n"}),
     Row("all faults", "check two", 2,
-        "", OUT_OF_RANGE.replace("bad", "two") + "two:2:1: error: profile: root: unknown key \"vectr\"; known are x\n",
+        "", 'two:2:1: error: profile: root: unknown key "vectr"; known are address, broadcast, wraparound, accept_bus_control, vector, bit, '
+        "rule, mode, initial\n" + OUT_OF_RANGE.replace("bad", "two"),
         files={"two": "address = 31\nvectr = 1\n"}),
     Row("no word of what has no effect", "check idle", 0, "ok\n", files={"idle": "address = 5\nvector = 7\n"}),
 )  # fmt: skip

@@ -18,11 +18,7 @@ fn has_line_feed(text: &[u8]) -> bool
 pub fn line_end_of(text: &[u8]) -> u8
     ensures { result ≡ line_end_of text.now }
 {
-    if has_line_feed(text) {
-        b'\n'
-    } else {
-        b'\r'
-    }
+    if has_line_feed(text) { b'\n' } else { b'\r' }
 }
 
 /// The line of the byte after this one, which is of this line; lines end in `feed`.

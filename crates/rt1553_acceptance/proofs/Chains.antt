@@ -315,9 +315,9 @@ comment_said rows most P n h x latest few =
     let remark = remark_of rows label x.command in
     let line : IsLine 64 (codes "# " ++ (label ++ remark)) = within (omega arith) (joined (codes "# ") (label ++ remark) (literal _ refl) (labelled-line rows P x.command)) in
     let split : (codes "# " ++ (label ++ remark)) ++ 10 ∷ [] ≡ comment_of rows P x =
-        append_assoc (codes "# ") (label ++ remark) (10 ∷ []) ∙ ap (λ text. codes "# " ++ text) (append_assoc label remark (10 ∷ [])) in
+    append_assoc (codes "# ") (label ++ remark) (10 ∷ []) ∙ ap (λ text. codes "# " ++ text) (append_assoc label remark (10 ∷ [])) in
     subst (λ text. Chain most P n (n + 1) h text latest latest []) split
-        (silent_said most P n h (codes "# " ++ (label ++ remark)) latest few line.short line.feeds (ap (silent_line (n + 1) latest) (label-front P x.command remark)))
+    (silent_said most P n h (codes "# " ++ (label ++ remark)) latest few line.short line.feeds (ap (silent_line (n + 1) latest) (label-front P x.command remark)))
 
 proper-append : (es fs : List Event) → AreProper (es ++ fs) → AreProper es × AreProper fs
 proper-append [] fs p = (tt, p)

@@ -146,11 +146,7 @@ fn push_read(
 }
 
 /// Adds what stands in the script for a line, where that has room. Tells whether it has.
-fn add_line(
-    script: &mut ScriptSoFar,
-    own: Option<u8>,
-    line: &[u8],
-) -> Result<bool, AllocError>
+fn add_line(script: &mut ScriptSoFar, own: Option<u8>, line: &[u8]) -> Result<bool, AllocError>
     requires { script.old.lines ≤ 1048576 }
     ensures added { IfOk result (λ has_room. has_room ≡ true → Added own script.old.text.items script.new.text.items line.now script.old.lines script.new.lines) }
     ensures full { IfOk result (λ has_room. has_room ≡ false → 1048576 < script.old.lines + expanded_lines (expansion_of own line.now)) }
@@ -168,11 +164,7 @@ fn add_line(
 }
 
 /// The script of a text, without what is refused of it; None where it would have over 1,048,576 lines.
-fn script_of(
-    alloc: Global,
-    text: &[u8],
-    own: Option<u8>,
-) -> Result<Option<Vec<u8>>, AllocError>
+fn script_of(alloc: Global, text: &[u8], own: Option<u8>) -> Result<Option<Vec<u8>>, AllocError>
     ensures text { IfOk result (λ o. IfSome o (λ script. script.items ≡ script_in own (lines_of text.now))) }
     ensures count { IfOk result (λ o. MatchOption o (1048576 < line_count own (lines_of text.now)) (λ _. line_count own (lines_of text.now) ≤ 1048576)) }
     ensures read { IfOk result (λ o. IfSome o (λ script. reading 0 (lines_of script.items) ≡ adds (all_events own (lines_of text.now)) nothing)) }

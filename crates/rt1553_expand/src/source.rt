@@ -33,11 +33,7 @@ fn push_sources(
 }
 
 /// Gives, for each line of the script that `expand` makes of a text, the number of the line of the text that it stands for, from 1.
-pub fn source_lines(
-    alloc: Global,
-    text: &[u8],
-    own: Option<u8>,
-) -> Result<Vec<u64>, AllocError>
+pub fn source_lines(alloc: Global, text: &[u8], own: Option<u8>) -> Result<Vec<u64>, AllocError>
     ensures { IfOk result (λ sources. sources.items ≡ sources_in own text.now) }
 {
     let mut sources = Vec::new(alloc);

@@ -131,11 +131,19 @@ module _ (v : Parts) (is : IsNormal v) where
   settings : AllIn IsKept (all_settings v)
   settings = (
     setting_kept (codes "address") (two_digits v.address) (plain_by (codes "address") refl) (two_plain v.address (omega (arith, is.address))),
-    (setting_kept (codes "broadcast") (yes_no v.broadcast) (plain_by (codes "broadcast") refl) (yes_no_plain v.broadcast),
-    (setting_kept (codes "wraparound") (wrap_cell v.wrap) (plain_by (codes "wraparound") refl) (wrap_plain v.wrap (omega (arith, is.wrap))),
-    (setting_kept (codes "accept_bus_control") (yes_no v.accept) (plain_by (codes "accept_bus_control") refl) (yes_no_plain v.accept),
-    (setting_kept (codes "vector") (word_cell v.vector) (plain_by (codes "vector") refl) (word_plain v.vector is.vector),
-    (setting_kept (codes "bit") (word_cell v.bit) (plain_by (codes "bit") refl) (word_plain v.bit is.bit), tt))))),
+    (
+      setting_kept (codes "broadcast") (yes_no v.broadcast) (plain_by (codes "broadcast") refl) (yes_no_plain v.broadcast),
+      (
+        setting_kept (codes "wraparound") (wrap_cell v.wrap) (plain_by (codes "wraparound") refl) (wrap_plain v.wrap (omega (arith, is.wrap))),
+        (
+          setting_kept (codes "accept_bus_control") (yes_no v.accept) (plain_by (codes "accept_bus_control") refl) (yes_no_plain v.accept),
+          (
+            setting_kept (codes "vector") (word_cell v.vector) (plain_by (codes "vector") refl) (word_plain v.vector is.vector),
+            (setting_kept (codes "bit") (word_cell v.bit) (plain_by (codes "bit") refl) (word_plain v.bit is.bit), tt),
+          ),
+        ),
+      ),
+    ),
   )
 
   pub full_kept : kept_rows (header_cells ∷ full_rows v) ≡ header_cells ∷ full_rows v

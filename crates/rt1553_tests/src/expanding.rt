@@ -374,8 +374,18 @@ fn too_many_lines(rt: HostRuntime) -> Result<(), Fail> {
     for _ in 0..11 {
         text.push(b'\n')?;
     }
-    assert!(rt; matches!(expand(rt.alloc(), text.as_slice(), None)?, Expanded::Script(_)));
+    assert!(rt;
+        matches!(
+            expand(rt.alloc(), text.as_slice(), None)?,
+            Expanded::Script(_)
+        )
+    );
     text.push(b'\n')?;
-    assert!(rt; matches!(expand(rt.alloc(), text.as_slice(), None)?, Expanded::TooLong));
+    assert!(rt;
+        matches!(
+            expand(rt.alloc(), text.as_slice(), None)?,
+            Expanded::TooLong
+        )
+    );
     Ok(())
 }
