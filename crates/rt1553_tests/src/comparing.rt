@@ -288,7 +288,7 @@ const REFUSED: [(&[u8], &str); 22] = [
         "results: row 2, column 2: not `none`, or 1 to 33 words of four hexadecimal digits",
     ),
     (
-        b"number,reply\n1,2800 \n",
+        b"number,reply\n1,28 00\n",
         "results: row 2, column 2: not `none`, or 1 to 33 words of four hexadecimal digits",
     ),
     (
@@ -309,6 +309,18 @@ fn refused_tables(rt: HostRuntime) -> Result<(), Fail> {
             return Err("read")?;
         };
         assert_eq!(rt; format!(in alloc; "{fault}")?.as_str(), wanted);
+    }
+    Ok(())
+}
+
+#[test]
+fn blanks_and_delimiters(rt: HostRuntime) -> Result<(), Fail> {
+    for text in [
+        b"number, reply \n1,2800 \n".as_slice(),
+        b"number;reply\r1;none\r",
+        b"number\treply\n\t\n2\tnone\n",
+    ] {
+        assert!(rt; read_results(rt.alloc(), text).is_ok());
     }
     Ok(())
 }
