@@ -176,7 +176,11 @@ class Layout:
         records = self.records(header, rows)
         text = "".join(empty + record for empty, record in records)
         end = "\n" if "\n" in text else "\r"
-        lines = [1 + ("".join(map("".join, records[:number])) + records[number][0]).count(end) for number in range(len(records))]
+        lines = []
+        for number, (empty, _) in enumerate(records):
+            line = 1 + ("".join(map("".join, records[:number])) + empty).count(end)
+            # no two rows have one line, also where rows end in carriage returns and a field has a line feed
+            lines.append(max([line, *(it + 1 for it in lines[-1:])]))
         return self.mark + text, lines
 
     def warnings(self, header, rows, lines):

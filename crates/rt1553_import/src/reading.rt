@@ -10,14 +10,17 @@ use csv::StringRecord;
 use csv_rows::{CsvRow, read_rows};
 use std::alloc::Global;
 
-/// The rows with their fields as text, or the line of the first row whose fields are not all UTF-8.
+/// The rows with their fields as text, or the line of the first row whose fields are not all UTF-8. No two rows have one line, also where
+/// rows end in carriage returns and a field has a line feed.
 fn text_rows(alloc: Global, rows: Vec<CsvRow>) -> Result<Vec<TableRow>, ImportFault>
     ensures text { IfOk result (λ table. map row_fields table.items ≡ map record_fields rows.items) }
     ensures refused { IfErr result (IsUnreadable (map record_fields rows.items)) }
 {
     let mut table = Vec::new(alloc);
+    let mut last = 0u64;
     for row in rows {
-        let line = row.line;
+        let line = row.line.max(last.saturating_add(1));
+        last = line;
         let fields = match StringRecord::from_byte_record(row.fields) {
             Ok(fields) => fields,
             Err(_) => return Err(ImportFault::NotText(line)),
