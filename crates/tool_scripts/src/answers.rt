@@ -1,5 +1,7 @@
 //! The command `answers`: a script with the answers of a terminal stated.
-ghost use Rattle.std.specs.Prelude.{◌≡◌, ◌⊎◌, IfOk};
+ghost use Rattle.std.specs.Prelude.{◌≡◌, ◌⊎◌, IfOk, List, ℕ};
+ghost use Rattle.bus_legal.specs.Parts.{description_in};
+ghost use Rattle.rt1553_acceptance.specs.Answered.{StatesAnswers};
 ghost use Rattle.tool_files.specs.Status.{tool_status};
 ghost use Rattle.tool_scripts.specs.Ends.{unread_status};
 
@@ -52,7 +54,9 @@ fn answered_script<R: Files + AllocGlobal>(
     rt: &R,
     normal: &Normal,
     asked: AskedAnswers<'_>,
-) -> Result<Vec<u8>, ToolFault> {
+) -> Result<Vec<u8>, ToolFault>
+    ensures { IfOk result (λ text. (script : List ℕ) × StatesAnswers (description_in normal.now) script text.items) }
+{
     let expand_for = asked.expand.then_some(normal.address());
     let script = load_script(rt, asked.script, expand_for)?;
     match state_answers(rt.alloc(), normal, script.text.as_slice()) {
