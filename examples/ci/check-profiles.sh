@@ -47,6 +47,8 @@ annotate() {
             tell "${BASH_REMATCH[4]}" "${BASH_REMATCH[1]}" ",line=${BASH_REMATCH[2]},col=${BASH_REMATCH[3]}" "${BASH_REMATCH[5]}"
         elif [[ $line =~ ^([^:]+):([0-9]+):\ (.*)$ ]]; then
             tell error "${BASH_REMATCH[1]}" ",line=${BASH_REMATCH[2]}" "${BASH_REMATCH[3]}"
+        elif [[ $line =~ ^file:\ cannot\ read\ (.*)(:\ (no\ such\ file|no\ permission|it\ is\ a\ folder))$ ]]; then
+            tell error "${BASH_REMATCH[1]}" '' "cannot read it${BASH_REMATCH[2]}"
         elif [[ $line =~ ^file:\ cannot\ read\ (.*)$ ]]; then
             tell error "${BASH_REMATCH[1]}" '' 'cannot read it'
         elif [[ $line =~ ^([^:]+):\ (.*)$ ]]; then
