@@ -27,23 +27,26 @@ Wrote-trans {a = a} {es = es} {fs = fs} p q = record {
 pub Wrote-same : {a b : List ℕ} {es fs : List Event} → es ≡ fs → Wrote a b es → Wrote a b fs
 Wrote-same {a = a} {b = b} same p = subst (λ es. Wrote a b es) same p
 
+-- one event more
+pub Wrote-event : {a b c : List ℕ} (events : List Event) (i : ℕ) (e : Event) → i < length events → e ≡ get_or events i e → Wrote a b (take i events) → Wrote b c (e ∷ []) → Wrote a c (take (i + 1) events)
+Wrote-event {a = a} {c = c} events i e low is p q =
+    Wrote-same {a = a} {b = c} (ap (λ x. take i events ++ x ∷ []) is ∙ sym (take_more events i e low)) (Wrote-trans p q)
+
 -- one data word more
-pub Wrote-word : {a b c : List ℕ} (bus : Bus) (words : List ℕ) (i : ℕ) → i < length words → Wrote a b (data_events bus (take i words))
-    → Wrote b c (word_event bus (Data (get_or words i 0)) ∷ []) → Wrote a c (data_events bus (take (i + 1) words))
-Wrote-word {a = a} {c = c} bus words i low p q =
-    Wrote-same {a = a} {b = c}
+pub data-more : (bus : Bus) (words : List ℕ) (i : ℕ) (old a new : List Event) → i < length words → a ≡ old ++ data_events bus (take i words)
+    → new ≡ a ++ word_event bus (Data (get_or words i 0)) ∷ [] → new ≡ old ++ data_events bus (take (i + 1) words)
+data-more bus words i old a new low p q =
+    q ∙ ap (λ es. es ++ word_event bus (Data (get_or words i 0)) ∷ []) p ∙ append_assoc old (data_events bus (take i words)) (word_event bus (Data (get_or words i 0)) ∷ [])
+    ∙ ap (λ es. old ++ es)
     (sym (map-append (λ word. word_event bus (Data word)) (take i words) (get_or words i 0 ∷ [])) ∙ ap (data_events bus) (sym (take_more words i 0 low)))
-    (Wrote-trans p q)
+
+three-more : {A : Type 0} (old a b new : List A) (x y z : A) → a ≡ old ++ x ∷ [] → b ≡ a ++ y ∷ [] → new ≡ b ++ z ∷ [] → new ≡ old ++ x ∷ y ∷ z ∷ []
+three-more old a b new x y z p q r =
+    r ∙ ap (λ l. l ++ z ∷ []) (q ∙ ap (λ l. l ++ y ∷ []) p ∙ append_assoc old (x ∷ []) (y ∷ [])) ∙ append_assoc old (x ∷ y ∷ []) (z ∷ [])
 
 -- what comes from and to the terminal that sends in a transfer
-pub Wrote-sender : {a b c d : List ℕ} (bus : Bus) (sender : Option CommandFields) (f : CommandFields) (status : StatusFields) → sender ≡ Some f → status ≡ status_with f.address []
-    → Wrote a b (word_event bus (Command f) ∷ []) → Wrote b c (Gap bus ∷ []) → Wrote c d (word_event bus (Status status) ∷ []) → Wrote a d (sender_events bus sender)
-Wrote-sender {a = a} {d = d} bus sender f status is plain p q r =
-    Wrote-same {a = a} {b = d}
-    (ap (λ s. word_event bus (Command f) ∷ Gap bus ∷ word_event bus (Status s) ∷ []) plain ∙ ap (sender_events bus) (sym is))
-    (Wrote-trans p (Wrote-trans q r))
-
--- what others put on the bus behind the first word
-pub Wrote-heard : {a b c d : List ℕ} (bus : Bus) (m : SaidMessage) (words : List ℕ) → words ≡ m.words → Wrote a b (sender_events bus m.sender)
-    → Wrote b c (data_events bus words) → Wrote c d (message_end bus m.first) → Wrote a d (heard_events bus m)
-Wrote-heard {b = b} {c = c} bus m words same p q r = Wrote-trans p (Wrote-trans (Wrote-same {a = b} {b = c} (ap (data_events bus) same) q) r)
+pub sender-more : (bus : Bus) (sender : Option CommandFields) (f : CommandFields) (status : StatusFields) (old a b new : List Event) → sender ≡ Some f → status ≡ status_with f.address []
+    → a ≡ old ++ word_event bus (Command f) ∷ [] → b ≡ a ++ Gap bus ∷ [] → new ≡ b ++ word_event bus (Status status) ∷ [] → new ≡ old ++ sender_events bus sender
+sender-more bus sender f status old a b new is plain p q r =
+    three-more old a b new _ _ _ p q r
+    ∙ ap (λ s. old ++ word_event bus (Command f) ∷ Gap bus ∷ word_event bus (Status s) ∷ []) plain ∙ ap (λ s. old ++ sender_events bus s) (sym is)

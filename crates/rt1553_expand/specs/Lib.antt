@@ -3,4 +3,5 @@ pub mod Events
 pub mod Slots
 pub mod Expansion
 pub mod Sources
+pub mod Gathered
 pub mod inner

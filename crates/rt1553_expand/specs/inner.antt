@@ -1,5 +1,6 @@
 -- What the contracts of private functions speak of.
 pub mod Added
+pub mod Found
 pub mod Read
 pub mod Said
 pub mod Wrote

@@ -57,6 +57,8 @@ pub struct ScriptSoFar {
     pub text: Vec<u8>,
     /// How many lines that is.
     pub lines: usize,
+    /// The events of the last message.
+    pub events: Vec<Event>,
 }
 
 /// Reads a line that is no line of a script.
@@ -124,9 +126,10 @@ pub fn lines_for(own: Option<u8>, read: &ReadLine, line: &[u8]) -> usize
     }
 }
 
-/// Writes what stands in the script for a line that was read.
+/// Writes what stands in the script for a line that was read; `events` are those of the last message.
 fn push_read(
     out: &mut Vec<u8>,
+    events: &mut Vec<Event>,
     own: Option<u8>,
     line: &[u8],
     read: &ReadLine,
@@ -140,7 +143,7 @@ fn push_read(
             out.extend_from_slice(line)?;
             out.push(b'\n')?;
         }
-        ReadLine::Written(bus, message) => push_message(out, own, *bus, message)?,
+        ReadLine::Written(bus, message) => push_message(out, events, own, *bus, message)?,
     }
     Ok(())
 }
@@ -158,7 +161,7 @@ fn add_line(script: &mut ScriptSoFar, own: Option<u8>, line: &[u8]) -> Result<bo
     if lines > MAX_LINES as usize {
         return Ok(false);
     }
-    push_read(&mut script.text, own, line, &read)?;
+    push_read(&mut script.text, &mut script.events, own, line, &read)?;
     script.lines = lines;
     Ok(true)
 }
@@ -172,6 +175,7 @@ fn script_of(alloc: Global, text: &[u8], own: Option<u8>) -> Result<Option<Vec<u
     let mut script = ScriptSoFar {
         text: Vec::new(alloc),
         lines: 0,
+        events: Vec::new(alloc),
     };
     let mut rest = text;
     while !rest.is_empty() {

@@ -4,9 +4,11 @@
 mod column;
 mod expanding;
 mod fault;
+mod finding;
 pub mod laws;
 mod message;
 mod source;
+mod spelling;
 mod writing;
 
 pub use expanding::{Expanded, UnexpandedLine, expand};

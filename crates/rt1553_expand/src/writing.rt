@@ -16,27 +16,18 @@ use rt1553_tool::{CommandFields, StatusFields, WordFields, command_bits, word_wi
 use script_lines::write_event;
 use std::alloc::AllocError;
 
-/// Writes the line of an event.
-fn push_event(out: &mut Vec<u8>, event: Event) -> Result<(), AllocError>
-    ensures { OnOk result (Wrote out.old.items out.new.items (event ∷ [])) }
+/// Adds a word with these fields.
+fn push_word(out: &mut Vec<Event>, bus: Bus, fields: WordFields) -> Result<(), AllocError>
+    requires { AreOfWidth fields }
+    ensures { OnOk result (out.new.items ≡ out.old.items ++ word_event bus fields ∷ []) }
 {
-    let line = write_event(&event);
-    out.extend_from_slice(line.as_str().as_bytes())?;
-    out.push(b'\n')?;
+    out.push(Event::Word(bus, word_with(fields)))?;
     Ok(())
 }
 
-/// Writes the line of a word with these fields.
-fn push_word(out: &mut Vec<u8>, bus: Bus, fields: WordFields) -> Result<(), AllocError>
-    requires { AreOfWidth fields }
-    ensures { OnOk result (Wrote out.old.items out.new.items (word_event bus fields ∷ [])) }
-{
-    push_event(out, Event::Word(bus, word_with(fields)))
-}
-
-/// Writes the lines of data words.
-fn push_data(out: &mut Vec<u8>, bus: Bus, words: &[u16]) -> Result<(), AllocError>
-    ensures { OnOk result (Wrote out.old.items out.new.items (data_events bus words.now)) }
+/// Adds data words.
+fn push_data(out: &mut Vec<Event>, bus: Bus, words: &[u16]) -> Result<(), AllocError>
+    ensures { OnOk result (out.new.items ≡ out.old.items ++ data_events bus words.now) }
 {
     for word in words {
         push_word(out, bus, WordFields::Data(*word))?;
@@ -44,12 +35,12 @@ fn push_data(out: &mut Vec<u8>, bus: Bus, words: &[u16]) -> Result<(), AllocErro
     Ok(())
 }
 
-/// Writes so many slots.
-fn push_slots(out: &mut Vec<u8>, count: u8) -> Result<(), AllocError>
-    ensures { OnOk result (Wrote out.old.items out.new.items (replicate count SlotEvent)) }
+/// Adds so many slots.
+fn push_slots(out: &mut Vec<Event>, count: u8) -> Result<(), AllocError>
+    ensures { OnOk result (out.new.items ≡ out.old.items ++ replicate count SlotEvent) }
 {
     for _ in 0..count {
-        push_event(out, Event::Slot)?;
+        out.push(Event::Slot)?;
     }
     Ok(())
 }
@@ -82,13 +73,13 @@ fn reply_words(command: Command) -> u8
     }
 }
 
-/// Writes what comes behind a message that begins with this word.
-fn push_end(out: &mut Vec<u8>, bus: Bus, first: WordFields) -> Result<(), AllocError>
+/// Adds what comes behind a message that begins with this word.
+fn push_end(out: &mut Vec<Event>, bus: Bus, first: WordFields) -> Result<(), AllocError>
     requires { AreOfWidth first }
-    ensures { OnOk result (Wrote out.old.items out.new.items (message_end bus first)) }
+    ensures { OnOk result (out.new.items ≡ out.old.items ++ message_end bus first) }
 {
     if let WordFields::Command(command) = first {
-        push_event(out, Event::Gap(bus))?;
+        out.push(Event::Gap(bus))?;
         push_slots(out, reply_words(Command::of(command_bits(command))))?;
     }
     Ok(())
@@ -112,14 +103,18 @@ fn plain_status(address: u8) -> StatusFields
     }
 }
 
-/// Writes what comes from and to the terminal that sends in a transfer, up to its data words.
-fn push_sender(out: &mut Vec<u8>, bus: Bus, sender: Option<CommandFields>) -> Result<(), AllocError>
+/// Adds what comes from and to the terminal that sends in a transfer, up to its data words.
+fn push_sender(
+    out: &mut Vec<Event>,
+    bus: Bus,
+    sender: Option<CommandFields>,
+) -> Result<(), AllocError>
     requires { IfSome sender (λ s. AreOfTheirWidth (in_word s)) }
-    ensures { OnOk result (Wrote out.old.items out.new.items (sender_events bus sender)) }
+    ensures { OnOk result (out.new.items ≡ out.old.items ++ sender_events bus sender) }
 {
     if let Some(command) = sender {
         push_word(out, bus, WordFields::Command(command))?;
-        push_event(out, Event::Gap(bus))?;
+        out.push(Event::Gap(bus))?;
         push_word(out, bus, WordFields::Status(plain_status(command.address)))?;
     }
     Ok(())
@@ -140,7 +135,7 @@ fn end_lines(first: WordFields) -> usize
 }
 
 /// Whether it is the terminal of this address that sends in a transfer.
-fn is_own(own: Option<u8>, sender: Option<CommandFields>) -> bool
+pub fn is_own(own: Option<u8>, sender: Option<CommandFields>) -> bool
     ensures { result ≡ is_own own sender }
 {
     match (own, sender) {
@@ -185,10 +180,10 @@ pub fn message_lines(own: Option<u8>, message: &BusMessage) -> usize
     }
 }
 
-/// Writes what comes behind the first word where the own terminal sends.
-fn push_own(out: &mut Vec<u8>, bus: Bus, sender: Option<CommandFields>) -> Result<(), AllocError>
+/// Adds what comes behind the first word where the own terminal sends.
+fn push_own(out: &mut Vec<Event>, bus: Bus, sender: Option<CommandFields>) -> Result<(), AllocError>
     requires { IfSome sender (λ s. AreOfTheirWidth (in_word s)) }
-    ensures { OnOk result (Wrote out.old.items out.new.items (own_events bus sender)) }
+    ensures { OnOk result (out.new.items ≡ out.old.items ++ own_events bus sender) }
 {
     if let Some(command) = sender {
         push_word(out, bus, WordFields::Command(command))?;
@@ -197,11 +192,11 @@ fn push_own(out: &mut Vec<u8>, bus: Bus, sender: Option<CommandFields>) -> Resul
     Ok(())
 }
 
-/// Writes what others put on the bus behind the first word, and the slots.
-fn push_heard(out: &mut Vec<u8>, bus: Bus, message: &BusMessage) -> Result<(), AllocError>
+/// Adds what others put on the bus behind the first word, and the slots.
+fn push_heard(out: &mut Vec<Event>, bus: Bus, message: &BusMessage) -> Result<(), AllocError>
     requires width { AreOfWidth message.now.first }
     requires sender { IfSome message.now.sender (λ s. AreOfTheirWidth (in_word s)) }
-    ensures { OnOk result (Wrote out.old.items out.new.items (heard_events bus (said_message message.now))) }
+    ensures { OnOk result (out.new.items ≡ out.old.items ++ heard_events bus (said_message message.now)) }
 {
     push_sender(out, bus, message.sender)?;
     push_data(out, bus, message.words.as_slice())?;
@@ -209,16 +204,16 @@ fn push_heard(out: &mut Vec<u8>, bus: Bus, message: &BusMessage) -> Result<(), A
     Ok(())
 }
 
-/// Writes the lines of a message for the terminal of this address, if there is one.
-pub fn push_message(
-    out: &mut Vec<u8>,
+/// Adds the events of a message for the terminal of this address, if there is one.
+pub fn push_events(
+    out: &mut Vec<Event>,
     own: Option<u8>,
     bus: Bus,
     message: &BusMessage,
 ) -> Result<(), AllocError>
     requires width { AreOfWidth message.now.first }
     requires sender { IfSome message.now.sender (λ s. AreOfTheirWidth (in_word s)) }
-    ensures { OnOk result (Wrote out.old.items out.new.items (message_events own bus (said_message message.now))) }
+    ensures { OnOk result (out.new.items ≡ out.old.items ++ message_events own bus (said_message message.now)) }
 {
     push_word(out, bus, message.first)?;
     if is_own(own, message.sender) {
@@ -227,4 +222,41 @@ pub fn push_message(
         push_heard(out, bus, message)?;
     }
     Ok(())
+}
+
+/// Writes the line of an event.
+pub fn write_line(out: &mut Vec<u8>, event: Event) -> Result<(), AllocError>
+    ensures { OnOk result (Wrote out.old.items out.new.items (event ∷ [])) }
+{
+    let line = write_event(&event);
+    out.extend_from_slice(line.as_str().as_bytes())?;
+    out.push(b'\n')?;
+    Ok(())
+}
+
+/// Writes the lines of events.
+pub fn write_lines(out: &mut Vec<u8>, events: &[Event]) -> Result<(), AllocError>
+    ensures { OnOk result (Wrote out.old.items out.new.items events.now) }
+{
+    for event in events {
+        write_line(out, *event)?;
+    }
+    Ok(())
+}
+
+/// Writes the lines of a message for the terminal of this address, if there is one; `events` become its events.
+pub fn push_message(
+    out: &mut Vec<u8>,
+    events: &mut Vec<Event>,
+    own: Option<u8>,
+    bus: Bus,
+    message: &BusMessage,
+) -> Result<(), AllocError>
+    requires width { AreOfWidth message.now.first }
+    requires sender { IfSome message.now.sender (λ s. AreOfTheirWidth (in_word s)) }
+    ensures { OnOk result (Wrote out.old.items out.new.items (message_events own bus (said_message message.now))) }
+{
+    events.clear();
+    push_events(events, own, bus, message)?;
+    write_lines(out, events.as_slice())
 }

@@ -34,19 +34,31 @@ abbrev pub mode_note : Bool → ℕ → Option ModeRow → List ℕ
 mode_note transmit code None = codes "always illegal"
 mode_note transmit code (Some row) = if same_bool row.transmit transmit then mode_name code else codes "always illegal"
 
--- `mode A CODE TR # NAME`, at subaddress 31 with `31` behind T/R
+-- `mode A CODE TR`, at subaddress 31 with `31` behind T/R
 abbrev pub mode_text : CommandFields → List ℕ
 mode_text f = codes "mode " ++ (address_text f.address ++ (codes " " ++ (short_decimal f.low ++ (codes " " ++ (tr_text f.transmit
-    ++ ((if f.subaddress == 31 then codes " 31" else []) ++ (codes " # " ++ mode_note f.transmit f.low (mode_row f.low))))))))
+    ++ (if f.subaddress == 31 then codes " 31" else []))))))
+
+-- behind a mode command ` # NAME`
+abbrev pub note_text : CommandFields → List ℕ
+note_text f = codes " # " ++ mode_note f.transmit f.low (mode_row f.low)
 
 -- `TR A S N`
 abbrev pub transfer_text : CommandFields → List ℕ
 transfer_text f = tr_text f.transmit ++ (codes " " ++ (address_text f.address ++ (codes " " ++ (short_decimal f.subaddress
     ++ (codes " " ++ short_decimal (count_in f.low))))))
 
+-- a mode code is asked for
+abbrev pub asks_mode : CommandFields → Bool
+asks_mode f = (f.subaddress == 0) || (f.subaddress == 31)
+
 -- a command word by its fields
 abbrev pub command_text : CommandFields → List ℕ
-command_text f = if (f.subaddress == 0) || (f.subaddress == 31) then mode_text f else transfer_text f
+command_text f = if asks_mode f then mode_text f else transfer_text f
+
+-- what is noted of a command
+abbrev pub command_note : CommandFields → List ℕ
+command_note f = if asks_mode f then note_text f else []
 
 -- the name of a bit that is set
 abbrev pub bit_text : Bool → List ℕ → List ℕ
@@ -76,7 +88,7 @@ status_text f = codes "status " ++ (short_decimal f.address ++ (first_bits_text 
 
 -- a word by its fields
 abbrev pub fields_text : WordFields → List ℕ
-fields_text (Command f) = command_text f
+fields_text (Command f) = command_text f ++ command_note f
 fields_text (Status f) = status_text f
 fields_text (Data bits) = codes "data " ++ digits_of bits
 

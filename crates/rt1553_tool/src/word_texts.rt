@@ -3,9 +3,10 @@ ghost use Rattle.std.specs.Prelude.{◌≡◌, ◌≤◌, ◌<◌, ◌+◌, ◌*
 ghost use Rattle.std.specs.List.{flat_map};
 ghost use Rattle.arrayvec.specs.ArrayString.{array_string_len};
 ghost use Rattle.bus_word.specs.Mode.{mode_row};
-ghost use Rattle.rt1553_tool.specs.Fields.{AreOfWidth};
+ghost use Rattle.bus_word.specs.Command.{AreOfTheirWidth};
+ghost use Rattle.rt1553_tool.specs.Fields.{AreOfWidth, in_word};
 ghost use Rattle.rt1553_tool.specs.declared.fields.WordFields.TheVariants.{Data as DataWord};
-ghost use Rattle.rt1553_tool.specs.WordTexts.{short_decimal, address_text, tr_text, mode_note, mode_text, transfer_text, command_text, bit_text, first_bits_text, reserved_text, last_bits_text, address_note, status_text, fields_text, letter_text, digits_text, fault_text, shown_byte, is_passed, is_refused_line, word_answer};
+ghost use Rattle.rt1553_tool.specs.WordTexts.{short_decimal, address_text, tr_text, mode_note, mode_text, transfer_text, asks_mode, command_text, command_note, bit_text, first_bits_text, reserved_text, last_bits_text, address_note, status_text, fields_text, letter_text, digits_text, fault_text, shown_byte, is_passed, is_refused_line, word_answer};
 
 use crate::fields::{CommandFields, StatusFields, WordFields};
 use crate::word_lines::{WordLine, WordLineFault, read_word_line};
@@ -32,9 +33,9 @@ pub fn push_decimal<const N: usize>(text: &mut ArrayString<N>, number: u8)
     text.push(char::from(b'0' + number % 10));
 }
 
-/// Writes an address of a command word.
-fn push_address(text: &mut AnswerLine, address: u8)
-    requires room { array_string_len text.old ≤ 500 }
+/// Writes an address of a command word, below 100: `all` for 31.
+pub fn push_address<const N: usize>(text: &mut ArrayString<N>, address: u8)
+    requires room { array_string_len text.old + 3 ≤ N }
     requires address { address < 100 }
     ensures bytes { text.new.bytes ≡ text.old.bytes ++ address_text address }
     ensures len { array_string_len text.new ≤ array_string_len text.old + 3 }
@@ -66,12 +67,12 @@ fn note_of(transmit: bool, code: u8) -> &'static str
 }
 
 /// Writes a mode command.
-fn push_mode(text: &mut AnswerLine, fields: CommandFields)
-    requires room { array_string_len text.old ≤ 100 }
+fn push_mode<const N: usize>(text: &mut ArrayString<N>, fields: CommandFields)
+    requires room { array_string_len text.old + 20 ≤ N }
     requires address { fields.address < 100 }
     requires low { fields.low < 100 }
     ensures bytes { text.new.bytes ≡ text.old.bytes ++ mode_text fields }
-    ensures len { array_string_len text.new ≤ array_string_len text.old + 100 }
+    ensures len { array_string_len text.new ≤ array_string_len text.old + 20 }
 {
     text.push_str("mode ");
     push_address(text, fields.address);
@@ -80,18 +81,16 @@ fn push_mode(text: &mut AnswerLine, fields: CommandFields)
     text.push_str(" ");
     text.push_str(direction_name(fields.transmit));
     text.push_str(if fields.subaddress == 31 { " 31" } else { "" });
-    text.push_str(" # ");
-    text.push_str(note_of(fields.transmit, fields.low));
 }
 
 /// Writes a command to receive or transmit data words.
-fn push_transfer(text: &mut AnswerLine, fields: CommandFields)
-    requires room { array_string_len text.old ≤ 100 }
+fn push_transfer<const N: usize>(text: &mut ArrayString<N>, fields: CommandFields)
+    requires room { array_string_len text.old + 20 ≤ N }
     requires address { fields.address < 100 }
     requires subaddress { fields.subaddress < 100 }
     requires low { fields.low < 100 }
     ensures bytes { text.new.bytes ≡ text.old.bytes ++ transfer_text fields }
-    ensures len { array_string_len text.new ≤ array_string_len text.old + 100 }
+    ensures len { array_string_len text.new ≤ array_string_len text.old + 20 }
 {
     text.push_str(direction_name(fields.transmit));
     text.push_str(" ");
@@ -100,6 +99,39 @@ fn push_transfer(text: &mut AnswerLine, fields: CommandFields)
     push_decimal(text, fields.subaddress);
     text.push_str(" ");
     push_decimal(text, if fields.low == 0 { 32 } else { fields.low });
+}
+
+/// Tells whether a command asks for a mode code.
+fn asks_mode(fields: CommandFields) -> bool
+    ensures { result ≡ asks_mode fields }
+{
+    fields.subaddress == 0 || fields.subaddress == 31
+}
+
+/// Writes a command word by its fields, as `read_word_line` reads them.
+pub fn push_command<const N: usize>(text: &mut ArrayString<N>, fields: CommandFields)
+    requires room { array_string_len text.old + 20 ≤ N }
+    requires width { AreOfTheirWidth (in_word fields) }
+    ensures bytes { text.new.bytes ≡ text.old.bytes ++ command_text fields }
+    ensures len { array_string_len text.new ≤ array_string_len text.old + 20 }
+{
+    if asks_mode(fields) {
+        push_mode(text, fields);
+    } else {
+        push_transfer(text, fields);
+    }
+}
+
+/// Writes what is noted of a command.
+fn push_note(text: &mut AnswerLine, fields: CommandFields)
+    requires room { array_string_len text.old ≤ 100 }
+    ensures bytes { text.new.bytes ≡ text.old.bytes ++ command_note fields }
+    ensures len { array_string_len text.new ≤ array_string_len text.old + 50 }
+{
+    if asks_mode(fields) {
+        text.push_str(" # ");
+        text.push_str(note_of(fields.transmit, fields.low));
+    }
 }
 
 /// Writes the name of a bit that is set.
@@ -196,11 +228,8 @@ fn push_fields(text: &mut AnswerLine, fields: WordFields)
 {
     match fields {
         WordFields::Command(command) => {
-            if command.subaddress == 0 || command.subaddress == 31 {
-                push_mode(text, command);
-            } else {
-                push_transfer(text, command);
-            }
+            push_command(text, command);
+            push_note(text, command);
         }
         WordFields::Status(status) => push_status(text, status),
         WordFields::Data(bits) => push_data(text, bits),

@@ -1,0 +1,100 @@
+-- The messages that the events of a script are: the reverse of `expand`.
+use Rattle.std.specs.Prelude.{ℕ, ◌≡◌, ◌≢◌, ◌≤◌, true, false, List, [], ◌∷◌, ◌++◌, length, codes, replicate, is_ok, Option, Some, None, IfSome, Ok}
+use Rattle.std.specs.List.{flat_map}
+use Rattle.bus_word.specs.declared.word.Bus.{Bus}
+use Rattle.bus_word.specs.Command.{AreOfTheirWidth, command_bits, is_receive}
+use Rattle.terminal_rules.specs.declared.event.Event.{Event}
+use Rattle.script_lines.specs.Digits.{digits_of}
+use Rattle.script_lines.specs.Line.{meaning}
+use Rattle.script_lines.specs.Transcript.{bus_letter}
+use Rattle.script_lines.specs.EventLine.{event_text}
+use Rattle.rt1553_tool.specs.declared.fields.CommandFields.{CommandFields}
+use Rattle.rt1553_tool.specs.declared.fields.WordFields.TheVariants as fields
+use Rattle.rt1553_tool.specs.Fields.{in_word}
+use Rattle.rt1553_tool.specs.WordTexts.{address_text, short_decimal, command_text}
+use Rattle.rt1553_expand.specs.Message.{SaidMessage, words_wanted, message_in}
+use Rattle.rt1553_expand.specs.Events.{is_own, message_events}
+
+-- a message that begins with a command
+pub record CommandMessage : Type 0 where
+  pub command : CommandFields
+  pub sender : Option CommandFields
+  pub words : List ℕ
+
+-- the same as messages are read
+abbrev pub said : CommandMessage → SaidMessage
+said m = record { first = fields.Command m.command; sender = m.sender; words = m.words }
+
+-- in a transfer, ` from A S`
+abbrev pub from_text : Option CommandFields → List ℕ
+from_text None = []
+from_text (Some f) = codes " from " ++ (address_text f.address ++ (codes " " ++ short_decimal f.subaddress))
+
+-- a data word behind a space
+abbrev pub word_text : ℕ → List ℕ
+word_text word = codes " " ++ digits_of word
+
+-- data words behind a colon; nothing, where there is none
+abbrev pub words_text : List ℕ → List ℕ
+words_text [] = []
+words_text (word ∷ words) = codes ":" ++ flat_map word_text (word ∷ words)
+
+-- the text of a message, which stands behind the letter of a bus and a space
+abbrev pub message_text : CommandMessage → List ℕ
+message_text m = command_text m.command ++ (from_text m.sender ++ words_text m.words)
+
+-- the line of a message
+abbrev pub message_line : Bus → CommandMessage → List ℕ
+message_line bus m = bus_letter bus ++ (codes " " ++ message_text m)
+
+-- The line of a message says this message: it is short enough for one, no line of a script, and its text is read as the message.
+pub record IsSaid (bus : Bus) (m : CommandMessage) : Type 0 where
+  pub short : length (message_line bus m) ≤ 256
+  pub other : is_ok (meaning (message_line bus m)) ≡ false
+  pub read : message_in (message_text m) ≡ Ok (said m)
+
+-- A message that can be listed: it has its fields and its data words, and its line says it. The words of the own terminal are not on the
+-- bus: they are written as 0000.
+pub record IsListed (own : Option ℕ) (bus : Bus) (m : CommandMessage) : Type 0 where
+  pub command : AreOfTheirWidth (in_word m.command)
+  pub sender : IfSome m.sender (λ f. AreOfTheirWidth (in_word f) × (is_receive (command_bits (in_word m.command)) ≡ true))
+  pub count : length m.words ≡ words_wanted (fields.Command m.command)
+  pub zeros : is_own own m.sender ≡ true → m.words ≡ replicate (words_wanted (fields.Command m.command)) 0
+  pub says : IsSaid bus m
+
+-- what has a line: a message on a bus, or an event by itself
+pub data Piece : Type 0 where
+  Whole : Bus → CommandMessage → Piece
+  Alone : Event → Piece
+
+-- the line of a piece
+abbrev pub piece_line : Piece → List ℕ
+piece_line (Whole bus m) = message_line bus m
+piece_line (Alone e) = event_text e
+
+-- the events of a piece, for the terminal of this address, if there is one
+abbrev pub piece_events : Option ℕ → Piece → List Event
+piece_events own (Whole bus m) = message_events own bus (said m)
+piece_events own (Alone e) = e ∷ []
+
+-- the events of pieces
+abbrev pub events_in : Option ℕ → List Piece → List Event
+events_in own pieces = flat_map (piece_events own) pieces
+
+-- the lines of pieces, each with its line feed
+abbrev pub lines_text : List Piece → List ℕ
+lines_text pieces = flat_map (λ p. piece_line p ++ 10 ∷ []) pieces
+
+-- the events begin with those of no message that can be listed
+abbrev pub NoneNext : Option ℕ → List Event → Type 0
+NoneNext own es = (bus : Bus) (m : CommandMessage) (rest : List Event) → IsListed own bus m → es ≢ message_events own bus (said m) ++ rest
+
+-- each piece is a message that can be listed, or an event where no such message comes next
+abbrev pub ArePieces : Option ℕ → List Piece → Type 0
+ArePieces own [] = Unit {0}
+ArePieces own (Whole bus m ∷ pieces) = IsListed own bus m × ArePieces own pieces
+ArePieces own (Alone e ∷ pieces) = NoneNext own (e ∷ events_in own pieces) × ArePieces own pieces
+
+-- a text whose lines are the messages of events, and the events between them
+abbrev pub IsGathered : Option ℕ → List Event → List ℕ → Type 0
+IsGathered own es text = (pieces : List Piece) × (events_in own pieces ≡ es) × ArePieces own pieces × (text ≡ lines_text pieces)
