@@ -1,5 +1,5 @@
 -- The lines of events have no line feed in them, and are short.
-use Rattle.std.proofs.Common.{ℕ, zero, suc, ◌≡◌, ◌≢◌, ◌∙◌, ◌+◌, ◌/◌, ◌%◌, ◌<◌, ◌≤◌, Bool, true, false, not, ◌&&◌, ◌==◌, if◌then◌else◌, List, [], ◌∷◌, ◌++◌, slice_index, get_or, length, codes, length-append, refl, sym, ap, arith, ⊎_elim}
+use Rattle.std.proofs.Common.{ℕ, zero, suc, ◌≡◌, ◌≢◌, ◌∙◌, ◌+◌, ◌/◌, ◌%◌, ◌<◌, ◌≤◌, Bool, true, false, not, ◌&&◌, ◌==◌, nat_lt, if◌then◌else◌, Option, Some, None, List, [], ◌∷◌, ◌++◌, flat_map, slice_index, get_or, length, codes, length-append, refl, sym, ap, arith, ⊎_elim}
 use Rattle.std.proofs.lemmas.Bool.{cases_lt}
 use Rattle.std.proofs.lemmas.Bool.Decides.{nat_tests}
 use Rattle.hex.specs.Hex.{lower_digits, encode_with, hex_digit_value}
@@ -9,6 +9,7 @@ use Rattle.bus_word.specs.declared.word.Bus.TheVariants.{A, B}
 use Rattle.bus_word.specs.declared.word.Kind.{Kind}
 use Rattle.bus_word.specs.declared.word.Kind.TheVariants.{Com, Dat}
 use Rattle.bus_word.specs.Word.{is_valid}
+use Rattle.bus_word.specs.Command.{count_in}
 use Rattle.terminal_rules.specs.declared.event.Event.{Event}
 use Rattle.terminal_rules.specs.declared.event.Event.TheVariants as event
 use Rattle.terminal_rules.specs.declared.event.Flag.{Flag}
@@ -18,6 +19,9 @@ use Rattle.script_lines.specs.Text.{NoLineFeed}
 use Rattle.script_lines.specs.Transcript.{bus_letter}
 use Rattle.script_lines.specs.EventLine.{kind_text, truth_field, place_text, flag_name, event_text}
 use Rattle.script_lines.proofs.TranscriptLaws.{four_digits}
+use Rattle.rt1553_tool.specs.declared.fields.CommandFields.{CommandFields}
+use Rattle.rt1553_tool.specs.WordTexts.{short_decimal, address_text, tr_text, mode_text, transfer_text, asks_mode, command_text}
+use Rattle.rt1553_expand.specs.Gathered.{CommandMessage, from_text, word_text, words_text, message_line}
 
 feeds-append : (xs ys : List ℕ) → NoLineFeed xs → NoLineFeed ys → NoLineFeed (xs ++ ys)
 feeds-append [] ys p q = q
@@ -117,3 +121,54 @@ event-line (event.Vector word) = within (omega arith) (joined (codes "vector ") 
 event-line (event.Bit word) = within (omega arith) (joined (codes "bit ") _ (literal _ refl) (digits-line word))
 event-line (event.Flag f value) = within (omega arith) (joined (codes "flag ") _ (literal _ refl) (joined (flag_name f) _ (flag-line f) (truth-line value)))
 event-line event.Slot = within (omega arith) (literal _ refl)
+
+-- ---- messages
+
+feeds-if : (b : Bool) (x y : List ℕ) → NoLineFeed x → NoLineFeed y → NoLineFeed (if b then x else y)
+feeds-if true x y p q = p
+feeds-if false x y p q = q
+
+feeds-short : (n : ℕ) → NoLineFeed (short_decimal n)
+feeds-short n = feeds-if (nat_lt n 10) ((48 + n) ∷ []) ((48 + n / 10) ∷ (48 + n % 10) ∷ [])
+    (λ e. absurd (omega (arith, e)), tt) (λ e. absurd (omega (arith, e)), (λ e. absurd (omega (arith, e)), tt))
+
+feeds-address : (n : ℕ) → NoLineFeed (address_text n)
+feeds-address n = feeds-if (n == 31) (codes "all") (short_decimal n) (feeds (codes "all") refl) (feeds-short n)
+
+feeds-direction : (transmit : Bool) → NoLineFeed (tr_text transmit)
+feeds-direction true = feeds (codes "tx") refl
+feeds-direction false = feeds (codes "rx") refl
+
+space-then : (xs : List ℕ) → NoLineFeed xs → NoLineFeed (codes " " ++ xs)
+space-then xs p = feeds-append (codes " ") xs (feeds (codes " ") refl) p
+
+feeds-mode : (f : CommandFields) → NoLineFeed (mode_text f)
+feeds-mode f =
+    feeds-append (codes "mode ") _ (feeds (codes "mode ") refl) (feeds-append (address_text f.address) _ (feeds-address f.address)
+    (space-then _ (feeds-append (short_decimal f.low) _ (feeds-short f.low) (space-then _ (feeds-append (tr_text f.transmit) _ (feeds-direction f.transmit)
+    (feeds-if (f.subaddress == 31) (codes " 31") [] (feeds (codes " 31") refl) tt))))))
+
+feeds-transfer : (f : CommandFields) → NoLineFeed (transfer_text f)
+feeds-transfer f =
+    feeds-append (tr_text f.transmit) _ (feeds-direction f.transmit) (space-then _ (feeds-append (address_text f.address) _ (feeds-address f.address)
+    (space-then _ (feeds-append (short_decimal f.subaddress) _ (feeds-short f.subaddress) (space-then _ (feeds-short (count_in f.low)))))))
+
+feeds-from : (sender : Option CommandFields) → NoLineFeed (from_text sender)
+feeds-from None = tt
+feeds-from (Some f) =
+    feeds-append (codes " from ") _ (feeds (codes " from ") refl) (feeds-append (address_text f.address) _ (feeds-address f.address) (space-then _ (feeds-short f.subaddress)))
+
+feeds-each : (words : List ℕ) → NoLineFeed (flat_map word_text words)
+feeds-each [] = tt
+feeds-each (word ∷ words) = feeds-append (word_text word) (flat_map word_text words) (space-then _ (feeds-digits word)) (feeds-each words)
+
+feeds-words : (words : List ℕ) → NoLineFeed (words_text words)
+feeds-words [] = tt
+feeds-words (word ∷ words) = feeds-append (codes ":") (flat_map word_text (word ∷ words)) (feeds (codes ":") refl) (feeds-each (word ∷ words))
+
+-- the line of a message has no line feed
+pub message-feeds : (bus : Bus) (m : CommandMessage) → NoLineFeed (message_line bus m)
+message-feeds bus m =
+    let letter : NoLineFeed (bus_letter bus) = (letter-line bus).feeds in
+    feeds-append (bus_letter bus) _ letter (space-then _ (feeds-append (command_text m.command) _ (feeds-if (asks_mode m.command) _ _ (feeds-mode m.command) (feeds-transfer m.command))
+    (feeds-append (from_text m.sender) _ (feeds-from m.sender) (feeds-words m.words))))

@@ -2,6 +2,9 @@ mod CutLaws
 mod DataLaws
 mod WroteLaws
 mod FeedLaws
+mod FoundLaws
+mod GatherLaws
+mod PieceLaws
 mod ReadLaws
 mod ExpandLaws
 mod SlotLaws

@@ -10,8 +10,7 @@ use Rattle.rt1553_tool.specs.declared.fields.WordFields.TheVariants.{Command, St
 use Rattle.rt1553_tool.specs.declared.fields.CommandFields.{CommandFields}
 use Rattle.rt1553_tool.specs.declared.fields.StatusFields.{StatusFields}
 use Rattle.rt1553_tool.specs.WordLines.{status_with}
-use Rattle.rt1553_expand.specs.Message.{SaidMessage}
-use Rattle.rt1553_expand.specs.Events.{word_event, data_events, sender_events, message_end, heard_events}
+use Rattle.rt1553_expand.specs.Events.{word_event, data_events, sender_events}
 use Rattle.rt1553_expand.specs.inner.Wrote.{AreRead, Wrote}
 
 read-append : (es fs : List Event) → AreRead es → AreRead fs → AreRead (es ++ fs)

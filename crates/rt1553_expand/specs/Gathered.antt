@@ -1,19 +1,22 @@
 -- The messages that the events of a script are: the reverse of `expand`.
-use Rattle.std.specs.Prelude.{ℕ, ◌≡◌, ◌≢◌, ◌≤◌, true, false, List, [], ◌∷◌, ◌++◌, length, codes, replicate, is_ok, Option, Some, None, IfSome, Ok}
+use Rattle.std.specs.Prelude.{ℕ, ◌≡◌, ◌≢◌, ◌≤◌, true, false, List, [], ◌∷◌, ◌++◌, length, codes, replicate, is_ok, is_some, Option, Some, None, IfSome, Ok}
 use Rattle.std.specs.List.{flat_map}
 use Rattle.bus_word.specs.declared.word.Bus.{Bus}
 use Rattle.bus_word.specs.Command.{AreOfTheirWidth, command_bits, is_receive}
 use Rattle.terminal_rules.specs.declared.event.Event.{Event}
 use Rattle.script_lines.specs.Digits.{digits_of}
 use Rattle.script_lines.specs.Line.{meaning}
+use Rattle.script_lines.specs.Text.{lines_of}
 use Rattle.script_lines.specs.Transcript.{bus_letter}
 use Rattle.script_lines.specs.EventLine.{event_text}
+use Rattle.bus_script.specs.Reading.{Reading}
 use Rattle.rt1553_tool.specs.declared.fields.CommandFields.{CommandFields}
 use Rattle.rt1553_tool.specs.declared.fields.WordFields.TheVariants as fields
 use Rattle.rt1553_tool.specs.Fields.{in_word}
 use Rattle.rt1553_tool.specs.WordTexts.{address_text, short_decimal, command_text}
 use Rattle.rt1553_expand.specs.Message.{SaidMessage, words_wanted, message_in}
 use Rattle.rt1553_expand.specs.Events.{is_own, message_events}
+use Rattle.rt1553_expand.specs.Expansion.{all_events, refusals_in}
 
 -- a message that begins with a command
 pub record CommandMessage : Type 0 where
@@ -89,12 +92,29 @@ lines_text pieces = flat_map (λ p. piece_line p ++ 10 ∷ []) pieces
 abbrev pub NoneNext : Option ℕ → List Event → Type 0
 NoneNext own es = (bus : Bus) (m : CommandMessage) (rest : List Event) → IsListed own bus m → es ≢ message_events own bus (said m) ++ rest
 
--- each piece is a message that can be listed, or an event where no such message comes next
-abbrev pub ArePieces : Option ℕ → List Piece → Type 0
-ArePieces own [] = Unit {0}
-ArePieces own (Whole bus m ∷ pieces) = IsListed own bus m × ArePieces own pieces
-ArePieces own (Alone e ∷ pieces) = NoneNext own (e ∷ events_in own pieces) × ArePieces own pieces
+-- the piece is a message that can be listed, or an event where no such message comes next, as these events follow
+abbrev pub IsNext : Option ℕ → Piece → List Event → Type 0
+IsNext own (Whole bus m) rest = IsListed own bus m
+IsNext own (Alone e) rest = NoneNext own (e ∷ rest)
 
--- a text whose lines are the messages of events, and the events between them
-abbrev pub IsGathered : Option ℕ → List Event → List ℕ → Type 0
-IsGathered own es text = (pieces : List Piece) × (events_in own pieces ≡ es) × ArePieces own pieces × (text ≡ lines_text pieces)
+-- each piece is, before the events of the others and these
+abbrev pub AreNext : Option ℕ → List Piece → List Event → Type 0
+AreNext own [] rest = Unit {0}
+AreNext own (p ∷ pieces) rest = IsNext own p (events_in own pieces ++ rest) × AreNext own pieces rest
+
+-- A text whose lines are the messages of these events, and the events between them: no message of them is left out.
+pub record IsGathered (own : Option ℕ) (es : List Event) (text : List ℕ) : Type 0 where
+  pub pieces : List Piece
+  pub events : events_in own pieces ≡ es
+  pub next : AreNext own pieces []
+  pub lines : text ≡ lines_text pieces
+
+-- a script without a fault is gathered, and one with a fault is not
+abbrev pub GathersScript : Option ℕ → Reading → Option (List ℕ) → Type 0
+GathersScript own script None = is_some script.fault ≡ true
+GathersScript own script (Some text) = (script.fault ≡ None) × IsGathered own script.events text
+
+-- expanded again, a text that was gathered has no line that is refused, and gives the events of its script
+abbrev pub GivesBack : Option ℕ → Reading → Option (List ℕ) → Type 0
+GivesBack own script None = Unit {0}
+GivesBack own script (Some text) = (refusals_in text ≡ []) × (all_events own (lines_of text) ≡ script.events)

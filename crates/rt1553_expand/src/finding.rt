@@ -1,10 +1,12 @@
 //! The message that events seem to begin with.
 ghost use Rattle.std.specs.Prelude.{◌≡◌, ◌≤◌, map, take, replicate, IfSome, option_map};
 ghost use Rattle.bus_word.specs.Command.{AreOfTheirWidth};
-ghost use Rattle.rt1553_tool.specs.Fields.{in_word};
-ghost use Rattle.rt1553_expand.specs.inner.Found.{command_in, command_first, sender_found, bits_heard, events_before, words_found, message_at, heard_command, message_on, IsOfWidth};
+ghost use Rattle.rt1553_tool.specs.Fields.{in_word, AreOfWidth};
+ghost use Rattle.rt1553_expand.specs.Gathered.{said};
+ghost use Rattle.rt1553_expand.specs.inner.Said.{said_message};
+ghost use Rattle.rt1553_expand.specs.inner.Found.{command_in, command_first, sender_found, bits_heard, events_before, words_found, message_at, heard_command, command_message, message_on, IsOfWidth};
 
-use crate::message::{Words, words_wanted};
+use crate::message::{BusMessage, Words, words_wanted};
 use crate::writing::is_own;
 use arrayvec::ArrayVec;
 use bus_terminal::Event;
@@ -127,4 +129,16 @@ pub fn message_found(own: Option<u8>, events: &[Event]) -> Option<FoundMessage>
         sender,
         words: words_found(own, sender, wanted, behind),
     })
+}
+
+/// A message that was found, as messages are read.
+pub fn as_read(found: FoundMessage) -> BusMessage
+    ensures value { said_message result ≡ said (command_message found) }
+    ensures width { IsOfWidth found → AreOfWidth result.first × IfSome result.sender (λ s. AreOfTheirWidth (in_word s)) }
+{
+    BusMessage {
+        first: WordFields::Command(found.command),
+        sender: found.sender,
+        words: found.words,
+    }
 }

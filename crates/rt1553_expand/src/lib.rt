@@ -5,6 +5,7 @@ mod column;
 mod expanding;
 mod fault;
 mod finding;
+mod gathering;
 pub mod laws;
 mod message;
 mod source;
@@ -13,4 +14,5 @@ mod writing;
 
 pub use expanding::{Expanded, UnexpandedLine, expand};
 pub use fault::ExpandFault;
+pub use gathering::gather;
 pub use source::source_lines;

@@ -1,11 +1,10 @@
 -- The message that events seem to begin with.
-use Rattle.std.specs.Prelude.{ℕ, Bool, if◌then◌else◌, List, [], ◌∷◌, map, take, drop, replicate, Option, Some, None, IfSome}
+use Rattle.std.specs.Prelude.{ℕ, if◌then◌else◌, List, [], ◌∷◌, map, take, drop, replicate, Option, Some, None, IfSome}
 use Rattle.bus_word.specs.declared.word.Bus.{Bus}
 use Rattle.bus_word.specs.Word.{is_command}
 use Rattle.bus_word.specs.Command.{AreOfTheirWidth, is_receive, command_bits}
 use Rattle.terminal_rules.specs.declared.event.Event.{Event}
 use Rattle.terminal_rules.specs.declared.event.Event.TheVariants as event
-use Rattle.terminal_rules.specs.declared.event.Flag.{Flag}
 use Rattle.rt1553_tool.specs.declared.fields.CommandFields.{CommandFields}
 use Rattle.rt1553_tool.specs.declared.fields.WordFields.TheVariants as fields
 use Rattle.rt1553_tool.specs.Fields.{in_word, command_fields_in}

@@ -1,0 +1,242 @@
+//! The messages of a script: the reverse of `expand`.
+ghost use Rattle.std.specs.Prelude.{ℕ, ◌≡◌, ◌≢◌, ◌≤◌, ◌<◌, ◌++◌, [], ◌∷◌, List, length, drop, ◌==◌, true, false, is_some, option_map, Some, None, IfOk, IfSome, IfNone};
+ghost use Rattle.terminal_rules.specs.declared.event.Event.{Event};
+ghost use Rattle.script_lines.specs.Text.{lines_of};
+ghost use Rattle.bus_script.specs.Reading.{Reading, reading, adds, nothing};
+ghost use Rattle.bus_word.specs.declared.word.Bus.{Bus};
+ghost use Rattle.rt1553_tool.specs.declared.fields.WordFields.TheVariants.{Command};
+ghost use Rattle.rt1553_expand.specs.Message.{words_wanted};
+ghost use Rattle.rt1553_expand.specs.Events.{message_events};
+ghost use Rattle.rt1553_expand.specs.Gathered.{CommandMessage, said, message_line, IsSaid, IsListed, NoneNext, GathersScript, GivesBack};
+ghost use Rattle.rt1553_expand.specs.inner.Said.{said_message};
+ghost use Rattle.rt1553_expand.specs.inner.Found.{command_message, IsOfWidth};
+ghost use Rattle.rt1553_expand.specs.inner.Gathering.{IsNextLine, WroteNext, WroteSo, ReadsOn};
+
+use crate::finding::{FoundMessage, as_read, message_found};
+use crate::message::{BusMessage, read_message, words_wanted};
+use crate::spelling::{MessageLine, message_line};
+use crate::writing::{push_events, write_line};
+use bus_terminal::Event;
+use refused_lines::first_line;
+use rt1553_tool::{CommandFields, WordFields};
+use script_lines::{MAX_LINE, MAX_LINES, read_event};
+use std::alloc::{AllocError, Global};
+
+/// Tells whether two commands have the same fields.
+fn same_fields(a: CommandFields, b: CommandFields) -> bool
+    ensures yes { result ≡ true → a ≡ b }
+    ensures not { a ≡ b → result ≡ true }
+{
+    a.address == b.address
+        && a.transmit == b.transmit
+        && a.subaddress == b.subaddress
+        && a.low == b.low
+}
+
+/// Tells whether two messages have the same sender.
+fn same_sender(a: Option<CommandFields>, b: Option<CommandFields>) -> bool
+    ensures yes { result ≡ true → a ≡ b }
+    ensures not { a ≡ b → result ≡ true }
+{
+    match (a, b) {
+        (Some(a), Some(b)) => same_fields(a, b),
+        (None, None) => true,
+        _ => false,
+    }
+}
+
+/// Tells whether data words are the same.
+fn same_words(a: &[u16], b: &[u16]) -> bool
+    ensures yes { result ≡ true → a.now ≡ b.now }
+    ensures not { a.now ≡ b.now → result ≡ true }
+{
+    a == b
+}
+
+/// Tells whether a message that was read is the one that was found.
+fn is_found(message: &BusMessage, found: &FoundMessage) -> bool
+    ensures yes { result ≡ true → said_message message.now ≡ said (command_message found.now) }
+    ensures not { said_message message.now ≡ said (command_message found.now) → result ≡ true }
+{
+    match message.first {
+        WordFields::Command(command) => {
+            same_fields(command, found.command)
+                && same_sender(message.sender, found.sender)
+                && same_words(message.words.as_slice(), found.words.as_slice())
+        }
+        _ => false,
+    }
+}
+
+/// All but the first items, so many.
+fn behind<T>(items: &[T], count: usize) -> &[T]
+    requires { count ≤ length items.now }
+    ensures { result.now ≡ drop count items.now }
+{
+    &items[count..]
+}
+
+/// Tells whether the line of a message says it.
+fn is_said(line: &[u8], found: &FoundMessage) -> bool
+    requires line { line.now ≡ message_line found.now.bus (command_message found.now) }
+    requires short { length line.now ≤ 256 }
+    ensures yes { result ≡ true → IsSaid found.now.bus (command_message found.now) }
+    ensures not { IsSaid found.now.bus (command_message found.now) → result ≡ true }
+{
+    if read_event(line).is_ok() {
+        return false;
+    }
+    match read_message(behind(line, 2)) {
+        Ok(message) => is_found(&message, found),
+        Err(_) => false,
+    }
+}
+
+/// Tells whether two events are the same.
+fn same_event(a: Event, b: Event) -> bool
+    ensures yes { result ≡ true → a ≡ b }
+    ensures not { a ≡ b → result ≡ true }
+{
+    a == b
+}
+
+/// Tells whether events begin with these.
+fn begins_with(events: &[Event], front: &[Event]) -> bool
+    ensures yes { result ≡ true → events.now ≡ front.now ++ drop (length front.now) events.now }
+    ensures within { result ≡ true → length front.now ≤ length events.now }
+    ensures not { (rest : List Event) → events.now ≡ front.now ++ rest → result ≡ true }
+{
+    if front.len() > events.len() {
+        return false;
+    }
+    for i in 0..front.len() {
+        if !same_event(events[i], front[i]) {
+            return false;
+        }
+    }
+    true
+}
+
+/// Tells whether a message that was found has all its data words.
+fn has_all_words(found: &FoundMessage) -> bool
+    requires { IsOfWidth found.now }
+    ensures { result ≡ (length found.now.words.items == words_wanted (Command found.now.command)) }
+{
+    found.words.len() == usize::from(words_wanted(WordFields::Command(found.command)))
+}
+
+/// The line of the message that comes next, if one does that can be listed; then `room` becomes its events.
+fn next_message(
+    room: &mut Vec<Event>,
+    own: Option<u8>,
+    events: &[Event],
+) -> Result<Option<MessageLine>, AllocError>
+    ensures some { IfOk result (λ o. IfSome o (λ line. IsNextLine own events.now room.new.items line.bytes)) }
+    ensures none { IfOk result (λ o. IfNone o (NoneNext own events.now)) }
+{
+    let Some(found) = message_found(own, events) else {
+        return Ok(None);
+    };
+    if !has_all_words(&found) {
+        return Ok(None);
+    }
+    let line = message_line(&found);
+    if !is_said(line.as_str().as_bytes(), &found) {
+        return Ok(None);
+    }
+    let bus = found.bus;
+    room.clear();
+    push_events(room, own, bus, &as_read(found))?;
+    if !begins_with(events, room.as_slice()) {
+        return Ok(None);
+    }
+    Ok(Some(line))
+}
+
+/// Writes the line of what comes next, a message or an event, and tells how many events it has.
+fn push_piece(
+    out: &mut Vec<u8>,
+    room: &mut Vec<Event>,
+    own: Option<u8>,
+    events: &[Event],
+) -> Result<usize, AllocError>
+    requires { 0 < length events.now }
+    ensures { IfOk result (WroteNext own out.old.items out.new.items events.now) }
+{
+    match next_message(room, own, events)? {
+        Some(line) => {
+            out.extend_from_slice(line.as_str().as_bytes())?;
+            out.push(b'\n')?;
+            Ok(room.as_slice().len())
+        }
+        None => {
+            write_line(out, events[0])?;
+            Ok(1)
+        }
+    }
+}
+
+/// Writes the lines of all events.
+fn lines_of_events(alloc: Global, own: Option<u8>, events: &[Event]) -> Result<Vec<u8>, AllocError>
+    ensures { IfOk result (λ text. WroteSo own events.now [] text.items) }
+{
+    let mut text = Vec::new(alloc);
+    let mut room = Vec::new(alloc);
+    let mut rest = events;
+    while !rest.is_empty() {
+        let taken = push_piece(&mut text, &mut room, own, rest)?;
+        rest = behind(rest, taken);
+    }
+    Ok(text)
+}
+
+/// Adds the event of a line of a script, which stands behind so many lines. Tells whether the line is accepted.
+fn push_said(events: &mut Vec<Event>, before: u32, line: &[u8]) -> Result<bool, AllocError>
+    ensures on { IfOk result (ReadsOn before events.old.items events.new.items line.now) }
+    ensures few { IfOk result (λ is_read. is_read ≡ true → before < 1048576) }
+{
+    if before >= MAX_LINES {
+        return Ok(false);
+    }
+    if line.len() > MAX_LINE {
+        return Ok(false);
+    }
+    match read_event(line) {
+        Ok(Some(event)) => events.push(event)?,
+        Ok(None) => {}
+        Err(_) => return Ok(false),
+    }
+    Ok(true)
+}
+
+/// The events of a script; None where a run refuses it.
+fn script_events(alloc: Global, script: &[u8]) -> Result<Option<Vec<Event>>, AllocError>
+    ensures some { IfOk result (λ o. IfSome o (λ events. reading 0 (lines_of script.now) ≡ adds events.items nothing)) }
+    ensures none { IfOk result (λ o. IfNone o (is_some (reading 0 (lines_of script.now)).fault ≡ true)) }
+{
+    let mut events = Vec::new(alloc);
+    let mut rest = script;
+    let mut before = 0;
+    while !rest.is_empty() {
+        let (line, more) = first_line(rest);
+        if !push_said(&mut events, before, line)? {
+            return Ok(None);
+        }
+        before += 1;
+        rest = more;
+    }
+    Ok(Some(events))
+}
+
+/// Gathers the events of a script into messages, as `expand` reads them: a line for each message, and for each event between
+/// them. Comments are left out. The script is for the terminal of the address `own`, 0 to 30, if there is one: where it
+/// sends in a transfer, its words are written as 0000. None where a run refuses the script. The only error is out of memory.
+pub fn gather(alloc: Global, script: &[u8], own: Option<u8>) -> Result<Option<Vec<u8>>, AllocError>
+    ensures gathered { IfOk result (λ o. GathersScript own (reading 0 (lines_of script.now)) (option_map (λ text. text.items) o)) }
+    ensures back { IfOk result (λ o. GivesBack own (reading 0 (lines_of script.now)) (option_map (λ text. text.items) o)) }
+{
+    match script_events(alloc, script)? {
+        Some(events) => Ok(Some(lines_of_events(alloc, own, events.as_slice())?)),
+        None => Ok(None),
+    }
+}
