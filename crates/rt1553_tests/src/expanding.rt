@@ -1,5 +1,5 @@
 //! What only calls show: worked messages, columns, and texts of faults.
-use rt1553_expand::{ExpandFault, Expanded, UnexpandedLine, expand};
+use rt1553_expand::{ExpandFault, Expanded, UnexpandedLine, expand, gather};
 use std::alloc::{AllocError, Global};
 use std::format;
 use std::test::Fail;
@@ -29,6 +29,75 @@ fn refused_of(alloc: Global, text: &[u8]) -> Result<Vec<UnexpandedLine>, AllocEr
         Expanded::Refused(lines) => Ok(lines),
         _ => Ok(Vec::new(alloc)),
     }
+}
+
+/// Whether the events of a script are these messages, for the terminal of an address, if there is one.
+fn gathers(
+    alloc: Global,
+    own: Option<u8>,
+    script: &str,
+    messages: &str,
+) -> Result<bool, AllocError> {
+    match gather(alloc, script.as_bytes(), own)? {
+        Some(found) => Ok(found.as_slice() == messages.as_bytes()),
+        None => Ok(false),
+    }
+}
+
+#[test]
+fn messages_gathered(rt: HostRuntime) -> Result<(), Fail> {
+    let cases: [(Option<u8>, &str, &str); 10] = [
+        (
+            None,
+            "A c 2862\nA d 0001\nA d 0002\nA gap\nslot\n",
+            "A rx 5 3 2: 0001 0002\n",
+        ),
+        (
+            Some(5),
+            "B c f861\nB d 00ff\nB gap\nB c 2dc2\nB gap\nslot\nslot\nslot\n",
+            "B rx all 3 1: 00ff\nB tx 5 14 2\n",
+        ),
+        (
+            None,
+            "A c 2bf1\nA d 1234\nA gap\nslot\n",
+            "A mode 5 17 rx 31: 1234\n",
+        ),
+        (
+            Some(5),
+            "A c 2862\nA c 3482\nA gap\nA c 3000\nA d 0001\nA d 0002\nA gap\nslot\n",
+            "A rx 5 3 2 from 6 4: 0001 0002\n",
+        ),
+        // its own words are not on the bus
+        (
+            Some(9),
+            "A c 3021\nA c 4c21\nA gap\nslot\nslot\n",
+            "A rx 6 1 1 from 9 1: 0000\n",
+        ),
+        (
+            None,
+            "A c 3021\nA c 4c21\nA gap\nslot\nslot\n",
+            "A c 3021\nA tx 9 1 1\n",
+        ),
+        // a data word and a slot are missing; comments are left out
+        (
+            None,
+            "A c 2862\nA d 0001\nA gap\nslot\n",
+            "A c 2862\nA d 0001\nA gap\nslot\n",
+        ),
+        (
+            None,
+            "# x\nflag busy 1\nA c 2c02\nA gap\n\nslot\n#> A s 2808\nA c 2c02\nA gap\n",
+            "flag busy 1\nA mode 5 2 tx\nA c 2c02\nA gap\n",
+        ),
+        // it goes on on the other bus
+        (None, "A c 2c02\nB gap\nslot\n", "A c 2c02\nB gap\nslot\n"),
+        (None, "", ""),
+    ];
+    for (own, script, messages) in cases {
+        assert!(rt; gathers(rt.alloc(), own, script, messages)?);
+    }
+    assert!(rt; gather(rt.alloc(), b"A gap\nx\n", None)?.is_none());
+    Ok(())
 }
 
 #[test]

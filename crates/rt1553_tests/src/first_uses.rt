@@ -14,7 +14,7 @@ use rt1553::{canonical, load};
 use rt1553_acceptance::label_of;
 use rt1553_differ::{differences, explain};
 use rt1553_draw::draw;
-use rt1553_expand::{Expanded, expand};
+use rt1553_expand::{Expanded, expand, gather};
 use rt1553_export::export_table;
 use rt1553_files::escaped;
 use rt1553_import::import_table;
@@ -292,6 +292,11 @@ fn messages_of_a_script(rt: HostRuntime) -> Result<(), Fail> {
         script.as_slice(),
         b"A c 2861\nA d 0001\nA gap\nslot\n".as_slice()
     );
+    let gathered = gather(rt.alloc(), b"A c 2c02\nA gap\nslot\n", None)?;
+    let Some(messages) = gathered else {
+        panic!(rt; "the script is refused");
+    };
+    assert_eq!(rt; messages.as_slice(), b"A mode 5 2 tx\n".as_slice());
     Ok(())
 }
 
