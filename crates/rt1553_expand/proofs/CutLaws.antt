@@ -8,11 +8,11 @@ use Rattle.rt1553_expand.specs.Message.{Cut, cut_here, cut}
 abbrev pub behind_front : List ℕ → Cut → Cut
 behind_front bytes c = record { front = bytes ++ c.front; behind = c.behind }
 
-cut-none : (mark : List ℕ) → cut mark [] ≡ record { front = []; behind = None }
+pub cut-none : (mark : List ℕ) → cut mark [] ≡ record { front = []; behind = None }
 unfolding cut
 cut-none mark = refl
 
-cut-byte : (mark : List ℕ) (b : ℕ) (bytes : List ℕ) → cut mark (b ∷ bytes) ≡ cut_here b (after mark (b ∷ bytes)) (cut mark bytes)
+pub cut-byte : (mark : List ℕ) (b : ℕ) (bytes : List ℕ) → cut mark (b ∷ bytes) ≡ cut_here b (after mark (b ∷ bytes)) (cut mark bytes)
 unfolding cut
 cut-byte mark b bytes = refl
 

@@ -4,6 +4,7 @@ mod WroteLaws
 mod FeedLaws
 mod FoundLaws
 mod GatherLaws
+mod PartsLaws
 mod PieceLaws
 mod ReadLaws
 mod ExpandLaws
