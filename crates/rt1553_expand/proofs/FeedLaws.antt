@@ -33,15 +33,18 @@ beyond [] i high = refl
 beyond (x ∷ xs) zero high = absurd (omega (arith, high))
 beyond (x ∷ xs) (suc i) high = beyond xs i (omega (arith, high))
 
--- no place of the table has a line feed
-no_feed : (i : ℕ) → slice_index lower_digits i ≢ 10
-no_feed i feed = ⊎_elim within other (cases_lt i 16)
+-- no place of the table has a byte that is no digit
+pub no_byte : (c : ℕ) → hex_digit_value c ≡ None → 0 ≢ c → (i : ℕ) → slice_index lower_digits i ≢ c
+no_byte c none other i same = ⊎_elim within beyond_table (cases_lt i 16)
   where
     within : i < 16 → ⊥
-    within small = let e = sym (IsDigits-lower_digits i small) ∙ ap hex_digit_value feed in cc
+    within small = let e = sym (IsDigits-lower_digits i small) ∙ ap hex_digit_value same ∙ none in cc
 
-    other : 16 ≤ i → ⊥
-    other high = let e = sym (beyond lower_digits i high) ∙ feed in absurd (omega (arith, e))
+    beyond_table : 16 ≤ i → ⊥
+    beyond_table high = other (sym (beyond lower_digits i high) ∙ same)
+
+no_feed : (i : ℕ) → slice_index lower_digits i ≢ 10
+no_feed i = no_byte 10 refl (λ e. absurd (omega (arith, e))) i
 
 feeds-digits : (word : ℕ) → NoLineFeed (digits_of word)
 unfolding encode_with

@@ -1,5 +1,7 @@
 mod CutLaws
 mod DataLaws
+mod SpelledLaws
+mod WordReadLaws
 mod WroteLaws
 mod FeedLaws
 mod FoundLaws

@@ -1,12 +1,13 @@
 -- The parts of a text that was written, and where it is cut.
-use Rattle.std.proofs.Common.{ℕ, ◌≡◌, ◌≢◌, ◌∙◌, ◌+◌, ◌/◌, ◌%◌, ◌<◌, ◌≤◌, Bool, true, false, not, ◌&&◌, ◌==◌, nat_lt, if◌then◌else◌, List, [], ◌∷◌, ◌++◌, Option, Some, None, length, codes, refl, sym, ap, arith, append-nil}
+use Rattle.std.proofs.Common.{ℕ, ◌≡◌, ◌≢◌, ◌∙◌, ◌+◌, ◌/◌, ◌%◌, ◌<◌, Bool, true, false, not, ◌&&◌, ◌==◌, nat_lt, if◌then◌else◌, List, [], ◌∷◌, ◌++◌, Some, None, length, codes, refl, ap, arith}
 use Rattle.std.proofs.lemmas.Bool.Decides.{nat_tests}
 use Rattle.std.specs.Char.{is_ascii_whitespace}
 use Rattle.line_format.specs.Front.{after}
+use Rattle.script_lines.specs.Digits.{decimal_digits}
 use Rattle.script_lines.specs.Text.{onto_first}
 use Rattle.rt1553_tool.specs.Parts.{before_comment, pieces_of, with_bytes, line_parts}
 use Rattle.rt1553_tool.specs.WordTexts.{short_decimal, address_text, tr_text}
-use Rattle.rt1553_expand.specs.Message.{Cut, cut_here, cut}
+use Rattle.rt1553_expand.specs.Message.{cut_here, cut}
 use Rattle.rt1553_expand.proofs.CutLaws.{cut-none, cut-byte}
 
 -- ---- texts without a byte
@@ -182,6 +183,16 @@ decimal-part n small = record { plain = plain (nat_lt n 10); hash = free-decimal
     some : (t : Bool) → 0 < length (if t then (48 + n) ∷ [] else (48 + n / 10) ∷ (48 + n % 10) ∷ [])
     some true = omega arith
     some false = omega arith
+
+pub two-part : (n : ℕ) → n < 100 → IsPart (decimal_digits n)
+two-part n small = record {
+  plain = (digit (n / 10), (digit (n % 10), tt));
+  hash = (λ e. absurd (omega (arith, e)), (λ e. absurd (omega (arith, e)), tt));
+  some = omega arith;
+}
+  where
+    digit : (d : ℕ) → is_ascii_whitespace (48 + d) ≡ false
+    digit d = grind (arith, nat_tests)
 
 pub all-part : IsPart (codes "all")
 all-part = record { plain = (refl, (refl, (refl, tt))); hash = free 35 (codes "all") refl; some = omega arith }

@@ -1,5 +1,5 @@
 -- The messages that the events of a script are: the reverse of `expand`.
-use Rattle.std.specs.Prelude.{ℕ, ◌≡◌, ◌≢◌, ◌≤◌, true, false, List, [], ◌∷◌, ◌++◌, length, codes, replicate, is_ok, is_some, Option, Some, None, IfSome, Ok}
+use Rattle.std.specs.Prelude.{ℕ, ◌≡◌, ◌≢◌, ◌≤◌, true, false, List, [], ◌∷◌, ◌++◌, length, codes, replicate, is_ok, is_some, Option, Some, None, IfSome, Ok, All, ◌<◌, ◌^◌}
 use Rattle.std.specs.List.{flat_map}
 use Rattle.bus_word.specs.declared.word.Bus.{Bus}
 use Rattle.bus_word.specs.Command.{AreOfTheirWidth, command_bits, is_receive}
@@ -64,6 +64,28 @@ pub record IsListed (own : Option ℕ) (bus : Bus) (m : CommandMessage) : Type 0
   pub count : length m.words ≡ words_wanted (fields.Command m.command)
   pub zeros : is_own own m.sender ≡ true → m.words ≡ replicate (words_wanted (fields.Command m.command)) 0
   pub says : IsSaid bus m
+
+-- the terminal that sends in a transfer, by the command to it: another one than receives, which sends as many data words as the command
+-- `receiver` asks to be received
+pub record IsSender (receiver f : CommandFields) : Type 0 where
+  pub address : f.address ≤ 30
+  pub other : f.address ≢ receiver.address
+  pub transmit : f.transmit ≡ true
+  pub least : 1 ≤ f.subaddress
+  pub most : f.subaddress ≤ 30
+  pub low : f.low ≡ receiver.low
+  pub receives : is_receive (command_bits (in_word receiver)) ≡ true
+
+-- a message that begins with any command, with its data words, and in a transfer with a sender
+pub record IsMessage (m : CommandMessage) : Type 0 where
+  pub command : AreOfTheirWidth (in_word m.command)
+  pub sender : IfSome m.sender (IsSender m.command)
+  pub count : length m.words ≡ words_wanted (fields.Command m.command)
+  pub words : All (λ word. word < 2 ^ 16) m.words
+
+-- each such message has a line that says it
+abbrev pub EachIsSaid : Type 0
+EachIsSaid = (bus : Bus) (m : CommandMessage) → IsMessage m → IsSaid bus m
 
 -- what has a line: a message on a bus, or an event by itself
 pub data Piece : Type 0 where
