@@ -15,7 +15,7 @@ use Rattle.rt1553_tool.specs.Fields.{in_word, command_fields_in}
 use Rattle.rt1553_tool.specs.WordLines.{status_with}
 use Rattle.rt1553_expand.specs.Message.{words_wanted}
 use Rattle.rt1553_expand.specs.Events.{word_event, data_events, message_end, is_own, own_events, heard_events, message_events}
-use Rattle.rt1553_expand.specs.Gathered.{CommandMessage, said, IsListed}
+use Rattle.rt1553_expand.specs.Gathered.{CommandMessage, said, IsSender, IsListed}
 use Rattle.rt1553_expand.specs.inner.Found.{command_in, fields_heard, sender_found, bits_heard, events_before, words_found, message_by, message_behind, message_at}
 
 bit-back : (b : Bool) → (bit_of b == 1) ≡ b
@@ -102,13 +102,23 @@ words-back own bus command sender words rest count zeros = case sender (is_own o
     case sender true e zeros = rw e (sym (zeros e))
     case sender false e zeros = rw e (heard sender)
 
+-- the command to a sender has fields of their width
+with-receive : (command : CommandFields) (sender : Option CommandFields) → AreOfTheirWidth (in_word command) → IfSome sender (IsSender command)
+    → IfSome sender (λ f. AreOfTheirWidth (in_word f) × (is_receive (command_bits (in_word command)) ≡ true))
+with-receive command None wide is = tt
+with-receive command (Some f) wide is =
+    let tr : bit_of f.transmit ≡ 1 = ap bit_of is.transmit in (
+      record { address = omega (arith, is.address); tr = omega (arith, tr); subaddress = omega (arith, is.most); low = omega (arith, is.low, wide.low) },
+      is.receives,
+    )
+
 -- the message of these events is found
-pub found-next : (own : Option ℕ) (bus : Bus) (m : CommandMessage) (rest : List Event) → IsListed own bus m
+pub found-next : (own : Option ℕ) (bus : Bus) (m : CommandMessage) (rest : List Event) → IsListed own m
     → message_at own (message_events own bus (said m) ++ rest) ≡ Some (record { bus = bus; message = m })
 found-next own bus m rest listed =
     let es : List Event = behind own bus m.command m.sender m.words ++ rest in
-    let by_sender = sender-back own bus m.command m.sender m.words rest listed.sender listed.count in
-    let words = words-back own bus m.command m.sender m.words rest listed.count listed.zeros in
-    ap (message_behind own es) (heard-command bus m.command listed.command)
+    let by_sender = sender-back own bus m.command m.sender m.words rest (with-receive m.command m.sender listed.message.command listed.message.sender) listed.message.count in
+    let words = words-back own bus m.command m.sender m.words rest listed.message.count listed.zeros in
+    ap (message_behind own es) (heard-command bus m.command listed.message.command)
     ∙ ap (λ s. Some (record { bus = bus; message = message_by own m.command s es })) by_sender
     ∙ ap (λ ws. Some (record { bus = bus; message = record { command = m.command; sender = m.sender; words = ws } })) words

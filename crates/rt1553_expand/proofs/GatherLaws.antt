@@ -17,7 +17,7 @@ use Rattle.rt1553_tool.specs.Fields.{in_word}
 use Rattle.rt1553_expand.specs.declared.fault.ExpandFault.{ExpandFault}
 use Rattle.rt1553_expand.specs.Message.{SaidMessage, words_wanted, message_in}
 use Rattle.rt1553_expand.specs.Events.{message_events}
-use Rattle.rt1553_expand.specs.Gathered.{CommandMessage, said, message_text, message_line, IsSaid, IsListed, NoneNext}
+use Rattle.rt1553_expand.specs.Gathered.{CommandMessage, said, message_text, IsMessage, IsListed, NoneNext}
 use Rattle.rt1553_expand.specs.inner.Found.{HeardCommand, command_in, command_first, fields_heard, sender_found, bits_heard, events_before, words_found, message_found, MessageOn, message_behind, message_at}
 use Rattle.rt1553_expand.specs.inner.Gathering.{ReadsOn}
 use Rattle.rt1553_expand.proofs.FoundLaws.{found-next}
@@ -32,34 +32,11 @@ none-found own es missing bus m rest listed next =
 
 -- what is found is no message that comes next
 pub other-found : (own : Option ℕ) (es : List Event) (found : MessageOn) → message_at own es ≡ Some found
-    → ((rest : List Event) → IsListed own found.bus found.message → es ≡ message_events own found.bus (said found.message) ++ rest → ⊥) → NoneNext own es
+    → ((rest : List Event) → IsListed own found.message → es ≡ message_events own found.bus (said found.message) ++ rest → ⊥) → NoneNext own es
 other-found own es found is other bus m rest listed next =
     let both : Some found ≡ Some (record { bus = bus; message = m }) = sym is ∙ ap (message_at own) next ∙ found-next own bus m rest listed in
     let same : found ≡ record { bus = bus; message = m } = ap (λ o. unwrap_or o found) both in
-    subst (λ it. (IsListed own it.bus it.message → es ≡ message_events own it.bus (said it.message) ++ rest → ⊥)) same (other rest) listed next
-
--- ---- what the line of a message says
-
-behind-letter : (bus : Bus) (m : CommandMessage) (line text : List ℕ) → line ≡ message_line bus m → text ≡ drop 2 line → text ≡ message_text m
-behind-letter A m line text is behind = behind ∙ ap (drop 2) is
-behind-letter B m line text is behind = behind ∙ ap (drop 2) is
-
-pub said-yes : (bus : Bus) (m : CommandMessage) (line text : List ℕ) (message : SaidMessage) → line ≡ message_line bus m → text ≡ drop 2 line → length line ≤ 256 → is_ok (meaning line) ≡ false
-    → message_in text ≡ Ok message → message ≡ said m → IsSaid bus m
-said-yes bus m line text message is behind short other read same = record {
-  short = subst (λ l. length l ≤ 256) is short;
-  other = subst (λ l. is_ok (meaning l) ≡ false) is other;
-  read = ap message_in (sym (behind-letter bus m line text is behind)) ∙ read ∙ ap Ok same;
-}
-
-pub said-read : (bus : Bus) (m : CommandMessage) (line text : List ℕ) → line ≡ message_line bus m → text ≡ drop 2 line → IsSaid bus m → message_in text ≡ Ok (said m)
-said-read bus m line text is behind s = ap message_in (behind-letter bus m line text is behind) ∙ s.read
-
-pub said-same : (message other : SaidMessage) (read : Result SaidMessage ExpandFault) → read ≡ Ok message → read ≡ Ok other → message ≡ other
-said-same message other read is so = ap (λ r. result_unwrap_or r message) (sym is ∙ so)
-
-pub said-never : (message : SaidMessage) (fault : ExpandFault) (read : Result SaidMessage ExpandFault) → read ≡ Ok message → read ≡ Err fault → ⊥
-said-never message fault read is so = let both : Err fault ≡ Ok message = sym so ∙ is in absurd (cc)
+    subst (λ it. (IsListed own it.message → es ≡ message_events own it.bus (said it.message) ++ rest → ⊥)) same (other rest) listed next
 
 -- ---- lines of a script
 
@@ -101,48 +78,25 @@ reads-all n (b ∷ rest) events all none before = absurd (omega (arith, none))
 pub listed-events : (own : Option ℕ) (bus : Bus) (a b : SaidMessage) (old new : List Event) → old ≡ [] → new ≡ old ++ message_events own bus a → a ≡ b → new ≡ message_events own bus b
 listed-events own bus a b old new none pushed same = pushed ∙ ap (λ es. es ++ message_events own bus a) none ∙ ap (message_events own bus) same
 
-pub sender-found-receives : (command f : CommandFields) (es : List Event) → sender_found command es ≡ Some f → is_receive (command_bits (in_word command)) ≡ true
-sender-found-receives command f es is = case (is_receive (command_bits (in_word command))) refl is
-  where
-    case : (b : Bool) → is_receive (command_bits (in_word command)) ≡ b → (if b then fields_heard (command_first es) else None) ≡ Some f → b ≡ true
-    case true e is = refl
-    case false e is = absurd (some-not f (sym is))
-
-sender-listed : (command : CommandFields) (es : List Event) (s : Option CommandFields) → sender_found command es ≡ s → IfSome s (λ f. AreOfTheirWidth (in_word f))
-    → IfSome s (λ f. AreOfTheirWidth (in_word f) × (is_receive (command_bits (in_word command)) ≡ true))
-sender-listed command es None is wide = tt
-sender-listed command es (Some f) is wide = (wide, sender-found-receives command f es is)
-
-message-listed : (own : Option ℕ) (es : List Event) (bus : Bus) (m : CommandMessage) (command : CommandFields) → message_found own command es ≡ m
-    → AreOfTheirWidth (in_word m.command) → IfSome m.sender (λ f. AreOfTheirWidth (in_word f)) → length m.words ≡ words_wanted (fields.Command m.command) → IsSaid bus m → IsListed own bus m
-message-listed own es bus m command same wide sender count says =
-    let parts : (sender_found m.command es ≡ m.sender) × (words_found own m.sender (words_wanted (fields.Command m.command)) es ≡ m.words)
-    = subst (λ it. (sender_found it.command es ≡ it.sender) × (words_found own it.sender (words_wanted (fields.Command it.command)) es ≡ it.words)) same (refl, refl) in
+pub message-listed : (own : Option ℕ) (es : List Event) (m : CommandMessage) (command : CommandFields) → message_found own command es ≡ m → IsMessage m → IsListed own m
+message-listed own es m command same is =
+    let words : words_found own m.sender (words_wanted (fields.Command m.command)) es ≡ m.words
+    = subst (λ it. words_found own it.sender (words_wanted (fields.Command it.command)) es ≡ it.words) same refl in
     record {
-      command = wide;
-      sender = sender-listed m.command es m.sender parts.0 sender;
-      count = count;
-      zeros = λ is. sym parts.1 ∙ ap (λ b. if b then replicate (words_wanted (fields.Command m.command)) 0 else map bits_heard (take (words_wanted (fields.Command m.command)) (drop (events_before m.sender) es))) is;
-      says = says;
+      message = is;
+      zeros = λ own_is. sym words ∙ ap (λ b. if b then replicate (words_wanted (fields.Command m.command)) 0 else map bits_heard (take (words_wanted (fields.Command m.command)) (drop (events_before m.sender) es))) own_is;
     }
 
--- what is found can be listed, where it has all its words and its line says it
-pub found-listed : (own : Option ℕ) (es : List Event) (bus : Bus) (m : CommandMessage) → message_at own es ≡ Some (record { bus = bus; message = m })
-    → AreOfTheirWidth (in_word m.command) → IfSome m.sender (λ f. AreOfTheirWidth (in_word f)) → length m.words ≡ words_wanted (fields.Command m.command) → IsSaid bus m → IsListed own bus m
-found-listed own [] bus m is wide sender count says = absurd (some-not (record { bus = bus; message = m }) (sym is))
-found-listed own (e ∷ es) bus m is wide sender count says = heard (command_in e) is
+-- what is found is listed, where it is a message
+pub found-listed : (own : Option ℕ) (es : List Event) (bus : Bus) (m : CommandMessage) → message_at own es ≡ Some (record { bus = bus; message = m }) → IsMessage m → IsListed own m
+found-listed own [] bus m is message = absurd (some-not (record { bus = bus; message = m }) (sym is))
+found-listed own (e ∷ es) bus m is message = heard (command_in e) is
   where
-    heard : (h : Option HeardCommand) → message_behind own es h ≡ Some (record { bus = bus; message = m }) → IsListed own bus m
+    heard : (h : Option HeardCommand) → message_behind own es h ≡ Some (record { bus = bus; message = m }) → IsListed own m
     heard None is = absurd (some-not (record { bus = bus; message = m }) (sym is))
-    heard (Some h) is = message-listed own es bus m h.command (ap (λ o. (unwrap_or {T = MessageOn} o (record { bus = bus; message = m })).message) is) wide sender count says
+    heard (Some h) is = message-listed own es m h.command (ap (λ o. (unwrap_or {T = MessageOn} o (record { bus = bus; message = m })).message) is) message
 
 -- ---- what a test says
-
-pub all-words : (n wanted : ℕ) → n ≡ wanted → (n == wanted) ≡ false → ⊥
-all-words n wanted same other = absurd (grind (arith, nat_tests, same, other))
-
-pub all-there : (n wanted : ℕ) → (n == wanted) ≡ true → n ≡ wanted
-all-there n wanted same = grind (arith, nat_tests, same)
 
 pub not-both : (b : Bool) → b ≡ true → b ≡ false → ⊥
 not-both b is other = let both : true ≡ false = sym is ∙ other in absurd (cc)

@@ -14,10 +14,11 @@ use Rattle.bus_script.specs.Reading.{Reading, adds, nothing}
 use Rattle.rt1553_expand.specs.Message.{message_in}
 use Rattle.rt1553_expand.specs.Events.{message_events}
 use Rattle.rt1553_expand.specs.Expansion.{Expansion, from_events, kept, message_expansion, by_bus_letter, with_named_fault, by_meaning, expansion_of, expanded_events, all_events, refusal_at, refusals_from, refusals_in}
-use Rattle.rt1553_expand.specs.Gathered.{CommandMessage, said, message_text, message_line, IsSaid, Piece, Whole, Alone, piece_line, piece_events, events_in, lines_text, NoneNext, IsNext, AreNext}
+use Rattle.rt1553_expand.specs.Gathered.{CommandMessage, said, message_text, message_line, IsSaid, Piece, Whole, Alone, piece_line, piece_events, events_in, lines_text, NoneNext, IsNext, AreNext, IsMessage}
 use Rattle.rt1553_expand.specs.inner.Wrote.{Wrote}
 use Rattle.rt1553_expand.specs.inner.Gathering.{Says, AllSay, IsNextLine, WroteNext, WroteSo}
 use Rattle.rt1553_expand.proofs.FeedLaws.{event-line, message-feeds}
+use Rattle.rt1553_expand.proofs.SpelledLaws.{each_is_said}
 
 -- ---- a line expands to the events of its piece
 
@@ -35,14 +36,15 @@ by-letter : (own : Option ℕ) (bus : Bus) (m : CommandMessage) → message_in (
 by-letter own A m read = ap (message_expansion own A) read
 by-letter own B m read = ap (message_expansion own B) read
 
-message-says : (bus : Bus) (m : CommandMessage) → IsSaid bus m → Says (Whole bus m)
-message-says bus m says = record {
+message-says : (bus : Bus) (m : CommandMessage) → IsMessage m → Says (Whole bus m)
+message-says bus m is = record {
   feeds = message-feeds bus m;
-  expands = λ own. (
-    from_events (message_events own bus (said m)),
-    within-most own (message_line bus m) says.short ∙ refused-meaning own (message_line bus m) (from_events (message_events own bus (said m))) (meaning (message_line bus m)) says.other (by-letter own bus m says.read),
-    refl,
-  );
+  expands = λ own.
+      let says = each_is_said bus m is in (
+        from_events (message_events own bus (said m)),
+        within-most own (message_line bus m) says.short ∙ refused-meaning own (message_line bus m) (from_events (message_events own bus (said m))) (meaning (message_line bus m)) says.other (by-letter own bus m says.read),
+        refl,
+      );
 }
 
 kept-line : (own : Option ℕ) (e : Event) → length (event_text e) ≤ 64 → by_meaning own (event_text e) (Ok (Some e)) ≡ Ok (kept (event_text e) (Some e))
@@ -72,7 +74,7 @@ wrote-message own es room old mid new line n wrote feed = record {
   within = n.within;
   events = n.begins ∙ ap (λ r. r ++ drop (length room) es) n.room_is;
   next = n.listed;
-  says = message-says n.bus n.message n.listed.says;
+  says = message-says n.bus n.message n.listed.message;
   text = feed ∙ ap (λ t. t ++ 10 ∷ []) (wrote ∙ ap (λ l. old ++ l) n.spelled) ∙ append_assoc old (message_line n.bus n.message) (10 ∷ []);
 }
 

@@ -158,8 +158,16 @@ counted-read : (transmit : Bool) (a s n : ℕ) (count : List ℕ) → a ≤ 31 �
 counted-read transmit a s n count low some small part short is =
     short-read (tr_text transmit) (address_text a ∷ short_decimal s ∷ count ∷ []) _
     (direction-part transmit, (address-part a (omega (arith, low)), (decimal-part s (omega (arith, small)), (part, tt))))
-    (omega (arith, length-append (tr_text transmit) (32 ∷ (address_text a ++ 32 ∷ (short_decimal s ++ 32 ∷ count))), length-append (address_text a) (32 ∷ (short_decimal s ++ 32 ∷ count)),
-        length-append (short_decimal s) (32 ∷ count), length-direction transmit, length-address a, length-decimal s, short))
+    (omega (
+      arith,
+      length-append (tr_text transmit) (32 ∷ (address_text a ++ 32 ∷ (short_decimal s ++ 32 ∷ count))),
+      length-append (address_text a) (32 ∷ (short_decimal s ++ 32 ∷ count)),
+      length-append (short_decimal s) (32 ∷ count),
+      length-direction transmit,
+      length-address a,
+      length-decimal s,
+      short,
+    ))
     (by_name transmit (ap by_fields (transfer-read (tr_text transmit) transmit a s n (address_text a) (short_decimal s) count (address-read a low) (number-read 1 30 s Subaddress some small (omega arith)) is)))
   where
     by_name : (transmit : Bool) {x : Result SaidWord WordLineFault} → by_fields (transfer_line transmit (tr_text transmit ∷ address_text a ∷ short_decimal s ∷ count ∷ [])) ≡ x
@@ -203,19 +211,32 @@ transfer-says transmit a s low la some small ll =
 -- `mode A CODE TR`, and with 31 behind it
 mode-says : (transmit : Bool) (a c : ℕ) (t : Bool) → a ≤ 31 → c ≤ 31
     → SaysCommand (codes "mode " ++ (address_text a ++ (codes " " ++ (short_decimal c ++ (codes " " ++ (tr_text transmit ++ (if t then codes " 31" else [])))))))
-        (record { address = a; transmit = transmit; subaddress = if t then 31 else 0; low = c })
+    (record { address = a; transmit = transmit; subaddress = if t then 31 else 0; low = c })
 mode-says transmit a c true la lc =
     short-read (codes "mode") (address_text a ∷ short_decimal c ∷ tr_text transmit ∷ codes "31" ∷ []) _
     (mode-part, (address-part a (omega (arith, la)), (decimal-part c (omega (arith, lc)), (direction-part transmit, (thirty_one-part, tt)))))
-    (omega (arith, length-append (address_text a) (32 ∷ (short_decimal c ++ 32 ∷ (tr_text transmit ++ codes " 31"))), length-append (short_decimal c) (32 ∷ (tr_text transmit ++ codes " 31")),
-        length-append (tr_text transmit) (codes " 31"), length-direction transmit, length-address a, length-decimal c))
+    (omega (
+      arith,
+      length-append (address_text a) (32 ∷ (short_decimal c ++ 32 ∷ (tr_text transmit ++ codes " 31"))),
+      length-append (short_decimal c) (32 ∷ (tr_text transmit ++ codes " 31")),
+      length-append (tr_text transmit) (codes " 31"),
+      length-direction transmit,
+      length-address a,
+      length-decimal c,
+    ))
     (ap by_fields (mode-read transmit a c 31 (codes "31" ∷ []) la lc refl (omega arith)))
 mode-says transmit a c false la lc =
     ap (λ t. word_line (codes "mode " ++ (address_text a ++ (codes " " ++ (short_decimal c ++ (codes " " ++ t)))))) (append-nil (tr_text transmit))
     ∙ short-read (codes "mode") (address_text a ∷ short_decimal c ∷ tr_text transmit ∷ []) _
     (mode-part, (address-part a (omega (arith, la)), (decimal-part c (omega (arith, lc)), (direction-part transmit, tt))))
-    (omega (arith, length-append (address_text a) (32 ∷ (short_decimal c ++ 32 ∷ tr_text transmit)), length-append (short_decimal c) (32 ∷ tr_text transmit),
-        length-direction transmit, length-address a, length-decimal c))
+    (omega (
+      arith,
+      length-append (address_text a) (32 ∷ (short_decimal c ++ 32 ∷ tr_text transmit)),
+      length-append (short_decimal c) (32 ∷ tr_text transmit),
+      length-direction transmit,
+      length-address a,
+      length-decimal c,
+    ))
     (ap by_fields (mode-read transmit a c 0 [] la lc refl (omega arith)))
 
 -- a command that is written by its fields is read again

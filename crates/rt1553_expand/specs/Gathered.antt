@@ -50,21 +50,6 @@ message_text m = command_text m.command ++ (from_text m.sender ++ words_text m.w
 abbrev pub message_line : Bus → CommandMessage → List ℕ
 message_line bus m = bus_letter bus ++ (codes " " ++ message_text m)
 
--- The line of a message says this message: it is short enough for one, no line of a script, and its text is read as the message.
-pub record IsSaid (bus : Bus) (m : CommandMessage) : Type 0 where
-  pub short : length (message_line bus m) ≤ 256
-  pub other : is_ok (meaning (message_line bus m)) ≡ false
-  pub read : message_in (message_text m) ≡ Ok (said m)
-
--- A message that can be listed: it has its fields and its data words, and its line says it. The words of the own terminal are not on the
--- bus: they are written as 0000.
-pub record IsListed (own : Option ℕ) (bus : Bus) (m : CommandMessage) : Type 0 where
-  pub command : AreOfTheirWidth (in_word m.command)
-  pub sender : IfSome m.sender (λ f. AreOfTheirWidth (in_word f) × (is_receive (command_bits (in_word m.command)) ≡ true))
-  pub count : length m.words ≡ words_wanted (fields.Command m.command)
-  pub zeros : is_own own m.sender ≡ true → m.words ≡ replicate (words_wanted (fields.Command m.command)) 0
-  pub says : IsSaid bus m
-
 -- the terminal that sends in a transfer, by the command to it: another one than receives, which sends as many data words as the command
 -- `receiver` asks to be received
 pub record IsSender (receiver f : CommandFields) : Type 0 where
@@ -83,9 +68,20 @@ pub record IsMessage (m : CommandMessage) : Type 0 where
   pub count : length m.words ≡ words_wanted (fields.Command m.command)
   pub words : All (λ word. word < 2 ^ 16) m.words
 
--- each such message has a line that says it
+-- The line of a message says this message: it is short enough for one, no line of a script, and its text is read as the message.
+pub record IsSaid (bus : Bus) (m : CommandMessage) : Type 0 where
+  pub short : length (message_line bus m) ≤ 256
+  pub other : is_ok (meaning (message_line bus m)) ≡ false
+  pub read : message_in (message_text m) ≡ Ok (said m)
+
+-- each message has a line that says it
 abbrev pub EachIsSaid : Type 0
 EachIsSaid = (bus : Bus) (m : CommandMessage) → IsMessage m → IsSaid bus m
+
+-- a message as it is listed: the words of the own terminal are not on the bus, and are written as 0000
+pub record IsListed (own : Option ℕ) (m : CommandMessage) : Type 0 where
+  pub message : IsMessage m
+  pub zeros : is_own own m.sender ≡ true → m.words ≡ replicate (words_wanted (fields.Command m.command)) 0
 
 -- what has a line: a message on a bus, or an event by itself
 pub data Piece : Type 0 where
@@ -110,13 +106,13 @@ events_in own pieces = flat_map (piece_events own) pieces
 abbrev pub lines_text : List Piece → List ℕ
 lines_text pieces = flat_map (λ p. piece_line p ++ 10 ∷ []) pieces
 
--- the events begin with those of no message that can be listed
+-- the events begin with those of no message that is listed
 abbrev pub NoneNext : Option ℕ → List Event → Type 0
-NoneNext own es = (bus : Bus) (m : CommandMessage) (rest : List Event) → IsListed own bus m → es ≢ message_events own bus (said m) ++ rest
+NoneNext own es = (bus : Bus) (m : CommandMessage) (rest : List Event) → IsListed own m → es ≢ message_events own bus (said m) ++ rest
 
--- the piece is a message that can be listed, or an event where no such message comes next, as these events follow
+-- the piece is a message that is listed, or an event where no such message comes next, as these events follow
 abbrev pub IsNext : Option ℕ → Piece → List Event → Type 0
-IsNext own (Whole bus m) rest = IsListed own bus m
+IsNext own (Whole bus m) rest = IsListed own m
 IsNext own (Alone e) rest = NoneNext own (e ∷ rest)
 
 -- each piece is, before the events of the others and these

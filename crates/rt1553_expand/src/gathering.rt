@@ -1,72 +1,56 @@
 //! The messages of a script: the reverse of `expand`.
-ghost use Rattle.std.specs.Prelude.{ℕ, ◌≡◌, ◌≢◌, ◌≤◌, ◌<◌, ◌++◌, [], ◌∷◌, List, length, drop, ◌==◌, true, false, is_some, option_map, Some, None, IfOk, IfSome, IfNone};
+ghost use Rattle.std.specs.Prelude.{ℕ, ◌≡◌, ◌≢◌, ◌≤◌, ◌<◌, ◌^◌, ◌++◌, [], ◌∷◌, All, List, length, drop, true, is_some, option_map, Some, None, IfOk, IfSome, IfNone};
+ghost use Rattle.bus_word.specs.Command.{AreOfTheirWidth};
 ghost use Rattle.terminal_rules.specs.declared.event.Event.{Event};
 ghost use Rattle.script_lines.specs.Text.{lines_of};
-ghost use Rattle.bus_script.specs.Reading.{Reading, reading, adds, nothing};
-ghost use Rattle.bus_word.specs.declared.word.Bus.{Bus};
-ghost use Rattle.rt1553_tool.specs.declared.fields.WordFields.TheVariants.{Command};
-ghost use Rattle.rt1553_expand.specs.Message.{words_wanted};
-ghost use Rattle.rt1553_expand.specs.Events.{message_events};
-ghost use Rattle.rt1553_expand.specs.Gathered.{CommandMessage, said, message_line, IsSaid, IsListed, NoneNext, GathersScript, GivesBack};
-ghost use Rattle.rt1553_expand.specs.inner.Said.{said_message};
+ghost use Rattle.bus_script.specs.Reading.{reading, adds, nothing};
+ghost use Rattle.rt1553_tool.specs.Fields.{in_word};
+ghost use Rattle.rt1553_expand.specs.Gathered.{IsSender, IsMessage, NoneNext, GathersScript, GivesBack};
 ghost use Rattle.rt1553_expand.specs.inner.Found.{command_message, IsOfWidth};
 ghost use Rattle.rt1553_expand.specs.inner.Gathering.{IsNextLine, WroteNext, WroteSo, ReadsOn};
 
 use crate::finding::{FoundMessage, as_read, message_found};
-use crate::message::{BusMessage, read_message, words_wanted};
+use crate::message::{ALL_TERMINALS, words_wanted};
 use crate::spelling::{MessageLine, message_line};
 use crate::writing::{push_events, write_line};
 use bus_terminal::Event;
+use bus_word::Command;
 use refused_lines::first_line;
-use rt1553_tool::{CommandFields, WordFields};
+use rt1553_tool::{CommandFields, WordFields, command_bits};
 use script_lines::{MAX_LINE, MAX_LINES, read_event};
 use std::alloc::{AllocError, Global};
 
-/// Tells whether two commands have the same fields.
-fn same_fields(a: CommandFields, b: CommandFields) -> bool
-    ensures yes { result ≡ true → a ≡ b }
-    ensures not { a ≡ b → result ≡ true }
+/// Tells whether the terminal of one command can send what another command asks to be received.
+fn is_sender(receiver: CommandFields, sender: CommandFields) -> bool
+    requires { AreOfTheirWidth (in_word receiver) }
+    ensures yes { AreOfTheirWidth (in_word sender) → result ≡ true → IsSender receiver sender }
+    ensures not { IsSender receiver sender → result ≡ true }
 {
-    a.address == b.address
-        && a.transmit == b.transmit
-        && a.subaddress == b.subaddress
-        && a.low == b.low
+    sender.address != ALL_TERMINALS
+        && sender.address != receiver.address
+        && sender.transmit
+        && sender.subaddress >= 1
+        && sender.subaddress <= 30
+        && sender.low == receiver.low
+        && Command::of(command_bits(receiver)).is_receive()
 }
 
-/// Tells whether two messages have the same sender.
-fn same_sender(a: Option<CommandFields>, b: Option<CommandFields>) -> bool
-    ensures yes { result ≡ true → a ≡ b }
-    ensures not { a ≡ b → result ≡ true }
+/// Tells whether a message that was found has no sender, or one that can send.
+fn has_right_sender(found: &FoundMessage) -> bool
+    requires { IsOfWidth found.now }
+    ensures yes { result ≡ true → IfSome found.now.sender (IsSender found.now.command) }
+    ensures not { IfSome found.now.sender (IsSender found.now.command) → result ≡ true }
 {
-    match (a, b) {
-        (Some(a), Some(b)) => same_fields(a, b),
-        (None, None) => true,
-        _ => false,
+    match found.sender {
+        Some(sender) => is_sender(found.command, sender),
+        None => true,
     }
 }
 
-/// Tells whether data words are the same.
-fn same_words(a: &[u16], b: &[u16]) -> bool
-    ensures yes { result ≡ true → a.now ≡ b.now }
-    ensures not { a.now ≡ b.now → result ≡ true }
-{
-    a == b
-}
-
-/// Tells whether a message that was read is the one that was found.
-fn is_found(message: &BusMessage, found: &FoundMessage) -> bool
-    ensures yes { result ≡ true → said_message message.now ≡ said (command_message found.now) }
-    ensures not { said_message message.now ≡ said (command_message found.now) → result ≡ true }
-{
-    match message.first {
-        WordFields::Command(command) => {
-            same_fields(command, found.command)
-                && same_sender(message.sender, found.sender)
-                && same_words(message.words.as_slice(), found.words.as_slice())
-        }
-        _ => false,
-    }
-}
+/// Does nothing: its contract says that words have 16 bits.
+fn have_16_bits(words: &[u16])
+    ensures { All (λ word. word < 2 ^ 16) words.now }
+{}
 
 /// All but the first items, so many.
 fn behind<T>(items: &[T], count: usize) -> &[T]
@@ -74,22 +58,6 @@ fn behind<T>(items: &[T], count: usize) -> &[T]
     ensures { result.now ≡ drop count items.now }
 {
     &items[count..]
-}
-
-/// Tells whether the line of a message says it.
-fn is_said(line: &[u8], found: &FoundMessage) -> bool
-    requires line { line.now ≡ message_line found.now.bus (command_message found.now) }
-    requires short { length line.now ≤ 256 }
-    ensures yes { result ≡ true → IsSaid found.now.bus (command_message found.now) }
-    ensures not { IsSaid found.now.bus (command_message found.now) → result ≡ true }
-{
-    if read_event(line).is_ok() {
-        return false;
-    }
-    match read_message(behind(line, 2)) {
-        Ok(message) => is_found(&message, found),
-        Err(_) => false,
-    }
 }
 
 /// Tells whether two events are the same.
@@ -117,12 +85,15 @@ fn begins_with(events: &[Event], front: &[Event]) -> bool
     true
 }
 
-/// Tells whether a message that was found has all its data words.
-fn has_all_words(found: &FoundMessage) -> bool
+/// Tells whether what was found is a message: it has all its data words, and the right sender.
+fn is_message(found: &FoundMessage) -> bool
     requires { IsOfWidth found.now }
-    ensures { result ≡ (length found.now.words.items == words_wanted (Command found.now.command)) }
+    ensures yes { result ≡ true → IsMessage (command_message found.now) }
+    ensures not { IsMessage (command_message found.now) → result ≡ true }
 {
+    have_16_bits(found.words.as_slice());
     found.words.len() == usize::from(words_wanted(WordFields::Command(found.command)))
+        && has_right_sender(found)
 }
 
 /// The line of the message that comes next, if one does that can be listed; then `room` becomes its events.
@@ -137,13 +108,10 @@ fn next_message(
     let Some(found) = message_found(own, events) else {
         return Ok(None);
     };
-    if !has_all_words(&found) {
+    if !is_message(&found) {
         return Ok(None);
     }
     let line = message_line(&found);
-    if !is_said(line.as_str().as_bytes(), &found) {
-        return Ok(None);
-    }
     let bus = found.bus;
     room.clear();
     push_events(room, own, bus, &as_read(found))?;

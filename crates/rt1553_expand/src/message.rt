@@ -15,7 +15,7 @@ use rt1553_tool::{CommandFields, WordFields, command_bits, read_word_line};
 use script_lines::push_number;
 
 /// The address of all terminals.
-const ALL_TERMINALS: u8 = 31;
+pub const ALL_TERMINALS: u8 = 31;
 
 /// How many bytes a line may have, its line feed not counted.
 pub const MOST: usize = 256;

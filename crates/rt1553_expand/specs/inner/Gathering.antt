@@ -17,11 +17,11 @@ abbrev pub AllSay : List Piece → Type 0
 AllSay [] = Unit {0}
 AllSay (p ∷ pieces) = Says p × AllSay pieces
 
--- events begin with those of a message that can be listed; this is its line
+-- events begin with those of a message that is listed; this is its line
 pub record IsNextLine (own : Option ℕ) (es room : List Event) (line : List ℕ) : Type 0 where
   pub bus : Bus
   pub message : CommandMessage
-  pub listed : IsListed own bus message
+  pub listed : IsListed own message
   pub spelled : line ≡ message_line bus message
   pub room_is : room ≡ message_events own bus (said message)
   pub within : length room ≤ length es

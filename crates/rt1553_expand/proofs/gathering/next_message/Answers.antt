@@ -1,20 +1,15 @@
 use Rattle.std.proofs.Common.{◌≡◌, ◌≤◌, ◌∙◌, ◌++◌, length, drop, sym, ap, subst}
 use Rattle.rt1553_expand.specs.inner.Found.{command_message, message_on}
-use Rattle.rt1553_expand.proofs.GatherLaws.{none-found, other-found, found-listed, listed-events, all-words, all-there, not-both}
+use Rattle.rt1553_expand.proofs.GatherLaws.{none-found, other-found, found-listed, listed-events, not-both}
 use Rattle.rt1553_expand.proofs.gathering.next_message.Goals as goal
 
 pub returns-in_default-clause-none : goal.returns-in_default-clause-none
 returns-in_default-clause-none c = none-found c.args.own c.args.events.now (sym c.in_default.ensures.value)
 
-pub returns-then-not-has_all_words-clause-none : goal.returns-then-not-has_all_words-clause-none
-returns-then-not-has_all_words-clause-none c =
+pub returns-then-not-is_message-clause-none : goal.returns-then-not-is_message-clause-none
+returns-then-not-is_message-clause-none c =
     other-found c.args.own c.args.events.now (message_on c.in-Some.found) (sym c.in-Some.ensures.value)
-    (λ rest listed next. all-words _ _ listed.count (sym c.has_all_words.ensures ∙ c.if-not-has_all_words.true))
-
-pub returns-then-not-is_said-clause-none : goal.returns-then-not-is_said-clause-none
-returns-then-not-is_said-clause-none c =
-    other-found c.args.own c.args.events.now (message_on c.in-Some.found) (sym c.in-Some.ensures.value)
-    (λ rest listed next. not-both _ (c.is_said.ensures.not listed.says) c.if-not-is_said.true)
+    (λ rest listed next. not-both _ (c.is_message.ensures.not listed.message) c.if-not-is_message.true)
 
 pub returns-then-not-begins_with-clause-none : goal.returns-then-not-begins_with-clause-none
 returns-then-not-begins_with-clause-none c =
@@ -30,8 +25,7 @@ returns-clause-some c =
     record {
       bus = c.in-Some.found.bus;
       message = command_message c.in-Some.found;
-      listed = found-listed c.args.own c.args.events.now c.in-Some.found.bus (command_message c.in-Some.found) (sym c.in-Some.ensures.value) c.in-Some.ensures.width.0 c.in-Some.ensures.width.1
-          (all-there _ _ (sym c.has_all_words.ensures ∙ c.if-not-has_all_words.false)) (c.is_said.ensures.yes c.if-not-is_said.false);
+      listed = found-listed c.args.own c.args.events.now c.in-Some.found.bus (command_message c.in-Some.found) (sym c.in-Some.ensures.value) (c.is_message.ensures.yes c.if-not-is_message.false);
       spelled = c.message_line-line.ensures;
       room_is = listed-events c.args.own c.in-Some.found.bus _ _ _ _ c.clear.ensures.items c.in_ok-push_events.ensures c.as_read.ensures.value;
       within = subst (λ f. length f ≤ length c.args.events.now) front within;
