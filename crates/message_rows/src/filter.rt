@@ -1,10 +1,10 @@
 //! Which messages are printed.
 ghost use Rattle.std.specs.Prelude.{◌≡◌};
-ghost use Rattle.message_rows.specs.Filter.{is_faulty, has_place, passes};
+ghost use Rattle.message_rows.specs.Filter.{is_faulty, is_chosen, passes};
 
 use crate::commands::MessageCommands;
 use crate::ending::RowEnd;
-use crate::row::MessageRow;
+use crate::row::RunRow;
 
 /// Which messages are printed.
 #[derive(Clone, Copy)]
@@ -30,8 +30,8 @@ fn is_faulty(end: RowEnd, is_shut_down: bool) -> bool
 
 impl RowFilter {
     /// Whether the addresses and subaddresses are those of the filter.
-    fn has_place(&self, commands: &MessageCommands) -> bool
-        ensures { result ≡ has_place self.now commands.now }
+    fn is_chosen(&self, commands: &MessageCommands) -> bool
+        ensures { result ≡ is_chosen self.now commands.now }
     {
         let is_to = match self.address {
             Some(address) => commands.goes_to(address),
@@ -45,9 +45,9 @@ impl RowFilter {
     }
 
     /// Whether a message is printed.
-    pub fn passes(&self, row: &MessageRow) -> bool
+    pub fn passes(&self, row: &RunRow) -> bool
         ensures { result ≡ passes self.now row.now }
     {
-        self.has_place(&row.commands) && (!self.errors || is_faulty(row.end, row.is_shut_down))
+        self.is_chosen(&row.commands) && (!self.errors || is_faulty(row.end, row.is_shut_down))
     }
 }

@@ -1,6 +1,6 @@
 //! Rows as JSON.
-use crate::row::MessageRow;
-use crate::status::status_bits;
+use crate::row::RunRow;
+use crate::status::set_bit_names;
 use crate::text::{bus_name, count_of, end_name, form_name, why};
 use bus_word::{Command, mode_name};
 use message_names::owned;
@@ -24,7 +24,7 @@ struct CommandJson {
 
 /// A row as JSON.
 #[derive(Drop, Serialize)]
-struct MessageJson {
+struct RowJson {
     number: u64,
     line: u64,
     bus: &'static str,
@@ -93,7 +93,7 @@ fn status_json(alloc: Global, status: Option<u16>) -> Result<Option<String>, All
 /// The bits of a status word, if there is one.
 fn bits_json(alloc: Global, status: Option<u16>) -> Result<Vec<&'static str>, AllocError> {
     match status {
-        Some(word) => status_bits(alloc, word),
+        Some(word) => set_bit_names(alloc, word),
         None => Ok(Vec::new(alloc)),
     }
 }
@@ -110,12 +110,12 @@ fn name_json(
 }
 
 /// The row as it is written.
-fn message_json(
+fn row_as_json(
     alloc: Global,
-    row: &MessageRow,
+    row: &RunRow,
     name: Option<Option<&str>>,
-) -> Result<MessageJson, AllocError> {
-    Ok(MessageJson {
+) -> Result<RowJson, AllocError> {
+    Ok(RowJson {
         number: row.number,
         line: row.line,
         bus: bus_name(row.bus),
@@ -135,7 +135,7 @@ fn message_json(
 
 /// A row as one line of JSON, without a line feed; with the name of its message, which may have none, where there are names. None where
 /// memory runs out.
-pub fn row_json(alloc: Global, row: &MessageRow, name: Option<Option<&str>>) -> Option<String> {
-    let json = message_json(alloc, row, name).ok()?;
+pub fn row_json(alloc: Global, row: &RunRow, name: Option<Option<&str>>) -> Option<String> {
+    let json = row_as_json(alloc, row, name).ok()?;
     serde_json::to_string(alloc, &json).ok()
 }

@@ -18,7 +18,7 @@ pub use commands::{MessageCommands, MessageForm};
 pub use ending::{ErrorCause, RowEnd};
 pub use filter::RowFilter;
 pub use json::row_json;
-pub use row::MessageRow;
+pub use row::RunRow;
 pub use table::{row_record, rows_header};
 pub use text::{ROW_HEADER, row_text};
 pub use watch::{ClosedRows, MessageWatch};

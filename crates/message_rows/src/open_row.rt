@@ -5,7 +5,7 @@ ghost use Rattle.message_rows.specs.Ends.{cause_at_gap};
 use crate::commands::{MessageCommands, is_transmitter_for};
 use crate::ending::{ErrorCause, RowEnd, end_after, lacks_reply};
 use crate::played::{KeptAnswer, PlayedEvent};
-use crate::row::MessageRow;
+use crate::row::RunRow;
 use bus_word::Command;
 use terminal_state::Ended;
 
@@ -15,7 +15,9 @@ const ALWAYS_ZERO: u16 = 0x02e0;
 /// A message whose row is not written yet.
 #[derive(Drop)]
 pub struct OpenRow {
-    pub row: MessageRow,
+    pub row: RunRow,
+    /// How many data words the terminal expects.
+    expected: u8,
     /// Nothing followed its first command.
     is_fresh: bool,
     /// The last that came on its bus was a gap.
@@ -60,10 +62,12 @@ impl OpenRow {
     ghost use Rattle.message_rows.specs.declared.ending.ErrorCause.TheVariants.{NoStatus, InvalidWord};
     ghost use Rattle.message_rows.specs.Ends.{end_after, cause_at_gap, lacks_reply};
 
-    /// A message of which just the first command came; the status word of the terminal of this address is to come, if there is one.
-    pub fn begin(row: MessageRow, next_status: Option<u8>) -> OpenRow {
+    /// A message of which just the first command came, that expects so many data words and the status word of the terminal of this
+    /// address, if there is one.
+    pub fn begin(row: RunRow, expected: u8, next_status: Option<u8>) -> OpenRow {
         OpenRow {
             row,
+            expected,
             is_fresh: true,
             is_after_gap: false,
             has_invalid: false,
@@ -99,6 +103,7 @@ impl OpenRow {
                 self.last_status = receiver;
             }
             None => {
+                self.expected = command.expected();
                 self.next_status = receiver;
                 self.last_status = None;
             }
@@ -129,9 +134,9 @@ impl OpenRow {
         self.row.add_data(bits);
     }
 
-    /// Whether fewer data words came than its first command says.
+    /// Whether fewer data words came than the terminal expects.
     fn has_too_few(&self) -> bool {
-        self.row.data.len() < usize::from(self.row.commands.command.expected())
+        self.row.data.len() < usize::from(self.expected)
     }
 
     /// Takes a word that is not valid, or noise.

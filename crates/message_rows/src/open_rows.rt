@@ -3,15 +3,15 @@ use crate::commands::MessageCommands;
 use crate::ending::RowEnd;
 use crate::open_row::{OpenRow, other_status};
 use crate::played::{KeptAnswer, PlayedEvent};
-use crate::row::MessageRow;
+use crate::row::RunRow;
 use bus_terminal::{Event, Sent};
 use bus_word::{Bus, Command, Kind, Raw};
 
 /// Messages that are over, by their numbers.
 #[derive(Drop)]
 pub struct ClosedRows {
-    pub earlier: Option<MessageRow>,
-    pub later: Option<MessageRow>,
+    pub earlier: Option<RunRow>,
+    pub later: Option<RunRow>,
 }
 
 /// What a valid word of command sync is to the messages of a run.
@@ -59,7 +59,7 @@ impl ClosedRows {
     }
 
     /// One message.
-    fn one(row: MessageRow) -> ClosedRows {
+    fn one(row: RunRow) -> ClosedRows {
         ClosedRows {
             earlier: Some(row),
             later: None,
@@ -152,7 +152,7 @@ impl OpenRows {
             command: Command::of(word.bits),
             transmitter: None,
         };
-        ClosedRows::one(MessageRow::begin(number, line, bus, commands, end))
+        ClosedRows::one(RunRow::begin(number, line, bus, commands, end))
     }
 
     /// Begins a message, and gives the messages that are over then: that on its bus, and that on the other one, unless the terminal is
@@ -174,8 +174,11 @@ impl OpenRows {
             command,
             transmitter: None,
         };
-        let row = MessageRow::begin(number, played.line, bus, commands, end);
-        self.put(bus, OpenRow::begin(row, other_status(self.own, command)));
+        let row = RunRow::begin(number, played.line, bus, commands, end);
+        self.put(
+            bus,
+            OpenRow::begin(row, command.expected(), other_status(self.own, command)),
+        );
         ClosedRows::of(there, other)
     }
 

@@ -9,14 +9,14 @@ pub const MOST_WORDS: usize = 64;
 
 /// A message of a run.
 #[derive(Drop)]
-pub struct MessageRow {
+pub struct RunRow {
     /// Its number, from 1, by the order in which messages begin.
     pub number: u64,
     /// The line of its first command, from 1.
     pub line: u64,
     pub bus: Bus,
     pub commands: MessageCommands,
-    /// Its valid data words in order: those that came and then those that the terminal sent; at most 64.
+    /// Its valid data words in order, those that came and those that the terminal sent; at most 64.
     pub data: ArrayVec<u16, 64>,
     /// How many more came.
     pub left_out: u64,
@@ -29,7 +29,7 @@ pub struct MessageRow {
     pub is_shut_down: bool,
 }
 
-impl MessageRow {
+impl RunRow {
     /// A message of which just the first command came.
     pub fn begin(
         number: u64,
@@ -37,8 +37,8 @@ impl MessageRow {
         bus: Bus,
         commands: MessageCommands,
         end: RowEnd,
-    ) -> MessageRow {
-        MessageRow {
+    ) -> RunRow {
+        RunRow {
             number,
             line,
             bus,

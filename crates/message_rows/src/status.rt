@@ -28,7 +28,7 @@ fn is_bit_set(word: u16, place: u16) -> bool
 }
 
 /// The names of the bits of a status word that are set.
-pub fn status_bits(alloc: Global, word: u16) -> Result<Vec<&'static str>, AllocError> {
+pub fn set_bit_names(alloc: Global, word: u16) -> Result<Vec<&'static str>, AllocError> {
     let mut names = Vec::new(alloc);
     for (place, name) in STATUS_BITS {
         if is_bit_set(word, place) {

@@ -1,11 +1,11 @@
 //! Rows as CSV.
 ghost use Rattle.std.specs.Prelude.{◌≡◌, map, IfOk};
 ghost use Rattle.csv.specs.Writing.{row_text};
-ghost use Rattle.message_rows.specs.inner.Table.{table_writer};
+ghost use Rattle.message_rows.specs.inner.Table.{rows_writer};
 
 use crate::commands::MessageCommands;
-use crate::row::MessageRow;
-use crate::status::status_bits;
+use crate::row::RunRow;
+use crate::status::set_bit_names;
 use crate::text::{
     ToldAddress, ToldNumber, bus_name, count_of, end_name, form_name, why, words_told,
 };
@@ -39,7 +39,7 @@ const NAMELESS: usize = 16;
 
 /// The bytes of a record.
 fn record(alloc: Global, fields: &[&[u8]]) -> Result<Vec<u8>, AllocError>
-    ensures { IfOk result (λ bytes. bytes.items ≡ row_text table_writer (map (λ f. f.now) fields.now)) }
+    ensures { IfOk result (λ bytes. bytes.items ≡ row_text rows_writer (map (λ f. f.now) fields.now)) }
 {
     let mut writer = WriterBuilder::new()
         .terminator(Terminator::CRLF)
@@ -74,7 +74,7 @@ fn digits_told(alloc: Global, word: Option<u16>) -> Result<String, AllocError> {
 fn bits_told(alloc: Global, status: Option<u16>) -> Result<String, AllocError> {
     let mut text = String::new(alloc);
     if let Some(word) = status {
-        for name in status_bits(alloc, word)?.as_slice() {
+        for name in set_bit_names(alloc, word)?.as_slice() {
             if !text.is_empty() {
                 text.push_str(" ")?;
             }
@@ -112,7 +112,7 @@ fn copied(alloc: Global, text: Option<&str>) -> Result<String, AllocError> {
 }
 
 /// The data words of a message, with a space between two.
-fn data_told(alloc: Global, row: &MessageRow) -> Result<String, AllocError> {
+fn data_told(alloc: Global, row: &RunRow) -> Result<String, AllocError> {
     let text = words_told(alloc, row)?;
     String::from_str(alloc, text.as_str().trim_start())
 }
@@ -138,7 +138,7 @@ fn push_place(
 }
 
 /// Adds what came of a message.
-fn push_course(alloc: Global, cells: &mut Vec<String>, row: &MessageRow) -> Result<(), AllocError> {
+fn push_course(alloc: Global, cells: &mut Vec<String>, row: &RunRow) -> Result<(), AllocError> {
     cells.push(copied(alloc, Some(end_name(row.end)))?)?;
     cells.push(copied(alloc, why(row))?)?;
     cells.push(data_told(alloc, row)?)?;
@@ -149,11 +149,7 @@ fn push_course(alloc: Global, cells: &mut Vec<String>, row: &MessageRow) -> Resu
 }
 
 /// The fields of a row.
-fn cells_of(
-    alloc: Global,
-    row: &MessageRow,
-    name: Option<&str>,
-) -> Result<Vec<String>, AllocError> {
+fn cells_of(alloc: Global, row: &RunRow, name: Option<&str>) -> Result<Vec<String>, AllocError> {
     let mut cells = Vec::new(alloc);
     cells.push(format!(in alloc; "{}", row.number)?)?;
     cells.push(format!(in alloc; "{}", row.line)?)?;
@@ -167,11 +163,7 @@ fn cells_of(
 }
 
 /// A row of the table, with CR and LF behind it: with the name of its message in a last column, where there are names.
-pub fn row_record(
-    alloc: Global,
-    row: &MessageRow,
-    name: Option<&str>,
-) -> Result<Vec<u8>, AllocError> {
+pub fn row_record(alloc: Global, row: &RunRow, name: Option<&str>) -> Result<Vec<u8>, AllocError> {
     let cells = cells_of(alloc, row, name)?;
     let mut fields = Vec::new(alloc);
     for cell in cells.as_slice() {

@@ -1,8 +1,8 @@
 //! Rows as lines of text.
 use crate::commands::{MessageCommands, MessageForm};
 use crate::ending::{ErrorCause, RowEnd};
-use crate::row::MessageRow;
-use crate::status::status_bits;
+use crate::row::RunRow;
+use crate::status::set_bit_names;
 use bus_word::{Bus, Command};
 use message_names::quoted;
 use std::alloc::{AllocError, Global};
@@ -85,7 +85,7 @@ fn cause_name(cause: ErrorCause) -> &'static str {
 }
 
 /// Why a message ended so, where there is a reason, or is not answered.
-pub fn why(row: &MessageRow) -> Option<&'static str> {
+pub fn why(row: &RunRow) -> Option<&'static str> {
     match row.end {
         RowEnd::InError(cause) => Some(cause_name(cause)),
         _ => {
@@ -117,7 +117,7 @@ pub fn count_of(command: Command) -> Option<u8> {
 }
 
 /// Adds the columns of a row.
-fn push_columns(alloc: Global, text: &mut String, row: &MessageRow) -> Result<(), AllocError> {
+fn push_columns(alloc: Global, text: &mut String, row: &RunRow) -> Result<(), AllocError> {
     let command = row.commands.command;
     let (number, line) = (row.number, row.line);
     let (bus, form) = (bus_name(row.bus), form_name(row.commands.form()));
@@ -144,7 +144,7 @@ fn push_columns(alloc: Global, text: &mut String, row: &MessageRow) -> Result<()
 }
 
 /// The words of a message, each four digits behind a space, and how many are left out.
-pub fn words_told(alloc: Global, row: &MessageRow) -> Result<String, AllocError> {
+pub fn words_told(alloc: Global, row: &RunRow) -> Result<String, AllocError> {
     let mut text = String::new(alloc);
     for word in row.data.as_slice() {
         write!(text, " {word:04x}")?;
@@ -170,7 +170,7 @@ fn push_transmitter(text: &mut String, commands: &MessageCommands) -> Result<(),
 fn push_status(alloc: Global, text: &mut String, status: Option<u16>) -> Result<(), AllocError> {
     if let Some(word) = status {
         write!(text, "; status {word:04x}")?;
-        for name in status_bits(alloc, word)?.as_slice() {
+        for name in set_bit_names(alloc, word)?.as_slice() {
             write!(text, " {name}")?;
         }
     }
@@ -178,7 +178,7 @@ fn push_status(alloc: Global, text: &mut String, status: Option<u16>) -> Result<
 }
 
 /// A row as a line of text, with its line feed; with the name of its message, where it has one.
-pub fn row_text(alloc: Global, row: &MessageRow, name: Option<&str>) -> Result<String, AllocError> {
+pub fn row_text(alloc: Global, row: &RunRow, name: Option<&str>) -> Result<String, AllocError> {
     let mut text = String::new(alloc);
     push_columns(alloc, &mut text, row)?;
     if let Some(why) = why(row) {

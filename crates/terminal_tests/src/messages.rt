@@ -1,6 +1,8 @@
 //! The messages of runs, as rows.
 use bus_legal::Normal;
-use message_rows::{ClosedRows, MessageRow, MessageWatch, row_text};
+use bus_terminal::Event;
+use bus_word::{Bus, Kind, Raw};
+use message_rows::{ClosedRows, MessageWatch, RunRow, row_text};
 use rt1553::load;
 use script_lines::read_event;
 use std::alloc::{AllocError, Global};
@@ -9,7 +11,7 @@ use std::test::Fail;
 /// Adds the rows of messages that are over.
 fn push_closed(
     alloc: Global,
-    rows: &mut Vec<MessageRow>,
+    rows: &mut Vec<RunRow>,
     closed: ClosedRows,
 ) -> Result<(), AllocError> {
     if let Some(row) = closed.earlier {
@@ -22,7 +24,7 @@ fn push_closed(
 }
 
 /// The rows of a run by a script.
-fn rows_of(alloc: Global, normal: &Normal, script: &str) -> Result<Vec<MessageRow>, AllocError> {
+fn rows_of(alloc: Global, normal: &Normal, script: &str) -> Result<Vec<RunRow>, AllocError> {
     let mut watch = MessageWatch::power_up(normal.setup(), *normal);
     let mut rows = Vec::new(alloc);
     let mut number = 0u64;
@@ -102,5 +104,20 @@ fn words_that_a_row_has_no_room_for(rt: HostRuntime) -> Result<(), Fail> {
     };
     assert_eq!(rt; row.data.len(), 64);
     assert_eq!(rt; row.left_out, 6);
+    Ok(())
+}
+
+#[test]
+fn message_of_a_command(rt: HostRuntime) -> Result<(), Fail> {
+    let normal = load(rt.alloc(), PROFILE)?;
+    let mut watch = MessageWatch::power_up(normal.setup(), normal);
+    watch.step(Event::Word(Bus::A, Raw::of(Kind::Com, 0x2c02)), 1);
+    let closed = watch.end();
+    let Some(row) = closed.earlier else {
+        return Ok(());
+    };
+    let text = row_text(rt.alloc(), &row, None)?;
+    let line = "     1       1 A   mode       5   2       open\n";
+    assert_eq!(rt; text.as_str(), line);
     Ok(())
 }

@@ -7,7 +7,7 @@ use bus_script::RunFault;
 use byte_streams::{FromWrite, Sink, write_all};
 use message_names::MessageNames;
 use message_rows::{
-    ClosedRows, MessageRow, MessageWatch, ROW_HEADER, RowFilter, row_json, row_record, row_text,
+    ClosedRows, MessageWatch, ROW_HEADER, RowFilter, RunRow, row_json, row_record, row_text,
     rows_header,
 };
 use refused_lines::first_line;
@@ -52,7 +52,7 @@ impl<'a> RowPrinter<'a> {
     }
 
     /// The name of a message: None where there are no names, and that it has none where it has none.
-    fn name_of(&self, row: &MessageRow) -> Option<Option<&'a str>> {
+    fn name_of(&self, row: &RunRow) -> Option<Option<&'a str>> {
         let names = self.names?;
         match row.commands.named(self.own) {
             Some(command) => Some(name_of_command(names, command.bits())),
@@ -61,7 +61,7 @@ impl<'a> RowPrinter<'a> {
     }
 
     /// A row of CSV.
-    fn record_of(&self, row: &MessageRow) -> Result<Vec<u8>, AllocError> {
+    fn record_of(&self, row: &RunRow) -> Result<Vec<u8>, AllocError> {
         match self.name_of(row) {
             Some(name) => {
                 let name = escaped(self.alloc, name.unwrap_or("").as_bytes())?;
@@ -72,7 +72,7 @@ impl<'a> RowPrinter<'a> {
     }
 
     /// Writes a row.
-    fn put_row<S: Sink>(&self, sink: &mut S, row: &MessageRow) -> Result<(), ToolFault> {
+    fn put_row<S: Sink>(&self, sink: &mut S, row: &RunRow) -> Result<(), ToolFault> {
         match self.format {
             MessagesFormat::Text => {
                 let name = self.name_of(row).unwrap_or(None);
@@ -88,7 +88,7 @@ impl<'a> RowPrinter<'a> {
     }
 
     /// Writes a row, if there is one and it passes the filter.
-    fn put_passed<S: Sink>(&self, sink: &mut S, row: Option<MessageRow>) -> Result<(), ToolFault> {
+    fn put_passed<S: Sink>(&self, sink: &mut S, row: Option<RunRow>) -> Result<(), ToolFault> {
         match row {
             Some(row) if self.filter.passes(&row) => self.put_row(sink, &row),
             _ => Ok(()),

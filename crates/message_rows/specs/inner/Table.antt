@@ -4,5 +4,5 @@ use Rattle.csv.specs.declared.writer.WriterBuilder.{WriterBuilder}
 use Rattle.csv.specs.Writing.{default_writer, with_terminator}
 
 -- a writer of RFC 4180: each line ends in CR and LF
-abbrev pub table_writer : WriterBuilder
-table_writer = with_terminator default_writer CRLF
+abbrev pub rows_writer : WriterBuilder
+rows_writer = with_terminator default_writer CRLF
