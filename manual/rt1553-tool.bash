@@ -3,7 +3,7 @@ _rt1553_tool() {
     local now=${COMP_WORDS[COMP_CWORD]} before=${COMP_WORDS[COMP_CWORD - 1]} flags='' kinds=() many='' count=0 index kind
     COMPREPLY=()
     if ((COMP_CWORD == 1)); then
-        mapfile -t COMPREPLY < <(compgen -W 'check canon compare run lint check-script verify answers recording coverage infer import export expand toml explain differ acceptance draw words live --help --version' -- "$now")
+        mapfile -t COMPREPLY < <(compgen -W 'check canon compare run lint check-script verify answers recording coverage infer import export expand toml explain differ acceptance messages draw words live --help --version' -- "$now")
         return
     fi
     case ${COMP_WORDS[1]}:$before in
@@ -27,6 +27,10 @@ _rt1553_tool() {
         acceptance:--against) mapfile -t COMPREPLY < <(compgen -f -X '!*.csv' -- "$now"; compgen -d -- "$now"); return ;;
         acceptance:--format) mapfile -t COMPREPLY < <(compgen -W 'text csv json' -- "$now"); return ;;
         acceptance:--names) mapfile -t COMPREPLY < <(compgen -f -X '!*.csv' -- "$now"; compgen -d -- "$now"); return ;;
+        messages:--rt) return ;;
+        messages:--subaddress) return ;;
+        messages:--format) mapfile -t COMPREPLY < <(compgen -W 'text csv json' -- "$now"); return ;;
+        messages:--names) mapfile -t COMPREPLY < <(compgen -f -X '!*.csv' -- "$now"; compgen -d -- "$now"); return ;;
         draw:--names) mapfile -t COMPREPLY < <(compgen -f -X '!*.csv' -- "$now"; compgen -d -- "$now"); return ;;
     esac
     case ${COMP_WORDS[1]} in
@@ -48,6 +52,7 @@ _rt1553_tool() {
         explain) flags='--format --names --help' kinds=(profile) many='' ;;
         differ) flags='--scripts --format --names --help' kinds=(profile profile) many='' ;;
         acceptance) flags='--against --any-subsystem --format --names --help' kinds=(profile) many='' ;;
+        messages) flags='--expand --rt --subaddress --errors --format --names --help' kinds=(profile script) many='' ;;
         draw) flags='--expand --html --names --help' kinds=(profile script) many='' ;;
         words) flags='--help' kinds=() many='' ;;
         live) flags='--help' kinds=(profile) many='' ;;
@@ -75,6 +80,10 @@ _rt1553_tool() {
             acceptance:--against) index=$((index + 1)) ;;
             acceptance:--format) index=$((index + 1)) ;;
             acceptance:--names) index=$((index + 1)) ;;
+            messages:--rt) index=$((index + 1)) ;;
+            messages:--subaddress) index=$((index + 1)) ;;
+            messages:--format) index=$((index + 1)) ;;
+            messages:--names) index=$((index + 1)) ;;
             draw:--names) index=$((index + 1)) ;;
             *:-*) ;;
             *) count=$((count + 1)) ;;

@@ -69,6 +69,14 @@ complete -c rt1553-tool -n '__fish_seen_subcommand_from acceptance' -l any-subsy
 complete -c rt1553-tool -n '__fish_seen_subcommand_from acceptance' -l format -x -a 'text csv json' -d 'the output format'
 complete -c rt1553-tool -n '__fish_seen_subcommand_from acceptance' -l names -r -F -d 'puts the names of messages in TABLE beside their numbers'
 complete -c rt1553-tool -n '__fish_seen_subcommand_from acceptance' -F
+complete -c rt1553-tool -n __fish_use_subcommand -a messages -d 'Prints a line for each message of a run, and how it ended'
+complete -c rt1553-tool -n '__fish_seen_subcommand_from messages' -l expand -d 'takes messages, too, as `expand` does'
+complete -c rt1553-tool -n '__fish_seen_subcommand_from messages' -l rt -x -d 'only messages of terminal A, 0 to 30, or all for those by broadcast'
+complete -c rt1553-tool -n '__fish_seen_subcommand_from messages' -l subaddress -x -d 'only messages of subaddress S, 0 to 31'
+complete -c rt1553-tool -n '__fish_seen_subcommand_from messages' -l errors -d 'only messages that the terminal did not do, or did not answer'
+complete -c rt1553-tool -n '__fish_seen_subcommand_from messages' -l format -x -a 'text csv json' -d 'the output format'
+complete -c rt1553-tool -n '__fish_seen_subcommand_from messages' -l names -r -F -d 'puts the names of messages in TABLE beside their numbers'
+complete -c rt1553-tool -n '__fish_seen_subcommand_from messages' -F
 complete -c rt1553-tool -n __fish_use_subcommand -a draw -d 'Draws a run: the words on the buses, and what is handed over'
 complete -c rt1553-tool -n '__fish_seen_subcommand_from draw' -l expand -d 'takes messages, too, as `expand` does'
 complete -c rt1553-tool -n '__fish_seen_subcommand_from draw' -l html -d 'writes an HTML page, with the table of legal commands'

@@ -21,6 +21,7 @@ _rt1553_tool() {
         'explain:Prints what a terminal does, as a table'
         'differ:Prints all differences between two terminals'
         'acceptance:Writes the test that distinguishes a terminal from every other'
+        'messages:Prints a line for each message of a run, and how it ended'
         'draw:Draws a run\: the words on the buses, and what is handed over'
         'words:Converts between words of the bus and their fields'
         'live:Plays lines as they come, and ends each answer with a dot'
@@ -52,6 +53,7 @@ _rt1553_tool() {
         explain) _arguments '--help[prints what the command takes]' '--format[the output format]:format:(text json)' '--names[puts the names of messages in TABLE beside their numbers]:TABLE:_files -g "*.(csv)(-.)"' '1:P:_files -g "*.(toml|rt1553)(-.)"' ;;
         differ) _arguments '--help[prints what the command takes]' '--scripts[prints the script that shows each difference, if there is one]' '--format[the output format]:format:(text json)' '--names[puts the names of messages in TABLE beside their numbers]:TABLE:_files -g "*.(csv)(-.)"' '1:P:_files -g "*.(toml|rt1553)(-.)"' '2:Q:_files -g "*.(toml|rt1553)(-.)"' ;;
         acceptance) _arguments '--help[prints what the command takes]' '--against[compares the replies of a unit, a CSV table, with the test]:RESULTS:_files -g "*.(csv)(-.)"' '--any-subsystem[with --against\: some behaviour of the subsystem is to explain the replies]' '--format[the output format]:format:(text csv json)' '--names[puts the names of messages in TABLE beside their numbers]:TABLE:_files -g "*.(csv)(-.)"' '1:P:_files -g "*.(toml|rt1553)(-.)"' ;;
+        messages) _arguments '--help[prints what the command takes]' '--expand[takes messages, too, as `expand` does]' '--rt[only messages of terminal A, 0 to 30, or all for those by broadcast]:A: ' '--subaddress[only messages of subaddress S, 0 to 31]:S: ' '--errors[only messages that the terminal did not do, or did not answer]' '--format[the output format]:format:(text csv json)' '--names[puts the names of messages in TABLE beside their numbers]:TABLE:_files -g "*.(csv)(-.)"' '1:P:_files -g "*.(toml|rt1553)(-.)"' '2:SCRIPT:_files -g "*.(script)(-.)"' ;;
         draw) _arguments '--help[prints what the command takes]' '--expand[takes messages, too, as `expand` does]' '--html[writes an HTML page, with the table of legal commands]' '--names[puts the names of messages in TABLE beside their numbers]:TABLE:_files -g "*.(csv)(-.)"' '1:P:_files -g "*.(toml|rt1553)(-.)"' '2:SCRIPT:_files -g "*.(script)(-.)"' ;;
         words) _arguments '--help[prints what the command takes]' ;;
         live) _arguments '--help[prints what the command takes]' '1:P:_files -g "*.(toml|rt1553)(-.)"' ;;

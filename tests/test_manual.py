@@ -29,7 +29,7 @@ rt1553 check .|a.toml b.rt1553 sub
 rt1553 run a.toml .|c.script sub
 rt1553 run a.toml c.script .|
 rt1553 compare a.toml .|a.toml b.rt1553 sub
-rt1553-tool .|--help --version acceptance answers canon check check-script compare coverage differ draw expand explain export import infer lint live recording run toml verify words
+rt1553-tool .|--help --version acceptance answers canon check check-script compare coverage differ draw expand explain export import infer lint live messages recording run toml verify words
 rt1553-tool answers --|--expand --help
 rt1553-tool run a.toml .|c.script sub
 rt1553-tool compare a.toml .|a.toml b.rt1553 sub

@@ -9,7 +9,7 @@ use Rattle.clap.specs.Walk.{rows_of}
 use Rattle.clap.specs.declared.parser.matches.Found.{Found}
 use Rattle.clap.specs.declared.parser.matches.ArgMatches.{ArgMatches}
 use Rattle.rt1553_tool_args.specs.declared.command.ToolCommand.{ToolCommand}
-use Rattle.rt1553_tool_args.specs.declared.command.ToolCommand.TheVariants.{Lint, CheckScript, Verify, Witness, Monitor, Coverage, Infer, Import, Export, Expand, Toml, Explain, Differ, Acceptance, Against, Draw, Words, Live, Answers, Check, Canon, Run, Compare}
+use Rattle.rt1553_tool_args.specs.declared.command.ToolCommand.TheVariants.{Lint, CheckScript, Verify, Witness, Monitor, Coverage, Infer, Import, Export, Expand, Toml, Explain, Differ, Acceptance, Against, Messages, Draw, Words, Live, Answers, Check, Canon, Run, Compare}
 use Rattle.rt1553_tool_args.specs.declared.command.Profiles.{Profiles}
 use Rattle.rt1553_tool_args.specs.declared.command.Profiles.TheVariants.{One, Folder}
 use Rattle.rt1553_tool_args.specs.declared.command.ScriptKind.{ScriptKind}
@@ -20,6 +20,8 @@ use Rattle.rt1553_tool_args.specs.declared.command.CoverageFormat.{CoverageForma
 use Rattle.rt1553_tool_args.specs.declared.command.CoverageFormat.TheVariants as coverage
 use Rattle.rt1553_tool_args.specs.declared.command.ReportFormat.{ReportFormat}
 use Rattle.rt1553_tool_args.specs.declared.command.ReportFormat.TheVariants as report
+use Rattle.rt1553_tool_args.specs.declared.command.MessagesFormat.{MessagesFormat}
+use Rattle.rt1553_tool_args.specs.declared.command.MessagesFormat.TheVariants as messages
 use Rattle.rt1553_tool_args.specs.declared.command.TestFormat.{TestFormat}
 use Rattle.rt1553_tool_args.specs.declared.command.TestFormat.TheVariants.{Script, Csv, Json}
 
@@ -43,6 +45,20 @@ HasValue f id v = first_value f id ≡ Some v
 -- the address of a terminal is this number, in decimal digits
 abbrev pub HasAddress : Found → ℕ → Type 0
 HasAddress f a = (text : Text) × HasValue f (codes "address") text × IsNumeral 10 text × (digits_value 10 text ≡ a) × (a ≤ 30)
+
+-- the text is a number up to this one, in decimal digits
+abbrev pub IsNumberUpTo : ℕ → Text → ℕ → Type 0
+IsNumberUpTo most text n = IsNumeral 10 text × (digits_value 10 text ≡ n) × (n ≤ most)
+
+-- an address of the bus, 0 to 30 or all for 31, or none is given
+abbrev pub HasBusAddress : Found → Option ℕ → Type 0
+HasBusAddress f None = first_value f (codes "rt") ≡ None
+HasBusAddress f (Some a) = (text : Text) × HasValue f (codes "rt") text × (((text ≡ codes "all") × (a ≡ 31)) ⊎ IsNumberUpTo 30 text a)
+
+-- a subaddress, 0 to 31, or none is given
+abbrev pub HasSubaddress : Found → Option ℕ → Type 0
+HasSubaddress f None = first_value f (codes "subaddress") ≡ None
+HasSubaddress f (Some s) = (text : Text) × HasValue f (codes "subaddress") text × IsNumberUpTo 31 text s
 
 -- what is said of an option with a value: its value, where it is given
 abbrev pub HasOption : Found → Text → Option (Bor Text) → Type 0
@@ -83,6 +99,10 @@ lint_format_of o = if is_value (codes "json") o then lint.Json else if is_value 
 abbrev pub coverage_format_of : Option Text → CoverageFormat
 coverage_format_of o = if is_value (codes "json") o then coverage.Json else if is_value (codes "html") o then coverage.Html else coverage.Text
 
+-- how the messages of a run are to be written
+abbrev pub messages_format_of : Option Text → MessagesFormat
+messages_format_of o = if is_value (codes "csv") o then messages.Csv else if is_value (codes "json") o then messages.Json else messages.Text
+
 -- how results of scripts are to be written
 abbrev pub report_format_of : Option Text → ReportFormat
 report_format_of o =
@@ -120,6 +140,7 @@ command_name (Explain p json names) = codes "explain"
 command_name (Differ asked) = codes "differ"
 command_name (Acceptance p format names) = codes "acceptance"
 command_name (Against asked) = codes "acceptance"
+command_name (Messages asked) = codes "messages"
 command_name (Draw asked) = codes "draw"
 command_name Words = codes "words"
 command_name (Live p) = codes "live"
@@ -162,6 +183,10 @@ Asks f (Acceptance p format names) =
 Asks f (Against asked) =
     HasValue f (codes "profile") asked.profile.now × HasValue f (codes "against") asked.results.now × (asked.any_subsystem ≡ is_given f (codes "any-subsystem"))
     × (format_of (first_value f (codes "format")) ≡ Script) × HasNames f asked.names
+Asks f (Messages asked) =
+    HasValue f (codes "profile") asked.profile.now × HasValue f (codes "script") asked.script.now × (asked.expand ≡ is_given f (codes "expand"))
+    × HasBusAddress f asked.address × HasSubaddress f asked.subaddress × (asked.errors ≡ is_given f (codes "errors"))
+    × (asked.format ≡ messages_format_of (first_value f (codes "format"))) × HasNames f asked.names
 Asks f (Draw asked) =
     HasValue f (codes "profile") asked.profile.now × HasValue f (codes "script") asked.script.now × (asked.expand ≡ is_given f (codes "expand"))
     × (asked.html ≡ is_given f (codes "html")) × HasNames f asked.names

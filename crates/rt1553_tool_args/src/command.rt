@@ -1,7 +1,7 @@
 //! What the command line asks for.
 ghost use Rattle.std.specs.Prelude.{◌≡◌, IfOk, codes, option_map, true};
 ghost use Rattle.clap.specs.Words.{first_value, found_of};
-ghost use Rattle.rt1553_tool_args.specs.Commands.{Asks, AsksKind, AsksReport, HasAddress, HasOption, HasValue, IsAskedBy, all_values, command_name, coverage_format_of, format_of, is_given, is_json, lint_format_of, report_format_of, texts_of};
+ghost use Rattle.rt1553_tool_args.specs.Commands.{Asks, AsksKind, AsksReport, HasAddress, HasBusAddress, HasSubaddress, HasOption, HasValue, IsAskedBy, IsNumberUpTo, all_values, command_name, coverage_format_of, format_of, is_given, is_json, lint_format_of, messages_format_of, report_format_of, texts_of};
 
 use crate::args::NoCommand;
 use clap::ArgMatches;
@@ -73,6 +73,17 @@ pub enum ReportFormat {
     Junit,
     /// As a page.
     Html,
+}
+
+/// How the messages of a run are written.
+#[derive(Clone, Copy)]
+pub enum MessagesFormat {
+    /// As text.
+    Text,
+    /// As a table, in CSV.
+    Csv,
+    /// As an object of JSON a line.
+    Json,
 }
 
 /// What is asked for of scripts.
@@ -182,6 +193,24 @@ pub struct AskedDrawing<'a> {
     pub names: Option<&'a str>,
 }
 
+/// What is asked for of the messages of a run.
+#[derive(Clone, Copy)]
+pub struct AskedMessages<'a> {
+    pub profile: &'a str,
+    pub script: &'a str,
+    /// The file has messages, which are expanded first.
+    pub expand: bool,
+    /// Only messages of this address, 0 to 31, of which 31 stands for all terminals; None for all messages.
+    pub address: Option<u8>,
+    /// Only messages of this subaddress, 0 to 31; None for all messages.
+    pub subaddress: Option<u8>,
+    /// Only messages that the terminal did not do.
+    pub errors: bool,
+    pub format: MessagesFormat,
+    /// The table with the names of messages, where one is given.
+    pub names: Option<&'a str>,
+}
+
 /// What the command line asks for. The texts are names of files.
 #[derive(Drop)]
 pub enum ToolCommand<'a> {
@@ -232,6 +261,8 @@ pub enum ToolCommand<'a> {
     },
     /// The results of a unit judged by the acceptance test of a terminal.
     Against(AskedResults<'a>),
+    /// The messages of a run, a line each.
+    Messages(AskedMessages<'a>),
     /// A run as a drawing.
     Draw(AskedDrawing<'a>),
     /// Words of the bus by their fields, and fields by words.
@@ -551,6 +582,64 @@ fn draw_command<'a>(given: &ArgMatches<'a>) -> Result<ToolCommand<'a>, NoCommand
     }))
 }
 
+/// A number up to this one, of decimal digits alone.
+fn number_of(text: &str, most: u8) -> Result<u8, NoCommand>
+    ensures { IfOk result (λ n. IsNumberUpTo most text.now n) }
+{
+    match text.parse::<u8>() {
+        Ok(number) if number <= most && !text.starts_with('+') => Ok(number),
+        _ => Err(NoCommand::Usage),
+    }
+}
+
+/// The address of the messages that are asked for, 0 to 30, or `all`, which is 31.
+fn bus_address_of(given: &ArgMatches<'_>) -> Result<Option<u8>, NoCommand>
+    ensures { IfOk result (HasBusAddress (found_of given.now)) }
+{
+    match given.get_str("rt") {
+        Some("all") => Ok(Some(31)),
+        Some(text) => Ok(Some(number_of(text, 30)?)),
+        None => Ok(None),
+    }
+}
+
+/// The subaddress of the messages that are asked for, 0 to 31.
+fn subaddress_of(given: &ArgMatches<'_>) -> Result<Option<u8>, NoCommand>
+    ensures { IfOk result (HasSubaddress (found_of given.now)) }
+{
+    match given.get_str("subaddress") {
+        Some(text) => Ok(Some(number_of(text, 31)?)),
+        None => Ok(None),
+    }
+}
+
+/// How the messages of a run are to be written.
+fn messages_format(given: &ArgMatches<'_>) -> MessagesFormat
+    ensures { result ≡ messages_format_of (first_value (found_of given.now) (codes "format")) }
+{
+    match given.get_str("format") {
+        Some("csv") => MessagesFormat::Csv,
+        Some("json") => MessagesFormat::Json,
+        _ => MessagesFormat::Text,
+    }
+}
+
+/// What `messages` is asked for.
+fn messages_command<'a>(given: &ArgMatches<'a>) -> Result<ToolCommand<'a>, NoCommand>
+    ensures { IfOk result (λ command. (command_name command ≡ codes "messages") × Asks (found_of given.now) command) }
+{
+    Ok(ToolCommand::Messages(AskedMessages {
+        profile: required(given, "profile")?,
+        script: required(given, "script")?,
+        expand: is_flag_given(given, "expand"),
+        address: bus_address_of(given)?,
+        subaddress: subaddress_of(given)?,
+        errors: is_flag_given(given, "errors"),
+        format: messages_format(given),
+        names: names_of(given),
+    }))
+}
+
 /// What `expand` is asked for.
 fn expand_command<'a>(given: &ArgMatches<'a>) -> Result<ToolCommand<'a>, NoCommand>
     ensures { IfOk result (λ command. (command_name command ≡ codes "expand") × Asks (found_of given.now) command) }
@@ -615,6 +704,7 @@ fn command_of<'a>(
         "explain" => explain_command(given),
         "differ" => differ_command(given),
         "acceptance" => acceptance_command(given),
+        "messages" => messages_command(given),
         "draw" => draw_command(given),
         "words" => Ok(ToolCommand::Words),
         "live" => Ok(ToolCommand::Live(required(given, "profile")?)),

@@ -7,7 +7,7 @@ mod table;
 
 pub use args::{NoCommand, VERSION, read_tool_args};
 pub use command::{
-    AskedAnswers, AskedComparison, AskedCoverage, AskedDrawing, AskedProfile, AskedRecording,
-    AskedReport, AskedResults, AskedWitness, CoverageFormat, LintFormat, Profiles, ReportFormat,
-    ScriptKind, TestFormat, ToolCommand,
+    AskedAnswers, AskedComparison, AskedCoverage, AskedDrawing, AskedMessages, AskedProfile,
+    AskedRecording, AskedReport, AskedResults, AskedWitness, CoverageFormat, LintFormat,
+    MessagesFormat, Profiles, ReportFormat, ScriptKind, TestFormat, ToolCommand,
 };

@@ -323,6 +323,37 @@ const DRAW: [Argument; 5] = [
     NAMES,
 ];
 
+const MESSAGES: [Argument; 8] = [
+    PROFILE,
+    SCRIPT,
+    EXPANDED,
+    Argument {
+        id: "rt",
+        given: Occurrence::Value,
+        value: "A",
+        help: "only messages of terminal A, 0 to 30, or all for those by broadcast",
+    },
+    Argument {
+        id: "subaddress",
+        given: Occurrence::Value,
+        value: "S",
+        help: "only messages of subaddress S, 0 to 31",
+    },
+    Argument {
+        id: "errors",
+        given: Occurrence::Flag,
+        value: "",
+        help: "only messages that the terminal did not do, or did not answer",
+    },
+    Argument {
+        id: "format",
+        given: Occurrence::OneOf("text", &TEXT_OR_TABLE),
+        value: "FORMAT",
+        help: "the output format",
+    },
+    NAMES,
+];
+
 const ACCEPTANCE: [Argument; 5] = [
     PROFILE,
     Argument {
@@ -349,7 +380,7 @@ const ACCEPTANCE: [Argument; 5] = [
 const ONE_PROFILE: [Argument; 1] = [PROFILE];
 
 /// The commands; under each heading of the help they stand in this order.
-pub const COMMANDS: [CommandRow; 21] = [
+pub const COMMANDS: [CommandRow; 22] = [
     CommandRow {
         name: "check",
         group: CommandGroup::Profiles,
@@ -475,6 +506,13 @@ pub const COMMANDS: [CommandRow; 21] = [
         about: "Writes the test that distinguishes a terminal from every other",
         example: "Example: rt1553-tool acceptance pump.toml > pump.script",
         arguments: &ACCEPTANCE,
+    },
+    CommandRow {
+        name: "messages",
+        group: CommandGroup::Scripts,
+        about: "Prints a line for each message of a run, and how it ended",
+        example: "Example: rt1553-tool messages pump.toml pump.script",
+        arguments: &MESSAGES,
     },
     CommandRow {
         name: "draw",

@@ -13,6 +13,7 @@ CanEnd (tool.Acceptance p format names) status = status ≡ 0
 CanEnd (tool.Monitor asked) status = status ≡ 0
 CanEnd (tool.Coverage asked scripts) status = status ≡ 0
 CanEnd (tool.Infer asked) status = status ≤ 1
+CanEnd (tool.Messages asked) status = status ≡ 0
 CanEnd (tool.Draw asked) status = status ≡ 0
 CanEnd (tool.Live p) status = status ≡ 0
 CanEnd (tool.Answers asked) status = status ≡ 0

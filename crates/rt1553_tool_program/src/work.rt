@@ -12,8 +12,8 @@ use tool_profiles::{
     differ_profiles, explain_profile, export_file, import_file, lint_files, write_toml,
 };
 use tool_scripts::{
-    bus_words, check_profile, check_scripts, compare_profiles, draw_run, expand_file, play_live,
-    record_table, run_file, state_in_file, write_canonical,
+    bus_words, check_profile, check_scripts, compare_profiles, draw_run, expand_file,
+    list_messages, play_live, record_table, run_file, state_in_file, write_canonical,
 };
 use tool_verify::{cover_scripts, explain_recording, infer_profile, verify_scripts};
 
@@ -55,6 +55,7 @@ fn do_command<R: Files + AllocGlobal + Eprint, I: Read + Drop, W: Write>(
             names,
         } => write_test(rt, profile, *names, *format, screen.has_progress, output),
         ToolCommand::Against(asked) => against(rt, *asked, output),
+        ToolCommand::Messages(asked) => list_messages(rt, *asked, output),
         ToolCommand::Draw(asked) => draw_run(rt, *asked, output),
         ToolCommand::Words => bus_words(rt, input, output),
         ToolCommand::Live(profile) => play_live(rt, profile, input, output),

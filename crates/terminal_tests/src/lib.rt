@@ -12,6 +12,8 @@ mod formats;
 #[cfg(test)]
 mod inferred;
 #[cfg(test)]
+mod messages;
+#[cfg(test)]
 mod recordings;
 #[cfg(test)]
 mod saved;

@@ -1,0 +1,4 @@
+-- What the contracts of private functions speak of.
+pub mod StatusBits
+pub mod Table
+pub mod Kept

@@ -1,0 +1,182 @@
+"""The messages of runs, `rt1553-tool messages`: beside those of a model for messages that look random, and as text, CSV and JSON."""
+
+import csv
+import io
+import json
+import subprocess
+import tomllib
+
+import message_rows
+import play
+import pytest
+import random_scripts
+from programs import Row, check_row, run, with_files, write_files
+from schemas import misfits_of_lines
+
+RUNS = 300
+COLUMNS = ["number", "line", "bus", "kind", "address", "subaddress", "code", "words", "command", "transmitter", "ended", "why", "data",
+           "status", "bits", "handed"]  # fmt: skip
+
+FIVE = 'address = 5\nbroadcast = true\n[[rule]]\nto = "both"\ndirection = "both"\nsubaddresses = "3"\ncounts = 2\n'
+NAMES = "kind,name,subaddress,words,value\naddress,,,,5\nreceive,\"speed, h\u00f6he\",3,2,\n"
+HEADER = "number    line bus kind      RT sub words ended\n"
+SCRIPT = """\
+A c 2862
+A d 0011
+A d 0022
+A gap
+slot
+B c f862
+B d 0001
+B d 0002
+B gap
+A c 2c62
+A gap
+slot
+slot
+slot
+# a transfer from terminal 6, and one between two others
+A c 2862
+A c 3462
+A gap
+A c 3000
+A d 0003
+A d 0004
+A gap
+slot
+A c 3862
+A c 3462
+A gap
+A c 3000
+A d 0005
+A d 0006
+A gap
+A c 3800
+A gap
+flag busy 1
+A c 2862
+A d 0007
+A d 0008
+A gap
+slot
+A c 2863
+A gap
+A c 2c64
+A gap
+slot
+"""
+TEXT = f"""{HEADER}\
+     1       1 A   rx         5   3     2 done; data 0011 0022; status 2800; hand receive own 03 0011 0022
+     2       6 B   rx       all   3     2 done; data 0001 0002; hand receive broadcast 03 0001 0002
+     3      10 A   tx         5   3     2 done; data 0000 0000; status 2800
+     4      16 A   transfer   5   3     2 done; from 6 3; data 0003 0004; status 2800; hand receive own 03 0003 0004
+     5      24 A   transfer   7   3     2 other; from 6 3; data 0005 0006
+     6      34 A   rx         5   3     2 busy; data 0007 0008; status 2808 busy
+     7      39 A   rx         5   3     3 in error, wrong word count
+     8      41 A   tx         5   3     4 illegal; status 2c08 error busy
+"""
+FILES = {"five": FIVE, "script": SCRIPT, "names.csv": NAMES, "bad": "A c 2c02\nA gap\nslot\nA c 2c02\nA gup\n", "long": "A gap\n#" + "x" * 64 + "\n",
+         "messages": "A rx 5 3 2: 0011 0022\nA mode 5 2\n"}  # fmt: skip
+LINES = TEXT.splitlines(keepends=True)
+TOLD = with_files(
+    FILES,
+    Row("messages as text", "messages five script", 0, TEXT),
+    Row("messages of an address", "messages five script --rt 7", 0, HEADER + LINES[5]),
+    Row("messages of a transmitter", "messages five script --rt 6", 0, HEADER + LINES[4] + LINES[5]),
+    Row("messages by broadcast", "messages five script --rt all", 0, HEADER + LINES[2]),
+    Row("messages of a subaddress", "messages five script --subaddress 4", 0, HEADER),
+    Row("messages that were not done", "messages five script --errors", 0, HEADER + "".join(LINES[6:])),
+    Row("messages with names", "messages --names names.csv five script --rt 5 --errors", 0,
+        HEADER + LINES[6].replace("busy; data", 'busy; "speed, höhe"; data')
+        + LINES[7].replace("count\n", 'count; "speed, höhe"\n') + LINES[8]),
+    Row("lines of messages that are expanded", "messages --expand five messages", 0,
+        HEADER + LINES[1] + "     2       2 A   mode       5   2       done; status 2800\n"),
+    Row("a refused line, behind a message", "messages five bad", 2,
+        HEADER + "     1       1 A   mode       5   2       done; status 2800\n",
+        errors="bad:5:3: error: after a bus, c, d, gap or noise is expected\n"),
+    Row("a long line", "messages five long", 2, HEADER, errors="long:2:65: error: a line has at most 64 bytes\n"),
+    Row("an address that no terminal has", "messages five script --rt 31", 3),
+    Row("an address that is no number", "messages five script --rt +5", 3),
+    Row("a subaddress that is too large", "messages five script --subaddress 32", 3),
+    Row("no script", "messages five none", 4, HEADER[:0], errors="file: cannot read none: no such file\n"),
+)  # fmt: skip
+
+
+@pytest.mark.parametrize("row", TOLD, ids=lambda it: it.name)
+def test_messages(tool, row, tmp_path):
+    if row.status == 3:
+        write_files(tmp_path, row.files)
+        assert run(tool, *row.words.split(), folder=tmp_path).status == 3
+    else:
+        check_row(tool, row, tmp_path)
+
+
+def played(number):
+    """A profile, and a script that looks random with its events, by a number."""
+    profile = random_scripts.profile_of(number % 16)
+    setup, lines, events = play.setup_of(tomllib.loads(profile)), [], []
+
+    def note(event, _answer):
+        lines.append(random_scripts.line_of(event))
+        events.append((len(lines), event))
+
+    messages = random_scripts.Messages(setup, (29, 30), number, note)
+    for _ in range(40):
+        messages.message()
+    return profile, setup, "".join(f"{it}\n" for it in lines), events
+
+
+def without_names(row):
+    """A row of JSON without what mode codes are called."""
+    for it in (row["command"], row["transmitter"]):
+        if it is not None:
+            assert (it.pop("mode") is None) == (it["code"] is None)
+    return row
+
+
+def test_messages_of_the_model(tool, tmp_path):
+    """The rows are those of the model, and fit their schema."""
+    ends = set()
+    for number in range(RUNS):
+        profile, setup, script, events = played(number)
+        write_files(tmp_path, {"profile": profile, "script": script})
+        given = run(tool, "messages", "--format", "json", "profile", "script", folder=tmp_path)
+        assert (given.status, given.errors) == (0, b"")
+        rows = message_rows.rows_of(setup, events)
+        assert [without_names(json.loads(it)) for it in given.output.splitlines()] == rows, number
+        ends |= {(it["ended"], it["why"]) for it in rows}
+        if number < 20:
+            assert misfits_of_lines(given.output, "docs/messages.schema.json") == []
+    assert {it for it, _ in ends} >= {"done", "busy", "illegal", "in error", "superseded", "ignored", "other"}
+    assert {it for _, it in ends} >= {"wrong word count", "invalid word or noise", "command within", "gap within",
+                                      "no status from the transmitter", "transmitter shut down"}  # fmt: skip
+
+
+def test_messages_as_a_table(tool, tmp_path):
+    """CSV has what JSON has, with names and without."""
+    write_files(tmp_path, FILES)
+    for names in ([], ["--names", "names.csv"]):
+        words = ["messages", *names, "five", "script", "--format"]
+        objects = [json.loads(it) for it in run(tool, *words, "json", folder=tmp_path).output.splitlines()]
+        text = run(tool, *words, "csv", folder=tmp_path).output.decode()
+        header, *rows = csv.reader(io.StringIO(text, newline=""))
+        assert header == [*COLUMNS, *["name"][: len(names)]]
+        assert text.count("\r\n") == len(rows) + 1
+        assert [dict(zip(header, it, strict=True)) for it in rows] == [in_cells(it) for it in objects]
+
+
+def in_cells(row):
+    """A row of JSON as the cells of CSV."""
+    command, second = row["command"], row["transmitter"]
+    cells = [row["number"], row["line"], row["bus"], row["kind"], "all" if command["address"] == 31 else command["address"],
+             command["subaddress"], command["code"], command["count"], command["word"], second and second["word"], row["ended"], row["why"],
+             " ".join(row["data"]), row["status"], " ".join(row["bits"]), row["handed"]]  # fmt: skip
+    told = dict(zip(COLUMNS, ("" if it is None else str(it) for it in cells), strict=True))
+    return {**told, "name": row["name"] or ""} if "name" in row else told
+
+
+def test_messages_to_a_closed_pipe(tool, tmp_path):
+    write_files(tmp_path, {**FILES, "long": SCRIPT * 2000})
+    with subprocess.Popen([tool, "messages", "five", "long"], cwd=tmp_path, stdout=subprocess.PIPE, stderr=subprocess.PIPE) as ended:
+        ended.stdout.close()
+        assert (ended.wait(60), ended.stderr.read()) == (4, b"output: write failed\n")
