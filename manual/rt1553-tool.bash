@@ -29,7 +29,7 @@ _rt1553_tool() {
         acceptance:--names) mapfile -t COMPREPLY < <(compgen -f -X '!*.csv' -- "$now"; compgen -d -- "$now"); return ;;
         messages:--rt) return ;;
         messages:--subaddress) return ;;
-        messages:--format) mapfile -t COMPREPLY < <(compgen -W 'text csv json' -- "$now"); return ;;
+        messages:--format) mapfile -t COMPREPLY < <(compgen -W 'text csv json messages' -- "$now"); return ;;
         messages:--names) mapfile -t COMPREPLY < <(compgen -f -X '!*.csv' -- "$now"; compgen -d -- "$now"); return ;;
         draw:--names) mapfile -t COMPREPLY < <(compgen -f -X '!*.csv' -- "$now"; compgen -d -- "$now"); return ;;
     esac

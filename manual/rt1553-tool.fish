@@ -74,7 +74,7 @@ complete -c rt1553-tool -n '__fish_seen_subcommand_from messages' -l expand -d '
 complete -c rt1553-tool -n '__fish_seen_subcommand_from messages' -l rt -x -d 'only messages of terminal A, 0 to 30, or all for those by broadcast'
 complete -c rt1553-tool -n '__fish_seen_subcommand_from messages' -l subaddress -x -d 'only messages of subaddress S, 0 to 31'
 complete -c rt1553-tool -n '__fish_seen_subcommand_from messages' -l errors -d 'only messages that the terminal did not do, or did not answer'
-complete -c rt1553-tool -n '__fish_seen_subcommand_from messages' -l format -x -a 'text csv json' -d 'the output format'
+complete -c rt1553-tool -n '__fish_seen_subcommand_from messages' -l format -x -a 'text csv json messages' -d 'the output format'
 complete -c rt1553-tool -n '__fish_seen_subcommand_from messages' -l names -r -F -d 'puts the names of messages in TABLE beside their numbers'
 complete -c rt1553-tool -n '__fish_seen_subcommand_from messages' -F
 complete -c rt1553-tool -n __fish_use_subcommand -a draw -d 'Draws a run: the words on the buses, and what is handed over'

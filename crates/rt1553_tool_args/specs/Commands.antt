@@ -9,7 +9,7 @@ use Rattle.clap.specs.Walk.{rows_of}
 use Rattle.clap.specs.declared.parser.matches.Found.{Found}
 use Rattle.clap.specs.declared.parser.matches.ArgMatches.{ArgMatches}
 use Rattle.rt1553_tool_args.specs.declared.command.ToolCommand.{ToolCommand}
-use Rattle.rt1553_tool_args.specs.declared.command.ToolCommand.TheVariants.{Lint, CheckScript, Verify, Witness, Monitor, Coverage, Infer, Import, Export, Expand, Toml, Explain, Differ, Acceptance, Against, Messages, Draw, Words, Live, Answers, Check, Canon, Run, Compare}
+use Rattle.rt1553_tool_args.specs.declared.command.ToolCommand.TheVariants.{Lint, CheckScript, Verify, Witness, Monitor, Coverage, Infer, Import, Export, Expand, Toml, Explain, Differ, Acceptance, Against, Messages, Gather, Draw, Words, Live, Answers, Check, Canon, Run, Compare}
 use Rattle.rt1553_tool_args.specs.declared.command.Profiles.{Profiles}
 use Rattle.rt1553_tool_args.specs.declared.command.Profiles.TheVariants.{One, Folder}
 use Rattle.rt1553_tool_args.specs.declared.command.ScriptKind.{ScriptKind}
@@ -141,6 +141,7 @@ command_name (Differ asked) = codes "differ"
 command_name (Acceptance p format names) = codes "acceptance"
 command_name (Against asked) = codes "acceptance"
 command_name (Messages asked) = codes "messages"
+command_name (Gather asked) = codes "messages"
 command_name (Draw asked) = codes "draw"
 command_name Words = codes "words"
 command_name (Live p) = codes "live"
@@ -187,6 +188,9 @@ Asks f (Messages asked) =
     HasValue f (codes "profile") asked.profile.now × HasValue f (codes "script") asked.script.now × (asked.expand ≡ is_given f (codes "expand"))
     × HasBusAddress f asked.address × HasSubaddress f asked.subaddress × (asked.errors ≡ is_given f (codes "errors"))
     × (asked.format ≡ messages_format_of (first_value f (codes "format"))) × HasNames f asked.names
+Asks f (Gather asked) =
+    HasValue f (codes "profile") asked.profile.now × HasValue f (codes "script") asked.script.now × (asked.expand ≡ is_given f (codes "expand"))
+    × HasValue f (codes "format") (codes "messages") × HasBusAddress f None × HasSubaddress f None × (is_given f (codes "errors") ≡ false) × HasNames f None
 Asks f (Draw asked) =
     HasValue f (codes "profile") asked.profile.now × HasValue f (codes "script") asked.script.now × (asked.expand ≡ is_given f (codes "expand"))
     × (asked.html ≡ is_given f (codes "html")) × HasNames f asked.names

@@ -263,6 +263,8 @@ pub enum ToolCommand<'a> {
     Against(AskedResults<'a>),
     /// The messages of a run, a line each.
     Messages(AskedMessages<'a>),
+    /// The events of a script as messages that `expand` reads.
+    Gather(AskedAnswers<'a>),
     /// A run as a drawing.
     Draw(AskedDrawing<'a>),
     /// Words of the bus by their fields, and fields by words.
@@ -624,10 +626,33 @@ fn messages_format(given: &ArgMatches<'_>) -> MessagesFormat
     }
 }
 
+/// What `messages` is asked for where messages are written as `expand` reads them: all of them, without names.
+fn gather_command<'a>(given: &ArgMatches<'a>) -> Result<ToolCommand<'a>, NoCommand>
+    ensures { IfOk result (λ command. (command_name command ≡ codes "messages") × Asks (found_of given.now) command) }
+{
+    let profile = required(given, "profile")?;
+    let script = required(given, "script")?;
+    let format = given.get_str("format");
+    let chosen = (given.get_str("rt"), given.get_str("subaddress"));
+    match (format, chosen, names_of(given)) {
+        (Some("messages"), (None, None), None) if !is_flag_given(given, "errors") => {
+            Ok(ToolCommand::Gather(AskedAnswers {
+                profile,
+                script,
+                expand: is_flag_given(given, "expand"),
+            }))
+        }
+        _ => Err(NoCommand::Usage),
+    }
+}
+
 /// What `messages` is asked for.
 fn messages_command<'a>(given: &ArgMatches<'a>) -> Result<ToolCommand<'a>, NoCommand>
     ensures { IfOk result (λ command. (command_name command ≡ codes "messages") × Asks (found_of given.now) command) }
 {
+    if given.get_str("format") == Some("messages") {
+        return gather_command(given);
+    }
     Ok(ToolCommand::Messages(AskedMessages {
         profile: required(given, "profile")?,
         script: required(given, "script")?,

@@ -78,6 +78,8 @@ const TEXT_OR_REPORT: [&str; 4] = ["text", "json", "junit", "html"];
 
 const TEXT_OR_TABLE: [&str; 3] = ["text", "csv", "json"];
 
+const MESSAGE_FORMATS: [&str; 4] = ["text", "csv", "json", "messages"];
+
 const FORMAT: Argument = Argument {
     id: "format",
     given: Occurrence::OneOf("text", &TEXT_OR_JSON),
@@ -347,7 +349,7 @@ const MESSAGES: [Argument; 8] = [
     },
     Argument {
         id: "format",
-        given: Occurrence::OneOf("text", &TEXT_OR_TABLE),
+        given: Occurrence::OneOf("text", &MESSAGE_FORMATS),
         value: "FORMAT",
         help: "the output format",
     },

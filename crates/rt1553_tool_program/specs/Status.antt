@@ -14,6 +14,7 @@ CanEnd (tool.Monitor asked) status = status ≡ 0
 CanEnd (tool.Coverage asked scripts) status = status ≡ 0
 CanEnd (tool.Infer asked) status = status ≤ 1
 CanEnd (tool.Messages asked) status = status ≡ 0
+CanEnd (tool.Gather asked) status = status ≡ 0
 CanEnd (tool.Draw asked) status = status ≡ 0
 CanEnd (tool.Live p) status = status ≡ 0
 CanEnd (tool.Answers asked) status = status ≡ 0

@@ -13,7 +13,7 @@ use tool_profiles::{
 };
 use tool_scripts::{
     bus_words, check_profile, check_scripts, compare_profiles, draw_run, expand_file,
-    list_messages, play_live, record_table, run_file, state_in_file, write_canonical,
+    gather_script, list_messages, play_live, record_table, run_file, state_in_file, write_canonical,
 };
 use tool_verify::{cover_scripts, explain_recording, infer_profile, verify_scripts};
 
@@ -56,6 +56,7 @@ fn do_command<R: Files + AllocGlobal + Eprint, I: Read + Drop, W: Write>(
         } => write_test(rt, profile, *names, *format, screen.has_progress, output),
         ToolCommand::Against(asked) => against(rt, *asked, output),
         ToolCommand::Messages(asked) => list_messages(rt, *asked, output),
+        ToolCommand::Gather(asked) => gather_script(rt, *asked, output),
         ToolCommand::Draw(asked) => draw_run(rt, *asked, output),
         ToolCommand::Words => bus_words(rt, input, output),
         ToolCommand::Live(profile) => play_live(rt, profile, input, output),

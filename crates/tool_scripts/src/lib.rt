@@ -4,6 +4,7 @@
 mod answers;
 mod draw;
 mod expand;
+mod gather;
 mod live;
 mod messages;
 mod recording;
@@ -16,6 +17,7 @@ mod words;
 pub use answers::state_in_file;
 pub use draw::draw_run;
 pub use expand::expand_file;
+pub use gather::gather_script;
 pub use live::play_live;
 pub use messages::list_messages;
 pub use recording::record_table;
