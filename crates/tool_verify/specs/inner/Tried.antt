@@ -1,5 +1,5 @@
 -- A script that was tried.
-use Rattle.std.specs.Prelude.{ℕ, ◌≡◌, List, IfOk}
+use Rattle.std.specs.Prelude.{IfOk}
 use Rattle.rt1553_report.specs.Results.{outcome_passes}
 use Rattle.tool_files.specs.declared.files.LoadedProfile.{LoadedProfile}
 use Rattle.tool_files.specs.declared.loaded.LoadedScript.{LoadedScript}
