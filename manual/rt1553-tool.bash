@@ -11,6 +11,7 @@ _rt1553_tool() {
         verify:--profiles) mapfile -t COMPREPLY < <(compgen -d -- "$now"); return ;;
         verify:--format) mapfile -t COMPREPLY < <(compgen -W 'text json junit html' -- "$now"); return ;;
         verify:--names) mapfile -t COMPREPLY < <(compgen -f -X '!*.csv' -- "$now"; compgen -d -- "$now"); return ;;
+        verify:--date) return ;;
         recording:--address) return ;;
         recording:--gap) return ;;
         recording:--no-response) return ;;
@@ -40,7 +41,7 @@ _rt1553_tool() {
         run) flags='--help' kinds=(profile script) many='' ;;
         lint) flags='--format --help' kinds=(profile) many='profile' ;;
         check-script) flags='--help' kinds=(script) many='script' ;;
-        verify) flags='--summary --bus-only --any-subsystem --already-on --witness --expand --profiles --format --names --help' kinds=(profile script) many='script' ;;
+        verify) flags='--summary --bus-only --any-subsystem --already-on --witness --expand --profiles --format --names --date --help' kinds=(profile script) many='script' ;;
         answers) flags='--expand --help' kinds=(profile script) many='' ;;
         recording) flags='--address --gap --no-response --pause --help' kinds=(table) many='' ;;
         coverage) flags='--expand --format --names --help' kinds=(profile script) many='script' ;;
@@ -64,6 +65,7 @@ _rt1553_tool() {
             verify:--profiles) kinds=("${kinds[@]:1}") index=$((index + 1)) ;;
             verify:--format) index=$((index + 1)) ;;
             verify:--names) index=$((index + 1)) ;;
+            verify:--date) index=$((index + 1)) ;;
             recording:--address) index=$((index + 1)) ;;
             recording:--gap) index=$((index + 1)) ;;
             recording:--no-response) index=$((index + 1)) ;;

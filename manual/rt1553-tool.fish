@@ -25,6 +25,7 @@ complete -c rt1553-tool -n '__fish_seen_subcommand_from verify' -l expand -d 'ta
 complete -c rt1553-tool -n '__fish_seen_subcommand_from verify' -l profiles -x -a '(__fish_complete_directories)' -d 'in place of P: each script names its profile in FOLDER'
 complete -c rt1553-tool -n '__fish_seen_subcommand_from verify' -l format -x -a 'text json junit html' -d 'the output format'
 complete -c rt1553-tool -n '__fish_seen_subcommand_from verify' -l names -r -F -d 'puts the names of messages in TABLE beside their numbers'
+complete -c rt1553-tool -n '__fish_seen_subcommand_from verify' -l date -x -d 'the date of the report, as 2026-01-31T12:00:00, also with Z or an offset'
 complete -c rt1553-tool -n '__fish_seen_subcommand_from verify' -F
 complete -c rt1553-tool -n __fish_use_subcommand -a answers -d 'Writes a script with the answers of a terminal stated'
 complete -c rt1553-tool -n '__fish_seen_subcommand_from answers' -l expand -d 'takes messages, too, as `expand` does'

@@ -6,7 +6,7 @@ made of docs/script.md and docs/profile.md.
     scripts/manual.py version    prints the version of the programs, as it stands in the program's source
 
 tests/test_manual.py compares the files with what is written, and the description with what the programs say of themselves and do.
-The version in a page is that of `rt1553-tool --version`: both are the constant VERSION of the program's source.
+The version in a page is that of `rt1553-tool --version`: both stand in the program's source.
 """
 import pathlib
 import re
@@ -16,7 +16,7 @@ import tomllib
 
 TOP = pathlib.Path(__file__).resolve().parent.parent
 WORDS = TOP / "manual/arguments.toml"
-VERSION = TOP / "crates/rt1553_tool_args/src/args.rt"
+VERSIONS = TOP / "crates/rt1553_tool_args/src/versions.rt"
 MADE = "made by scripts/manual.py of manual/arguments.toml"
 # the endings by which files are completed
 ENDINGS = {
@@ -26,8 +26,7 @@ ENDINGS = {
 
 def version():
     """The version of the programs, and that of the canonical text which they write."""
-    found = re.search(r'^pub const VERSION: &str = "(\S+) \(canonical text (\d+)\)";$', VERSION.read_text(), re.MULTILINE)
-    return found[1], found[2]
+    return re.search(r'\$told!\("([^"]+)", "(\d+)", "[^"]+"\)$', VERSIONS.read_text(), re.MULTILINE).groups()
 
 
 # --- man pages, in mdoc ---
@@ -295,7 +294,7 @@ def bash_of(program):
         for option in command.get("options", []):
             if "values" in option:
                 yield f"        {command['name']}:{option['name']}) mapfile -t COMPREPLY < <(compgen -W '{' '.join(option['values'])}' -- \"$now\"); return ;;"
-            elif option.get("kind") == "number":
+            elif option.get("kind") in ("number", "date"):
                 yield f"        {command['name']}:{option['name']}) return ;;"
             elif "value" in option:
                 yield f"        {command['name']}:{option['name']}) mapfile -t COMPREPLY < <({bash_files(option['kind'])}); return ;;"
@@ -352,7 +351,7 @@ def zsh_specs(command):
         value = ""
         if "values" in option:
             value = f":{option['value']}:({' '.join(option['values'])})"
-        elif option.get("kind") == "number":
+        elif option.get("kind") in ("number", "date"):
             value = f":{option['value']}: "
         elif "value" in option:
             value = f":{option['value']}:{zsh_files(option['kind'])}"
@@ -414,7 +413,7 @@ def fish_of(program):
             value = ""
             if "values" in option:
                 value = f" -x -a '{' '.join(option['values'])}'"
-            elif option.get("kind") == "number":
+            elif option.get("kind") in ("number", "date"):
                 value = " -x"
             elif "value" in option:
                 value = " -r -F" if ENDINGS[option["kind"]] else " -x -a '(__fish_complete_directories)'"

@@ -4,13 +4,15 @@ What a format says is compared with the text format: each script, its status, it
 A page has no code, and the page of `coverage` says what its JSON says.
 """
 
+import hashlib
 import html.parser
 import json
+import pathlib
 import re
 import urllib.parse
 import xml.etree.ElementTree as xml
 
-from programs import run
+from programs import TOP, run
 from schemas import misfits
 
 HTML, SVG = "{http://www.w3.org/1999/xhtml}", "{http://www.w3.org/2000/svg}"
@@ -18,6 +20,10 @@ VOID = {"area", "base", "br", "col", "hr", "img", "input", "link", "meta", "sour
 CONTROLS = [chr(it) for it in range(1, 32) if it != 10] + [chr(127)] + [chr(it) for it in range(128, 160)]
 TURNING = [chr(it) for it in [*range(0x2028, 0x202F), *range(0x2066, 0x206A)]]
 NEVER = set(CONTROLS + TURNING)
+# the versions that a report tells, which `--version` prints
+KIT = re.search("^export KIT = (.*)$", (TOP / "Makefile").read_text(encoding="utf-8"), re.MULTILINE)[1]
+VERSIONS = {"program": "0.1", "toolchain": KIT, "canonical": "2"}
+DIGESTS = ["sha256", "profile_sha256", "canonical_sha256"]
 
 
 def lines_of(output):
@@ -36,6 +42,30 @@ class Shown(dict):
         told = run(self.tool, "toml", f"no/{text}").errors.decode()
         self[text] = told.removeprefix("file: cannot read no/").removesuffix("\n").removesuffix(": no such file")
         return self[text]
+
+
+class Digests:
+    """SHA-256 digests of files by their names, as Python computes them; None of one that is not there."""
+
+    def __init__(self, tool, folder, profiles=""):
+        self.tool, self.folder, self.profiles = tool, pathlib.Path(folder), profiles
+
+    def of(self, name):
+        try:
+            return hashlib.sha256((self.folder / name).read_bytes()).hexdigest()
+        except OSError:
+            return None
+
+    def canonical(self, name):
+        given = run(self.tool, "canon", name, folder=self.folder)
+        return hashlib.sha256(given.output).hexdigest() if given.status == 0 else None
+
+    def of_script(self, one):
+        """The digests of the object of a script whose profile, if it is there, is loaded."""
+        inside = one["profile"] is not None and ".." not in one["profile"].split("/")
+        profile = pathlib.Path(self.profiles, one["profile"]) if inside else None
+        own = profile and self.of(profile)
+        return [self.of(one["file"]), own, own and self.canonical(profile)]
 
 
 # what the text format tells
@@ -84,13 +114,22 @@ def look_at_json(text, told, names, profile, shown):
     assert [it for one in found for it in misfits(one, "docs/verify.schema.json")] == []
     assert [one["file"] for one in found] == names
     for one in found:
-        assert list(one) == ["file", "profile", "passes", "answers", "warning", "clauses", "differences", "fault"]
+        assert list(one) == ["file", "profile", "passes", "answers", "warning", "clauses", "differences", "fault",
+                             *DIGESTS, "names", "names_sha256", *VERSIONS, "date"]  # fmt: skip
+        assert {it: one[it] for it in VERSIONS} == VERSIONS
         look_at_object(one, told, shown[one["file"]])
         assert profile in (None, one["profile"])
     assert [one["fault"] for one in found if one["fault"]] == told.faults
     assert [f"{shown[one['file']]}: warning: {one['warning']}" for one in found if one["warning"]] == told.warnings
     assert sorted(summed(found)) == sorted(told.clauses)
     return found
+
+
+def look_at_digests(found, digests, names=None, date=None):
+    """The digests, the table of names and the date in the objects of JSON."""
+    for one in found:
+        assert [one[it] for it in DIGESTS] == digests.of_script(one)
+        assert (one["names"], one["names_sha256"], one["date"]) == (names, names and digests.of(names), date)
 
 
 def look_at_object(one, told, name):
@@ -130,19 +169,28 @@ def look_at_junit(text, found, shown):
     suite = root[0]
     failures, errors = (sum(bool(one[it]) for one in found) for it in ("differences", "fault"))
     wanted = {"tests": str(len(found)), "failures": str(failures), "errors": str(errors), "skipped": "0", "time": "0"}
+    head = found[0]
     assert root.attrib == wanted
-    assert suite.attrib == {"name": "rt1553-tool verify", **wanted}
+    assert suite.attrib == {"name": "rt1553-tool verify", **wanted, **({"timestamp": head["date"]} if head["date"] else {})}
     assert [len(root.findall(f".//{it}")) for it in ("testcase", "failure", "error")] == [len(found), failures, errors]
-    assert [it.tag for it in suite] == ["testcase"] * len(found)
-    for case, one in zip(suite, found):
+    assert [it.tag for it in suite] == ["properties"] + ["testcase"] * len(found)
+    table = [("names", shown[head["names"]]), ("names_sha256", head["names_sha256"])] if head["names"] else []
+    assert properties_of(suite) == [*VERSIONS.items(), *table]
+    for case, one in zip(suite[1:], found):
         look_at_case(case, one, shown[one["file"]], "no profile" if one["profile"] is None else shown[one["profile"]])
+
+
+def properties_of(element):
+    assert all(list(it.attrib) == ["name", "value"] for it in element.findall("properties/property"))
+    return [(it.get("name"), it.get("value")) for it in element.findall("properties/property")]
 
 
 def look_at_case(case, one, name, profile):
     assert case.attrib == {"name": name, "classname": profile, "time": "0"}
-    assert [it.attrib for it in case.findall("properties/property")] == [{"name": "clause", "value": it} for it in one["clauses"]]
-    kinds = {"properties": "clauses", "failure": "differences", "error": "fault", "system-err": "warning"}
-    assert [it.tag for it in case] == [tag for tag, key in kinds.items() if one[key]]
+    properties = [(it, one[it]) for it in DIGESTS if one[it]] + [("clause", it) for it in one["clauses"]]
+    assert properties_of(case) == properties
+    kinds = {"properties": properties, "failure": one["differences"], "error": one["fault"], "system-err": one["warning"]}
+    assert [it.tag for it in case] == [tag for tag, it in kinds.items() if it]
     if one["differences"]:
         failure = case.find("failure")
         assert failure.get("message") == f"differences: {len(one['differences'])}"
@@ -205,22 +253,44 @@ def body_of(text):
     return root.find(f"{HTML}body")
 
 
+def digest_row(what, name, own, canonical, shown):
+    """The row of a file, with the digests that there are."""
+    told = {"SHA-256": own, "SHA-256 of its canonical text": canonical}
+    return [what, shown[name] + "".join(f"{of} {digest}" for of, digest in told.items() if digest)]
+
+
+def head_rows(found, shown):
+    """What was tested: versions, date, table of names, and each profile once."""
+    head = found[0]
+    first = {one["profile"]: one for one in reversed(found) if one["profile"] is not None}
+    profiles = dict.fromkeys(one["profile"] for one in found if one["profile"] is not None)
+    rows = [[what, head[it]] for what, it in zip(("rt1553-tool", "toolchain", "canonical text", "date"), (*VERSIONS, "date")) if head[it]]
+    rows += [digest_row("names", head["names"], head["names_sha256"], None, shown)] if head["names"] else []
+    return rows + [digest_row("profile", it, first[it]["profile_sha256"], first[it]["canonical_sha256"], shown) for it in profiles]
+
+
+def script_row(one, shown):
+    result = "passes" if one["passes"] else "differs" if one["differences"] else "not played"
+    profile, answers = shown[one["profile"] or ""], "" if one["answers"] is None else str(one["answers"])
+    return [shown[one["file"]], profile, result, answers, "".join(one["clauses"]), one["sha256"] or ""]
+
+
 def look_at_page(text, found, clauses, shown):
     """A page beside the objects of JSON, and the rows clause by clause of the text."""
     body = body_of(text)
     passed = sum(one["passes"] for one in found)
     assert texts_of(body, "h1")[0] == f"Tests of a terminal: {passed} of {len(found)} scripts pass"
     tables = body.findall(f"{HTML}table")
-    profiles = dict.fromkeys(shown[one["profile"]] for one in found if one["profile"] is not None)
-    rows = {
+    counts = {
         "scripts": len(found),
         "scripts that pass": passed,
         "scripts that differ": sum(bool(one["differences"]) for one in found),
         "scripts refused or not read": sum(bool(one["fault"]) for one in found),
         "answers stated": sum(one["answers"] or 0 for one in found),
     }
-    assert rows_in(tables[0]) == [["profiles", "".join(profiles)], *([what, str(count)] for what, count in rows.items())]
+    assert rows_in(tables[0]) == [*head_rows(found, shown), *([what, str(count)] for what, count in counts.items())]
     assert rows_in(tables[1]) == [["clause", "passed", "of"], *([clause, str(a), str(b)] for clause, a, b in clauses)]
+    assert rows_in(tables[2]) == [["script", "profile", "result", "answers", "clauses", "SHA-256"], *(script_row(one, shown) for one in found)]
     warned = [f"{shown[one['file']]}: {one['warning']}" for one in found if one["warning"]]
     assert [it for it in texts_of(body, "p") if it in warned] == warned
     assert ("Warnings" in texts_of(body, "h2")) == bool(warned)
@@ -228,7 +298,7 @@ def look_at_page(text, found, clauses, shown):
     assert texts_of(body, "h3") == [shown[one["file"]] for one in others]
     wrong = [one["differences"] for one in others if one["differences"]]
     fields = [[[str(it["line"]), it["expected"] or "nothing", it["came"] or "nothing"] for it in differences] for differences in wrong]
-    assert [rows_in(it)[1:] for it in tables[2:]] == fields
+    assert [rows_in(it)[1:] for it in tables[3:]] == fields
 
 
 def drawn_lines(page, name):

@@ -1,10 +1,12 @@
 """The reports of `rt1553-tool` that machines read: `verify` and `coverage` in each format, and `lint` as SARIF.
 
 Plays the protocol tests, and scripts made here that pass, differ, are refused or can't be read. Names of files, clauses, answers,
-keys and values of profiles have each character that would mean something in XML, JSON or HTML or to a terminal. A report has no times,
-so that it is the same each time. What each must be like is in tests/reports.py.
+keys and values of profiles have each character that would mean something in XML, JSON or HTML or to a terminal. A report has no time but
+a date that is given, so that it is the same each time. What each must be like is in tests/reports.py.
 """
 
+import datetime
+import hashlib
 import json
 import os
 import subprocess
@@ -96,13 +98,15 @@ def verify(tool, tmp_path):
 
 @pytest.mark.parametrize("it", VERIFIED, ids=lambda it: it.name)
 @pytest.mark.parametrize("form", FORMATS)
-def test_report(verify, shown, it, form):
-    """Each format says the same as the text format, and has the same status and the same faults."""
+def test_report(tool, verify, shown, it, form, tmp_path):
+    """Each format says the same as the text format, has the same status and the same faults, and is the same each time."""
     told = reports.Told(verify(it, "--summary"), [shown[name] for name in it.names])
     given = verify(it, "--format", form)
     assert (given.status, reports.lines_of(given.errors)) == (told.status, told.told)
     profile = it.words[0] if len(it.words) == 1 else None
     found = reports.look_at_json(verify(it, "--format", "json").output.decode(), told, it.names, profile, shown)
+    reports.look_at_digests(found, reports.Digests(tool, tmp_path if it.files else TOP, "" if profile else it.words[1]))
+    assert given == verify(it, "--format", form)
     if form == "junit":
         reports.look_at_junit(given.output.decode(), found, shown)
     elif form == "html":
@@ -123,29 +127,45 @@ def test_profiles_in_a_report(verify):
 
 ROWS = with_files(
     SMALL,
-    Row("JSON to the byte", "verify --format json five good wrong broken none", 4,
-        '{"file":"good","profile":"five","passes":true,"answers":1,"warning":null,"clauses":["5.2.1","5.2.1.1"],"differences":[],"fault":null}\n'
-        '{"file":"wrong","profile":"five","passes":false,"answers":3,"warning":null,"clauses":["5.2.1"],"differences":['
-        '{"line":4,"expected":"A s 2c00","came":"A s 2800"},{"line":6,"expected":"A d 0000","came":null},'
-        '{"line":15,"expected":null,"came":"A s 2800"}],"fault":null}\n'
-        '{"file":"broken","profile":"five","passes":false,"answers":null,"warning":null,"clauses":[],"differences":[],'
-        '"fault":"broken: script: line 3, column 5: a space at the end: nothing may follow the last field"}\n'
-        '{"file":"none","profile":"five","passes":false,"answers":null,"warning":null,"clauses":[],"differences":[],'
-        '"fault":"file: cannot read none: no such file"}\n',
-        "broken: script: line 3, column 5: a space at the end: nothing may follow the last field\nfile: cannot read none: no such file\n"),
-    Row("JUnit to the byte", "verify --format junit five good wrong none", 4, """\
+    *(Row(f"--summary beside {it}", f"verify --summary --format {it} five good", 3, errors="arguments: see --help\n") for it in FORMATS),
+    *(Row(f"a profile that is not there: {it}", f"verify --format {it} none good", 4, errors="file: cannot read none: no such file\n") for it in FORMATS),
+)  # fmt: skip
+
+
+# a report to the byte: of the scripts `good`, `wrong` and `none`, with digests of `five`, of its canonical text, and of the scripts
+
+JSON = """\
+{{"file":"good","profile":"five","passes":true,"answers":1,"warning":null,"clauses":["5.2.1","5.2.1.1"],"differences":[],"fault":null,\
+"sha256":"{good}",{rest}
+{{"file":"wrong","profile":"five","passes":false,"answers":3,"warning":null,"clauses":["5.2.1"],"differences":[\
+{{"line":4,"expected":"A s 2c00","came":"A s 2800"}},{{"line":6,"expected":"A d 0000","came":null}},\
+{{"line":15,"expected":null,"came":"A s 2800"}}],"fault":null,"sha256":"{wrong}",{rest}
+{{"file":"none","profile":"five","passes":false,"answers":null,"warning":null,"clauses":[],"differences":[],\
+"fault":"file: cannot read none: no such file","sha256":null,{rest}
+"""
+REST = """\
+"profile_sha256":"{five}","canonical_sha256":"{canonical}","names":null,"names_sha256":null,"program":"0.1","toolchain":"{kit}",\
+"canonical":"2","date":"2026-01-31T12:00:00Z"}}"""
+JUNIT = """\
 <?xml version="1.0" encoding="UTF-8"?>
 <testsuites tests="3" failures="1" errors="1" skipped="0" time="0">
-<testsuite name="rt1553-tool verify" tests="3" failures="1" errors="1" skipped="0" time="0">
+<testsuite name="rt1553-tool verify" tests="3" failures="1" errors="1" skipped="0" time="0" timestamp="2026-01-31T12:00:00Z">
+<properties>
+<property name="program" value="0.1"/>
+<property name="toolchain" value="{kit}"/>
+<property name="canonical" value="2"/>
+</properties>
 <testcase name="good" classname="five" time="0">
 <properties>
-<property name="clause" value="5.2.1"/>
+<property name="sha256" value="{good}"/>
+{profile}<property name="clause" value="5.2.1"/>
 <property name="clause" value="5.2.1.1"/>
 </properties>
 </testcase>
 <testcase name="wrong" classname="five" time="0">
 <properties>
-<property name="clause" value="5.2.1"/>
+<property name="sha256" value="{wrong}"/>
+{profile}<property name="clause" value="5.2.1"/>
 </properties>
 <failure message="differences: 3">wrong:4: expected A s 2c00, came A s 2800
 wrong:6: expected A d 0000, came nothing
@@ -153,14 +173,112 @@ wrong:15: expected nothing, came A s 2800
 </failure>
 </testcase>
 <testcase name="none" classname="five" time="0">
+<properties>
+{profile}</properties>
 <error message="file: cannot read none: no such file"/>
 </testcase>
 </testsuite>
 </testsuites>
-""", "file: cannot read none: no such file\n"),
-    *(Row(f"--summary beside {it}", f"verify --summary --format {it} five good", 3, errors="arguments: see --help\n") for it in FORMATS),
-    *(Row(f"a profile that is not there: {it}", f"verify --format {it} none good", 4, errors="file: cannot read none: no such file\n") for it in FORMATS),
-)  # fmt: skip
+"""
+PROFILE = '<property name="profile_sha256" value="{five}"/>\n<property name="canonical_sha256" value="{canonical}"/>\n'
+DATED = ["--date", "2026-01-31T12:00:00Z"]
+
+
+@pytest.mark.parametrize("form, text", [("json", JSON), ("junit", JUNIT)], ids=["json", "junit"])
+def test_to_the_byte(tool, form, text, tmp_path):
+    write_files(tmp_path, SMALL)
+    digests = reports.Digests(tool, tmp_path)
+    fields = {**{it: digests.of(it) for it in ("five", "good", "wrong")}, "canonical": digests.canonical("five"), "kit": reports.KIT}
+    text = text.format(rest=REST.format(**fields), profile=PROFILE.format(**fields), **fields)
+    given = run(tool, "verify", "--format", form, *DATED, "five", "good", "wrong", "none", folder=tmp_path)
+    assert given == (4, text.encode(), b"file: cannot read none: no such file\n")
+
+
+# dates, tables of names, messages, and recordings that are read on
+
+DATES = ["2026-01-31T12:00:00", "2024-02-29T23:59:59Z", "2000-02-29T00:00:00+14:00", "0001-01-01T00:00:00-00:30", "9999-12-31T23:59:59+05:45"]
+NO_DATES = ["", "2026-01-31", "12:00:00", "2026-01-31 12:00:00", "2026-01-31T12:00", "2026-1-31T12:00:00", "2026-01-31T12:00:00z", "2026-01-31t12:00:00",
+            "2026-01-31T12:00:00.5", "2026-01-31T12:00:00+1:00", "2026-01-31T12:00:00+0100", "2026-01-31T12:00:00+14:01", "2026-01-31T12:00:00+01:60",
+            "2026-01-31T12:00:00ZZ", "2026-13-01T12:00:00", "2026-00-01T12:00:00", "2026-04-31T12:00:00", "2026-01-00T12:00:00", "2025-02-29T12:00:00",
+            "1900-02-29T12:00:00", "0000-01-01T12:00:00", "2026-01-31T24:00:00", "2026-01-31T12:60:00", "2026-01-31T12:00:60", "20260131T120000",
+            " 2026-01-31T12:00:00", "2026-01-31T12:00:00 ", "２026-01-31T12:00:00", "12026-01-31T12:00:00", "2026/01/31T12:00:00", "x026-01-31T12:00:00"]  # fmt: skip
+NAMED = {
+    **SMALL,
+    "na<m>es.csv": "kind,value,subaddress,words,code,name\naddress,5,,,,\nmode,,,,2,status\n",
+    "messages": "A mode 5 2\n",
+    "refused messages": "A mode 5 2\nx\n",
+}
+
+
+@pytest.mark.parametrize("form", FORMATS)
+@pytest.mark.parametrize("date", DATES)
+def test_date(tool, shown, form, date, tmp_path):
+    datetime.datetime.fromisoformat(date)
+    it = Verified("", ["five"], ["good", "wrong"], SMALL)
+    look_at_all(tool, shown, it, form, tmp_path, date=date)
+
+
+@pytest.mark.parametrize("date", NO_DATES)
+def test_no_date(tool, date, tmp_path):
+    write_files(tmp_path, SMALL)
+    given = run(tool, "verify", "--format", "json", f"--date={date}", "five", "good", folder=tmp_path)
+    assert given == (3, b"", b"arguments: see --help\n")
+
+
+@pytest.mark.parametrize("words", [[], ["--summary"], ["--format", "text"], ["--any-subsystem", "--witness"]], ids=" ".join)
+def test_date_of_a_text(tool, words, tmp_path):
+    write_files(tmp_path, SMALL)
+    assert run(tool, "verify", *words, *DATED, "five", "good", folder=tmp_path) == (3, b"", b"arguments: see --help\n")
+
+
+def look_at_all(tool, shown, it, form, folder, words=(), date=None, names=None):
+    """A report of a profile and scripts with these words and this date, which its JSON and the text tell too. The objects of JSON."""
+    write_files(folder, it.files)
+    told = reports.Told(run(tool, "verify", "--summary", *words, *it.words, *it.names, folder=folder), [shown[name] for name in it.names])
+    words = ["verify", *words, *(["--date", date] if date else []), *it.words, *it.names, "--format"]
+    given, lines = (run(tool, *words, form, folder=folder).output.decode() for form in (form, "json"))
+    found = reports.look_at_json(lines, told, it.names, it.words[0], shown)
+    reports.look_at_digests(found, reports.Digests(tool, folder), names, date)
+    if form == "junit":
+        reports.look_at_junit(given, found, shown)
+    elif form == "html":
+        reports.look_at_page(given, found, told.clauses, shown)
+    return found
+
+
+@pytest.mark.parametrize("form", FORMATS)
+def test_table_of_names(tool, shown, form, tmp_path):
+    it = Verified("", ["five"], ["good"], NAMED)
+    look_at_all(tool, shown, it, form, tmp_path, ["--names", "na<m>es.csv"], names="na<m>es.csv")
+
+
+def test_digest_of_messages(tool, shown, tmp_path):
+    """With --expand it is that of the file of messages; one of messages that are refused has none."""
+    it = Verified("", ["five"], ["messages"], NAMED)
+    found = look_at_all(tool, shown, it, "json", tmp_path, ["--expand"])
+    assert found[0]["sha256"] == hashlib.sha256(NAMED["messages"].encode()).hexdigest()
+    given = run(tool, "verify", "--expand", "--format", "json", "five", "refused messages", folder=tmp_path)
+    assert given.status == 2
+    assert reports.objects_of(given.output.decode())[0]["sha256"] is None
+
+
+LINES = "# a recording\n" + "slot\n" * 400_000
+LONG_RECORDINGS = {
+    "passes": LINES + GOOD, "differs at its begin": "A c 2c02\nA gap\nslot\n#> A s 2c00\n" + LINES,
+    "is refused": "slot \n" + LINES, "names no profile": LINES,
+}  # fmt: skip
+
+
+@pytest.mark.parametrize("form", FORMATS)
+@pytest.mark.parametrize("name", LONG_RECORDINGS)
+def test_digest_of_a_long_recording(tool, form, name, tmp_path):
+    """It is of the whole file, from a pipe too, also where the first megabyte already differs or is refused."""
+    text = LONG_RECORDINGS[name].encode()
+    write_files(tmp_path, {**FIVE, "long": text})
+    words = ["--profiles", "."] if name == "names no profile" else ["five"]
+    for given in (run(tool, "verify", "--any-subsystem", "--format", form, *words, "long", folder=tmp_path),
+                  run(tool, "verify", "--any-subsystem", "--format", form, *words, "/dev/stdin", stdin=text, folder=tmp_path)):  # fmt: skip
+        assert given.output.decode().count(hashlib.sha256(text).hexdigest()) == 1
 
 
 @pytest.mark.parametrize("row", ROWS, ids=lambda it: it.name)

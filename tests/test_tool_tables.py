@@ -1,6 +1,7 @@
 """Tables: what `rt1553-tool import` makes of them, and the names that they give to messages (`--names`)."""
 
 import json
+import xml.etree.ElementTree as xml
 
 import pytest
 from programs import TOP, Row, check_row, run, write_files
@@ -87,17 +88,6 @@ NAMED = [
     Row("verify with names", "verify --names names.csv named.toml v", 1,
         'v:4: "settings": expected nothing, came hand receive own 03 0001 0002\nv:5: "settings": expected A s 2c00, came A s 2800\n'
         "v:9: expected A s 2800, came A s 2c00\nv: differences: 3\n"),
-    Row("verify with names, as JSON", "verify --names names.csv --format json named.toml v", 1,
-        '{"file":"v","profile":"named.toml","passes":false,"answers":2,"warning":null,"clauses":[],"differences":[{"line":4,"name":"settings",'
-        '"expected":null,"came":"hand receive own 03 0001 0002"},{"line":5,"name":"settings","expected":"A s 2c00","came":"A s 2800"},'
-        '{"line":9,"name":null,"expected":"A s 2800","came":"A s 2c00"}],"fault":null}\n'),
-    Row("verify with names, as JUnit", "verify --names names.csv --format junit named.toml v", 1,
-        '<?xml version="1.0" encoding="UTF-8"?>\n<testsuites tests="1" failures="1" errors="0" skipped="0" time="0">\n'
-        '<testsuite name="rt1553-tool verify" tests="1" failures="1" errors="0" skipped="0" time="0">\n'
-        '<testcase name="v" classname="named.toml" time="0">\n'
-        '<failure message="differences: 3">v:4: &quot;settings&quot;: expected nothing, came hand receive own 03 0001 0002\n'
-        "v:5: &quot;settings&quot;: expected A s 2c00, came A s 2800\nv:9: expected A s 2800, came A s 2c00\n</failure>\n</testcase>\n"
-        "</testsuite>\n</testsuites>\n"),
     Row("results compared, with names", "acceptance --names names.csv --against replies named.toml", 1,
         '2: transmit status word: legal: expected 2c10, came 2c00\n1030: "settings": receive 3, 4 words: legal: expected 2800, came 2c00\n'
         "no result for 3 to 1027\nno result for 1029\nno result for 1031 to 3873\n"
@@ -169,6 +159,15 @@ def test_acceptance_test_with_names_as_a_table(tool, folder):
     lines = given.output.replace(b"\r", b"").decode().split("\n")
     assert lines[0] == "number,tries,command,data,reply,handed,name"
     assert lines[1027] == '1027,"receive 3, 1 word: legal",2861,0000,2800,receive own 03 0000,settings'
+
+
+def test_reports_with_names(tool, folder):
+    """The names of messages stand beside what differs, in JSON and in JUnit."""
+    told, suite = (run(tool, "verify", "--names", "names.csv", "--format", it, "named.toml", "v", folder=folder).output for it in ("json", "junit"))
+    assert [(it["line"], it["name"]) for it in json.loads(told)["differences"]] == [(4, "settings"), (5, "settings"), (9, None)]
+    assert xml.fromstring(suite).find(".//failure").text == (
+        'v:4: "settings": expected nothing, came hand receive own 03 0001 0002\n'
+        'v:5: "settings": expected A s 2c00, came A s 2800\nv:9: expected A s 2800, came A s 2c00\n')  # fmt: skip
 
 
 @pytest.mark.parametrize("words", ["explain named.toml", "differ named.toml changed.toml", "acceptance named.toml", "verify named.toml v"])

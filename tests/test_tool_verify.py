@@ -36,16 +36,6 @@ VERIFY = with_files(
         "silent:3: expected nothing, came A s 2800\nsilent: differences: 1\n",
         "silent: warning: the script states no answer\n"),
     Row("a script without an event", "verify five idle", errors="idle: warning: the script has no event\n"),
-    Row("a warning in JSON", "verify --format json five idle", 0,
-        '{"file":"idle","profile":"five","passes":true,"answers":0,"warning":"the script has no event","clauses":[],"differences":[],'
-        '"fault":null}\n',
-        "idle: warning: the script has no event\n"),
-    Row("a warning in JUnit", "verify --format junit five idle", 0,
-        '<?xml version="1.0" encoding="UTF-8"?>\n<testsuites tests="1" failures="0" errors="0" skipped="0" time="0">\n'
-        '<testsuite name="rt1553-tool verify" tests="1" failures="0" errors="0" skipped="0" time="0">\n'
-        '<testcase name="idle" classname="five" time="0">\n<system-err>warning: the script has no event</system-err>\n</testcase>\n'
-        "</testsuite>\n</testsuites>\n",
-        "idle: warning: the script has no event\n"),
     Row("a line of no script", "verify five refused", 2,
         errors="refused: script: line 3, column 5: a space at the end: nothing may follow the last field\n"),
     Row("a line that is too long", "verify five long", 2, errors="long: script: line 2, column 65: over 64 bytes before the line feed\n"),

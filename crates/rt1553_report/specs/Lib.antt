@@ -4,3 +4,7 @@ pub mod Shown
 pub mod Pieces
 pub mod Fields
 pub mod CoveragePage
+pub mod Digests
+pub mod Junit
+pub mod ResultsPage
+pub mod inner

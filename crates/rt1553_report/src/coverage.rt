@@ -5,7 +5,7 @@ ghost use Rattle.recording_coverage.specs.Places.{has_come, word_count_in};
 ghost use Rattle.rt1553_report.specs.Pieces.{AddsPiece};
 ghost use Rattle.rt1553_report.specs.CoveragePage.{AreRowsOf, words_field, outcome_fields, IsNamed, IsNameField, row_begin, come_field, IsLegalRow, IsIllegalRow, IsFileRow, sum_rows, IsReadPart, names_head, table_head, IsLegalPart, IsIllegalTable, IsCoveragePage};
 
-use crate::fields::{push_count_field, push_count_row, push_markup};
+use crate::fields::{push_count_field, push_count_row, push_file_row, push_markup};
 use crate::style::RESULTS_STYLE;
 use crate::told::push_shown;
 use bus_word::{Cell, Command, cell_of};
@@ -178,17 +178,6 @@ fn push_illegal_rows(
         push_illegal_row(alloc, page, names, message)?;
     }
     Ok(())
-}
-
-/// Writes the row of a file.
-fn push_file_row(alloc: Global, page: &mut String, what: &str, file: &str) -> Result<(), AllocError>
-    ensures { OnOk result ((row : List ℕ) × IsFileRow what.now file.now row × AddsPiece (string_bytes page.old) (string_bytes page.new) row) }
-{
-    push_markup(page, "<tr><th scope=\"row\">")?;
-    push_markup(page, what)?;
-    push_markup(page, "</th><td>")?;
-    push_shown(alloc, page, file.as_bytes())?;
-    push_markup(page, "</td></tr>\n")
 }
 
 /// Writes the row of each recording.

@@ -1,10 +1,12 @@
-//! Numbers in the tables of a page.
-ghost use Rattle.std.specs.Prelude.{OnOk, string_bytes};
+//! Numbers and texts in the tables of a page.
+ghost use Rattle.std.specs.Prelude.{ℕ, List, OnOk, string_bytes};
 ghost use Rattle.std.specs.Fmt.{decimal};
 ghost use Rattle.rt1553_report.specs.Pieces.{AddsPiece};
 ghost use Rattle.rt1553_report.specs.Fields.{count_field, count_row};
+ghost use Rattle.rt1553_report.specs.CoveragePage.{IsFileRow};
 
-use std::alloc::AllocError;
+use crate::told::push_shown;
+use std::alloc::{AllocError, Global};
 
 /// Writes a piece of a page, as it stands.
 pub fn push_markup(page: &mut String, markup: &str) -> Result<(), AllocError>
@@ -38,4 +40,20 @@ pub fn push_count_row(page: &mut String, what: &str, number: usize) -> Result<()
     push_markup(page, "</th>")?;
     push_count_field(page, number as u64)?;
     push_markup(page, "</tr>\n")
+}
+
+/// Writes a row of the first table: what is told, and its text.
+pub fn push_file_row(
+    alloc: Global,
+    page: &mut String,
+    what: &str,
+    file: &str,
+) -> Result<(), AllocError>
+    ensures { OnOk result ((row : List ℕ) × IsFileRow what.now file.now row × AddsPiece (string_bytes page.old) (string_bytes page.new) row) }
+{
+    push_markup(page, "<tr><th scope=\"row\">")?;
+    push_markup(page, what)?;
+    push_markup(page, "</th><td>")?;
+    push_shown(alloc, page, file.as_bytes())?;
+    push_markup(page, "</td></tr>\n")
 }

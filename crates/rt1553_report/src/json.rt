@@ -1,8 +1,10 @@
 //! Results as JSON.
-ghost use Rattle.std.specs.Prelude.{IfSome};
+ghost use Rattle.std.specs.Prelude.{IfSome, IfOk};
 ghost use Rattle.std.specs.String.{string_bytes};
 ghost use Rattle.ascii_json.specs.Ascii.{IsPlainText};
+ghost use Rattle.rt1553_report.specs.inner.Lines.{IsLineOf};
 
+use crate::head::{ReportHead, digest_text};
 use crate::result::{AnswerNames, ScriptOutcome, ScriptResult};
 use crate::told::answer_told;
 use ascii_json::in_ascii;
@@ -37,6 +39,18 @@ struct ResultLine<'a> {
     differences: Vec<WrongEntry>,
     /// Null where the script was played.
     fault: Option<&'a str>,
+    /// Null where the file was not read; the same of the other digests.
+    sha256: Option<String>,
+    profile_sha256: Option<String>,
+    canonical_sha256: Option<String>,
+    /// Null where no table is given.
+    names: Option<&'a str>,
+    names_sha256: Option<String>,
+    program: &'a str,
+    toolchain: &'a str,
+    canonical: &'a str,
+    /// Null where no date is given.
+    date: Option<&'a str>,
 }
 
 /// Clauses as they are printed.
@@ -82,7 +96,13 @@ fn wrong_lines(
 }
 
 /// The result of a script as it is written.
-fn line_of<'a>(alloc: Global, of: &'a ScriptResult) -> Result<ResultLine<'a>, AllocError> {
+fn line_of<'a>(
+    alloc: Global,
+    head: ReportHead<'a>,
+    of: &'a ScriptResult,
+) -> Result<ResultLine<'a>, AllocError>
+    ensures { IfOk result (λ line. IsLineOf head.entry of.entry.now line) }
+{
     let (answers, differences, fault) = match &of.outcome {
         ScriptOutcome::Played {
             answers,
@@ -105,15 +125,24 @@ fn line_of<'a>(alloc: Global, of: &'a ScriptResult) -> Result<ResultLine<'a>, Al
         clauses: clauses_told(alloc, of.clauses.as_slice())?,
         differences,
         fault,
+        sha256: digest_text(alloc, of.digests.script)?,
+        profile_sha256: digest_text(alloc, of.digests.profile)?,
+        canonical_sha256: digest_text(alloc, of.digests.canonical)?,
+        names: head.names_file(),
+        names_sha256: digest_text(alloc, head.names_digest())?,
+        program: head.program,
+        toolchain: head.toolchain,
+        canonical: head.canonical,
+        date: head.date,
     })
 }
 
 /// The result of a script as an object of JSON, one line without a line feed, of printable characters of ASCII. None where memory
 /// runs out.
-pub fn result_json(alloc: Global, of: &ScriptResult) -> Option<String>
+pub fn result_json(alloc: Global, head: ReportHead<'_>, of: &ScriptResult) -> Option<String>
     ensures { IfSome result (λ text. IsPlainText (string_bytes text)) }
 {
-    let line = line_of(alloc, of).ok()?;
+    let line = line_of(alloc, head, of).ok()?;
     let json = serde_json::to_string(alloc, &line).ok()?;
     in_ascii(alloc, json.as_str()).ok()
 }

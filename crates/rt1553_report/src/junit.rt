@@ -1,38 +1,154 @@
 //! Results as JUnit reports them, XML.
+ghost use Rattle.std.specs.Prelude.{ℕ, List, Some, IfOk, OnOk, option_map, string_bytes};
+ghost use Rattle.rt1553_report.specs.Pieces.{AddsPiece};
+ghost use Rattle.rt1553_report.specs.Junit.{AreNamesProperties, AreSuiteProperties, IsJunitReport, IsProperty, IsTimestamp, digest_properties, digest_property, some_digest};
+
+use crate::fields::push_markup;
+use crate::head::{FileDigests, NamesTable, ReportHead, push_digest};
 use crate::result::{AnswerNames, ScriptOutcome, ScriptResult, Totals, name_at, totals_of};
 use crate::told::{difference_told, push_shown};
 use rt1553_draw::push_escaped;
 use rt1553_verify::WrongAnswer;
 use std::alloc::{AllocError, Global};
+use std::format;
 
-/// Ends the begin of an element with how many tests it has. No time is told, so that the report depends on its input alone.
-fn push_totals(text: &mut String, totals: Totals) -> Result<(), AllocError> {
+/// The attributes of an element that tell how many tests it has. No time is told, so that the report depends on its input alone.
+fn totals_text(alloc: Global, totals: Totals) -> Result<String, AllocError> {
     let Totals {
         tests,
         failures,
         errors,
     } = totals;
-    writeln!(
-        text,
-        " tests=\"{tests}\" failures=\"{failures}\" errors=\"{errors}\" skipped=\"0\" time=\"0\">"
+    format!(in alloc;
+        " tests=\"{tests}\" failures=\"{failures}\" errors=\"{errors}\" skipped=\"0\" time=\"0\""
     )
 }
 
-/// Writes the clauses that a script names, where it names one.
-fn push_properties(
+/// Writes a property.
+fn push_property(
     alloc: Global,
     text: &mut String,
-    clauses: &[Vec<u8>],
-) -> Result<(), AllocError> {
-    if clauses.is_empty() {
+    name: &str,
+    value: &[u8],
+) -> Result<(), AllocError>
+    ensures { OnOk result ((property : List ℕ) × IsProperty name.now value.now property × AddsPiece (string_bytes text.old) (string_bytes text.new) property) }
+{
+    push_markup(text, "<property name=\"")?;
+    push_markup(text, name)?;
+    push_markup(text, "\" value=\"")?;
+    push_shown(alloc, text, value)?;
+    push_markup(text, "\"/>\n")
+}
+
+/// Writes the property of a digest.
+fn push_digest_property(
+    alloc: Global,
+    text: &mut String,
+    name: &str,
+    digest: [u8; 32],
+) -> Result<(), AllocError>
+    ensures { OnOk result (AddsPiece (string_bytes text.old) (string_bytes text.new) (digest_property name.now digest)) }
+{
+    push_markup(text, "<property name=\"")?;
+    push_markup(text, name)?;
+    push_markup(text, "\" value=\"")?;
+    push_digest(alloc, text, digest)?;
+    push_markup(text, "\"/>\n")
+}
+
+/// Writes the property of a digest, where there is one.
+fn push_some_digest(
+    alloc: Global,
+    text: &mut String,
+    name: &str,
+    digest: Option<[u8; 32]>,
+) -> Result<(), AllocError>
+    ensures { OnOk result (AddsPiece (string_bytes text.old) (string_bytes text.new) (some_digest name.now digest)) }
+{
+    match digest {
+        Some(digest) => push_digest_property(alloc, text, name, digest),
+        None => Ok(()),
+    }
+}
+
+/// Writes the digests of a script, and of its profile.
+fn push_digests(alloc: Global, text: &mut String, digests: FileDigests) -> Result<(), AllocError>
+    ensures { OnOk result (AddsPiece (string_bytes text.old) (string_bytes text.new) (digest_properties digests)) }
+{
+    push_some_digest(alloc, text, "sha256", digests.script)?;
+    push_some_digest(alloc, text, "profile_sha256", digests.profile)?;
+    push_some_digest(alloc, text, "canonical_sha256", digests.canonical)
+}
+
+/// Writes the properties of the table of names.
+fn push_table(alloc: Global, text: &mut String, table: NamesTable<'_>) -> Result<(), AllocError>
+    ensures { OnOk result ((properties : List ℕ) × AreNamesProperties (Some table.entry) properties × AddsPiece (string_bytes text.old) (string_bytes text.new) properties) }
+{
+    push_property(alloc, text, "names", table.file.as_bytes())?;
+    push_digest_property(alloc, text, "names_sha256", table.digest)
+}
+
+/// The same, where there is one.
+fn push_names(
+    alloc: Global,
+    text: &mut String,
+    names: Option<NamesTable<'_>>,
+) -> Result<(), AllocError>
+    ensures { OnOk result ((properties : List ℕ) × AreNamesProperties names.entry properties × AddsPiece (string_bytes text.old) (string_bytes text.new) properties) }
+{
+    match names {
+        Some(table) => push_table(alloc, text, table),
+        None => Ok(()),
+    }
+}
+
+/// Writes what the scripts of a report share.
+fn push_head(alloc: Global, text: &mut String, head: ReportHead<'_>) -> Result<(), AllocError>
+    ensures { OnOk result ((properties : List ℕ) × AreSuiteProperties head.entry properties × AddsPiece (string_bytes text.old) (string_bytes text.new) properties) }
+{
+    push_markup(text, "<properties>\n")?;
+    push_property(alloc, text, "program", head.program.as_bytes())?;
+    push_property(alloc, text, "toolchain", head.toolchain.as_bytes())?;
+    push_property(alloc, text, "canonical", head.canonical.as_bytes())?;
+    push_names(alloc, text, head.names)?;
+    push_markup(text, "</properties>\n")
+}
+
+/// Writes the attribute of the date.
+fn push_stamp(alloc: Global, text: &mut String, date: &str) -> Result<(), AllocError>
+    ensures { OnOk result ((stamp : List ℕ) × IsTimestamp (Some date.now) stamp × AddsPiece (string_bytes text.old) (string_bytes text.new) stamp) }
+{
+    push_markup(text, " timestamp=\"")?;
+    push_shown(alloc, text, date.as_bytes())?;
+    push_markup(text, "\"")
+}
+
+/// The same, where there is one.
+fn push_timestamp(alloc: Global, text: &mut String, date: Option<&str>) -> Result<(), AllocError>
+    ensures { OnOk result ((stamp : List ℕ) × IsTimestamp (option_map (λ d. d.now) date.entry) stamp × AddsPiece (string_bytes text.old) (string_bytes text.new) stamp) }
+{
+    match date {
+        Some(date) => push_stamp(alloc, text, date),
+        None => Ok(()),
+    }
+}
+
+/// Writes the clauses that a script names.
+fn push_clauses(alloc: Global, text: &mut String, clauses: &[Vec<u8>]) -> Result<(), AllocError> {
+    for clause in clauses {
+        push_property(alloc, text, "clause", clause.as_slice())?;
+    }
+    Ok(())
+}
+
+/// Writes the digests of a script, and the clauses that it names, where there are any.
+fn push_properties(alloc: Global, text: &mut String, of: &ScriptResult) -> Result<(), AllocError> {
+    if of.clauses.is_empty() && !of.digests.has_any() {
         return Ok(());
     }
     text.push_str("<properties>\n")?;
-    for clause in clauses {
-        text.push_str("<property name=\"clause\" value=\"")?;
-        push_shown(alloc, text, clause.as_slice())?;
-        text.push_str("\"/>\n")?;
-    }
+    push_digests(alloc, text, of.digests)?;
+    push_clauses(alloc, text, of.clauses.as_slice())?;
     text.push_str("</properties>\n")
 }
 
@@ -93,24 +209,45 @@ fn push_case(alloc: Global, text: &mut String, of: &ScriptResult) -> Result<(), 
         None => text.push_str("no profile")?,
     }
     text.push_str("\" time=\"0\">\n")?;
-    push_properties(alloc, text, of.clauses.as_slice())?;
+    push_properties(alloc, text, of)?;
     push_outcome(alloc, text, of)?;
     push_warning(text, of)?;
     text.push_str("</testcase>\n")
 }
 
-/// The results of scripts as JUnit reports tests: XML, one test case a script, in their order. The class of a test case is the
-/// profile of its script.
-pub fn junit_report(alloc: Global, results: &[ScriptResult]) -> Result<String, AllocError> {
-    let totals = totals_of(results);
+/// The test cases of scripts.
+fn cases_text(alloc: Global, results: &[ScriptResult]) -> Result<String, AllocError> {
     let mut text = String::new(alloc);
-    text.push_str("<?xml version=\"1.0\" encoding=\"UTF-8\"?>\n<testsuites")?;
-    push_totals(&mut text, totals)?;
-    text.push_str("<testsuite name=\"rt1553-tool verify\"")?;
-    push_totals(&mut text, totals)?;
     for of in results {
         push_case(alloc, &mut text, of)?;
     }
-    text.push_str("</testsuite>\n</testsuites>\n")?;
+    Ok(text)
+}
+
+/// The results of scripts as JUnit reports tests: XML, one test case a script, in their order. The class of a test case is the
+/// profile of its script. Properties tell versions, digests and clauses.
+pub fn junit_report(
+    alloc: Global,
+    head: ReportHead<'_>,
+    results: &[ScriptResult],
+) -> Result<String, AllocError>
+    ensures { IfOk result (λ text. IsJunitReport head.entry (string_bytes text)) }
+{
+    let totals = totals_text(alloc, totals_of(results))?;
+    let totals = totals.as_str();
+    let cases = cases_text(alloc, results)?;
+    let mut text = String::new(alloc);
+    push_markup(
+        &mut text,
+        "<?xml version=\"1.0\" encoding=\"UTF-8\"?>\n<testsuites",
+    )?;
+    push_markup(&mut text, totals)?;
+    push_markup(&mut text, ">\n<testsuite name=\"rt1553-tool verify\"")?;
+    push_markup(&mut text, totals)?;
+    push_timestamp(alloc, &mut text, head.date)?;
+    push_markup(&mut text, ">\n")?;
+    push_head(alloc, &mut text, head)?;
+    push_markup(&mut text, cases.as_str())?;
+    push_markup(&mut text, "</testsuite>\n</testsuites>\n")?;
     Ok(text)
 }

@@ -4,6 +4,7 @@
 mod clauses;
 mod coverage;
 mod fields;
+mod head;
 mod json;
 mod junit;
 mod page;
@@ -13,6 +14,7 @@ mod told;
 
 pub use clauses::{Scope, ScopeRow, ScriptCount, TriedScript, clause_rows, clauses_in};
 pub use coverage::coverage_page;
+pub use head::{FileDigests, NamesTable, ReportHead};
 pub use json::result_json;
 pub use junit::junit_report;
 pub use page::results_page;

@@ -2,6 +2,7 @@
 ghost use Rattle.std.specs.Prelude.{◌≡◌, length, filter};
 ghost use Rattle.rt1553_report.specs.Results.{outcome_passes, outcome_fails, outcome_is_missing, totals_of};
 
+use crate::head::FileDigests;
 use rt1553_verify::{ScriptWarning, WrongAnswer};
 
 /// The names of the messages to which events belong that were not answered as stated, in their order; None where one has none.
@@ -100,6 +101,7 @@ pub struct ScriptResult {
     pub profile: Option<String>,
     /// The clauses that the script names, each once.
     pub clauses: Vec<Vec<u8>>,
+    pub digests: FileDigests,
     pub outcome: ScriptOutcome,
 }
 

@@ -6,6 +6,7 @@ th,td{border:1px solid #bbb;padding:.2rem .6rem;text-align:left;vertical-align:t
 th{background:#eee}\
 td.count{text-align:right}\
 td.line{font-family:\"Liberation Mono\",\"DejaVu Sans Mono\",Consolas,Menlo,monospace}\
+code{font-family:\"Liberation Mono\",\"DejaVu Sans Mono\",Consolas,Menlo,monospace;font-size:.75em;overflow-wrap:anywhere}\
 h3{font-size:1rem;overflow-wrap:anywhere}\
 .differs{color:#b02a37;font-weight:bold}\
 @media screen and (prefers-color-scheme:dark){th,td{border-color:#555}th{background:#2b2f36}.differs{color:#f1aeb5}}\

@@ -1,5 +1,5 @@
 -- What the command line asks for, by what clap found in it.
-use Rattle.std.specs.Prelude.{ℕ, ◌≡◌, ◌≢◌, ◌≤◌, ◌⊎◌, Bool, true, false, if◌then◌else◌, codes, List, [], ◌∷◌, map, Option, Some, None, option_map}
+use Rattle.std.specs.Prelude.{ℕ, ◌≡◌, ◌≢◌, ◌≤◌, ◌⊎◌, Bool, true, false, if◌then◌else◌, codes, List, [], ◌∷◌, map, Option, Some, None, option_map, IfSome}
 use Rattle.std.specs.Option.{unwrap_or}
 use Rattle.std.specs.Str.{bytes_eq}
 use Rattle.std.specs.Str.Parse.{IsNumeral, digits_value}
@@ -8,6 +8,7 @@ use Rattle.clap.specs.Words.{Text, first_value, matched_of, raw_values, subcomma
 use Rattle.clap.specs.Walk.{rows_of}
 use Rattle.clap.specs.declared.parser.matches.Found.{Found}
 use Rattle.clap.specs.declared.parser.matches.ArgMatches.{ArgMatches}
+use Rattle.rt1553_tool_args.specs.Dates.{is_date}
 use Rattle.rt1553_tool_args.specs.declared.command.ToolCommand.{ToolCommand}
 use Rattle.rt1553_tool_args.specs.declared.command.ToolCommand.TheVariants.{Lint, CheckScript, Verify, Witness, Monitor, Coverage, Infer, Import, Export, Expand, Toml, Explain, Differ, Acceptance, Against, Messages, Gather, Draw, Words, Live, Answers, Check, Canon, Run, Compare}
 use Rattle.rt1553_tool_args.specs.declared.command.Profiles.{Profiles}
@@ -116,6 +117,10 @@ abbrev pub AsksReport : Found → ReportFormat → Bool → Type 0
 AsksReport f format summary =
     (format ≡ report_format_of (first_value f (codes "format"))) × (summary ≡ is_given f (codes "summary")) × (summary ≡ true → format ≡ report.Text)
 
+-- the date of a report, where it is given: there is none in the text
+abbrev pub HasDate : Found → ReportFormat → Option (Bor Text) → Type 0
+HasDate f format date = HasOption f (codes "date") date × IfSome date (λ d. is_date d.now ≡ true) × (format ≡ report.Text → date ≡ None)
+
 -- what the scripts are to be
 abbrev pub AsksKind : Found → ScriptKind → Type 0
 AsksKind f Test = (is_given f (codes "bus-only") ≡ false) × (is_given f (codes "any-subsystem") ≡ false) × (is_given f (codes "already-on") ≡ false)
@@ -157,10 +162,10 @@ Asks f (Lint files format) = (texts_of files.items ≡ all_values f (codes "file
 Asks f (CheckScript scripts) = texts_of scripts.items ≡ all_values f (codes "script")
 Asks f (Verify asked scripts) =
     PlaysTo f asked.profiles (texts_of scripts.items) × (scripts.items ≢ []) × AsksKind f asked.kind × (asked.expand ≡ is_given f (codes "expand"))
-    × AsksReport f asked.format asked.summary × HasNames f asked.names × (is_given f (codes "witness") ≡ false)
+    × AsksReport f asked.format asked.summary × HasNames f asked.names × HasDate f asked.format asked.date × (is_given f (codes "witness") ≡ false)
 Asks f (Witness asked) =
     PlaysTo f (One asked.profile) (asked.script.now ∷ []) × AsksKind f asked.kind × ((asked.kind ≡ Recording) ⊎ (asked.kind ≡ LaterRecording))
-    × (asked.expand ≡ is_given f (codes "expand")) × AsksReport f report.Text false × HasNames f asked.names × (is_given f (codes "witness") ≡ true)
+    × (asked.expand ≡ is_given f (codes "expand")) × AsksReport f report.Text false × HasNames f asked.names × HasDate f report.Text None × (is_given f (codes "witness") ≡ true)
 Asks f (Monitor asked) =
     HasValue f (codes "table") asked.table.now × HasAddress f asked.address × HasOption f (codes "gap") asked.gap
     × HasOption f (codes "no-response") asked.no_response × HasOption f (codes "pause") asked.pause

@@ -6,17 +6,11 @@ ghost use Rattle.rt1553_tool_args.specs.Commands.{IsAskedBy};
 
 use crate::command::{ToolCommand, tool_command_of};
 use crate::table::{Argument, COMMANDS, CommandGroup, CommandRow, HEADINGS, Occurrence};
+use crate::versions::{VERSION, VERSIONS};
 use clap::error::ErrorKind;
 use clap::{Arg, ArgAction, Command};
 use rt1553_files::escaped;
 use std::alloc::{AllocError, AllocFailed, Global};
-
-/// The program's version, and that of the canonical text that it reads and writes.
-pub const VERSION: &str = "0.1 (canonical text 2)";
-
-/// The same with the toolchain by which the program is proved and built, as `--version` tells it.
-const VERSIONS: &str =
-    "0.1 (canonical text 2)\nproved and built by rattle-kit-13f logic dac8208d650f15bf";
 
 /// What the program does.
 const ABOUT: &str = "Checks, explains, compares and tests profiles of a remote terminal";

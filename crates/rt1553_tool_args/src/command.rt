@@ -1,9 +1,10 @@
 //! What the command line asks for.
 ghost use Rattle.std.specs.Prelude.{◌≡◌, IfOk, codes, option_map, true};
 ghost use Rattle.clap.specs.Words.{first_value, found_of};
-ghost use Rattle.rt1553_tool_args.specs.Commands.{Asks, AsksKind, AsksReport, HasAddress, HasBusAddress, HasSubaddress, HasOption, HasValue, IsAskedBy, IsNumberUpTo, all_values, command_name, coverage_format_of, format_of, is_given, is_json, lint_format_of, messages_format_of, report_format_of, texts_of};
+ghost use Rattle.rt1553_tool_args.specs.Commands.{Asks, AsksKind, AsksReport, HasAddress, HasBusAddress, HasDate, HasSubaddress, HasOption, HasValue, IsAskedBy, IsNumberUpTo, all_values, command_name, coverage_format_of, format_of, is_given, is_json, lint_format_of, messages_format_of, report_format_of, texts_of};
 
 use crate::args::NoCommand;
+use crate::date::is_date;
 use clap::ArgMatches;
 use std::alloc::Global;
 
@@ -98,6 +99,8 @@ pub struct AskedReport<'a> {
     pub summary: bool,
     /// The table with the names of messages, where one is given.
     pub names: Option<&'a str>,
+    /// The date and time of the report, where they are given; not as text.
+    pub date: Option<&'a str>,
 }
 
 /// What is asked for of a recording that is to be explained.
@@ -387,6 +390,18 @@ fn report_of(given: &ArgMatches<'_>) -> Result<(ReportFormat, bool), NoCommand>
     }
 }
 
+/// The date and time of a report in this format, where they are given. The text has none.
+fn date_of<'a>(given: &ArgMatches<'a>, format: ReportFormat) -> Result<Option<&'a str>, NoCommand>
+    ensures { IfOk result (HasDate (found_of given.now) format) }
+{
+    match (given.get_str("date"), format) {
+        (None, _) => Ok(None),
+        (Some(_), ReportFormat::Text) => Err(NoCommand::Usage),
+        (Some(date), _) if is_date(date.as_bytes()) => Ok(Some(date)),
+        (Some(_), _) => Err(NoCommand::Usage),
+    }
+}
+
 /// What the scripts are to be. A recording is of the bus alone.
 fn script_kind(given: &ArgMatches<'_>) -> Result<ScriptKind, NoCommand>
     ensures { IfOk result (AsksKind (found_of given.now)) }
@@ -413,7 +428,7 @@ fn witness_command<'a>(alloc: Global, given: &ArgMatches<'a>) -> Result<ToolComm
         [script] => *script,
         _ => return Err(NoCommand::Usage),
     };
-    if given.get_str("profiles").is_some() {
+    if given.get_str("profiles").is_some() || given.get_str("date").is_some() {
         return Err(NoCommand::Usage);
     }
     match (script_kind(given)?, report_of(given)?) {
@@ -461,6 +476,7 @@ fn verify_command<'a>(alloc: Global, given: &ArgMatches<'a>) -> Result<ToolComma
         format,
         summary,
         names: names_of(given),
+        date: date_of(given, format)?,
     };
     Ok(ToolCommand::Verify(asked, scripts))
 }

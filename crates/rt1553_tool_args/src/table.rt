@@ -123,7 +123,7 @@ const EXPANDED: Argument = Argument {
     help: "takes messages, too, as `expand` does",
 };
 
-const VERIFY: [Argument; 11] = [
+const VERIFY: [Argument; 12] = [
     Argument {
         id: "profile",
         given: Occurrence::OnceOr("profiles"),
@@ -180,6 +180,12 @@ const VERIFY: [Argument; 11] = [
         help: "the output format",
     },
     NAMES,
+    Argument {
+        id: "date",
+        given: Occurrence::Value,
+        value: "DATE",
+        help: "the date of the report, as 2026-01-31T12:00:00, also with Z or an offset",
+    },
 ];
 
 const RECORDING: [Argument; 5] = [

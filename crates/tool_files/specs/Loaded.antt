@@ -1,19 +1,27 @@
--- Scripts of files: as they stand there, or expanded.
-use Rattle.std.specs.Prelude.{ℕ, ◌≡◌, ◌-◌, List, [], ◌∷◌, Option, Some, None, option_map, get_or}
+-- Profiles and scripts of files, the scripts as they stand there, or expanded.
+use Rattle.std.specs.Prelude.{ℕ, ◌≡◌, ◌-◌, ◌≤◌, length, List, [], ◌∷◌, Option, Some, None, option_map, get_or}
 use Rattle.rt1553_expand.specs.declared.expanding.Expanded.TheVariants.{Script}
 use Rattle.rt1553_expand.specs.Expansion.{IsExpansion}
 use Rattle.rt1553_expand.specs.Sources.{sources_in}
 use Rattle.rt1553_expand.specs.declared.expanding.UnexpandedLine.{UnexpandedLine}
+use Rattle.sha2.specs.Sha256.{sha256}
+use Rattle.rt1553.specs.Load.{Reaches}
+use Rattle.tool_files.specs.declared.files.LoadedProfile.{LoadedProfile}
 use Rattle.tool_files.specs.declared.fault.ToolFault.{ToolFault}
 use Rattle.tool_files.specs.declared.fault.ToolFault.TheVariants.{Message}
 use Rattle.tool_files.specs.declared.loaded.LoadedScript.{LoadedScript}
 
+-- a text, of at most 1,048,576 bytes, is of this terminal, and has this digest
+abbrev pub IsLoadedFile : LoadedProfile → Type 0
+IsLoadedFile profile = (text : List ℕ) × (length text ≤ 1048576) × Reaches text profile.normal × (profile.digest ≡ sha256 text)
+
 -- The script of a file with this text: the text, or what it is expanded to for the terminal of an address, with the line of the file from
--- which each line comes.
+-- which each line comes. What is expanded has the digest of the file's text beside it.
 abbrev pub IsScriptOf : Option ℕ → List ℕ → LoadedScript → Type 0
-IsScriptOf None text script = (script.text.items ≡ text) × (script.sources ≡ None)
+IsScriptOf None text script = (script.text.items ≡ text) × (script.sources ≡ None) × (script.digest ≡ None)
 IsScriptOf (Some own) text script =
     IsExpansion (Some own) text (Script script.text) × (option_map (λ lines. lines.items) script.sources ≡ Some (sources_in (Some own) text))
+    × (script.digest ≡ Some (sha256 text))
 
 -- the line of the file that a line of its script stands for
 abbrev pub line_in_file : Option (List ℕ) → ℕ → ℕ

@@ -1,7 +1,9 @@
 //! What all commands need of files and of the output.
 ghost use Rattle.std.specs.Prelude.{◌≡◌, ◌≤◌, IfErr, IfOk, length};
 ghost use Rattle.tool_files.specs.Status.{IsLoaded};
+ghost use Rattle.tool_files.specs.Loaded.{IsLoadedFile};
 
+use crate::digest::digest_of;
 use crate::fault::ToolFault;
 use crate::unread::unread_file;
 use bus_legal::Normal;
@@ -49,15 +51,37 @@ pub fn read_tool_profile<R: Files + AllocGlobal>(rt: &R, name: &str) -> Result<V
     read_named(rt, name, PROFILE_BYTES)
 }
 
+/// A profile of a file.
+#[derive(Clone, Copy)]
+pub struct LoadedProfile {
+    /// What can be reached of its terminal.
+    pub normal: Normal,
+    /// The SHA-256 digest of the file.
+    pub digest: [u8; 32],
+}
+
+/// The profile in the file of this name.
+pub fn load_profile_file<R: Files + AllocGlobal>(
+    rt: &R,
+    name: &str,
+) -> Result<LoadedProfile, ToolFault>
+    ensures { IfOk result IsLoadedFile }
+{
+    let bytes = read_tool_profile(rt, name)?;
+    match load(rt.alloc(), bytes.as_slice()) {
+        Ok(normal) => Ok(LoadedProfile {
+            normal,
+            digest: digest_of(bytes.as_slice()),
+        }),
+        Err(fault) => Err(ToolFault::Profile(shown(rt, name)?, fault)),
+    }
+}
+
 /// What can be reached of the terminal of a profile file.
 pub fn load_profile<R: Files + AllocGlobal>(rt: &R, name: &str) -> Result<Normal, ToolFault>
     ensures { IfOk result (λ normal. IsLoaded normal) }
 {
-    let bytes = read_tool_profile(rt, name)?;
-    match load(rt.alloc(), bytes.as_slice()) {
-        Ok(normal) => Ok(normal),
-        Err(fault) => Err(ToolFault::Profile(shown(rt, name)?, fault)),
-    }
+    Ok(load_profile_file(rt, name)?.normal)
 }
 
 /// The bytes of a script, at most 68,157,440: no more than any script that is played can have.

@@ -1,7 +1,9 @@
 //! Scripts of files: as they stand there, or expanded.
-ghost use Rattle.std.specs.Prelude.{◌≡◌, ◌⊎◌, IfOk, List, ℕ, option_map, Some};
+ghost use Rattle.std.specs.Prelude.{◌≡◌, ◌⊎◌, IfOk, List, ℕ, Option, option_map, Some};
+ghost use Rattle.sha2.specs.Sha256.{sha256};
 ghost use Rattle.tool_files.specs.Loaded.{IsScriptOf, TellsMessage, line_in_file};
 
+use crate::digest::digest_of;
 use crate::fault::ToolFault;
 use crate::files::{read_script_file, shown};
 use crate::refused::refused_file;
@@ -15,6 +17,8 @@ pub struct LoadedScript {
     pub text: Vec<u8>,
     /// For each line of the script the line of the file that it stands for; None where the file is the script.
     pub sources: Option<Vec<u64>>,
+    /// The SHA-256 digest of the file; None where the file is the script.
+    pub digest: Option<[u8; 32]>,
 }
 
 impl LoadedScript {
@@ -29,6 +33,18 @@ impl LoadedScript {
         match sources.get(index) {
             Some(source) => *source,
             None => line,
+        }
+    }
+}
+
+impl LoadedScript {
+    /// The SHA-256 digest of the file.
+    pub fn file_digest(&self) -> [u8; 32]
+        ensures { (expand_for : Option ℕ) (text : List ℕ) → IsScriptOf expand_for text self.now → result ≡ sha256 text }
+    {
+        match self.digest {
+            Some(digest) => digest,
+            None => digest_of(self.text.as_slice()),
         }
     }
 }
@@ -59,6 +75,7 @@ fn load_messages<R: Files + AllocGlobal>(
         Expanded::Script(script) => Ok(LoadedScript {
             text: script,
             sources: Some(source_lines(rt.alloc(), text.as_slice(), Some(own))?),
+            digest: Some(digest_of(text.as_slice())),
         }),
         Expanded::Refused(lines) => Err(message_fault(rt, name, lines.as_slice())),
         Expanded::TooLong => Err(refused_file(rt, name, &RunFault::TooLong)),
@@ -79,5 +96,6 @@ pub fn load_script<R: Files + AllocGlobal>(
     Ok(LoadedScript {
         text: read_script_file(rt, name)?,
         sources: None,
+        digest: None,
     })
 }

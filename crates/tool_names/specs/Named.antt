@@ -1,5 +1,5 @@
 -- The names of messages that a command is given, and of a command word.
-use Rattle.std.specs.Prelude.{ℕ, if◌then◌else◌, List, Option, Some, None}
+use Rattle.std.specs.Prelude.{ℕ, ◌≡◌, if◌then◌else◌, List, Option, Some, None}
 use Rattle.std.specs.Borrow.{Bor}
 use Rattle.bus_word.specs.declared.cell.Cell.{Cell}
 use Rattle.bus_word.specs.declared.cell.Cell.TheVariants.{OwnMode, BroadMode}
@@ -7,6 +7,8 @@ use Rattle.bus_word.specs.Cell.{cell_of}
 use Rattle.bus_word.specs.Command.{code_of, is_mode, is_broadcast}
 use Rattle.message_names.specs.NameRow.{NameRow}
 use Rattle.message_names.specs.Names.{name_of}
+use Rattle.sha2.specs.Sha256.{sha256}
+use Rattle.tool_names.specs.declared.names.LoadedNames.{LoadedNames}
 use Rattle.tool_names.specs.Names.{AreNamesOf}
 
 -- without a table there are no names, and with one they are those of a text that is a table without faults
@@ -14,6 +16,10 @@ abbrev pub AreLoadedNames : Option (Bor (List ℕ)) → Option (List NameRow) �
 AreLoadedNames None None = Unit {0}
 AreLoadedNames (Some name) (Some names) = (table : List ℕ) × AreNamesOf table names
 AreLoadedNames _ _ = ⊥
+
+-- they are those of a text that is a table without faults, and has this digest
+abbrev pub AreNamesOfFile : LoadedNames → Type 0
+AreNamesOfFile loaded = (table : List ℕ) × AreNamesOf table loaded.names × (loaded.digest ≡ sha256 table)
 
 -- the cell of a mode code and its addressee, whether or not it can be legal
 abbrev pub code_cell_said : ℕ → Cell

@@ -7,6 +7,6 @@ mod reading;
 mod rows;
 mod table;
 
-pub use names::{load_names, name_of_command};
+pub use names::{LoadedNames, load_names, load_names_file, name_of_command};
 pub use reading::names_in;
 pub use table::table_fault;

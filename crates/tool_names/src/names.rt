@@ -1,6 +1,6 @@
 //! The names of messages that a command is given.
 ghost use Rattle.std.specs.Prelude.{◌≡◌, IfOk, option_map};
-ghost use Rattle.tool_names.specs.Named.{AreLoadedNames, cell_said, name_said};
+ghost use Rattle.tool_names.specs.Named.{AreLoadedNames, AreNamesOfFile, cell_said, name_said};
 
 use crate::names_in;
 use crate::table::table_fault;
@@ -9,7 +9,7 @@ use message_names::MessageNames;
 use rt1553::{LoadFault, load};
 use rt1553_import::{ImportFault, import_table};
 use std::rt::Files;
-use tool_files::{ToolFault, read_tool_profile, shown};
+use tool_files::{ToolFault, digest_of, read_tool_profile, shown};
 
 /// Warns, on the standard error, of a table in a file of this name that is for none of these addresses, if there are some.
 fn warn_of_address<R: AllocGlobal + Eprint>(
@@ -38,8 +38,36 @@ fn warn_of_address<R: AllocGlobal + Eprint>(
     Ok(())
 }
 
-/// The names of messages of the table in the file of this name, where one is given. A table for none of these addresses of profiles is
-/// warned of.
+/// A table of names.
+#[derive(Drop)]
+pub struct LoadedNames {
+    pub names: MessageNames,
+    /// The SHA-256 digest of the file.
+    pub digest: [u8; 32],
+}
+
+/// The names of messages of the table in the file of this name. A table for none of these addresses of profiles is warned of.
+pub fn load_names_file<R: Files + AllocGlobal + Eprint>(
+    rt: &R,
+    name: &str,
+    addresses: &[u8],
+) -> Result<LoadedNames, ToolFault>
+    ensures { IfOk result AreNamesOfFile }
+{
+    let bytes = read_tool_profile(rt, name)?;
+    match names_in(rt.alloc(), bytes.as_slice()) {
+        Ok(names) => {
+            warn_of_address(rt, name, bytes.as_slice(), addresses)?;
+            Ok(LoadedNames {
+                names,
+                digest: digest_of(bytes.as_slice()),
+            })
+        }
+        Err(fault) => Err(table_fault(rt, name, fault)),
+    }
+}
+
+/// The same, where a table is given.
 pub fn load_names<R: Files + AllocGlobal + Eprint>(
     rt: &R,
     table: Option<&str>,
@@ -50,14 +78,7 @@ pub fn load_names<R: Files + AllocGlobal + Eprint>(
     let Some(name) = table else {
         return Ok(None);
     };
-    let bytes = read_tool_profile(rt, name)?;
-    match names_in(rt.alloc(), bytes.as_slice()) {
-        Ok(names) => {
-            warn_of_address(rt, name, bytes.as_slice(), addresses)?;
-            Ok(Some(names))
-        }
-        Err(fault) => Err(table_fault(rt, name, fault)),
-    }
+    Ok(Some(load_names_file(rt, name, addresses)?.names))
 }
 
 /// The cell of a command, also of a mode code that no terminal may have: one that the standard reserves, with the other T/R, or not by

@@ -1,1 +1,2 @@
 pub mod PassingLaws
+pub mod TriedLaws

@@ -21,7 +21,8 @@ use Rattle.rt1553_verify.specs.declared.stated.StatedFault.{StatedFault}
 use Rattle.rt1553_verify.specs.declared.stated.StatedFault.TheVariants as stated
 use Rattle.tool_verify.specs.declared.verify.PlayedTo.{PlayedTo}
 use Rattle.tool_verify.specs.declared.verify.PlayedTo.TheVariants.{One, Folder}
-use Rattle.tool_files.specs.Status.{IsLoaded}
+use Rattle.tool_files.specs.declared.files.LoadedProfile.{LoadedProfile}
+use Rattle.tool_files.specs.Loaded.{IsLoadedFile}
 
 -- nothing is told
 abbrev pub tells_nothing : Result (List ToldAnswer) StatedFault → Bool
@@ -29,10 +30,10 @@ tells_nothing (Ok []) = true
 tells_nothing (Ok (told ∷ others)) = false
 tells_nothing (Err fault) = false
 
--- the terminal is the one that was given, or one of some file
-abbrev pub IsPlayedTo : PlayedTo → Parts → Type 0
-IsPlayedTo (One normal) value = value ≡ normal
-IsPlayedTo (Folder folder) value = IsLoaded value
+-- the profile is the one that was given, or that of some file
+abbrev pub IsPlayedTo : PlayedTo → LoadedProfile → Type 0
+IsPlayedTo (One given) profile = profile ≡ given
+IsPlayedTo (Folder folder) profile = IsLoadedFile profile
 
 -- what is compared of what a script states: what the bus alone shows, or all
 abbrev pub scoped : Bool → List StatedEvent → List StatedEvent

@@ -39,6 +39,7 @@ fn open_recording<R: Files + AllocGlobal>(
     let script = LoadedScript {
         text,
         sources: None,
+        digest: None,
     };
     let rest = if is_all {
         None

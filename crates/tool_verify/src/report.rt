@@ -1,25 +1,31 @@
 //! The command `verify` in the formats that machines and managers read.
-ghost use Rattle.std.specs.Prelude.{◌≡◌, ◌≤◌, ◌↔◌, None, IfOk, length, true};
-ghost use Rattle.bus_legal.specs.Parts.{Parts};
+ghost use Rattle.std.specs.Prelude.{◌≡◌, ◌≤◌, ◌↔◌, None, IfOk, IsErr, length, true};
 ghost use Rattle.rt1553_report.specs.Results.{outcome_passes};
-ghost use Rattle.tool_verify.specs.Passing.{IsPlayedTo, SaysOf};
+ghost use Rattle.tool_verify.specs.Passing.{SaysOf};
+ghost use Rattle.tool_verify.specs.Digests.{HasDigestsOf, HasScriptDigest, HasTableOf};
+ghost use Rattle.tool_verify.specs.inner.Tried.{IsTried};
 
 use crate::opened::OpenScript;
-use crate::verify::{Played, PlayedScript, clauses_of, play_script};
+use crate::verify::{Played, PlayedScript, PlayedTo, clauses_of, play_script};
 use ascii_json::json_line;
+use bus_legal::Normal;
 use message_names::MessageNames;
 use rt1553_draw::{DrawFault, draw_lines};
 use rt1553_report::{
-    ScriptOutcome, ScriptResult, clauses_in, junit_report, result_json, results_page,
+    FileDigests, NamesTable, ReportHead, ScriptOutcome, ScriptResult, clauses_in, junit_report,
+    result_json, results_page,
 };
-use rt1553_tool_args::{AskedReport, Profiles, ReportFormat};
+use rt1553_tool_args::{
+    AskedReport, CANONICAL_VERSION, PROGRAM_VERSION, Profiles, ReportFormat, TOOLCHAIN,
+};
 use rt1553_verify::{WrongAnswer, named};
 use std::alloc::{AllocError, Global};
 use std::format;
-use std::io::Write;
+use std::io::{Read, Write};
 use std::rt::Files;
 use tool_files::{
-    DIFFERENT, LoadedScript, ToolFault, refused_file, status_or_stop, worst, write_bytes,
+    DIFFERENT, HashedReader, LoadedProfile, LoadedScript, ToolFault, canonical_digest,
+    refused_file, status_or_stop, worst, write_bytes,
 };
 
 /// A script that was done: what came of it, and the status that it asks for.
@@ -42,6 +48,7 @@ fn lines_of_wrong(alloc: Global, wrong: &[WrongAnswer]) -> Result<Vec<u64>, Allo
 fn drawing_of<R: AllocGlobal>(
     rt: &R,
     names: Option<&MessageNames>,
+    normal: &Normal,
     name: &str,
     script: &[u8],
     it: &PlayedScript,
@@ -50,7 +57,7 @@ fn drawing_of<R: AllocGlobal>(
         return Ok(None);
     }
     let lines = lines_of_wrong(rt.alloc(), it.wrong.as_slice())?;
-    match draw_lines(rt.alloc(), &it.normal, names, script, lines.as_slice()) {
+    match draw_lines(rt.alloc(), normal, names, script, lines.as_slice()) {
         Ok(drawing) => Ok(Some(drawing)),
         Err(DrawFault::TooMany) => Ok(None),
         Err(DrawFault::Memory) => Err(ToolFault::Memory),
@@ -74,21 +81,23 @@ fn in_file(
     Ok(told)
 }
 
-/// Plays a script of this name, and gives what came of it; with a drawing of what differs, where it is `drawn`.
-fn outcome_of_script<R: Files + AllocGlobal + Eprint>(
+/// Plays a script of this name to a terminal, and gives what came of it; with a drawing of what differs, where it is `drawn`.
+fn outcome_of_script<R: AllocGlobal + Eprint, F: Read + Drop>(
     rt: &R,
     played: &Played<'_>,
+    normal: &Normal,
     name: &str,
     script: &LoadedScript,
-    rest: Option<R::File>,
+    rest: Option<F>,
     drawn: bool,
 ) -> Result<ScriptOutcome, ToolFault>
-    ensures { IfOk result (λ outcome. (value : Parts) × IsPlayedTo played.now.to value × (rest ≡ None → SaysOf played.now.kind value script.now.text.items (outcome_passes outcome))) }
+    ensures { IfOk result (λ outcome. rest ≡ None → SaysOf played.now.kind normal.now script.now.text.items (outcome_passes outcome)) }
 {
     let drawn = drawn && rest.is_none();
-    let it = play_script(rt, played, name, script, rest)?;
+    let it = play_script(rt, played, normal, name, script, rest)?;
     let drawing = if drawn {
-        drawing_of(rt, played.names.as_ref(), name, script.text.as_slice(), &it)?
+        let text = script.text.as_slice();
+        drawing_of(rt, played.message_names(), normal, name, text, &it)?
     } else {
         None
     };
@@ -145,6 +154,142 @@ fn profile_name(
     Ok(Some(String::from_str(alloc, name)?))
 }
 
+/// A script that was tried.
+#[derive(Drop)]
+struct TriedFile {
+    /// The script, or the front of a recording; empty where it was not read.
+    text: Vec<u8>,
+    digests: FileDigests,
+    outcome: Result<ScriptOutcome, ToolFault>,
+}
+
+/// No digest.
+const NO_DIGESTS: FileDigests = FileDigests {
+    script: None,
+    profile: None,
+    canonical: None,
+};
+
+/// The digests of a profile.
+fn profile_digests(alloc: Global, profile: &LoadedProfile) -> Result<FileDigests, AllocError>
+    ensures { IfOk result (HasDigestsOf profile.now) }
+{
+    Ok(FileDigests {
+        script: None,
+        profile: Some(profile.digest),
+        canonical: Some(canonical_digest(alloc, &profile.normal)?),
+    })
+}
+
+/// The digest of the file of a script, of which `rest` was not read, if that is there; None where it cannot be read to its end.
+fn digest_with<F: Read + Drop>(script: &LoadedScript, rest: Option<F>) -> Option<[u8; 32]>
+    ensures { rest ≡ None → HasScriptDigest script.now result }
+{
+    match rest {
+        None => Some(script.file_digest()),
+        Some(rest) => HashedReader::new(script.text.as_slice(), rest)
+            .digest()
+            .ok(),
+    }
+}
+
+/// Plays a recording that goes on in `rest`, and gives what came of it, and the digest of its file as `digest_with` does.
+fn play_long<R: AllocGlobal + Eprint, F: Read + Drop>(
+    rt: &R,
+    played: &Played<'_>,
+    normal: &Normal,
+    name: &str,
+    script: &LoadedScript,
+    rest: F,
+) -> (Result<ScriptOutcome, ToolFault>, Option<[u8; 32]>) {
+    let mut hashed = HashedReader::new(script.text.as_slice(), rest);
+    let outcome = outcome_of_script(rt, played, normal, name, script, Some(&mut hashed), false);
+    (outcome, hashed.digest().ok())
+}
+
+/// Plays a script to a terminal, and gives what came of it, and the digest of its file. It goes on in `rest` if that is there.
+fn play_hashed<R: AllocGlobal + Eprint, F: Read + Drop>(
+    rt: &R,
+    played: &Played<'_>,
+    normal: &Normal,
+    name: &str,
+    script: &LoadedScript,
+    rest: Option<F>,
+    drawn: bool,
+) -> (Result<ScriptOutcome, ToolFault>, Option<[u8; 32]>)
+    ensures outcome { rest ≡ None → IfOk result.0 (λ outcome. SaysOf played.now.kind normal.now script.now.text.items (outcome_passes outcome)) }
+    ensures digest { rest ≡ None → HasScriptDigest script.now result.1 }
+{
+    match rest {
+        None => {
+            let none: Option<F> = None;
+            let outcome = outcome_of_script(rt, played, normal, name, script, none, drawn);
+            (outcome, Some(script.file_digest()))
+        }
+        Some(rest) => play_long(rt, played, normal, name, script, rest),
+    }
+}
+
+/// Plays a script of a file to the terminal of its profile.
+fn try_file<R: Files + AllocGlobal + Eprint>(
+    rt: &R,
+    played: &Played<'_>,
+    name: &str,
+    opened: OpenScript<R::File>,
+    drawn: bool,
+) -> Result<TriedFile, ToolFault>
+    ensures { opened.rest ≡ None → IfOk result (IsTried played.now opened.script) }
+{
+    let OpenScript { script, rest } = opened;
+    let profile = match played.of_script(rt, name, script.text.as_slice()) {
+        Ok(profile) => profile,
+        Err(fault) => return Ok(without_profile(script, rest, fault)),
+    };
+    let mut digests = profile_digests(rt.alloc(), &profile)?;
+    let (outcome, digest) = play_hashed(rt, played, &profile.normal, name, &script, rest, drawn);
+    digests.script = digest;
+    Ok(TriedFile {
+        text: script.text,
+        digests,
+        outcome,
+    })
+}
+
+/// What is reported of a script whose profile is not loaded, for this fault.
+fn without_profile<F: Read + Drop>(
+    script: LoadedScript,
+    rest: Option<F>,
+    fault: ToolFault,
+) -> TriedFile
+    ensures fault { IsErr result.outcome }
+    ensures digest { rest ≡ None → HasScriptDigest script result.digests.script }
+{
+    let mut digests = NO_DIGESTS;
+    digests.script = digest_with(&script, rest);
+    TriedFile {
+        text: script.text,
+        digests,
+        outcome: Err(fault),
+    }
+}
+
+/// What is reported of a script that is not opened, for this fault.
+fn not_opened<R: AllocGlobal>(
+    rt: &R,
+    to: &PlayedTo<'_>,
+    fault: ToolFault,
+) -> Result<TriedFile, ToolFault> {
+    let digests = match to {
+        PlayedTo::One(profile) => profile_digests(rt.alloc(), profile)?,
+        PlayedTo::Folder(_) => NO_DIGESTS,
+    };
+    Ok(TriedFile {
+        text: Vec::new(rt.alloc()),
+        digests,
+        outcome: Err(fault),
+    })
+}
+
 /// Plays a script of a file, and gives what is reported of it, and the status that it asks for.
 fn report_file<R: Files + AllocGlobal + Eprint>(
     rt: &R,
@@ -155,35 +300,57 @@ fn report_file<R: Files + AllocGlobal + Eprint>(
     ensures passes { IfOk result (λ r. (r.1 ≡ 0) ↔ (outcome_passes r.0.outcome ≡ true)) }
     ensures most { IfOk result (λ r. r.1 ≤ 4) }
 {
-    let (script, outcome) = match played.open(rt, name) {
-        Ok(OpenScript { script, rest }) => {
+    let tried = match played.open(rt, name) {
+        Ok(opened) => {
             let drawn = matches!(asked.format, ReportFormat::Html);
-            let outcome = outcome_of_script(rt, played, name, &script, rest, drawn);
-            (script.text, outcome)
+            try_file(rt, played, name, opened, drawn)?
         }
-        Err(fault) => (Vec::new(rt.alloc()), Err(fault)),
+        Err(fault) => not_opened(rt, &played.to, fault)?,
     };
-    let done = done_script(rt, outcome)?;
+    let done = done_script(rt, tried.outcome)?;
+    let text = tried.text.as_slice();
     let of = ScriptResult {
         file: String::from_str(rt.alloc(), name)?,
-        profile: profile_name(rt.alloc(), asked.profiles, script.as_slice())?,
-        clauses: clauses_in(rt.alloc(), clauses_of(script.as_slice()))?,
+        profile: profile_name(rt.alloc(), asked.profiles, text)?,
+        clauses: clauses_in(rt.alloc(), clauses_of(text))?,
+        digests: tried.digests,
         outcome: done.outcome,
     };
     Ok((of, done.status))
+}
+
+/// What is the same of all scripts of a report.
+fn head_of<'a>(played: &Played<'_>, asked: AskedReport<'a>) -> ReportHead<'a>
+    ensures date { result.date ≡ asked.entry.date }
+    ensures names { HasTableOf asked.entry.names played.now.names result.names }
+{
+    ReportHead {
+        program: PROGRAM_VERSION,
+        toolchain: TOOLCHAIN,
+        canonical: CANONICAL_VERSION,
+        names: match (asked.names, &played.names) {
+            (Some(file), Some(loaded)) => Some(NamesTable {
+                file,
+                digest: loaded.digest,
+            }),
+            _ => None,
+        },
+        date: asked.date,
+    }
 }
 
 /// Writes what came of a script, where the format has a line for each, or else keeps it.
 fn put_or_keep<W: Write>(
     alloc: Global,
     format: ReportFormat,
+    head: ReportHead<'_>,
     of: ScriptResult,
     kept: &mut Vec<ScriptResult>,
     output: &mut W,
 ) -> Result<(), ToolFault> {
     match format {
         ReportFormat::Json => {
-            let line = json_line(result_json(alloc, &of))?;
+            let line = json_line(result_json(alloc, head, &of))?;
             write_bytes(output, line.as_str().as_bytes())
         }
         _ => Ok(kept.push(of)?),
@@ -194,12 +361,13 @@ fn put_or_keep<W: Write>(
 fn put_kept<W: Write>(
     alloc: Global,
     format: ReportFormat,
+    head: ReportHead<'_>,
     kept: &[ScriptResult],
     output: &mut W,
 ) -> Result<(), ToolFault> {
     let text = match format {
-        ReportFormat::Junit => junit_report(alloc, kept)?,
-        ReportFormat::Html => results_page(alloc, kept)?,
+        ReportFormat::Junit => junit_report(alloc, head, kept)?,
+        ReportFormat::Html => results_page(alloc, head, kept)?,
         _ => return Ok(()),
     };
     write_bytes(output, text.as_str().as_bytes())
@@ -215,13 +383,14 @@ pub fn report_files<R: Files + AllocGlobal + Eprint, W: Write>(
 ) -> Result<u8, ToolFault>
     ensures { IfOk result (λ status. status ≤ 4) }
 {
+    let head = head_of(played, asked);
     let mut kept = Vec::new(rt.alloc());
     let mut status = 0;
     for name in names {
         let (of, of_file) = report_file(rt, played, asked, name)?;
         status = worst(status, of_file);
-        put_or_keep(rt.alloc(), asked.format, of, &mut kept, output)?;
+        put_or_keep(rt.alloc(), asked.format, head, of, &mut kept, output)?;
     }
-    put_kept(rt.alloc(), asked.format, kept.as_slice(), output)?;
+    put_kept(rt.alloc(), asked.format, head, kept.as_slice(), output)?;
     Ok(status)
 }

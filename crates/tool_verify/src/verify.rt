@@ -1,7 +1,7 @@
 //! The command `verify`: scripts that state their answers are played.
 ghost use Rattle.std.specs.Prelude.{◌≡◌, ◌⊎◌, ◌≤◌, ◌==◌, None, IfOk, length};
-ghost use Rattle.bus_legal.specs.Parts.{Parts};
-ghost use Rattle.tool_files.specs.Status.{IsLoaded, RefusesText, tool_status};
+ghost use Rattle.tool_files.specs.Loaded.{IsLoadedFile};
+ghost use Rattle.tool_files.specs.Status.{RefusesText, tool_status};
 ghost use Rattle.tool_verify.specs.Passing.{IsPlayedTo, SaysOf, recording_status, script_status, stated_status};
 
 use crate::compared::{JudgedPart, ScriptFault, compare_open, explaining_script};
@@ -16,19 +16,20 @@ use rt1553_verify::{ScriptWarning, StatedFault, WrongAnswer, named};
 use script_recordings::RecordingFault;
 use std::alloc::{AllocError, Global};
 use std::format;
-use std::io::Write;
+use std::io::{Read, Write};
 use std::rt::Files;
 use tool_files::{
-    DIFFERENT, Ink, LoadedScript, Screen, ToolFault, first_refused, load_profile, load_script,
-    put_in, read_script_file, refused_file, shown, status_or_stop, worst, write_bytes,
+    DIFFERENT, Ink, LoadedProfile, LoadedScript, Screen, ToolFault, first_refused,
+    load_profile_file, load_script, put_in, read_script_file, refused_file, shown, status_or_stop,
+    worst, write_bytes,
 };
-use tool_names::{load_names, name_of_command};
+use tool_names::{LoadedNames, load_names_file, name_of_command};
 
 /// Which terminal a script is played to.
 #[derive(Drop)]
 pub enum PlayedTo<'a> {
     /// All scripts to one.
-    One(Normal),
+    One(LoadedProfile),
     /// Each to that of the file of this folder that its line `# Profile: ` names.
     Folder(&'a str),
 }
@@ -38,7 +39,7 @@ pub enum PlayedTo<'a> {
 pub struct Played<'a> {
     pub to: PlayedTo<'a>,
     /// The names of messages, where there are names.
-    pub names: Option<MessageNames>,
+    pub names: Option<LoadedNames>,
     /// What the scripts are.
     pub kind: ScriptKind,
     /// The files have messages, which are expanded first.
@@ -64,14 +65,14 @@ fn stays_inside(profile: &str) -> bool {
     !profile.starts_with('/') && profile.split('/').all(|part| part != "..")
 }
 
-/// What can be reached of the terminal that a script of this name names, of a folder.
+/// The profile that a script of this name names, of a folder.
 fn profile_in<R: Files + AllocGlobal>(
     rt: &R,
     folder: &str,
     name: &str,
     script: &[u8],
-) -> Result<Normal, ToolFault>
-    ensures { IfOk result (λ normal. IsLoaded normal) }
+) -> Result<LoadedProfile, ToolFault>
+    ensures { IfOk result IsLoadedFile }
 {
     let Some(profile) = named(script, b"# Profile: ") else {
         return Err(refused_file(rt, name, &NO_PROFILE));
@@ -83,21 +84,21 @@ fn profile_in<R: Files + AllocGlobal>(
         return Err(refused_file(rt, name, &OUTSIDE));
     }
     let path = format!(in rt.alloc(); "{folder}/{profile}")?;
-    load_profile(rt, path.as_str())
+    load_profile_file(rt, path.as_str())
 }
 
 impl Played<'_> {
-    /// Gives what can be reached of the terminal that a script is played to.
-    fn of_script<R: Files + AllocGlobal>(
+    /// Gives the profile of the terminal that a script is played to.
+    pub fn of_script<R: Files + AllocGlobal>(
         &self,
         rt: &R,
         name: &str,
         script: &[u8],
-    ) -> Result<Normal, ToolFault>
+    ) -> Result<LoadedProfile, ToolFault>
         ensures { IfOk result (IsPlayedTo self.now.to) }
     {
         match &self.to {
-            PlayedTo::One(normal) => Ok(*normal),
+            PlayedTo::One(profile) => Ok(*profile),
             PlayedTo::Folder(folder) => profile_in(rt, folder, name, script),
         }
     }
@@ -112,8 +113,16 @@ impl Played<'_> {
             return Ok(None);
         }
         let messages = read_script_file(rt, name)?;
-        let normal = self.of_script(rt, name, messages.as_slice())?;
-        Ok(Some(normal.address()))
+        let profile = self.of_script(rt, name, messages.as_slice())?;
+        Ok(Some(profile.normal.address()))
+    }
+
+    /// The names of messages, where there are names.
+    pub fn message_names(&self) -> Option<&MessageNames> {
+        match &self.names {
+            Some(loaded) => Some(&loaded.names),
+            None => None,
+        }
     }
 
     /// Opens the script in the file of this name; messages are expanded for the terminal to which they are played.
@@ -239,8 +248,6 @@ fn unread_fault<R: AllocGlobal>(
 /// A script that was played.
 #[derive(Drop)]
 pub struct PlayedScript {
-    /// What can be reached of the terminal to which it was played.
-    pub normal: Normal,
     /// How many answers it states.
     pub answers: usize,
     /// Why that shows nothing, or little, where it does.
@@ -253,7 +260,7 @@ pub struct PlayedScript {
 /// The names of the messages of commands, where there are names.
 fn names_of(
     alloc: Global,
-    names: &Option<MessageNames>,
+    names: Option<&MessageNames>,
     commands: &[Option<u16>],
 ) -> Result<Option<AnswerNames>, AllocError> {
     let Some(names) = names else {
@@ -295,28 +302,32 @@ fn tell_part<R: AllocGlobal + Eprint>(
     Ok(())
 }
 
-/// Plays a script of this name, which goes on in `rest` if that is there, and warns, on the standard error, of one that shows nothing, or little.
-pub fn play_script<R: Files + AllocGlobal + Eprint>(
+/// Plays a script of this name to a terminal, and warns, on the standard error, of one that shows nothing, or little. The script goes on
+/// in `rest` if that is there.
+pub fn play_script<R: AllocGlobal + Eprint, F: Read + Drop>(
     rt: &R,
     played: &Played<'_>,
+    normal: &Normal,
     name: &str,
     script: &LoadedScript,
-    rest: Option<R::File>,
+    rest: Option<F>,
 ) -> Result<PlayedScript, ToolFault>
-    ensures { IfOk result (λ it. (value : Parts) × IsPlayedTo played.now.to value × (rest ≡ None → SaysOf played.now.kind value script.now.text.items (length it.wrong.items == 0))) }
+    ensures { IfOk result (λ it. rest ≡ None → SaysOf played.now.kind normal.now script.now.text.items (length it.wrong.items == 0)) }
 {
     let text = script.text.as_slice();
-    let normal = played.of_script(rt, name, text)?;
-    match compare_open(rt.alloc(), &normal, text, rest, played.kind) {
+    match compare_open(rt.alloc(), normal, text, rest, played.kind) {
         Ok(compared) => {
-            let names = names_of(rt.alloc(), &played.names, compared.commands.as_slice())?;
+            let names = names_of(
+                rt.alloc(),
+                played.message_names(),
+                compared.commands.as_slice(),
+            )?;
             if let Some(warning) = compared.warning {
                 let name = shown(rt, name)?;
                 let _ = eprintln!(rt; "{name}: warning: {}", warning.text());
             }
             tell_part(rt, name, script, compared.part)?;
             Ok(PlayedScript {
-                normal,
                 answers: compared.answers,
                 warning: compared.warning,
                 wrong: compared.wrong,
@@ -337,9 +348,10 @@ fn tell_script<R: Files + AllocGlobal + Eprint, W: Write>(
     report: ScriptReport,
     output: &mut W,
 ) -> Result<bool, ToolFault>
-    ensures { IfOk result (λ passes. (value : Parts) × IsPlayedTo played.now.to value × (rest ≡ None → SaysOf played.now.kind value script.now.text.items passes)) }
+    ensures { IfOk result (λ passes. (profile : LoadedProfile) × IsPlayedTo played.now.to profile × (rest ≡ None → SaysOf played.now.kind profile.normal script.now.text.items passes)) }
 {
-    let it = play_script(rt, played, name, script, rest)?;
+    let profile = played.of_script(rt, name, script.text.as_slice())?;
+    let it = play_script(rt, played, &profile.normal, name, script, rest)?;
     let name = shown(rt, name)?;
     for (index, wrong) in it.wrong.as_slice().iter().enumerate() {
         let line = script.line_in_file(wrong.line);
@@ -426,6 +438,18 @@ fn play_files<R: Files + AllocGlobal + Eprint, W: Write>(
     Ok(status)
 }
 
+/// The names of messages of a table, where one is given.
+fn table_of<R: Files + AllocGlobal + Eprint>(
+    rt: &R,
+    table: Option<&str>,
+    addresses: &[u8],
+) -> Result<Option<LoadedNames>, ToolFault> {
+    match table {
+        Some(name) => Ok(Some(load_names_file(rt, name, addresses)?)),
+        None => Ok(None),
+    }
+}
+
 /// Plays scripts that state their answers and writes what came of them: as text where they differ, and with `summary` also what passes,
 /// clause by clause; in another format all. The status is the highest that a script asks for.
 pub fn verify_scripts<R: Files + AllocGlobal + Eprint, W: Write>(
@@ -438,12 +462,12 @@ pub fn verify_scripts<R: Files + AllocGlobal + Eprint, W: Write>(
     ensures { IfOk result (λ status. status ≤ 4) }
 {
     let to = match asked.profiles {
-        Profiles::One(name) => PlayedTo::One(load_profile(rt, name)?),
+        Profiles::One(name) => PlayedTo::One(load_profile_file(rt, name)?),
         Profiles::Folder(folder) => PlayedTo::Folder(folder),
     };
     let names = match &to {
-        PlayedTo::One(normal) => load_names(rt, asked.names, &[normal.address()])?,
-        PlayedTo::Folder(_) => load_names(rt, asked.names, &[])?,
+        PlayedTo::One(profile) => table_of(rt, asked.names, &[profile.normal.address()])?,
+        PlayedTo::Folder(_) => table_of(rt, asked.names, &[])?,
     };
     let played = Played {
         to,
@@ -471,10 +495,11 @@ pub fn explain_recording<R: Files + AllocGlobal + Eprint, W: Write>(
 ) -> Result<u8, ToolFault>
     ensures { IfOk result (λ status. status ≤ 1) }
 {
-    let normal = load_profile(rt, asked.profile)?;
+    let profile = load_profile_file(rt, asked.profile)?;
+    let normal = profile.normal;
     let played = Played {
-        to: PlayedTo::One(normal),
-        names: load_names(rt, asked.names, &[normal.address()])?,
+        to: PlayedTo::One(profile),
+        names: table_of(rt, asked.names, &[normal.address()])?,
         kind: asked.kind,
         expand: asked.expand,
     };

@@ -2,7 +2,7 @@ use Rattle.std.proofs.Common.{refl, subst}
 use Rattle.rt1553_report.specs.CoveragePage.{IsFileRow}
 use Rattle.rt1553_report.specs.Shown.{StandsFor}
 use Rattle.rt1553_report.proofs.TextLaws.{adds, adds_on_ok, chosen}
-use Rattle.rt1553_report.proofs.coverage.push_file_row.Goals as goal
+use Rattle.rt1553_report.proofs.fields.push_file_row.Goals as goal
 
 pub returns : goal.returns
 returns c =

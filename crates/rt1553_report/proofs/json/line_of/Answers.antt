@@ -1,0 +1,17 @@
+use Rattle.std.proofs.Common.{◌∙◌, ap, refl, option_map}
+use Rattle.hex.specs.Hex.{encode_lower}
+use Rattle.rt1553_report.proofs.json.line_of.Goals as goal
+
+pub returns : goal.returns
+returns c = record {
+  passes = c.passes.ensures;
+  sha256 = c.in_ok-digest_text.ensures;
+  profile_sha256 = c.in_ok-digest_text-2.ensures;
+  canonical_sha256 = c.in_ok-digest_text-3.ensures;
+  names = c.names_file.ensures;
+  names_sha256 = c.in_ok-digest_text-4.ensures ∙ ap (option_map encode_lower) c.names_digest.ensures;
+  program = refl;
+  toolchain = refl;
+  canonical = refl;
+  date = refl;
+}
