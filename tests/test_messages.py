@@ -95,6 +95,34 @@ TOLD = with_files(
         HEADER + "     1       1 A   mode       5   2       done; status 2800\n",
         errors="bad:5:3: error: after a bus, c, d, gap or noise is expected\n"),
     Row("a long line", "messages five long", 2, HEADER, errors="long:2:65: error: a line has at most 64 bytes\n"),
+    Row("messages for expand", "messages --format messages five script", 0, """\
+A rx 5 3 2: 0011 0022
+B rx all 3 2: 0001 0002
+A tx 5 3 2
+A rx 5 3 2 from 6 3: 0003 0004
+A c 3862
+A c 3462
+A gap
+A c 3000
+A d 0005
+A d 0006
+A gap
+A c 3800
+A gap
+flag busy 1
+A rx 5 3 2: 0007 0008
+A c 2863
+A gap
+A c 2c64
+A gap
+slot
+"""),
+    Row("messages for expand, of a fault", "messages --format messages five bad", 2, errors="bad:5:3: error: after a bus, c, d, gap or noise is expected\n"),
+    Row("messages for expand, of a long line", "messages --format messages five long", 2, errors="long:2:65: error: a line has at most 64 bytes\n"),
+    Row("messages for expand, of an address", "messages --format messages --rt 5 five script", 3),
+    Row("messages for expand, of a subaddress", "messages --format messages --subaddress 3 five script", 3),
+    Row("messages for expand, those in error", "messages --format messages --errors five script", 3),
+    Row("messages for expand, with names", "messages --format messages --names names.csv five script", 3),
     Row("an address that no terminal has", "messages five script --rt 31", 3),
     Row("an address that is no number", "messages five script --rt +5", 3),
     Row("a subaddress that is too large", "messages five script --subaddress 32", 3),
@@ -173,6 +201,54 @@ def in_cells(row):
              " ".join(row["data"]), row["status"], " ".join(row["bits"]), row["handed"]]  # fmt: skip
     told = dict(zip(COLUMNS, ("" if it is None else str(it) for it in cells), strict=True))
     return {**told, "name": row["name"] or ""} if "name" in row else told
+
+
+def commands():
+    """Each command word, as a message that looks random, with its line."""
+    for bits in range(1 << 16):
+        address, transmit, subaddress, low = bits >> 11, bits >> 10 & 1, bits >> 5 & 31, bits & 31
+        name, count = ("all" if address == 31 else address), low or 32
+        words = 0 if transmit else (low >= 16 if subaddress in (0, 31) else count)
+        data = "".join(f" {bits * 7 + it * 40503 & 0xFFFF:04x}" for it in range(words))
+        if subaddress in (0, 31):
+            text = f"mode {name} {low} {'tx' if transmit else 'rx'}{' 31' * (subaddress == 31)}"
+        else:
+            text = f"{'tx' if transmit else 'rx'} {name} {subaddress} {count}"
+        yield f"{'AB'[bits % 3 == 0]} {text}{':' * bool(words)}{data}\n"
+
+
+def transfers():
+    """Transfers from each terminal, of which terminal 5 is to send words that are no matter."""
+    for of in range(31):
+        for to in {0, 5, 30, 31} - {of}:
+            word = " 0000" if of == 5 else " 8001"
+            yield f"A rx {'all' if to == 31 else to} {1 + to % 30} {1 + of} from {of} {1 + of % 30}:{word * (1 + of)}\n"
+
+
+def test_messages_that_were_expanded(tool, tmp_path):
+    """The message of each command word, and transfers, are expanded and gathered again."""
+    messages = [*commands(), *transfers()]
+    for front in range(0, len(messages), 16384):
+        text = "".join(messages[front : front + 16384])
+        write_files(tmp_path, {"five": FIVE, "messages": text})
+        write_files(tmp_path, {"script": run(tool, "expand", "--for", "five", "messages", folder=tmp_path).output})
+        told = run(tool, "messages", "--format", "messages", "five", "script", folder=tmp_path)
+        assert (told.status, told.errors) == (0, b"")
+        assert told.output.decode() == text
+
+
+def test_messages_expanded_again(tool, tmp_path):
+    """10,000 messages that look random are gathered, and give their events again."""
+    kinds = set()
+    for number in range(250):
+        profile, _, script, _ = played(number)
+        write_files(tmp_path, {"profile": profile, "script": script})
+        told = run(tool, "messages", "--format", "messages", "profile", "script", folder=tmp_path)
+        assert (told.status, told.errors) == (0, b"")
+        write_files(tmp_path, {"messages": told.output})
+        assert run(tool, "expand", "--for", "profile", "messages", folder=tmp_path).output.decode() == script
+        kinds |= {it.split()[1] for it in told.output.decode().splitlines() if it[:1] in "AB"}
+    assert kinds >= {"rx", "tx", "mode", "c", "d", "gap", "noise"}
 
 
 def test_messages_to_a_closed_pipe(tool, tmp_path):

@@ -13,7 +13,8 @@ use tool_profiles::{
 };
 use tool_scripts::{
     bus_words, check_profile, check_scripts, compare_profiles, draw_run, expand_file,
-    gather_script, list_messages, play_live, record_table, run_file, state_in_file, write_canonical,
+    gather_script, list_messages, play_live, record_table, run_file, state_in_file,
+    write_canonical,
 };
 use tool_verify::{cover_scripts, explain_recording, infer_profile, verify_scripts};
 
