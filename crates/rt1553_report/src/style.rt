@@ -4,6 +4,7 @@
 pub const RESULTS_STYLE: &str = "table{border-collapse:collapse;margin:.5rem 0 1rem}\
 th,td{border:1px solid #bbb;padding:.2rem .6rem;text-align:left;vertical-align:top;overflow-wrap:anywhere}\
 th{background:#eee}\
+thead th{overflow-wrap:normal}\
 td.count{text-align:right}\
 td.line{font-family:\"Liberation Mono\",\"DejaVu Sans Mono\",Consolas,Menlo,monospace}\
 code{font-family:\"Liberation Mono\",\"DejaVu Sans Mono\",Consolas,Menlo,monospace;font-size:.75em;overflow-wrap:anywhere}\
