@@ -21,7 +21,7 @@ use Rattle.script_lines.specs.EventLine.{kind_text, truth_field, place_text, fla
 use Rattle.script_lines.proofs.TranscriptLaws.{four_digits}
 use Rattle.rt1553_tool.specs.declared.fields.CommandFields.{CommandFields}
 use Rattle.rt1553_tool.specs.WordTexts.{short_decimal, address_text, tr_text, mode_text, transfer_text, asks_mode, command_text}
-use Rattle.rt1553_expand.specs.Gathered.{CommandMessage, from_text, word_text, words_text, message_line}
+use Rattle.rt1553_expand.specs.Gathered.{CommandMessage, from_text, spaced_word, data_words_text, listed_line}
 
 feeds-append : (xs ys : List ℕ) → NoLineFeed xs → NoLineFeed ys → NoLineFeed (xs ++ ys)
 feeds-append [] ys p q = q
@@ -161,16 +161,16 @@ feeds-from None = tt
 feeds-from (Some f) =
     feeds-append (codes " from ") _ (feeds (codes " from ") refl) (feeds-append (address_text f.address) _ (feeds-address f.address) (space-then _ (feeds-short f.subaddress)))
 
-feeds-each : (words : List ℕ) → NoLineFeed (flat_map word_text words)
+feeds-each : (words : List ℕ) → NoLineFeed (flat_map spaced_word words)
 feeds-each [] = tt
-feeds-each (word ∷ words) = feeds-append (word_text word) (flat_map word_text words) (space-then _ (feeds-digits word)) (feeds-each words)
+feeds-each (word ∷ words) = feeds-append (spaced_word word) (flat_map spaced_word words) (space-then _ (feeds-digits word)) (feeds-each words)
 
-feeds-words : (words : List ℕ) → NoLineFeed (words_text words)
+feeds-words : (words : List ℕ) → NoLineFeed (data_words_text words)
 feeds-words [] = tt
-feeds-words (word ∷ words) = feeds-append (codes ":") (flat_map word_text (word ∷ words)) (feeds (codes ":") refl) (feeds-each (word ∷ words))
+feeds-words (word ∷ words) = feeds-append (codes ":") (flat_map spaced_word (word ∷ words)) (feeds (codes ":") refl) (feeds-each (word ∷ words))
 
 -- the line of a message has no line feed
-pub message-feeds : (bus : Bus) (m : CommandMessage) → NoLineFeed (message_line bus m)
+pub message-feeds : (bus : Bus) (m : CommandMessage) → NoLineFeed (listed_line bus m)
 message-feeds bus m =
     let letter : NoLineFeed (bus_letter bus) = (letter-line bus).feeds in
     feeds-append (bus_letter bus) _ letter (space-then _ (feeds-append (command_text m.command) _ (feeds-if (asks_mode m.command) _ _ (feeds-mode m.command) (feeds-transfer m.command))

@@ -16,7 +16,7 @@ use Rattle.rt1553_tool.specs.WordLines.{status_with}
 use Rattle.rt1553_expand.specs.Message.{words_wanted}
 use Rattle.rt1553_expand.specs.Events.{word_event, data_events, message_end, is_own, own_events, heard_events, message_events}
 use Rattle.rt1553_expand.specs.Gathered.{CommandMessage, said, IsSender, IsListed}
-use Rattle.rt1553_expand.specs.inner.Found.{command_in, fields_heard, sender_found, bits_heard, events_before, words_found, message_by, message_behind, message_at}
+use Rattle.rt1553_expand.specs.inner.Found.{heard_in, fields_heard, sender_found, bits_heard, events_before, words_found, message_sent_by, message_behind, message_at}
 
 bit-back : (b : Bool) → (bit_of b == 1) ≡ b
 bit-back true = refl
@@ -33,7 +33,7 @@ fields-back f wide =
     λ i. record { address = address i; transmit = transmit i; subaddress = subaddress i; low = low i }
 
 -- a command word is heard as its command
-heard-command : (bus : Bus) (f : CommandFields) → AreOfTheirWidth (in_word f) → command_in (word_event bus (fields.Command f)) ≡ Some (record { bus = bus; command = f })
+heard-command : (bus : Bus) (f : CommandFields) → AreOfTheirWidth (in_word f) → heard_in (word_event bus (fields.Command f)) ≡ Some (record { bus = bus; command = f })
 heard-command bus f wide =
     rw (is_valid-valid_word Com (command_bits (in_word f))) (ap (λ g. Some (record { bus = bus; command = g })) (fields-back f wide))
 
@@ -120,5 +120,5 @@ found-next own bus m rest listed =
     let by_sender = sender-back own bus m.command m.sender m.words rest (with-receive m.command m.sender listed.message.command listed.message.sender) listed.message.count in
     let words = words-back own bus m.command m.sender m.words rest listed.message.count listed.zeros in
     ap (message_behind own es) (heard-command bus m.command listed.message.command)
-    ∙ ap (λ s. Some (record { bus = bus; message = message_by own m.command s es })) by_sender
+    ∙ ap (λ s. Some (record { bus = bus; message = message_sent_by own m.command s es })) by_sender
     ∙ ap (λ ws. Some (record { bus = bus; message = record { command = m.command; sender = m.sender; words = ws } })) words

@@ -18,7 +18,7 @@ use Rattle.rt1553_expand.specs.declared.fault.ExpandFault.{ExpandFault}
 use Rattle.rt1553_expand.specs.Message.{SaidMessage, words_wanted, message_in}
 use Rattle.rt1553_expand.specs.Events.{message_events}
 use Rattle.rt1553_expand.specs.Gathered.{CommandMessage, said, message_text, IsMessage, IsListed, NoneNext}
-use Rattle.rt1553_expand.specs.inner.Found.{HeardCommand, command_in, command_first, fields_heard, sender_found, bits_heard, events_before, words_found, message_found, MessageOn, message_behind, message_at}
+use Rattle.rt1553_expand.specs.inner.Found.{HeardCommand, heard_in, command_first, fields_heard, sender_found, bits_heard, events_before, words_found, message_found, MessageOn, message_behind, message_at}
 use Rattle.rt1553_expand.specs.inner.Gathering.{ReadsOn}
 use Rattle.rt1553_expand.proofs.FoundLaws.{found-next}
 
@@ -90,7 +90,7 @@ message-listed own es m command same is =
 -- what is found is listed, where it is a message
 pub found-listed : (own : Option ℕ) (es : List Event) (bus : Bus) (m : CommandMessage) → message_at own es ≡ Some (record { bus = bus; message = m }) → IsMessage m → IsListed own m
 found-listed own [] bus m is message = absurd (some-not (record { bus = bus; message = m }) (sym is))
-found-listed own (e ∷ es) bus m is message = heard (command_in e) is
+found-listed own (e ∷ es) bus m is message = heard (heard_in e) is
   where
     heard : (h : Option HeardCommand) → message_behind own es h ≡ Some (record { bus = bus; message = m }) → IsListed own m
     heard None is = absurd (some-not (record { bus = bus; message = m }) (sym is))

@@ -14,7 +14,7 @@ use Rattle.bus_script.specs.Reading.{Reading, adds, nothing}
 use Rattle.rt1553_expand.specs.Message.{message_in}
 use Rattle.rt1553_expand.specs.Events.{message_events}
 use Rattle.rt1553_expand.specs.Expansion.{Expansion, from_events, kept, message_expansion, by_bus_letter, with_named_fault, by_meaning, expansion_of, expanded_events, all_events, refusal_at, refusals_from, refusals_in}
-use Rattle.rt1553_expand.specs.Gathered.{CommandMessage, said, message_text, message_line, IsSaid, Piece, Whole, Alone, piece_line, piece_events, events_in, lines_text, NoneNext, IsNext, AreNext, IsMessage}
+use Rattle.rt1553_expand.specs.Gathered.{CommandMessage, said, message_text, listed_line, IsSaid, Piece, Whole, Alone, piece_line, piece_events, events_in, lines_text, NoneNext, IsNext, AreNext, IsMessage}
 use Rattle.rt1553_expand.specs.inner.Wrote.{Wrote}
 use Rattle.rt1553_expand.specs.inner.Gathering.{Says, AllSay, IsNextLine, WroteNext, WroteSo}
 use Rattle.rt1553_expand.proofs.FeedLaws.{event-line, message-feeds}
@@ -32,7 +32,7 @@ within-most : (own : Option ℕ) (line : List ℕ) → length line ≤ 256 → e
 within-most own line short = grind (arith, nat_tests, short)
 
 by-letter : (own : Option ℕ) (bus : Bus) (m : CommandMessage) → message_in (message_text m) ≡ Ok (said m)
-    → by_bus_letter own (bus_first (message_line bus m)) (drop 2 (message_line bus m)) ≡ Ok (from_events (message_events own bus (said m)))
+    → by_bus_letter own (bus_first (listed_line bus m)) (drop 2 (listed_line bus m)) ≡ Ok (from_events (message_events own bus (said m)))
 by-letter own A m read = ap (message_expansion own A) read
 by-letter own B m read = ap (message_expansion own B) read
 
@@ -42,7 +42,7 @@ message-says bus m is = record {
   expands = λ own.
       let says = each_is_said bus m is in (
         from_events (message_events own bus (said m)),
-        within-most own (message_line bus m) says.short ∙ refused-meaning own (message_line bus m) (from_events (message_events own bus (said m))) (meaning (message_line bus m)) says.other (by-letter own bus m says.read),
+        within-most own (listed_line bus m) says.short ∙ refused-meaning own (listed_line bus m) (from_events (message_events own bus (said m))) (meaning (listed_line bus m)) says.other (by-letter own bus m says.read),
         refl,
       );
 }
@@ -75,7 +75,7 @@ wrote-message own es room old mid new line n wrote feed = record {
   events = n.begins ∙ ap (λ r. r ++ drop (length room) es) n.room_is;
   next = n.listed;
   says = message-says n.bus n.message n.listed.message;
-  text = feed ∙ ap (λ t. t ++ 10 ∷ []) (wrote ∙ ap (λ l. old ++ l) n.spelled) ∙ append_assoc old (message_line n.bus n.message) (10 ∷ []);
+  text = feed ∙ ap (λ t. t ++ 10 ∷ []) (wrote ∙ ap (λ l. old ++ l) n.spelled) ∙ append_assoc old (listed_line n.bus n.message) (10 ∷ []);
 }
 
 pub wrote-alone : (own : Option ℕ) (es : List Event) (e : Event) (old new : List ℕ) → 0 < length es → e ≡ get_or es 0 e → NoneNext own es → Wrote old new (e ∷ []) → WroteNext own old new es 1

@@ -24,7 +24,7 @@ use Rattle.rt1553_tool.specs.WordTexts.{short_decimal, address_text, tr_text, mo
 use Rattle.rt1553_expand.specs.declared.fault.ExpandFault.{ExpandFault}
 use Rattle.rt1553_expand.specs.declared.fault.ExpandFault.TheVariants.{Sender, Comment, NotReceive}
 use Rattle.rt1553_expand.specs.Message.{◌>>=◌, cut, SaidMessage, named_word, sender_line, another_terminal, sender_of, words_wanted, nothing_behind, data_in, or_nothing, message_of, message_by_cuts, message_in}
-use Rattle.rt1553_expand.specs.Gathered.{CommandMessage, said, from_text, word_text, words_text, message_text, message_line, IsSender, IsMessage, EachIsSaid}
+use Rattle.rt1553_expand.specs.Gathered.{CommandMessage, said, from_text, spaced_word, data_words_text, message_text, listed_line, IsSender, IsMessage, EachIsSaid}
 use Rattle.rt1553_expand.proofs.FeedLaws.{no_byte}
 use Rattle.rt1553_expand.proofs.PartsLaws.{Free, free, free-append, free-if, free-decimal, free-above, cut-free, cut-at, cut-from, cut-from-none}
 use Rattle.rt1553_expand.proofs.WordReadLaws.{command-says, sender-read, length-decimal, length-address, length-direction}
@@ -91,13 +91,13 @@ digits-free w = (one (w / 256 / 16), (one (w / 256 % 16), (one (w % 256 / 16), (
     one : (i : ℕ) → slice_index lower_digits i ≢ 35
     one i = no_byte 35 refl (λ e. absurd (omega (arith, e))) i
 
-each-free : (words : List ℕ) → Free 35 (flat_map word_text words)
+each-free : (words : List ℕ) → Free 35 (flat_map spaced_word words)
 each-free [] = tt
-each-free (w ∷ words) = free-append 35 (word_text w) (flat_map word_text words) (space-free 35 (digits_of w) hash (digits-free w)) (each-free words)
+each-free (w ∷ words) = free-append 35 (spaced_word w) (flat_map spaced_word words) (space-free 35 (digits_of w) hash (digits-free w)) (each-free words)
 
-words-free : (words : List ℕ) → Free 35 (words_text words)
+words-free : (words : List ℕ) → Free 35 (data_words_text words)
 words-free [] = tt
-words-free (w ∷ words) = free-append 35 (codes ":") (flat_map word_text (w ∷ words)) (free 35 (codes ":") refl) (each-free (w ∷ words))
+words-free (w ∷ words) = free-append 35 (codes ":") (flat_map spaced_word (w ∷ words)) (free 35 (codes ":") refl) (each-free (w ∷ words))
 
 -- ---- data words
 
@@ -111,19 +111,19 @@ word-digits w low =
     bytes (suc zero) = omega arith
     bytes (suc (suc i)) = lit< tt
 
-word-read : (w : ℕ) (rest : List ℕ) → w < 2 ^ 16 → field_at 16 4 (word_text w ++ rest) ≡ Some (w, rest)
+word-read : (w : ℕ) (rest : List ℕ) → w < 2 ^ 16 → field_at 16 4 (spaced_word w ++ rest) ≡ Some (w, rest)
 word-read w rest low =
     let same : 0 * 16 ^ 4 + w ≡ w = omega arith in
     ap (λ ds. number_at 16 4 0 (ds ++ rest)) (word-digits w low) ∙ number_at-digits 16 4 0 w rest low ∙ ap (λ n. Some (n, rest)) same
 
-words-read : (words : List ℕ) → All (λ w. w < 2 ^ 16) words → fields_at (replicate (length words) word) (flat_map word_text words) ≡ Some (words, [])
+words-read : (words : List ℕ) → All (λ w. w < 2 ^ 16) words → fields_at (replicate (length words) word) (flat_map spaced_word words) ≡ Some (words, [])
 words-read [] small = refl
 words-read (w ∷ words) small =
-    rw (word-read w (flat_map word_text words) (small 0 0 (omega arith))) (rw (words-read words (λ k d low. small (suc k) d (omega (arith, low)))) refl)
+    rw (word-read w (flat_map spaced_word words) (small 0 0 (omega arith))) (rw (words-read words (λ k d low. small (suc k) d (omega (arith, low)))) refl)
 
-data-read : (count : ℕ) (words : List ℕ) → length words ≡ count → All (λ w. w < 2 ^ 16) words → data_in count (flat_map word_text words) ≡ Ok words
+data-read : (count : ℕ) (words : List ℕ) → length words ≡ count → All (λ w. w < 2 ^ 16) words → data_in count (flat_map spaced_word words) ≡ Ok words
 data-read count words is small =
-    ap (λ n. nothing_behind (fields_at (replicate n word) (flat_map word_text words))) (sym is) ∙ ap nothing_behind (words-read words small)
+    ap (λ n. nothing_behind (fields_at (replicate n word) (flat_map spaced_word words))) (sym is) ∙ ap nothing_behind (words-read words small)
 
 -- ---- the sender
 
@@ -165,16 +165,16 @@ sender-back command (Some f) wide is = sender-said command f wide is
 -- what stands behind the colon
 abbrev behind_colon : List ℕ → Option (List ℕ)
 behind_colon [] = None
-behind_colon (w ∷ words) = Some (flat_map word_text (w ∷ words))
+behind_colon (w ∷ words) = Some (flat_map spaced_word (w ∷ words))
 
-words-back : (words : List ℕ) → or_nothing (behind_colon words) ≡ flat_map word_text words
+words-back : (words : List ℕ) → or_nothing (behind_colon words) ≡ flat_map spaced_word words
 words-back [] = refl
 words-back (w ∷ words) = refl
 
-colon-cut : (command from : List ℕ) (words : List ℕ) → Free 58 (command ++ from) → cut (codes ":") (command ++ (from ++ words_text words)) ≡ record { front = command ++ from; behind = behind_colon words }
+colon-cut : (command from : List ℕ) (words : List ℕ) → Free 58 (command ++ from) → cut (codes ":") (command ++ (from ++ data_words_text words)) ≡ record { front = command ++ from; behind = behind_colon words }
 colon-cut command from [] p = ap (λ t. cut (codes ":") (command ++ t)) (append-nil from) ∙ cut-free 58 (command ++ from) p
 colon-cut command from (w ∷ words) p =
-    ap (cut (codes ":")) (sym (append_assoc command from (58 ∷ flat_map word_text (w ∷ words)))) ∙ cut-at 58 (command ++ from) (flat_map word_text (w ∷ words)) p
+    ap (cut (codes ":")) (sym (append_assoc command from (58 ∷ flat_map spaced_word (w ∷ words)))) ∙ cut-at 58 (command ++ from) (flat_map spaced_word (w ∷ words)) p
 
 from-cut : (command : List ℕ) (sender : Option CommandFields) → Free 102 command → cut (codes " from ") (command ++ from_text sender) ≡ record { front = command; behind = behind_from sender }
 from-cut command None p = ap (cut (codes " from ")) (append-nil command) ∙ cut-from-none command p
@@ -199,7 +199,7 @@ parts-said m is =
 text-free : (m : CommandMessage) → IsMessage m → Free 35 (message_text m)
 text-free m is =
     free-append 35 (command_text m.command) _ (command-free 35 m.command hash is.command)
-    (free-append 35 (from_text m.sender) (words_text m.words) (from-free 35 m.command m.sender hash (free 35 (codes " from ") refl) is.sender) (words-free m.words))
+    (free-append 35 (from_text m.sender) (data_words_text m.words) (from-free 35 m.command m.sender hash (free 35 (codes " from ") refl) is.sender) (words-free m.words))
 
 message-read : (m : CommandMessage) → IsMessage m → message_in (message_text m) ≡ Ok (said m)
 message-read m is =
@@ -281,11 +281,11 @@ from-short None = omega arith
 from-short (Some f) =
     omega (arith, length-append (address_text f.address) (codes " " ++ short_decimal f.subaddress), length-address f.address, length-decimal f.subaddress)
 
-each-short : (words : List ℕ) → length (flat_map word_text words) ≡ 5 * length words
+each-short : (words : List ℕ) → length (flat_map spaced_word words) ≡ 5 * length words
 each-short [] = refl
-each-short (w ∷ words) = omega (arith, length-append (word_text w) (flat_map word_text words), four_digits w, each-short words)
+each-short (w ∷ words) = omega (arith, length-append (spaced_word w) (flat_map spaced_word words), four_digits w, each-short words)
 
-words-short : (words : List ℕ) → length (words_text words) ≤ 1 + 5 * length words
+words-short : (words : List ℕ) → length (data_words_text words) ≤ 1 + 5 * length words
 words-short [] = omega arith
 words-short (w ∷ words) = omega (arith, each-short (w ∷ words))
 
@@ -296,13 +296,13 @@ letter-short : (bus : Bus) → length (bus_letter bus) ≡ 1
 letter-short A = refl
 letter-short B = refl
 
-line-short : (bus : Bus) (m : CommandMessage) → length m.words ≤ 32 → length (message_line bus m) ≤ 256
+line-short : (bus : Bus) (m : CommandMessage) → length m.words ≤ 32 → length (listed_line bus m) ≤ 256
 line-short bus m few =
     omega (
       arith,
       length-append (bus_letter bus) (codes " " ++ message_text m),
-      length-append (command_text m.command) (from_text m.sender ++ words_text m.words),
-      length-append (from_text m.sender) (words_text m.words),
+      length-append (command_text m.command) (from_text m.sender ++ data_words_text m.words),
+      length-append (from_text m.sender) (data_words_text m.words),
       letter-short bus,
       command-short m.command,
       from-short m.sender,
@@ -313,6 +313,6 @@ line-short bus m few =
 pub each_is_said : EachIsSaid
 each_is_said bus m is = record {
   short = line-short bus m (omega (arith, is.count, wanted-few (command_bits (in_word m.command))));
-  other = no-line bus (message_text m) (command-none bus m.command (from_text m.sender ++ words_text m.words));
+  other = no-line bus (message_text m) (command-none bus m.command (from_text m.sender ++ data_words_text m.words));
   read = message-read m is;
 }

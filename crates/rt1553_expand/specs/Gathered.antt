@@ -34,21 +34,21 @@ from_text None = []
 from_text (Some f) = codes " from " ++ (address_text f.address ++ (codes " " ++ short_decimal f.subaddress))
 
 -- a data word behind a space
-abbrev pub word_text : ℕ → List ℕ
-word_text word = codes " " ++ digits_of word
+abbrev pub spaced_word : ℕ → List ℕ
+spaced_word word = codes " " ++ digits_of word
 
 -- data words behind a colon; nothing, where there is none
-abbrev pub words_text : List ℕ → List ℕ
-words_text [] = []
-words_text (word ∷ words) = codes ":" ++ flat_map word_text (word ∷ words)
+abbrev pub data_words_text : List ℕ → List ℕ
+data_words_text [] = []
+data_words_text (word ∷ words) = codes ":" ++ flat_map spaced_word (word ∷ words)
 
 -- the text of a message, which stands behind the letter of a bus and a space
 abbrev pub message_text : CommandMessage → List ℕ
-message_text m = command_text m.command ++ (from_text m.sender ++ words_text m.words)
+message_text m = command_text m.command ++ (from_text m.sender ++ data_words_text m.words)
 
 -- the line of a message
-abbrev pub message_line : Bus → CommandMessage → List ℕ
-message_line bus m = bus_letter bus ++ (codes " " ++ message_text m)
+abbrev pub listed_line : Bus → CommandMessage → List ℕ
+listed_line bus m = bus_letter bus ++ (codes " " ++ message_text m)
 
 -- the terminal that sends in a transfer, by the command to it: another one than receives, which sends as many data words as the command
 -- `receiver` asks to be received
@@ -70,8 +70,8 @@ pub record IsMessage (m : CommandMessage) : Type 0 where
 
 -- The line of a message says this message: it is short enough for one, no line of a script, and its text is read as the message.
 pub record IsSaid (bus : Bus) (m : CommandMessage) : Type 0 where
-  pub short : length (message_line bus m) ≤ 256
-  pub other : is_ok (meaning (message_line bus m)) ≡ false
+  pub short : length (listed_line bus m) ≤ 256
+  pub other : is_ok (meaning (listed_line bus m)) ≡ false
   pub read : message_in (message_text m) ≡ Ok (said m)
 
 -- each message has a line that says it
@@ -90,7 +90,7 @@ pub data Piece : Type 0 where
 
 -- the line of a piece
 abbrev pub piece_line : Piece → List ℕ
-piece_line (Whole bus m) = message_line bus m
+piece_line (Whole bus m) = listed_line bus m
 piece_line (Alone e) = event_text e
 
 -- the events of a piece, for the terminal of this address, if there is one

@@ -4,7 +4,7 @@ ghost use Rattle.bus_word.specs.Command.{AreOfTheirWidth};
 ghost use Rattle.rt1553_tool.specs.Fields.{in_word, AreOfWidth};
 ghost use Rattle.rt1553_expand.specs.Gathered.{said};
 ghost use Rattle.rt1553_expand.specs.inner.Said.{said_message};
-ghost use Rattle.rt1553_expand.specs.inner.Found.{command_in, command_first, sender_found, bits_heard, events_before, words_found, message_at, heard_command, command_message, message_on, IsOfWidth};
+ghost use Rattle.rt1553_expand.specs.inner.Found.{heard_in, command_first, sender_found, bits_heard, events_before, words_found, message_at, heard_command, command_message, message_on, IsOfWidth};
 
 use crate::message::{BusMessage, Words, words_wanted};
 use crate::writing::is_own;
@@ -25,8 +25,8 @@ pub struct FoundMessage {
 }
 
 /// The command that an event is, with its bus.
-fn command_in(event: Event) -> Option<(Bus, CommandFields)>
-    ensures value { option_map heard_command result ≡ command_in event }
+fn heard_in(event: Event) -> Option<(Bus, CommandFields)>
+    ensures value { option_map heard_command result ≡ heard_in event }
     ensures width { IfSome result (λ heard. AreOfTheirWidth (in_word heard.1)) }
 {
     match event {
@@ -44,7 +44,7 @@ fn sender_found(command: CommandFields, events: &[Event]) -> Option<CommandField
     if events.is_empty() || !Command::of(command_bits(command)).is_receive() {
         return None;
     }
-    match command_in(events[0]) {
+    match heard_in(events[0]) {
         Some((_, sender)) => Some(sender),
         None => None,
     }
@@ -119,7 +119,7 @@ pub fn message_found(own: Option<u8>, events: &[Event]) -> Option<FoundMessage>
     if events.is_empty() {
         return None;
     }
-    let (bus, command) = command_in(events[0])?;
+    let (bus, command) = heard_in(events[0])?;
     let behind = &events[1..];
     let sender = sender_found(command, behind);
     let wanted = words_wanted(WordFields::Command(command));

@@ -11,7 +11,7 @@ ghost use Rattle.rt1553_expand.specs.inner.Gathering.{IsNextLine, WroteNext, Wro
 
 use crate::finding::{FoundMessage, as_read, message_found};
 use crate::message::{ALL_TERMINALS, words_wanted};
-use crate::spelling::{MessageLine, message_line};
+use crate::spelling::{MessageLine, listed_line};
 use crate::writing::{push_events, write_line};
 use bus_terminal::Event;
 use bus_word::Command;
@@ -111,7 +111,7 @@ fn next_message(
     if !is_message(&found) {
         return Ok(None);
     }
-    let line = message_line(&found);
+    let line = listed_line(&found);
     let bus = found.bus;
     room.clear();
     push_events(room, own, bus, &as_read(found))?;

@@ -5,13 +5,13 @@ ghost use Rattle.arrayvec.specs.ArrayString.{array_string_len};
 ghost use Rattle.bus_word.specs.Command.{AreOfTheirWidth};
 ghost use Rattle.script_lines.specs.Transcript.{bus_letter};
 ghost use Rattle.rt1553_tool.specs.Fields.{in_word};
-ghost use Rattle.rt1553_expand.specs.Gathered.{from_text, word_text, words_text, message_line};
+ghost use Rattle.rt1553_expand.specs.Gathered.{from_text, spaced_word, data_words_text, listed_line};
 ghost use Rattle.rt1553_expand.specs.inner.Found.{command_message, IsOfWidth};
 
 use crate::finding::FoundMessage;
 use arrayvec::ArrayString;
 use bus_word::Bus;
-use rt1553_tool::{CommandFields, push_address, push_command, push_decimal};
+use rt1553_tool::{CommandFields, push_address, push_command_fields, push_decimal};
 use script_lines::push_word;
 
 /// The line of a message.
@@ -46,7 +46,7 @@ fn push_from(line: &mut MessageLine, sender: Option<CommandFields>)
 fn push_data_words(line: &mut MessageLine, words: &[u16])
     requires room { array_string_len line.old ≤ 93 }
     requires few { length words.now ≤ 32 }
-    ensures { line.new.bytes ≡ line.old.bytes ++ flat_map word_text words.now }
+    ensures { line.new.bytes ≡ line.old.bytes ++ flat_map spaced_word words.now }
 {
     for word in words {
         line.push_str(" ");
@@ -55,14 +55,14 @@ fn push_data_words(line: &mut MessageLine, words: &[u16])
 }
 
 /// Writes the line of a message, without a line feed.
-pub fn message_line(found: &FoundMessage) -> MessageLine
+pub fn listed_line(found: &FoundMessage) -> MessageLine
     requires { IsOfWidth found.now }
-    ensures { result.bytes ≡ message_line found.now.bus (command_message found.now) }
+    ensures { result.bytes ≡ listed_line found.now.bus (command_message found.now) }
 {
     let mut line = MessageLine::new();
     line.push_str(letter_of(found.bus));
     line.push_str(" ");
-    push_command(&mut line, found.command);
+    push_command_fields(&mut line, found.command);
     push_from(&mut line, found.sender);
     if !found.words.is_empty() {
         line.push_str(":");

@@ -285,6 +285,7 @@ fn a_key_without_effect(rt: HostRuntime) -> Result<(), Fail> {
 #[test]
 fn messages_of_a_script(rt: HostRuntime) -> Result<(), Fail> {
     let expanded = expand(rt.alloc(), b"A rx 5 3 1: 0001\n", None)?;
+    let gathered = gather(rt.alloc(), b"A c 2c02\nA gap\nslot\n", None)?;
     let Expanded::Script(script) = expanded else {
         panic!(rt; "the message is refused");
     };
@@ -292,7 +293,6 @@ fn messages_of_a_script(rt: HostRuntime) -> Result<(), Fail> {
         script.as_slice(),
         b"A c 2861\nA d 0001\nA gap\nslot\n".as_slice()
     );
-    let gathered = gather(rt.alloc(), b"A c 2c02\nA gap\nslot\n", None)?;
     let Some(messages) = gathered else {
         panic!(rt; "the script is refused");
     };

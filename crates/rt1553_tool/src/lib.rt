@@ -18,4 +18,6 @@ pub use input::ServeFault;
 pub use session::{play_live_line, serve};
 pub use word_answers::answer_words;
 pub use word_lines::{WordLine, WordLineFault, read_word_line};
-pub use word_texts::{AnswerLine, answer_word_line, push_address, push_command, push_decimal};
+pub use word_texts::{
+    AnswerLine, answer_word_line, push_address, push_command_fields, push_decimal,
+};

@@ -109,7 +109,7 @@ fn asks_mode(fields: CommandFields) -> bool
 }
 
 /// Writes a command word by its fields, as `read_word_line` reads them.
-pub fn push_command<const N: usize>(text: &mut ArrayString<N>, fields: CommandFields)
+pub fn push_command_fields<const N: usize>(text: &mut ArrayString<N>, fields: CommandFields)
     requires room { array_string_len text.old + 20 ≤ N }
     requires width { AreOfTheirWidth (in_word fields) }
     ensures bytes { text.new.bytes ≡ text.old.bytes ++ command_text fields }
@@ -228,7 +228,7 @@ fn push_fields(text: &mut AnswerLine, fields: WordFields)
 {
     match fields {
         WordFields::Command(command) => {
-            push_command(text, command);
+            push_command_fields(text, command);
             push_note(text, command);
         }
         WordFields::Status(status) => push_status(text, status),

@@ -23,20 +23,20 @@ abbrev pub heard_command : Bus × CommandFields → HeardCommand
 heard_command heard = record { bus = heard.0; command = heard.1 }
 
 -- the command that an event is
-abbrev pub command_in : Event → Option HeardCommand
-command_in (event.Word bus w) = if is_command w then Some (record { bus = bus; command = command_fields_in w.bits }) else None
-command_in (event.Noise bus) = None
-command_in (event.Gap bus) = None
-command_in (event.Write place word) = None
-command_in (event.Vector word) = None
-command_in (event.Bit word) = None
-command_in (event.Flag f value) = None
-command_in event.Slot = None
+abbrev pub heard_in : Event → Option HeardCommand
+heard_in (event.Word bus w) = if is_command w then Some (record { bus = bus; command = command_fields_in w.bits }) else None
+heard_in (event.Noise bus) = None
+heard_in (event.Gap bus) = None
+heard_in (event.Write place word) = None
+heard_in (event.Vector word) = None
+heard_in (event.Bit word) = None
+heard_in (event.Flag f value) = None
+heard_in event.Slot = None
 
 -- the command that comes first
 abbrev pub command_first : List Event → Option HeardCommand
 command_first [] = None
-command_first (e ∷ es) = command_in e
+command_first (e ∷ es) = heard_in e
 
 -- without its bus
 abbrev pub fields_heard : Option HeardCommand → Option CommandFields
@@ -68,12 +68,12 @@ abbrev pub words_found : Option ℕ → Option CommandFields → ℕ → List Ev
 words_found own sender wanted es = if is_own own sender then replicate wanted 0 else map bits_heard (take wanted (drop (events_before sender) es))
 
 -- the message of a command with these events behind it, by whose sender
-abbrev pub message_by : Option ℕ → CommandFields → Option CommandFields → List Event → CommandMessage
-message_by own command sender es = record { command = command; sender = sender; words = words_found own sender (words_wanted (fields.Command command)) es }
+abbrev pub message_sent_by : Option ℕ → CommandFields → Option CommandFields → List Event → CommandMessage
+message_sent_by own command sender es = record { command = command; sender = sender; words = words_found own sender (words_wanted (fields.Command command)) es }
 
 -- the message of a command with these events behind it
 abbrev pub message_found : Option ℕ → CommandFields → List Event → CommandMessage
-message_found own command es = message_by own command (sender_found command es) es
+message_found own command es = message_sent_by own command (sender_found command es) es
 
 -- a message on a bus
 pub record MessageOn : Type 0 where
@@ -88,7 +88,7 @@ message_behind own es (Some heard) = Some (record { bus = heard.bus; message = m
 -- the message that events seem to begin with
 abbrev pub message_at : Option ℕ → List Event → Option MessageOn
 message_at own [] = None
-message_at own (e ∷ es) = message_behind own es (command_in e)
+message_at own (e ∷ es) = message_behind own es (heard_in e)
 
 -- a message as code has it, as the definitions have it
 abbrev pub command_message : FoundMessage → CommandMessage

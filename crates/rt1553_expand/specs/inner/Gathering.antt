@@ -6,7 +6,7 @@ use Rattle.script_lines.specs.Text.{NoLineFeed}
 use Rattle.bus_script.specs.Reading.{reading, adds}
 use Rattle.rt1553_expand.specs.Events.{message_events}
 use Rattle.rt1553_expand.specs.Expansion.{Expansion, expansion_of}
-use Rattle.rt1553_expand.specs.Gathered.{CommandMessage, said, message_line, IsListed, Piece, piece_line, piece_events, events_in, lines_text, IsNext, AreNext}
+use Rattle.rt1553_expand.specs.Gathered.{CommandMessage, said, listed_line, IsListed, Piece, piece_line, piece_events, events_in, lines_text, IsNext, AreNext}
 
 -- the line of a piece is one line, which is expanded to its events, whatever terminal the script is for
 pub record Says (p : Piece) : Type 0 where
@@ -22,7 +22,7 @@ pub record IsNextLine (own : Option ℕ) (es room : List Event) (line : List ℕ
   pub bus : Bus
   pub message : CommandMessage
   pub listed : IsListed own message
-  pub spelled : line ≡ message_line bus message
+  pub spelled : line ≡ listed_line bus message
   pub room_is : room ≡ message_events own bus (said message)
   pub within : length room ≤ length es
   pub begins : es ≡ room ++ drop (length room) es
