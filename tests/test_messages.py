@@ -93,9 +93,8 @@ TOLD = with_files(
         HEADER + LINES[1] + "     2       2 A   mode       5   2       done; status 2800\n"),
     Row("a refused line, behind a message", "messages five bad", 2,
         HEADER + "     1       1 A   mode       5   2       done; status 2800\n",
-<<<<<<< HEAD
-        errors="bad:5:3: error: after a bus, c, d, gap or noise is expected\n"),
-    Row("a long line", "messages five long", 2, HEADER, errors="long:2:65: error: a line has at most 64 bytes\n"),
+        errors="bad: script: line 5, column 3: after a bus, c, d, gap or noise is expected\n"),
+    Row("a long line", "messages five long", 2, HEADER, errors="long: script: line 2, column 65: over 64 bytes before the line feed\n"),
     Row("messages for expand", "messages --format messages five script", 0, """\
 A rx 5 3 2: 0011 0022
 B rx all 3 2: 0001 0002
@@ -118,16 +117,12 @@ A c 2c64
 A gap
 slot
 """),
-    Row("messages for expand, of a fault", "messages --format messages five bad", 2, errors="bad:5:3: error: after a bus, c, d, gap or noise is expected\n"),
-    Row("messages for expand, of a long line", "messages --format messages five long", 2, errors="long:2:65: error: a line has at most 64 bytes\n"),
+    Row("messages for expand, of a fault", "messages --format messages five bad", 2, errors="bad: script: line 5, column 3: after a bus, c, d, gap or noise is expected\n"),
+    Row("messages for expand, of a long line", "messages --format messages five long", 2, errors="long: script: line 2, column 65: over 64 bytes before the line feed\n"),
     Row("messages for expand, of an address", "messages --format messages --rt 5 five script", 3),
     Row("messages for expand, of a subaddress", "messages --format messages --subaddress 3 five script", 3),
     Row("messages for expand, those in error", "messages --format messages --errors five script", 3),
     Row("messages for expand, with names", "messages --format messages --names names.csv five script", 3),
-=======
-        errors="bad: script: line 5, column 3: after a bus, c, d, gap or noise is expected\n"),
-    Row("a long line", "messages five long", 2, HEADER, errors="long: script: line 2, column 65: over 64 bytes before the line feed\n"),
->>>>>>> 7e9f4453e1bff83b38a008f53c8008299ea84dc7
     Row("an address that no terminal has", "messages five script --rt 31", 3),
     Row("an address that is no number", "messages five script --rt +5", 3),
     Row("a subaddress that is too large", "messages five script --subaddress 32", 3),

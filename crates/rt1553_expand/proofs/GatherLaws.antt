@@ -1,10 +1,6 @@
 -- Which message comes next, and that no other does.
-use Rattle.std.proofs.Common.{ℕ, ◌≡◌, ◌∙◌, ◌+◌, ◌<◌, ◌≤◌, Bool, true, false, ◌==◌, if◌then◌else◌, List, [], ◌∷◌, ◌++◌, Option, Some, None, IfSome, is_some, Result, Ok, Err, is_ok, length, map, take, drop, replicate, refl, sym, ap, subst, arith, unwrap_or}
-use Rattle.std.specs.Result.{result_unwrap_or}
-use Rattle.std.proofs.lemmas.Bool.Decides.{nat_tests}
+use Rattle.std.proofs.Common.{ℕ, ◌≡◌, ◌∙◌, ◌+◌, ◌<◌, ◌≤◌, Bool, true, false, if◌then◌else◌, List, [], ◌∷◌, ◌++◌, Option, Some, None, is_some, Ok, Err, length, map, take, drop, replicate, refl, sym, ap, subst, arith, unwrap_or}
 use Rattle.bus_word.specs.declared.word.Bus.{Bus}
-use Rattle.bus_word.specs.declared.word.Bus.TheVariants.{A, B}
-use Rattle.bus_word.specs.Command.{AreOfTheirWidth, command_bits, is_receive}
 use Rattle.terminal_rules.specs.declared.event.Event.{Event}
 use Rattle.script_lines.specs.declared.line.LineFault.{LineFault}
 use Rattle.script_lines.specs.Line.{meaning}
@@ -13,12 +9,10 @@ use Rattle.bus_script.specs.Reading.{Reading, reading, adds, nothing, then_reads
 use Rattle.bus_script.proofs.ReadingLaws.{reading-line, reading-too_long, reading-long_line, adds-adds}
 use Rattle.rt1553_tool.specs.declared.fields.CommandFields.{CommandFields}
 use Rattle.rt1553_tool.specs.declared.fields.WordFields.TheVariants as fields
-use Rattle.rt1553_tool.specs.Fields.{in_word}
-use Rattle.rt1553_expand.specs.declared.fault.ExpandFault.{ExpandFault}
-use Rattle.rt1553_expand.specs.Message.{SaidMessage, words_wanted, message_in}
+use Rattle.rt1553_expand.specs.Message.{SaidMessage, words_wanted}
 use Rattle.rt1553_expand.specs.Events.{message_events}
-use Rattle.rt1553_expand.specs.Gathered.{CommandMessage, said, message_text, IsMessage, IsListed, NoneNext}
-use Rattle.rt1553_expand.specs.inner.Found.{HeardCommand, heard_in, command_first, fields_heard, sender_found, bits_heard, events_before, words_found, message_found, MessageOn, message_behind, message_at}
+use Rattle.rt1553_expand.specs.Gathered.{CommandMessage, said, IsMessage, IsListed, NoneNext}
+use Rattle.rt1553_expand.specs.inner.Found.{HeardCommand, heard_in, bits_heard, events_before, words_found, message_found, MessageOn, message_behind, message_at}
 use Rattle.rt1553_expand.specs.inner.Gathering.{ReadsOn}
 use Rattle.rt1553_expand.proofs.FoundLaws.{found-next}
 

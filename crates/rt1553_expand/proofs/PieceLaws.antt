@@ -14,7 +14,7 @@ use Rattle.bus_script.specs.Reading.{Reading, adds, nothing}
 use Rattle.rt1553_expand.specs.Message.{message_in}
 use Rattle.rt1553_expand.specs.Events.{message_events}
 use Rattle.rt1553_expand.specs.Expansion.{Expansion, from_events, kept, message_expansion, by_bus_letter, with_named_fault, by_meaning, expansion_of, expanded_events, all_events, refusal_at, refusals_from, refusals_in}
-use Rattle.rt1553_expand.specs.Gathered.{CommandMessage, said, message_text, listed_line, IsSaid, Piece, Whole, Alone, piece_line, piece_events, events_in, lines_text, NoneNext, IsNext, AreNext, IsMessage}
+use Rattle.rt1553_expand.specs.Gathered.{CommandMessage, said, message_text, listed_line, Piece, Whole, Alone, piece_line, piece_events, events_in, lines_text, NoneNext, IsNext, AreNext, IsMessage}
 use Rattle.rt1553_expand.specs.inner.Wrote.{Wrote}
 use Rattle.rt1553_expand.specs.inner.Gathering.{Says, AllSay, IsNextLine, WroteNext, WroteSo}
 use Rattle.rt1553_expand.proofs.FeedLaws.{event-line, message-feeds}
