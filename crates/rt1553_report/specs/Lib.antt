@@ -2,9 +2,6 @@ pub mod Results
 pub mod Clauses
 pub mod Shown
 pub mod Pieces
-pub mod Fields
-pub mod CoveragePage
 pub mod Digests
 pub mod Junit
-pub mod ResultsPage
 pub mod inner

@@ -4,7 +4,7 @@ ghost use Rattle.hex.specs.Hex.{encode_lower};
 ghost use Rattle.rt1553_report.specs.Digests.{has_digest};
 ghost use Rattle.rt1553_report.specs.Pieces.{AddsPiece};
 
-use crate::fields::push_markup;
+use crate::told::push_markup;
 use std::alloc::{AllocError, Global};
 
 /// The SHA-256 digests (FIPS 180-4) of what a script was played with; None of a file that was not read.

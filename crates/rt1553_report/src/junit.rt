@@ -3,10 +3,9 @@ ghost use Rattle.std.specs.Prelude.{ℕ, List, Some, IfOk, OnOk, option_map, str
 ghost use Rattle.rt1553_report.specs.Pieces.{AddsPiece};
 ghost use Rattle.rt1553_report.specs.Junit.{AreNamesProperties, AreSuiteProperties, IsJunitReport, IsProperty, IsTimestamp, digest_properties, digest_property, some_digest};
 
-use crate::fields::push_markup;
 use crate::head::{FileDigests, NamesTable, ReportHead, push_digest};
 use crate::result::{AnswerNames, ScriptOutcome, ScriptResult, Totals, name_at, totals_of};
-use crate::told::{difference_told, push_shown};
+use crate::told::{difference_told, push_markup, push_shown};
 use rt1553_draw::push_escaped;
 use rt1553_verify::WrongAnswer;
 use std::alloc::{AllocError, Global};

@@ -53,3 +53,10 @@ pub fn push_shown(alloc: Global, text: &mut String, bytes: &[u8]) -> Result<(), 
     let shown = escaped(alloc, bytes)?;
     push_escaped(text, shown.as_str())
 }
+
+/// Writes a piece of a text, as it stands.
+pub fn push_markup(page: &mut String, markup: &str) -> Result<(), AllocError>
+    ensures { OnOk result (AddsPiece (string_bytes page.old) (string_bytes page.new) markup.now) }
+{
+    page.push_str(markup)
+}

@@ -1,13 +1,13 @@
 //! The command `coverage`: what recordings show of a terminal.
 ghost use Rattle.std.specs.Prelude.{◌≡◌, IfOk, map, option_map, string_bytes};
 ghost use Rattle.rt1553_tool_args.specs.declared.command.CoverageFormat.TheVariants.{Html};
-ghost use Rattle.rt1553_report.specs.CoveragePage.{IsCoveragePage};
+ghost use Rattle.report_pages.specs.CoveragePage.{IsCoveragePage};
 
 use crate::verify::recording_fault;
 use bus_legal::Normal;
 use message_names::MessageNames;
 use recording_coverage::{Coverage, CoverageTable, count_events, coverage_json, coverage_text};
-use rt1553_report::coverage_page;
+use report_pages::coverage_page;
 use rt1553_tool_args::{AskedCoverage, CoverageFormat};
 use script_recordings::recorded_events;
 use std::alloc::Global;

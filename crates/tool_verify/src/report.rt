@@ -10,10 +10,11 @@ use crate::verify::{Played, PlayedScript, PlayedTo, clauses_of, play_script};
 use ascii_json::json_line;
 use bus_legal::Normal;
 use message_names::MessageNames;
+use report_pages::results_page;
 use rt1553_draw::{DrawFault, draw_lines};
 use rt1553_report::{
     FileDigests, NamesTable, ReportHead, ScriptOutcome, ScriptResult, clauses_in, junit_report,
-    result_json, results_page,
+    result_json,
 };
 use rt1553_tool_args::{
     AskedReport, CANONICAL_VERSION, PROGRAM_VERSION, Profiles, ReportFormat, TOOLCHAIN,

@@ -1,0 +1,8 @@
+use Rattle.std.proofs.Common.{option_map}
+use Rattle.report_pages.specs.CoveragePage.{IsIllegalRow}
+use Rattle.report_pages.proofs.RowLaws.{next_row}
+use Rattle.report_pages.proofs.coverage.push_illegal_rows.Goals as goal
+
+pub loop-message-preserved : goal.loop-message-preserved
+loop-message-preserved c =
+    next_row (IsIllegalRow (option_map (λ n. n.now) c.args.names)) c.args.illegal.now c.loop-message.message-index _ _ _ _ c.loop-message-test.true c.loop-message.invariant (rw c.message-item.is at c.in_ok-push_illegal_row.ensures)

@@ -1,0 +1,598 @@
+//! Results as a page.
+ghost use Rattle.std.specs.Prelude.{◌≡◌, ℕ, List, Some, IfOk, OnOk, map, option_map, string_bytes};
+ghost use Rattle.report_pages.specs.CoveragePage.{AreRowsOf};
+ghost use Rattle.rt1553_report.specs.Pieces.{AddsPiece};
+ghost use Rattle.rt1553_report.specs.Results.{outcome_passes};
+ghost use Rattle.report_pages.specs.ResultsPage.{AreHeadRows, IsClauseLine, IsDateRow, IsDigestRow, IsNamesRow, IsProfileField, IsProfileRow, IsResultsPage, IsScriptRow, answers_field, digest_cell, digest_field, digest_line, digest_told, verdict_field};
+
+use crate::fields::{push_count_field, push_count_row, push_file_row};
+use crate::style::RESULTS_STYLE;
+use message_names::quoted;
+use rt1553_draw::{push_escaped, push_front, push_keys};
+use rt1553_report::{
+    AnswerNames, FileDigests, NamesTable, ReportHead, Scope, ScopeRow, ScriptOutcome, ScriptResult,
+    TriedScript, answer_told, clause_rows, name_at, push_digest, push_markup, push_shown,
+    totals_of,
+};
+use rt1553_verify::WrongAnswer;
+use std::alloc::{AllocError, Global};
+use std::format;
+
+/// How the table of scripts begins.
+const SCRIPTS_HEAD: &str =
+    "<h2>Scripts</h2>\n<table>\n<thead><tr><th scope=\"col\">script</th><th scope=\"col\">profile</th><th scope=\"col\">result</th><th scope=\"col\">answers</th><th scope=\"col\">clauses</th><th scope=\"col\">SHA-256</th></tr></thead>\n<tbody>\n";
+
+/// A profile by which scripts were tested.
+#[derive(Clone, Copy)]
+struct TestedProfile<'a> {
+    name: &'a str,
+    /// Those of the first script that names it.
+    digests: FileDigests,
+}
+
+/// The clauses of each script, and whether it passes.
+fn tried_of(alloc: Global, results: &[ScriptResult]) -> Result<Vec<TriedScript>, AllocError>
+    ensures { IfOk result (λ tried. map (λ t. t.passes) tried.items ≡ map (λ r. outcome_passes r.outcome) results.now) }
+{
+    let mut tried = Vec::new(alloc);
+    for of in results {
+        tried.push(TriedScript {
+            clauses: of.clauses.clone()?,
+            passes: of.outcome.passes(),
+        })?;
+    }
+    Ok(tried)
+}
+
+/// Whether the profile of a result was there before.
+fn is_profile_told(results: &[ScriptResult], name: &str) -> bool {
+    for of in results {
+        if let Some(profile) = &of.profile {
+            if profile.as_str() == name {
+                return true;
+            }
+        }
+    }
+    false
+}
+
+/// The first result of each profile.
+fn first_of_profiles<'a>(
+    alloc: Global,
+    results: &'a [ScriptResult],
+) -> Result<Vec<TestedProfile<'a>>, AllocError> {
+    let mut profiles = Vec::new(alloc);
+    for (index, of) in results.iter().enumerate() {
+        if let Some(profile) = &of.profile {
+            if !is_profile_told(&results[..index], profile.as_str()) {
+                profiles.push(TestedProfile {
+                    name: profile.as_str(),
+                    digests: of.digests,
+                })?;
+            }
+        }
+    }
+    Ok(profiles)
+}
+
+/// Writes a digest in a field, behind what it is of.
+fn push_digest_told(
+    alloc: Global,
+    page: &mut String,
+    what: &str,
+    digest: [u8; 32],
+) -> Result<(), AllocError>
+    ensures { OnOk result (AddsPiece (string_bytes page.old) (string_bytes page.new) (digest_told what.now digest)) }
+{
+    push_markup(page, "<br/>")?;
+    push_markup(page, what)?;
+    push_markup(page, " <code>")?;
+    push_digest(alloc, page, digest)?;
+    push_markup(page, "</code>")
+}
+
+/// The same, where there is one.
+fn push_digest_line(
+    alloc: Global,
+    page: &mut String,
+    what: &str,
+    digest: Option<[u8; 32]>,
+) -> Result<(), AllocError>
+    ensures { OnOk result (AddsPiece (string_bytes page.old) (string_bytes page.new) (digest_line what.now digest)) }
+{
+    match digest {
+        Some(digest) => push_digest_told(alloc, page, what, digest),
+        None => Ok(()),
+    }
+}
+
+/// Writes the row of a file with digests: that of its text, and that of the canonical text of a profile.
+fn push_digest_row(
+    alloc: Global,
+    page: &mut String,
+    what: &str,
+    file: &str,
+    own: Option<[u8; 32]>,
+    canonical: Option<[u8; 32]>,
+) -> Result<(), AllocError>
+    ensures { OnOk result ((row : List ℕ) × IsDigestRow what.now file.now own canonical row × AddsPiece (string_bytes page.old) (string_bytes page.new) row) }
+{
+    push_markup(page, "<tr><th scope=\"row\">")?;
+    push_markup(page, what)?;
+    push_markup(page, "</th><td>")?;
+    push_shown(alloc, page, file.as_bytes())?;
+    push_digest_line(alloc, page, "SHA-256", own)?;
+    push_digest_line(alloc, page, "SHA-256 of its canonical text", canonical)?;
+    push_markup(page, "</td></tr>\n")
+}
+
+/// Writes the row of a profile.
+fn push_profile(
+    alloc: Global,
+    page: &mut String,
+    profile: &TestedProfile<'_>,
+) -> Result<(), AllocError>
+    ensures { OnOk result ((row : List ℕ) × IsProfileRow profile.now row × AddsPiece (string_bytes page.old) (string_bytes page.new) row) }
+{
+    let digests = profile.digests;
+    push_digest_row(
+        alloc,
+        page,
+        "profile",
+        profile.name,
+        digests.profile,
+        digests.canonical,
+    )
+}
+
+/// Writes a row for each profile.
+fn push_profiles(
+    alloc: Global,
+    page: &mut String,
+    profiles: &[TestedProfile<'_>],
+) -> Result<(), AllocError>
+    ensures { OnOk result ((rows : List ℕ) × AreRowsOf IsProfileRow profiles.now rows × AddsPiece (string_bytes page.old) (string_bytes page.new) rows) }
+{
+    for profile in profiles {
+        push_profile(alloc, page, profile)?;
+    }
+    Ok(())
+}
+
+/// Writes the row of the date.
+fn push_date_row(alloc: Global, page: &mut String, date: &str) -> Result<(), AllocError>
+    ensures { OnOk result ((row : List ℕ) × IsDateRow (Some date.now) row × AddsPiece (string_bytes page.old) (string_bytes page.new) row) }
+{
+    push_file_row(alloc, page, "date", date)
+}
+
+/// The same, where there is one.
+fn push_date(alloc: Global, page: &mut String, date: Option<&str>) -> Result<(), AllocError>
+    ensures { OnOk result ((row : List ℕ) × IsDateRow (option_map (λ d. d.now) date.entry) row × AddsPiece (string_bytes page.old) (string_bytes page.new) row) }
+{
+    match date {
+        Some(date) => push_date_row(alloc, page, date),
+        None => Ok(()),
+    }
+}
+
+/// Writes the row of the table of names.
+fn push_table_row(alloc: Global, page: &mut String, table: NamesTable<'_>) -> Result<(), AllocError>
+    ensures { OnOk result ((row : List ℕ) × IsNamesRow (Some table.entry) row × AddsPiece (string_bytes page.old) (string_bytes page.new) row) }
+{
+    push_digest_row(alloc, page, "names", table.file, Some(table.digest), None)
+}
+
+/// The same, where there is one.
+fn push_names(
+    alloc: Global,
+    page: &mut String,
+    names: Option<NamesTable<'_>>,
+) -> Result<(), AllocError>
+    ensures { OnOk result ((row : List ℕ) × IsNamesRow names.entry row × AddsPiece (string_bytes page.old) (string_bytes page.new) row) }
+{
+    match names {
+        Some(table) => push_table_row(alloc, page, table),
+        None => Ok(()),
+    }
+}
+
+/// Writes a row for each version, the date, and the table of names.
+fn push_head(alloc: Global, page: &mut String, head: ReportHead<'_>) -> Result<(), AllocError>
+    ensures { OnOk result ((rows : List ℕ) × AreHeadRows head.entry rows × AddsPiece (string_bytes page.old) (string_bytes page.new) rows) }
+{
+    push_file_row(alloc, page, "rt1553-tool", head.program)?;
+    push_file_row(alloc, page, "toolchain", head.toolchain)?;
+    push_file_row(alloc, page, "canonical text", head.canonical)?;
+    push_date(alloc, page, head.date)?;
+    push_names(alloc, page, head.names)
+}
+
+/// How many answers are stated in the scripts that were played.
+fn answers_of(results: &[ScriptResult]) -> usize {
+    let mut all = 0usize;
+    for of in results {
+        if let ScriptOutcome::Played { answers, .. } = &of.outcome {
+            all = all.saturating_add(*answers);
+        }
+    }
+    all
+}
+
+/// Writes how many scripts there are, and what came of them.
+fn push_sums(page: &mut String, results: &[ScriptResult]) -> Result<(), AllocError> {
+    let totals = totals_of(results);
+    let failed = totals.failures.saturating_add(totals.errors);
+    push_count_row(page, "scripts", totals.tests)?;
+    push_count_row(
+        page,
+        "scripts that pass",
+        totals.tests.saturating_sub(failed),
+    )?;
+    push_count_row(page, "scripts that differ", totals.failures)?;
+    push_count_row(page, "scripts refused or not read", totals.errors)?;
+    push_count_row(page, "answers stated", answers_of(results))
+}
+
+/// The rows of `push_sums`, and the table clause by clause.
+fn sums_text(alloc: Global, results: &[ScriptResult]) -> Result<String, AllocError> {
+    let mut text = String::new(alloc);
+    push_sums(&mut text, results)?;
+    push_markup(&mut text, "</table>\n")?;
+    push_clauses(alloc, &mut text, results)?;
+    Ok(text)
+}
+
+/// Writes a row of the table clause by clause.
+fn push_scope(alloc: Global, page: &mut String, row: ScopeRow<'_>) -> Result<(), AllocError> {
+    page.push_str("<tr><th scope=\"row\">")?;
+    match row.scope {
+        Scope::Clause(clause) => push_shown(alloc, page, clause)?,
+        Scope::NoClause => page.push_str("no clause")?,
+        Scope::All => page.push_str("all")?,
+    }
+    let count = row.count;
+    let class = if count.passed == count.scripts {
+        "count"
+    } else {
+        "count differs"
+    };
+    writeln!(
+        page,
+        "</th><td class=\"{class}\">{}</td><td class=\"count\">{}</td></tr>",
+        count.passed, count.scripts
+    )
+}
+
+/// Writes how many scripts pass, clause by clause.
+fn push_clauses(
+    alloc: Global,
+    page: &mut String,
+    results: &[ScriptResult],
+) -> Result<(), AllocError> {
+    let tried = tried_of(alloc, results)?;
+    let rows = clause_rows(alloc, tried.as_slice())?;
+    page.push_str(
+        "<h2>Clause by clause</h2>\n<table>\n<thead><tr><th scope=\"col\">clause</th><th scope=\"col\">passed</th><th scope=\"col\">of</th></tr></thead>\n<tbody>\n",
+    )?;
+    for row in rows.as_slice() {
+        push_scope(alloc, page, *row)?;
+    }
+    page.push_str("</tbody>\n</table>\n")
+}
+
+/// Writes what came of a script.
+fn push_verdict(page: &mut String, outcome: &ScriptOutcome) -> Result<(), AllocError>
+    ensures { OnOk result (AddsPiece (string_bytes page.old) (string_bytes page.new) (verdict_field outcome.now)) }
+{
+    if outcome.passes() {
+        push_markup(page, "<td>passes</td>")
+    } else if outcome.fails() {
+        push_markup(page, "<td class=\"differs\">differs</td>")
+    } else {
+        push_markup(page, "<td class=\"differs\">not played</td>")
+    }
+}
+
+/// Writes how many answers a script states; nothing for one that was not played.
+fn push_count(page: &mut String, outcome: &ScriptOutcome) -> Result<(), AllocError>
+    ensures { OnOk result (AddsPiece (string_bytes page.old) (string_bytes page.new) (answers_field outcome.now)) }
+{
+    match outcome {
+        ScriptOutcome::Played { answers, .. } => push_count_field(page, *answers as u64),
+        ScriptOutcome::NotPlayed(_) => push_markup(page, "<td></td>"),
+    }
+}
+
+/// Writes a clause in a field, on a line of its own.
+fn push_clause(alloc: Global, page: &mut String, clause: &Vec<u8>) -> Result<(), AllocError>
+    ensures { OnOk result ((line : List ℕ) × IsClauseLine clause.now.items line × AddsPiece (string_bytes page.old) (string_bytes page.new) line) }
+{
+    push_shown(alloc, page, clause.as_slice())?;
+    push_markup(page, "<br/>")
+}
+
+/// Writes the clauses of a script in a field.
+fn push_clause_lines(
+    alloc: Global,
+    page: &mut String,
+    clauses: &[Vec<u8>],
+) -> Result<(), AllocError>
+    ensures { OnOk result ((lines : List ℕ) × AreRowsOf (λ c. IsClauseLine c.items) clauses.now lines × AddsPiece (string_bytes page.old) (string_bytes page.new) lines) }
+{
+    for clause in clauses {
+        push_clause(alloc, page, clause)?;
+    }
+    Ok(())
+}
+
+/// Writes the field of a digest.
+fn push_digest_cell(alloc: Global, page: &mut String, digest: [u8; 32]) -> Result<(), AllocError>
+    ensures { OnOk result (AddsPiece (string_bytes page.old) (string_bytes page.new) (digest_cell digest)) }
+{
+    push_markup(page, "<td><code>")?;
+    push_digest(alloc, page, digest)?;
+    push_markup(page, "</code></td>")
+}
+
+/// The same, empty for none.
+fn push_digest_field(
+    alloc: Global,
+    page: &mut String,
+    digest: Option<[u8; 32]>,
+) -> Result<(), AllocError>
+    ensures { OnOk result (AddsPiece (string_bytes page.old) (string_bytes page.new) (digest_field digest)) }
+{
+    match digest {
+        Some(digest) => push_digest_cell(alloc, page, digest),
+        None => push_markup(page, "<td></td>"),
+    }
+}
+
+/// Writes the field of the name of a profile.
+fn push_profile_cell(alloc: Global, page: &mut String, profile: &str) -> Result<(), AllocError>
+    ensures { OnOk result ((field : List ℕ) × IsProfileField (Some profile.now) field × AddsPiece (string_bytes page.old) (string_bytes page.new) field) }
+{
+    push_markup(page, "<td>")?;
+    push_shown(alloc, page, profile.as_bytes())?;
+    push_markup(page, "</td>")
+}
+
+/// The same, empty for none.
+fn push_profile_field(
+    alloc: Global,
+    page: &mut String,
+    profile: &Option<String>,
+) -> Result<(), AllocError>
+    ensures { OnOk result ((field : List ℕ) × IsProfileField (option_map string_bytes profile.now) field × AddsPiece (string_bytes page.old) (string_bytes page.new) field) }
+{
+    match profile {
+        Some(profile) => push_profile_cell(alloc, page, profile.as_str()),
+        None => push_markup(page, "<td></td>"),
+    }
+}
+
+/// Writes the row of a script.
+fn push_script(alloc: Global, page: &mut String, of: &ScriptResult) -> Result<(), AllocError>
+    ensures { OnOk result ((row : List ℕ) × IsScriptRow of.now row × AddsPiece (string_bytes page.old) (string_bytes page.new) row) }
+{
+    push_markup(page, "<tr><th scope=\"row\">")?;
+    push_shown(alloc, page, of.file.as_str().as_bytes())?;
+    push_markup(page, "</th>")?;
+    push_profile_field(alloc, page, &of.profile)?;
+    push_verdict(page, &of.outcome)?;
+    push_count(page, &of.outcome)?;
+    push_markup(page, "<td>")?;
+    push_clause_lines(alloc, page, of.clauses.as_slice())?;
+    push_markup(page, "</td>")?;
+    push_digest_field(alloc, page, of.digests.script)?;
+    push_markup(page, "</tr>\n")
+}
+
+/// Writes a row for each script.
+fn push_scripts(
+    alloc: Global,
+    page: &mut String,
+    results: &[ScriptResult],
+) -> Result<(), AllocError>
+    ensures { OnOk result ((rows : List ℕ) × AreRowsOf IsScriptRow results.now rows × AddsPiece (string_bytes page.old) (string_bytes page.new) rows) }
+{
+    for of in results {
+        push_script(alloc, page, of)?;
+    }
+    Ok(())
+}
+
+/// Writes a line of a transcript, or that there is none.
+fn push_answer(alloc: Global, page: &mut String, answer: &[u8]) -> Result<(), AllocError> {
+    page.push_str("<td class=\"line\">")?;
+    match answer_told(alloc, answer)? {
+        Some(line) => push_escaped(page, line.as_str())?,
+        None => page.push_str("nothing")?,
+    }
+    page.push_str("</td>")
+}
+
+/// Writes the head of the table of events.
+fn push_wrong_head(page: &mut String, has_names: bool) -> Result<(), AllocError> {
+    page.push_str("<table>\n<thead><tr><th scope=\"col\">line</th>")?;
+    if has_names {
+        page.push_str("<th scope=\"col\">message</th>")?;
+    }
+    page.push_str(
+        "<th scope=\"col\">expected</th><th scope=\"col\">came</th></tr></thead>\n<tbody>\n",
+    )
+}
+
+/// Writes the name of the message of an event, where there are names.
+fn push_message(
+    alloc: Global,
+    page: &mut String,
+    names: &Option<AnswerNames>,
+    index: usize,
+) -> Result<(), AllocError> {
+    if names.is_none() {
+        return Ok(());
+    }
+    page.push_str("<td>")?;
+    if let Some(name) = name_at(names, index) {
+        push_escaped(page, quoted(alloc, name)?.as_str())?;
+    }
+    page.push_str("</td>")
+}
+
+/// Writes each event that was not answered as stated.
+fn push_wrong(
+    alloc: Global,
+    page: &mut String,
+    wrong: &[WrongAnswer],
+    names: &Option<AnswerNames>,
+) -> Result<(), AllocError> {
+    push_wrong_head(page, names.is_some())?;
+    for (index, one) in wrong.iter().enumerate() {
+        write!(page, "<tr><td class=\"count\">{}</td>", one.line)?;
+        push_message(alloc, page, names, index)?;
+        push_answer(alloc, page, one.expected.as_slice())?;
+        push_answer(alloc, page, one.came.as_slice())?;
+        page.push_str("</tr>\n")?;
+    }
+    page.push_str("</tbody>\n</table>\n")
+}
+
+/// Writes the drawing of the messages in which something differs, or that there is none.
+fn push_drawing(page: &mut String, drawing: &Option<String>) -> Result<(), AllocError> {
+    match drawing {
+        Some(drawing) => page.push_str(drawing.as_str()),
+        None => page.push_str("<p>Not drawn: the script has over 4,096 events.</p>\n"),
+    }
+}
+
+/// Writes what came of a script that does not pass.
+fn push_result(alloc: Global, page: &mut String, of: &ScriptResult) -> Result<(), AllocError> {
+    page.push_str("<h3>")?;
+    push_shown(alloc, page, of.file.as_str().as_bytes())?;
+    page.push_str("</h3>\n")?;
+    match &of.outcome {
+        ScriptOutcome::NotPlayed(reason) => {
+            page.push_str("<p class=\"differs\">")?;
+            push_escaped(page, reason.as_str())?;
+            page.push_str("</p>\n")
+        }
+        ScriptOutcome::Played {
+            answers,
+            wrong,
+            names,
+            drawing,
+            ..
+        } => {
+            writeln!(
+                page,
+                "<p>differences: {}; answers stated: {answers}</p>",
+                wrong.len()
+            )?;
+            push_wrong(alloc, page, wrong.as_slice(), names)?;
+            push_drawing(page, drawing)
+        }
+    }
+}
+
+/// Writes what does not pass, script by script.
+fn push_results(
+    alloc: Global,
+    page: &mut String,
+    results: &[ScriptResult],
+) -> Result<(), AllocError> {
+    page.push_str("<h2>Failures</h2>\n")?;
+    let mut is_clean = true;
+    for of in results {
+        if !of.outcome.passes() {
+            if is_clean && has_drawing(results) {
+                push_keys(page)?;
+            }
+            is_clean = false;
+            push_result(alloc, page, of)?;
+        }
+    }
+    if is_clean {
+        page.push_str("<p>None: every script passes.</p>\n")?;
+    }
+    Ok(())
+}
+
+/// Writes which scripts show nothing, or little, of a terminal, and why.
+fn push_warnings(
+    alloc: Global,
+    page: &mut String,
+    results: &[ScriptResult],
+) -> Result<(), AllocError> {
+    let mut is_first = true;
+    for of in results {
+        if let Some(warning) = of.outcome.warning() {
+            page.push_str(if is_first { "<h2>Warnings</h2>\n" } else { "" })?;
+            is_first = false;
+            page.push_str("<p class=\"differs\">")?;
+            push_shown(alloc, page, of.file.as_str().as_bytes())?;
+            writeln!(page, ": {warning}</p>")?;
+        }
+    }
+    Ok(())
+}
+
+/// Whether something is drawn.
+fn has_drawing(results: &[ScriptResult]) -> bool {
+    for of in results {
+        if let ScriptOutcome::Played {
+            drawing: Some(_),
+            ..
+        } = &of.outcome
+        {
+            return true;
+        }
+    }
+    false
+}
+
+/// What of the page comes behind its table of scripts.
+fn failures_text(alloc: Global, results: &[ScriptResult]) -> Result<String, AllocError> {
+    let mut text = String::new(alloc);
+    push_warnings(alloc, &mut text, results)?;
+    push_results(alloc, &mut text, results)?;
+    Ok(text)
+}
+
+/// The title of the page.
+fn title_of(alloc: Global, results: &[ScriptResult]) -> Result<String, AllocError> {
+    let totals = totals_of(results);
+    let failed = totals.failures.saturating_add(totals.errors);
+    let passed = totals.tests.saturating_sub(failed);
+    format!(in alloc;
+        "Tests of a terminal: {passed} of {} scripts pass",
+        totals.tests
+    )
+}
+
+/// The results of scripts as a page of its own: HTML without code, and well-formed XML too. What was tested, with versions and digests;
+/// how many scripts pass, clause by clause; each script, with what came of it; which scripts show nothing; and of each script that does
+/// not pass each event that was not answered as stated, and its drawing.
+pub fn results_page(
+    alloc: Global,
+    head: ReportHead<'_>,
+    results: &[ScriptResult],
+) -> Result<String, AllocError>
+    ensures { IfOk result (λ page. IsResultsPage head.entry results.now (string_bytes page)) }
+{
+    let profiles = first_of_profiles(alloc, results)?;
+    let (sums, failures) = (sums_text(alloc, results)?, failures_text(alloc, results)?);
+    let mut page = String::new(alloc);
+    push_front(&mut page, title_of(alloc, results)?.as_str(), RESULTS_STYLE)?;
+    push_markup(&mut page, "<h2>What was tested</h2>\n<table>\n")?;
+    push_head(alloc, &mut page, head)?;
+    push_profiles(alloc, &mut page, profiles.as_slice())?;
+    push_markup(&mut page, sums.as_str())?;
+    push_markup(&mut page, SCRIPTS_HEAD)?;
+    push_scripts(alloc, &mut page, results)?;
+    push_markup(&mut page, "</tbody>\n</table>\n")?;
+    push_markup(&mut page, failures.as_str())?;
+    push_markup(&mut page, "</body></html>\n")?;
+    Ok(page)
+}

@@ -1,8 +1,0 @@
-use Rattle.std.proofs.Common.{List, ℕ, take, option_map, string_bytes}
-use Rattle.rt1553_report.specs.Pieces.{AddsPiece}
-use Rattle.rt1553_report.specs.CoveragePage.{AreRowsOf, IsLegalRow}
-use Rattle.rt1553_report.proofs.coverage.push_legal_rows.Given as goal
-
-abbrev pub invariant-loop-message : goal.invariant-loop-message
-invariant-loop-message l =
-    (rows : List ℕ) × AreRowsOf (IsLegalRow (option_map (λ n. n.now) l.names)) (take l.message-index l.legal) rows × AddsPiece (string_bytes l.initial.page) (string_bytes l.page) rows

@@ -1,8 +1,0 @@
-use Rattle.std.proofs.Common.{codes}
-use Rattle.rt1553_report.specs.CoveragePage.{IsFileRow}
-use Rattle.rt1553_report.proofs.TextLaws.{next_row}
-use Rattle.rt1553_report.proofs.coverage.push_recordings.Goals as goal
-
-pub loop-file-preserved : goal.loop-file-preserved
-loop-file-preserved c =
-    next_row (λ file. IsFileRow (codes "recording") file.now) c.args.recordings.now c.loop-file.file-index _ _ _ _ c.loop-file-test.true c.loop-file.invariant c.in_ok-push_file_row.ensures

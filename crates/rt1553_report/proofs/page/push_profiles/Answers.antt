@@ -1,7 +1,0 @@
-use Rattle.rt1553_report.specs.ResultsPage.{IsProfileRow}
-use Rattle.rt1553_report.proofs.TextLaws.{next_row}
-use Rattle.rt1553_report.proofs.page.push_profiles.Goals as goal
-
-pub loop-profile-preserved : goal.loop-profile-preserved
-loop-profile-preserved c =
-    next_row IsProfileRow c.args.profiles.now c.loop-profile.profile-index _ _ _ _ c.loop-profile-test.true c.loop-profile.invariant c.in_ok-push_profile.ensures

@@ -1,6 +1,0 @@
-use Rattle.std.proofs.Common.{◌≡◌, map, take}
-use Rattle.rt1553_report.specs.Results.{outcome_passes}
-use Rattle.rt1553_report.proofs.page.tried_of.Given as goal
-
-abbrev pub invariant-loop-of : goal.invariant-loop-of
-invariant-loop-of l = map (λ t. t.passes) l.tried.items ≡ map (λ r. outcome_passes r.outcome) (take l.of-index l.results)
