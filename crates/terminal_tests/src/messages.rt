@@ -8,19 +8,21 @@ use script_lines::read_event;
 use std::alloc::{AllocError, Global};
 use std::test::Fail;
 
+/// Adds the row of a message, if there is one.
+fn push_row(rows: &mut Vec<RunRow>, row: Option<RunRow>) -> Result<(), AllocError> {
+    match row {
+        Some(row) => {
+            rows.push(row)?;
+            Ok(())
+        }
+        None => Ok(()),
+    }
+}
+
 /// Adds the rows of messages that are over.
-fn push_closed(
-    alloc: Global,
-    rows: &mut Vec<RunRow>,
-    closed: ClosedRows,
-) -> Result<(), AllocError> {
-    if let Some(row) = closed.earlier {
-        rows.push(row)?;
-    }
-    if let Some(row) = closed.later {
-        rows.push(row)?;
-    }
-    Ok(())
+fn push_closed(rows: &mut Vec<RunRow>, closed: ClosedRows) -> Result<(), AllocError> {
+    push_row(rows, closed.earlier)?;
+    push_row(rows, closed.later)
 }
 
 /// The rows of a run by a script.
@@ -29,12 +31,12 @@ fn rows_of(alloc: Global, normal: &Normal, script: &str) -> Result<Vec<RunRow>, 
     let mut rows = Vec::new(alloc);
     let mut number = 0u64;
     for line in script.lines() {
-        number += 1;
+        number = number.saturating_add(1);
         if let Ok(Some(event)) = read_event(line.as_bytes()) {
-            push_closed(alloc, &mut rows, watch.step(event, number))?;
+            push_closed(&mut rows, watch.step(event, number))?;
         }
     }
-    push_closed(alloc, &mut rows, watch.end())?;
+    push_closed(&mut rows, watch.end())?;
     Ok(rows)
 }
 
