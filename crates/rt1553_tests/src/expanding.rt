@@ -46,7 +46,7 @@ fn gathers(
 
 #[test]
 fn messages_gathered(rt: HostRuntime) -> Result<(), Fail> {
-    let cases: [(Option<u8>, &str, &str); 10] = [
+    let cases: [(Option<u8>, &str, &str); 6] = [
         (
             None,
             "A c 2862\nA d 0001\nA d 0002\nA gap\nslot\n",
@@ -78,6 +78,16 @@ fn messages_gathered(rt: HostRuntime) -> Result<(), Fail> {
             "A c 3021\nA c 4c21\nA gap\nslot\nslot\n",
             "A c 3021\nA tx 9 1 1\n",
         ),
+    ];
+    for (own, script, messages) in cases {
+        assert!(rt; gathers(rt.alloc(), own, script, messages)?);
+    }
+    Ok(())
+}
+
+#[test]
+fn events_that_are_no_message(rt: HostRuntime) -> Result<(), Fail> {
+    let cases: [(Option<u8>, &str, &str); 4] = [
         // a data word and a slot are missing; comments are left out
         (
             None,
