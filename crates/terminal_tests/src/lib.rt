@@ -4,6 +4,8 @@
 #![tactic(auto)]
 
 #[cfg(test)]
+mod bus_of_terminals;
+#[cfg(test)]
 mod coverage;
 #[cfg(test)]
 mod faults;

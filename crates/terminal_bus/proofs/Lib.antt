@@ -1,0 +1,17 @@
+pub mod Standing
+pub mod Fits
+pub mod Replies
+pub mod Sent
+pub mod Pairs
+pub mod Law
+pub mod Cells
+pub mod Local
+pub mod Walk
+pub mod Deliver
+pub mod Fair
+pub mod TransferLaw
+pub mod Proper
+pub mod Together
+pub mod Places
+pub mod BreachLaw
+pub mod CameLaw

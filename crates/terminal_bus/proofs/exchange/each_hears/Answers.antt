@@ -1,0 +1,9 @@
+use Rattle.std.proofs.Common.{◌<◌, [], ◌∷◌, length, arith}
+use Rattle.terminal_bus.specs.inner.Seats.{Hears}
+use Rattle.terminal_bus.proofs.Places.{below_next}
+use Rattle.terminal_bus.proofs.exchange.each_hears.Goals as goal
+
+pub loop-place-preserved : goal.loop-place-preserved
+loop-place-preserved g c =
+    let within : c.loop-place.place-index < length c.loop-place.places = omega (arith, c.loop-place-test.true, c.loop-place.auto.places) in
+    below_next (Hears g.L.Legality.is_legal c.args.bus (c.args.event.now ∷ [])) c.loop-place.place-index c.args.places.now c.loop-place.places c.place-item.result c.hear_at.new.place within c.loop-place.invariant c.hear_at.ensures

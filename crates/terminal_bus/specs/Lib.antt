@@ -1,0 +1,13 @@
+pub use Rattle.bus_legal.specs.Description
+pub mod Lists
+pub mod Members
+pub mod Alone
+pub mod Discipline
+pub mod OneSpeaker
+pub mod Transfer
+pub mod BusRows
+pub mod Answers
+pub mod Came
+pub mod AtMembers
+pub mod Breaches
+pub mod inner

@@ -1,0 +1,3 @@
+-- What the contracts of private functions speak of.
+pub mod Seats
+pub mod Replying
