@@ -32,7 +32,7 @@ begins version rest e = by_test (version == 1) refl
     by_test true f = ap (λ n. is_canon_text (number_text (codes "rt1553") version_field n ++ rest)) (eqb-true version 1 f)
     by_test false f = ap (λ n. is_canon_text (number_text (codes "rt1553") version_field n ++ rest)) (eqb-true version 2 (ap (λ b. b || (version == 2)) (sym f) ∙ e))
 
-text_begins : (v : Parts) (bytes : List ℕ) → AnyText v bytes → is_canon_text bytes ≡ true
+pub text_begins : (v : Parts) (bytes : List ℕ) → AnyText v bytes → is_canon_text bytes ≡ true
 unfolding canon
 text_begins v bytes means =
     let p = parted (number_line (codes "rt1553") version_field is_read) _ v bytes means in

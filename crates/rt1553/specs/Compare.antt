@@ -10,7 +10,7 @@ use Rattle.bus_canon.specs.Difference.{IsFirstDifference, script_for}
 use Rattle.rt1553.specs.declared.comparison.Verdict.{Verdict}
 use Rattle.rt1553.specs.declared.comparison.Verdict.TheVariants as verdict
 use Rattle.rt1553.specs.declared.fault.LoadFault.{LoadFault}
-use Rattle.rt1553.specs.Load.{Of, IsNotLoaded}
+use Rattle.rt1553.specs.Load.{Of, IsNotLoaded, IsNoCanonText}
 use Rattle.rt1553.specs.Canon.{IsCanon}
 
 -- both texts are accepted and have these canonical bytes, and their terminals answer alike for ever
@@ -54,6 +54,10 @@ IsExact first second v = (P Q : Description) → Of first P → Of second Q → 
 -- the first was accepted.
 abbrev pub IsNotCompared : List ℕ → List ℕ → LoadFault → Type 0
 IsNotCompared first second fault = IsNotLoaded first fault ⊎ ((p : Description) × Of first p × IsNotLoaded second fault)
+
+-- the same of two canonical texts, for which no memory is taken
+abbrev pub IsNotComparedCanonical : List ℕ → List ℕ → LoadFault → Type 0
+IsNotComparedCanonical first second fault = IsNoCanonText first fault ⊎ ((p : Description) × Of first p × IsNoCanonText second fault)
 
 -- For any two accepted texts the canonical bytes are equal exactly if, from power-up, over every list of events that can
 -- come, both terminals send the same words and hand over the same things, each at the same event.

@@ -69,6 +69,12 @@ IsNotLoadedBy false text load.Memory = Unit {0}
 abbrev pub IsNotLoaded : List ℕ → LoadFault → Type 0
 IsNotLoaded text fault = IsNotLoadedBy (is_canon_text text) text fault
 
+-- the text is refused by this, its first fault as a canonical text
+abbrev pub IsNoCanonText : List ℕ → LoadFault → Type 0
+IsNoCanonText text (load.Canon fault) = IsNoText text fault
+IsNoCanonText text (load.Profile fault) = ⊥
+IsNoCanonText text load.Memory = ⊥
+
 -- the only fault by which an accepted text isn't loaded means out of memory
 abbrev pub OnlyMemoryRefuses : Type 0
 OnlyMemoryRefuses = (text : List ℕ) (P : Description) (fault : LoadFault) → Of text P → IsNotLoaded text fault → fault ≡ load.Memory

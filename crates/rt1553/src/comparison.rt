@@ -1,8 +1,8 @@
 //! Two texts are compared.
 ghost use Rattle.std.specs.Prelude.{IfOk, IfErr};
-ghost use Rattle.rt1553.specs.Compare.{IsRight, IsExact, IsNotCompared};
+ghost use Rattle.rt1553.specs.Compare.{IsRight, IsExact, IsNotCompared, IsNotComparedCanonical};
 
-use crate::{LoadFault, load};
+use crate::{LoadFault, load, load_canonical};
 use bus_canon::{Script, distinguish};
 use std::alloc::Global;
 
@@ -29,4 +29,18 @@ pub fn compare(alloc: Global, first: &[u8], second: &[u8]) -> Result<Verdict, Lo
         None => Ok(Verdict::Same),
         Some(script) => Ok(Verdict::Differ(script)),
     }
+}
+
+/// Says the same of two canonical texts, and of no others. Takes no memory.
+pub fn compare_canonical(first: &[u8], second: &[u8]) -> Result<Verdict, LoadFault>
+    ensures ok { IfOk result (IsRight first.now second.now) }
+    ensures exact { IfOk result (IsExact first.now second.now) }
+    ensures refused { IfErr result (IsNotComparedCanonical first.now second.now) }
+{
+    let of_first = load_canonical(first)?;
+    let of_second = load_canonical(second)?;
+    if let Some(script) = distinguish(&of_first, &of_second) {
+        return Ok(Verdict::Differ(script));
+    }
+    Ok(Verdict::Same)
 }

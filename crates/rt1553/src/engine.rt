@@ -3,10 +3,10 @@ ghost use Rattle.std.specs.Prelude.{◌≡◌, ◌≤◌, true, false, IfOk, IfE
 ghost use Rattle.bus_legal.specs.Description.{Description};
 ghost use Rattle.bus_legal.specs.Reach.{reach};
 ghost use Rattle.bus_legal.specs.Parts.{description_in};
-ghost use Rattle.rt1553.specs.Load.{IsNotLoaded};
+ghost use Rattle.rt1553.specs.Load.{is_canon_text, IsNotLoaded, IsNoCanonText};
 ghost use Rattle.rt1553.specs.Engine.{Completes, StopsBy, RunCompletes, RunStops, OnLoad, OnScript};
 
-use crate::{EngineFault, load};
+use crate::{EngineFault, load, load_canonical};
 use bus_legal::Normal;
 use bus_script::{RunFault, run_script};
 use bus_terminal::Terminal;
@@ -58,5 +58,27 @@ pub fn run<R: Source, W: Sink>(
     ensures write_failed { IsErrOf result (EngineFault.Script RunFault.Write) → W.has_failed writer.new ≡ true }
 {
     let normal = load(alloc, profile).map_err(EngineFault::Load)?;
+    run_normal(normal, reader, writer).map_err(EngineFault::Script)
+}
+
+/// Runs the terminal of a canonical text, and of no other text, as `run` does. Takes no memory.
+pub fn run_canonical<R: Source, W: Sink>(
+    text: &[u8],
+    reader: &mut R,
+    writer: &mut W,
+) -> Result<u64, EngineFault>
+    requires reader { R.has_failed reader.old ≡ false }
+    requires writer { W.has_failed writer.old ≡ false }
+
+    ensures ok { IfOk result (RunCompletes text.now (R.left reader.old) (W.written writer.old) (W.written writer.new)) }
+    ensures canonical { IfOk result (λ _. is_canon_text text.now ≡ true) }
+    ensures not_loaded { IfErr result (λ fault. OnLoad fault (λ f.
+        IsNoCanonText text.now f × (reader.new ≡ reader.old) × (writer.new ≡ writer.old))) }
+    ensures stopped { IfErr result (λ fault. OnScript fault
+        (RunStops text.now (R.left reader.old) (R.left reader.new) (W.written writer.old) (W.written writer.new))) }
+    ensures read_failed { IsErrOf result (EngineFault.Script RunFault.Read) → R.has_failed reader.new ≡ true }
+    ensures write_failed { IsErrOf result (EngineFault.Script RunFault.Write) → W.has_failed writer.new ≡ true }
+{
+    let normal = load_canonical(text).map_err(EngineFault::Load)?;
     run_normal(normal, reader, writer).map_err(EngineFault::Script)
 }

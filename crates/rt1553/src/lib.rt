@@ -19,9 +19,9 @@ pub use bus_word::{Bus, Kind, Raw};
 pub use byte_streams::{
     FromRead, FromWrite, IoFailed, MemorySink, MemorySource, Sink, Source, write_all,
 };
-pub use comparison::{Verdict, compare};
-pub use engine::run;
+pub use comparison::{Verdict, compare, compare_canonical};
+pub use engine::{run, run_canonical};
 pub use fault::{EngineFault, LoadFault};
-pub use loading::{canonical, load};
+pub use loading::{canonical, load, load_canonical};
 pub use report::{describe, fault_line};
 pub use script_lines::write_event;

@@ -1,6 +1,6 @@
 //! Texts are loaded, and their canonical bytes written.
-ghost use Rattle.std.specs.Prelude.{◌≡◌, ◌⊎◌, IfOk, IfErr};
-ghost use Rattle.rt1553.specs.Load.{is_canon_text, Reaches, IsNotLoaded};
+ghost use Rattle.std.specs.Prelude.{◌≡◌, ◌⊎◌, true, IfOk, IfErr};
+ghost use Rattle.rt1553.specs.Load.{is_canon_text, Reaches, IsNotLoaded, IsNoCanonText};
 ghost use Rattle.rt1553.specs.Canon.{IsCanon};
 
 use crate::LoadFault;
@@ -33,6 +33,15 @@ pub fn load(alloc: Global, text: &[u8]) -> Result<Normal, LoadFault>
     }
     let profile = read_profile(alloc, text)?;
     Ok(normalise(&profile))
+}
+
+/// Loads a canonical text, and no other: what can be reached of its terminal. Takes no memory.
+pub fn load_canonical(text: &[u8]) -> Result<Normal, LoadFault>
+    ensures ok { IfOk result (Reaches text.now) }
+    ensures canonical { IfOk result (λ _. is_canon_text text.now ≡ true) }
+    ensures refused { IfErr result (IsNoCanonText text.now) }
+{
+    Ok(read_canon(text)?)
 }
 
 /// The canonical bytes of a profile text or a canonical text.

@@ -1,0 +1,136 @@
+/**
+ * The list of messages. Only the rows in sight are drawn.
+ * @typedef {import('./decode.js').Row} Row
+ */
+import { el } from './dom.js';
+import { hex4 } from './words.js';
+
+/** How high a row is. */
+const ROW_HIGH = 26;
+export const HEADS = ['No', 'Bus', 'Kind', 'RT', 'SA / code', 'Count', 'Data', 'Status', 'Handed over', 'Remark'];
+
+export class MessageList {
+  /** @param {HTMLElement} place @param {(row: Row|null) => void} chosen */
+  constructor(place, chosen) {
+    /** @type {Row[]} */ this.rows = [];
+    /** @type {Row[]} */ this.seen = [];
+    this.filter = '';
+    /** The row that is chosen, among those that are seen. */
+    this.at = -1;
+    this.chosen = chosen;
+    this.space = el('div', { class: 'space', role: 'rowgroup' });
+    this.box = el('div', { class: 'rows', role: 'grid', tabindex: '0', 'aria-label': 'messages' },
+      el('div', { class: 'row head', role: 'row' }, ...HEADS.map((name) => el('span', { role: 'columnheader' }, name))), this.space);
+    place.append(this.box);
+    this.box.addEventListener('scroll', () => this.draw());
+    this.box.addEventListener('click', (/** @type {MouseEvent} */ event) => {
+      const row = /** @type {HTMLElement|null} */ (/** @type {HTMLElement} */ (event.target).closest('[data-at]'));
+      if (row) this.choose(Number(row.dataset.at));
+    });
+    this.box.addEventListener('keydown', (/** @type {KeyboardEvent} */ event) => this.move(event));
+    new ResizeObserver(() => { this.reveal(); this.draw(); }).observe(this.box);
+  }
+
+  /** @param {KeyboardEvent} event */
+  move(event) {
+    const page = Math.max(1, Math.floor(this.box.clientHeight / ROW_HIGH) - 2), end = this.seen.length - 1, { at } = this;
+    const to = { ArrowDown: at + 1, ArrowUp: at - 1, PageDown: at + page, PageUp: at - page, Home: 0, End: end }[event.key];
+    if (event.key === 'Escape') this.choose(-1);
+    else if (to !== undefined && end >= 0) this.choose(Math.min(end, Math.max(0, to)));
+    else return;
+    event.preventDefault();
+  }
+
+  /** @param {Row[]} rows */
+  set(rows) {
+    const chosen = this.seen[this.at]?.n;
+    this.rows = rows;
+    this.sift(this.filter, chosen);
+  }
+
+  /** Shows the messages that fit a filter.
+   * @param {string} text @param {number} [chosen] the number of the message that stays chosen */
+  sift(text, chosen = this.seen[this.at]?.n) {
+    this.filter = text;
+    const wanted = text.toLowerCase().split(/\s+/).filter(Boolean);
+    this.seen = wanted.length ? this.rows.filter((row) => wanted.every((it) => fits(row, it))) : this.rows;
+    this.at = this.seen.findIndex((row) => row.n === chosen);
+    this.space.style.height = `${this.seen.length * ROW_HIGH}px`;
+    this.box.setAttribute('aria-rowcount', String(this.seen.length + 1));
+    this.draw();
+    this.chosen(this.seen[this.at] ?? null);
+  }
+
+  /** @param {number} at */
+  choose(at) {
+    this.at = at;
+    this.reveal();
+    this.draw();
+    this.chosen(this.seen[at] ?? null);
+  }
+
+  /** Scrolls to the chosen message. */
+  reveal() {
+    if (this.at < 0) return;
+    const top = this.at * ROW_HIGH, high = this.box.clientHeight - ROW_HIGH;
+    if (top < this.box.scrollTop) this.box.scrollTop = top;
+    if (top + ROW_HIGH > this.box.scrollTop + high) this.box.scrollTop = top + ROW_HIGH - high;
+  }
+
+  draw() {
+    const first = Math.max(0, Math.floor(this.box.scrollTop / ROW_HIGH) - 2);
+    const last = first + Math.ceil(this.box.clientHeight / ROW_HIGH) + 4;
+    this.space.replaceChildren(...this.seen.slice(first, last).map((row, n) => this.row(row, first + n)));
+    if (this.at >= 0) this.box.setAttribute('aria-activedescendant', `message-${this.at}`);
+    else this.box.removeAttribute('aria-activedescendant');
+    const none = this.rows.length ? 'No message fits the filter.' : 'No messages yet: write a script, or choose an example.';
+    if (!this.seen.length) this.space.append(el('p', { class: 'empty' }, none));
+  }
+
+  /** @param {Row} row @param {number} n */
+  row(row, n) {
+    const cell = (/** @type {any[]} */ ...inside) => el('span', { role: 'gridcell' }, ...inside);
+    const told = (/** @type {string} */ text, /** @type {any[]} */ ...inside) => {
+      const made = cell(...inside);
+      made.title = text;
+      return made;
+    };
+    const apart = (/** @type {boolean} */ differs, /** @type {any[]} */ ...inside) =>
+      (row.differs && differs ? el('em', { class: 'apart', title: 'terminal 2 answers otherwise' }, ' ≠ ', ...inside) : '');
+    const data = row.sent.concat(row.data).map(hex4).join(' '), others = row.data2.map(hex4).join(' ') || 'none';
+    const status = row.status2 < 0 ? ['none'] : statusOf(row.status2, row.names2);
+    return el('div', {
+      id: `message-${n}`, class: `row ${row.tone}${n === this.at ? ' chosen' : ''}${row.differs ? ' differs' : ''}`, role: 'row',
+      'aria-rowindex': n + 2, 'aria-selected': String(n === this.at), 'data-at': String(n), style: `top:${n * ROW_HIGH}px`,
+    },
+    ...[String(row.n), row.bus, row.kind, row.rt, row.sa, row.count].map((it) => cell(it)),
+    told(data, row.data.length ? el('u', {}, data) : data, apart(row.data2.join() !== row.data.join(), others)),
+    cell(...statusOf(row.status, row.names), apart(row.status2 !== row.status, ...status)),
+    told(row.hand, row.hand, apart(row.hand2 !== row.hand, row.hand2 || 'nothing')),
+    told(row.remark, row.remark));
+  }
+}
+
+/** Shorter names of the bits of a status word.
+ * @type {Record<string, string>} */
+const SHORT = {
+  'message error': 'error', 'service request': 'service', 'broadcast received': 'broadcast', 'subsystem flag': 'subsystem',
+  'terminal flag': 'terminal', 'bus control accepted': 'accepted',
+};
+
+/** @param {number} status @param {string[]} names @returns {any[]} */
+const statusOf = (status, names) => (status < 0 ? [] : [hex4(status), ...names.map((name) => el('b', {}, SHORT[name] ?? name))]);
+
+/** Does a message fit a word of the filter: `rt:5`, `sa:3`, `bus:b`, `no:7`, `error`, `-busy`?
+ * @param {Row} row @param {string} word @returns {boolean} */
+function fits(row, word) {
+  if (word[0] === '-' && word.length > 1) return !fits(row, word.slice(1));
+  const [, field, wanted] = /^(rt|sa|bus|no):(.+)$/.exec(word) ?? [];
+  if (field) {
+    const value = { rt: row.rt, sa: row.sa, bus: row.bus, no: String(row.n) }[/** @type {'rt'} */ (field)];
+    return value.toLowerCase().split('→').includes(wanted);
+  }
+  const words = [...row.sent, ...row.data, ...(row.status < 0 ? [] : [row.status])].map(hex4);
+  const told = [row.kind, row.tone, ...row.names, row.remark, row.hand, row.differs ? 'differs' : '', ...words];
+  return told.join(' ').toLowerCase().includes(word);
+}

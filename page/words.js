@@ -1,0 +1,100 @@
+/**
+ * Words of the bus: their fields and names.
+ * @typedef {{address: number, transmit: boolean, subaddress: number, low: number, mode: boolean}} Command
+ * @typedef {{from: number, to: number, name: string, value: string, isOn: boolean}} Field the bits from and to, of which 15 comes first
+ */
+
+/** Mode codes: code, T/R is 1, name.
+ * @type {[number, boolean, string][]} */
+export const MODES = [
+  [0, true, 'dynamic bus control'],
+  [1, true, 'synchronize'],
+  [2, true, 'transmit status word'],
+  [3, true, 'initiate self test'],
+  [4, true, 'transmitter shutdown'],
+  [5, true, 'override transmitter shutdown'],
+  [6, true, 'inhibit terminal flag'],
+  [7, true, 'override inhibit terminal flag'],
+  [8, true, 'reset remote terminal'],
+  [16, true, 'transmit vector word'],
+  [17, false, 'synchronize with data word'],
+  [18, true, 'transmit last command'],
+  [19, true, 'transmit BIT word'],
+];
+
+/** Bits of the status word: mask, name in messages, name for people.
+ * @type {[number, string, string][]} */
+export const STATUS_BITS = [
+  [0x0400, 'error', 'message error'],
+  [0x0200, 'instrumentation', 'instrumentation'],
+  [0x0100, 'service', 'service request'],
+  [0x0080, 'reserved1', 'reserved'],
+  [0x0040, 'reserved2', 'reserved'],
+  [0x0020, 'reserved3', 'reserved'],
+  [0x0010, 'broadcast', 'broadcast received'],
+  [0x0008, 'busy', 'busy'],
+  [0x0004, 'subsystem', 'subsystem flag'],
+  [0x0002, 'accept', 'bus control accepted'],
+  [0x0001, 'terminal', 'terminal flag'],
+];
+
+/** @param {number} n */
+export const hex4 = (n) => n.toString(16).padStart(4, '0');
+/** @param {number} n */
+export const two = (n) => String(n).padStart(2, '0');
+
+/** @param {number} word @returns {Command} */
+export function commandOf(word) {
+  const subaddress = (word >> 5) & 31;
+  return { address: word >> 11, transmit: (word & 0x400) !== 0, subaddress, low: word & 31, mode: subaddress === 0 || subaddress === 31 };
+}
+
+/** @param {Command} c @returns {number} how many words a command names */
+export const countOf = (c) => c.low || 32;
+/** @param {number} code */
+export const modeName = (code) => MODES.find((row) => row[0] === code)?.[2] ?? 'reserved mode code';
+
+/** @param {Command} c @returns {number} how many data words follow a command from the controller */
+export const expectedWords = (c) => (c.transmit ? 0 : c.mode ? Number(c.low >= 16) : countOf(c));
+
+/** @param {Command} c @returns {number} how many data words a reply has */
+export const repliedWords = (c) => (!c.transmit ? 0 : c.mode ? Number(c.low >= 16) : countOf(c));
+
+/** @param {number} status @returns {string[]} the names of the bits that are set */
+export const statusNames = (status) => STATUS_BITS.filter(([mask]) => status & mask).map((row) => row[2]);
+
+/** @param {number} word @returns {string} a command in words */
+export function tellCommand(word) {
+  const c = commandOf(word), to = c.address === 31 ? 'all' : String(c.address), count = countOf(c);
+  if (c.mode) return `mode ${to} ${c.low}: ${modeName(c.low)}`;
+  return `${c.transmit ? 'transmit' : 'receive'} ${to} subaddress ${c.subaddress}, ${count} word${count === 1 ? '' : 's'}`;
+}
+
+/** @param {number} bits @returns {number} the right parity bit: the ones of a word and of its parity bit are odd in number */
+export function parityOf(bits) {
+  let ones = 0;
+  for (let n = bits; n; n &= n - 1) ones++;
+  return 1 - (ones & 1);
+}
+
+/** Shorter names, beside the bits.
+ * @type {Record<string, string>} */
+const STRIP = { 'broadcast received': 'broadcast', 'bus control accepted': 'bus control', instrumentation: 'instrument.' };
+
+/** @param {number} bits @param {'command'|'status'} kind @returns {Field[]} the fields of a word, from bit 15 on */
+export function fieldsOf(bits, kind) {
+  const c = commandOf(bits), to = kind === 'command' && c.address === 31 ? '31, broadcast' : String(c.address);
+  const address = { from: 15, to: 11, name: 'terminal', value: to, isOn: true };
+  if (kind === 'status') {
+    return [address, ...STATUS_BITS.map(([mask, , name]) => {
+      const at = Math.log2(mask), isOn = (bits & mask) !== 0;
+      return { from: at, to: at, name: STRIP[name] ?? name, value: isOn ? 'set' : '–', isOn };
+    })];
+  }
+  return [
+    address,
+    { from: 10, to: 10, name: 'T/R', value: c.transmit ? 'transmit' : 'receive', isOn: c.transmit },
+    { from: 9, to: 5, name: 'subaddress', value: c.mode ? `${c.subaddress}, mode` : String(c.subaddress), isOn: true },
+    { from: 4, to: 0, name: c.mode ? 'mode code' : 'count', value: c.mode ? `${c.low}, ${modeName(c.low)}` : String(countOf(c)), isOn: true },
+  ];
+}
