@@ -7,6 +7,8 @@ ASK = "A c 2c02\nA gap\nslot\n"
 RECEIVED = "A c 2862\nA d 0001\nA d 00af\nA gap\n"
 JUNIT = '<?xml version="1.0" encoding="UTF-8"?>\n<testsuites tests="1" failures="0" errors="0" skipped="0" time="0">\n'
 
+# what is said of an answer that no terminal gives
+NO_ANSWER = 'no terminal answers so: an answer is a line that run prints, as "A s 2800", "A d 0001" or "hand receive own 01 0011"'
 SCRIPTS = {
     "five": "address = 5\n",
     "good": f"{ASK}# of the terminal\n\n#> A s 2800\n",
@@ -82,6 +84,44 @@ MISTYPED = [
     *mistyped("#+2800", 3),
 ]
 
+
+
+def impossible(name, text, line):
+    """The row of an answer that no terminal gives."""
+    return with_files({"five": "address = 5\n", "impossible": text},
+                      Row(f"no terminal answers so: {name}", "verify five impossible", 2, errors=f"impossible: script: line {line}: {NO_ANSWER}\n"))
+
+
+# answers that no terminal gives, and answers in capitals
+GAP = "A c 2c02\nA gap\n"
+POSSIBLE = [
+    *impossible("three digits", f"{ASK}#> A s 280\n", 4),
+    *impossible("another sync", f"{ASK}#> A c 2800\n", 4),
+    *impossible("a small letter of the bus", f"{ASK}#> a s 2800\n", 4),
+    *impossible("before the next event", f"{ASK}#> A s 280\n\nslot\n#> A s 2\n", 4),
+    *impossible("behind a possible part", f"{ASK}#> A s 2800\n\n#+ 0\n", 4),
+    *impossible("hand alone", f"{GAP}#> hand\nslot\n", 3),
+    *impossible("hand and another word", f"{GAP}#> hand\n#+ over\nslot\n", 3),
+    *impossible("no subaddress of data", f"{GAP}#> hand receive own 31 0001\n", 3),
+    *impossible("a subaddress of one digit", f"{GAP}#> hand receive own 3 0001\n", 3),
+    *impossible("a mask of no subaddress", f"{GAP}#~ hand receive own 4. 0001\n", 3),
+    *impossible("no word", f"{GAP}#> hand receive broadcast 03\n", 3),
+    *impossible("33 words", f"{GAP}#> hand receive broadcast 03\n" + "#+ 0001 0002 0003\n" * 11, 3),
+    *with_files(
+        {
+            "five": "address = 5\n",
+            "capitals": "A c 2c02\nA d 0000\nA gap\nslot\nA c 2c02\nA gap\nslot\n#> A s 2C00\n",
+            "capital_mask": "A c 2c02\nA d 0000\nA gap\nslot\nA c 2c02\nA gap\nslot\n#~ A s\n#+ 2C..\n",
+            "handed": f"{GAP}#> hand\n#+ self-test\nslot\n#> A s 2800\n",
+            "words": f"{GAP}#> hand receive broadcast 30\n" + "#+ 0001 0002 0003 0004\n" * 8,
+        },
+        Row("capital digits", "verify five capitals capital_mask"),
+        Row("hand goes on", "verify five handed", 1, "handed:2: expected hand self-test, came nothing\nhanded: differences: 1\n"),
+        Row("32 words", "verify five words", 1,
+            "words:2: expected hand receive broadcast 30" + " 0001 0002 0003 0004" * 8 + ", came nothing\nwords: differences: 1\n"),
+    ),
+]
+
 # answers stated by masks, and on the bus alone
 MASKS = with_files(
     {
@@ -103,13 +143,12 @@ MASKS = with_files(
         "silent_bus": f"{RECEIVED}slot\n",
     },
     Row("a mask", "verify receiver masked some going"),
-    Row("a dot stands for no letter but a to f", "verify receiver dots", 1, "dots:3: expected A . 2800, came A s 2800\ndots: differences: 1\n"),
-    Row("a mask of more bytes", "verify receiver longer", 1, "longer:3: expected A s 2...0, came A s 2800\nlonger: differences: 1\n"),
-    Row("a mask of fewer bytes", "verify receiver shorter", 1, "shorter:3: expected A s 2.., came A s 2800\nshorter: differences: 1\n"),
+    Row("a dot stands for no letter but a to f", "verify receiver dots", 2, errors=f"dots: script: line 4: {NO_ANSWER}\n"),
+    Row("a mask of more bytes", "verify receiver longer", 2, errors=f"longer: script: line 4: {NO_ANSWER}\n"),
+    Row("a mask of fewer bytes", "verify receiver shorter", 2, errors=f"shorter: script: line 4: {NO_ANSWER}\n"),
     Row("no line where some line is stated", "verify receiver missing", 1,
         "missing:2: expected *, came nothing\nmissing:6: expected *, came nothing\nmissing: differences: 2\n"),
-    Row("a dot in an answer without a mask", "verify receiver literal", 1,
-        "literal:3: expected A s ...., came A s 2800\nliteral: differences: 1\n"),
+    Row("a dot in an answer without a mask", "verify receiver literal", 2, errors=f"literal: script: line 4: {NO_ANSWER}\n"),
     Row("a mask counts as an answer", "verify --summary receiver masked", 0,
         "masked: passed (answers: 1)\nno clause: 1 of 1 scripts pass\nall: 1 of 1 scripts pass\n"),
     Row("any line that goes on", "verify receiver star_goes", 2, errors="star_goes: script: line 6: the event before it cannot have this answer\n"),
@@ -167,7 +206,7 @@ SUMMARIES = with_files(
 )
 
 
-@pytest.mark.parametrize("row", VERIFY + MISTYPED + MASKS + SUMMARIES, ids=lambda it: it.name)
+@pytest.mark.parametrize("row", VERIFY + MISTYPED + POSSIBLE + MASKS + SUMMARIES, ids=lambda it: it.name)
 def test_verify(tool, row, tmp_path):
     check_row(tool, row, tmp_path)
 

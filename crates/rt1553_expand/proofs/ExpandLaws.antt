@@ -1,13 +1,12 @@
 -- Texts that are expanded line by line.
-use Rattle.std.proofs.Common.{ℕ, ◌≡◌, ◌∙◌, ◌+◌, List, [], ◌∷◌, ◌++◌, Option, None, length, refl, sym, ap, arith, append_assoc, append-nil, flat_map, replicate}
+use Rattle.std.proofs.Common.{ℕ, ◌≡◌, ◌∙◌, ◌+◌, List, [], ◌∷◌, ◌++◌, None, length, refl, sym, ap, arith, append_assoc, append-nil, flat_map}
 use Rattle.std.specs.List.{sum_by}
 use Rattle.std.proofs.lemmas.List.Sums.{sum_by-cons}
 use Rattle.terminal_rules.specs.declared.event.Event.{Event}
 use Rattle.script_lines.specs.Text.{lines_of}
 use Rattle.bus_script.specs.Reading.{reading, adds, nothing}
 use Rattle.bus_script.specs.inner.Lines.{ReadsLines}
-use Rattle.rt1553_expand.specs.Expansion.{expansion_of, expanded_lines, refusal_at, Refusal, refusals_from}
-use Rattle.rt1553_expand.specs.Sources.{sources_from}
+use Rattle.rt1553_expand.specs.Expansion.{expansion_of, refusal_at, Refusal, refusals_from}
 
 no-lines : lines_of [] ≡ []
 unfolding lines_of
@@ -57,20 +56,3 @@ refusals-on n rest line more old new all first added is =
 pub refusals-all : (n : ℕ) (rest : List ℕ) (old all : List Refusal) → length rest ≡ 0 → all ≡ old ++ refusals_from n (lines_of rest) → old ≡ all
 refusals-all n [] old all none is = sym (is ∙ ap (λ l. old ++ l) (refusals-none n) ∙ append-nil old)
 refusals-all n (b ∷ bytes) old all none is = absurd (omega (arith, none))
-
--- ---- where lines come from
-
-sources-none : (own : Option ℕ) (n : ℕ) → sources_from own n (lines_of []) ≡ []
-unfolding sources_from
-sources-none own n = ap (sources_from own n) no-lines
-
-pub sources-on : (own : Option ℕ) (n : ℕ) (rest line more : List ℕ) (old new all : List ℕ) → lines_of rest ≡ line ∷ lines_of more → new ≡ old ++ replicate (expanded_lines (expansion_of own line)) n
-    → all ≡ old ++ sources_from own n (lines_of rest) → all ≡ new ++ sources_from own (n + 1) (lines_of more)
-unfolding sources_from
-sources-on own n rest line more old new all first added is =
-    is ∙ ap (λ ls. old ++ sources_from own n ls) first ∙ sym (append_assoc old (replicate (expanded_lines (expansion_of own line)) n) (sources_from own (n + 1) (lines_of more)))
-    ∙ ap (λ l. l ++ sources_from own (n + 1) (lines_of more)) (sym added)
-
-pub sources-all : (own : Option ℕ) (n : ℕ) (rest : List ℕ) (old all : List ℕ) → length rest ≡ 0 → all ≡ old ++ sources_from own n (lines_of rest) → old ≡ all
-sources-all own n [] old all none is = sym (is ∙ ap (λ l. old ++ l) (sources-none own n) ∙ append-nil old)
-sources-all own n (b ∷ bytes) old all none is = absurd (omega (arith, none))

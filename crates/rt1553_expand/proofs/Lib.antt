@@ -8,6 +8,7 @@ mod FoundLaws
 mod GatherLaws
 mod PartsLaws
 mod PieceLaws
+mod PlacingLaws
 mod ReadLaws
 mod ExpandLaws
 mod SlotLaws

@@ -13,7 +13,7 @@ use Rattle.script_lines.proofs.LineLaws.{lines-line}
 use Rattle.bus_script.specs.Reading.{Reading, adds, nothing}
 use Rattle.rt1553_expand.specs.Message.{message_in}
 use Rattle.rt1553_expand.specs.Events.{message_events}
-use Rattle.rt1553_expand.specs.Expansion.{Expansion, from_events, kept, message_expansion, by_bus_letter, with_named_fault, by_meaning, expansion_of, expanded_events, all_events, refusal_at, refusals_from, refusals_in}
+use Rattle.rt1553_expand.specs.Expansion.{Expansion, Stays, Gives, message_expansion, by_bus_letter, with_named_fault, by_meaning, expansion_of, expanded_events, all_events, refusal_at, refusals_from, refusals_in}
 use Rattle.rt1553_expand.specs.Gathered.{CommandMessage, said, message_text, listed_line, Piece, Whole, Alone, piece_line, piece_events, events_in, lines_text, NoneNext, IsNext, AreNext, IsMessage}
 use Rattle.rt1553_expand.specs.inner.Wrote.{Wrote}
 use Rattle.rt1553_expand.specs.inner.Gathering.{Says, AllSay, IsNextLine, WroteNext, WroteSo}
@@ -32,7 +32,7 @@ within-most : (own : Option ℕ) (line : List ℕ) → length line ≤ 256 → e
 within-most own line short = grind (arith, nat_tests, short)
 
 by-letter : (own : Option ℕ) (bus : Bus) (m : CommandMessage) → message_in (message_text m) ≡ Ok (said m)
-    → by_bus_letter own (bus_first (listed_line bus m)) (drop 2 (listed_line bus m)) ≡ Ok (from_events (message_events own bus (said m)))
+    → by_bus_letter own (bus_first (listed_line bus m)) (drop 2 (listed_line bus m)) ≡ Ok (Gives (message_events own bus (said m)))
 by-letter own A m read = ap (message_expansion own A) read
 by-letter own B m read = ap (message_expansion own B) read
 
@@ -41,13 +41,13 @@ message-says bus m is = record {
   feeds = message-feeds bus m;
   expands = λ own.
       let says = each_is_said bus m is in (
-        from_events (message_events own bus (said m)),
-        within-most own (listed_line bus m) says.short ∙ refused-meaning own (listed_line bus m) (from_events (message_events own bus (said m))) (meaning (listed_line bus m)) says.other (by-letter own bus m says.read),
+        Gives (message_events own bus (said m)),
+        within-most own (listed_line bus m) says.short ∙ refused-meaning own (listed_line bus m) (Gives (message_events own bus (said m))) (meaning (listed_line bus m)) says.other (by-letter own bus m says.read),
         refl,
       );
 }
 
-kept-line : (own : Option ℕ) (e : Event) → length (event_text e) ≤ 64 → by_meaning own (event_text e) (Ok (Some e)) ≡ Ok (kept (event_text e) (Some e))
+kept-line : (own : Option ℕ) (e : Event) → length (event_text e) ≤ 64 → by_meaning own (event_text e) (Ok (Some e)) ≡ Ok (Stays (event_text e) (Some e))
 kept-line own e short = grind (arith, nat_tests, short)
 
 event-says : (e : Event) → meaning (event_text e) ≡ Ok (Some e) → Says (Alone e)
@@ -55,7 +55,7 @@ event-says e read =
     let line = event-line e in record {
       feeds = line.feeds;
       expands = λ own. (
-        kept (event_text e) (Some e),
+        Stays (event_text e) (Some e),
         within-most own (event_text e) (omega (arith, line.short)) ∙ ap (by_meaning own (event_text e)) read ∙ kept-line own e line.short,
         refl,
       );

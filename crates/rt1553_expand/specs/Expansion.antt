@@ -1,5 +1,5 @@
 -- The script that a text of events and messages stands for.
-use Rattle.std.specs.Prelude.{ℕ, ◌+◌, ◌-◌, ◌≡◌, ◌≢◌, ◌<◌, ◌≤◌, ◌==◌, Bool, nat_lt, if◌then◌else◌, List, [], ◌∷◌, ◌++◌, length, get_or, map, drop, Option, Some, None, is_some, Result, Ok, Err}
+use Rattle.std.specs.Prelude.{ℕ, ◌+◌, ◌-◌, ◌≡◌, ◌≢◌, ◌<◌, ◌≤◌, ◌==◌, Bool, false, nat_lt, if◌then◌else◌, List, [], ◌∷◌, ◌++◌, length, get_or, map, drop, Option, Some, None, is_some, Result, Ok, Err}
 use Rattle.std.specs.List.{flat_map, sum_by}
 use Rattle.bus_word.specs.declared.word.Bus.{Bus}
 use Rattle.terminal_rules.specs.declared.event.Event.{Event}
@@ -7,7 +7,6 @@ use Rattle.line_format.specs.Front.{after}
 use Rattle.script_lines.specs.declared.line.LineFault.{LineFault}
 use Rattle.script_lines.specs.Line.{meaning, bus_first}
 use Rattle.script_lines.specs.Text.{lines_of}
-use Rattle.script_lines.specs.EventLine.{script_text}
 use Rattle.rt1553_expand.specs.declared.fault.ExpandFault.{ExpandFault}
 use Rattle.rt1553_expand.specs.declared.fault.ExpandFault.TheVariants.{Long, LongComment, Neither, Mark, Return}
 use Rattle.rt1553_expand.specs.declared.expanding.Expanded.{Expanded}
@@ -15,30 +14,32 @@ use Rattle.rt1553_expand.specs.declared.expanding.Expanded.TheVariants.{Script, 
 use Rattle.rt1553_expand.specs.declared.expanding.UnexpandedLine.{UnexpandedLine}
 use Rattle.rt1553_expand.specs.Message.{SaidMessage, message_in}
 use Rattle.rt1553_expand.specs.Events.{message_events}
+use Rattle.rt1553_expand.specs.Placing.{ScriptLine, Placing, is_stating, nothing_placed, lines_in_order, with_message, with_statement, with_line}
 
--- what stands in the script for a line: its text, of so many lines, and the events of them
-pub record Expansion : Type 0 where
-  pub text : List ℕ
-  pub events : List Event
-  pub lines : ℕ
+-- what stands in the script for a line: the line itself, with what it says, or a line for each of the events of a message
+pub data Expansion : Type 0 where
+  Stays : List ℕ → Option Event → Expansion
+  Gives : List Event → Expansion
 
 -- the event that a line of a script says; an empty line and a comment say none
 abbrev pub events_said : Option Event → List Event
 events_said None = []
 events_said (Some e) = e ∷ []
 
--- a line of a script stays as it is
-abbrev pub kept : List ℕ → Option Event → Expansion
-kept line said = record { text = line ++ 10 ∷ []; events = events_said said; lines = 1 }
+-- the events of it
+abbrev pub events_given : Expansion → List Event
+events_given (Stays line said) = events_said said
+events_given (Gives es) = es
 
--- a message gives a line for each of its events
-abbrev pub from_events : List Event → Expansion
-from_events es = record { text = script_text es; events = es; lines = length es }
+-- how many lines it has
+abbrev pub lines_given : Expansion → ℕ
+lines_given (Stays line said) = 1
+lines_given (Gives es) = length es
 
 -- a message on the bus gives the lines of its events, unless it has a fault
 abbrev pub message_expansion : Option ℕ → Bus → Result SaidMessage ExpandFault → Result Expansion ExpandFault
 message_expansion own bus (Err fault) = Err fault
-message_expansion own bus (Ok message) = Ok (from_events (message_events own bus message))
+message_expansion own bus (Ok message) = Ok (Gives (message_events own bus message))
 
 -- a message begins with the letter of a bus; a line without one is no message
 abbrev pub by_bus_letter : Option ℕ → Option Bus → List ℕ → Result Expansion ExpandFault
@@ -63,7 +64,7 @@ with_named_fault line (Err fault) = Err (named_fault line fault)
 
 -- a line of a script stays, unless it is a comment too long for a script; any other line is read as a message
 abbrev pub by_meaning : Option ℕ → List ℕ → Result (Option Event) LineFault → Result Expansion ExpandFault
-by_meaning own line (Ok said) = if nat_lt 64 (length line) then Err LongComment else Ok (kept line said)
+by_meaning own line (Ok said) = if nat_lt 64 (length line) then Err LongComment else Ok (Stays line said)
 by_meaning own line (Err fault) = with_named_fault line (by_bus_letter own (bus_first line) (drop 2 line))
 
 -- What stands in the script for a line of the text, or why the line is refused; the script is for the terminal of this address, if there
@@ -71,24 +72,48 @@ by_meaning own line (Err fault) = with_named_fault line (by_bus_letter own (bus_
 abbrev pub expansion_of : Option ℕ → List ℕ → Result Expansion ExpandFault
 expansion_of own line = if nat_lt 256 (length line) then Err Long else by_meaning own line (meaning line)
 
--- the lines that a line of the text adds to the script: none where it is refused
-abbrev pub expanded_text : Result Expansion ExpandFault → List ℕ
-expanded_text (Ok expansion) = expansion.text
-expanded_text (Err fault) = []
-
--- the events that it adds: none where it is refused
+-- the events that a line of the text adds to the script: none where it is refused
 abbrev pub expanded_events : Result Expansion ExpandFault → List Event
-expanded_events (Ok expansion) = expansion.events
+expanded_events (Ok expansion) = events_given expansion
 expanded_events (Err fault) = []
 
 -- how many lines it adds: none where it is refused
 abbrev pub expanded_lines : Result Expansion ExpandFault → ℕ
-expanded_lines (Ok expansion) = expansion.lines
+expanded_lines (Ok expansion) = lines_given expansion
 expanded_lines (Err fault) = 0
 
--- what stands in the script for lines, one behind the other
+-- a line that says an event states no answer
+abbrev pub is_statement : List ℕ → Option Event → Bool
+is_statement line None = is_stating line
+is_statement line (Some e) = false
+
+-- line n comes before these
+abbrev pub with_expansion : ℕ → Expansion → Placing → Placing
+with_expansion n (Gives es) p = with_message n es p
+with_expansion n (Stays line said) p =
+    if is_statement line said then with_statement (record { text = line; source = n }) p else with_line (record { text = line; source = n }) p
+
+-- a line that is refused is left out
+abbrev pub with_expanded : ℕ → Result Expansion ExpandFault → Placing → Placing
+with_expanded n (Ok expansion) p = with_expansion n expansion p
+with_expanded n (Err fault) p = p
+
+-- lines, of which the first has number n, with their statements and the script behind these
+unfoldable pub placing : Option ℕ → ℕ → List (List ℕ) → Placing
+placing own n [] = nothing_placed
+placing own n (line ∷ lines) = with_expanded n (expansion_of own line) (placing own (n + 1) lines)
+
+-- the lines of the script of a text
+abbrev pub script_lines : Option ℕ → List (List ℕ) → List ScriptLine
+script_lines own lines = lines_in_order (placing own 1 lines)
+
+-- a line with its line feed
+abbrev pub spelled : ScriptLine → List ℕ
+spelled l = l.text ++ 10 ∷ []
+
+-- the script
 abbrev pub script_in : Option ℕ → List (List ℕ) → List ℕ
-script_in own lines = flat_map (λ line. expanded_text (expansion_of own line)) lines
+script_in own lines = flat_map spelled (script_lines own lines)
 
 -- its events
 abbrev pub all_events : Option ℕ → List (List ℕ) → List Event

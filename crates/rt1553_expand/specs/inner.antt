@@ -2,6 +2,7 @@
 pub mod Added
 pub mod Found
 pub mod Gathering
+pub mod StillLeft
 pub mod Read
 pub mod Said
 pub mod Wrote

@@ -1,17 +1,21 @@
 //! Texts of events and messages, expanded to scripts.
 ghost use Rattle.std.specs.Prelude.{ℕ, ◌≡◌, ◌≢◌, ◌≤◌, ◌<◌, ◌+◌, ◌++◌, [], List, Option, None, drop, length, map, true, false, Ok, Err, IfOk, IfErr, IfSome, OnOk, MatchOption};
+ghost use Rattle.std.specs.List.{flat_map};
 ghost use Rattle.terminal_rules.specs.declared.event.Event.{Event};
 ghost use Rattle.script_lines.specs.Line.{bus_first};
 ghost use Rattle.script_lines.specs.Text.{lines_of, NoLineFeed};
 ghost use Rattle.bus_script.specs.Reading.{reading, adds, nothing};
-ghost use Rattle.rt1553_expand.specs.Expansion.{expansion_of, expanded_text, expanded_lines, script_in, all_events, line_count, refusal_at, refusals_in, refusal_of, ends_in_return, named_fault, by_bus_letter, IsExpansion, IfScript};
-ghost use Rattle.rt1553_expand.specs.inner.Read.{expansion_by, IsWritable, LinesRead};
+ghost use Rattle.rt1553_expand.specs.Expansion.{events_given, lines_given, expansion_of, expanded_lines, spelled, placing, script_in, all_events, line_count, refusal_at, refusals_in, refusal_of, ends_in_return, named_fault, by_bus_letter, IsExpansion, IfScript};
+ghost use Rattle.rt1553_expand.specs.inner.StillLeft.{left_of, IsPending, own_line};
+ghost use Rattle.rt1553_expand.specs.inner.Read.{expansion_by, IsWritable};
 ghost use Rattle.rt1553_expand.specs.inner.Added.{Added};
+ghost use Rattle.rt1553_expand.specs.inner.Wrote.{Wrote};
 
 use crate::column::column_of;
 use crate::fault::ExpandFault;
 use crate::message::{BusMessage, MOST, read_message};
-use crate::writing::{message_lines, push_message};
+use crate::placing::{Pending, due, go_behind, how_many_left, next_events, nothing_pending};
+use crate::writing::{message_lines, write_lines};
 use bus_terminal::Event;
 use bus_word::Bus;
 use line_format::after;
@@ -55,10 +59,10 @@ pub enum ReadLine {
 pub struct ScriptSoFar {
     /// Its text.
     pub text: Vec<u8>,
-    /// How many lines that is.
+    /// How many lines that is, with those of the events that are left.
     pub lines: usize,
-    /// The events of the last message.
-    pub events: Vec<Event>,
+    /// What is left of the last message.
+    pub pending: Pending,
 }
 
 /// Reads a line that is no line of a script.
@@ -117,7 +121,7 @@ pub fn read_line(line: &[u8]) -> Result<ReadLine, ExpandFault>
 /// How many lines of a script stand for a line that was read, 1 to 70.
 pub fn lines_for(own: Option<u8>, read: &ReadLine, line: &[u8]) -> usize
     requires { IsWritable line.now read.now }
-    ensures value { result ≡ (expansion_by own line.now read.now).lines }
+    ensures value { result ≡ lines_given (expansion_by own line.now read.now) }
     ensures few { result ≤ 70 }
 {
     match read {
@@ -126,32 +130,27 @@ pub fn lines_for(own: Option<u8>, read: &ReadLine, line: &[u8]) -> usize
     }
 }
 
-/// Writes what stands in the script for a line that was read; `events` are those of the last message.
-fn push_read(
-    out: &mut Vec<u8>,
-    events: &mut Vec<Event>,
-    own: Option<u8>,
-    line: &[u8],
-    read: &ReadLine,
-) -> Result<(), AllocError>
-    requires { IsWritable line.now read.now }
-    ensures text { OnOk result (out.new.items ≡ out.old.items ++ (expansion_by own line.now read.now).text) }
-    ensures read { OnOk result (NoLineFeed line.now → (n : ℕ) → LinesRead n (expansion_by own line.now read.now)) }
+/// Writes a line that stays.
+fn push_kept(out: &mut Vec<u8>, line: &[u8], read: &ReadLine) -> Result<(), AllocError>
+    ensures { (own : Option ℕ) (n : ℕ) → OnOk result (out.new.items ≡ out.old.items ++ flat_map spelled (own_line n (expansion_by own line.now read.now))) }
 {
-    match read {
-        ReadLine::Kept(_) => {
-            out.extend_from_slice(line)?;
-            out.push(b'\n')?;
-        }
-        ReadLine::Written(bus, message) => push_message(out, events, own, *bus, message)?,
+    if let ReadLine::Kept(_) = read {
+        out.extend_from_slice(line)?;
+        out.push(b'\n')?;
     }
     Ok(())
 }
 
-/// Adds what stands in the script for a line, where that has room. Tells whether it has.
-fn add_line(script: &mut ScriptSoFar, own: Option<u8>, line: &[u8]) -> Result<bool, AllocError>
-    requires { script.old.lines ≤ 1048576 }
-    ensures added { IfOk result (λ has_room. has_room ≡ true → Added own script.old.text.items script.new.text.items line.now script.old.lines script.new.lines) }
+/// Adds line `number` of a text, where the script has room for it. Tells whether it has.
+fn add_line(
+    script: &mut ScriptSoFar,
+    own: Option<u8>,
+    line: &[u8],
+    number: u64,
+) -> Result<bool, AllocError>
+    requires few { script.old.lines ≤ 1048576 }
+    requires fits { IsPending script.old.pending }
+    ensures added { IfOk result (λ has_room. has_room ≡ true → Added own number script.old script.new line.now) }
     ensures full { IfOk result (λ has_room. has_room ≡ false → 1048576 < script.old.lines + expanded_lines (expansion_of own line.now)) }
 {
     let Ok(read) = read_line(line) else {
@@ -161,9 +160,20 @@ fn add_line(script: &mut ScriptSoFar, own: Option<u8>, line: &[u8]) -> Result<bo
     if lines > MAX_LINES as usize {
         return Ok(false);
     }
-    push_read(&mut script.text, &mut script.events, own, line, &read)?;
+    let count = due(&script.pending, line, &read);
+    write_lines(&mut script.text, next_events(&script.pending, count))?;
+    push_kept(&mut script.text, line, &read)?;
+    go_behind(&mut script.pending, count, own, number, line, &read)?;
     script.lines = lines;
     Ok(true)
+}
+
+/// Writes the events that are left.
+fn push_left(out: &mut Vec<u8>, pending: &Pending) -> Result<(), AllocError>
+    requires { IsPending pending.now }
+    ensures { OnOk result (Wrote out.old.items out.new.items (left_of pending.now).events) }
+{
+    write_lines(out, next_events(pending, how_many_left(pending)))
 }
 
 /// The script of a text, without what is refused of it; None where it would have over 1,048,576 lines.
@@ -175,16 +185,19 @@ fn script_of(alloc: Global, text: &[u8], own: Option<u8>) -> Result<Option<Vec<u
     let mut script = ScriptSoFar {
         text: Vec::new(alloc),
         lines: 0,
-        events: Vec::new(alloc),
+        pending: nothing_pending(alloc),
     };
     let mut rest = text;
+    let mut number = 1u64;
     while !rest.is_empty() {
         let (line, more) = first_line(rest);
-        if !add_line(&mut script, own, line)? {
+        if !add_line(&mut script, own, line, number)? {
             return Ok(None);
         }
+        number += 1;
         rest = more;
     }
+    push_left(&mut script.text, &script.pending)?;
     Ok(Some(script.text))
 }
 
@@ -222,7 +235,9 @@ fn unexpanded_lines(alloc: Global, text: &[u8]) -> Result<Vec<UnexpandedLine>, A
 /// letter of a bus and a space, a word by the names of its fields as `read_word_line` reads it, perhaps ` from ` with the address
 /// and the subaddress of the terminal that sends, and perhaps a colon and data words, gives the lines of its events. Any other
 /// line, one of over 256 bytes and a comment of over 64 are refused. The script is for the terminal of the address `own`, 0 to 30, if
-/// there is one: where it sends in a transfer, slots stand in place of its words. The only error is out of memory.
+/// there is one: where it sends in a transfer, slots stand in place of its words. Lines right behind a message that state answers stand
+/// in the script behind its events: a hand-over behind the gap at its end, others each behind a slot, those left over behind the last
+/// event. The only error is out of memory.
 pub fn expand(alloc: Global, text: &[u8], own: Option<u8>) -> Result<Expanded, AllocError>
     ensures expansion { IfOk result (IsExpansion own text.now) }
     ensures read { IfOk result (λ expanded. IfScript expanded (λ script. reading 0 (lines_of script) ≡ adds (all_events own (lines_of text.now)) nothing)) }

@@ -53,7 +53,7 @@ fn have_16_bits(words: &[u16])
 {}
 
 /// All but the first items, so many.
-fn behind<T>(items: &[T], count: usize) -> &[T]
+pub fn behind<T>(items: &[T], count: usize) -> &[T]
     requires { count ≤ length items.now }
     ensures { result.now ≡ drop count items.now }
 {

@@ -8,6 +8,7 @@ mod finding;
 mod gathering;
 pub mod laws;
 mod message;
+mod placing;
 mod source;
 mod spelling;
 mod writing;

@@ -243,20 +243,3 @@ pub fn write_lines(out: &mut Vec<u8>, events: &[Event]) -> Result<(), AllocError
     }
     Ok(())
 }
-
-/// Writes the lines of a message for the terminal of this address, if there is one; `events` become its events.
-pub fn push_message(
-    out: &mut Vec<u8>,
-    events: &mut Vec<Event>,
-    own: Option<u8>,
-    bus: Bus,
-    message: &BusMessage,
-) -> Result<(), AllocError>
-    requires width { AreOfWidth message.now.first }
-    requires sender { IfSome message.now.sender (λ s. AreOfTheirWidth (in_word s)) }
-    ensures { OnOk result (Wrote out.old.items out.new.items (message_events own bus (said_message message.now))) }
-{
-    events.clear();
-    push_events(events, own, bus, message)?;
-    write_lines(out, events.as_slice())
-}

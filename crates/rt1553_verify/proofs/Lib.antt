@@ -3,3 +3,4 @@ pub mod HeadingLaws
 pub mod ReaderLaws
 pub mod StatedLaws
 pub mod VerifyLaws
+pub mod PossibleLaws

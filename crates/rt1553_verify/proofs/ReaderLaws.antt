@@ -7,7 +7,7 @@ use Rattle.script_lines.specs.Text.{lines_of}
 use Rattle.rt1553_verify.specs.declared.stated.Stated.{Stated}
 use Rattle.rt1553_verify.specs.declared.stated.StatedFault.{StatedFault}
 use Rattle.rt1553_verify.specs.declared.stated.StatedFault.TheVariants.{Memory, TooLong}
-use Rattle.rt1553_verify.specs.Stated.{StatedEvent, Latest, shown, ended, if_any, bounded_line, then_events, then_lines, stated_by}
+use Rattle.rt1553_verify.specs.Stated.{StatedEvent, Latest, shown, all_stated, if_any, bounded_line, then_events, then_lines, stated_by}
 use Rattle.rt1553_verify.specs.Reader.{NextIs}
 use Rattle.rt1553_verify.specs.inner.Steps.{IsFirstLine, ReadsLine, StepBy}
 use Rattle.rt1553_verify.proofs.StatedLaws.{stated-line, stated-too_long, stated-none, then-none}
@@ -44,16 +44,23 @@ abbrev pub Left : Option (List ℕ) → ℕ → Latest → Option (Result (List 
 Left a n latest = option_map (λ bytes. stated_by 18446744073709551615 n latest (lines_of bytes)) a
 
 -- the input is at its end
-pub ends : (a b : Option (List ℕ)) (bytes : List ℕ) (n : ℕ) (latest : Latest) (all : Option Stated) → ReadsLine a b bytes false → if_any (option_map shown all) ≡ ended latest
+pub ends : (a b : Option (List ℕ)) (bytes : List ℕ) (n : ℕ) (latest : Latest) (all : Option Stated) → ReadsLine a b bytes false → all_stated latest ≡ Ok (if_any (option_map shown all))
     → NextIs (Left a n latest) (Left b n None) (Ok all)
 ends None b bytes n latest all reads is = tt
 ends (Some text) b bytes n latest None reads is =
-    ap (λ l. stated_by 18446744073709551615 n latest (lines_of l)) reads.0 ∙ stated-none 18446744073709551615 n latest ∙ ap Ok (sym is)
+    ap (λ l. stated_by 18446744073709551615 n latest (lines_of l)) reads.0 ∙ stated-none 18446744073709551615 n latest ∙ is
 ends (Some text) b bytes n latest (Some s) reads is = (
   Ok [],
   ap (λ o. Left o n None) reads.1 ∙ ap Some (stated-none 18446744073709551615 n None),
-  ap (λ l. stated_by 18446744073709551615 n latest (lines_of l)) reads.0 ∙ stated-none 18446744073709551615 n latest ∙ ap Ok (sym is),
+  ap (λ l. stated_by 18446744073709551615 n latest (lines_of l)) reads.0 ∙ stated-none 18446744073709551615 n latest ∙ is,
 )
+
+-- or the answer to the last event is refused
+pub ends_badly : (a b : Option (List ℕ)) (bytes : List ℕ) (n : ℕ) (latest : Latest) (fault : StatedFault) (new : Option (Result (List StatedEvent) StatedFault)) → ReadsLine a b bytes false
+    → (fault ≢ Memory → all_stated latest ≡ Err fault) → NextIs (Left a n latest) new (Err fault)
+ends_badly None b bytes n latest fault new reads says = tt
+ends_badly (Some text) b bytes n latest fault new reads says = λ memory read.
+    ap (λ l. stated_by 18446744073709551615 n latest (lines_of l)) reads.0 ∙ stated-none 18446744073709551615 n latest ∙ says memory
 
 -- the line that was read is the first of the text
 first_of : (bytes text rest line more : List ℕ) → IsFirstLine bytes text rest → lines_of bytes ≡ line ∷ lines_of more → lines_of text ≡ line ∷ lines_of rest

@@ -1,5 +1,5 @@
 -- Laws of what a script says that states its answers.
-use Rattle.std.proofs.Common.{ℕ, ◌≡◌, ◌∙◌, ◌+◌, ◌<◌, ◌≤◌, Bool, true, false, ◌&&◌, cond, List, [], ◌∷◌, ◌++◌, Option, Some, None, Result, Ok, Err, length, map, refl, sym, ap, arith, append_assoc, append-nil, codes, ⊎_elim}
+use Rattle.std.proofs.Common.{ℕ, ◌≡◌, ◌∙◌, ◌+◌, ◌<◌, ◌≤◌, Bool, true, false, ◌&&◌, ◌==◌, cond, List, [], ◌∷◌, ◌++◌, Option, Some, None, Result, Ok, Err, length, map, refl, sym, ap, arith, append_assoc, append-nil, codes, ⊎_elim}
 use Rattle.std.proofs.lemmas.Bool.{cases_lt}
 use Rattle.std.proofs.lemmas.Bool.Decides.{nat_tests}
 use Rattle.std.proofs.lemmas.List.{map-append}
@@ -13,10 +13,10 @@ use Rattle.refused_lines.specs.Refused.{mistyped}
 use Rattle.bus_script.specs.Reading.{Reading, reading, adds, nothing, then_reads}
 use Rattle.bus_script.proofs.ReadingLaws.{reading-line, adds-adds}
 use Rattle.rt1553_verify.specs.declared.stated.StatedFault.{StatedFault}
-use Rattle.rt1553_verify.specs.declared.stated.StatedFault.TheVariants.{LongLine, TooLong}
+use Rattle.rt1553_verify.specs.declared.stated.StatedFault.TheVariants.{LongLine, TooLong, Impossible}
 use Rattle.rt1553_verify.specs.declared.matching.Matching.{Matching}
 use Rattle.rt1553_verify.specs.declared.matching.Matching.TheVariants.{Exact}
-use Rattle.rt1553_verify.specs.Stated.{StatedEvent, Latest, After, is_empty, states_answer, says_bytes, can_match, matching_of, states, goes_on, ended, stays, or_misplaced, silent_line, unstated_line, by_going_on, by_mask, by_answer, line_says, bounded_line, then_events, then_lines, stated_by}
+use Rattle.rt1553_verify.specs.Stated.{StatedEvent, Latest, After, is_empty, states_answer, says_bytes, can_match, matching_of, small_digit, small_digits, states, goes_on, can_be_given, ended, all_stated, then_event, stays, or_misplaced, silent_line, unstated_line, by_going_on, by_mask, by_answer, line_says, bounded_line, then_events, then_lines, stated_by}
 
 -- a comment says no event
 comment-means : (line : List ℕ) → meaning (35 ∷ line) ≡ Ok None
@@ -25,6 +25,15 @@ comment-means line = refl
 
 pub stated-means : (c : ℕ) (line rest : List ℕ) → after (35 ∷ c ∷ 32 ∷ []) line ≡ Some rest → meaning line ≡ Ok None
 stated-means c line rest is = ap meaning (after-is (35 ∷ c ∷ 32 ∷ []) line rest is) ∙ comment-means (c ∷ 32 ∷ rest)
+
+-- what was stated of the latest event, if a terminal can give it
+pub all-ended : (latest : Latest) (es : List StatedEvent) → all_stated latest ≡ Ok es → es ≡ ended latest
+all-ended None es e = cc
+all-ended (Some s) es e = pick (can_be_given s.matching s.answer) e
+  where
+    pick : (b : Bool) → cond b (Ok (ended (Some s))) (Err (Impossible s.answer_line)) ≡ Ok es → es ≡ ended (Some s)
+    pick true e = cc
+    pick false e = absurd (cc)
 
 -- ---- line by line
 
@@ -82,15 +91,25 @@ pub stated_many : (most n : ℕ) (rest line more : List ℕ) (latest : Latest) (
 stated_many most n rest line more latest old all many first before =
     before ∙ ap (λ ls. then_events old (stated_by most n latest ls)) first ∙ ap (then_events old) (stated-too_long most n latest line (lines_of more) many)
 
-pub stated-none : (most n : ℕ) (latest : Latest) → stated_by most n latest (lines_of []) ≡ Ok (ended latest)
+pub stated-none : (most n : ℕ) (latest : Latest) → stated_by most n latest (lines_of []) ≡ all_stated latest
 unfolding stated_by lines_of
 stated-none most n latest = refl
 
 -- all lines were read
-pub stated_all : (most n : ℕ) (rest : List ℕ) (latest : Latest) (old new : List StatedEvent) (all : Said)
-    → length rest ≡ 0 → new ≡ old ++ ended latest → all ≡ then_events old (stated_by most n latest (lines_of rest)) → all ≡ Ok new
-stated_all most n [] latest old new all none grown before = before ∙ ap (then_events old) (stated-none most n latest) ∙ ap Ok (sym grown)
-stated_all most n (b ∷ rest) latest old new all none grown before = absurd (omega (arith, none))
+pub stated_all : (most n : ℕ) (rest : List ℕ) (latest : Latest) (old es new : List StatedEvent) (all : Said)
+    → length rest ≡ 0 → all_stated latest ≡ Ok es → new ≡ old ++ es → all ≡ then_events old (stated_by most n latest (lines_of rest)) → all ≡ Ok new
+stated_all most n [] latest old es new all none last grown before = before ∙ ap (then_events old) (stated-none most n latest ∙ last) ∙ ap Ok (sym grown)
+stated_all most n (b ∷ rest) latest old es new all none last grown before = absurd (omega (arith, none))
+
+pub none-left : (rest : List ℕ) (b : Bool) → b ≡ (length rest == 0) → b ≡ true → length rest ≡ 0
+none-left rest true is ends = grind (arith, nat_tests, is)
+none-left rest false is ends = absurd (cc)
+
+-- or the answer to the last event is refused
+pub stated_refused : (most n : ℕ) (rest : List ℕ) (latest : Latest) (old : List StatedEvent) (all : Said) (fault : StatedFault)
+    → length rest ≡ 0 → all_stated latest ≡ Err fault → all ≡ then_events old (stated_by most n latest (lines_of rest)) → all ≡ Err fault
+stated_refused most n [] latest old all fault none last before = before ∙ ap (then_events old) (stated-none most n latest ∙ last)
+stated_refused most n (b ∷ rest) latest old all fault none last before = absurd (omega (arith, none))
 
 -- ---- the events are those that a run reads
 
@@ -110,12 +129,12 @@ stays-line n m latest (Some s) line after comment same e = let is : after ≡ st
   are = ap (λ a. map (λ s. s.event) a.events ++ map (λ s. s.event) (ended a.latest)) is ∙ same s refl ∙ sym (append-nil _);
 }
 
-states-event : (matching : Matching) (latest : Latest) (line : List ℕ) (s : StatedEvent) → states matching latest line ≡ Some s → map (λ s. s.event) (ended (Some s)) ≡ map (λ s. s.event) (ended latest)
-states-event matching None line s e = absurd (cc)
-states-event matching (Some l) line s e = pick (is_empty l.answer && can_match matching l.event line) e
+states-event : (n : ℕ) (matching : Matching) (latest : Latest) (line : List ℕ) (s : StatedEvent) → states n matching latest line ≡ Some s → map (λ s. s.event) (ended (Some s)) ≡ map (λ s. s.event) (ended latest)
+states-event n matching None line s e = absurd (cc)
+states-event n matching (Some l) line s e = pick (is_empty l.answer && can_match matching l.event line) e
   where
-    pick : (b : Bool) → cond b (Some (record l { matching = matching; answer = line })) None ≡ Some s → map (λ s. s.event) (ended (Some s)) ≡ map (λ s. s.event) (ended (Some l))
-    pick true e = let is : s ≡ record l { matching = matching; answer = line } = cc in ap (λ x. x.event ∷ []) is
+    pick : (b : Bool) → cond b (Some (record l { matching = matching; answer_line = n; answer = line })) None ≡ Some s → map (λ s. s.event) (ended (Some s)) ≡ map (λ s. s.event) (ended (Some l))
+    pick true e = let is : s ≡ record l { matching = matching; answer_line = n; answer = line } = cc in ap (λ x. x.event ∷ []) is
     pick false e = absurd (cc)
 
 goes_on-event : (latest : Latest) (rest : List ℕ) (s : StatedEvent) → goes_on latest rest ≡ Some s → map (λ s. s.event) (ended (Some s)) ≡ map (λ s. s.event) (ended latest)
@@ -137,27 +156,34 @@ unstated-line n m latest (Ok None) line after says e = record {
   means = λ r. ap (λ x. then_reads x n r) says;
   are = ap (λ a. map (λ s. s.event) a.events ++ map (λ s. s.event) (ended a.latest)) (silent-stays m latest (mistyped line) after e) ∙ sym (append-nil _);
 }
-unstated-line n m latest (Ok (Some event)) line after says e =
-    let is : after ≡ record { events = ended latest; latest = Some (record { line = m; event = event; matching = Exact; answer = [] }) } = cc in record {
-      events = event ∷ [];
-      means = λ r. ap (λ x. then_reads x n r) says;
-      are = ap (λ a. map (λ s. s.event) a.events ++ map (λ s. s.event) (ended a.latest)) is;
-    }
+unstated-line n m latest (Ok (Some event)) line after says e = by_last (all_stated latest) refl e
+  where
+    new : StatedEvent
+    new = record { line = m; event = event; matching = Exact; answer_line = 0; answer = [] }
+
+    by_last : (last : Said) → all_stated latest ≡ last → then_event m event last ≡ Ok after → Line n latest line after
+    by_last (Err fault) last e = absurd (cc)
+    by_last (Ok es) last e =
+        let is : after ≡ record { events = es; latest = Some new } = cc in record {
+          events = event ∷ [];
+          means = λ r. ap (λ x. then_reads x n r) says;
+          are = ap (λ a. map (λ s. s.event) a.events ++ map (λ s. s.event) (ended a.latest)) is ∙ ap (λ xs. map (λ s. s.event) xs ++ event ∷ []) (all-ended latest es last);
+        }
 
 says-line : (n m : ℕ) (latest : Latest) (line : List ℕ) (result : After) → line_says m latest line ≡ Ok result → Line n latest line result
 says-line n m latest line result e = first (after (codes "#> ") line) refl e
   where
     third : (o : Option (List ℕ)) → after (codes "#+ ") line ≡ o → by_going_on m latest line o ≡ Ok result → Line n latest line result
     third None is e = unstated-line n m latest (meaning line) line result refl e
-    third (Some rest) is e = stays-line n m latest (goes_on latest rest) line result (stated-means 43 line rest is) (goes_on-event latest rest) e
+    third (Some rest) is e = stays-line n m latest (goes_on latest (map small_digit rest)) line result (stated-means 43 line rest is) (goes_on-event latest (map small_digit rest)) e
 
     second : (o : Option (List ℕ)) → after (codes "#~ ") line ≡ o → by_mask m latest line o ≡ Ok result → Line n latest line result
     second None is e = third (after (codes "#+ ") line) refl e
-    second (Some mask) is e = stays-line n m latest (states (matching_of mask) latest mask) line result (stated-means 126 line mask is) (states-event (matching_of mask) latest mask) e
+    second (Some mask) is e = stays-line n m latest (states m (matching_of mask) latest (small_digits mask)) line result (stated-means 126 line mask is) (states-event m (matching_of mask) latest (small_digits mask)) e
 
     first : (o : Option (List ℕ)) → after (codes "#> ") line ≡ o → by_answer m latest line o ≡ Ok result → Line n latest line result
     first None is e = second (after (codes "#~ ") line) refl e
-    first (Some answer) is e = stays-line n m latest (states Exact latest answer) line result (stated-means 62 line answer is) (states-event Exact latest answer) e
+    first (Some answer) is e = stays-line n m latest (states m Exact latest (small_digits answer)) line result (stated-means 62 line answer is) (states-event m Exact latest (small_digits answer)) e
 
 -- the events of lines, behind the latest, are those that a run reads
 abbrev AreRead : ℕ → Latest → List (List ℕ) → List StatedEvent → Type 0
@@ -165,7 +191,7 @@ AreRead n latest lines ss = (events : List Event) × (map (λ s. s.event) ss ≡
 
 are_read : (n : ℕ) (latest : Latest) (lines : List (List ℕ)) (ss : List StatedEvent) → stated_by 1048576 n latest lines ≡ Ok ss → AreRead n latest lines ss
 unfolding stated_by reading
-are_read n latest [] ss e = let is : ss ≡ ended latest = cc in ([], ap (map (λ s. s.event)) is ∙ sym (append-nil _), refl)
+are_read n latest [] ss e = let is = all-ended latest ss e in ([], ap (map (λ s. s.event)) is ∙ sym (append-nil _), refl)
 are_read n latest (line ∷ lines) ss e = ⊎_elim (few (λ latest ss is. are_read (n + 1) latest lines ss is)) many (cases_lt n 1048576)
   where
     Later : Type 0

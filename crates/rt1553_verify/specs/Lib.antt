@@ -1,5 +1,6 @@
 pub mod Heading
 pub mod Stated
+pub mod Possible
 pub mod Verify
 pub mod Commands
 pub mod Reader

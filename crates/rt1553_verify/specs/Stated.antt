@@ -1,7 +1,7 @@
 -- What a script says that states its answers: `#> LINE` behind the event that LINE of the transcript answers; `#~ MASK` behind one
 -- that a line answers of which MASK says all but the digits at its dots, and `#~ *` behind one that any line answers; and `#+ REST`
 -- behind an answer that goes on with a space and REST. All else is read as in any script.
-use Rattle.std.specs.Prelude.{ℕ, ◌+◌, Bool, true, false, not, ◌&&◌, ◌||◌, ◌==◌, nat_le, nat_lt, if◌then◌else◌, List, [], ◌∷◌, ◌++◌, Option, Some, None, is_some, option_map, length, filter, Result, Ok, Err, codes}
+use Rattle.std.specs.Prelude.{ℕ, ◌+◌, Bool, true, false, not, ◌&&◌, ◌||◌, ◌==◌, nat_le, nat_lt, if◌then◌else◌, List, [], ◌∷◌, ◌++◌, Option, Some, None, option_map, length, map, filter, Result, Ok, Err, codes}
 use Rattle.terminal_rules.specs.declared.event.Event.{Event}
 use Rattle.std.specs.Str.{bytes_eq}
 use Rattle.terminal_rules.specs.declared.event.Event.TheVariants.{Gap, Slot}
@@ -17,19 +17,20 @@ use Rattle.rt1553_verify.specs.declared.stated.AfterLine.{AfterLine}
 use Rattle.rt1553_verify.specs.declared.stated.ScriptWarning.{ScriptWarning}
 use Rattle.rt1553_verify.specs.declared.stated.ScriptWarning.TheVariants.{NoEvent, NoAnswer}
 use Rattle.rt1553_verify.specs.declared.stated.StatedFault.{StatedFault}
-use Rattle.rt1553_verify.specs.declared.stated.StatedFault.TheVariants.{Line, LongLine, TooLong, Mistyped, Misplaced}
+use Rattle.rt1553_verify.specs.declared.stated.StatedFault.TheVariants.{Line, LongLine, TooLong, Mistyped, Misplaced, Impossible}
 
 -- An event with the number of its line, from 1, and what is to answer it: the line of the transcript, or its mask, with a line feed, or
--- nothing; and how what comes is compared with that.
+-- nothing; the number of the line that states this, 0 for none; and how what comes is compared with that.
 pub record StatedEvent : Type 0 where
   pub line : ℕ
   pub event : Event
   pub matching : Matching
+  pub answer_line : ℕ
   pub answer : List ℕ
 
 -- an event of the code, as these definitions speak of it
 abbrev pub shown : Stated → StatedEvent
-shown s = record { line = s.line; event = s.event; matching = s.matching; answer = s.answer.items }
+shown s = record { line = s.line; event = s.event; matching = s.matching; answer_line = s.answer_line; answer = s.answer.items }
 
 -- there are no bytes
 abbrev pub is_empty : List ℕ → Bool
@@ -62,10 +63,20 @@ fits Unchecked _ came = true
 abbrev pub states_answer : StatedEvent → Bool
 states_answer s = not (is_empty s.answer)
 
+-- there is a rest, and a word ends before it: it is empty or begins with a space
+abbrev pub ends_word : Option (List ℕ) → Bool
+ends_word None = false
+ends_word (Some []) = true
+ends_word (Some (b ∷ rest)) = b == 32
+
+-- a line hands over: its first word is `hand`
+abbrev pub hands_over : List ℕ → Bool
+hands_over line = ends_word (after (codes "hand") line)
+
 -- what is handed over answers a gap, and a word that is sent answers a slot
 abbrev pub can_answer : Event → List ℕ → Bool
-can_answer (Gap bus) line = is_some (after (codes "hand ") line)
-can_answer Slot line = not (is_empty line) && not (is_some (after (codes "hand ") line))
+can_answer (Gap bus) line = hands_over line
+can_answer Slot line = not (is_empty line) && not (hands_over line)
 can_answer _ line = false
 
 -- the event is a gap
@@ -80,18 +91,98 @@ can_match AnyLine Slot line = true
 can_match AnyLine _ line = false
 can_match _ event line = can_answer event line
 
+-- a byte of a mask is open to any digit
+abbrev pub is_open_digit : Bool → ℕ → Bool
+is_open_digit masked b = masked && (b == 46)
+
+-- a digit of a word, or in a mask a dot
+abbrev pub may_be_digit : Bool → ℕ → Bool
+may_be_digit masked b = is_open_digit masked b || is_digit b
+
+-- a word: four digits
+abbrev pub may_be_word : Bool → List ℕ → Bool
+may_be_word masked (a ∷ b ∷ c ∷ d ∷ []) = may_be_digit masked a && (may_be_digit masked b && (may_be_digit masked c && may_be_digit masked d))
+may_be_word masked _ = false
+
+-- a subaddress of data: 01 to 09, 10 to 29, or 30
+abbrev pub may_be_subaddress : Bool → ℕ → ℕ → Bool
+may_be_subaddress masked tens ones =
+    ((tens == 48) && (is_open_digit masked ones || (nat_le 49 ones && nat_lt ones 58)))
+    || (((is_open_digit masked tens || (nat_le 49 tens && nat_lt tens 51)) && (is_open_digit masked ones || (nat_le 48 ones && nat_lt ones 58)))
+    || ((tens == 51) && (is_open_digit masked ones || (ones == 48))))
+
+-- what follows a space and a word at the front
+abbrev pub behind_field : Bool → List ℕ → Option (List ℕ)
+behind_field masked (s ∷ a ∷ b ∷ c ∷ d ∷ rest) = if (s == 32) && may_be_word masked (a ∷ b ∷ c ∷ d ∷ []) then Some rest else None
+behind_field masked _ = None
+
+-- words, each behind a space
+abbrev pub may_be_fields : Bool → List ℕ → Bool
+may_be_fields masked [] = true
+may_be_fields masked (s ∷ a ∷ b ∷ c ∷ d ∷ rest) = (s == 32) && (may_be_word masked (a ∷ b ∷ c ∷ d ∷ []) && may_be_fields masked rest)
+may_be_fields masked _ = false
+
+-- what is received: a subaddress, and 1 to 32 words, of five bytes each with its space
+abbrev pub may_be_received : Bool → List ℕ → Bool
+may_be_received masked (tens ∷ ones ∷ words) = may_be_subaddress masked tens ones && (not (is_empty words) && (nat_le (length words) 160 && may_be_fields masked words))
+may_be_received masked _ = false
+
+-- there is a rest, and this holds of it
+abbrev pub holds_of_rest : (List ℕ → Bool) → Option (List ℕ) → Bool
+holds_of_rest holds None = false
+holds_of_rest holds (Some rest) = holds rest
+
+-- a line begins so, and this holds of what follows
+abbrev pub is_behind : List ℕ → (List ℕ → Bool) → List ℕ → Bool
+is_behind front holds line = holds_of_rest holds (after front line)
+
+-- a word that a terminal sends, on either bus: a status word or a data word
+abbrev pub may_be_sent_line : Bool → List ℕ → Bool
+may_be_sent_line masked line =
+    is_behind (codes "A s ") (may_be_word masked) line
+    || (is_behind (codes "A d ") (may_be_word masked) line
+    || (is_behind (codes "B s ") (may_be_word masked) line
+    || is_behind (codes "B d ") (may_be_word masked) line))
+
+-- what a terminal hands over
+abbrev pub may_be_handed : Bool → List ℕ → Bool
+may_be_handed masked line =
+    is_behind (codes "hand receive own ") (may_be_received masked) line
+    || (is_behind (codes "hand receive broadcast ") (may_be_received masked) line
+    || (is_behind (codes "hand sync ") (may_be_word masked) line
+    || (bytes_eq line (codes "hand sync") || (bytes_eq line (codes "hand self-test") || bytes_eq line (codes "hand bus-control")))))
+
+-- a line that a terminal can answer, or a mask that admits one
+abbrev pub is_possible : Bool → List ℕ → Bool
+is_possible masked line = may_be_sent_line masked line || may_be_handed masked line
+
+-- what is stated so can be given: it is a line, or nothing
+abbrev pub can_be_given : Matching → List ℕ → Bool
+can_be_given Exact line = is_empty line || is_possible false line
+can_be_given Masked mask = is_possible true mask
+can_be_given _ line = true
+
 -- how a mask is compared: `*` stands for any line
 abbrev pub matching_of : List ℕ → Matching
 matching_of mask = if bytes_eq mask (codes "*") then AnyLine else Masked
+
+-- a capital hexadecimal digit is read as the small one, and any other byte as itself
+abbrev pub small_digit : ℕ → ℕ
+small_digit b = if nat_le 65 b && nat_lt b 71 then b + 32 else b
+
+-- what is stated of an answer, with small digits: its first byte, which may be the letter of a bus, stays
+abbrev pub small_digits : List ℕ → List ℕ
+small_digits [] = []
+small_digits (b ∷ bytes) = b ∷ map small_digit bytes
 
 -- While lines are read, the latest event is kept apart, with what was stated of it so far, without a line feed.
 abbrev pub Latest : Type 0
 Latest = Option StatedEvent
 
--- the line is stated so as the answer to the latest event, which it can answer and of which nothing was stated
-abbrev pub states : Matching → Latest → List ℕ → Option StatedEvent
-states matching None line = None
-states matching (Some s) line = if is_empty s.answer && can_match matching s.event line then Some (record s { matching = matching; answer = line }) else None
+-- the line, of number n, is stated so as the answer to the latest event, which it can answer and of which nothing was stated
+abbrev pub states : ℕ → Matching → Latest → List ℕ → Option StatedEvent
+states n matching None line = None
+states n matching (Some s) line = if is_empty s.answer && can_match matching s.event line then Some (record s { matching = matching; answer_line = n; answer = line }) else None
 
 -- more can be stated of the answer than that there is one
 abbrev pub says_bytes : Matching → Bool
@@ -111,6 +202,11 @@ with_line_feed bytes = if is_empty bytes then [] else bytes ++ 10 ∷ []
 abbrev pub ended : Latest → List StatedEvent
 ended None = []
 ended (Some s) = record s { answer = with_line_feed s.answer } ∷ []
+
+-- the latest event, of which all was stated, unless no terminal gives that answer
+abbrev pub all_stated : Latest → Result (List StatedEvent) StatedFault
+all_stated None = Ok []
+all_stated (Some s) = if can_be_given s.matching s.answer then Ok (ended (Some s)) else Err (Impossible s.answer_line)
 
 -- what is known after a line: the events of which all was stated by then, and the latest one
 pub record After : Type 0 where
@@ -140,25 +236,30 @@ abbrev pub silent_line : ℕ → Latest → Option ℕ → Result After StatedFa
 silent_line n latest None = Ok (stays latest)
 silent_line n latest (Some column) = Err (Mistyped n column)
 
+-- a new event on line n, behind those of which all was stated
+abbrev pub then_event : ℕ → Event → Result (List StatedEvent) StatedFault → Result After StatedFault
+then_event n e (Err fault) = Err fault
+then_event n e (Ok events) = Ok (record { events = events; latest = Some (record { line = n; event = e; matching = Exact; answer_line = 0; answer = [] }) })
+
 -- a line that states no answer: an event, nothing, or none of a script
 abbrev pub unstated_line : ℕ → Latest → List ℕ → Result (Option Event) LineFault → Result After StatedFault
 unstated_line n latest line (Err fault) = Err (Line n)
 unstated_line n latest line (Ok None) = silent_line n latest (mistyped line)
-unstated_line n latest line (Ok (Some e)) = Ok (record { events = ended latest; latest = Some (record { line = n; event = e; matching = Exact; answer = [] }) })
+unstated_line n latest line (Ok (Some e)) = then_event n e (all_stated latest)
 
 -- line n, which goes on with an answer if it has a rest behind `#+ `
 abbrev pub by_going_on : ℕ → Latest → List ℕ → Option (List ℕ) → Result After StatedFault
-by_going_on n latest line (Some rest) = or_misplaced n (goes_on latest rest)
+by_going_on n latest line (Some rest) = or_misplaced n (goes_on latest (map small_digit rest))
 by_going_on n latest line None = unstated_line n latest line (meaning line)
 
 -- line n, which states a mask if it has one behind `#~ `
 abbrev pub by_mask : ℕ → Latest → List ℕ → Option (List ℕ) → Result After StatedFault
-by_mask n latest line (Some mask) = or_misplaced n (states (matching_of mask) latest mask)
+by_mask n latest line (Some mask) = or_misplaced n (states n (matching_of mask) latest (small_digits mask))
 by_mask n latest line None = by_going_on n latest line (after (codes "#+ ") line)
 
 -- line n, which states an answer if it has one behind `#> `
 abbrev pub by_answer : ℕ → Latest → List ℕ → Option (List ℕ) → Result After StatedFault
-by_answer n latest line (Some answer) = or_misplaced n (states Exact latest answer)
+by_answer n latest line (Some answer) = or_misplaced n (states n Exact latest (small_digits answer))
 by_answer n latest line None = by_mask n latest line (after (codes "#~ ") line)
 
 -- what line number n says: a stated answer, how one goes on, or what it says in any script
@@ -182,7 +283,7 @@ then_lines (Ok after) later = then_events after.events (later after.latest)
 -- What lines say that follow n lines, of a script that may have so many: of one line more that there are too many, of a line of over 64
 -- bytes that it is too long, and of any other what it says by itself. The first fault is that of all.
 unfoldable pub stated_by : ℕ → ℕ → Latest → List (List ℕ) → Result (List StatedEvent) StatedFault
-stated_by most n latest [] = Ok (ended latest)
+stated_by most n latest [] = all_stated latest
 stated_by most n latest (line ∷ lines) =
     if nat_le most n then Err TooLong else then_lines (bounded_line (n + 1) latest line) (λ latest. stated_by most (n + 1) latest lines)
 

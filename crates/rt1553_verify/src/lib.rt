@@ -3,7 +3,9 @@
 
 mod commands;
 mod heading;
+pub mod laws;
 mod matching;
+mod possible;
 mod reader;
 mod stated;
 mod verifying;

@@ -3,10 +3,11 @@ ghost use Rattle.std.specs.Prelude.{◌≡◌, ◌≢◌, ◌<◌, ◌&&◌, ◌
 ghost use Rattle.script_lines.specs.Line.{meaning};
 ghost use Rattle.script_lines.specs.Text.{lines_of};
 ghost use Rattle.bus_script.specs.Reading.{reading, adds, nothing};
-ghost use Rattle.rt1553_verify.specs.Stated.{shown, is_empty, states_answer, can_answer, can_match, says_bytes, states, goes_on, ended, if_any, shown_after, stays, or_misplaced, unstated_line, bounded_line, stated_in, warning_text, stated_warning, script_warning, seen_on_bus};
+ghost use Rattle.rt1553_verify.specs.Stated.{shown, states_answer, hands_over, can_answer, can_match, small_digit, small_digits, says_bytes, states, goes_on, all_stated, if_any, shown_after, stays, or_misplaced, unstated_line, bounded_line, stated_in, warning_text, stated_warning, script_warning, seen_on_bus};
 ghost use Rattle.rt1553_verify.specs.declared.stated.StatedFault.TheVariants.{Memory};
 
 use crate::Matching;
+use crate::possible::can_be_given;
 use bus_terminal::Event;
 use line_format::after;
 use refused_lines::{first_line, mistyped_answer};
@@ -22,6 +23,8 @@ pub struct Stated {
     pub event: Event,
     /// How what answers the event is compared with `answer`.
     pub matching: Matching,
+    /// The number of the line that states the answer, from 1; 0 where none does.
+    pub answer_line: u64,
     /// The line of the transcript that is to answer the event, or its mask, with its line feed; empty where nothing is to answer it.
     pub answer: Vec<u8>,
 }
@@ -53,6 +56,9 @@ pub enum StatedFault {
     /// This line states an answer, or goes on with one, and doesn't follow an event that it can answer.
     #[error("script: line {0}: the event before it cannot have this answer")]
     Misplaced(u64),
+    /// The answer that this line states, with the lines that go on with it, is none that a terminal gives.
+    #[error("script: line {0}: no terminal answers so: an answer is a line that run prints, as \"A s 2800\", \"A d 0001\" or \"hand receive own 01 0011\"")]
+    Impossible(u64),
     /// The script can't be read on, which says nothing of it.
     #[error("script: read failed")]
     Read,
@@ -77,11 +83,22 @@ impl<T: Drop> From<AllocFailed<T>> for StatedFault {
     }
 }
 
+/// Whether a line hands over: its first word is `hand`.
+fn hands_over(line: &[u8]) -> bool
+    ensures { result ≡ hands_over line.now }
+{
+    match after(line, b"hand") {
+        Some([]) => true,
+        Some([next, ..]) => *next == b' ',
+        None => false,
+    }
+}
+
 /// Whether the event can be answered by this line: what is handed over answers a gap, and a word that is sent a slot.
 fn can_answer(event: Event, line: &[u8]) -> bool
     ensures { result ≡ can_answer event line.now }
 {
-    let hands = after(line, b"hand ").is_some();
+    let hands = hands_over(line);
     match event {
         Event::Gap(_) => hands,
         Event::Slot => !line.is_empty() && !hands,
@@ -99,11 +116,35 @@ fn can_match(matching: Matching, event: Event, line: &[u8]) -> bool
     }
 }
 
-/// Whether the line, or the mask, can be stated of this event, of which nothing was stated yet.
-fn is_open_to(latest: &Stated, matching: Matching, line: &[u8]) -> bool
-    ensures { result ≡ (is_empty latest.now.answer.items && can_match matching latest.now.event line.now) }
+/// Gives a capital hexadecimal digit as the small one, and any other byte as it is.
+fn small_digit(byte: u8) -> u8
+    ensures { result ≡ small_digit byte }
 {
-    latest.answer.is_empty() && can_match(matching, latest.event, line)
+    match byte {
+        b'A'..=b'F' => byte + 32,
+        _ => byte,
+    }
+}
+
+/// Adds bytes, with small digits.
+fn push_small(answer: &mut Vec<u8>, bytes: &[u8]) -> Result<(), AllocError>
+    ensures { OnOk result (answer.new.items ≡ answer.old.items ++ map small_digit bytes.now) }
+{
+    for byte in bytes {
+        answer.push(small_digit(*byte))?;
+    }
+    Ok(())
+}
+
+/// Adds what is stated of an answer, with small digits: its first byte, which may be the letter of a bus, stays.
+fn push_stated(answer: &mut Vec<u8>, line: &[u8]) -> Result<(), AllocError>
+    ensures { OnOk result (answer.new.items ≡ answer.old.items ++ small_digits line.now) }
+{
+    if let [first, rest @ ..] = line {
+        answer.push(*first)?;
+        push_small(answer, rest)?;
+    }
+    Ok(())
 }
 
 /// Keeps what a line states of the answer to the latest event, of which nothing was stated yet.
@@ -113,17 +154,21 @@ fn state(
     matching: Matching,
     line: &[u8],
 ) -> Result<Option<Stated>, StatedFault>
-    ensures said { IfOk result (λ new. or_misplaced number (states matching (option_map shown latest) line.now) ≡ Ok (stays (option_map shown new))) }
-    ensures refused { IfErr result (λ fault. fault ≢ StatedFault.Memory → or_misplaced number (states matching (option_map shown latest) line.now) ≡ Err fault) }
+    ensures said { IfOk result (λ new. or_misplaced number (states number matching (option_map shown latest) (small_digits line.now)) ≡ Ok (stays (option_map shown new))) }
+    ensures refused { IfErr result (λ fault. fault ≢ StatedFault.Memory → or_misplaced number (states number matching (option_map shown latest) (small_digits line.now)) ≡ Err fault) }
 {
     let Some(mut latest) = latest else {
         return Err(StatedFault::Misplaced(number));
     };
-    if !is_open_to(&latest, matching, line) {
+    if !latest.answer.is_empty() {
+        return Err(StatedFault::Misplaced(number));
+    }
+    push_stated(&mut latest.answer, line)?;
+    if !can_match(matching, latest.event, latest.answer.as_slice()) {
         return Err(StatedFault::Misplaced(number));
     }
     latest.matching = matching;
-    latest.answer.extend_from_slice(line)?;
+    latest.answer_line = number;
     Ok(Some(latest))
 }
 
@@ -136,8 +181,8 @@ fn can_go_on(latest: &Stated) -> bool
 
 /// Keeps how the answer that was stated last goes on.
 fn go_on(latest: Option<Stated>, number: u64, rest: &[u8]) -> Result<Option<Stated>, StatedFault>
-    ensures said { IfOk result (λ new. or_misplaced number (goes_on (option_map shown latest) rest.now) ≡ Ok (stays (option_map shown new))) }
-    ensures refused { IfErr result (λ fault. fault ≢ StatedFault.Memory → or_misplaced number (goes_on (option_map shown latest) rest.now) ≡ Err fault) }
+    ensures said { IfOk result (λ new. or_misplaced number (goes_on (option_map shown latest) (map small_digit rest.now)) ≡ Ok (stays (option_map shown new))) }
+    ensures refused { IfErr result (λ fault. fault ≢ StatedFault.Memory → or_misplaced number (goes_on (option_map shown latest) (map small_digit rest.now)) ≡ Err fault) }
 {
     let Some(mut latest) = latest else {
         return Err(StatedFault::Misplaced(number));
@@ -146,17 +191,21 @@ fn go_on(latest: Option<Stated>, number: u64, rest: &[u8]) -> Result<Option<Stat
         return Err(StatedFault::Misplaced(number));
     }
     latest.answer.push(b' ')?;
-    latest.answer.extend_from_slice(rest)?;
+    push_small(&mut latest.answer, rest)?;
     Ok(Some(latest))
 }
 
-/// Gives the latest event, of which all was stated.
-pub fn end(latest: Option<Stated>) -> Result<Option<Stated>, AllocError>
-    ensures { IfOk result (λ all. if_any (option_map shown all) ≡ ended (option_map shown latest)) }
+/// Gives the latest event, of which all was stated, unless no terminal gives that answer.
+pub fn end(latest: Option<Stated>) -> Result<Option<Stated>, StatedFault>
+    ensures said { IfOk result (λ all. all_stated (option_map shown latest) ≡ Ok (if_any (option_map shown all))) }
+    ensures refused { IfErr result (λ fault. fault ≢ StatedFault.Memory → all_stated (option_map shown latest) ≡ Err fault) }
 {
     let Some(mut latest) = latest else {
         return Ok(None);
     };
+    if !can_be_given(latest.matching, latest.answer.as_slice()) {
+        return Err(StatedFault::Impossible(latest.answer_line));
+    }
     if !latest.answer.is_empty() {
         latest.answer.push(b'\n')?;
     }
@@ -190,6 +239,7 @@ fn read_plain(
                 line: number,
                 event,
                 matching: Matching::Exact,
+                answer_line: 0,
                 answer: Vec::new(alloc),
             }),
         }),

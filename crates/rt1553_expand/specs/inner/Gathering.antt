@@ -5,13 +5,13 @@ use Rattle.terminal_rules.specs.declared.event.Event.{Event}
 use Rattle.script_lines.specs.Text.{NoLineFeed}
 use Rattle.bus_script.specs.Reading.{reading, adds}
 use Rattle.rt1553_expand.specs.Events.{message_events}
-use Rattle.rt1553_expand.specs.Expansion.{Expansion, expansion_of}
+use Rattle.rt1553_expand.specs.Expansion.{Expansion, events_given, expansion_of}
 use Rattle.rt1553_expand.specs.Gathered.{CommandMessage, said, listed_line, IsListed, Piece, piece_line, piece_events, events_in, lines_text, IsNext, AreNext}
 
 -- the line of a piece is one line, which is expanded to its events, whatever terminal the script is for
 pub record Says (p : Piece) : Type 0 where
   pub feeds : NoLineFeed (piece_line p)
-  pub expands : (own : Option ℕ) → (x : Expansion) × (expansion_of own (piece_line p) ≡ Ok x) × (x.events ≡ piece_events own p)
+  pub expands : (own : Option ℕ) → (x : Expansion) × (expansion_of own (piece_line p) ≡ Ok x) × (events_given x ≡ piece_events own p)
 
 abbrev pub AllSay : List Piece → Type 0
 AllSay [] = Unit {0}

@@ -1,8 +1,10 @@
-use Rattle.rt1553_expand.specs.inner.Read.{expansion_by}
+use Rattle.std.proofs.Common.{ap, subst, ◌+◌}
+use Rattle.rt1553_expand.specs.inner.Wrote.{Wrote}
 use Rattle.rt1553_expand.proofs.ReadLaws.{added-by}
 use Rattle.rt1553_expand.proofs.expanding.add_line.Goals as goal
 
 pub returns-clause-added : goal.returns-clause-added
 returns-clause-added c = λ _.
-    added-by c.args.own c.args.line.now (expansion_by c.args.own c.args.line.now c.in-Ok.read) c.args.script.now.text.items c.push_read.new.out.items c.args.script.now.lines c.lines_for.result
-    (c.in-Ok.ensures.said c.args.own) c.in_ok-push_read.ensures.text c.lines_for.ensures.value c.if-lines.false c.in_ok-push_read.ensures.read
+    added-by c.args.own c.args.number c.args.script.now _ c.args.line.now c.in-Ok.read c.write_lines.new.out.items c.due-count.result (c.in-Ok.ensures.said c.args.own) c.in-Ok.ensures.sound
+    (c.due-count.ensures.value c.args.own) (subst (λ es. Wrote c.args.script.now.text.items c.write_lines.new.out.items es) c.next_events.ensures c.in_ok-write_lines.ensures)
+    (c.in_ok-push_kept.ensures c.args.own c.args.number) c.in_ok-go_behind.ensures.left c.in_ok-go_behind.ensures.fits (ap (λ k. c.args.script.now.lines + k) c.lines_for.ensures.value) c.if-lines.false

@@ -1,9 +1,9 @@
 use Rattle.std.proofs.Common.{◌∙◌, ◌+◌, option_map, Ok, sym, ap, subst, arith, rules}
 use Rattle.std.proofs.lemmas.Result.{err_from_is_err_and}
-use Rattle.rt1553_verify.specs.Stated.{shown, ended, bounded_line}
+use Rattle.rt1553_verify.specs.Stated.{shown, all_stated, bounded_line}
 use Rattle.rt1553_verify.specs.Reader.{NextIs}
 use Rattle.rt1553_verify.specs.inner.Steps.{ReadsLine}
-use Rattle.rt1553_verify.proofs.ReaderLaws.{Left, ends, line_step, line_fault, too_many, refused}
+use Rattle.rt1553_verify.proofs.ReaderLaws.{Left, ends, ends_badly, line_step, line_fault, too_many, refused}
 use Rattle.rt1553_verify.proofs.reader.StatedReader.step.Goals as goal
 
 pub returns-then-not-branch-clause-step : goal.returns-then-not-branch-clause-step
@@ -12,7 +12,16 @@ returns-then-not-branch-clause-step g c =
     (ends (g.B.Read.remaining c.args.self.now.input) (g.B.Read.remaining c.fill_line.new.input) c.fill_line.new.line.items c.args.self.now.lines
     (option_map shown c.args.self.now.latest) c.in_ok-end.field-0
     (subst (λ b. ReadsLine (g.B.Read.remaining c.args.self.now.input) (g.B.Read.remaining c.fill_line.new.input) c.fill_line.new.line.items b) (search rules) c.in_ok-fill_line.ensures.reads)
-    (c.in_ok-end.ensures ∙ ap (λ l. ended (option_map shown l)) c.take.ensures.value))
+    (ap (λ l. all_stated (option_map shown l)) (sym c.take.ensures.value) ∙ c.in_ok-end.ensures.said))
+
+pub returns-in_err-end-clause-step : goal.returns-in_err-end-clause-step
+returns-in_err-end-clause-step g c =
+    let r = c.from_residual-in_err-end in
+    let p = err_from_is_err_and r.result r.ensures.1 in
+    rw (p.1, p.2) (ends_badly (g.B.Read.remaining c.args.self.now.input) (g.B.Read.remaining c.fill_line.new.input) c.fill_line.new.line.items c.args.self.now.lines
+    (option_map shown c.args.self.now.latest) _ _
+    (subst (λ b. ReadsLine (g.B.Read.remaining c.args.self.now.input) (g.B.Read.remaining c.fill_line.new.input) c.fill_line.new.line.items b) (search rules) c.in_ok-fill_line.ensures.reads)
+    (λ other. ap (λ l. all_stated (option_map shown l)) (sym c.take.ensures.value) ∙ c.in_err-end.ensures.refused other))
 
 pub returns-then-self-clause-step : goal.returns-then-self-clause-step
 returns-then-self-clause-step g c =

@@ -1,5 +1,5 @@
 use Rattle.std.proofs.Common.{◌≡◌, ◌++◌, replicate}
-use Rattle.rt1553_expand.proofs.source.push_sources.Given as goal
+use Rattle.rt1553_expand.proofs.source.push_times.Given as goal
 
 abbrev pub invariant-loop : goal.invariant-loop
 invariant-loop l = l.sources.items ≡ l.fn.sources.items ++ replicate l.counter l.number
