@@ -1,4 +1,7 @@
 //! What the boxes of a drawing say.
+ghost use Rattle.std.specs.Prelude.{◌≡◌};
+ghost use Rattle.drawing_boxes.specs.SetBits.{bits_class, status_class};
+
 use crate::frame::MARGIN;
 use crate::width::{digits_width_of, width_of};
 use bus_terminal::{Flag, Hand, Sent};
@@ -86,6 +89,22 @@ fn first_of(words: &[u16]) -> [u16; TOLD_WORDS] {
     first
 }
 
+/// The class by which a status word is coloured: `error` with message error, or else `busy` with busy, or else `flagged` with
+/// another bit behind its address; empty without any.
+fn status_class(word: u16) -> &'static str
+    ensures { result.now ≡ status_class word }
+{
+    if word / 0x0400 % 2 == 1 {
+        "error"
+    } else if word / 0x0008 % 2 == 1 {
+        "busy"
+    } else if word % 2048 == 0 {
+        ""
+    } else {
+        "flagged"
+    }
+}
+
 impl Caption {
     /// What a word that came is; `is_status` says of one with command sync that it is the status word of another terminal.
     pub fn of_word(word: Raw, is_status: bool) -> Caption {
@@ -142,6 +161,17 @@ impl Caption {
             | Caption::SynchronizeWith(_)
             | Caption::SelfTest
             | Caption::BusControl => "handed",
+        }
+    }
+
+    /// The second class of the box of a status word, by which its set bits have a colour (MIL-STD-1553B, 4.3.3.5.3): `error` with
+    /// message error, or else `busy` with busy, or else `flagged` with another bit. Empty without any, and for any other box.
+    pub fn bits_class(&self) -> &'static str
+        ensures { result.now ≡ bits_class self.now }
+    {
+        match self {
+            Caption::Status(word) | Caption::OtherStatus(word) => status_class(*word),
+            _ => "",
         }
     }
 

@@ -17,14 +17,16 @@ pub struct RowFilter {
     pub errors: bool,
 }
 
-/// Whether a message for the terminal was not done, or lacks its reply.
-fn is_faulty(end: RowEnd, is_shut_down: bool) -> bool
-    ensures { result ≡ is_faulty end is_shut_down }
-{
-    match end {
-        RowEnd::Other => false,
-        RowEnd::Done => is_shut_down,
-        _ => true,
+impl RunRow {
+    /// Whether it is for the terminal and was not done, or lacks its reply.
+    pub fn is_faulty(&self) -> bool
+        ensures { result ≡ is_faulty self.now.end self.now.is_shut_down }
+    {
+        match self.end {
+            RowEnd::Other => false,
+            RowEnd::Done => self.is_shut_down,
+            _ => true,
+        }
     }
 }
 
@@ -48,6 +50,6 @@ impl RowFilter {
     pub fn passes(&self, row: &RunRow) -> bool
         ensures { result ≡ passes self.now row.now }
     {
-        self.is_chosen(&row.commands) && (!self.errors || is_faulty(row.end, row.is_shut_down))
+        self.is_chosen(&row.commands) && (!self.errors || row.is_faulty())
     }
 }

@@ -1,6 +1,7 @@
 //! The messages of a run as rows: what came, what the terminal did with it, and how it ended.
 #![tactic(auto)]
 
+mod cells;
 mod commands;
 mod ending;
 mod filter;
@@ -14,6 +15,7 @@ mod table;
 mod text;
 mod watch;
 
+pub use cells::{CELL_NAMES, row_cells};
 pub use commands::{MessageCommands, MessageForm};
 pub use ending::{ErrorCause, RowEnd};
 pub use filter::RowFilter;

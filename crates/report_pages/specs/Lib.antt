@@ -1,3 +1,4 @@
 pub mod Fields
 pub mod CoveragePage
 pub mod ResultsPage
+pub mod MessageList

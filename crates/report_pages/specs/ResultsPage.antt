@@ -88,7 +88,7 @@ IsScriptRow of row =
     ++ codes "<td>" ++ clauses ++ codes "</td>" ++ digest_field of.digests.script ++ codes "</tr>\n")
 
 unfoldable pub scripts_head : List ℕ
-scripts_head = codes "<h2>Scripts</h2>\n<table>\n<thead><tr><th scope=\"col\">script</th><th scope=\"col\">profile</th><th scope=\"col\">result</th><th scope=\"col\">answers</th><th scope=\"col\">clauses</th><th scope=\"col\">SHA-256</th></tr></thead>\n<tbody>\n"
+scripts_head = codes "<h2>Files</h2>\n<table>\n<thead><tr><th scope=\"col\">file</th><th scope=\"col\">profile</th><th scope=\"col\">result</th><th scope=\"col\">answers</th><th scope=\"col\">clauses</th><th scope=\"col\">SHA-256</th></tr></thead>\n<tbody>\n"
 
 -- The page: behind its front come what was tested, with rows for what the scripts share, for profiles and other things; then a row for each
 -- script, passed ones too, in their order; and what else there is to tell.

@@ -9,7 +9,7 @@ use rt1553_report::{push_markup, push_shown};
 use std::alloc::{AllocError, Global};
 
 /// Writes a number.
-fn push_decimal(page: &mut String, number: u64) -> Result<(), AllocError>
+pub fn push_plain_number(page: &mut String, number: u64) -> Result<(), AllocError>
     ensures { OnOk result (AddsPiece (string_bytes page.old) (string_bytes page.new) (decimal number)) }
 {
     write!(page, "{number}")
@@ -20,7 +20,7 @@ pub fn push_count_field(page: &mut String, number: u64) -> Result<(), AllocError
     ensures { OnOk result (AddsPiece (string_bytes page.old) (string_bytes page.new) (count_field number)) }
 {
     push_markup(page, "<td class=\"count\">")?;
-    push_decimal(page, number)?;
+    push_plain_number(page, number)?;
     push_markup(page, "</td>")
 }
 

@@ -7,8 +7,9 @@ ghost use Rattle.report_pages.specs.ResultsPage.{AreHeadRows, IsClauseLine, IsDa
 
 use crate::fields::{push_count_field, push_count_row, push_file_row};
 use crate::style::RESULTS_STYLE;
+use drawing_boxes::push_escaped;
 use message_names::quoted;
-use rt1553_draw::{push_escaped, push_front, push_keys};
+use rt1553_draw::{MOST_STATED, push_front, push_keys};
 use rt1553_report::{
     AnswerNames, FileDigests, NamesTable, ReportHead, Scope, ScopeRow, ScriptOutcome, ScriptResult,
     TriedScript, answer_told, clause_rows, name_at, push_digest, push_markup, push_shown,
@@ -20,7 +21,7 @@ use std::format;
 
 /// How the table of scripts begins.
 const SCRIPTS_HEAD: &str =
-    "<h2>Scripts</h2>\n<table>\n<thead><tr><th scope=\"col\">script</th><th scope=\"col\">profile</th><th scope=\"col\">result</th><th scope=\"col\">answers</th><th scope=\"col\">clauses</th><th scope=\"col\">SHA-256</th></tr></thead>\n<tbody>\n";
+    "<h2>Files</h2>\n<table>\n<thead><tr><th scope=\"col\">file</th><th scope=\"col\">profile</th><th scope=\"col\">result</th><th scope=\"col\">answers</th><th scope=\"col\">clauses</th><th scope=\"col\">SHA-256</th></tr></thead>\n<tbody>\n";
 
 /// A profile by which scripts were tested.
 #[derive(Clone, Copy)]
@@ -223,14 +224,10 @@ fn answers_of(results: &[ScriptResult]) -> usize {
 fn push_sums(page: &mut String, results: &[ScriptResult]) -> Result<(), AllocError> {
     let totals = totals_of(results);
     let failed = totals.failures.saturating_add(totals.errors);
-    push_count_row(page, "scripts", totals.tests)?;
-    push_count_row(
-        page,
-        "scripts that pass",
-        totals.tests.saturating_sub(failed),
-    )?;
-    push_count_row(page, "scripts that differ", totals.failures)?;
-    push_count_row(page, "scripts refused or not read", totals.errors)?;
+    push_count_row(page, "files", totals.tests)?;
+    push_count_row(page, "files that pass", totals.tests.saturating_sub(failed))?;
+    push_count_row(page, "files that differ", totals.failures)?;
+    push_count_row(page, "files refused or not read", totals.errors)?;
     push_count_row(page, "answers stated", answers_of(results))
 }
 
@@ -459,11 +456,20 @@ fn push_wrong(
     page.push_str("</tbody>\n</table>\n")
 }
 
-/// Writes the drawing of the messages in which something differs, or that there is none.
-fn push_drawing(page: &mut String, drawing: &Option<String>) -> Result<(), AllocError> {
+/// Writes the drawing of the messages in which something differs, of so many events, or that there is none.
+fn push_drawing(
+    page: &mut String,
+    differing: usize,
+    drawing: &Option<String>,
+) -> Result<(), AllocError> {
     match drawing {
-        Some(drawing) => page.push_str(drawing.as_str()),
-        None => page.push_str("<p>Not drawn: the script has over 4,096 events.</p>\n"),
+        Some(drawing) => {
+            if differing > MOST_STATED {
+                page.push_str("<p>Drawn are the messages of the first 1,024 differences.</p>\n")?;
+            }
+            page.push_str(drawing.as_str())
+        }
+        None => page.push_str("<p>Not drawn: the recording has over 1,048,576 bytes.</p>\n"),
     }
 }
 
@@ -491,7 +497,7 @@ fn push_result(alloc: Global, page: &mut String, of: &ScriptResult) -> Result<()
                 wrong.len()
             )?;
             push_wrong(alloc, page, wrong.as_slice(), names)?;
-            push_drawing(page, drawing)
+            push_drawing(page, wrong.len(), drawing)
         }
     }
 }
@@ -514,7 +520,7 @@ fn push_results(
         }
     }
     if is_clean {
-        page.push_str("<p>None: every script passes.</p>\n")?;
+        page.push_str("<p>None: every file passes.</p>\n")?;
     }
     Ok(())
 }
@@ -542,11 +548,13 @@ fn push_warnings(
 fn has_drawing(results: &[ScriptResult]) -> bool {
     for of in results {
         if let ScriptOutcome::Played {
-            drawing: Some(_),
+            drawing: Some(drawing),
             ..
         } = &of.outcome
         {
-            return true;
+            if !drawing.is_empty() {
+                return true;
+            }
         }
     }
     false
@@ -566,7 +574,7 @@ fn title_of(alloc: Global, results: &[ScriptResult]) -> Result<String, AllocErro
     let failed = totals.failures.saturating_add(totals.errors);
     let passed = totals.tests.saturating_sub(failed);
     format!(in alloc;
-        "Tests of a terminal: {passed} of {} scripts pass",
+        "Tests of a terminal: {passed} of {} files pass",
         totals.tests
     )
 }

@@ -1,1 +1,2 @@
-pub mod NumberedLaws
+pub mod MarkedLaws
+pub mod WantedLaws

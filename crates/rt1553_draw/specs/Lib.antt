@@ -1,3 +1,2 @@
-pub mod Escaped
-pub mod Refused
+pub mod Anchor
 pub mod inner

@@ -1,2 +1,5 @@
 -- What the contracts of private functions speak of.
 pub mod Drawn
+pub mod Placed
+pub mod Pieces
+pub mod Marked

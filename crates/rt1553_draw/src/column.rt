@@ -1,16 +1,21 @@
 //! What is drawn of one event, and of what the terminal answers to it: a column.
 ghost use Rattle.std.specs.Prelude.{◌≡◌, IfOk};
 ghost use Rattle.bus_terminal.specs.Answer.{shown_answer, IsSmall};
+ghost use Rattle.rt1553_draw.specs.inner.Marked.{IsMarkedBy};
+ghost use Rattle.rt1553_draw.specs.inner.Placed.{number_width, IsWidthOf};
 
-use crate::numbered::Numbered;
+use crate::expected::{Expected, StatedAnswer, expected_at};
 use bus_terminal::{Answer, Event};
 use bus_word::Bus;
-use drawing_boxes::{Caption, Lane, Lanes, MARGIN, digits_width_of};
+use drawing_boxes::{Caption, Lane, Lanes, MARGIN, Numbered};
 use script_lines::write_answer;
 use std::alloc::{AllocError, Global};
 
 /// How wide the column of a gap, or of a slot in which nothing is sent, is at least.
 const NARROW: u32 = 24;
+
+/// How many digits the number of a line has at most.
+const MOST_DIGITS: usize = 20;
 
 /// What stands in a column on a bus, or in its place.
 #[derive(Clone, Copy)]
@@ -33,7 +38,12 @@ pub struct Column {
     pub handed: Option<Caption>,
     /// The line of the transcript that answers the event, without its line feed; empty where nothing does.
     pub answer: String,
+    /// How wide it is on its bus; what is handed over has no part in that.
     pub width: u32,
+    /// How wide the box of what is handed over is; 0 where nothing is.
+    pub handed_width: u32,
+    /// What a script states in place of the answer, if that differs.
+    pub expected: Option<Expected>,
 }
 
 /// The lane of a bus.
@@ -99,12 +109,31 @@ impl Mark {
     }
 }
 
-/// How wide the box of a caption is, if there is one.
+/// How wide the column of a mark is, by how wide the number of its line is.
+fn width_of_mark(mark: &Mark, number: u32) -> u32
+    ensures { IsWidthOf number mark.now result }
+{
+    match mark {
+        Mark::Box(_, caption) => caption.width().max(number),
+        Mark::Gap(_) | Mark::Silence => NARROW.max(number),
+    }
+}
+
+/// How wide the box of a caption is; 0 where there is none.
 fn width_if(caption: Option<Caption>) -> u32 {
     match caption {
         Some(caption) => caption.width(),
-        None => NARROW,
+        None => 0,
     }
+}
+
+/// How wide the number of a line is, with what stands around it.
+fn number_width(alloc: Global, line: u64) -> Result<u32, AllocError>
+    ensures { IfOk result (λ width. width ≡ number_width line) }
+{
+    let digits = format!(in alloc; "{line}")?;
+    let count = digits.len().min(MOST_DIGITS) as u32;
+    Ok((73 * count + 9) / 10 + 2 * MARGIN)
 }
 
 /// How many lines the box of a caption has, if there is one.
@@ -135,13 +164,14 @@ impl Column {
         answer: &Answer<'_>,
     ) -> Result<Column, AllocError>
         requires { IsSmall (shown_answer answer.now) }
-        ensures { IfOk result (λ column. column.of ≡ of) }
+        ensures of { IfOk result (λ column. column.of ≡ of) }
+        ensures width { IfOk result (λ column. IsWidthOf (number_width of.line) column.mark column.width) }
     {
         let line = of.line;
         let mark = mark_of(of.event, is_status, answer);
         let handed = handed_of(answer);
-        let number = digits_width_of(&line).saturating_add(2 * MARGIN);
-        let width = width_if(mark.caption()).max(width_if(handed)).max(number);
+        let width = width_of_mark(&mark, number_width(alloc, line)?);
+        let handed_width = width_if(handed);
         let answer = answer_line(alloc, answer)?;
         Ok(Column {
             of,
@@ -149,7 +179,27 @@ impl Column {
             handed,
             answer,
             width,
+            handed_width,
+            expected: None,
         })
+    }
+
+    /// The same, marked with what is stated for its line in place of the answer, if something is.
+    pub fn marked(self, alloc: Global, stated: &[StatedAnswer]) -> Result<Column, AllocError>
+        ensures of { IfOk result (λ column. column.of ≡ self.of) }
+        ensures marked { IfOk result (IsMarkedBy stated.now) }
+    {
+        let mut column = self;
+        column.expected = expected_at(alloc, stated, column.of.line)?;
+        Ok(column)
+    }
+
+    /// How wide it is, with the box of what is stated beside it.
+    pub fn whole_width(&self) -> u32 {
+        match &self.expected {
+            Some(expected) => self.width.saturating_add(expected.width),
+            None => self.width,
+        }
     }
 
     /// Whether the terminal sends a word at the event.
@@ -158,6 +208,11 @@ impl Column {
             self.mark,
             Mark::Box(_, Caption::Status(_) | Caption::SentData(_))
         )
+    }
+
+    /// Whether it has a box in the subsystem's lane.
+    pub fn is_in_subsystem(&self) -> bool {
+        self.handed.is_some() || matches!(self.mark, Mark::Box(Lane::Subsystem, _))
     }
 
     /// The lanes that it has something in.
@@ -171,6 +226,9 @@ impl Column {
 
     /// How many lines its boxes have at most.
     pub fn lines(&self) -> u32 {
-        lines_if(self.mark.caption()).max(lines_if(self.handed))
+        let beside = if self.expected.is_some() { 2 } else { 1 };
+        lines_if(self.mark.caption())
+            .max(lines_if(self.handed))
+            .max(beside)
     }
 }

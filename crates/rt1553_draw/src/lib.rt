@@ -2,19 +2,17 @@
 #![tactic(auto)]
 
 mod column;
-mod course;
+mod cursor;
 mod drawing;
-mod drawn_name;
-mod fault;
-mod numbered;
+mod expected;
 mod page;
 mod part;
+mod piece;
 mod plan;
 mod row;
 mod shape;
 mod style;
 
-pub use drawing::{draw, draw_folded, draw_lines};
-pub use fault::DrawFault;
-pub use numbered::MAX_EVENTS;
-pub use page::{page_of, push_escaped, push_front, push_keys};
+pub use drawing::{MOST_STATED, draw, draw_folded, draw_stated};
+pub use expected::StatedAnswer;
+pub use page::{PageParts, page_with, push_front, push_keys};

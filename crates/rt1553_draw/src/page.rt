@@ -1,13 +1,10 @@
 //! Pages with drawings.
-ghost use Rattle.std.specs.Prelude.{◌≡◌, ◌++◌, OnOk};
-ghost use Rattle.std.specs.String.{string_bytes};
-ghost use Rattle.rt1553_draw.specs.Escaped.{escaped_char, Escapes};
-
-use crate::style::{DRAWING_STYLE, PAGE_STYLE};
+use crate::style::{DARK_STYLE, LIGHT_STYLE, PAGE_STYLE};
+use drawing_boxes::push_escaped;
 use std::alloc::{AllocError, Global};
 
 /// What the colours of a drawing say: the class of a box, and what it is.
-const KEYS: [(&str, &str); 7] = [
+const KEYS: [(&str, &str); 10] = [
     ("command", "a command word"),
     ("status", "the status word of another terminal"),
     ("data", "a data word"),
@@ -15,39 +12,10 @@ const KEYS: [(&str, &str); 7] = [
     ("sent", "what this terminal sends"),
     ("handed", "what is handed over to its subsystem"),
     ("given", "what its subsystem does"),
+    ("error", "a status word with message error"),
+    ("busy", "a status word with busy, without message error"),
+    ("flagged", "a status word with other bits"),
 ];
-
-/// Writes a character as it stands in a page: what would begin or end something else there goes by its name, and what no text of
-/// XML may have, a control character but for the line feed, or U+FFFE or U+FFFF, by the replacement character.
-fn push_escaped_char(page: &mut String, c: char) -> Result<(), AllocError>
-    ensures { OnOk result (string_bytes page.new ≡ string_bytes page.old ++ escaped_char c) }
-{
-    if c == '<' {
-        page.push_str("&lt;")
-    } else if c == '>' {
-        page.push_str("&gt;")
-    } else if c == '&' {
-        page.push_str("&amp;")
-    } else if c == '"' {
-        page.push_str("&quot;")
-    } else if c == '\n' {
-        page.push_str("\n")
-    } else if c.is_control() || c == '\u{fffe}' || c == '\u{ffff}' {
-        page.push('\u{fffd}')
-    } else {
-        page.push(c)
-    }
-}
-
-/// Writes a text as it stands in a page or in another text of XML, there also as the value of an attribute between `"`.
-pub fn push_escaped(page: &mut String, text: &str) -> Result<(), AllocError>
-    ensures { OnOk result (Escapes text.now (string_bytes page.old) (string_bytes page.new)) }
-{
-    for c in text.chars() {
-        push_escaped_char(page, c)?;
-    }
-    Ok(())
-}
 
 /// Writes what the colours and lines of a drawing say, as a list.
 pub fn push_keys(page: &mut String) -> Result<(), AllocError> {
@@ -78,27 +46,43 @@ pub fn push_front(page: &mut String, title: &str, style: &str) -> Result<(), All
     push_escaped(page, title)?;
     page.push_str("</title><style>")?;
     page.push_str(PAGE_STYLE)?;
-    page.push_str(DRAWING_STYLE)?;
+    page.push_str(LIGHT_STYLE)?;
+    page.push_str(DARK_STYLE)?;
     page.push_str(style)?;
     page.push_str("</style></head><body>\n<h1>")?;
     push_escaped(page, title)?;
     page.push_str("</h1>\n")
 }
 
-/// Makes a page of its own of drawings: HTML, and well-formed XML too, with this title above them and this table, a text of
-/// lines, below them.
-pub fn page_of(
+/// What stands on a page beside its drawings.
+#[derive(Clone, Copy)]
+pub struct PageParts<'a> {
+    /// CSS for it; without `<` and `&`.
+    pub style: &'a str,
+    /// HTML above the drawings.
+    pub head: &'a str,
+    /// A text of lines below them.
+    pub table: &'a str,
+    /// HTML at the end.
+    pub foot: &'a str,
+}
+
+/// Makes a page of its own of drawings: HTML, and well-formed XML too, if its parts are, with this title above them.
+pub fn page_with(
     alloc: Global,
     title: &str,
     drawings: &str,
-    table: &str,
+    parts: PageParts<'_>,
 ) -> Result<String, AllocError> {
     let mut page = String::new(alloc);
-    push_front(&mut page, title, "")?;
+    push_front(&mut page, title, parts.style)?;
+    page.push_str(parts.head)?;
     push_keys(&mut page)?;
     page.push_str(drawings)?;
     page.push_str("<h2>What is legal, and what the terminal holds</h2>\n<pre>")?;
-    push_escaped(&mut page, table)?;
-    page.push_str("</pre>\n</body></html>\n")?;
+    push_escaped(&mut page, parts.table)?;
+    page.push_str("</pre>\n")?;
+    page.push_str(parts.foot)?;
+    page.push_str("</body></html>\n")?;
     Ok(page)
 }

@@ -1,13 +1,12 @@
 //! A message as it is drawn: its columns, one for each event.
-ghost use Rattle.std.specs.Prelude.{◌≡◌, ◌∷◌, ◌++◌, [], OnOk};
+ghost use Rattle.std.specs.Prelude.{◌≡◌, ◌∷◌, ◌++◌, [], OnOk, IfOk, All, map};
 ghost use Rattle.rt1553_draw.specs.inner.Drawn.{drawn_of, stands_in};
+ghost use Rattle.rt1553_draw.specs.inner.Marked.{IsMarkedBy};
 
 use crate::column::Column;
-use crate::course::{Course, Heard};
-use crate::drawn_name::{DrawnName, name_after};
-use crate::numbered::Numbered;
+use crate::expected::StatedAnswer;
 use bus_terminal::Event;
-use drawing_boxes::{Caption, InOneLine, Lanes, MARGIN, width_of};
+use drawing_boxes::{Caption, Course, DrawnName, Heard, InOneLine, Numbered, name_after, width_of};
 use message_names::MessageNames;
 use std::alloc::{AllocError, Global};
 use std::fmt;
@@ -23,14 +22,37 @@ pub struct DrawnMessage {
     pub name: Option<DrawnName>,
 }
 
-/// What stands above the message of this number, but for its name.
+/// Columns, marked with what is stated for their lines.
+fn marked_columns(
+    alloc: Global,
+    columns: Vec<Column>,
+    stated: &[StatedAnswer],
+) -> Result<Vec<Column>, AllocError>
+    ensures same { IfOk result (λ marked. map (λ column. column.of) marked.items ≡ map (λ column. column.of) columns.items) }
+    ensures marked { IfOk result (λ marked. All (IsMarkedBy stated.now) marked.items) }
+{
+    let mut marked = Vec::new(alloc);
+    for column in columns {
+        marked.push(column.marked(alloc, stated)?)?;
+    }
+    Ok(marked)
+}
+
+/// What stands above a message, but for its name; above a piece that is not its first, that it goes on there.
 #[derive(Clone, Copy)]
-pub struct Heading(pub u32);
+pub struct Heading {
+    pub number: u32,
+    pub is_first: bool,
+}
 
 impl fmt::Display for Heading {
     fn fmt<W: fmt::Write>(&self, f: &mut fmt::Formatter<W>) -> fmt::Result {
-        let number = self.0;
-        write!(f, "message {number}")
+        let number = self.number;
+        if self.is_first {
+            write!(f, "message {number}")
+        } else {
+            write!(f, "message {number}, continued")
+        }
     }
 }
 
@@ -64,9 +86,37 @@ impl DrawnMessage {
         Ok(())
     }
 
+    /// What stands above it, but for its name.
+    pub fn heading(&self) -> Heading {
+        Heading {
+            number: self.number,
+            is_first: true,
+        }
+    }
+
+    /// The same, with its columns marked with what is stated for their lines.
+    pub fn marked(self, alloc: Global, stated: &[StatedAnswer]) -> Result<DrawnMessage, AllocError>
+        ensures drawn { IfOk result (λ part. drawn_of part ≡ drawn_of self) }
+        ensures marked { IfOk result (λ part. All (IsMarkedBy stated.now) part.columns.items) }
+    {
+        let DrawnMessage {
+            number,
+            course,
+            columns,
+            name,
+        } = self;
+        let columns = marked_columns(alloc, columns, stated)?;
+        Ok(DrawnMessage {
+            number,
+            course,
+            columns,
+            name,
+        })
+    }
+
     /// How wide what stands above it is.
-    fn heading_width(&self) -> u32 {
-        let width = width_of(&Heading(self.number));
+    pub fn heading_width(&self) -> u32 {
+        let width = width_of(&self.heading());
         match &self.name {
             Some(name) => width.saturating_add(name.width),
             None => width,
@@ -79,33 +129,6 @@ impl DrawnMessage {
     {
         self.columns.push(column)?;
         Ok(())
-    }
-
-    /// How wide it is.
-    pub fn width(&self) -> u32 {
-        let mut width = 0u32;
-        for column in self.columns.as_slice() {
-            width = width.saturating_add(column.width);
-        }
-        width.max(self.heading_width()).saturating_add(4 * MARGIN)
-    }
-
-    /// The lanes that it has something in.
-    pub fn lanes(&self) -> Lanes {
-        let mut lanes = Lanes::NONE;
-        for column in self.columns.as_slice() {
-            lanes = lanes.and(column.lanes());
-        }
-        lanes
-    }
-
-    /// How many lines its boxes have at most.
-    pub fn lines(&self) -> u32 {
-        let mut lines = 1;
-        for column in self.columns.as_slice() {
-            lines = column.lines().max(lines);
-        }
-        lines
     }
 
     /// The number of the first line of the script that it comes from; 0 where it has no event.
@@ -177,7 +200,7 @@ pub struct MessageTitle<'a>(pub &'a DrawnMessage);
 
 impl fmt::Display for MessageTitle<'_> {
     fn fmt<W: fmt::Write>(&self, f: &mut fmt::Formatter<W>) -> fmt::Result {
-        let heading = Heading(self.0.number);
+        let heading = self.0.heading();
         let line = self.0.first_line();
         write!(f, "{heading}, line {line}")?;
         if let Some(caption) = self.0.what() {

@@ -1,26 +1,34 @@
 //! A run as messages that are drawn.
-ghost use Rattle.std.specs.Prelude.{◌≡◌, ◌≢◌, ◌∷◌, ◌++◌, [], Some, None, IfOk, IfErr, OnOk};
+ghost use Rattle.std.specs.Prelude.{◌≡◌, ◌≢◌, ◌∷◌, ◌++◌, [], Some, None, IfOk, IfErr, OnOk, option_map};
 ghost use Rattle.script_lines.specs.Text.{lines_of};
 ghost use Rattle.bus_script.specs.Reading.{reading};
-ghost use Rattle.rt1553_draw.specs.Refused.{events_on, refusal};
-ghost use Rattle.rt1553_draw.specs.inner.Drawn.{drawn_of, drawn_in};
+ghost use Rattle.drawing_boxes.specs.Refused.{events_on, refusal};
+ghost use Rattle.rt1553_draw.specs.inner.Drawn.{drawn_of, drawn_in, wanted, AreWanted, EndsMessages};
 
-use crate::DrawFault;
 use crate::column::Column;
-use crate::course::{Course, Heard};
-use crate::numbered::{Numbered, events_to_draw};
 use crate::part::DrawnMessage;
 use bus_legal::{Legality, Normal};
 use bus_terminal::{Event, Terminal};
+use drawing_boxes::{Course, DrawFault, Heard, Numbered, events_to_draw, numbered_events};
 use message_names::MessageNames;
 use std::alloc::{AllocError, Global};
 
-/// The number of the message that follows.
-fn next_number(parts: &[DrawnMessage]) -> u32 {
-    match parts {
-        [.., part] => part.number.saturating_add(1),
-        [] => 1,
+/// Keeps a message, if it is wanted: one with an event in one of these lines, or where there are no lines any.
+fn keep_wanted(
+    parts: &mut Vec<DrawnMessage>,
+    part: DrawnMessage,
+    lines: Option<&[u64]>,
+) -> Result<(), AllocError>
+    ensures { OnOk result (parts.new.items ≡ parts.old.items ++ wanted (option_map (λ ls. ls.now) lines.entry) (part ∷ [])) }
+{
+    let is_wanted = match lines {
+        Some(lines) => part.has_one_of(lines),
+        None => true,
+    };
+    if is_wanted {
+        parts.push(part)?;
     }
+    Ok(())
 }
 
 /// Puts the message away that is over where this event is none of it, and begins another.
@@ -28,16 +36,17 @@ fn begin_another(
     alloc: Global,
     parts: &mut Vec<DrawnMessage>,
     part: DrawnMessage,
+    lines: Option<&[u64]>,
     heard: Heard,
     event: Event,
 ) -> Result<DrawnMessage, AllocError>
-    ensures { IfOk result (λ now. drawn_in parts.new.items ++ drawn_of now ≡ drawn_in parts.old.items ++ drawn_of part) }
+    ensures { IfOk result (EndsMessages (option_map (λ ls. ls.now) lines.entry) parts.old.items parts.new.items part) }
 {
     if !part.course.ends_before(heard, event) {
         return Ok(part);
     }
-    parts.push(part)?;
-    let number = next_number(parts.as_slice());
+    let number = part.number.saturating_add(1);
+    keep_wanted(parts, part, lines)?;
     Ok(DrawnMessage::new(alloc, number))
 }
 
@@ -77,14 +86,15 @@ fn add_event<L: Legality>(
     Ok(())
 }
 
-/// Plays events from power-up, and gives the messages that are drawn of them.
+/// Plays events from power-up, and gives the messages of them that are wanted.
 fn messages_of(
     alloc: Global,
     normal: &Normal,
     names: Option<&MessageNames>,
     events: &[Numbered],
+    lines: Option<&[u64]>,
 ) -> Result<Vec<DrawnMessage>, AllocError>
-    ensures { IfOk result (λ parts. drawn_in parts.items ≡ events.now) }
+    ensures { IfOk result (λ parts. AreWanted (option_map (λ ls. ls.now) lines.entry) events.now parts.items) }
 {
     let setup = normal.setup();
     let heard = Heard {
@@ -95,11 +105,11 @@ fn messages_of(
     let mut parts = Vec::new(alloc);
     let mut part = DrawnMessage::new(alloc, 1);
     for of in events {
-        part = begin_another(alloc, &mut parts, part, heard, of.event)?;
+        part = begin_another(alloc, &mut parts, part, lines, heard, of.event)?;
         add_event(alloc, &mut terminal, heard, &mut part, *of)?;
         part.take_name(alloc, names, heard, of.event)?;
     }
-    parts.push(part)?;
+    keep_wanted(&mut parts, part, lines)?;
     Ok(parts)
 }
 
@@ -115,5 +125,20 @@ pub fn plan(
     ensures refused { IfErr result (λ fault. fault ≢ DrawFault.Memory → refusal (reading 0 (lines_of script.now)) ≡ Some fault) }
 {
     let events = events_to_draw(alloc, script)?;
-    Ok(messages_of(alloc, normal, names, events.as_slice())?)
+    Ok(messages_of(alloc, normal, names, events.as_slice(), None)?)
+}
+
+/// Of the messages of a script of any number of events, those with an event in one of these lines.
+pub fn plan_at(
+    alloc: Global,
+    normal: &Normal,
+    names: Option<&MessageNames>,
+    script: &[u8],
+    lines: &[u64],
+) -> Result<Vec<DrawnMessage>, DrawFault>
+    ensures drawn { IfOk result (λ parts. ((reading 0 (lines_of script.now)).fault ≡ None) × AreWanted (Some lines.now) (events_on 0 (lines_of script.now)) parts.items) }
+    ensures refused { IfErr result (λ fault. fault ≢ DrawFault.Memory → refusal (reading 0 (lines_of script.now)) ≡ Some fault) }
+{
+    let events = numbered_events(alloc, script)?;
+    Ok(messages_of(alloc, normal, names, events.as_slice(), Some(lines))?)
 }

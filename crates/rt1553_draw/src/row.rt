@@ -1,9 +1,9 @@
 //! Rows of messages: as many as have room one after another.
-use crate::part::DrawnMessage;
+use crate::piece::MessagePiece;
 use drawing_boxes::{Frame, LANES_FROM, LANES_WIDTH, Lanes, MARGIN};
 use std::alloc::{AllocError, Global};
 
-/// A row: so many messages from one on, and what they need.
+/// A row: so many pieces of messages from one on, and what they need.
 #[derive(Clone, Copy)]
 pub struct Row {
     pub first: usize,
@@ -13,7 +13,7 @@ pub struct Row {
 }
 
 impl Row {
-    /// A row without messages, that begins so far below the drawing's top.
+    /// An empty row, that begins so far below the drawing's top.
     fn empty(first: usize, top: u32) -> Row {
         Row {
             first,
@@ -27,31 +27,21 @@ impl Row {
         }
     }
 
-    /// The row of one message alone.
-    pub fn of(part: &DrawnMessage) -> Row {
-        Row::empty(0, MARGIN).with(part)
-    }
-
-    /// Whether there is room for one more message; always for the first.
-    fn has_room(self, part: &DrawnMessage) -> bool {
-        self.count == 0 || self.width.saturating_add(part.width()) <= LANES_WIDTH
-    }
-
-    /// The row with one message more.
-    fn with(self, part: &DrawnMessage) -> Row {
+    /// The row with one piece more.
+    fn with(self, piece: &MessagePiece<'_>) -> Row {
         Row {
             count: self.count.saturating_add(1),
             frame: Frame {
-                lanes: self.frame.lanes.and(part.lanes()),
-                lines: self.frame.lines.max(part.lines()),
+                lanes: self.frame.lanes.and(piece.lanes()),
+                lines: self.frame.lines.max(piece.lines()),
                 ..self.frame
             },
-            width: self.width.saturating_add(part.width()),
+            width: self.width.saturating_add(piece.width()),
             ..self
         }
     }
 
-    /// The row below this one, still without messages.
+    /// The row below this one, still empty.
     fn below(self) -> Row {
         Row::empty(
             self.first.saturating_add(self.count),
@@ -65,16 +55,17 @@ impl Row {
     }
 }
 
-/// The rows of messages, from the first row's top on.
-pub fn rows_of(alloc: Global, parts: &[DrawnMessage]) -> Result<Vec<Row>, AllocError> {
+/// The rows of pieces of messages, from the first row's top on: a row has as many as there is room for, and at least one.
+pub fn rows_of(alloc: Global, pieces: &[MessagePiece<'_>]) -> Result<Vec<Row>, AllocError> {
     let mut rows = Vec::new(alloc);
     let mut row = Row::empty(0, MARGIN);
-    for part in parts {
-        if !row.has_room(part) {
+    for piece in pieces {
+        let is_full = row.width.saturating_add(piece.width()) > LANES_WIDTH;
+        if row.count > 0 && is_full {
             rows.push(row)?;
             row = row.below();
         }
-        row = row.with(part);
+        row = row.with(piece);
     }
     rows.push(row)?;
     Ok(rows)

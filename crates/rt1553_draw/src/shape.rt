@@ -1,11 +1,17 @@
 //! The shapes that a drawing is made of.
+ghost use Rattle.std.specs.Prelude.{◌≡◌, ◌++◌, OnOk};
+ghost use Rattle.std.specs.String.{string_bytes};
+ghost use Rattle.rt1553_draw.specs.Anchor.{anchored};
+
 use crate::column::{Column, Mark};
-use crate::numbered::Numbered;
-use crate::part::{DrawnMessage, Heading, MessageTitle};
+use crate::cursor::ColumnCursor;
+use crate::expected::Expected;
+use crate::part::{Heading, MessageTitle};
+use crate::piece::MessagePiece;
 use crate::row::Row;
-use crate::style::DRAWING_STYLE;
+use crate::style::LIGHT_STYLE;
 use drawing_boxes::{
-    Caption, Digits, Frame, InOneLine, LANES_FROM, Lane, MARGIN, More, Rest, What,
+    Caption, Digits, Frame, InOneLine, LANES_FROM, Lane, MARGIN, More, Numbered, Rest, What,
 };
 use script_lines::write_event;
 use std::alloc::AllocError;
@@ -23,6 +29,28 @@ impl Place {
     /// How far right of the drawing's left the column has its middle.
     fn middle(self) -> u32 {
         self.left.saturating_add(self.width / 2)
+    }
+}
+
+/// The classes of a box: what it is, of a status word the colour of its set bits, and whether another answer is stated.
+#[derive(Clone, Copy)]
+struct BoxClass {
+    caption: Caption,
+    differs: bool,
+}
+
+impl fmt::Display for BoxClass {
+    fn fmt<W: fmt::Write>(&self, f: &mut fmt::Formatter<W>) -> fmt::Result {
+        let class = self.caption.class();
+        let bits = self.caption.bits_class();
+        write!(f, "box {class}")?;
+        if !bits.is_empty() {
+            write!(f, " {bits}")?;
+        }
+        if self.differs {
+            write!(f, " differing")?;
+        }
+        Ok(())
     }
 }
 
@@ -77,7 +105,10 @@ fn push_box(
     caption: Caption,
     column: &Column,
 ) -> Result<(), AllocError> {
-    let class = caption.class();
+    let class = BoxClass {
+        caption,
+        differs: column.expected.is_some() && !caption.came(),
+    };
     let left = place.left.saturating_add(MARGIN);
     let width = place.width.saturating_sub(2 * MARGIN);
     let height = place.frame.box_height();
@@ -87,7 +118,7 @@ fn push_box(
     push_said(text, column)?;
     writeln!(
         text,
-        ", {what}</title><rect class=\"box {class}\" x=\"{left}\" y=\"{top}\" width=\"{width}\" height=\"{height}\"/>"
+        ", {what}</title><rect class=\"{class}\" x=\"{left}\" y=\"{top}\" width=\"{width}\" height=\"{height}\"/>"
     )?;
     push_lines(text, place, top, caption)?;
     text.push_str("</g>\n")
@@ -144,6 +175,39 @@ fn push_silence(text: &mut String, place: Place, column: &Column) -> Result<(), 
     )
 }
 
+/// What a script states in place of an answer: a box beside what is drawn of that.
+fn push_expected(
+    text: &mut String,
+    place: Place,
+    column: &Column,
+    expected: &Expected,
+) -> Result<(), AllocError> {
+    let lane = match column.mark {
+        Mark::Box(lane, _) | Mark::Gap(lane) => lane,
+        Mark::Silence => Lane::A,
+    };
+    let top = place.frame.lane_top(lane);
+    let height = place.frame.box_height();
+    let begin = place.left.saturating_add(place.width);
+    let beside = Place {
+        left: begin,
+        width: expected.width,
+        ..place
+    };
+    let left = begin.saturating_add(MARGIN);
+    let width = expected.width.saturating_sub(2 * MARGIN);
+    let whole = expected.whole.as_str();
+    let number = column.of.line;
+    writeln!(
+        text,
+        "<g role=\"img\"><title>expected at line {number}: {whole}</title><rect class=\"box expected\" x=\"{left}\" y=\"{top}\" width=\"{width}\" height=\"{height}\"/>"
+    )?;
+    let line = |index: u32| place.frame.line_in_box(index, 2).saturating_add(top);
+    push_text(text, beside, line(0), "what", &Expected::HEADING)?;
+    push_text(text, beside, line(1), "digits", &expected.short.as_str())?;
+    text.push_str("</g>\n")
+}
+
 /// What stands on a bus in a column, or in its place.
 fn push_mark(text: &mut String, place: Place, column: &Column) -> Result<(), AllocError> {
     match column.mark {
@@ -153,45 +217,89 @@ fn push_mark(text: &mut String, place: Place, column: &Column) -> Result<(), All
     }
 }
 
+/// What gives an element the anchor of a line.
+fn push_anchor(text: &mut String, line: u64) -> Result<(), AllocError>
+    ensures { OnOk result (string_bytes text.new ≡ string_bytes text.old ++ anchored line) }
+{
+    text.push_str(" id=\"line-")?;
+    write!(text, "{line}")?;
+    text.push_str("\"")
+}
+
+/// The number of a line, with an anchor or without.
+fn push_number(
+    text: &mut String,
+    place: Place,
+    line: u64,
+    has_anchor: bool,
+) -> Result<(), AllocError> {
+    let middle = place.middle();
+    let top = place.frame.numbers();
+    text.push_str("<text")?;
+    if has_anchor {
+        push_anchor(text, line)?;
+    }
+    writeln!(
+        text,
+        " class=\"digits number\" x=\"{middle}\" y=\"{top}\">{line}</text>"
+    )
+}
+
 /// A column: the number of its line, what stands on a bus, and what is handed over.
-fn push_column(text: &mut String, place: Place, column: &Column) -> Result<(), AllocError> {
-    let line = column.of.line;
-    push_text(text, place, place.frame.numbers(), "digits number", &line)?;
+fn push_column(
+    text: &mut String,
+    place: Place,
+    column: &Column,
+    has_anchor: bool,
+) -> Result<(), AllocError> {
+    push_number(text, place, column.of.line, has_anchor)?;
     push_mark(text, place, column)?;
+    if let Some(expected) = &column.expected {
+        push_expected(text, place, column, expected)?;
+    }
+    let place = Place {
+        width: column.handed_width,
+        ..place
+    };
     match column.handed {
         Some(caption) => push_box(text, place, Lane::Subsystem, caption, column),
         None => Ok(()),
     }
 }
 
-/// The columns of a message, the first of which begins here.
+/// The columns of a piece, the first of which begins here.
 fn push_columns(
     text: &mut String,
     frame: Frame,
     left: u32,
-    part: &DrawnMessage,
+    piece: MessagePiece<'_>,
 ) -> Result<(), AllocError> {
-    let mut left = left;
-    for column in part.columns.as_slice() {
+    let mut cursor = ColumnCursor::at(left);
+    for column in piece.columns {
         let place = Place {
             frame,
-            left,
+            left: cursor.begin_of(column),
             width: column.width,
         };
-        push_column(text, place, column)?;
-        left = left.saturating_add(column.width);
+        push_column(text, place, column, piece.has_anchors)?;
+        cursor = cursor.after(column);
     }
     Ok(())
 }
 
-/// A message, which begins here: an edge, its name, and its columns.
-fn push_part(
+/// A piece of a message, which begins here: an edge, its name, and its columns.
+fn push_piece(
     text: &mut String,
     frame: Frame,
     left: u32,
-    part: &DrawnMessage,
+    piece: MessagePiece<'_>,
 ) -> Result<(), AllocError> {
-    let heading = Heading(part.number);
+    let part = piece.part;
+    let heading = Heading {
+        number: part.number,
+        is_first: piece.is_first,
+    };
+    let edge = if piece.is_first { "edge" } else { "edge fold" };
     let summary = MessageTitle(part);
     let name_left = left.saturating_add(2 * MARGIN);
     let names = frame.names();
@@ -199,13 +307,13 @@ fn push_part(
     let bottom = frame.bottom();
     write!(
         text,
-        "<g class=\"message\" role=\"img\"><title>{summary}</title><line class=\"edge\" x1=\"{left}\" y1=\"{top}\" x2=\"{left}\" y2=\"{bottom}\"/><text class=\"name\" x=\"{name_left}\" y=\"{names}\">{heading}"
+        "<g class=\"message\" role=\"img\"><title>{summary}</title><line class=\"{edge}\" x1=\"{left}\" y1=\"{top}\" x2=\"{left}\" y2=\"{bottom}\"/><text class=\"name\" x=\"{name_left}\" y=\"{names}\">{heading}"
     )?;
-    if let Some(name) = &part.name {
+    if let (true, Some(name)) = (piece.is_first, &part.name) {
         write!(text, " {}", name.short.as_str())?;
     }
     text.push_str("</text>\n")?;
-    push_columns(text, frame, name_left, part)?;
+    push_columns(text, frame, name_left, piece)?;
     text.push_str("</g>\n")
 }
 
@@ -244,22 +352,34 @@ fn push_lanes(text: &mut String, frame: Frame, right: u32) -> Result<(), AllocEr
     Ok(())
 }
 
-/// The messages of a row.
-fn push_parts(text: &mut String, row: Row, parts: &[DrawnMessage]) -> Result<(), AllocError> {
+/// The pieces of a row.
+fn push_pieces(text: &mut String, row: Row, pieces: &[MessagePiece<'_>]) -> Result<(), AllocError> {
     let mut left = LANES_FROM;
-    for part in parts.iter().skip(row.first).take(row.count) {
-        push_part(text, row.frame, left, part)?;
-        left = left.saturating_add(part.width());
+    for piece in pieces.iter().skip(row.first).take(row.count) {
+        push_piece(text, row.frame, left, *piece)?;
+        left = left.saturating_add(piece.width());
     }
     Ok(())
 }
 
-/// A row: its lanes and its messages, which are some of these.
-pub fn push_row(text: &mut String, row: Row, parts: &[DrawnMessage]) -> Result<(), AllocError> {
+/// A row: its lanes and its pieces, which are some of these.
+fn push_row(text: &mut String, row: Row, pieces: &[MessagePiece<'_>]) -> Result<(), AllocError> {
     text.push_str("<g class=\"row\">\n")?;
     push_lanes(text, row.frame, row.right())?;
-    push_parts(text, row, parts)?;
+    push_pieces(text, row, pieces)?;
     text.push_str("</g>\n")
+}
+
+/// Rows of pieces.
+pub fn push_rows(
+    text: &mut String,
+    rows: &[Row],
+    pieces: &[MessagePiece<'_>],
+) -> Result<(), AllocError> {
+    for row in rows {
+        push_row(text, *row, pieces)?;
+    }
+    Ok(())
 }
 
 /// The begin of a drawing of this size, with what it is called.
@@ -281,8 +401,8 @@ pub fn push_head<T: fmt::Display>(
     )
 }
 
-/// What stands at the begin of a drawing of its own: how it looks.
+/// What stands at the begin of a drawing of its own: how it looks, in the dark too.
 pub fn push_style(text: &mut String) -> Result<(), AllocError> {
-    let style = DRAWING_STYLE;
+    let style = LIGHT_STYLE;
     writeln!(text, "<style>{style}</style>")
 }

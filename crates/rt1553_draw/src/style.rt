@@ -1,13 +1,14 @@
 //! How drawings and pages look, in the light and in the dark.
 
-/// The shapes of a drawing. Each class that has a colour has another one in the dark; on paper it is always light.
-pub const DRAWING_STYLE: &str =
+/// The shapes of a drawing, in the light.
+pub const LIGHT_STYLE: &str =
     "text{font:12px Arial,Helvetica,\"Liberation Sans\",\"DejaVu Sans\",sans-serif;fill:#222;text-anchor:middle}\
 .digits{font-family:\"Liberation Mono\",\"DejaVu Sans Mono\",Consolas,Menlo,monospace}\
 .name{text-anchor:start;fill:#555}\
 .number{fill:#666}\
-.lane{stroke:#bbb}\
-.edge{stroke:#ccc}\
+.lane{stroke:#888}\
+.edge{stroke:#888}\
+.fold{stroke-dasharray:1 4}\
 .gap{stroke:#777;stroke-width:2;stroke-dasharray:3 3}\
 .silence{fill:#777}\
 .area{fill:none;stroke:none;pointer-events:all}\
@@ -20,12 +21,19 @@ pub const DRAWING_STYLE: &str =
 .sent{fill:#ffe08a;stroke-width:2}\
 .given{fill:#e2d9f3}\
 .handed{fill:#d1e7dd}\
-@media screen and (prefers-color-scheme:dark){\
+.error{fill:#ff8f8f;stroke:#9b1c1c}\
+.busy{fill:#ffb066;stroke:#8a4b00}\
+.flagged{fill:#74dfcf;stroke:#0b5f55}\
+.differing{stroke:#b02a37;stroke-width:4}\
+.expected{fill:#fff;stroke:#b02a37;stroke-width:2;stroke-dasharray:6 3}";
+
+/// What has another colour on a page in the dark; on paper it is always light.
+pub const DARK_STYLE: &str = "@media screen and (prefers-color-scheme:dark){\
 text{fill:#eee}\
 .name{fill:#bbb}\
 .number{fill:#aaa}\
-.lane{stroke:#555}\
-.edge{stroke:#444}\
+.lane{stroke:#888}\
+.edge{stroke:#888}\
 .gap{stroke:#aaa}\
 .silence{fill:#aaa}\
 .paper{fill:#1b1d21}\
@@ -37,6 +45,11 @@ text{fill:#eee}\
 .sent{fill:#6b5200}\
 .given{fill:#3d2f5e}\
 .handed{fill:#1c4a35}\
+.error{fill:#9b1c1c;stroke:#ff8f8f}\
+.busy{fill:#a45200;stroke:#ffb066}\
+.flagged{fill:#0b5f55;stroke:#74dfcf}\
+.differing{stroke:#f1aeb5}\
+.expected{fill:#1b1d21;stroke:#f1aeb5}\
 }";
 
 /// What stands around the drawings of a page. On paper, all messages are shown, each as wide as the paper at most.

@@ -45,5 +45,5 @@ IsTimestamp (Some date) stamp = (written : List ℕ) × StandsFor date written �
 abbrev pub IsJunitReport : ReportHead → List ℕ → Type 0
 IsJunitReport head text =
     (totals stamp properties cases : List ℕ) × IsTimestamp (option_map (λ d. d.now) head.date) stamp × AreSuiteProperties head properties
-    × (text ≡ codes "<?xml version=\"1.0\" encoding=\"UTF-8\"?>\n<testsuites" ++ totals ++ codes ">\n<testsuite name=\"rt1553-tool verify\"" ++ totals ++ stamp
+    × (text ≡ codes "<?xml version=\"1.0\" encoding=\"UTF-8\"?>\n<testsuites" ++ totals ++ codes ">\n<testsuite name=\"rt1553-tool " ++ head.command.now ++ codes "\"" ++ totals ++ stamp
     ++ codes ">\n" ++ properties ++ cases ++ codes "</testsuite>\n</testsuites>\n")

@@ -39,6 +39,8 @@ pub struct NamesTable<'a> {
 /// What is the same of all scripts of a report.
 #[derive(Clone, Copy)]
 pub struct ReportHead<'a> {
+    /// The command of `rt1553-tool` that reports.
+    pub command: &'a str,
     /// The version of the program.
     pub program: &'a str,
     /// The toolchain by which it is proved and built.

@@ -6,7 +6,7 @@ ghost use Rattle.rt1553_report.specs.Junit.{AreNamesProperties, AreSuiteProperti
 use crate::head::{FileDigests, NamesTable, ReportHead, push_digest};
 use crate::result::{AnswerNames, ScriptOutcome, ScriptResult, Totals, name_at, totals_of};
 use crate::told::{difference_told, push_markup, push_shown};
-use rt1553_draw::push_escaped;
+use drawing_boxes::push_escaped;
 use rt1553_verify::WrongAnswer;
 use std::alloc::{AllocError, Global};
 use std::format;
@@ -241,7 +241,9 @@ pub fn junit_report(
         "<?xml version=\"1.0\" encoding=\"UTF-8\"?>\n<testsuites",
     )?;
     push_markup(&mut text, totals)?;
-    push_markup(&mut text, ">\n<testsuite name=\"rt1553-tool verify\"")?;
+    push_markup(&mut text, ">\n<testsuite name=\"rt1553-tool ")?;
+    push_markup(&mut text, head.command)?;
+    push_markup(&mut text, "\"")?;
     push_markup(&mut text, totals)?;
     push_timestamp(alloc, &mut text, head.date)?;
     push_markup(&mut text, ">\n")?;

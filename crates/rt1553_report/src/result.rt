@@ -42,7 +42,7 @@ pub enum ScriptOutcome {
         wrong: Vec<WrongAnswer>,
         /// The name of the message of each of these events, where there are names.
         names: Option<AnswerNames>,
-        /// The messages in which these events stand, drawn for a page; None where they were not drawn.
+        /// The messages in which these events stand, drawn for a page: empty where there is nothing to draw, and None where there is too much.
         drawing: Option<String>,
     },
     /// It can't be read or is refused, for this reason: one line.

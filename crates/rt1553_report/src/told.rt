@@ -4,8 +4,8 @@ ghost use Rattle.std.specs.String.{string_bytes};
 ghost use Rattle.rt1553_report.specs.Shown.{StandsFor};
 ghost use Rattle.rt1553_report.specs.Pieces.{AddsPiece};
 
+use drawing_boxes::push_escaped;
 use message_names::quoted;
-use rt1553_draw::push_escaped;
 use rt1553_files::escaped;
 use rt1553_verify::WrongAnswer;
 use std::alloc::{AllocError, Global};

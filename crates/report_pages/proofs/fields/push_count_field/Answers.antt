@@ -6,5 +6,5 @@ pub returns : goal.returns
 unfolding count_field
 returns c =
     adds_on_ok c.push_markup-2.result _ _
-    (adds c.in_ok-push_markup.ensures c.in_ok-push_decimal.ensures)
+    (adds c.in_ok-push_markup.ensures c.in_ok-push_plain_number.ensures)
     c.push_markup-2.ensures

@@ -12,6 +12,7 @@ returns c =
       stamp.1,
       head.1,
       all_written c.new-text.ensures.bytes
-          (adds (adds (adds (adds (adds (adds (adds (adds c.in_ok-push_markup.ensures c.in_ok-push_markup-2.ensures) c.in_ok-push_markup-3.ensures) c.in_ok-push_markup-4.ensures)
-          stamp.2) c.in_ok-push_markup-5.ensures) head.2) c.in_ok-push_markup-6.ensures) c.in_ok-push_markup-7.ensures),
+          (adds (adds (adds (adds (adds (adds (adds (adds (adds (adds c.in_ok-push_markup.ensures c.in_ok-push_markup-2.ensures) c.in_ok-push_markup-3.ensures)
+          c.in_ok-push_markup-4.ensures) c.in_ok-push_markup-5.ensures) c.in_ok-push_markup-6.ensures) stamp.2) c.in_ok-push_markup-7.ensures) head.2)
+          c.in_ok-push_markup-8.ensures) c.in_ok-push_markup-9.ensures),
     )

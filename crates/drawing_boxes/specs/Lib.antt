@@ -1,0 +1,3 @@
+pub mod SetBits
+pub mod Escaped
+pub mod Refused

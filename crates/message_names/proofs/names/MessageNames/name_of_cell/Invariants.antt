@@ -1,8 +1,0 @@
-use Rattle.std.proofs.Common.{◌≡◌, map, drop}
-use Rattle.message_names.specs.NamedCells.{names_cell}
-use Rattle.message_names.specs.Names.{first_name}
-use Rattle.message_names.specs.inner.Rows.{name_row}
-use Rattle.message_names.proofs.names.MessageNames.name_of_cell.Given as goal
-
-abbrev pub invariant-loop-row : goal.invariant-loop-row
-invariant-loop-row l = first_name (names_cell l.cell) (map name_row (drop l.row-index l.row-items)) ≡ first_name (names_cell l.cell) (map name_row l.row-items)
