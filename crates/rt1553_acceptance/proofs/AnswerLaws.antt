@@ -300,7 +300,7 @@ answers-law P script text before accepted fits is few =
     let told = lines-chain most P 0 [] lines None (omega arith) fine.0 (text-lines script) fits in
     let chain = told.2 in
     let reads : stated_in text ≡ Ok chain.stated =
-    stated-room 1048576 most 0 None (lines_of text) (omega (arith, few)) (omega (arith, few)) ∙ ap (λ bytes. stated_by most 0 None (lines_of bytes)) is ∙ Tells-all chain.tells ∙ ap Ok chain.splits in
+    stated-room 1048576 most 0 None (lines_of text) (omega (arith, few)) (omega (arith, few)) ∙ ap (λ bytes. stated_by most 0 None (lines_of bytes)) is ∙ Tells-all (chain.tells refl) (chain.gives refl) ∙ ap Ok chain.splits in
     record {
       is = is;
       before = before;

@@ -7,3 +7,5 @@ pub mod Showing
 pub mod FieldSteps
 pub mod PutLaws
 pub mod AnswerLaws
+pub mod Small
+pub mod Handed

@@ -2,7 +2,7 @@
 use Rattle.std.proofs.Common.{ℕ, ◌≡◌, ◌∙◌, ◌+◌, ◌<◌, ◌≤◌, List, [], ◌∷◌, ◌++◌, None, Ok, length, sym, ap, append_assoc, append-nil}
 use Rattle.script_lines.specs.Text.{lines_of, NoLineFeed}
 use Rattle.script_lines.proofs.LineLaws.{lines-line}
-use Rattle.rt1553_verify.specs.Stated.{StatedEvent, Latest, ended, line_says, then_events, then_lines, stated_by, stated_within}
+use Rattle.rt1553_verify.specs.Stated.{StatedEvent, Latest, ended, all_stated, line_says, then_events, then_lines, stated_by, stated_within}
 use Rattle.rt1553_verify.proofs.StatedLaws.{bounded-short, stated-line, then-none, then-twice, stated-none}
 
 pub feeds-append : (xs ys : List ℕ) → NoLineFeed xs → NoLineFeed ys → NoLineFeed (xs ++ ys)
@@ -37,6 +37,6 @@ pub Tells-same : {most n m : ℕ} {text : List ℕ} {a b : Latest} {es : List St
 Tells-same {most = most} {n = n} {a = a} other is p = record { each = λ rest. ap (λ xs. stated_by most n a (lines_of (xs ++ rest))) is ∙ p.each rest }
 
 -- all of a text
-pub Tells-all : {most m : ℕ} {text : List ℕ} {later : Latest} {es : List StatedEvent} → Tells most 0 m text None later es → stated_within most text ≡ Ok (es ++ ended later)
-Tells-all {most = most} {m = m} {text = text} {later = later} {es = es} p =
-    ap (λ xs. stated_by most 0 None (lines_of xs)) (sym (append-nil text)) ∙ p.each [] ∙ ap (then_events es) (stated-none most m later)
+pub Tells-all : {most m : ℕ} {text : List ℕ} {later : Latest} {es : List StatedEvent} → Tells most 0 m text None later es → all_stated later ≡ Ok (ended later) → stated_within most text ≡ Ok (es ++ ended later)
+Tells-all {most = most} {m = m} {text = text} {later = later} {es = es} p last =
+    ap (λ xs. stated_by most 0 None (lines_of xs)) (sym (append-nil text)) ∙ p.each [] ∙ ap (then_events es) (stated-none most m later ∙ last)

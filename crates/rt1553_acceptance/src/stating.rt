@@ -1,5 +1,5 @@
 //! Events with what is stated of their answers.
-ghost use Rattle.std.specs.Prelude.{◌≡◌, ◌≤◌, ◌<◌, ◌^◌, ◌+◌, ◌*◌, ◌++◌, ◌∷◌, ℕ, List, length};
+ghost use Rattle.std.specs.Prelude.{◌≡◌, ◌≤◌, ◌<◌, ◌^◌, ◌+◌, ◌*◌, ◌++◌, ◌∷◌, ℕ, List, length, All};
 ghost use Rattle.arrayvec.specs.ArrayString.{array_string_len};
 ghost use Rattle.terminal_rules.specs.Out.{HandsReceived, HandsOver};
 ghost use Rattle.bus_terminal.specs.Answer.{shown_answer, IsSmall};
@@ -109,12 +109,21 @@ fn has_16_bits(word: u16)
     ensures { word < 2 ^ 16 }
 {}
 
+/// Words have 16 bits.
+fn have_16_bits(words: &[u16])
+    ensures { All (λ word. word < 2 ^ 16) words.now }
+{}
+
 /// An answer is of a size that a line can state.
 pub fn fits(answer: &Answer)
     requires { IsSmall (shown_answer answer.now) }
     ensures { Fits (shown_answer answer.now) }
 {
-    if let Answer::Sends(sent) = answer {
-        has_16_bits(sent.bits);
+    match answer {
+        Answer::Sends(sent) => has_16_bits(sent.bits),
+        Answer::Hands(Hand::Received { words, .. }) => have_16_bits(words),
+        Answer::Hands(Hand::SynchronizeWith(word)) => have_16_bits(&[*word]),
+        Answer::Hands(_) => have_16_bits(&[]),
+        Answer::Silent => {}
     }
 }

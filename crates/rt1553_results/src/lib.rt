@@ -26,4 +26,4 @@ pub use playing::{Handed, TestRow};
 pub use results::{GivenReply, Results, ResultsFault, read_results};
 pub use rows::Rows;
 pub use table::{csv_header, csv_row};
-pub use told::{NamedReply, NamedUnexplained};
+pub use texts::reply_text;

@@ -192,6 +192,16 @@ impl Results {
         }
     }
 
+    /// The line of the row that has it.
+    pub fn line(&self, number: u32) -> Option<u64>
+        ensures { result ≡ line_in self.now number }
+    {
+        match self.given.get(&number) {
+            Some(given) => Some(given.line),
+            None => None,
+        }
+    }
+
     /// The largest number, and the line of its row.
     pub fn last(&self) -> Option<(u32, u64)>
         ensures { MatchOption result ((n : ℕ) → answer self.now n ≡ None) (λ last. (line_in self.now last.0 ≡ Some last.1) × ((n : ℕ) → last.0 < n → answer self.now n ≡ None)) }

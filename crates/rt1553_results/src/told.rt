@@ -21,9 +21,9 @@ impl fmt::Display for ReplyText<'_> {
     }
 }
 
-impl WrongReply {
-    /// Writes what follows its number and a colon.
-    fn put_reply<W: fmt::Write>(&self, f: &mut fmt::Formatter<W>) -> fmt::Result {
+/// As `receive 3, 2 words: legal: expected 2800, came none`.
+impl fmt::Display for WrongReply {
+    fn fmt<W: fmt::Write>(&self, f: &mut fmt::Formatter<W>) -> fmt::Result {
         write!(
             f,
             "{}: expected {}, came {}",
@@ -31,28 +31,6 @@ impl WrongReply {
             ReplyText(self.expected.as_slice()),
             ReplyText(self.came.as_slice())
         )
-    }
-}
-
-/// As `12: receive 3, 2 words: legal: expected 2800, came none`.
-impl fmt::Display for WrongReply {
-    fn fmt<W: fmt::Write>(&self, f: &mut fmt::Formatter<W>) -> fmt::Result {
-        write!(f, "{}: ", self.number)?;
-        self.put_reply(f)
-    }
-}
-
-/// The same with the name of its message, as it is printed: `12: "speed": receive 3, 2 words: legal: expected 2800, came none`.
-#[derive(Clone, Copy)]
-pub struct NamedReply<'a> {
-    pub reply: &'a WrongReply,
-    pub name: &'a str,
-}
-
-impl fmt::Display for NamedReply<'_> {
-    fn fmt<W: fmt::Write>(&self, f: &mut fmt::Formatter<W>) -> fmt::Result {
-        write!(f, "{}: {}: ", self.reply.number, self.name)?;
-        self.reply.put_reply(f)
     }
 }
 
@@ -69,9 +47,9 @@ impl fmt::Display for WordText {
     }
 }
 
-impl UnexplainedReply {
-    /// Writes what follows its number and a colon.
-    fn put_reply<W: fmt::Write>(&self, f: &mut fmt::Formatter<W>) -> fmt::Result {
+/// As `receive 3, 2 words: legal: came none, word 1 can be 2800`.
+impl fmt::Display for UnexplainedReply {
+    fn fmt<W: fmt::Write>(&self, f: &mut fmt::Formatter<W>) -> fmt::Result {
         write!(
             f,
             "{}: came {}, word {} can be {}",
@@ -80,28 +58,6 @@ impl UnexplainedReply {
             self.slot.saturating_add(1),
             WordText(self.possible)
         )
-    }
-}
-
-/// As `12: receive 3, 2 words: legal: came none, word 1 can be 2800`.
-impl fmt::Display for UnexplainedReply {
-    fn fmt<W: fmt::Write>(&self, f: &mut fmt::Formatter<W>) -> fmt::Result {
-        write!(f, "{}: ", self.number)?;
-        self.put_reply(f)
-    }
-}
-
-/// The same with the name of its message, as it is printed.
-#[derive(Clone, Copy)]
-pub struct NamedUnexplained<'a> {
-    pub reply: &'a UnexplainedReply,
-    pub name: &'a str,
-}
-
-impl fmt::Display for NamedUnexplained<'_> {
-    fn fmt<W: fmt::Write>(&self, f: &mut fmt::Formatter<W>) -> fmt::Result {
-        write!(f, "{}: {}: ", self.reply.number, self.name)?;
-        self.reply.put_reply(f)
     }
 }
 

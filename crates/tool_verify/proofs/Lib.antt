@@ -1,2 +1,3 @@
 pub mod PassingLaws
 pub mod TriedLaws
+pub mod OutcomeLaws

@@ -1,3 +1,4 @@
 pub mod Passing
+pub mod UnitResults
 pub mod Digests
 pub mod inner

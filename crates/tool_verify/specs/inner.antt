@@ -1,2 +1,3 @@
 -- What the contracts of private functions speak of.
 pub mod Tried
+pub mod Differing

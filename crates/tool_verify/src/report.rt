@@ -2,31 +2,31 @@
 ghost use Rattle.std.specs.Prelude.{◌≡◌, ◌≤◌, ◌↔◌, None, IfOk, IsErr, length, true};
 ghost use Rattle.rt1553_report.specs.Results.{outcome_passes};
 ghost use Rattle.tool_verify.specs.Passing.{SaysOf};
-ghost use Rattle.tool_verify.specs.Digests.{HasDigestsOf, HasScriptDigest, HasTableOf};
+ghost use Rattle.tool_verify.specs.Digests.{HasScriptDigest};
 ghost use Rattle.tool_verify.specs.inner.Tried.{IsTried};
 
+use crate::head::{head_of, profile_digests};
 use crate::opened::OpenScript;
 use crate::verify::{Played, PlayedScript, PlayedTo, clauses_of, play_script};
 use ascii_json::json_line;
 use bus_legal::Normal;
+use drawing_boxes::DrawFault;
 use message_names::MessageNames;
 use report_pages::results_page;
-use rt1553_draw::{DrawFault, draw_lines};
+use rt1553_draw::{StatedAnswer, draw_stated};
 use rt1553_report::{
-    FileDigests, NamesTable, ReportHead, ScriptOutcome, ScriptResult, clauses_in, junit_report,
+    FileDigests, ReportHead, ScriptOutcome, ScriptResult, answer_told, clauses_in, junit_report,
     result_json,
 };
-use rt1553_tool_args::{
-    AskedReport, CANONICAL_VERSION, PROGRAM_VERSION, Profiles, ReportFormat, TOOLCHAIN,
-};
+use rt1553_tool_args::{AskedReport, Profiles, ReportFormat};
 use rt1553_verify::{WrongAnswer, named};
 use std::alloc::{AllocError, Global};
 use std::format;
 use std::io::{Read, Write};
 use std::rt::Files;
 use tool_files::{
-    DIFFERENT, HashedReader, LoadedProfile, LoadedScript, ToolFault, canonical_digest,
-    refused_file, status_or_stop, worst, write_bytes,
+    DIFFERENT, HashedReader, LoadedScript, ToolFault, refused_file, status_or_stop, worst,
+    write_bytes,
 };
 
 /// A script that was done: what came of it, and the status that it asks for.
@@ -36,16 +36,23 @@ struct DoneScript {
     status: u8,
 }
 
-/// The lines in which something differs.
-fn lines_of_wrong(alloc: Global, wrong: &[WrongAnswer]) -> Result<Vec<u64>, AllocError> {
-    let mut lines = Vec::new(alloc);
+/// What is stated in place of answers that differ.
+fn stated_of(alloc: Global, wrong: &[WrongAnswer]) -> Result<Vec<StatedAnswer>, AllocError> {
+    let mut stated = Vec::new(alloc);
     for one in wrong {
-        lines.push(one.line)?;
+        let text = match answer_told(alloc, one.expected.as_slice())? {
+            Some(text) => text,
+            None => String::from_str(alloc, "nothing")?,
+        };
+        stated.push(StatedAnswer {
+            line: one.line,
+            text,
+        })?;
     }
-    Ok(lines)
+    Ok(stated)
 }
 
-/// The drawing of the messages in which something differs; None where nothing does, or where the script has too many events to draw.
+/// The drawing of the messages in which something differs; None where nothing does.
 fn drawing_of<R: AllocGlobal>(
     rt: &R,
     names: Option<&MessageNames>,
@@ -57,10 +64,9 @@ fn drawing_of<R: AllocGlobal>(
     if it.wrong.is_empty() {
         return Ok(None);
     }
-    let lines = lines_of_wrong(rt.alloc(), it.wrong.as_slice())?;
-    match draw_lines(rt.alloc(), normal, names, script, lines.as_slice()) {
+    let stated = stated_of(rt.alloc(), it.wrong.as_slice())?;
+    match draw_stated(rt.alloc(), normal, names, script, stated.as_slice()) {
         Ok(drawing) => Ok(Some(drawing)),
-        Err(DrawFault::TooMany) => Ok(None),
         Err(DrawFault::Memory) => Err(ToolFault::Memory),
         Err(fault) => Err(refused_file(rt, name, &fault)),
     }
@@ -170,17 +176,6 @@ const NO_DIGESTS: FileDigests = FileDigests {
     profile: None,
     canonical: None,
 };
-
-/// The digests of a profile.
-fn profile_digests(alloc: Global, profile: &LoadedProfile) -> Result<FileDigests, AllocError>
-    ensures { IfOk result (HasDigestsOf profile.now) }
-{
-    Ok(FileDigests {
-        script: None,
-        profile: Some(profile.digest),
-        canonical: Some(canonical_digest(alloc, &profile.normal)?),
-    })
-}
 
 /// The digest of the file of a script, of which `rest` was not read, if that is there; None where it cannot be read to its end.
 fn digest_with<F: Read + Drop>(script: &LoadedScript, rest: Option<F>) -> Option<[u8; 32]>
@@ -320,28 +315,8 @@ fn report_file<R: Files + AllocGlobal + Eprint>(
     Ok((of, done.status))
 }
 
-/// What is the same of all scripts of a report.
-fn head_of<'a>(played: &Played<'_>, asked: AskedReport<'a>) -> ReportHead<'a>
-    ensures date { result.date ≡ asked.entry.date }
-    ensures names { HasTableOf asked.entry.names played.now.names result.names }
-{
-    ReportHead {
-        program: PROGRAM_VERSION,
-        toolchain: TOOLCHAIN,
-        canonical: CANONICAL_VERSION,
-        names: match (asked.names, &played.names) {
-            (Some(file), Some(loaded)) => Some(NamesTable {
-                file,
-                digest: loaded.digest,
-            }),
-            _ => None,
-        },
-        date: asked.date,
-    }
-}
-
 /// Writes what came of a script, where the format has a line for each, or else keeps it.
-fn put_or_keep<W: Write>(
+pub fn put_or_keep<W: Write>(
     alloc: Global,
     format: ReportFormat,
     head: ReportHead<'_>,
@@ -359,7 +334,7 @@ fn put_or_keep<W: Write>(
 }
 
 /// Writes what was kept of all scripts.
-fn put_kept<W: Write>(
+pub fn put_kept<W: Write>(
     alloc: Global,
     format: ReportFormat,
     head: ReportHead<'_>,
@@ -384,7 +359,7 @@ pub fn report_files<R: Files + AllocGlobal + Eprint, W: Write>(
 ) -> Result<u8, ToolFault>
     ensures { IfOk result (λ status. status ≤ 4) }
 {
-    let head = head_of(played, asked);
+    let head = head_of("verify", asked.names, &played.names, asked.date);
     let mut kept = Vec::new(rt.alloc());
     let mut status = 0;
     for name in names {

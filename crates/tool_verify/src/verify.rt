@@ -5,6 +5,7 @@ ghost use Rattle.tool_files.specs.Status.{RefusesText, tool_status};
 ghost use Rattle.tool_verify.specs.Passing.{IsPlayedTo, SaysOf, recording_status, script_status, stated_status};
 
 use crate::compared::{JudgedPart, ScriptFault, compare_open, explaining_script};
+use crate::head::loaded_names;
 use crate::opened::{OpenScript, open_script};
 use crate::report::report_files;
 use crate::summary::put_summary;
@@ -23,7 +24,7 @@ use tool_files::{
     load_profile_file, load_script, put_in, read_script_file, refused_file, shown, status_or_stop,
     worst, write_bytes,
 };
-use tool_names::{LoadedNames, load_names_file, name_of_command};
+use tool_names::{LoadedNames, name_of_command};
 
 /// Which terminal a script is played to.
 #[derive(Drop)]
@@ -230,6 +231,7 @@ fn unread_fault<R: AllocGlobal>(
 {
     let fault = match fault {
         StatedFault::Misplaced(line) => StatedFault::Misplaced(script.line_in_file(line)),
+        StatedFault::Impossible(line) => StatedFault::Impossible(script.line_in_file(line)),
         StatedFault::Mistyped(line, column) => {
             StatedFault::Mistyped(script.line_in_file(line), column)
         }
@@ -438,18 +440,6 @@ fn play_files<R: Files + AllocGlobal + Eprint, W: Write>(
     Ok(status)
 }
 
-/// The names of messages of a table, where one is given.
-fn table_of<R: Files + AllocGlobal + Eprint>(
-    rt: &R,
-    table: Option<&str>,
-    addresses: &[u8],
-) -> Result<Option<LoadedNames>, ToolFault> {
-    match table {
-        Some(name) => Ok(Some(load_names_file(rt, name, addresses)?)),
-        None => Ok(None),
-    }
-}
-
 /// Plays scripts that state their answers and writes what came of them: as text where they differ, and with `summary` also what passes,
 /// clause by clause; in another format all. The status is the highest that a script asks for.
 pub fn verify_scripts<R: Files + AllocGlobal + Eprint, W: Write>(
@@ -466,8 +456,8 @@ pub fn verify_scripts<R: Files + AllocGlobal + Eprint, W: Write>(
         Profiles::Folder(folder) => PlayedTo::Folder(folder),
     };
     let names = match &to {
-        PlayedTo::One(profile) => table_of(rt, asked.names, &[profile.normal.address()])?,
-        PlayedTo::Folder(_) => table_of(rt, asked.names, &[])?,
+        PlayedTo::One(profile) => loaded_names(rt, asked.names, &[profile.normal.address()])?,
+        PlayedTo::Folder(_) => loaded_names(rt, asked.names, &[])?,
     };
     let played = Played {
         to,
@@ -499,7 +489,7 @@ pub fn explain_recording<R: Files + AllocGlobal + Eprint, W: Write>(
     let normal = profile.normal;
     let played = Played {
         to: PlayedTo::One(profile),
-        names: table_of(rt, asked.names, &[normal.address()])?,
+        names: loaded_names(rt, asked.names, &[normal.address()])?,
         kind: asked.kind,
         expand: asked.expand,
     };
