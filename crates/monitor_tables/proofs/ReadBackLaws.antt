@@ -1,5 +1,5 @@
 -- A recording, read back, says what was heard and the silent slots that are owed.
-use Rattle.std.proofs.Common.{ℕ, ◌≡◌, ◌∙◌, ◌+◌, ◌*◌, ◌<◌, ◌≤◌, ◌==◌, ◌&&◌, ◌||◌, Bool, true, false, cond, if◌then◌else◌, List, [], ◌∷◌, ◌++◌, Option, Some, None, is_some, Result, Ok, length, map, filter, flat_map, refl, sym, ap, subst, arith, append_assoc, append-nil, codes}
+use Rattle.std.proofs.Common.{ℕ, ◌≡◌, ◌∙◌, ◌+◌, ◌*◌, ◌<◌, ◌≤◌, ◌^◌, ◌==◌, ◌&&◌, ◌||◌, Bool, true, false, cond, if◌then◌else◌, List, [], ◌∷◌, ◌++◌, Option, Some, None, is_some, Result, Ok, Err, length, map, filter, flat_map, refl, sym, ap, subst, arith, append_assoc, append-nil, codes}
 use Rattle.std.specs.List.{list_all}
 use Rattle.std.proofs.lemmas.List.{map-append}
 use Rattle.std.proofs.lemmas.Bool.Decides.{nat_tests}
@@ -10,7 +10,7 @@ use Rattle.bus_word.specs.declared.word.Kind.TheVariants.{Com, Dat}
 use Rattle.bus_word.specs.Word.{valid_word}
 use Rattle.terminal_rules.specs.declared.event.Event.{Event}
 use Rattle.terminal_rules.specs.declared.event.Event.TheVariants as event
-use Rattle.terminal_rules.specs.Out.{Sending}
+use Rattle.terminal_rules.specs.Out.{Sending, SendsWord}
 use Rattle.terminal_rules.specs.Same.{IsProper}
 use Rattle.bus_terminal.specs.Answer.{shown_word}
 use Rattle.line_format.specs.Front.{after}
@@ -23,9 +23,12 @@ use Rattle.script_lines.specs.Transcript.{bus_letter, sent_kind, sent_text}
 use Rattle.script_lines.proofs.RoundTrip.{event_read}
 use Rattle.rt1553_verify.specs.declared.stated.StatedFault.{StatedFault}
 use Rattle.rt1553_verify.specs.declared.matching.Matching.TheVariants.{Exact}
-use Rattle.rt1553_verify.specs.Stated.{StatedEvent, Latest, After, can_answer, ended, stays, or_misplaced, silent_line, by_going_on, by_mask, by_answer, unstated_line, line_says, then_events, then_lines, stated_by, stated_within}
+use Rattle.rt1553_verify.specs.Stated.{StatedEvent, Latest, After, can_answer, can_be_given, states, ended, all_stated, then_event, stays, or_misplaced, silent_line, by_going_on, by_mask, by_answer, unstated_line, line_says, then_events, then_lines, stated_by, stated_within}
+use Rattle.rt1553_verify.specs.declared.stated.StatedFault.TheVariants.{Impossible}
+use Rattle.rt1553_verify.proofs.PossibleLaws.{answer-possible}
 use Rattle.rt1553_verify.proofs.StatedLaws.{stated-means, bounded-short, stated-line, then-none, then-twice, stated-none}
 use Rattle.rt1553_acceptance.proofs.Feeds.{IsLine, literal, within, joined, digits-line, letter-line, sent_kind-line, event-line}
+use Rattle.rt1553_acceptance.proofs.Small.{IsRead, read-sent}
 use Rattle.monitor_cells.specs.declared.heard.HeardItem.{HeardItem}
 use Rattle.monitor_cells.specs.declared.heard.HeardItem.TheVariants.{Gap, Word, Noise, Reply, Late, Pause}
 use Rattle.monitor_cells.specs.Cells.{is_time_byte, is_time_text, kind_of_sync}
@@ -34,16 +37,23 @@ use Rattle.monitor_tables.specs.Recording.{HeardAt, slot_line, has_slot, time_li
 
 -- ---- one line
 
+-- a terminal can give what was stated of the latest event
+abbrev IsGiven : Latest → Type 0
+IsGiven latest = all_stated latest ≡ Ok (ended latest)
+
+given : (s : StatedEvent) → can_be_given s.matching s.answer ≡ true → IsGiven (Some s)
+given s can = ap (λ b. if b then Ok (ended (Some s)) else Err (Impossible s.answer_line)) can
+
 -- a line that means an event says that event, whatever is the latest
-says-event : (n : ℕ) (latest : Latest) (line : List ℕ) (e : Event) → meaning line ≡ Ok (Some e)
-    → line_says n latest line ≡ Ok (record { events = ended latest; latest = Some (record { line = n; event = e; matching = Exact; answer = [] }) })
-says-event n latest line e means = first (after (codes "#> ") line) refl
+says-event : (n : ℕ) (latest : Latest) (line : List ℕ) (e : Event) → meaning line ≡ Ok (Some e) → IsGiven latest
+    → line_says n latest line ≡ Ok (record { events = ended latest; latest = Some (record { line = n; event = e; matching = Exact; answer_line = 0; answer = [] }) })
+says-event n latest line e means given = first (after (codes "#> ") line) refl
   where
     Said : Result After StatedFault → Type 0
-    Said said = said ≡ Ok (record { events = ended latest; latest = Some (record { line = n; event = e; matching = Exact; answer = [] }) })
+    Said said = said ≡ Ok (record { events = ended latest; latest = Some (record { line = n; event = e; matching = Exact; answer_line = 0; answer = [] }) })
 
     third : (o : Option (List ℕ)) → after (codes "#+ ") line ≡ o → Said (by_going_on n latest line o)
-    third None is = ap (unstated_line n latest line) means
+    third None is = ap (unstated_line n latest line) means ∙ ap (then_event n e) given
     third (Some rest) is = let no = sym (stated-means 43 line rest is) ∙ means in absurd (cc)
 
     second : (o : Option (List ℕ)) → after (codes "#~ ") line ≡ o → Said (by_mask n latest line o)
@@ -54,9 +64,9 @@ says-event n latest line e means = first (after (codes "#> ") line) refl
     first None is = second (after (codes "#~ ") line) refl
     first (Some rest) is = let no = sym (stated-means 62 line rest is) ∙ means in absurd (cc)
 
--- an event on a line, of which this is stated
-abbrev placed : ℕ → Event → List ℕ → StatedEvent
-placed n e answer = record { line = n; event = e; matching = Exact; answer = answer }
+-- an event on a line, of which this is stated on another
+abbrev placed : ℕ → Event → ℕ → List ℕ → StatedEvent
+placed n e m answer = record { line = n; event = e; matching = Exact; answer_line = m; answer = answer }
 
 -- ---- pieces of a script of at most so many lines
 
@@ -88,9 +98,9 @@ module _ (most : ℕ) where
   Tells-same {n = n} {a = a} same is p = record { each = λ rest. ap (λ xs. stated_by most n a (lines_of (xs ++ rest))) is ∙ p.each rest }
 
   -- all of a text
-  Tells-all : {m : ℕ} {text : List ℕ} {later : Latest} {es : List StatedEvent} → Tells 0 m text None later es → stated_within most text ≡ Ok (es ++ ended later)
-  Tells-all {m = m} {text = text} {later = later} {es = es} p =
-      ap (λ xs. stated_by most 0 None (lines_of xs)) (sym (append-nil text)) ∙ p.each [] ∙ ap (then_events es) (stated-none most m later)
+  Tells-all : {m : ℕ} {text : List ℕ} {later : Latest} {es : List StatedEvent} → Tells 0 m text None later es → IsGiven later → stated_within most text ≡ Ok (es ++ ended later)
+  Tells-all {m = m} {text = text} {later = later} {es = es} p last =
+      ap (λ xs. stated_by most 0 None (lines_of xs)) (sym (append-nil text)) ∙ p.each [] ∙ ap (then_events es) (stated-none most m later ∙ last)
 
   -- ---- pieces of a recording
 
@@ -99,7 +109,8 @@ module _ (most : ℕ) where
   record Reads (n m : ℕ) (text : List ℕ) (latest later : Latest) (ss : List StatedEvent) : Type 0 where
     said : List StatedEvent
     stated : List StatedEvent
-    tells : Tells n m text latest later said
+    tells : IsGiven latest → Tells n m text latest later said
+    gives : IsGiven latest → IsGiven later
     splits : said ++ ended later ≡ ended latest ++ stated
     are : map without_line stated ≡ ss
 
@@ -108,13 +119,14 @@ module _ (most : ℕ) where
   Read n text latest ss last = (m : ℕ) × (later : Latest) × Reads n m text latest later ss × (m ≤ last)
 
   reads-nil : (n : ℕ) (latest : Latest) → Read n [] latest [] n
-  reads-nil n latest = (n, latest, record { said = []; stated = []; tells = Tells-nil n latest; splits = sym (append-nil (ended latest)); are = refl }, omega arith)
+  reads-nil n latest = (n, latest, record { said = []; stated = []; tells = λ x. Tells-nil n latest; gives = λ x. x; splits = sym (append-nil (ended latest)); are = refl }, omega arith)
 
   Reads-trans : {n m k : ℕ} {text more : List ℕ} {a b c : Latest} {ss ts : List StatedEvent} → Reads n m text a b ss → Reads m k more b c ts → Reads n k (text ++ more) a c (ss ++ ts)
   Reads-trans {a = a} {b = b} {c = c} p q = record {
     said = p.said ++ q.said;
     stated = p.stated ++ q.stated;
-    tells = Tells-trans p.tells q.tells;
+    tells = λ x. Tells-trans (p.tells x) (q.tells (p.gives x));
+    gives = λ x. q.gives (p.gives x);
     splits = append_assoc p.said q.said (ended c) ∙ ap (λ xs. p.said ++ xs) q.splits ∙ sym (append_assoc p.said (ended b) q.stated)
         ∙ ap (λ xs. xs ++ q.stated) p.splits ∙ append_assoc (ended a) p.stated q.stated;
     are = map-append without_line p.stated q.stated ∙ (λ j. p.are j ++ q.are j);
@@ -125,7 +137,7 @@ module _ (most : ℕ) where
   reads-comment n line latest few is says = (
     n + 1,
     latest,
-    record { said = []; stated = []; tells = Tells-line n line latest latest [] few is.short is.feeds says; splits = sym (append-nil (ended latest)); are = refl },
+    record { said = []; stated = []; tells = λ x. Tells-line n line latest latest [] few is.short is.feeds says; gives = λ x. x; splits = sym (append-nil (ended latest)); are = refl },
     omega arith,
   )
 
@@ -134,11 +146,12 @@ module _ (most : ℕ) where
   reads-event n e latest few proper =
       let line = event-line e in (
         n + 1,
-        Some (placed (n + 1) e []),
+        Some (placed (n + 1) e 0 []),
         record {
           said = ended latest;
-          stated = placed (n + 1) e [] ∷ [];
-          tells = Tells-line n (event_text e) latest (Some (placed (n + 1) e [])) (ended latest) few line.short line.feeds (says-event (n + 1) latest (event_text e) e (event_read e proper));
+          stated = placed (n + 1) e 0 [] ∷ [];
+          tells = λ x. Tells-line n (event_text e) latest (Some (placed (n + 1) e 0 [])) (ended latest) few line.short line.feeds (says-event (n + 1) latest (event_text e) e (event_read e proper) x);
+          gives = λ x. refl;
           splits = refl;
           are = refl;
         },
@@ -171,35 +184,36 @@ module _ (most : ℕ) where
       on_bus A = refl
       on_bus B = refl
 
-  states-word : (n k : ℕ) (line : List ℕ) → can_answer event.Slot line ≡ true → line_says n (Some (placed k event.Slot [])) (codes "#> " ++ line) ≡ Ok (stays (Some (placed k event.Slot line)))
-  states-word n k line can = ap (λ b. or_misplaced n (if b then Some (placed k event.Slot line) else None)) can
+  states-word : (n k : ℕ) (line : List ℕ) → can_answer event.Slot line ≡ true → IsRead line → line_says n (Some (placed k event.Slot 0 [])) (codes "#> " ++ line) ≡ Ok (stays (Some (placed k event.Slot n line)))
+  states-word n k line can small = ap (λ text. or_misplaced n (states n Exact (Some (placed k event.Slot 0 [])) text)) small ∙ ap (λ b. or_misplaced n (if b then Some (placed k event.Slot n line) else None)) can
 
   -- what is stated of an ended slot is the word with its line feed
-  ended-word : (k : ℕ) (w : Sending) → map without_line (ended (Some (placed k event.Slot (word_line w)))) ≡ event_stating event.Slot (sent_text w) ∷ []
-  ended-word k w = on_bus w.bus w.kind
+  ended-word : (k m : ℕ) (w : Sending) → map without_line (ended (Some (placed k event.Slot m (word_line w)))) ≡ event_stating event.Slot (sent_text w) ∷ []
+  ended-word k m w = on_bus w.bus w.kind
     where
-      on_bus : (bus : Bus) (kind : Kind) → map without_line (ended (Some (placed k event.Slot (word_line (record w { bus = bus; kind = kind }))))) ≡ event_stating event.Slot (sent_text (record w { bus = bus; kind = kind })) ∷ []
+      on_bus : (bus : Bus) (kind : Kind) → map without_line (ended (Some (placed k event.Slot m (word_line (record w { bus = bus; kind = kind }))))) ≡ event_stating event.Slot (sent_text (record w { bus = bus; kind = kind })) ∷ []
       on_bus A Com = refl
       on_bus A Dat = refl
       on_bus B Com = refl
       on_bus B Dat = refl
 
-  reads-reply : (n : ℕ) (w : Sending) (latest : Latest) → n + 1 < most → Read n (codes "slot\n#> " ++ sent_text w) latest (event_stating event.Slot (sent_text w) ∷ []) (n + 2)
-  reads-reply n w latest few =
+  reads-reply : (n : ℕ) (w : Sending) (latest : Latest) → n + 1 < most → w.bits < 2 ^ 16 → Read n (codes "slot\n#> " ++ sent_text w) latest (event_stating event.Slot (sent_text w) ∷ []) (n + 2)
+  reads-reply n w latest few small =
       let slot : IsLine 64 (codes "slot") = within (omega arith) (literal (codes "slot") refl) in
       let line : IsLine 64 (codes "#> " ++ word_line w) = within (omega arith) (joined (codes "#> ") (word_line w) (literal (codes "#> ") refl) (word-line w)) in
-      let first = Tells-line n (codes "slot") latest (Some (placed (n + 1) event.Slot [])) (ended latest) (omega (arith, few)) slot.short slot.feeds
-      (says-event (n + 1) latest (codes "slot") event.Slot (event_read event.Slot tt)) in
-      let second = Tells-line (n + 1) (codes "#> " ++ word_line w) (Some (placed (n + 1) event.Slot [])) (Some (placed (n + 1) event.Slot (word_line w))) [] few line.short line.feeds
-      (states-word (n + 1 + 1) (n + 1) (word_line w) (can_send w)) in (
+      let first = λ (x : IsGiven latest). Tells-line n (codes "slot") latest (Some (placed (n + 1) event.Slot 0 [])) (ended latest) (omega (arith, few)) slot.short slot.feeds
+      (says-event (n + 1) latest (codes "slot") event.Slot (event_read event.Slot tt) x) in
+      let second = Tells-line (n + 1) (codes "#> " ++ word_line w) (Some (placed (n + 1) event.Slot 0 [])) (Some (placed (n + 1) event.Slot (n + 1 + 1) (word_line w))) [] few line.short line.feeds
+      (states-word (n + 1 + 1) (n + 1) (word_line w) (can_send w) (read-sent w.bus w.kind w.bits)) in (
         n + 1 + 1,
-        Some (placed (n + 1) event.Slot (word_line w)),
+        Some (placed (n + 1) event.Slot (n + 1 + 1) (word_line w)),
         record {
           said = ended latest ++ [];
-          stated = ended (Some (placed (n + 1) event.Slot (word_line w)));
-          tells = Tells-same (codes "slot\n#> " ++ sent_text w) (ap (λ xs. codes "slot\n" ++ xs) (fronted (codes "#> ") w)) (Tells-trans first second);
-          splits = ap (λ xs. xs ++ ended (Some (placed (n + 1) event.Slot (word_line w)))) (append-nil (ended latest));
-          are = ended-word (n + 1) w;
+          stated = ended (Some (placed (n + 1) event.Slot (n + 1 + 1) (word_line w)));
+          tells = λ x. Tells-same (codes "slot\n#> " ++ sent_text w) (ap (λ xs. codes "slot\n" ++ xs) (fronted (codes "#> ") w)) (Tells-trans (first x) second);
+          gives = λ x. given (placed (n + 1) event.Slot (n + 1 + 1) (word_line w)) (answer-possible (SendsWord w) small);
+          splits = ap (λ xs. xs ++ ended (Some (placed (n + 1) event.Slot (n + 1 + 1) (word_line w)))) (append-nil (ended latest));
+          are = ended-word (n + 1) (n + 1 + 1) w;
         },
         omega arith,
       )
@@ -259,7 +273,7 @@ module _ (most : ℕ) where
   reads-heard n (Gap bus) latest few words = reads-later (omega arith) (reads-event n (event.Gap bus) latest (omega (arith, few)) tt)
   reads-heard n (Word bus sync bits) latest few words = reads-later (omega arith) (reads-event n (event.Word bus (valid_word (kind_of_sync sync) bits)) latest (omega (arith, few)) words)
   reads-heard n (Noise bus) latest few words = reads-later (omega arith) (reads-event n (event.Noise bus) latest (omega (arith, few)) tt)
-  reads-heard n (Reply sent) latest few words = reads-reply n (shown_word sent) latest few
+  reads-heard n (Reply sent) latest few words = reads-reply n (shown_word sent) latest few words
   reads-heard n (Late sent) latest few words = reads-later (omega arith) (reads-late n (shown_word sent) latest (omega (arith, few)))
   reads-heard n Pause latest few words = reads-later (omega arith) (reads-nil n latest)
 
@@ -325,7 +339,7 @@ read_back most address ns are few =
     let all = reads-all most address [] ns 0 None are (omega (arith, few)) in
     let r = all.2 in record {
       stated = r.stated;
-      reads = Tells-all most r.tells ∙ ap Ok r.splits;
+      reads = Tells-all most (r.tells refl) (r.gives refl) ∙ ap Ok r.splits;
       slots = r.are;
       words = ap (filter is_spoken) r.are ∙ spoken address [] (map (λ n. n.heard) ns);
     }

@@ -62,13 +62,13 @@ recording_text address ns = recording_after address [] ns
 
 -- ---- what lines say
 
--- an event of which this is stated; on which line is left aside
+-- an event of which this is stated; on which lines is left aside
 abbrev pub event_stating : Event → List ℕ → StatedEvent
-event_stating e answer = record { line = 0; event = e; matching = Exact; answer = answer }
+event_stating e answer = record { line = 0; event = e; matching = Exact; answer_line = 0; answer = answer }
 
 -- the same of an event that was read
 abbrev pub without_line : StatedEvent → StatedEvent
-without_line s = record s { line = 0 }
+without_line s = record s { line = 0; answer_line = 0 }
 
 -- a slot in which nothing is sent
 abbrev pub silent_slot : Bool → List StatedEvent

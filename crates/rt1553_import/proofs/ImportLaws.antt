@@ -24,8 +24,8 @@ pub text_says : (s : Sheet) (text : List ℕ) (p : Profile) → parse_document t
 text_says s text p reads accepts = record { profile = p; accepts = accepts; gives = tree_same s text p reads accepts }
 
 -- another text that gives the same profile
-pub same_says : (s : Sheet) (text named : List ℕ) (p q : Profile) → parse_document text ≡ Some (table_tree s) → Accepts text p → Accepts named q → plain q ≡ plain p → SaysTable s named
-same_says s text named p q reads accepts back same = record { profile = q; accepts = back; gives = same ∙ tree_same s text p reads accepts }
+pub same_says : (s : Sheet) (text ordered : List ℕ) (p q : Profile) → parse_document text ≡ Some (table_tree s) → Accepts text p → Accepts ordered q → plain q ≡ plain p → SaysTable s ordered
+same_says s text ordered p q reads accepts back same = record { profile = q; accepts = back; gives = same ∙ tree_same s text p reads accepts }
 
 pub no_table : (text : List ℕ) (f : ImportFault) → IsNoTable text f → IsTableRefused text f
 no_table text (Faults faults) is = absurd is

@@ -67,7 +67,7 @@ fn is_no(text: &str) -> bool
 }
 
 /// The truth value that a text names, in any capitals.
-fn cell_truth(text: &str) -> Option<bool>
+pub fn cell_truth(text: &str) -> Option<bool>
     ensures { result ≡ cell_truth text.now }
 {
     if is_yes(text) {

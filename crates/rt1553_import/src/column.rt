@@ -19,7 +19,7 @@ pub enum TableColumn {
 }
 
 /// All the columns.
-pub const COLUMNS: [TableColumn; 9] = [
+pub const TABLE_COLUMNS: [TableColumn; 9] = [
     TableColumn::Kind,
     TableColumn::Value,
     TableColumn::Subaddress,

@@ -12,7 +12,6 @@ use crate::fault::{FaultyTable, ImportFault};
 use crate::reading::read_sheet;
 use crate::same::is_same_profile;
 use crate::sheet::Sheet;
-use crate::warnings::TableWarning;
 use bus_legal::Profile;
 use bus_profile::{ProfileFault, read_profile};
 use rt1553_files::PROFILE_BYTES;
@@ -25,8 +24,8 @@ use toml::ser::Error;
 pub struct Imported {
     /// The text of a profile.
     pub profile: String,
-    /// What of the table is worth a look.
-    pub warnings: Vec<TableWarning>,
+    /// The table.
+    pub sheet: Sheet,
 }
 
 /// A table's tree as a text.
@@ -51,16 +50,16 @@ fn profile_in(alloc: Global, text: &str) -> Result<Profile, AllocError>
     }
 }
 
-/// The text of the profile that a table says, whose text without names this is: with the names of its rows as comments, if
-/// that text is read as the same profile.
-fn named_text(alloc: Global, sheet: &Sheet, text: String) -> Result<String, AllocError>
+/// The text of the profile that a table says, of which this is a text: in the order of the table, with the names of its rows as comments, if
+/// that is read as the same profile.
+fn ordered_text(alloc: Global, sheet: &Sheet, text: String) -> Result<String, AllocError>
     requires { parse_document (string_bytes text) ≡ Some (table_tree sheet.now) }
-    ensures { IfOk result (λ named. SaysTable sheet.now (string_bytes named)) }
+    ensures { IfOk result (λ ordered. SaysTable sheet.now (string_bytes ordered)) }
 {
     let profile = profile_in(alloc, text.as_str())?;
-    let named = sheet.with_names(alloc, text.as_str())?;
-    match read_profile(alloc, named.as_str().as_bytes()) {
-        Ok(back) if is_same_profile(&back, &profile) => Ok(named),
+    let ordered = sheet.written(alloc)?;
+    match read_profile(alloc, ordered.as_str().as_bytes()) {
+        Ok(back) if is_same_profile(&back, &profile) => Ok(ordered),
         Err(ProfileFault::Memory) => Err(AllocError),
         _ => Ok(text),
     }
@@ -95,10 +94,9 @@ pub fn import_table(alloc: Global, text: &[u8]) -> Result<Imported, ImportFault>
 {
     let (sheet, root) = faultless_sheet(alloc, text)?;
     let plain = text_of(alloc, &sheet, &root)?;
-    let profile = named_text(alloc, &sheet, plain)?;
+    let profile = ordered_text(alloc, &sheet, plain)?;
     if profile.len() > PROFILE_BYTES {
         return Err(ImportFault::LongNames(sheet.longest_name()));
     }
-    let warnings = sheet.warnings(alloc)?;
-    Ok(Imported { profile, warnings })
+    Ok(Imported { profile, sheet })
 }

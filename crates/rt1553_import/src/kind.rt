@@ -24,7 +24,7 @@ pub enum RowKind {
 }
 
 /// All the kinds.
-pub const KINDS: [RowKind; 10] = [
+pub const ROW_KINDS: [RowKind; 10] = [
     RowKind::Address,
     RowKind::Broadcast,
     RowKind::Wraparound,
@@ -60,7 +60,7 @@ impl RowKind {
     pub fn of(text: &str) -> Option<RowKind>
         ensures { result ≡ row_kind text.now }
     {
-        for kind in KINDS {
+        for kind in ROW_KINDS {
             if is_alike(text, kind.name()) {
                 return Some(kind);
             }

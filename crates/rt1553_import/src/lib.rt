@@ -4,7 +4,6 @@
 mod alike;
 mod cells;
 mod column;
-mod comments;
 mod fault;
 mod importing;
 mod kind;
@@ -13,16 +12,14 @@ mod reading;
 mod same;
 mod sheet;
 mod table_faults;
-mod told;
 mod tree;
-mod warnings;
+mod writing;
 
 pub use alike::is_alike;
 pub use cells::cell_number;
-pub use column::TableColumn;
+pub use column::{TABLE_COLUMNS, TableColumn};
 pub use fault::{FaultyTable, ImportFault, TableFault, TableFaultKind};
 pub use importing::{Imported, faultless_sheet, import_table};
-pub use kind::RowKind;
+pub use kind::{ROW_KINDS, RowKind};
+pub use places::key_column;
 pub use sheet::{Sheet, TableRow};
-pub use told::told_text;
-pub use warnings::TableWarning;

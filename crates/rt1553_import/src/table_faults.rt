@@ -4,7 +4,7 @@ ghost use Rattle.rt1553_import.specs.Columns.{all_columns};
 ghost use Rattle.rt1553_import.specs.TableFaults.{fault_if_any, header_place, column_fault, no_kind_fault, header_faults, is_set_in, kind_fault, initial_fault, taken_fault, cell_fault, kind_faults, last_place, row_faults, rows_faults, table_faults};
 
 use crate::cells::{cell_number, cell_words};
-use crate::column::{COLUMNS, TableColumn};
+use crate::column::{TABLE_COLUMNS, TableColumn};
 use crate::fault::{TableFault, TableFaultKind};
 use crate::kind::RowKind;
 use crate::sheet::{Sheet, TableRow, place_from};
@@ -68,7 +68,7 @@ impl Sheet {
     {
         let mut faults = Vec::new(alloc);
         push_some(&mut faults, self.no_kind_fault())?;
-        for column in COLUMNS {
+        for column in TABLE_COLUMNS {
             push_some(&mut faults, self.column_fault(column))?;
         }
         Ok(faults)
@@ -171,7 +171,7 @@ impl Sheet {
     ) -> Result<(), AllocError>
         ensures { OnOk result (faults.new.items ≡ faults.old.items ++ flat_map (λ c. fault_if_any (cell_fault self.now before.now row.now kind c)) all_columns) }
     {
-        for column in COLUMNS {
+        for column in TABLE_COLUMNS {
             push_some(faults, self.cell_fault(alloc, before, row, kind, column)?)?;
         }
         Ok(())

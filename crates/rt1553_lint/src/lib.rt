@@ -3,6 +3,7 @@
 
 mod errors;
 mod finding;
+mod hint;
 mod lines;
 mod linting;
 mod places;

@@ -12,6 +12,7 @@ ghost use Rattle.rt1553_lint.specs.Standing.{IsPlaced};
 
 use crate::errors::errors_of;
 use crate::finding::{Finding, LintFault};
+use crate::hint::hint_of;
 use crate::lines::position_at;
 use crate::places::{Places, places_of};
 use crate::positions::{canon_position, with_positions};
@@ -101,11 +102,12 @@ fn syntax_finding(alloc: Global, text: &[u8], error: &Error) -> Result<Finding, 
         unreachable!();
     };
     let fault = ProfileFault::NotToml;
+    let hint = hint_of(text, error.message(), span.start);
     Ok(Finding {
         position: Some(position_at(text, span.start)),
         fault: Some(LintFault::Profile(fault)),
         spare: None,
-        message: format!(in alloc; "{fault}: {}", ShownMessage(error.message()))?,
+        message: format!(in alloc; "{fault}: {}{hint}", ShownMessage(error.message()))?,
     })
 }
 

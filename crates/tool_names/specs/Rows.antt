@@ -1,9 +1,8 @@
 -- What the rows of a table are the names of.
-use Rattle.std.specs.Prelude.{ℕ, Bool, true, false, ◌||◌, if◌then◌else◌, List, Option, Some, None, codes}
+use Rattle.std.specs.Prelude.{ℕ, Bool, true, false, ◌||◌, if◌then◌else◌, List, [], ◌∷◌, ◌++◌, Option, Some, None, codes}
 use Rattle.std.specs.Str.{str_eq_ignore_ascii_case}
 use Rattle.message_names.specs.declared.cells.NamedCells.{NamedCells}
 use Rattle.message_names.specs.NameRow.{NameRow}
-use Rattle.message_names.specs.Names.{with_row}
 use Rattle.rt1553_import.specs.declared.column.TableColumn.TheVariants as column
 use Rattle.rt1553_import.specs.declared.kind.RowKind.{RowKind}
 use Rattle.rt1553_import.specs.declared.kind.RowKind.TheVariants as kind
@@ -49,9 +48,10 @@ cells_of sheet row k = record {
   codes = if_so (is_mode_kind k) (numbers_named 0 31 (cell sheet row column.Code));
 }
 
--- names, with that of a row of this kind behind them: settings have none
+-- names, with that of a row of this kind behind them, which may be empty: settings have none
 abbrev pub with_kind : List NameRow → Sheet → TableRow → RowKind → List NameRow
-with_kind names sheet row k = if is_setting k then names else with_row names (cell sheet row column.Name) (cells_of sheet row k)
+with_kind names sheet row k =
+    if is_setting k then names else names ++ record { name = cell sheet row column.Name; cells = cells_of sheet row k } ∷ []
 
 -- the same, where the kind of the row is known; else no name is added
 abbrev pub with_kind_if : List NameRow → Sheet → TableRow → Option RowKind → List NameRow

@@ -6,7 +6,11 @@ mod numbers;
 mod reading;
 mod rows;
 mod table;
+mod table_texts;
+mod warnings;
 
 pub use names::{LoadedNames, load_names, load_names_file, name_of_command};
 pub use reading::names_in;
 pub use table::table_fault;
+pub use table_texts::told_text;
+pub use warnings::{TableWarning, table_warnings};

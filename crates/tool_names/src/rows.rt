@@ -59,7 +59,7 @@ fn cells_of(sheet: &Sheet, row: &TableRow, kind: RowKind) -> NamedCells
     }
 }
 
-/// Adds a row of this kind, if it is one of messages and has a name.
+/// Adds a row of this kind, if it is one of messages.
 fn add_kind(
     alloc: Global,
     names: &mut MessageNames,
@@ -76,7 +76,7 @@ fn add_kind(
     names.add(name, cells_of(sheet, row, kind))
 }
 
-/// Adds a row of a table, if it is one of messages and has a name.
+/// Adds a row of a table, if it is one of messages.
 pub fn add_row(
     alloc: Global,
     names: &mut MessageNames,

@@ -2,7 +2,8 @@
 ghost use Rattle.std.specs.Prelude.{◌≡◌};
 ghost use Rattle.tool_files.specs.Status.{RefusesText};
 
-use rt1553_import::{FaultyTable, ImportFault, told_text};
+use crate::table_texts::told_text;
+use rt1553_import::{FaultyTable, ImportFault};
 use tool_files::{ToolFault, refused_file, shown};
 
 /// The fault of a table that has faults.

@@ -28,7 +28,7 @@ fn groups_text(
 }
 
 /// Writes in what two profiles differ. The status tells whether they do.
-fn put_pair<R: AllocGlobal, W: Write>(
+pub fn put_pair<R: AllocGlobal, W: Write>(
     rt: &R,
     pair: &Pair<'_>,
     scripts: bool,

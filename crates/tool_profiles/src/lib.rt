@@ -11,6 +11,6 @@ mod profile_toml;
 pub use differ::differ_profiles;
 pub use explain::explain_profile;
 pub use export::export_file;
-pub use import::import_file;
+pub use import::{check_import, import_file};
 pub use lint::lint_files;
 pub use profile_toml::write_toml;

@@ -1,11 +1,13 @@
-use Rattle.std.proofs.Common.{refl, inl, inr, subst, string_bytes}
-use Rattle.rt1553_import.specs.Import.{IsImportRefused}
+use Rattle.std.proofs.Common.{refl, inl, inr, subst, string_bytes, option_map}
+use Rattle.tool_profiles.specs.Found.{IsReadTable}
 use Rattle.tool_profiles.proofs.import.import_file.Goals as goal
 
-pub returns-in-Ok : goal.returns-in-Ok
-returns-in-Ok g c = (c.as_slice.result.now, inl (string_bytes c.in-Ok.imported.profile, c.in-Ok.ensures.imported, refl))
+pub returns-in-Some : goal.returns-in-Some
+returns-in-Some g c =
+    let read = subst (λ o. IsReadTable c.as_slice.result.now (option_map string_bytes o)) c.in-Some.is c.in_ok-profile.ensures in
+    (c.as_slice.result.now, inl (string_bytes c.in-Some.profile, read, refl))
 
-pub returns-in-Err-Faults : goal.returns-in-Err-Faults
-returns-in-Err-Faults g c =
-    let has = subst (IsImportRefused c.as_slice.result.now) c.in-Err-Faults.field-0-is c.in-Err-Faults.ensures.refused in
-    (c.as_slice.result.now, inr (c.in-Err-Faults.faulty, has, refl))
+pub returns : goal.returns
+returns g c =
+    let read = subst (λ o. IsReadTable c.as_slice.result.now (option_map string_bytes o)) c.in-None.is c.in_ok-profile.ensures in
+    (c.as_slice.result.now, inr (read.0, read.1, refl))
