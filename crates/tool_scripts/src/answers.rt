@@ -22,6 +22,7 @@ fn fault_in_file(script: &LoadedScript, fault: StatedFault) -> StatedFault
 {
     match fault {
         StatedFault::Misplaced(line) => StatedFault::Misplaced(script.line_in_file(line)),
+        StatedFault::Impossible(line) => StatedFault::Impossible(script.line_in_file(line)),
         StatedFault::Mistyped(line, column) => {
             StatedFault::Mistyped(script.line_in_file(line), column)
         }

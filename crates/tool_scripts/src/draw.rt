@@ -1,18 +1,22 @@
 //! The command `draw`: a run as a drawing.
-ghost use Rattle.std.specs.Prelude.{◌≡◌, IfOk, List, ℕ, None};
+ghost use Rattle.std.specs.Prelude.{◌≡◌, IfOk, OnOk, List, ℕ, None};
 ghost use Rattle.script_lines.specs.Text.{lines_of};
 ghost use Rattle.bus_script.specs.Reading.{reading};
-ghost use Rattle.rt1553_draw.specs.Refused.{refusal};
+ghost use Rattle.drawing_boxes.specs.Refused.{refusal};
 ghost use Rattle.tool_files.specs.declared.loaded.LoadedScript.{LoadedScript};
 ghost use Rattle.tool_files.specs.Loaded.{IsScriptOf};
 ghost use Rattle.tool_files.specs.Status.{RefusesText};
 
+use crate::draw_list::messages_list;
 use bus_legal::Normal;
 use bus_script::RunFault;
+use drawing_boxes::DrawFault;
 use message_names::MessageNames;
+use report_pages::{RESULTS_STYLE, push_list_code};
 use rt1553_differ::explain;
-use rt1553_draw::{DrawFault, draw, draw_folded, page_of};
+use rt1553_draw::{PageParts, draw, draw_folded, page_with};
 use rt1553_tool_args::AskedDrawing;
+use std::alloc::Global;
 use std::io::Write;
 use std::rt::Files;
 use tool_files::{
@@ -31,7 +35,36 @@ fn drawing_fault<R: AllocGlobal>(rt: &R, name: &str, fault: DrawFault) -> ToolFa
     }
 }
 
-/// The drawing of a run, by the script of the file of this name; message by message where it is `folded`.
+/// What a run is drawn as.
+#[derive(Drop)]
+struct DrawnRun {
+    drawing: String,
+    /// The list of its messages, where it is drawn message by message, else empty.
+    list: String,
+}
+
+/// Draws a run by a script; message by message, and with the list of its messages, where it is `folded`.
+fn drawn_run(
+    alloc: Global,
+    normal: &Normal,
+    names: Option<&MessageNames>,
+    script: &[u8],
+    folded: bool,
+) -> Result<DrawnRun, DrawFault>
+    ensures drawn { OnOk result (refusal (reading 0 (lines_of script.now)) ≡ None) }
+{
+    if folded {
+        let drawing = draw_folded(alloc, normal, names, script)?;
+        let list = messages_list(alloc, normal, names, script)?;
+        return Ok(DrawnRun { drawing, list });
+    }
+    Ok(DrawnRun {
+        drawing: draw(alloc, normal, names, script)?,
+        list: String::new(alloc),
+    })
+}
+
+/// What a run is drawn as, by the script of the file of this name; message by message where it is `folded`.
 fn draw_file<R: Files + AllocGlobal>(
     rt: &R,
     normal: &Normal,
@@ -39,18 +72,13 @@ fn draw_file<R: Files + AllocGlobal>(
     name: &str,
     expand_for: Option<u8>,
     folded: bool,
-) -> Result<String, ToolFault>
-    ensures { IfOk result (λ drawing. (text : List ℕ) × (script : LoadedScript) × IsScriptOf expand_for text script × (refusal (reading 0 (lines_of script.text.items)) ≡ None)) }
+) -> Result<DrawnRun, ToolFault>
+    ensures { IfOk result (λ drawn. (text : List ℕ) × (script : LoadedScript) × IsScriptOf expand_for text script × (refusal (reading 0 (lines_of script.text.items)) ≡ None)) }
 {
     let script = load_script(rt, name, expand_for)?;
     let script = script.text.as_slice();
-    let drawn = if folded {
-        draw_folded(rt.alloc(), normal, names, script)
-    } else {
-        draw(rt.alloc(), normal, names, script)
-    };
-    match drawn {
-        Ok(drawing) => Ok(drawing),
+    match drawn_run(rt.alloc(), normal, names, script, folded) {
+        Ok(run) => Ok(run),
         Err(fault) => {
             let told = drawing_fault(rt, name, fault);
             Err(match fault {
@@ -63,16 +91,24 @@ fn draw_file<R: Files + AllocGlobal>(
     }
 }
 
-/// The drawings of a run as a page of its own, with the table of what its terminal does.
+/// The drawings of a run as a page of its own, with the list of its messages above them and the table of what its terminal does below.
 fn page<R: AllocGlobal>(
     rt: &R,
     normal: &Normal,
     names: Option<&MessageNames>,
     title: &str,
-    drawings: &str,
+    run: &DrawnRun,
 ) -> Result<String, ToolFault> {
     let table = explain(rt.alloc(), normal, names)?;
-    Ok(page_of(rt.alloc(), title, drawings, table.as_str())?)
+    let mut code = String::new(rt.alloc());
+    push_list_code(&mut code)?;
+    let parts = PageParts {
+        style: RESULTS_STYLE,
+        head: run.list.as_str(),
+        table: table.as_str(),
+        foot: code.as_str(),
+    };
+    Ok(page_with(rt.alloc(), title, run.drawing.as_str(), parts)?)
 }
 
 /// Writes the drawing of a run; as a page of its own where that is asked for.
@@ -87,14 +123,14 @@ pub fn draw_run<R: Files + AllocGlobal + Eprint, W: Write>(
     let names = load_names(rt, asked.names, &[normal.address()])?;
     let names = names.as_ref();
     let expand_for = asked.expand.then_some(normal.address());
-    let drawing = draw_file(rt, &normal, names, asked.script, expand_for, asked.html)?;
+    let run = draw_file(rt, &normal, names, asked.script, expand_for, asked.html)?;
     if asked.html {
         let (profile, script) = (shown(rt, asked.profile)?, shown(rt, asked.script)?);
         let title = format!(in rt.alloc(); "{profile}: {script}")?;
-        let page = page(rt, &normal, names, title.as_str(), drawing.as_str())?;
+        let page = page(rt, &normal, names, title.as_str(), &run)?;
         write_bytes(output, page.as_str().as_bytes())?;
     } else {
-        write_bytes(output, drawing.as_str().as_bytes())?;
+        write_bytes(output, run.drawing.as_str().as_bytes())?;
     }
     Ok(0)
 }

@@ -2,7 +2,9 @@
 #![tactic(auto)]
 
 mod answers;
+mod bus;
 mod draw;
+mod draw_list;
 mod expand;
 mod gather;
 mod live;
@@ -15,6 +17,7 @@ mod script_file;
 mod words;
 
 pub use answers::state_in_file;
+pub use bus::play_bus;
 pub use draw::draw_run;
 pub use expand::expand_file;
 pub use gather::gather_script;

@@ -1,0 +1,5 @@
+pub mod BusLine
+pub mod BusTexts
+pub mod BusReading
+pub mod Playing
+pub mod inner

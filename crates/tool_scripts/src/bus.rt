@@ -1,0 +1,223 @@
+//! The command `bus`: a script that is played to the terminals of several profiles, on one bus.
+ghost use Rattle.std.specs.Prelude.{◌≡◌, ◌≤◌, IfOk};
+
+use crate::refused_profile::{NamedBytes, refused_profile};
+use refused_lines::{first_line, misfit_of};
+use rt1553::{Normal, load};
+use rt1553_tool_args::AskedBus;
+use script_terminals::{
+    BusLineFault, BusScriptFault, BusTold, BusWarning, address_first, play_on_bus,
+};
+use std::alloc::{AllocError, Global};
+use std::io::Write;
+use std::rt::Files;
+use terminal_bus::{Breach, TerminalBus};
+use tool_files::{ToolFault, read_script_file, read_tool_profile, shown, write_bytes};
+
+/// The terminals of profiles, in their order.
+fn load_all<R: Files + AllocGlobal>(rt: &R, names: &[&str]) -> Result<Vec<Normal>, ToolFault> {
+    let mut normals = Vec::new(rt.alloc());
+    for name in names {
+        let text = read_tool_profile(rt, name)?;
+        let bytes = text.as_slice();
+        match load(rt.alloc(), bytes) {
+            Ok(normal) => normals.push(normal)?,
+            Err(fault) => return Err(refused_profile(rt, NamedBytes { name, bytes }, fault)),
+        }
+    }
+    Ok(normals)
+}
+
+/// What is printed of profiles that have the same address, without a line feed.
+fn told_of_same<R: AllocGlobal>(
+    rt: &R,
+    names: &[&str],
+    normals: &[Normal],
+    address: u8,
+) -> Result<String, ToolFault> {
+    let mut told = String::new(rt.alloc());
+    for (name, normal) in names.iter().zip(normals) {
+        if normal.address() == address {
+            if !told.is_empty() {
+                told.push_str(" and ")?;
+            }
+            told.push_str(shown(rt, name)?.as_str())?;
+        }
+    }
+    write!(
+        told,
+        ": the same address, {address:02}; on a bus each terminal has its own"
+    )?;
+    Ok(told)
+}
+
+/// Adds the terminals of profiles with this address, of which there is one at most.
+fn add_at<R: AllocGlobal>(
+    rt: &R,
+    bus: &mut TerminalBus<Normal>,
+    names: &[&str],
+    normals: &[Normal],
+    address: u8,
+) -> Result<(), ToolFault> {
+    for normal in normals {
+        if normal.address() == address && bus.add(normal.setup(), *normal).is_err() {
+            return Err(ToolFault::Refused(told_of_same(rt, names, normals, address)?));
+        }
+    }
+    Ok(())
+}
+
+/// A bus of the terminals of profiles, in the order of their addresses.
+fn bus_of<R: AllocGlobal>(
+    rt: &R,
+    names: &[&str],
+    normals: &[Normal],
+) -> Result<TerminalBus<Normal>, ToolFault> {
+    let mut bus = TerminalBus::new();
+    for address in 0..31u8 {
+        add_at(rt, &mut bus, names, normals, address)?;
+    }
+    Ok(bus)
+}
+
+/// What is to be told: of the terminal of this address alone, if one is given.
+fn told_of<R: AllocGlobal>(
+    rt: &R,
+    bus: &TerminalBus<Normal>,
+    alone: Option<u8>,
+) -> Result<BusTold, ToolFault> {
+    let Some(address) = alone else {
+        return Ok(BusTold::Answers);
+    };
+    for place in 0..bus.len() {
+        if let Some(it) = bus.answer(place) {
+            if it.address == address {
+                return Ok(BusTold::CameTo(place));
+            }
+        }
+    }
+    let told = format!(in rt.alloc(); "--alone: no profile has address {address:02}")?;
+    Err(ToolFault::Refused(told))
+}
+
+/// Warns, on the standard error, of lines that break the discipline of a controller.
+fn warn<R: AllocGlobal + Eprint>(
+    rt: &R,
+    name: &str,
+    warnings: &[BusWarning],
+) -> Result<(), ToolFault> {
+    let name = shown(rt, name)?;
+    for warning in warnings {
+        let line = warning.line;
+        let _ = match warning.breach {
+            Breach::GapDuringReply(address) => eprintln!(rt;
+                "{name}:{line}: warning: a gap while terminal {address:02} replies: another terminal can begin its reply"
+            ),
+            Breach::CommandToAwaited(address) => eprintln!(rt;
+                "{name}:{line}: warning: a command to terminal {address:02}, for whose status word another terminal waits, which takes it for that"
+            ),
+            Breach::NotOnBus => eprintln!(rt; "{name}:{line}: warning: no word, noise or gap"),
+        };
+    }
+    Ok(())
+}
+
+/// The line of this number, from 1; empty where there is none.
+fn line_at(script: &[u8], number: u64) -> &[u8] {
+    let mut rest = script;
+    for _before in 1..number {
+        if rest.is_empty() {
+            return rest;
+        }
+        rest = first_line(rest).1;
+    }
+    if rest.is_empty() {
+        return rest;
+    }
+    first_line(rest).0
+}
+
+/// Why a line is refused, behind its number: the column, and the reason in words.
+fn reason_of(alloc: Global, line: &[u8], fault: BusLineFault) -> Result<String, AllocError> {
+    match fault {
+        BusLineFault::NoAddress => format!(in alloc;
+            "1: error: a line of a subsystem begins with the address of its terminal, in two digits"
+        ),
+        BusLineFault::NotOfSubsystem => format!(in alloc;
+            "1: error: an address stands only in front of write, vector, bit or flag"
+        ),
+        BusLineFault::HighAddress(address) => format!(in alloc;
+            "1: error: no terminal has address {address}: addresses are 00 to 30"
+        ),
+        BusLineFault::NoTerminal(address) => format!(in alloc;
+            "1: error: no profile has address {address:02}"
+        ),
+        BusLineFault::Long | BusLineFault::NoLine => misfit_text(alloc, line),
+    }
+}
+
+/// What stands behind the address of a line, if one is in front, and how many bytes stand before that.
+fn behind_address(line: &[u8]) -> (usize, &[u8])
+    ensures { result.0 ≤ 3 }
+{
+    if address_first(line).is_some() && line.len() >= 3 {
+        (3, &line[3..])
+    } else {
+        (0, line)
+    }
+}
+
+/// Where a line that is none stops being one, and why.
+fn misfit_text(alloc: Global, line: &[u8]) -> Result<String, AllocError> {
+    let (front, rest) = behind_address(line);
+    match misfit_of(rest) {
+        Some(misfit) => {
+            let column = misfit.column + front;
+            format!(in alloc; "{column}: error: {}", misfit.reason)
+        }
+        None => format!(in alloc; "1: error: no line of a script"),
+    }
+}
+
+/// The fault of a script that is not played to its end.
+fn refused_script<R: AllocGlobal>(
+    rt: &R,
+    name: &str,
+    script: &[u8],
+    fault: BusScriptFault,
+) -> Result<ToolFault, ToolFault> {
+    let name = shown(rt, name)?;
+    let told = match fault {
+        BusScriptFault::Line(number, fault) => {
+            let reason = reason_of(rt.alloc(), line_at(script, number), fault)?;
+            format!(in rt.alloc(); "{name}:{number}:{reason}")?
+        }
+        BusScriptFault::TooLong => format!(in rt.alloc();
+            "{name}:1048577:1: error: a script has at most 1,048,576 lines"
+        )?,
+    };
+    Ok(ToolFault::Refused(told))
+}
+
+/// Plays the script of a file to the terminals of profiles on one bus, and writes the transcript, or what comes to one of them. Of a
+/// script that is refused, that of the lines before is written. The status is 0.
+pub fn play_bus<R: Files + AllocGlobal + Eprint, W: Write>(
+    rt: &R,
+    asked: AskedBus<'_>,
+    names: &[&str],
+    output: &mut W,
+) -> Result<u8, ToolFault>
+    ensures { IfOk result (λ status. status ≡ 0) }
+{
+    let normals = load_all(rt, names)?;
+    let script = read_script_file(rt, asked.script)?;
+    let mut bus = bus_of(rt, names, normals.as_slice())?;
+    let told = told_of(rt, &bus, asked.alone)?;
+    let played = play_on_bus(rt.alloc(), &mut bus, script.as_slice(), told)?;
+    warn(rt, asked.script, played.warnings.as_slice())?;
+    write_bytes(output, played.text.as_slice())?;
+    match played.fault {
+        Some(fault) => Err(refused_script(rt, asked.script, script.as_slice(), fault)?),
+        None => Ok(0),
+    }
+}

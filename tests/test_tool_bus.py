@@ -1,0 +1,113 @@
+"""`rt1553-tool bus`: a transfer, collisions, warnings and faults, and each terminal alone against `run`, over random scripts."""
+
+import random
+
+import pytest
+from programs import TOP, Row, check_row, run, with_files, write_files
+
+RULES = "".join(f"[[rule]]\ndirection = \"{it}\"\nsubaddresses = {s}\ncounts = 1\n" for it, s in (("receive", 1), ("transmit", 2)))
+FILES = {"five": f"address = 5\n{RULES}", "six": f"address = 6\n{RULES}", "again": "address = 5\n", "none": "address = 31\n"}
+TRANSFER = "05 write 02 01 5201\nA c 3021\nA c 2c41\nA gap\nslot\nslot\nA gap\nslot\n"
+TRANSCRIPT = "05 A s 2800\n05 A d 5201\n06 hand receive own 01 5201\n06 A s 3000\n"
+
+
+def refused(name, line, told):
+    """A script whose second line is refused."""
+    return Row(name, "bus six five script", 2, "", f"script:2:{told}\n", files={"script": f"# so\n{line}\nA gap\n"})
+
+
+ROWS = with_files(
+    FILES,
+    Row("a transfer", "bus five six script", 0, TRANSCRIPT, files={"script": TRANSFER}),
+    Row("a transfer: the order of the profiles is none of the transcript", "bus six five script", 0, TRANSCRIPT, files={"script": TRANSFER}),
+    Row("a terminal alone", "bus five six script --alone 06", 0,
+        "A c 3021\nA c 2c41\nA gap\nslot\nA c 2800\nslot\nA d 5201\nA gap\nslot\n", files={"script": TRANSFER}),
+    Row("words that collide", "bus five six script", 0,
+        "05 B s 2800\n06 B s 3000\nB collision\n",
+        "script:4: warning: a gap while terminal 05 replies: another terminal can begin its reply\n",
+        files={"script": "B c 2c41\nB gap\nB c 3441\nB gap\nslot\n"}),
+    Row("a command that is taken for a status word", "bus five six script", 0, "",
+        "script:4: warning: a command to terminal 05, for whose status word another terminal waits, which takes it for that\n",
+        files={"script": "A c 3021\nA c 2c41\nA gap\nA c 2821\n"}),
+    refused("no address", "bit 0001", "1: error: a line of a subsystem begins with the address of its terminal, in two digits"),
+    refused("an address in front of a gap", "05 A gap", "1: error: an address stands only in front of write, vector, bit or flag"),
+    refused("an address in front of nothing", "05 ", "1: error: an address stands only in front of write, vector, bit or flag"),
+    refused("an address over 30", "31 bit 0001", "1: error: no terminal has address 31: addresses are 00 to 30"),
+    refused("an address of no profile", "07 bit 0001", "1: error: no profile has address 07"),
+    refused("no line of a script", "A gup", "3: error: after a bus, c, d, gap or noise is expected"),
+    refused("no line behind an address", "05 bit 001", "11: error: a word is four hexadecimal digits, without a mark"),
+    refused("a line of 65 bytes", "#" * 65, "65: error: over 64 bytes before the line feed"),
+    Row("what comes before a refused line", "bus five script", 2, "05 A s 2800\n", "script:4:1: error: no profile has address 06\n",
+        files={"script": "A c 2c41\nA gap\nslot\n06 bit 0001\n"}),
+    Row("too many lines", "bus five script", 2, "", "script:1048577:1: error: a script has at most 1,048,576 lines\n",
+        files={"script": "\n" * 1048577}),
+    Row("two profiles of one address", "bus five six again script", 2, "",
+        "five and again: the same address, 05; on a bus each terminal has its own\n", files={"script": ""}),
+    Row("a profile that is refused", "bus five none script", 2, "",
+        "none:1:1: error: profile: root: address is out of range: 31; allowed is a whole number from 0 to 30\n", files={"script": ""}),
+    Row("no script of this name", "bus five script", 4, "", "file: cannot read script: no such file\n"),
+    Row("no terminal alone", "bus five script --alone 7", 2, "", "--alone: no profile has address 07\n", files={"script": ""}),
+)  # fmt: skip
+
+
+@pytest.mark.parametrize("row", ROWS, ids=lambda row: row.name)
+def test_bus(tool, row, tmp_path):
+    check_row(tool, row, tmp_path)
+
+
+@pytest.mark.parametrize("words", ["bus", "bus five", "bus five script --alone 31", "bus five script --alone all"])
+def test_arguments_that_are_refused(tool, words, tmp_path):
+    write_files(tmp_path, {**FILES, "script": ""})
+    assert run(tool, *words.split(), folder=tmp_path).status == 3
+
+
+def random_lines(draw, addresses):
+    """Lines of a script, most of which are of messages to these terminals."""
+    for _ in range(draw.randrange(5, 60)):
+        bus, address = draw.choice("AAAB"), draw.choice([*addresses, *addresses, 31])
+        word = address << 11 | draw.choice([0, 1]) << 10 | draw.choice([1, 2, 3]) << 5 | draw.choice([1, 1, 2])
+        kind = draw.randrange(12)
+        if kind < 4:
+            yield f"{bus} c {word:04x}" + draw.choice(["", "", "", "", " 0", " 1"])
+        elif kind < 6:
+            yield f"{bus} d {draw.randrange(65536):04x}"
+        elif kind < 8:
+            yield f"{bus} gap"
+        elif kind < 10:
+            yield "slot"
+        elif kind == 10:
+            yield f"{bus} noise"
+        else:
+            event = f"write 0{draw.randrange(1, 4)} 0{draw.randrange(1, 3)} {draw.randrange(65536):04x}"
+            yield f"{draw.choice(addresses):02} {draw.choice([event, 'flag busy 1', 'flag busy 0', 'flag service 1'])}"
+
+
+def random_profile(draw, address):
+    """A profile with a few rules."""
+    rules = [f"[[rule]]\ndirection = \"{it}\"\nsubaddresses = {s}\ncounts = \"1-{draw.choice([1, 2])}\"\n"
+             for it in ("receive", "transmit") for s in (1, 2, 3) if draw.randrange(3)]  # fmt: skip
+    return f"address = {address}\nbroadcast = {draw.choice(['true', 'false'])}\n{''.join(rules)}"
+
+
+@pytest.mark.parametrize("seed", range(60))
+def test_each_terminal_answers_as_alone(tool, seed, tmp_path):
+    """What comes to a terminal of the bus, played by `run`, gives just the lines of that terminal."""
+    draw = random.Random(seed)
+    addresses = draw.sample(range(31), draw.randrange(2, 6))
+    write_files(tmp_path, {f"p{it}": random_profile(draw, it) for it in addresses})
+    profiles = [f"p{it}" for it in addresses]
+    for _ in range(4):
+        write_files(tmp_path, {"script": "".join(f"{it}\n" for it in random_lines(draw, addresses))})
+        together = run(tool, "bus", *profiles, "script", folder=tmp_path)
+        assert together.status == 0
+        for address in addresses:
+            own = [it[3:] for it in together.output.decode().splitlines() if it.startswith(f"{address:02} ")]
+            alone = run(tool, "bus", *profiles, "script", "--alone", f"{address}", folder=tmp_path)
+            write_files(tmp_path, {"alone": alone.output})
+            assert run(tool, "run", f"p{address}", "alone", folder=tmp_path).output.decode().splitlines() == own
+
+
+@pytest.mark.parametrize("script", sorted(it.name for it in (TOP / "examples/bus").glob("*.script")))
+def test_examples(tool, script):
+    given = run(tool, "bus", "examples/bus/pump.toml", "examples/bus/valve.toml", f"examples/bus/{script}", folder=TOP)
+    assert given.status == 0 and (b"warning" in given.errors) == (script != "transfer.script")
