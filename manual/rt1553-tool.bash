@@ -3,10 +3,11 @@ _rt1553_tool() {
     local now=${COMP_WORDS[COMP_CWORD]} before=${COMP_WORDS[COMP_CWORD - 1]} flags='' kinds=() many='' count=0 index kind
     COMPREPLY=()
     if ((COMP_CWORD == 1)); then
-        mapfile -t COMPREPLY < <(compgen -W 'check canon compare run lint check-script verify answers recording coverage infer import export expand toml explain differ acceptance messages draw words live --help --version' -- "$now")
+        mapfile -t COMPREPLY < <(compgen -W 'check canon compare run bus lint check-script verify answers recording coverage infer import export expand toml explain differ acceptance messages draw words live --help --version' -- "$now")
         return
     fi
     case ${COMP_WORDS[1]}:$before in
+        bus:--alone) return ;;
         lint:--format) mapfile -t COMPREPLY < <(compgen -W 'text json sarif' -- "$now"); return ;;
         verify:--profiles) mapfile -t COMPREPLY < <(compgen -d -- "$now"); return ;;
         verify:--format) mapfile -t COMPREPLY < <(compgen -W 'text json junit html' -- "$now"); return ;;
@@ -26,8 +27,9 @@ _rt1553_tool() {
         differ:--format) mapfile -t COMPREPLY < <(compgen -W 'text json' -- "$now"); return ;;
         differ:--names) mapfile -t COMPREPLY < <(compgen -f -X '!*.csv' -- "$now"; compgen -d -- "$now"); return ;;
         acceptance:--against) mapfile -t COMPREPLY < <(compgen -f -X '!*.csv' -- "$now"; compgen -d -- "$now"); return ;;
-        acceptance:--format) mapfile -t COMPREPLY < <(compgen -W 'text csv json' -- "$now"); return ;;
+        acceptance:--format) mapfile -t COMPREPLY < <(compgen -W 'text csv json junit html' -- "$now"); return ;;
         acceptance:--names) mapfile -t COMPREPLY < <(compgen -f -X '!*.csv' -- "$now"; compgen -d -- "$now"); return ;;
+        acceptance:--date) return ;;
         messages:--rt) return ;;
         messages:--subaddress) return ;;
         messages:--format) mapfile -t COMPREPLY < <(compgen -W 'text csv json messages' -- "$now"); return ;;
@@ -39,6 +41,7 @@ _rt1553_tool() {
         canon) flags='--help' kinds=(profile) many='' ;;
         compare) flags='--help' kinds=(profile profile) many='' ;;
         run) flags='--help' kinds=(profile script) many='' ;;
+        bus) flags='--alone --help' kinds=(profile script) many='profile' ;;
         lint) flags='--format --help' kinds=(profile) many='profile' ;;
         check-script) flags='--help' kinds=(script) many='script' ;;
         verify) flags='--summary --bus-only --any-subsystem --already-on --witness --expand --profiles --format --names --date --help' kinds=(profile script) many='script' ;;
@@ -46,13 +49,13 @@ _rt1553_tool() {
         recording) flags='--address --gap --no-response --pause --help' kinds=(table) many='' ;;
         coverage) flags='--expand --format --names --help' kinds=(profile script) many='script' ;;
         infer) flags='--address --unseen --expand --help' kinds=(script) many='' ;;
-        import) flags='--help' kinds=(table) many='' ;;
+        import) flags='--check --help' kinds=(table profile) many='' ;;
         export) flags='--help' kinds=(profile) many='' ;;
         expand) flags='--for --help' kinds=(messages) many='' ;;
         toml) flags='--help' kinds=(profile) many='' ;;
         explain) flags='--format --names --help' kinds=(profile) many='' ;;
         differ) flags='--scripts --format --names --help' kinds=(profile profile) many='' ;;
-        acceptance) flags='--against --any-subsystem --format --names --help' kinds=(profile) many='' ;;
+        acceptance) flags='--against --any-subsystem --format --names --date --help' kinds=(profile) many='' ;;
         messages) flags='--expand --rt --subaddress --errors --format --names --help' kinds=(profile script) many='' ;;
         draw) flags='--expand --html --names --help' kinds=(profile script) many='' ;;
         words) flags='--help' kinds=() many='' ;;
@@ -61,6 +64,7 @@ _rt1553_tool() {
     # how many files stand before this one
     for ((index = 2; index < COMP_CWORD; index++)); do
         case ${COMP_WORDS[1]}:${COMP_WORDS[index]} in
+            bus:--alone) index=$((index + 1)) ;;
             lint:--format) index=$((index + 1)) ;;
             verify:--profiles) kinds=("${kinds[@]:1}") index=$((index + 1)) ;;
             verify:--format) index=$((index + 1)) ;;
@@ -82,6 +86,7 @@ _rt1553_tool() {
             acceptance:--against) index=$((index + 1)) ;;
             acceptance:--format) index=$((index + 1)) ;;
             acceptance:--names) index=$((index + 1)) ;;
+            acceptance:--date) index=$((index + 1)) ;;
             messages:--rt) index=$((index + 1)) ;;
             messages:--subaddress) index=$((index + 1)) ;;
             messages:--format) index=$((index + 1)) ;;

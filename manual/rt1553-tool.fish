@@ -10,6 +10,9 @@ complete -c rt1553-tool -n __fish_use_subcommand -a compare -d 'Prints same, or 
 complete -c rt1553-tool -n '__fish_seen_subcommand_from compare' -F
 complete -c rt1553-tool -n __fish_use_subcommand -a run -d 'Prints the transcript of a script'
 complete -c rt1553-tool -n '__fish_seen_subcommand_from run' -F
+complete -c rt1553-tool -n __fish_use_subcommand -a bus -d 'Prints the transcript of a script for a bus of terminals'
+complete -c rt1553-tool -n '__fish_seen_subcommand_from bus' -l alone -x -d 'prints what comes to the terminal of this address, as a script'
+complete -c rt1553-tool -n '__fish_seen_subcommand_from bus' -F
 complete -c rt1553-tool -n __fish_use_subcommand -a lint -d 'Prints all faults of profiles, and what has no effect'
 complete -c rt1553-tool -n '__fish_seen_subcommand_from lint' -l format -x -a 'text json sarif' -d 'the output format'
 complete -c rt1553-tool -n '__fish_seen_subcommand_from lint' -F
@@ -47,6 +50,7 @@ complete -c rt1553-tool -n '__fish_seen_subcommand_from infer' -l unseen -x -a '
 complete -c rt1553-tool -n '__fish_seen_subcommand_from infer' -l expand -d 'takes messages, too, as `expand` does'
 complete -c rt1553-tool -n '__fish_seen_subcommand_from infer' -F
 complete -c rt1553-tool -n __fish_use_subcommand -a import -d 'Writes the profile that a table means'
+complete -c rt1553-tool -n '__fish_seen_subcommand_from import' -l check -d 'prints the differences of P from TABLE, and no profile'
 complete -c rt1553-tool -n '__fish_seen_subcommand_from import' -F
 complete -c rt1553-tool -n __fish_use_subcommand -a export -d 'Writes the table of a profile'
 complete -c rt1553-tool -n '__fish_seen_subcommand_from export' -F
@@ -67,8 +71,9 @@ complete -c rt1553-tool -n '__fish_seen_subcommand_from differ' -F
 complete -c rt1553-tool -n __fish_use_subcommand -a acceptance -d 'Writes the test that distinguishes a terminal from every other'
 complete -c rt1553-tool -n '__fish_seen_subcommand_from acceptance' -l against -r -F -d 'compares the replies of a unit, a CSV table, with the test'
 complete -c rt1553-tool -n '__fish_seen_subcommand_from acceptance' -l any-subsystem -d 'with --against: some behaviour of the subsystem is to explain the replies'
-complete -c rt1553-tool -n '__fish_seen_subcommand_from acceptance' -l format -x -a 'text csv json' -d 'the output format'
+complete -c rt1553-tool -n '__fish_seen_subcommand_from acceptance' -l format -x -a 'text csv json junit html' -d 'the output format; junit, html: with --against'
 complete -c rt1553-tool -n '__fish_seen_subcommand_from acceptance' -l names -r -F -d 'puts the names of messages in TABLE beside their numbers'
+complete -c rt1553-tool -n '__fish_seen_subcommand_from acceptance' -l date -x -d 'the date of the report, as 2026-01-31T12:00:00, also with Z or an offset'
 complete -c rt1553-tool -n '__fish_seen_subcommand_from acceptance' -F
 complete -c rt1553-tool -n __fish_use_subcommand -a messages -d 'Prints a line for each message of a run, and how it ended'
 complete -c rt1553-tool -n '__fish_seen_subcommand_from messages' -l expand -d 'takes messages, too, as `expand` does'

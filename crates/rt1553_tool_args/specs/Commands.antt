@@ -10,7 +10,7 @@ use Rattle.clap.specs.declared.parser.matches.Found.{Found}
 use Rattle.clap.specs.declared.parser.matches.ArgMatches.{ArgMatches}
 use Rattle.rt1553_tool_args.specs.Dates.{is_date}
 use Rattle.rt1553_tool_args.specs.declared.command.ToolCommand.{ToolCommand}
-use Rattle.rt1553_tool_args.specs.declared.command.ToolCommand.TheVariants.{Lint, CheckScript, Verify, Witness, Monitor, Coverage, Infer, Import, Export, Expand, Toml, Explain, Differ, Acceptance, Against, Messages, Gather, Draw, Words, Live, Answers, Check, Canon, Run, Compare}
+use Rattle.rt1553_tool_args.specs.declared.command.ToolCommand.TheVariants.{Lint, CheckScript, Verify, Witness, Monitor, Coverage, Infer, Import, CheckImport, Export, Expand, Toml, Explain, Differ, Acceptance, Against, Messages, Gather, Draw, Words, Live, Answers, Check, Canon, Run, Bus, Compare}
 use Rattle.rt1553_tool_args.specs.declared.command.Profiles.{Profiles}
 use Rattle.rt1553_tool_args.specs.declared.command.Profiles.TheVariants.{One, Folder}
 use Rattle.rt1553_tool_args.specs.declared.command.ScriptKind.{ScriptKind}
@@ -60,6 +60,11 @@ HasBusAddress f (Some a) = (text : Text) × HasValue f (codes "rt") text × (((t
 abbrev pub HasSubaddress : Found → Option ℕ → Type 0
 HasSubaddress f None = first_value f (codes "subaddress") ≡ None
 HasSubaddress f (Some s) = (text : Text) × HasValue f (codes "subaddress") text × IsNumberUpTo 31 text s
+
+-- the address of one terminal of a bus, 0 to 30, or none is given
+abbrev pub HasAlone : Found → Option ℕ → Type 0
+HasAlone f None = first_value f (codes "alone") ≡ None
+HasAlone f (Some a) = (text : Text) × HasValue f (codes "alone") text × IsNumberUpTo 30 text a
 
 -- what is said of an option with a value: its value, where it is given
 abbrev pub HasOption : Found → Text → Option (Bor Text) → Type 0
@@ -121,6 +126,12 @@ AsksReport f format summary =
 abbrev pub HasDate : Found → ReportFormat → Option (Bor Text) → Type 0
 HasDate f format date = HasOption f (codes "date") date × IfSome date (λ d. is_date d.now ≡ true) × (format ≡ report.Text → date ≡ None)
 
+-- no format of reports alone is given, and no date
+abbrev pub HasNoReport : Found → Type 0
+HasNoReport f =
+    (is_value (codes "junit") (first_value f (codes "format")) ≡ false) × (is_value (codes "html") (first_value f (codes "format")) ≡ false)
+    × (first_value f (codes "date") ≡ None)
+
 -- what the scripts are to be
 abbrev pub AsksKind : Found → ScriptKind → Type 0
 AsksKind f Test = (is_given f (codes "bus-only") ≡ false) × (is_given f (codes "any-subsystem") ≡ false) × (is_given f (codes "already-on") ≡ false)
@@ -138,6 +149,7 @@ command_name (Monitor asked) = codes "recording"
 command_name (Coverage asked scripts) = codes "coverage"
 command_name (Infer asked) = codes "infer"
 command_name (Import table) = codes "import"
+command_name (CheckImport table p) = codes "import"
 command_name (Export p) = codes "export"
 command_name (Expand messages profile) = codes "expand"
 command_name (Toml p) = codes "toml"
@@ -154,11 +166,12 @@ command_name (Answers asked) = codes "answers"
 command_name (Check p) = codes "check"
 command_name (Canon p) = codes "canon"
 command_name (Run p script) = codes "run"
+command_name (Bus asked profiles) = codes "bus"
 command_name (Compare p q) = codes "compare"
 
 -- what a command says of its arguments
 abbrev pub Asks : Found → ToolCommand → Type 0
-Asks f (Lint files format) = (texts_of files.items ≡ all_values f (codes "file")) × (format ≡ lint_format_of (first_value f (codes "format")))
+Asks f (Lint files format) = (texts_of files.items ≡ all_values f (codes "profile")) × (format ≡ lint_format_of (first_value f (codes "format")))
 Asks f (CheckScript scripts) = texts_of scripts.items ≡ all_values f (codes "script")
 Asks f (Verify asked scripts) =
     PlaysTo f asked.profiles (texts_of scripts.items) × (scripts.items ≢ []) × AsksKind f asked.kind × (asked.expand ≡ is_given f (codes "expand"))
@@ -175,7 +188,8 @@ Asks f (Coverage asked scripts) =
 Asks f (Infer asked) =
     HasValue f (codes "script") asked.script.now × HasAddress f asked.address
     × (asked.unseen_is_legal ≡ is_value (codes "legal") (first_value f (codes "unseen"))) × (asked.expand ≡ is_given f (codes "expand"))
-Asks f (Import table) = HasValue f (codes "table") table.now
+Asks f (Import table) = HasValue f (codes "table") table.now × (first_value f (codes "profile") ≡ None) × (is_given f (codes "check") ≡ false)
+Asks f (CheckImport table p) = HasValue f (codes "table") table.now × HasValue f (codes "profile") p.now × (is_given f (codes "check") ≡ true)
 Asks f (Export p) = HasValue f (codes "profile") p.now
 Asks f (Expand messages profile) = HasValue f (codes "messages") messages.now × HasOption f (codes "for") profile
 Asks f (Toml p) = HasValue f (codes "profile") p.now
@@ -185,10 +199,11 @@ Asks f (Differ asked) =
     × (asked.as_json ≡ is_json f) × HasNames f asked.names
 Asks f (Acceptance p format names) =
     HasValue f (codes "profile") p.now × (first_value f (codes "against") ≡ None) × (is_given f (codes "any-subsystem") ≡ false)
-    × (format ≡ format_of (first_value f (codes "format"))) × HasNames f names
+    × (format ≡ format_of (first_value f (codes "format"))) × HasNames f names × HasNoReport f
 Asks f (Against asked) =
     HasValue f (codes "profile") asked.profile.now × HasValue f (codes "against") asked.results.now × (asked.any_subsystem ≡ is_given f (codes "any-subsystem"))
-    × (format_of (first_value f (codes "format")) ≡ Script) × HasNames f asked.names
+    × (is_value (codes "csv") (first_value f (codes "format")) ≡ false) × (asked.format ≡ report_format_of (first_value f (codes "format")))
+    × HasNames f asked.names × HasDate f asked.format asked.date
 Asks f (Messages asked) =
     HasValue f (codes "profile") asked.profile.now × HasValue f (codes "script") asked.script.now × (asked.expand ≡ is_given f (codes "expand"))
     × HasBusAddress f asked.address × HasSubaddress f asked.subaddress × (asked.errors ≡ is_given f (codes "errors"))
@@ -206,6 +221,8 @@ Asks f (Answers asked) =
 Asks f (Check p) = HasValue f (codes "profile") p.now
 Asks f (Canon p) = HasValue f (codes "profile") p.now
 Asks f (Run p script) = HasValue f (codes "profile") p.now × HasValue f (codes "script") script.now
+Asks f (Bus asked profiles) =
+    HasValue f (codes "script") asked.script.now × HasAlone f asked.alone × (texts_of profiles.items ≡ all_values f (codes "profile"))
 Asks f (Compare p q) = HasValue f (codes "profile") p.now × HasValue f (codes "other") q.now
 
 -- clap met the subcommand of this command, with these arguments

@@ -5,7 +5,8 @@ ghost use Rattle.clap.specs.declared.parser.matches.ArgMatches.{ArgMatches as Ma
 ghost use Rattle.rt1553_tool_args.specs.Commands.{IsAskedBy};
 
 use crate::command::{ToolCommand, tool_command_of};
-use crate::table::{Argument, COMMANDS, CommandGroup, CommandRow, HEADINGS, Occurrence};
+use crate::commands::COMMANDS;
+use crate::table::{Argument, CommandGroup, CommandRow, HEADINGS, Occurrence};
 use crate::versions::{VERSION, VERSIONS};
 use clap::error::ErrorKind;
 use clap::{Arg, ArgAction, Command};
@@ -57,41 +58,31 @@ impl<T: Drop> From<AllocFailed<T>> for NoCommand {
     }
 }
 
+/// An argument with one value.
+fn once<'a>(arg: Arg<'a>, row: &Argument) -> Arg<'a> {
+    arg.action(ArgAction::Set).value_name(row.value)
+}
+
+/// An argument with one value or several.
+fn often<'a>(arg: Arg<'a>, row: &Argument) -> Arg<'a> {
+    arg.action(ArgAction::Append)
+        .num_args(1..)
+        .value_name(row.value)
+}
+
 /// An argument, as clap takes it.
 fn argument<'a>(alloc: Global, row: &Argument) -> Result<Arg<'a>, AllocError> {
     let arg = Arg::new(alloc, row.id).help(row.help);
     match row.given {
-        Occurrence::Once => Ok(
-            arg.required(true)
-                .action(ArgAction::Set)
-                .value_name(row.value),
-        ),
-        Occurrence::Often => Ok(
-            arg.required(true)
-                .action(ArgAction::Append)
-                .num_args(1..)
-                .value_name(row.value),
-        ),
-        Occurrence::OnceOr(other) => arg
-            .action(ArgAction::Set)
-            .value_name(row.value)
-            .required_unless_present(other),
-        Occurrence::OftenOr(other) => arg
-            .action(ArgAction::Append)
-            .num_args(1..)
-            .value_name(row.value)
-            .required_unless_present(other),
-        Occurrence::Value => Ok(
-            arg.long(row.id)
-                .action(ArgAction::Set)
-                .value_name(row.value),
-        ),
-        Occurrence::Needed => Ok(
-            arg.required(true)
-                .long(row.id)
-                .action(ArgAction::Set)
-                .value_name(row.value),
-        ),
+        Occurrence::Once => Ok(once(arg, row).required(true)),
+        Occurrence::Often => Ok(often(arg, row).required(true)),
+        Occurrence::OnceOr(other) => once(arg, row).required_unless_present(other),
+        Occurrence::OftenOr(other) => often(arg, row).required_unless_present(other),
+        Occurrence::OnceWith(other) => once(arg, row)
+            .requires_arg(other)?
+            .required_if_eq(other, "true"),
+        Occurrence::Value => Ok(once(arg, row).long(row.id)),
+        Occurrence::Needed => Ok(once(arg, row).long(row.id).required(true)),
         Occurrence::Flag => Ok(arg.long(row.id).action(ArgAction::SetTrue)),
         Occurrence::OneOf(default, values) => Ok(
             arg.long(row.id)
@@ -106,7 +97,7 @@ fn argument<'a>(alloc: Global, row: &Argument) -> Result<Arg<'a>, AllocError> {
 fn subcommand<'a>(alloc: Global, row: &CommandRow) -> Result<Command<'a>, AllocError> {
     let mut command = Command::new(alloc, row.name)
         .about(row.about)
-        .after_help(row.example);
+        .after_help(row.after);
     for argument_row in row.arguments {
         command = command.arg(argument(alloc, argument_row)?)?;
     }

@@ -5,6 +5,7 @@ ghost use Rattle.rt1553_tool_args.specs.Commands.{Asks, AsksKind, AsksReport, Ha
 
 use crate::args::NoCommand;
 use crate::date::is_date;
+use crate::messages::{bus_command, messages_command};
 use clap::ArgMatches;
 use std::alloc::Global;
 
@@ -179,8 +180,11 @@ pub struct AskedResults<'a> {
     pub results: &'a str,
     /// Some behaviour of the subsystem is to explain them.
     pub any_subsystem: bool,
+    pub format: ReportFormat,
     /// The table with the names of messages, where one is given.
     pub names: Option<&'a str>,
+    /// The date and time of the report, where they are given; not as text.
+    pub date: Option<&'a str>,
 }
 
 /// What is asked for of a run.
@@ -214,6 +218,14 @@ pub struct AskedMessages<'a> {
     pub names: Option<&'a str>,
 }
 
+/// What `bus` is asked for.
+#[derive(Clone, Copy)]
+pub struct AskedBus<'a> {
+    pub script: &'a str,
+    /// The address of the terminal of which is told what comes to it, in place of the transcript, where one is given.
+    pub alone: Option<u8>,
+}
+
 /// What the command line asks for. The texts are names of files.
 #[derive(Drop)]
 pub enum ToolCommand<'a> {
@@ -236,6 +248,11 @@ pub enum ToolCommand<'a> {
     Infer(AskedProfile<'a>),
     /// The profile that a table means.
     Import(&'a str),
+    /// In what a profile differs from a table.
+    CheckImport {
+        table: &'a str,
+        profile: &'a str,
+    },
     /// The table of a document that a terminal has.
     Export(&'a str),
     /// Messages as the lines of a script.
@@ -285,6 +302,8 @@ pub enum ToolCommand<'a> {
         profile: &'a str,
         script: &'a str,
     },
+    /// The transcript of a script for a bus of terminals, of these profiles.
+    Bus(AskedBus<'a>, Vec<&'a str>),
     /// Whether two profiles mean the same terminal, and a script that two answer differently.
     Compare {
         profile: &'a str,
@@ -293,7 +312,7 @@ pub enum ToolCommand<'a> {
 }
 
 /// The value of an argument that has to be there.
-fn required<'a>(given: &ArgMatches<'a>, id: &str) -> Result<&'a str, NoCommand>
+pub(crate) fn required<'a>(given: &ArgMatches<'a>, id: &str) -> Result<&'a str, NoCommand>
     ensures { IfOk result (λ value. HasValue (found_of given.now) id.now value.now) }
 {
     match given.get_str(id) {
@@ -314,7 +333,11 @@ fn address_of(given: &ArgMatches<'_>) -> Result<u8, NoCommand>
 }
 
 /// The values of an argument; none where it is left out.
-fn all_of<'a>(alloc: Global, given: &ArgMatches<'a>, id: &str) -> Result<Vec<&'a str>, NoCommand>
+pub(crate) fn all_of<'a>(
+    alloc: Global,
+    given: &ArgMatches<'a>,
+    id: &str,
+) -> Result<Vec<&'a str>, NoCommand>
     ensures { IfOk result (λ values. texts_of values.items ≡ all_values (found_of given.now) id.now) }
 {
     match given.get_strs(id) {
@@ -324,14 +347,14 @@ fn all_of<'a>(alloc: Global, given: &ArgMatches<'a>, id: &str) -> Result<Vec<&'a
 }
 
 /// The table with the names of messages, where it is given.
-fn names_of<'a>(given: &ArgMatches<'a>) -> Option<&'a str>
+pub(crate) fn names_of<'a>(given: &ArgMatches<'a>) -> Option<&'a str>
     ensures { HasOption (found_of given.now) (codes "names") result }
 {
     given.get_str("names")
 }
 
 /// Whether an option without a value is given.
-fn is_flag_given(given: &ArgMatches<'_>, id: &str) -> bool
+pub(crate) fn is_flag_given(given: &ArgMatches<'_>, id: &str) -> bool
     ensures { result ≡ is_given (found_of given.now) id.now }
 {
     given.get_str(id) == Some("true")
@@ -486,7 +509,7 @@ fn lint_command<'a>(alloc: Global, given: &ArgMatches<'a>) -> Result<ToolCommand
     ensures { IfOk result (λ command. (command_name command ≡ codes "lint") × Asks (found_of given.now) command) }
 {
     Ok(ToolCommand::Lint {
-        files: all_of(alloc, given, "file")?,
+        files: all_of(alloc, given, "profile")?,
         format: lint_format(given),
     })
 }
@@ -529,6 +552,18 @@ fn infer_command<'a>(given: &ArgMatches<'a>) -> Result<ToolCommand<'a>, NoComman
     }))
 }
 
+/// What `import` is asked for.
+fn import_command<'a>(given: &ArgMatches<'a>) -> Result<ToolCommand<'a>, NoCommand>
+    ensures { IfOk result (λ command. (command_name command ≡ codes "import") × Asks (found_of given.now) command) }
+{
+    let table = required(given, "table")?;
+    match (is_flag_given(given, "check"), given.get_str("profile")) {
+        (false, None) => Ok(ToolCommand::Import(table)),
+        (true, Some(profile)) => Ok(ToolCommand::CheckImport { table, profile }),
+        _ => Err(NoCommand::Usage),
+    }
+}
+
 /// What `explain` is asked for.
 fn explain_command<'a>(given: &ArgMatches<'a>) -> Result<ToolCommand<'a>, NoCommand>
     ensures { IfOk result (λ command. (command_name command ≡ codes "explain") × Asks (found_of given.now) command) }
@@ -564,27 +599,44 @@ fn test_format(given: &ArgMatches<'_>) -> TestFormat
     }
 }
 
-/// What `acceptance` is asked for. A comparison is written as text alone, and only there any subsystem is asked for.
+/// What `acceptance` is asked for with `--against`. A comparison is no table of the test.
+fn against_command<'a>(
+    given: &ArgMatches<'a>,
+    results: &'a str,
+) -> Result<ToolCommand<'a>, NoCommand>
+    requires { first_value (found_of given.now) (codes "against") ≡ Some results.now }
+    ensures { IfOk result (λ command. (command_name command ≡ codes "acceptance") × Asks (found_of given.now) command) }
+{
+    if given.get_str("format") == Some("csv") {
+        return Err(NoCommand::Usage);
+    }
+    let format = report_format(given);
+    Ok(ToolCommand::Against(AskedResults {
+        profile: required(given, "profile")?,
+        results,
+        any_subsystem: is_flag_given(given, "any-subsystem"),
+        format,
+        names: names_of(given),
+        date: date_of(given, format)?,
+    }))
+}
+
+/// What `acceptance` is asked for. Without results there is no report.
 fn acceptance_command<'a>(given: &ArgMatches<'a>) -> Result<ToolCommand<'a>, NoCommand>
     ensures { IfOk result (λ command. (command_name command ≡ codes "acceptance") × Asks (found_of given.now) command) }
 {
-    let profile = required(given, "profile")?;
-    let names = names_of(given);
-    let any_subsystem = is_flag_given(given, "any-subsystem");
-    match (given.get_str("against"), test_format(given)) {
-        (None, format) if !any_subsystem => Ok(ToolCommand::Acceptance {
-            profile,
-            format,
-            names,
-        }),
-        (Some(results), TestFormat::Script) => Ok(ToolCommand::Against(AskedResults {
-            profile,
-            results,
-            any_subsystem,
-            names,
-        })),
-        _ => Err(NoCommand::Usage),
+    if let Some(results) = given.get_str("against") {
+        return against_command(given, results);
     }
+    let is_report = matches!(given.get_str("format"), Some("junit") | Some("html"));
+    if is_report || is_flag_given(given, "any-subsystem") || given.get_str("date").is_some() {
+        return Err(NoCommand::Usage);
+    }
+    Ok(ToolCommand::Acceptance {
+        profile: required(given, "profile")?,
+        format: test_format(given),
+        names: names_of(given),
+    })
 }
 
 /// What `draw` is asked for.
@@ -596,87 +648,6 @@ fn draw_command<'a>(given: &ArgMatches<'a>) -> Result<ToolCommand<'a>, NoCommand
         script: required(given, "script")?,
         expand: is_flag_given(given, "expand"),
         html: is_flag_given(given, "html"),
-        names: names_of(given),
-    }))
-}
-
-/// A number up to this one, of decimal digits alone.
-fn number_of(text: &str, most: u8) -> Result<u8, NoCommand>
-    ensures { IfOk result (λ n. IsNumberUpTo most text.now n) }
-{
-    match text.parse::<u8>() {
-        Ok(number) if number <= most && !text.starts_with('+') => Ok(number),
-        _ => Err(NoCommand::Usage),
-    }
-}
-
-/// The address of the messages that are asked for, 0 to 30, or `all`, which is 31.
-fn bus_address_of(given: &ArgMatches<'_>) -> Result<Option<u8>, NoCommand>
-    ensures { IfOk result (HasBusAddress (found_of given.now)) }
-{
-    match given.get_str("rt") {
-        Some("all") => Ok(Some(31)),
-        Some(text) => Ok(Some(number_of(text, 30)?)),
-        None => Ok(None),
-    }
-}
-
-/// The subaddress of the messages that are asked for, 0 to 31.
-fn subaddress_of(given: &ArgMatches<'_>) -> Result<Option<u8>, NoCommand>
-    ensures { IfOk result (HasSubaddress (found_of given.now)) }
-{
-    match given.get_str("subaddress") {
-        Some(text) => Ok(Some(number_of(text, 31)?)),
-        None => Ok(None),
-    }
-}
-
-/// How the messages of a run are to be written.
-fn messages_format(given: &ArgMatches<'_>) -> MessagesFormat
-    ensures { result ≡ messages_format_of (first_value (found_of given.now) (codes "format")) }
-{
-    match given.get_str("format") {
-        Some("csv") => MessagesFormat::Csv,
-        Some("json") => MessagesFormat::Json,
-        _ => MessagesFormat::Text,
-    }
-}
-
-/// What `messages` is asked for where messages are written as `expand` reads them: all of them, without names.
-fn gather_command<'a>(given: &ArgMatches<'a>) -> Result<ToolCommand<'a>, NoCommand>
-    ensures { IfOk result (λ command. (command_name command ≡ codes "messages") × Asks (found_of given.now) command) }
-{
-    let profile = required(given, "profile")?;
-    let script = required(given, "script")?;
-    let format = given.get_str("format");
-    let chosen = (given.get_str("rt"), given.get_str("subaddress"));
-    match (format, chosen, names_of(given)) {
-        (Some("messages"), (None, None), None) if !is_flag_given(given, "errors") => {
-            Ok(ToolCommand::Gather(AskedAnswers {
-                profile,
-                script,
-                expand: is_flag_given(given, "expand"),
-            }))
-        }
-        _ => Err(NoCommand::Usage),
-    }
-}
-
-/// What `messages` is asked for.
-fn messages_command<'a>(given: &ArgMatches<'a>) -> Result<ToolCommand<'a>, NoCommand>
-    ensures { IfOk result (λ command. (command_name command ≡ codes "messages") × Asks (found_of given.now) command) }
-{
-    if given.get_str("format") == Some("messages") {
-        return gather_command(given);
-    }
-    Ok(ToolCommand::Messages(AskedMessages {
-        profile: required(given, "profile")?,
-        script: required(given, "script")?,
-        expand: is_flag_given(given, "expand"),
-        address: bus_address_of(given)?,
-        subaddress: subaddress_of(given)?,
-        errors: is_flag_given(given, "errors"),
-        format: messages_format(given),
         names: names_of(given),
     }))
 }
@@ -738,7 +709,7 @@ fn command_of<'a>(
         "recording" => recording_command(given),
         "coverage" => coverage_command(alloc, given),
         "infer" => infer_command(given),
-        "import" => Ok(ToolCommand::Import(required(given, "table")?)),
+        "import" => import_command(given),
         "export" => Ok(ToolCommand::Export(required(given, "profile")?)),
         "expand" => expand_command(given),
         "toml" => Ok(ToolCommand::Toml(required(given, "profile")?)),
@@ -753,6 +724,7 @@ fn command_of<'a>(
         "check" => Ok(ToolCommand::Check(required(given, "profile")?)),
         "canon" => Ok(ToolCommand::Canon(required(given, "profile")?)),
         "run" => run_command(given),
+        "bus" => bus_command(alloc, given),
         "compare" => compare_command(given),
         _ => Err(NoCommand::Usage),
     }

@@ -3,14 +3,16 @@
 
 mod args;
 mod command;
+mod commands;
 mod date;
+mod messages;
 mod table;
 mod versions;
 
 pub use args::{NoCommand, read_tool_args};
 pub use command::{
-    AskedAnswers, AskedComparison, AskedCoverage, AskedDrawing, AskedMessages, AskedProfile,
-    AskedRecording, AskedReport, AskedResults, AskedWitness, CoverageFormat, LintFormat,
-    MessagesFormat, Profiles, ReportFormat, ScriptKind, TestFormat, ToolCommand,
+    AskedAnswers, AskedBus, AskedComparison, AskedCoverage, AskedDrawing, AskedMessages,
+    AskedProfile, AskedRecording, AskedReport, AskedResults, AskedWitness, CoverageFormat,
+    LintFormat, MessagesFormat, Profiles, ReportFormat, ScriptKind, TestFormat, ToolCommand,
 };
 pub use versions::{CANONICAL_VERSION, PROGRAM_VERSION, TOOLCHAIN, VERSION};

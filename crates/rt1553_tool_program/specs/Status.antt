@@ -1,5 +1,7 @@
 -- The statuses that the program ends with.
-use Rattle.std.specs.Prelude.{ℕ, ◌≡◌, ◌≤◌}
+use Rattle.std.specs.Prelude.{ℕ, ◌≡◌, ◌≤◌, Bool, true, Result, Ok, Err}
+use Rattle.tool_files.specs.declared.fault.ToolFault.{ToolFault}
+use Rattle.tool_files.specs.declared.fault.ToolFault.TheVariants.{Output}
 use Rattle.rt1553_tool_args.specs.declared.command.ToolCommand.{ToolCommand}
 use Rattle.rt1553_tool_args.specs.declared.command.ToolCommand.TheVariants as tool
 
@@ -21,6 +23,7 @@ CanEnd (tool.Answers asked) status = status ≡ 0
 CanEnd (tool.Check p) status = status ≡ 0
 CanEnd (tool.Canon p) status = status ≡ 0
 CanEnd (tool.Run p script) status = status ≡ 0
+CanEnd (tool.Bus asked profiles) status = status ≡ 0
 CanEnd (tool.Compare p q) status = status ≤ 1
 CanEnd (tool.Differ asked) status = status ≤ 1
 CanEnd (tool.Against asked) status = status ≤ 1
@@ -30,4 +33,10 @@ CanEnd (tool.CheckScript files) status = status ≤ 4
 CanEnd (tool.Witness asked) status = status ≤ 1
 CanEnd (tool.Verify asked scripts) status = status ≤ 4
 CanEnd (tool.Import table) status = status ≤ 2
+CanEnd (tool.CheckImport table p) status = status ≤ 2
 CanEnd (tool.Expand messages profile) status = status ≤ 2
+
+-- what a command gave; where its output failed because the reader is gone, the status of a program that SIGPIPE ends
+abbrev pub unless_closed : Bool → Result ℕ ToolFault → Result ℕ ToolFault
+unless_closed true (Err Output) = Ok 141
+unless_closed is_closed done = done

@@ -1,6 +1,7 @@
 //! The program `rt1553-tool`: what people ask of a profile, over files and the standard streams.
 #![tactic(auto)]
 
+mod output;
 mod work;
 
 use std::env;

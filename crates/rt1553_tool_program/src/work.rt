@@ -1,22 +1,28 @@
 //! What the program does.
-ghost use Rattle.std.specs.Prelude.{◌≤◌, IfOk};
-ghost use Rattle.rt1553_tool_program.specs.Status.{CanEnd};
+ghost use Rattle.std.specs.Prelude.{◌≡◌, ◌≤◌, ◌⊎◌, IfOk};
+ghost use Rattle.rt1553_tool_program.specs.Status.{CanEnd, unless_closed};
 
+use crate::output::WatchedOutput;
 use rt1553_tool_args::{NoCommand, ToolCommand, read_tool_args};
 use std::env;
 use std::io::{ErrorKind, Read, Write};
 use std::rt::{Env, Files};
-use tool_acceptance::{against, write_test};
 use tool_files::{Screen, ToolFault, USAGE};
 use tool_profiles::{
-    differ_profiles, explain_profile, export_file, import_file, lint_files, write_toml,
+    check_import, differ_profiles, explain_profile, export_file, import_file, lint_files,
+    write_toml,
 };
 use tool_scripts::{
     bus_words, check_profile, check_scripts, compare_profiles, draw_run, expand_file,
-    gather_script, list_messages, play_live, record_table, run_file, state_in_file,
+    gather_script, list_messages, play_bus, play_live, record_table, run_file, state_in_file,
     write_canonical,
 };
-use tool_verify::{cover_scripts, explain_recording, infer_profile, verify_scripts};
+use tool_verify::{
+    against, cover_scripts, explain_recording, infer_profile, verify_scripts, write_test,
+};
+
+/// The status of a program that the signal SIGPIPE ends, as a shell gives it: the reader of the output is gone.
+const CLOSED: u8 = 141;
 
 /// Does what is asked for, and gives the status to end with.
 fn do_command<R: Files + AllocGlobal + Eprint, I: Read + Drop, W: Write>(
@@ -26,7 +32,8 @@ fn do_command<R: Files + AllocGlobal + Eprint, I: Read + Drop, W: Write>(
     input: I,
     output: &mut W,
 ) -> Result<u8, ToolFault>
-    ensures { IfOk result (CanEnd command.now) }
+    ensures ends { IfOk result (CanEnd command.now) }
+    ensures most { IfOk result (λ status. status ≤ 4) }
 {
     match command {
         ToolCommand::Lint { files, format } => lint_files(rt, files.as_slice(), *format, output),
@@ -41,6 +48,9 @@ fn do_command<R: Files + AllocGlobal + Eprint, I: Read + Drop, W: Write>(
         }
         ToolCommand::Infer(asked) => infer_profile(rt, *asked, output),
         ToolCommand::Import(table) => import_file(rt, table, output),
+        ToolCommand::CheckImport { table, profile } => {
+            check_import(rt, table, profile, screen, output)
+        }
         ToolCommand::Export(profile) => export_file(rt, profile, output),
         ToolCommand::Expand { messages, profile } => expand_file(rt, messages, *profile, output),
         ToolCommand::Toml(profile) => write_toml(rt, profile, output),
@@ -65,18 +75,30 @@ fn do_command<R: Files + AllocGlobal + Eprint, I: Read + Drop, W: Write>(
         ToolCommand::Check(profile) => check_profile(rt, profile, output),
         ToolCommand::Canon(profile) => write_canonical(rt, profile, output),
         ToolCommand::Run { profile, script } => run_file(rt, profile, script, output),
+        ToolCommand::Bus(asked, profiles) => play_bus(rt, *asked, profiles.as_slice(), output),
         ToolCommand::Compare { profile, other } => compare_profiles(rt, profile, other, output),
     }
 }
 
-/// Does what the command line asks for, and gives the status to end with.
+/// What a command gave, but for the failure of an output whose reader is gone: that has a status of its own, and nothing is told of it.
+fn unless_closed(is_closed: bool, done: Result<u8, ToolFault>) -> Result<u8, ToolFault>
+    ensures status { result ≡ unless_closed is_closed done }
+    ensures most { IfOk done (λ status. status ≤ 4) → IfOk result (λ status. (status ≤ 4) ⊎ (status ≡ 141)) }
+{
+    match done {
+        Err(ToolFault::Output) if is_closed => Ok(CLOSED),
+        done => done,
+    }
+}
+
+/// Does what the command line asks for, and gives the status to end with. Nothing is told where the reader of the output is gone.
 pub fn run_tool<R: Env + Files + AllocGlobal + Print + Eprint, I: Read + Drop, O: Write + Drop>(
     rt: &R,
     screen: Screen,
     input: I,
-    mut output: O,
+    output: O,
 ) -> Result<u8, ToolFault>
-    ensures { IfOk result (λ status. status ≤ 4) }
+    ensures { IfOk result (λ status. (status ≤ 4) ⊎ (status ≡ 141)) }
 {
     let args = match env::args(rt) {
         Ok(args) => args,
@@ -87,7 +109,14 @@ pub fn run_tool<R: Env + Files + AllocGlobal + Print + Eprint, I: Read + Drop, O
     };
     let args: Vec<String> = args.collect(rt.alloc())?;
     match read_tool_args(rt, args.as_slice()) {
-        Ok(command) => do_command(rt, &command, screen, input, &mut output),
+        Ok(command) => {
+            let mut output = WatchedOutput {
+                output,
+                is_closed: false,
+            };
+            let done = do_command(rt, &command, screen, input, &mut output);
+            unless_closed(output.is_closed, done)
+        }
         Err(NoCommand::Helped) => Ok(0),
         Err(NoCommand::Refused) => Ok(USAGE),
         Err(NoCommand::Output) => Err(ToolFault::Output),

@@ -12,6 +12,9 @@ use rt1553_files::{PROFILE_BYTES, SCRIPT_BYTES, escaped, open_file, read_file};
 use std::io::Write;
 use std::rt::Files;
 
+/// The bytes of a table of results: a row of it takes 27 times its bytes of memory.
+const RESULTS_BYTES: usize = 4_194_304;
+
 /// A name as it is printed. The only error is out of memory.
 pub fn shown<R: AllocGlobal>(rt: &R, name: &str) -> Result<String, ToolFault>
     ensures { IfErr result (λ fault. fault ≡ ToolFault.Memory) }
@@ -89,6 +92,13 @@ pub fn read_script_file<R: Files + AllocGlobal>(rt: &R, name: &str) -> Result<Ve
     ensures { IfOk result (λ bytes. length bytes.items ≤ 68157440) }
 {
     read_named(rt, name, SCRIPT_BYTES)
+}
+
+/// The bytes of the results of a unit, at most 4,194,304: some 1,000 for each exchange.
+pub fn read_results_file<R: Files + AllocGlobal>(rt: &R, name: &str) -> Result<Vec<u8>, ToolFault>
+    ensures { IfOk result (λ bytes. length bytes.items ≤ 4194304) }
+{
+    read_named(rt, name, RESULTS_BYTES)
 }
 
 /// Writes all the bytes. The only error is `Output`.

@@ -14,8 +14,8 @@ pub use colours::{Ink, Screen, put_in, put_lines};
 pub use digest::{HashedReader, canonical_digest, digest_of};
 pub use fault::{DIFFERENT, REFUSED, ToolFault, USAGE, UnreadCause};
 pub use files::{
-    LoadedProfile, load_profile, load_profile_file, open_named, read_script_file,
-    read_tool_profile, shown, write_bytes,
+    LoadedProfile, load_profile, load_profile_file, open_named, read_results_file,
+    read_script_file, read_tool_profile, shown, write_bytes,
 };
 pub use loaded::{LoadedScript, load_script};
 pub use refused::{first_refused, refused_file};

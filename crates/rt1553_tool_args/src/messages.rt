@@ -1,0 +1,117 @@
+//! What `messages` and `bus` are asked for.
+ghost use Rattle.std.specs.Prelude.{◌≡◌, IfOk, codes};
+ghost use Rattle.clap.specs.Words.{first_value, found_of};
+ghost use Rattle.rt1553_tool_args.specs.Commands.{Asks, HasAlone, HasBusAddress, HasSubaddress, IsNumberUpTo, command_name, messages_format_of};
+
+use crate::args::NoCommand;
+use crate::command::{
+    AskedAnswers, AskedBus, AskedMessages, MessagesFormat, ToolCommand, all_of, is_flag_given,
+    names_of, required,
+};
+use clap::ArgMatches;
+use std::alloc::Global;
+
+/// A number up to this one, of decimal digits alone.
+fn number_of(text: &str, most: u8) -> Result<u8, NoCommand>
+    ensures { IfOk result (λ n. IsNumberUpTo most text.now n) }
+{
+    match text.parse::<u8>() {
+        Ok(number) if number <= most && !text.starts_with('+') => Ok(number),
+        _ => Err(NoCommand::Usage),
+    }
+}
+
+/// The address of the messages that are asked for, 0 to 30, or `all`, which is 31.
+fn bus_address_of(given: &ArgMatches<'_>) -> Result<Option<u8>, NoCommand>
+    ensures { IfOk result (HasBusAddress (found_of given.now)) }
+{
+    match given.get_str("rt") {
+        Some("all") => Ok(Some(31)),
+        Some(text) => Ok(Some(number_of(text, 30)?)),
+        None => Ok(None),
+    }
+}
+
+/// The subaddress of the messages that are asked for, 0 to 31.
+fn subaddress_of(given: &ArgMatches<'_>) -> Result<Option<u8>, NoCommand>
+    ensures { IfOk result (HasSubaddress (found_of given.now)) }
+{
+    match given.get_str("subaddress") {
+        Some(text) => Ok(Some(number_of(text, 31)?)),
+        None => Ok(None),
+    }
+}
+
+/// How the messages of a run are to be written.
+fn messages_format(given: &ArgMatches<'_>) -> MessagesFormat
+    ensures { result ≡ messages_format_of (first_value (found_of given.now) (codes "format")) }
+{
+    match given.get_str("format") {
+        Some("csv") => MessagesFormat::Csv,
+        Some("json") => MessagesFormat::Json,
+        _ => MessagesFormat::Text,
+    }
+}
+
+/// What `messages` is asked for where messages are written as `expand` reads them: all of them, without names.
+fn gather_command<'a>(given: &ArgMatches<'a>) -> Result<ToolCommand<'a>, NoCommand>
+    ensures { IfOk result (λ command. (command_name command ≡ codes "messages") × Asks (found_of given.now) command) }
+{
+    let profile = required(given, "profile")?;
+    let script = required(given, "script")?;
+    let format = given.get_str("format");
+    let chosen = (given.get_str("rt"), given.get_str("subaddress"));
+    match (format, chosen, names_of(given)) {
+        (Some("messages"), (None, None), None) if !is_flag_given(given, "errors") => {
+            Ok(ToolCommand::Gather(AskedAnswers {
+                profile,
+                script,
+                expand: is_flag_given(given, "expand"),
+            }))
+        }
+        _ => Err(NoCommand::Usage),
+    }
+}
+
+/// What `messages` is asked for.
+pub(crate) fn messages_command<'a>(given: &ArgMatches<'a>) -> Result<ToolCommand<'a>, NoCommand>
+    ensures { IfOk result (λ command. (command_name command ≡ codes "messages") × Asks (found_of given.now) command) }
+{
+    if given.get_str("format") == Some("messages") {
+        return gather_command(given);
+    }
+    Ok(ToolCommand::Messages(AskedMessages {
+        profile: required(given, "profile")?,
+        script: required(given, "script")?,
+        expand: is_flag_given(given, "expand"),
+        address: bus_address_of(given)?,
+        subaddress: subaddress_of(given)?,
+        errors: is_flag_given(given, "errors"),
+        format: messages_format(given),
+        names: names_of(given),
+    }))
+}
+
+/// The address of the terminal that is to be told of alone, 0 to 30.
+fn alone_of(given: &ArgMatches<'_>) -> Result<Option<u8>, NoCommand>
+    ensures { IfOk result (HasAlone (found_of given.now)) }
+{
+    match given.get_str("alone") {
+        Some(text) => Ok(Some(number_of(text, 30)?)),
+        None => Ok(None),
+    }
+}
+
+/// What `bus` is asked for.
+pub(crate) fn bus_command<'a>(
+    alloc: Global,
+    given: &ArgMatches<'a>,
+) -> Result<ToolCommand<'a>, NoCommand>
+    ensures { IfOk result (λ command. (command_name command ≡ codes "bus") × Asks (found_of given.now) command) }
+{
+    let asked = AskedBus {
+        script: required(given, "script")?,
+        alone: alone_of(given)?,
+    };
+    Ok(ToolCommand::Bus(asked, all_of(alloc, given, "profile")?))
+}
