@@ -33,9 +33,13 @@ library: ## proves and builds the library for C, C++, Python and Rust: bin/libra
 	@bash scripts/need.sh rt gcc ar ld objcopy objdump python3 $(CROSS)
 	@python3 scripts/build.py library
 
+page: ## proves and builds the page, bin/rt1553.html: the terminal in a web browser, in one file
+	@bash scripts/need.sh rt python3
+	@python3 scripts/build.py page
+
 test: ## the gate: proves and tests everything; the last line is 'N passed, M failed'; TARGET=aarch64 tests what is for ARM64
 	@bash scripts/need.sh rt python3 pytest-3 import:xdist import:jsonschema shellcheck pyflakes3 pip3 cc c++ cargo rustc objdump groff mandoc \
-	    aspell vim dpkg-deb dpkg-shlibdeps git script aarch64-linux-gnu-gcc aarch64-linux-gnu-g++ qemu-aarch64
+	    aspell vim dpkg-deb dpkg-shlibdeps git script chromium aarch64-linux-gnu-gcc aarch64-linux-gnu-g++ qemu-aarch64
 	$(if $(TARGET),pytest-3 -q tests/test_arm64.py,bash scripts/gate.sh)
 
 bench: ## the speed beside that of three programs in plain Rust; no test
@@ -55,7 +59,7 @@ deb: ## makes a Debian package of what is built: bin/rt1553_VERSION_ARCHITECTURE
 dist: build library ## makes an archive for machines without the toolchain: bin/rt1553-VERSION-linux-x86_64.tar.gz; TARGET=aarch64 makes one for ARM64
 	@bash scripts/dist.sh
 
-pages: ## writes the man pages and completions, of manual/arguments.toml, docs/script.md and docs/profile.md
+pages: ## writes the commands of rt1553-tool, man pages and completions, of manual/arguments.toml, docs/script.md and docs/profile.md
 	@bash scripts/need.sh python3
 	@python3 scripts/manual.py write
 
@@ -63,4 +67,4 @@ clean: ## removes what was built: bin/, out/ and crates/*/out; what was proved i
 	@du -shc bin out crates/*/out 2>/dev/null | tail -n 1 | sed 's/\ttotal/ are freed/'
 	@rm -rf bin out crates/*/out
 
-.PHONY: build help try check edits library test bench install uninstall deb dist pages clean
+.PHONY: build help try check edits library page test bench install uninstall deb dist pages clean

@@ -4,6 +4,7 @@
     scripts/build.py                              the programs, bin/rt1553 and bin/rt1553-tool; then the first answer of README.md
     scripts/build.py library [BUILT]              the library for C, C++, Python and Rust, bin/library; or BUILT/bin/library, over the
                                                   crates that `rt ci` has proved in BUILT
+    scripts/build.py page [BUILT]                 the page for a web browser, bin/rt1553.html; or BUILT/bin/rt1553.html, in the same way
     scripts/build.py libraries FOLDER [NAME..]    the crates below these, or all, where scripts/must-fail.py looks for them
 
 Each crate is proved from nothing by one `rattle build`, with the words that `rt ci` gives it, over the statements of the libraries below.
@@ -43,6 +44,8 @@ LOG = f"{TOP}/out/build.log"
 # a program's crate, and what it is called; the first is built first
 PROGRAMS = {"rt1553_program": "rt1553", "rt1553_tool_program": "rt1553-tool"}
 LIBRARY = "rt1553_c"
+# the calls of the page, which are for WebAssembly
+PAGE, WASM = "rt1553_page", "wasm64-unknown-unknown"
 # the first answer of README.md: what is typed, and what comes
 GIVEN, ANSWER = r"A c 2c02\nA gap\nslot\n", "A s 2800"
 # bytes of memory for each process that proves
@@ -58,7 +61,7 @@ VERSIONS = 4
 # to be changed where a change of this script makes other libraries of the same files
 SCHEME = "1"
 # the last line of a proof from nothing that trusts the toolchain and the statements of libraries, and nothing else
-PROVED = rf"logic=proved functions=\d+( axioms=\d+)?( target={MACHINE})? sum={{}} native=nat,char,string logic-built=trusted libraries-built=trusted statements=trusted"
+PROVED = r"logic=proved functions=\d+( axioms=\d+)?( target={})? sum={} native=nat,char,string logic-built=trusted libraries-built=trusted statements=trusted"
 # what `rt ci` refuses beside it: contracts that no call meets, a pattern that takes every value, a term that a tactic chose
 REFUSED = re.compile(
     r"^(warning: no call of `(?![^`]*::fn::)|note: the search for empty contracts did not end|warning: calls of a tactic that chose a term"
@@ -166,7 +169,8 @@ class Crate:
         self.lines = 150 + sum(it.count(b"\n") for path, it in self.files.items() if path.startswith("src/"))
         self.is_library = not self.is_program and not self.is_archive
         # a library is for each processor
-        self.target = ["--target", MACHINE] if TARGET and not self.is_library else []
+        self.machine = WASM if self.name == PAGE else MACHINE
+        self.target = ["--target", self.machine] if self.machine == WASM or TARGET and not self.is_library else []
         made_from = [SCHEME, toolchain.sum, head.split(), self.of_toolchain, sums_of(self.files), [it.label for it in self.libraries], *self.target]
         self.label = f"{self.name}-{hashlib.sha256(repr(made_from).encode()).hexdigest()[:32]}"
         # what is made of it: a program's object, an archive for C, or a library
@@ -199,7 +203,7 @@ class Crate:
     def is_proved(self, said):
         """Whether a proof that ended well and said this is one that `rt ci` passes."""
         lines = re.findall(r"^logic=.*", said, re.M)
-        is_proved = len(lines) == 1 and re.fullmatch(PROVED.format(self.toolchain.line.rpartition(" ")[2]), lines[0])
+        is_proved = len(lines) == 1 and re.fullmatch(PROVED.format(self.machine, self.toolchain.line.rpartition(" ")[2]), lines[0])
         return is_proved and not REFUSED.search(said) and not (self.is_library and REFUSED_BELOW.search(said))
 
 
@@ -380,13 +384,13 @@ def play():
         sys.exit(f"{BIN}/rt1553 was to answer {ANSWER}")
 
 
-def build_library(build, built):
-    """Builds the library, over what `rt ci` proved in the folder, if there is one."""
+def build_archive(build, built, name, script, left):
+    """Builds an archive, over what `rt ci` proved in the folder, if there is one, and makes of it what is left in bin/."""
     if built:
         build.made = {it.name: f"{built}/crates/{it.name}/out/rlib" for it in build.crates.values() if it.is_library}
-    build.prove([build.crates[LIBRARY]])
-    build.run("bash", f"{TOP}/scripts/library.sh", f"{build.made[LIBRARY]}/lib{LIBRARY}.a", f"{built or TOP}/{BIN}/library")
-    return f"{built}/{BIN}/library" if built else f"{BIN}/library"
+    build.prove([build.crates[name]])
+    build.run(*script, f"{build.made[name]}/lib{name}.a", f"{built or TOP}/{left}")
+    return f"{built}/{left}" if built else left
 
 
 def build_libraries(build, folder, names):
@@ -402,7 +406,7 @@ def build_libraries(build, folder, names):
 
 def main():
     began, (word, *more) = time.time(), sys.argv[1:] or [""]
-    if word not in ("", "library", "libraries"):
+    if word not in ("", "library", "page", "libraries"):
         sys.exit(__doc__)
     kept = Kept()
     for it in (BIN, "out"):
@@ -412,7 +416,9 @@ def main():
         if (proved_with := os.environ.get("KIT", build.toolchain.line)) != build.toolchain.line:
             print(f"This version was proved with {proved_with}; this is {build.toolchain.line}: every crate is proved by it.", flush=True)
         if word == "library":
-            what = build_library(build, "".join(more))
+            what = build_archive(build, "".join(more), LIBRARY, ["bash", f"{TOP}/scripts/library.sh"], f"{BIN}/library")
+        elif word == "page":
+            what = build_archive(build, "".join(more), PAGE, ["python3", f"{TOP}/scripts/page.py"], "bin/rt1553.html")
         elif word == "libraries":
             what = build_libraries(build, more[0], more[1:])
         else:

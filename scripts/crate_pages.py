@@ -1,14 +1,15 @@
 #!/usr/bin/env python3
 """Whether the pages beside the code speak of what is there: a part of tests/test_sources.py.
 
-    scripts/crate_pages.py count    writes the line counts of docs/proofs.md anew
+    scripts/crate_pages.py write    writes anew the line counts of docs/proofs.md, and in docs/architecture.md which crates each one stands on
 
 Each crate has a README.md with the sections of SECTIONS. What is in backticks there, in docs/proofs.md and in docs/architecture.md and
 looks like a path is a file or folder, of the crate or of the repository, or a must-fail edit, as `crate/name`. What looks like a name is
 in the code, or is that of an edit; and `crate::name` is of that crate. The Rust lines of a first use are in a test of the crates of
 TESTS, where they are proved and run. In the table of docs/proofs.md whose rows begin with a specs folder the number
 behind each file is that of its lines, and each file of specs/ outside of specs/inner is there once; what is in a folder below specs/
-counts with the file of its name. That page names just the crates of the toolchain that crates.txt names.
+counts with the file of its name. That page names just the crates of the toolchain that crates.txt names. In the table of
+docs/architecture.md the last column has the crates of this repository that a crate uses, without those that another of them stands on.
 """
 
 import collections
@@ -18,8 +19,7 @@ import sys
 
 TOP = pathlib.Path(__file__).resolve().parent.parent
 SECTIONS = ["First use", "What is proved", "What is only tested", "Where to begin", "What not to break"]
-LISTING = "docs/proofs.md"
-PAGES = [LISTING, "docs/architecture.md"]
+LISTING, LAYERS = PAGES = ["docs/proofs.md", "docs/architecture.md"]
 # folders that each crate may have, and what a build leaves
 ANY = re.compile(r"(?:src|specs|specs/inner|proofs|must-fail|must-not-compile|inner)/?|bin/.*|crates/\w+/out/.*")
 TESTS = {"terminal_tests", "rt1553_tests"}
@@ -116,6 +116,26 @@ def counted(repository, text):
     return text
 
 
+def uses_of(repository):
+    """The crates of this repository that each one uses, by crates.txt."""
+    lines = [line.split("#")[0].partition(":") for line in (repository.root / "crates.txt").read_text().splitlines()]
+    return {words.split()[0]: [it for it in names.split() if it in repository.crates] for words, _, names in lines if words.strip()}
+
+
+def layered(repository, text):
+    """The page with the crates that each one stands on, as they are."""
+    uses, below = uses_of(repository), {}
+    for crate, used in uses.items():
+        below[crate] = {*used, *(it for one in used for it in below[one])}
+
+    def row(found):
+        used = uses.get(found[1], [])
+        nearest = [f"`{it}`" for it in used if not any(it in below[one] for one in used)]
+        return f"| `{found[1]}` | {found[2]} | {', '.join(nearest)} |".replace("|  |", "| |")
+
+    return re.sub(r"^\| `(\w+)` \| ([^|]*) \|(?: [^|]* \|)?$", row, text, flags=re.M)
+
+
 def unlisted(repository, text):
     """The files of definitions that the table lacks, has twice, or has though they aren't there."""
     named = collections.Counter((found[1].removesuffix("/specs"), name) for found in rows(text) for name, _ in COUNTED.findall(found[3]))
@@ -150,15 +170,18 @@ def faults_of_page(repository, page):
     """What is wrong with a page of docs/."""
     path = repository.root / page
     text = path.read_text()
-    wrong = [*faults_of(repository, path), *["other line counts: scripts/crate_pages.py count"] * (counted(repository, text) != text)]
+    stale = (counted if page == LISTING else layered)(repository, text) != text
+    wrong = [*faults_of(repository, path), *["not as the code is: scripts/crate_pages.py write"] * stale]
     return [*wrong, *unlisted(repository, text), *untrusted(repository, text)] if page == LISTING else wrong
 
 
 def main():
-    if sys.argv[1:] != ["count"]:
+    if sys.argv[1:] != ["write"]:
         sys.exit(__doc__)
-    path = TOP / LISTING
-    path.write_text(counted(Repository(), path.read_text()))
+    repository = Repository()
+    for page, anew in ((LISTING, counted), (LAYERS, layered)):
+        path = TOP / page
+        path.write_text(anew(repository, path.read_text()))
 
 
 if __name__ == "__main__":

@@ -2,6 +2,7 @@
 # Makes an archive of what `make build` and `make library` leave, with its pages: dist.sh [BUILT [FOLDER]]
 # BUILT is a copy of this repository with the same in its bin/, by default this one. The archive is left in FOLDER, by default bin/, with
 # its checksum beside it. It prints the archive's name. With TARGET=aarch64 it is the archive for ARM64, of what is in bin/aarch64.
+# What `make page` leaves goes with it, if it is there.
 #
 # The folders are those of the repository, so that the commands of the pages can be typed in the unpacked archive. The same files make
 # the same archive, to the byte: each file has the time of the last commit, or that of SOURCE_DATE_EPOCH.
@@ -96,6 +97,10 @@ What is where:
     docs/                         the pages that README.md lists, and the schemas of JSON output
     examples/                     profiles, scripts and programs to start from: examples/README.md
 END
+if [[ -e $built/$bin/rt1553.html ]]; then
+    install -m 644 -t "$to/bin" "$built/$bin/rt1553.html"
+    echo '    bin/rt1553.html               the terminal in a web browser, in one file that needs no network' >>"$to/README.txt"
+fi
 (cd "$to" && find . ! -type d ! -name SHA256SUMS -printf '%P\n' | LC_ALL=C sort | xargs -d '\n' sha256sum >"$work/SHA256SUMS")
 mv "$work/SHA256SUMS" "$to"
 

@@ -1,6 +1,6 @@
 #!/usr/bin/env python3
-"""The man pages and the completions of the two programs, made of manual/arguments.toml, and the man pages of scripts and profiles,
-made of docs/script.md and docs/profile.md.
+"""The commands of `rt1553-tool`, and the man pages and the completions of both programs, made of manual/arguments.toml, and the man pages
+of scripts and profiles, made of docs/script.md and docs/profile.md.
 
     scripts/manual.py write      writes them
     scripts/manual.py version    prints the version of the programs, as it stands in the program's source
@@ -8,6 +8,7 @@ made of docs/script.md and docs/profile.md.
 tests/test_manual.py compares the files with what is written, and the description with what the programs say of themselves and do.
 The version in a page is that of `rt1553-tool --version`: both stand in the program's source.
 """
+import collections
 import pathlib
 import re
 import sys
@@ -18,6 +19,8 @@ TOP = pathlib.Path(__file__).resolve().parent.parent
 WORDS = TOP / "manual/arguments.toml"
 VERSIONS = TOP / "crates/rt1553_tool_args/src/versions.rt"
 MADE = "made by scripts/manual.py of manual/arguments.toml"
+# what the program calls the arguments that a command takes
+IDENTITIES = {"P": "profile", "Q": "other", "SCRIPT": "script", "TABLE": "table", "MESSAGES": "messages"}
 # the endings by which files are completed
 ENDINGS = {
     "profile": ["toml", "rt1553"], "script": ["script"], "messages": ["messages"], "results": ["csv"], "table": ["csv"], "folder": [],
@@ -108,7 +111,7 @@ def synopsis_of(command):
         if instead and not number:
             yield f".Brq Ar {takes['name']} | {instead}"
         else:
-            yield f".Ar {takes['name']}{many}"
+            yield f".{'Op ' if 'with' in takes else ''}Ar {takes['name']}{many}"
 
 
 def head_of(name, section, about):
@@ -360,7 +363,8 @@ def zsh_specs(command):
     for number, takes in enumerate(command["takes"], 1):
         but = f"({instead})" if instead and number == 1 else ""
         place = "*" if takes.get("many") else f"{but}{number}"
-        yield f"'{place}:{takes['name']}:{zsh_files(takes['kind'])}'"
+        optional = ":" if "with" in takes else ""
+        yield f"'{place}:{optional}{takes['name']}:{zsh_files(takes['kind'])}'"
 
 
 def zsh_of(program):
@@ -422,6 +426,112 @@ def fish_of(program):
             yield f"complete -c {name} {seen} -F"
 
 
+# --- the commands of rt1553-tool, in Rust ---
+
+
+def rust_text(text):
+    """A text as a literal."""
+    return '"' + text.replace("\\", "\\\\").replace('"', '\\"').replace("\n", "\\n") + '"'
+
+
+def occurrence_of(argument, instead):
+    """How an argument is given, beside the option that stands in the place of the first, if there is one."""
+    if argument["name"].startswith("--"):
+        if "values" in argument:
+            return f"OneOf({rust_text(argument['values'][0])}, &{values_name(argument)})"
+        return "Flag" if "value" not in argument else "Needed" if argument.get("needed") else "Value"
+    if "with" in argument:
+        return f"OnceWith({rust_text(argument['with'][2:])})"
+    often = "Often" if argument.get("many") else "Once"
+    return f"{often}Or({rust_text(instead)})" if instead else often
+
+
+def values_name(option):
+    """The name of the constant with the values of an option."""
+    return "_OR_".join(it.upper() for it in option["values"])
+
+
+def rust_argument(argument, instead):
+    """The lines of an argument."""
+    identity = argument["name"][2:] if argument["name"].startswith("--") else IDENTITIES[argument["name"]]
+    value = argument.get("value", "") if argument["name"].startswith("--") else argument["name"]
+    yield f"    id: {rust_text(identity)},"
+    yield f"    given: Occurrence::{occurrence_of(argument, instead)},"
+    yield f"    value: {rust_text(value)},"
+    yield f"    help: {rust_text(argument['help'])},"
+
+
+def arguments_of(command):
+    """The arguments of a command, each as its lines."""
+    options = command.get("options", [])
+    instead = next((it["name"][2:] for it in options if it.get("instead")), None)
+    return [tuple(rust_argument(it, instead)) for it in [*command["takes"], *options]]
+
+
+def shared_of(commands):
+    """The arguments that several commands take alike, with the names of their constants."""
+    counts = collections.Counter(it for command in commands for it in arguments_of(command))
+    shared = {}
+    for argument, count in counts.most_common():
+        name = re.search('"(.*)"', argument[0])[1].upper()
+        if count > 1 and name not in shared.values():
+            shared[argument] = name
+    return shared
+
+
+def rust_arguments(command, shared):
+    """The lines of the constant with the arguments of a command."""
+    rows = arguments_of(command)
+    head = f"const {constant_of(command)}: [Argument; {len(rows)}] = ["
+    short = f"{head}{', '.join(shared.get(it, '') for it in rows)}];"
+    if all(it in shared for it in rows) and len(short) <= 100:
+        return [short]
+    if len(rows) == 1:
+        return [f"{head}Argument {{", *rows[0], "}];"]
+    entries = [[f"{shared[it]},"] if it in shared else ["Argument {", *it, "},"] for it in rows]
+    return [head, *(f"    {line}" for entry in entries for line in entry), "];"]
+
+
+def constant_of(command):
+    """The name of the constant with the arguments of a command, which a constant of one argument may have, too."""
+    return f"OF_{command['name'].upper().replace('-', '_')}"
+
+
+def rust_command(command):
+    """The lines of a command."""
+    arguments = constant_of(command) if arguments_of(command) else "[]"
+    lines = command["lines"].strip("\n") + "\n\n" if "lines" in command else ""
+    yield "    CommandRow {"
+    yield f"        name: {rust_text(command['name'])},"
+    yield f"        group: CommandGroup::{command['heading'].split()[0]},"
+    yield f"        about: {rust_text(command['about'])},"
+    yield f"        after: {rust_text(('Lines:' + chr(10) + lines if lines else '') + 'Example: ' + command['example'])},"
+    yield f"        arguments: &{arguments},"
+    yield "    },"
+
+
+def rust_of(program):
+    """The source of the commands of a program."""
+    commands = program["command"]
+    yield f"//! The commands of `{program['name']}`, {MADE}."
+    yield "use crate::table::{Argument, CommandGroup, CommandRow, Occurrence};"
+    for option in {values_name(it): it for command in commands for it in command.get("options", []) if "values" in it}.values():
+        yield ""
+        yield f"const {values_name(option)}: [&str; {len(option['values'])}] = [{', '.join(map(rust_text, option['values']))}];"
+    shared = shared_of(commands)
+    for argument, name in shared.items():
+        yield from ["", f"const {name}: Argument = Argument {{", *argument, "};"]
+    for command in commands:
+        if arguments_of(command):
+            yield from ["", *rust_arguments(command, shared)]
+    yield ""
+    yield "/// The commands; under each heading of the help they stand in this order."
+    yield f"pub const COMMANDS: [CommandRow; {len(commands)}] = ["
+    for command in commands:
+        yield from rust_command(command)
+    yield "];"
+
+
 # --- the files ---
 
 
@@ -433,6 +543,8 @@ def made():
         name = program["name"]
         for ending, lines in ((".1", page_of(program)), (".bash", bash_of(program)), (".zsh", zsh_of(program)), (".fish", fish_of(program))):
             yield TOP / f"manual/{name}{ending}", "\n".join(lines) + "\n"
+        if not program["alone"]:
+            yield TOP / "crates/rt1553_tool_args/src/commands.rt", "\n".join(rust_of(program)) + "\n"
 
 
 def main(words):

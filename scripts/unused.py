@@ -3,7 +3,7 @@
 Looks at each definition and lemma of specs/ and proofs/, but for those in the files that `rt` seeks by their names, and at each
 function, constant and type of the .rt files. Another one must refer to it: of its own file, of a file that imports it, and to what a
 crate lets out one of library/, bench/ or examples/ may. An import alone refers to nothing. Laws, worked examples, tests, `main`, what
-an `impl` gives of a trait, and the functions for C need no caller. EXCEPT has what else needs none, by its crate, with the reason.
+an `impl` gives of a trait, and the functions for C and for the page need no caller. EXCEPT has what else needs none, by its crate, with the reason.
 """
 
 import collections
@@ -198,7 +198,7 @@ def items_of(crate):
     """The functions, constants and types of a crate that need one that refers to them: the file, the name, and whether there is one."""
     for file in (it for it in code() if it.crate == crate):
         for owner, name, is_function, is_public, is_given, call, others in items(file.text):
-            if is_given or name == "main" or name.startswith("rt1553_") or is_function and file.path.name in WITHOUT_CALLER:
+            if is_given or name == "main" or name.startswith(("rt1553_", "page_")) or is_function and file.path.name in WITHOUT_CALLER:
                 continue
             names_of = exporters(crate, name)
             where = [file._replace(text=others), *(other for other in with_name(code, name) + with_name(callers, name) if other.path != file.path)]

@@ -116,6 +116,18 @@ def library(library_for):
     return library_for("")
 
 
+@pytest.fixture(scope="session")
+def page(once, built):
+    """The file of the page. In a copy it is made over what `rt ci` left."""
+
+    def make(folder):
+        kept = {"RT1553_KEPT": str(folder / "kept")} if built != TOP else {}
+        succeed("python3", TOP / "scripts/build.py", "page", *[built] * len(kept), timeout=3600, **kept)
+
+    once("page", make)
+    return built / "bin/rt1553.html"
+
+
 @pytest.fixture(scope="module")
 def clone_as_it_was():
     """The tests of a file leave the clone as it was; that is seen behind the last of them."""

@@ -2,10 +2,13 @@
 
 It is well-formed; each event has a column, in its order, with the number of its line and a title that says it; each word that comes,
 is sent or is handed over has a box, with its digits; a status word that the terminal waits for is drawn as one; no text leaves its
-box, in a font wider than most, nor the name of a message its place; no message is broken, and what has room stands on a page of
-paper; each colour has another one in the dark.
+box, in a font wider than most, nor the name of a message its place; no row is wider than a page of paper, and only a message that is
+goes on in the next one; a gap is as wide whatever is handed over at it; a status word with bits has a colour of its own; a drawing is
+light, and each of its colours has another one on a page in the dark.
 """
 
+import json
+import math
 import re
 import tomllib
 import unicodedata
@@ -27,8 +30,12 @@ MONO, SIZE = 602, 12
 DOUBLE, COMBINING, WIDEST = 1000, 0, 1480
 # how many characters of a name stand in a drawing at most
 MOST_OF_NAME = 40
-# a row is at most as wide as the paper, but where one message alone is wider; and a message has no more events
+# a row is at most as wide as the paper, and a message has no more events
 PAPER, LONGEST = 960, 64
+# how wide a gap is at least, and a digit with what stands around a number
+NARROW, DIGIT, AROUND = 24, 7.3, 8
+# the classes that colour set bits of status words, and what the row of one shows that differs from what is stated
+BITS, DIFFERS = ("error", "busy", "flagged"), "differing"
 # how many messages are folded together where there are more
 TOGETHER = 50
 
@@ -102,13 +109,20 @@ class Column:
         self.line, self.middle, self.groups = int(line.text), number(line, "x"), []
         self.span = span_of(line)
 
-    def marks(self):
-        """For each box its class, its digits and its title; for a gap and a slot without a word their class."""
+    def shapes(self):
+        """Each box and mark, with what it is in."""
         for group in self.groups:
             shape = [it for it in group if it.tag != f"{SVG}title" and it.tag != f"{SVG}text" and "area" not in classes(it)]
             assert len(shape) == 1, "a mark has one shape"
+            yield shape[0], group
+
+    def marks(self):
+        """For each box its class, its digits and its title; for a gap and a slot without a word their class."""
+        for shape, group in self.shapes():
             digits = [it.text for it in group.iter(f"{SVG}text") if "digits" in classes(it)]
-            yield classes(shape[0])[-1], " ".join(digits), group.find(f"{SVG}title").text
+            kinds = [it for it in classes(shape) if it not in ("box", *BITS, DIFFERS)]
+            assert len(kinds) == 1, "a mark is of one kind"
+            yield kinds[0], " ".join(digits), group.find(f"{SVG}title").text
 
 
 def columns_of(message):
@@ -122,22 +136,51 @@ def columns_of(message):
     return columns
 
 
+def look_at_column_place(column, ends, right):
+    """A column stands behind the one before, up to the right end of its message; so does each of its boxes in its lane."""
+    assert ends["number"] <= column.span[0] and column.span[1] <= right, "the number of a line has no room"
+    ends["number"] = column.span[1]
+    for shape, group in column.shapes():
+        if "box" in classes(shape):
+            left, end = look_at_box(group)
+            lane = middle_of(shape)
+            assert ends.get(lane, ends["begin"]) <= left and end <= right, "a box goes into another column"
+            ends[lane] = end
+        if "gap" in classes(shape):
+            area = next(it for it in group if "area" in classes(it))
+            wanted = max(NARROW, math.ceil(DIGIT * len(str(column.line))) + AROUND)
+            assert number(area, "width") == wanted, f"the gap of line {column.line} is not as wide as others"
+            lane, left = middle_of(shape), number(area, "x")
+            assert ends.get(lane, ends["begin"]) <= left and left + wanted <= right, "a gap goes into another column"
+            ends[lane] = left + wanted
+
+
 def look_at_message(message, right):
-    """A message: its columns stand one behind the other, up to its right end, and its name has room."""
+    """What of a message stands in a row: its columns one behind the other, up to its right end, and its name has room."""
     assert message.get("role") == "img" and message.find(f"{SVG}title").text, "a message has no title or no role"
     columns = columns_of(message)
     name = next(it for it in message if "name" in classes(it))
     assert span_of(name)[1] + 2 <= right, "the name of a message goes into the next one"
-    at = number(message.find(f"{SVG}line"), "x1")
+    edge = message.find(f"{SVG}line")
+    at = number(edge, "x1")
+    ends = {"begin": at, "number": at}
     for column in columns:
-        assert at <= column.span[0] and column.span[1] <= right, "the number of a line has no room"
-        end = column.span[1]
-        for group in column.groups:
-            if any("box" in classes(it) for it in group):
-                left, end = look_at_box(group)
-                assert at <= left and end <= right, "a box goes into another column"
-        at = max(end, column.span[1])
-    return int(re.match(r"message (\d+)", name.text)[1]), message.find(f"{SVG}title").text, columns
+        look_at_column_place(column, ends, right)
+    told = re.match(r"message (\d+)(, continued$)?", name.text)
+    assert (classes(edge) == ["edge", "fold"]) == bool(told[2]), "an edge tells something else than the name"
+    return int(told[1]), message.find(f"{SVG}title").text, columns, bool(told[2])
+
+
+def whole_messages(pieces):
+    """Messages, by what of them stands in rows."""
+    messages = []
+    for at, title, columns, is_continued in pieces:
+        if is_continued:
+            assert messages and messages[-1][:2] == (at, title), "what is continued did not begin"
+            messages[-1][2].extend(columns)
+        else:
+            messages.append((at, title, columns))
+    return messages
 
 
 def middle_of(shape):
@@ -156,7 +199,7 @@ def look_at_row(row, width):
     names = [it for it in row if it.tag == f"{SVG}text"]
     assert len(names) == len(lanes) + 1, "a lane has no name"
     assert all(span_of(it)[1] <= at for it in names for at in lanes.values()), "the name of a lane goes into the lane"
-    assert width <= PAPER or len(messages) == 1, "a row of some messages is wider than paper"
+    assert width <= PAPER, "a row is wider than paper"
     edges = [number(it.find(f"{SVG}line"), "x1") for it in messages] + [width]
     return [look_at_message(it, edge) for it, edge in zip(messages, edges[1:])]
 
@@ -172,7 +215,10 @@ def look_at_drawing(svg):
     rows = [it for it in svg if "row" in classes(it)]
     widths = [max(number(it, "x2") for it in row if "lane" in classes(it)) if any("lane" in classes(it) for it in row) else width for row in rows]
     assert all(it <= width for it in widths), "a row goes out of the drawing"
-    return [message for row, at in zip(rows, widths) for message in look_at_row(row, at)]
+    pieces = [look_at_row(row, at) for row, at in zip(rows, widths)]
+    for before, row in zip(pieces, pieces[1:]):
+        assert not row[0][3] or len(before[-1][2]) > 0, "a row goes on with nothing"
+    return whole_messages([piece for row in pieces for piece in row])
 
 
 # what is to be drawn
@@ -260,7 +306,18 @@ def must_go_on(terminal, event, last):
     return not (event[0] == "word" and event[1] != busy.bus and terminal.is_for_it(event[2]))
 
 
+def look_at_bits(column, shape):
+    """A status word with bits has a colour of its own, by the worst of them, and no other box has."""
+    kind, digits, _ = next(it for (other, _), it in zip(column.shapes(), column.marks()) if other is shape)
+    title = next(group for other, group in column.shapes() if other is shape).find(f"{SVG}title").text
+    bits = int(digits, 16) & 0x7FF if kind in ("status", "sent") and "status of" in title else 0
+    wanted = ["error"] if bits & 0x400 else ["busy"] if bits & 8 else ["flagged"] if bits else []
+    assert [it for it in classes(shape) if it in BITS] == wanted, f"line {column.line} has another colour than {wanted}"
+
+
 def look_at_column(column, at, event, is_status, line):
+    for shape, _ in column.shapes():
+        look_at_bits(column, shape)
     marks = list(column.marks())
     wanted = [] if event[0] == "slot" else [mark_of_event(event, is_status)]
     wanted += [mark_of_answer(line)] if line else [("silence", "")] if event[0] == "slot" else []
@@ -295,34 +352,95 @@ def contrast(one, other):
     return (high + 0.05) / (low + 0.05)
 
 
+DARK = "@media screen and (prefers-color-scheme:dark){text{"
+
+
+def look_at_sheet(sheet):
+    """Text can be read on each box, and each line is seen."""
+    for name in ("paper", "command", "status", "data", "wrong", "sent", "given", "handed", *BITS, "expected"):
+        assert contrast(sheet["text"]["fill"], sheet[f".{name}"]["fill"]) >= 4.5, f"text is hard to read on {name}"
+    for name in (".name", ".number"):
+        assert contrast(sheet[name]["fill"], sheet[".paper"]["fill"]) >= 4.5, f"{name} is hard to read"
+    for name in ("lane", "edge", "gap", "box", "wrong", *BITS, DIFFERS, "expected"):
+        assert contrast(sheet[f".{name}"]["stroke"], sheet[".paper"]["fill"]) >= 3, f"{name} is hardly seen"
+    fills = [sheet[f".{name}"]["fill"] for name in ("status", "sent", *BITS)]
+    assert len(set(fills)) == len(fills), "bits have no colour of their own"
+
+
 def look_at_style(style):
-    """One size of text; each colour has another one in the dark; text can be read on each box, in the light and in the dark."""
-    head, _, tail = style.partition("@media screen and (prefers-color-scheme:dark){text{")
-    assert tail and tail.endswith("}"), "there is no style for the dark"
-    light, dark = rules_of(head), rules_of("text{" + tail[:-1])
+    """The style of a drawing: one size of text, on white, and nothing for the dark."""
+    light = rules_of(style)
+    assert "@" not in style and "prefers" not in style, "a drawing has a style for the dark"
+    assert light[".paper"]["fill"] == "#fff", "a drawing is not on white"
     assert re.findall(r"(\d+)px", light["text"]["font"]) == [str(SIZE)] and "font-size" not in style, "text has more than one size"
+    look_at_sheet(light)
+
+
+def look_at_dark_style(style, sheet):
+    """The style of a page: each colour of its drawings has another one in the dark, or is seen there too."""
+    assert sheet.count(style + DARK) == 1, "the page lacks a style"
+    tail = sheet.partition(style + DARK)[2].partition("}}")[0]
+    light, dark = rules_of(style), rules_of("text{" + tail + "}")
     for name, rule in light.items():
         wanted = set(colours(rule))
         assert wanted <= set(colours(dark.get(name, {}))), f"{name} has no colour in the dark"
-    for sheet in (light, dark):
-        for name in ("paper", "command", "status", "data", "wrong", "sent", "given", "handed"):
-            assert contrast(sheet["text"]["fill"], sheet[f".{name}"]["fill"]) >= 4.5, f"text is hard to read on {name}"
-        for name in (".name", ".number"):
-            assert contrast(sheet[name]["fill"], sheet[".paper"]["fill"]) >= 4.5, f"{name} is hard to read"
-    return {it.removeprefix(".") for it in light if colours(light[it])}
+    look_at_sheet({**light, **dark})
 
 
-def look_at_page(page, drawn, style):
-    """A page: a drawing of each message below a line that tells it, what the colours say, and no program."""
+def look_at_list(root, rows, folds):
+    """The list of a page: the rows of `messages`, in which each number leads to the drawing of the message of its line."""
+    table = next(it for it in root.iter(f"{HTML}table") if it.get("id") == "messages")
+    heads = ["".join(it.itertext()) for it in table.iter(f"{HTML}th")]
+    listed = [["".join(it.itertext()) for it in row] for row in table.find(f"{HTML}tbody")]
+    assert listed == [list_cells(row) for row in rows], "the list has other rows than `messages`"
+    assert all(len(heads) == len(it) for it in listed), "a row has other cells than the head"
+    ids = [it.get("id") for it in root.iter() if it.get("id")]
+    assert len(ids) == len(set(ids)), "two things have one name"
+    for row, of in zip(rows, table.find(f"{HTML}tbody")):
+        links = [it.get("href") for it in of.iter(f"{HTML}a")]
+        assert links == [f"#line-{row['line']}"], f"the row of line {row['line']} leads to {links}"
+        here = [fold for fold in folds if any(it.get("id") == links[0][1:] for it in fold.iter())]
+        assert len(here) == 1, f"line {row['line']} is drawn in {len(here)} messages"
+        group = next(it for it in here[0].iter(f"{SVG}text") if it.get("id") == links[0][1:])
+        assert group.text == str(row["line"]) and "number" in classes(group), "a row leads to another line"
+        wrong = row["ended"] not in ("other", "done") or row["why"] is not None
+        assert (of.get("class") == "differs") == wrong, f"the row of line {row['line']} is marked wrongly"
+
+
+def list_cells(row):
+    """The cells of a row of `messages --format json`, as the list has them."""
+    command = row["command"]
+    place = f"mode {command['code']}" if command["code"] is not None else str(command["subaddress"])
+    count = "" if command["count"] is None else str(command["count"])
+    ended = row["ended"] if row["why"] is None else f"{row['ended']}: {row['why']}"
+    status = "" if row["status"] is None else " ".join([row["status"], *row["bits"]])
+    return [str(row["number"]), str(row["line"]), row["bus"], row["kind"], "all" if command["address"] == 31 else str(command["address"]), place,
+            count, row.get("name") or "", ended, status, row["handed"] or ""]  # fmt: skip
+
+
+def look_at_code(root):
+    """The page has one program, which loads nothing and sends nothing."""
+    codes = list(root.iter(f"{HTML}script"))
+    assert len(codes) == 1 and not codes[0].attrib, "the page loads a program"
+    assert not re.search(r"https?:|fetch|import|XMLHttp|eval|innerHTML|src", codes[0].text), "the program of the page does too much"
+    for it in root.iter():
+        assert not it.get("src") and not any(name.startswith("on") for name in it.attrib), "the page loads something"
+    assert root.find(f".//{HTML}p[@id='choice']").get("hidden"), "without its program the page shows what does nothing"
+
+
+def look_at_page(page, drawn, style, rows):
+    """A page: the list of messages, a drawing of each below a line that tells it, what the colours say, and a program of its own."""
     root = xml.fromstring(page)
     metas = {it.get("name"): it.get("content") for it in root.iter(f"{HTML}meta")}
     assert "width=device-width" in metas.get("viewport", ""), "the page tells no viewport"
-    assert not list(root.iter(f"{HTML}script")), "the page has a program"
+    look_at_code(root)
     sheet = root.find(f"{HTML}head/{HTML}style").text
-    assert style in sheet and "@page" in sheet and "@media print" in sheet, "the page lacks a style"
+    assert "@page" in sheet and "@media print" in sheet, "the page lacks a style"
+    look_at_dark_style(style, sheet)
     shapes = [space + shape for space in (SVG, HTML) for shape in ("rect", "line", "circle")]
     keys = {classes(it)[-1] for key in root.iter(f"{HTML}ul") for it in key.iter() if it.tag in shapes}
-    assert keys == {"command", "status", "data", "wrong", "sent", "given", "handed", "gap", "silence"}, f"the page tells other colours: {keys}"
+    wanted = {"command", "status", "data", "wrong", "sent", "given", "handed", "gap", "silence", *BITS}
+    assert keys == wanted, f"the page tells other colours: {keys}"
     folds = [it for it in root.iter(f"{HTML}details") if it.find(f"{HTML}div") is not None]
     told = [it.find(f"{HTML}summary").text for it in folds]
     svgs = [it.find(f"{HTML}div/{SVG}svg") for it in folds]
@@ -331,6 +449,7 @@ def look_at_page(page, drawn, style):
     together = -(-len(drawn) // TOGETHER) - (len(drawn) % TOGETHER == 1) if len(drawn) > TOGETHER else 0
     assert len(outer) == together, "messages are not folded together"
     here = [message for svg in svgs for message in look_at_drawing(svg)]
+    look_at_list(root, rows, folds)
     flat = [[(it.line, list(it.marks())) for it in message[2]] for message in here]
     assert flat == [[(it.line, list(it.marks())) for it in message[2]] for message in drawn], "the page draws something else"
 
@@ -345,4 +464,5 @@ def look_at(tool, program, profile, script):
     answers = printed(program, "run", profile, script).splitlines()
     drawn = [it[:2] for message in messages for column in message[2] for it in column.marks() if it[0] in ("sent", "handed")]
     assert drawn == [mark_of_answer(it) for it in answers], "the answers are not those of the transcript"
-    look_at_page(printed(tool, "draw", "--html", profile, script), messages, style)
+    rows = [json.loads(it) for it in printed(tool, "messages", "--format", "json", profile, script).splitlines()]
+    look_at_page(printed(tool, "draw", "--html", profile, script), messages, style, rows)

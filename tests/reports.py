@@ -279,18 +279,18 @@ def look_at_page(text, found, clauses, shown):
     """A page beside the objects of JSON, and the rows clause by clause of the text."""
     body = body_of(text)
     passed = sum(one["passes"] for one in found)
-    assert texts_of(body, "h1")[0] == f"Tests of a terminal: {passed} of {len(found)} scripts pass"
+    assert texts_of(body, "h1")[0] == f"Tests of a terminal: {passed} of {len(found)} files pass"
     tables = body.findall(f"{HTML}table")
     counts = {
-        "scripts": len(found),
-        "scripts that pass": passed,
-        "scripts that differ": sum(bool(one["differences"]) for one in found),
-        "scripts refused or not read": sum(bool(one["fault"]) for one in found),
+        "files": len(found),
+        "files that pass": passed,
+        "files that differ": sum(bool(one["differences"]) for one in found),
+        "files refused or not read": sum(bool(one["fault"]) for one in found),
         "answers stated": sum(one["answers"] or 0 for one in found),
     }
     assert rows_in(tables[0]) == [*head_rows(found, shown), *([what, str(count)] for what, count in counts.items())]
     assert rows_in(tables[1]) == [["clause", "passed", "of"], *([clause, str(a), str(b)] for clause, a, b in clauses)]
-    assert rows_in(tables[2]) == [["script", "profile", "result", "answers", "clauses", "SHA-256"], *(script_row(one, shown) for one in found)]
+    assert rows_in(tables[2]) == [["file", "profile", "result", "answers", "clauses", "SHA-256"], *(script_row(one, shown) for one in found)]
     warned = [f"{shown[one['file']]}: {one['warning']}" for one in found if one["warning"]]
     assert [it for it in texts_of(body, "p") if it in warned] == warned
     assert ("Warnings" in texts_of(body, "h2")) == bool(warned)
@@ -302,13 +302,11 @@ def look_at_page(text, found, clauses, shown):
 
 
 def drawn_lines(page, name):
-    """The lines of the script of the events that are drawn below its heading; None where it says that it is not drawn."""
+    """The lines of the script of the events that are drawn below its heading."""
     below, lines = False, []
     for it in xml.fromstring(page).find(f"{HTML}body"):
         if it.tag == f"{HTML}h3":
             below = words_of(it) == name
-        elif below and it.tag == f"{HTML}p" and "over 4,096 events" in words_of(it):
-            return None
         elif below and it.tag == f"{HTML}details":
             # a details of many messages holds those of each
             lines += [int(found[1]) for title in it.iter(f"{SVG}title") if (found := re.match(r"line (\d+): ", words_of(title)))]

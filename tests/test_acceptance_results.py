@@ -6,11 +6,14 @@ import io
 import os
 import re
 import subprocess
+import xml.etree.ElementTree as xml
 
 import canonical
 import pytest
 from exchanges import LARGEST, SMALLEST, modelled, results_in, results_text, table_of, told_by_against
 from programs import Given, Row, check_row, run, write_files
+from reports import Digests, HTML, VERSIONS, objects_of
+from schemas import misfits
 
 # the exchanges of the largest test
 TOTAL = 3931
@@ -46,12 +49,18 @@ REFUSED = [
     ("\ufeffnumber,reply\r\n\r\n1,none\r\n\r\n0,none\r\n", f"row 5, column 1: {NOT_A_NUMBER}"),
     ('note,number,reply\n"two\nlines",1,none\n,0,none\n', f"row 4, column 2: {NOT_A_NUMBER}"),
 ]
+DATE = "2026-11-28T12:00:00Z"
 USAGE = "arguments: see --help\n"
 OUT_OF_RANGE = "profile: profile: root: address is out of range\n"
 FILES = {"profile": LARGEST, "results": "number,reply\n1,none\n"}
 FAILING = [
     Row("--against with --format csv", (*AGAINST, "--format", "csv"), 3, errors=USAGE, files=FILES),
-    Row("--against with --format json", ("acceptance", "--format", "json", *AGAINST[1:]), 3, errors=USAGE, files=FILES),
+    Row("--against with --date as text", (*AGAINST, "--date", DATE), 3, errors=USAGE, files=FILES),
+    Row("--against with a date that is none", (*AGAINST, "--format", "json", "--date", "today"), 3, errors=USAGE, files=FILES),
+    Row("a report without --against: junit", ("acceptance", "profile", "--format", "junit"), 3, errors=USAGE, files=FILES),
+    Row("a report without --against: html", ("acceptance", "profile", "--format", "html"), 3, errors=USAGE, files=FILES),
+    Row("--date without --against", ("acceptance", "profile", "--format", "json", "--date", DATE), 3, errors=USAGE, files=FILES),
+    Row("--any-subsystem without --against", ("acceptance", "profile", "--any-subsystem"), 3, errors=USAGE, files=FILES),
     Row("results that are not there", AGAINST, 4, errors="file: cannot read results: no such file\n", files={"profile": LARGEST}),
     Row("results that are a folder", AGAINST, 4, errors="file: cannot read results: it is a folder\n", files={"profile": LARGEST, "results/in": ""}),
     Row("a profile that is not there", ("acceptance", "profile"), 4, errors="file: cannot read profile: no such file\n"),
@@ -164,6 +173,75 @@ def test_other_replies_and_a_missing_row(shipped, largest, tmp_path):
     assert against(shipped.tool, tmp_path, results_text(results)) == told_by_against(largest, results)
 
 
+# ---- reports
+
+
+def report(tool, folder, form, *words):
+    """What the program reports of the results in a folder, in a format."""
+    return run(tool, *AGAINST, "--format", form, *words, folder=folder)
+
+
+def differing(largest):
+    """A table with other replies and a missing row, and what a report tells of it: lines, exchanges, what was expected, what came."""
+    results = {**results_in(largest), 1: ("2c10",), 102: ()}
+    del results[7]
+    told = [(2, "1: broadcast transmit status word: illegal", "none", "2c10"),
+            (102, f"102: {largest[101].tries}", " ".join(largest[101].reply()), "none"),
+            (1, "no result for 7", "results", None)]  # fmt: skip
+    return results_text(results), told
+
+
+def test_report_in_json(shipped, largest, tmp_path):
+    text, told = differing(largest)
+    write_files(tmp_path, {"results": text})
+    given = report(shipped.tool, tmp_path, "json", "--date", DATE)
+    (one,) = objects_of(given.output.decode())
+    assert (given.status, misfits(one, "docs/verify.schema.json")) == (1, [])
+    assert [(it["line"], it["name"], it["expected"], it["came"]) for it in one["differences"]] == told
+    assert (one["file"], one["profile"], one["passes"], one["answers"], one["date"]) == ("results", "profile", False, TOTAL, DATE)
+    assert {it: one[it] for it in VERSIONS} == VERSIONS
+    digests = Digests(shipped.tool, tmp_path)
+    assert [one["sha256"], one["profile_sha256"], one["canonical_sha256"]] == [digests.of("results"), digests.of("profile"), digests.canonical("profile")]
+
+
+def test_report_in_junit(shipped, largest, tmp_path):
+    text, told = differing(largest)
+    write_files(tmp_path, {"results": text})
+    given = report(shipped.tool, tmp_path, "junit", "--date", DATE)
+    suite = xml.fromstring(given.output).find("testsuite")
+    assert (given.status, suite.get("name"), suite.get("timestamp"), suite.get("failures")) == (1, "rt1553-tool acceptance", DATE, "1")
+    case = suite.find("testcase")
+    assert (case.get("name"), case.get("classname")) == ("results", "profile")
+    lines = [f'results:{line}: "{name}": expected {wanted}, came {came or "nothing"}' for line, name, wanted, came in told]
+    assert case.find("failure").text.splitlines() == lines
+
+
+def test_report_as_page(shipped, largest, tmp_path):
+    text, told = differing(largest)
+    write_files(tmp_path, {"results": text})
+    given = report(shipped.tool, tmp_path, "html")
+    cells = [["".join(cell.itertext()) for cell in row] for row in xml.fromstring(given.output).iter(f"{HTML}tr")]
+    rows = [[str(line), f'"{name}"', wanted, came or "nothing"] for line, name, wanted, came in told]
+    assert (given.status, [it for it in cells if it in rows]) == (1, rows)
+
+
+@pytest.mark.parametrize("form", ["json", "junit", "html"])
+def test_report_of_the_same(shipped, largest, form, tmp_path):
+    write_files(tmp_path, {"results": table_of(largest)})
+    given = report(shipped.tool, tmp_path, form)
+    passed = {"json": b'"passes":true', "junit": b'failures="0" errors="0"', "html": b"None: every file passes."}
+    assert (given.status, given.errors, passed[form] in given.output) == (0, b"", True)
+
+
+def test_report_of_any_subsystem(shipped, largest, tmp_path):
+    number = next(number for number, it in enumerate(largest, 1) if it.reply() == ("2800",))
+    results = {**results_in(largest), number: ("2c00",)}
+    write_files(tmp_path, {"results": results_text(results)})
+    (one,) = objects_of(report(shipped.tool, tmp_path, "json", "--any-subsystem").output.decode())
+    told = [(number + 1, f"{number}: {largest[number - 1].tries}", "2800 as word 1", "2c00")]
+    assert [(it["line"], it["name"], it["expected"], it["came"]) for it in one["differences"]] == told
+
+
 # ---- files that fail, and progress
 
 
@@ -174,8 +252,8 @@ def test_failing(shipped, row, tmp_path):
 
 def test_results_that_are_too_large(shipped, tmp_path):
     write_files(tmp_path, FILES)
-    os.truncate(tmp_path / "results", 68_157_441)
-    assert run(shipped.tool, *AGAINST, folder=tmp_path) == Given(4, b"", b"file: too large results: at most 68,157,440 bytes\n")
+    os.truncate(tmp_path / "results", 4_194_305)
+    assert run(shipped.tool, *AGAINST, folder=tmp_path) == Given(4, b"", b"file: too large results: at most 4,194,304 bytes\n")
 
 
 @pytest.mark.parametrize("words", WRITES, ids=" ".join)

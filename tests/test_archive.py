@@ -38,7 +38,7 @@ def alone(home, *variables):
 
 
 @pytest.fixture(scope="session")
-def archive(once, built, library):
+def archive(once, built, library, page):
     """The archive."""
     words = ("bash", TOP / "scripts/dist.sh", built)
     return once("archive", lambda folder: succeed(*words, folder, SOURCE_DATE_EPOCH="1000000000", timeout=300)) / f"{NAME}.tar.gz"

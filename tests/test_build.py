@@ -35,7 +35,7 @@ LINK = """#!/usr/bin/env bash
 while (($#)); do case $1 in -o) cp "${0%/bin/rattle-link}/program" "$2";; esac; shift; done
 """
 # a crate, and what stands on it
-CRATE, ABOVE = "tool_acceptance", "rt1553_tool_program"
+CRATE, ABOVE = "tool_profiles", "rt1553_tool_program"
 SCRIPTS = {"tools/rt": RT, "kit/bin/rattle": RATTLE, "kit/bin/rattle-link": LINK}
 # no gcc, which could link nothing of these
 TOOLS = "sh bash cat cp dirname install mkdir mktemp mv rm sleep python3".split()
@@ -245,7 +245,7 @@ def test_crate_that_is_not_proved_ends_the_build(room):
     room.edit()
     room.write("kit/broken", CRATE)
     status, said, proved = room.build()
-    assert status != 0 and proved == [CRATE] and f"{CRATE}        not proved, after" in said, said
+    assert status != 0 and proved == [CRATE] and f"{CRATE:<22s} not proved, after" in said, said
     assert f"fn {CRATE}::broken: not proved" in said and "out/build.log" in said, said
 
 

@@ -5,6 +5,7 @@ codes, long messages and much that looks random (tests/drawings.py tells what is
 """
 
 import functools
+import json
 import random
 import re
 import xml.etree.ElementTree as xml
@@ -189,6 +190,131 @@ def test_names_in_a_drawing(tool, named):
     titles = [message.find(f"{SVG}title").text for message in drawn]
     assert list(zip(headings, titles, [it.text for it in summaries])) == wanted
     assert len(drawn) == len(wanted)
+
+
+def drawn(tool, folder, script, *words):
+    """The drawing of a script to a terminal that may do all."""
+    write_files(folder, {"all.toml": ALL, "script": script})
+    return xml.fromstring(drawings.printed(tool, "draw", *words, folder / "all.toml", folder / "script"))
+
+
+def test_set_bits_have_colours(tool, tmp_path):
+    """Message error, busy and other bits each have a colour of their own, which the names of the bits in the box tell too."""
+    lines = "".join(f"{line}\n" for line in status_lines())
+    seen = {}
+    for group in drawn(tool, tmp_path, lines).iter(f"{SVG}g"):
+        for box in group.findall(f"{SVG}rect"):
+            told = " ".join(it.text for it in group.findall(f"{SVG}text"))
+            for it in set(classes(box)) & set(drawings.BITS):
+                seen.setdefault(it, []).append(told)
+    assert set(seen) == set(drawings.BITS)
+    assert all("error" in told for told in seen["error"]) and all("busy" in told and "error" not in told for told in seen["busy"])
+    assert not any("busy" in told or "error" in told for told in seen["flagged"]) and len(seen["flagged"]) >= 9
+
+
+def test_gap_is_as_wide_with_a_hand_over(tool, tmp_path):
+    """A message of which words are handed over has the same columns on its bus as one that is illegal, and hands nothing over."""
+    widths = []
+    for subaddress in (3, 31):
+        svg = drawn(tool, tmp_path, f"A c {0x2802 | subaddress << 5:04x}\nA d 0001\nA d 0002\nA gap\nslot\nA d 0003\n")
+        widths.append([(it.get("x"), it.get("width")) for it in svg.iter(f"{SVG}rect") if "area" in classes(it)])
+    assert widths[0] and [it[1] for it in widths[0]] == [it[1] for it in widths[1]] == ["24"]
+
+
+def test_message_of_32_words_is_folded(tool, tmp_path):
+    """It stands in rows that are no wider than paper, each of which tells which message it is of."""
+    words = "".join(f"A d {at:04x}\n" for at in range(32))
+    svg = drawn(tool, tmp_path, f"A c 2860\n{words}A gap\nslot\n")
+    assert float(svg.get("width")) <= drawings.PAPER
+    names = [it.text for it in svg.iter(f"{SVG}text") if "name" in classes(it) and it.text.startswith("message")]
+    assert names == ["message 1", *["message 1, continued"] * 2]
+    (message,) = drawings.look_at_drawing(svg)
+    assert [it.line for it in message[2]] == list(range(1, 36))
+
+
+def test_drawing_is_light(tool, tmp_path):
+    """A drawing alone stands on white, in the dark too: only a page has colours for the dark."""
+    svg = drawn(tool, tmp_path, "A c 2c02\nA gap\nslot\n")
+    first = next(it for it in svg if it.tag != f"{SVG}title")
+    assert classes(first) == ["paper"] and (first.get("width"), first.get("height")) == (svg.get("width"), svg.get("height"))
+    assert "prefers-color-scheme" not in xml.tostring(svg, encoding="unicode")
+
+
+def test_list_of_messages(tool, named):
+    """The page begins with the list of messages, with their names; what means something in HTML is escaped."""
+    words = ["--names", named / "names.csv", named / "all.toml", named / "script"]
+    page = drawings.printed(tool, "draw", "--html", *words)
+    root = xml.fromstring(page)
+    rows = [json.loads(it) for it in drawings.printed(tool, "messages", "--format", "json", *words).splitlines()]
+    assert [row["name"] for row in rows] == [*NAMES, None]
+    folds = [it for it in root.iter(f"{HTML}details") if it.find(f"{HTML}div") is not None]
+    drawings.look_at_list(root, [{**row, "name": row["name"] and escaped_name(row["name"])} for row in rows], folds)
+    assert page.index('<table id="messages">') < page.index("<svg") and "<b>" not in page
+
+
+def escaped_name(name):
+    """A name as the list has it."""
+    return re.sub(r"([\\\"'])", r"\\\1", name)
+
+
+WRONG = """A c 2c02
+A gap
+slot
+#> A s 2c00
+A c 2c62
+A gap
+slot
+#> A s 2800
+slot
+slot
+#> A d 1234
+A c 2862
+A d 0001
+A d 0002
+A gap
+#> hand receive own 04 0001 0002
+slot
+#> A s 2808
+slot
+#> A d 0000
+A c 2862
+A d 0001
+A d 0002
+A gap
+#> hand receive own 03 0001 0003
+slot
+#> A s 2800
+slot
+A gap
+A c 2c02
+A gap
+slot
+"""
+
+
+def test_what_differs_is_marked(tool, tmp_path):
+    """On the page of `verify` what differs is marked in its drawing, with what was expected beside it, and nothing else is."""
+    write_files(tmp_path, {"all.toml": ALL, "wrong": WRONG})
+    page = run(tool, "verify", "--format", "html", "all.toml", "wrong", folder=tmp_path)
+    told = run(tool, "verify", "all.toml", "wrong", folder=tmp_path).output.decode()
+    wanted = {int(it[1]): it[2] for it in re.finditer(r"wrong:(\d+): expected (.*?), came ", told)}
+    assert len(wanted) == 8 and (page.status, page.errors) == (1, b"")
+    marked, framed = {}, set()
+    for svg in xml.fromstring(page.output.decode()).iter(f"{SVG}svg"):
+        if "key" in classes(svg):
+            continue
+        for message in drawings.look_at_drawing(svg):
+            for column in message[2]:
+                for shape, group in column.shapes():
+                    if "expected" in classes(shape):
+                        texts = [it.text for it in group.iter(f"{SVG}text")]
+                        whole = group.find(f"{SVG}title").text.partition(": ")[2]
+                        assert texts == ["expected", whole if len(whole) <= 24 else whole[:24] + " .."]
+                        marked[column.line] = whole
+                    if drawings.DIFFERS in classes(shape):
+                        framed.add(column.line)
+    assert marked == wanted
+    assert framed == {line for line in wanted if "came nothing" not in told.splitlines()[[*wanted].index(line)]}
 
 
 def test_table_without_names_changes_no_drawing(tool, named):

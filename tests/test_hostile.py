@@ -96,8 +96,8 @@ STATED = {"stated": "A c 2c02\nA gap\nslot\n#> A s ~\n#+ ~x\n"}
 SCRIPTS = [
     *rows_of("a clause", CLAUSE, ("verify --summary five clause", 1, 0), ("verify --format json five clause", 1, 0),
              ("verify --format junit five clause", 1, 0), ("verify --format html five clause", 1, 0), characters=IN_A_LINE),
-    *rows_of("an answer", STATED, ("verify five stated", 0, 1), ("verify --format json five stated", 0, 1),
-             ("verify --format junit five stated", 0, 1), ("verify --format html five stated", 0, 1), characters=IN_A_LINE),
+    *rows_of("an answer", STATED, ("verify five stated", 1, 2), ("verify --format json five stated", 1, 2),
+             ("verify --format junit five stated", 1, 2), ("verify --format html five stated", 1, 2), characters=IN_A_LINE),
     *rows_of("a profile", {"names": "# Profile: no~ne\nA gap\n"}, ("verify --profiles . names", 1, 4), characters=IN_A_LINE),
     Row("words", ("words",), 0, None, stdin="# ~\nrx ~\nx~\nc 2862 ~\n", characters=IN_A_LINE),
     Row("live", ("live", "five"), 0, 0, stdin="A~\n# ~\n", characters=IN_A_LINE),
@@ -140,7 +140,7 @@ def test_hostile(build, row, tmp_path, count_runs):
 
 
 OTHERS = [
-    *rows_of("no UTF-8", {"bytes": b"# Plan: \xff\x9b1m\nA c 2c02\nA gap\nslot\n#> A s \xff\n"}, ("verify --summary five bytes", 0, 1)),
+    *rows_of("no UTF-8", {"bytes": b"# Plan: \xff\x9b1m\nA c 2c02\nA gap\nslot\n#> A s \xff\n"}, ("verify --summary five bytes", 1, 2)),
     Row("no UTF-8: words", ("words",), 0, stdin=b"# \xff\n\xff\n"),
     Row("no UTF-8: an argument", (b"lint", b"\xff"), 1, 3),
     Row("an empty name", ("explain", ""), 1, 4),

@@ -7,7 +7,7 @@ import pytest
 from programs import TOP, run, succeed
 
 pytestmark = pytest.mark.usefixtures("clone_as_it_was")
-TARGETS = "build help try check edits library test bench install uninstall deb dist pages clean".split()
+TARGETS = "build help try check edits library page test bench install uninstall deb dist pages clean".split()
 KIT = re.search(r"^export KIT = (.*)$", (TOP / "Makefile").read_text(encoding="utf-8"), re.MULTILINE)[1]
 
 

@@ -29,7 +29,7 @@ rt1553 check .|a.toml b.rt1553 sub
 rt1553 run a.toml .|c.script sub
 rt1553 run a.toml c.script .|
 rt1553 compare a.toml .|a.toml b.rt1553 sub
-rt1553-tool .|--help --version acceptance answers canon check check-script compare coverage differ draw expand explain export import infer lint live messages recording run toml verify words
+rt1553-tool .|--help --version acceptance answers bus canon check check-script compare coverage differ draw expand explain export import infer lint live messages recording run toml verify words
 rt1553-tool answers --|--expand --help
 rt1553-tool run a.toml .|c.script sub
 rt1553-tool compare a.toml .|a.toml b.rt1553 sub
@@ -50,8 +50,8 @@ rt1553-tool coverage --|--expand --format --help --names
 rt1553-tool infer --|--address --expand --help --unseen
 rt1553-tool infer --unseen .|illegal legal
 rt1553-tool acceptance .|a.toml b.rt1553 sub
-rt1553-tool acceptance --|--against --any-subsystem --format --help --names
-rt1553-tool acceptance --format .|csv json text
+rt1553-tool acceptance --|--against --any-subsystem --date --format --help --names
+rt1553-tool acceptance --format .|csv html json junit text
 rt1553-tool acceptance --against .|e.csv sub
 rt1553-tool acceptance --against e.csv .|a.toml b.rt1553 sub
 rt1553-tool draw --html a.toml .|c.script sub

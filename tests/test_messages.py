@@ -255,4 +255,4 @@ def test_messages_to_a_closed_pipe(tool, tmp_path):
     write_files(tmp_path, {**FILES, "long": SCRIPT * 2000})
     with subprocess.Popen([tool, "messages", "five", "long"], cwd=tmp_path, stdout=subprocess.PIPE, stderr=subprocess.PIPE) as ended:
         ended.stdout.close()
-        assert (ended.wait(60), ended.stderr.read()) == (4, b"output: write failed\n")
+        assert (ended.wait(60), ended.stderr.read()) == (141, b"")

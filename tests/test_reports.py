@@ -66,18 +66,20 @@ VERIFIED = [
     Verified("each script names its profile", ["--profiles", "."], ["one", "two", "bare", "away", "gone", "none", "one"], FOLDER),
     *(Verified(f"{name[4:]} events", ["five"], [name], {**FIVE, name: text}) for name, text in LONG.items()),
     Verified("60 messages that differ", ["five"], ["each"], {**FIVE, "each": SILENT * 60}),
+    Verified("1025 messages that differ", ["five"], ["many"], {**FIVE, "many": SILENT * 1025}),
     Verified("hostile names, clauses and answers", ["--profiles", "."], [*HOSTILE_SCRIPTS], HOSTILE_FILES),
     Verified("hostile clauses and answers", ["five"], [*HOSTILE_SCRIPTS], HOSTILE_FILES),
     Verified("hostile names that are not there", ["five"], [f"no{it}ne" for it in HOSTILE], FIVE),
     Verified("the protocol tests", ["--profiles", "examples/validation/profiles"],
              [str(it.relative_to(TOP)) for part in ("scripts", "choices") for it in sorted((TOP / "examples/validation" / part).glob("*"))], None),
 ]  # fmt: skip
-# what is drawn on a page: the lines of the messages that differ; None where there are too many events
+# what is drawn on a page: the lines of the messages that differ, of the first 1,024
 DRAWN = {
     "small scripts": ("wrong", [2, 3, 4, 6, 8, 13, 14, 15]),
     "4096 events": ("long4096", [*range(4033, 4097)]),
-    "4097 events": ("long4097", None),
+    "4097 events": ("long4097", [4097]),
     "60 messages that differ": ("each", [*range(1, 181)]),
+    "1025 messages that differ": ("many", [*range(1, 3073)]),
 }
 
 

@@ -51,6 +51,13 @@ def test_something_refers_to_each_definition_and_item(crate, count_runs):
     count_runs(len(found))
 
 
+@pytest.mark.parametrize("crate", [it for it in CRATES if not it.endswith("_tests")])
+def test_no_attribute_looks_like_a_unit_test(crate):
+    """`rt ci` takes an attribute with the word test, the text of a fault too, for a unit test, and fails where it then finds none."""
+    attributes = re.compile(r"#\s*\[[^]]*\btest\b")
+    assert [it for it in FILES if it.startswith(f"crates/{crate}/src/") and attributes.search((TOP / it).read_text(encoding="utf-8"))] == []
+
+
 @pytest.mark.parametrize("crate", CRATES)
 def test_names_stand_in_one_crate(crate, count_runs):
     found = list(names.names_of(crate))

@@ -10,7 +10,7 @@ from programs import TOP, run, write_files
 
 WORDS = [
     "check", "canon", "compare", "run", "lint", "check-script", "verify", "answers", "recording", "coverage", "infer", "import", "export",
-    "expand", "toml", "explain", "differ", "acceptance", "messages", "draw", "words", "live",
+    "expand", "toml", "explain", "differ", "acceptance", "messages", "draw", "words", "live", "bus",
 ]  # fmt: skip
 BOLD, GREEN, RED, PLAIN = "\033[1m", "\033[32m", "\033[31m", "\033[0m"
 FILES = {

@@ -6,7 +6,7 @@ from programs import Row, check_row, run, with_files, write_files
 FIVE = "address = 5\n"
 KINDS = "address, broadcast, wraparound, accept_bus_control, vector, bit, receive, transmit, both, mode"
 COUNTS = 'allowed is 1 to 32, as "1-3, 5"'
-RULE = 'address = 5\n\n[[rule]]\ncounts = 2\ndirection = "receive"\nsubaddresses = 3\nto = "both"\n'
+RULE = 'address = 5\n\n[[rule]]\ndirection = "receive"\nsubaddresses = 3\ncounts = 2\nto = "both"\n'
 MOST = 1_048_576
 
 
@@ -34,9 +34,14 @@ TABLES = [
     # --- blanks, and capitals
     table("blanks at the ends", ' kind ,value\t," subaddress",words,to\naddress, 5 ,,,\n , ,,,\nreceive,,3 ,"2 ", both\n', 0, RULE),
     table("capitals", "Kind,VALUE,Subaddress,Words,To,Legal\nAddress,5,,,,\nReceive,,3,2,Both,Yes\n", 0,
-          RULE.replace("subaddresses", "legal = true\nsubaddresses")),
+          RULE + "legal = true\n"),
     table("truth values", "kind,value\naddress,5\nbroadcast,Yes\nwraparound,NO\naccept_bus_control,True\n", 0,
-          "accept_bus_control = true\naddress = 5\nbroadcast = true\nwraparound = false\n"),
+          "address = 5\nbroadcast = true\nwraparound = false\naccept_bus_control = true\n"),
+    # --- the order of the rows, their spelling, and names
+    table("the order and the spelling of the table", 'kind,value,subaddress,words,code,to,initial,name\nmode,,,,01,Both,,clock\nvector,0x00Ff,,,,,,\n'
+          'transmit,,3,"1-4, 8",,,8001  a,status\naddress,05,,,,,,"the\nplug"\nbroadcast,YES,,,,,,\n', 0,
+          'vector = 0x00Ff\n# the\\nplug\naddress = 5\nbroadcast = true\n\n# clock\n[[mode]]\ncodes = 1\nto = "both"\n\n'
+          '# status\n[[rule]]\ndirection = "transmit"\nsubaddresses = 3\ncounts = "1-4, 8"\n\n[[initial]]\nsubaddress = 3\nwords = [0x8001, 0xa]\n'),
     table("capitals: the column of a fault as it is written", "Kind,VALUE,Subaddress,Words\naddress,5,,\nReceive,,3,02-Aug\n", 2, "",
           f'3:4: error: Words: "02-Aug": {COUNTS}'),
     # --- numbers
@@ -65,6 +70,32 @@ TABLES = [
 @pytest.mark.parametrize("row", TABLES, ids=lambda it: it.name)
 def test_import(tool, row, tmp_path):
     check_row(tool, row, tmp_path)
+
+
+# what clap says of an argument that is left out
+MISSING = ("error: the following required arguments were not provided:\n  {}\n\nUsage: rt1553-tool import --check <TABLE> <P>\n\n"
+           "For more information, try '--help'.\n")  # fmt: skip
+# a table, a profile that means the same, and others
+PUMP = "kind,value,subaddress,words,name\naddress,5,,,\nreceive,,1,2,speed\n"
+CHECKS = with_files(
+    {"t.csv": PUMP, "same": 'address = 5\n[[rule]]\ndirection = "receive"\nsubaddresses = "1"\ncounts = "2-2"\n', "six": "address = 6\n",
+     "bad": "address = 31\n", "wrong.csv": PUMP.replace("receive", "recieve"), "left.csv": PUMP.replace("name\n", "my name\n")},
+    Row("check: the same", "import --check t.csv same"),
+    Row("check: the option after the files", "import t.csv same --check"),
+    Row("check: another terminal", "import --check t.csv six", 1, 'address:           5 in t.csv, 6 in six\nreceive 1 "speed": count 2 legal in t.csv alone\n'),
+    Row("check: warnings of the table", "import --check left.csv same", 0, "", 'left.csv:1:5: warning: the column "my name" is left out\n'),
+    Row("check: a table with a fault", "import --check wrong.csv same", 2, "", f'wrong.csv:3:1: error: kind: "recieve": allowed is {KINDS}\n'),
+    Row("check: a profile that is refused", "import --check t.csv bad", 2, "", "bad: profile: root: address is out of range\n"),
+    Row("check: a profile that is not there", "import --check t.csv none", 4, "", "file: cannot read none: no such file\n"),
+    Row("check: no profile", "import --check t.csv", 3, "", MISSING.format("<P>")),
+    Row("a profile without --check", "import t.csv same", 3, "", MISSING.format("--check")),
+)  # fmt: skip
+
+
+@pytest.mark.parametrize("row", CHECKS, ids=lambda it: it.name)
+def test_check(tool, row, tmp_path):
+    # clap names the program's file
+    check_row(tool, row._replace(errors=row.errors.replace("Usage: rt1553-tool", f"Usage: {tool.name}")), tmp_path)
 
 
 def test_profile_of_the_largest_size_is_read(tool, tmp_path):

@@ -72,6 +72,28 @@ LINT = with_files(
 )
 
 
+# what is no TOML, where, the message of the TOML library, and what is likely meant
+VALUE = "invalid value, expected a string, number, boolean, date-time, array or inline table"
+HINTED = [
+    ("broadcast = True", 13, VALUE, "true and false have small letters, and there is no yes and no"),
+    ("broadcast = yes", 13, VALUE, "true and false have small letters, and there is no yes and no"),
+    ("vector = 09", 10, VALUE, "a number has no 0 in front"),
+    ("vector = FFFF", 10, VALUE, "hexadecimal digits come after 0x, with a small x"),
+    ("vector = 0X12ab", 10, VALUE, "hexadecimal digits come after 0x, with a small x"),
+    ("vector = 12h", 10, VALUE, "hexadecimal digits come after 0x, with a small x"),
+    ("direction = receive", 13, VALUE, "a text stands between quotes"),
+    ("subaddresses = 1-3", 16, "invalid date-time", 'ranges stand between quotes, as "1-3"'),
+    ("counts = 1, 2", 11, "unexpected key or value, expected newline, `#`", 'several numbers stand between quotes, as "1, 3"'),
+]
+LINT += [
+    Row(f"lint: no TOML: {text}", "lint wrong", 2, f"wrong:2:{column}: error: profile: not TOML: {message}; {hint}\n", files={"wrong": f"address = 5\n{text}\n"})
+    for text, column, message, hint in HINTED
+]
+LINT.append(Row("lint: a canonical text with carriage returns", "lint canonical", 2,
+            "canonical:1:8: error: profile: not TOML: key with no value, expected `=`; a line of a canonical text ends in a line feed, without a carriage return\n",
+            files={"canonical": "rt1553 2\r\naddress 05\r\n"}))
+
+
 @pytest.mark.parametrize("row", LINT, ids=lambda it: it.name)
 def test_lint(tool, row, tmp_path):
     check_row(tool, row, tmp_path)

@@ -27,8 +27,37 @@ EXPANDED_FILES = {
     "refused": "A rx 5 3 2: 0001\nA gap\nA rx 5 31 2\nA tx 5 1 1: 0001\nC gap\nA rx 5 3 1 from 5 4: 0001\n",
     "five": "address = 5\n",
     "check": "A mode 5 2\n#> A s 2800\n\nA mode 5 2\n#> A s 2c00\nA c 2c02\nA gap\nslot\n",
-    "misplaced": "# one\nA rx 5 3 1: 0001\n#> hand receive own 03 0001\n",
+    "misplaced": "# one\nA rx 5 3 1: 0001\n#> A s 2c00\n#> hand receive own 03 0001\n",
 }
+# a terminal with the words 1 and 2 at subaddress 1, and messages whose answers are stated behind them
+NINE = """\
+address = 9
+[[rule]]
+direction = "both"
+subaddresses = "1-3"
+[[initial]]
+subaddress = 1
+words = [1, 2]
+"""
+ANSWERS = """\
+A tx 9 1 2
+#> A s 4800
+#> A d 0001
+#~ A d ....
+# to it
+A rx 9 3 1: 00ff
+#> hand receive own
+#+ 03 00ff
+#> A s 4800
+A rx 9 3 1 from 5 4: 0007
+#> hand receive own 03 0007
+#> A s 4800
+A rx 5 4 2 from 9 1: 0000 0000
+#> A s 4800
+#> A d 0001
+#> A d 0002
+"""
+WRONG = ANSWERS.replace("0002", "0003").replace("03 0007", "03 0008")
 MANY = {"many": "A rx 5 3 1: 0001\n" * 262145}
 EXPANDED = with_files(
     EXPANDED_FILES,
@@ -43,12 +72,22 @@ EXPANDED = with_files(
         errors="refused: messages: line 1, column 17: a data word is wanted: one space and four hexadecimal digits, with small letters\n"),
     Row("messages that draw refuses", "draw --expand five refused", 2,
         errors="refused: messages: line 1, column 17: a data word is wanted: one space and four hexadecimal digits, with small letters\n"),
-    Row("an answer that the last event of a message cannot have", "verify --expand five misplaced", 2,
-        errors="misplaced: script: line 3: the event before it cannot have this answer\n"),
+    Row("an answer that no event of a message is left for", "verify --expand five misplaced", 2,
+        errors="misplaced: script: line 4: the event before it cannot have this answer\n"),
+    Row("answers behind messages", "verify --expand nine stated", files={"nine": NINE, "stated": ANSWERS}),
+    Row("wrong answers behind messages, by the lines of their file", "verify --expand nine wrong", 1,
+        "wrong:10: expected hand receive own 03 0008, came hand receive own 03 0007\nwrong:13: expected A d 0003, came A d 0002\n"
+        "wrong: differences: 2\n", files={"nine": NINE, "wrong": WRONG}),
+    Row("a word that is not stated behind a message", "verify --expand nine short", 1,
+        "short:1: expected nothing, came A d 0001\nshort: differences: 1\n", files={"nine": NINE, "short": "A tx 9 1 1\n#> A s 4800\n"}),
+    Row("expanded answers", "expand --for nine short", 0,
+        "A c 4c21\nA gap\nslot\n#> A s 4800\nslot\n", files={"nine": NINE, "short": "A tx 9 1 1\n#> A s 4800\n"}),
     Row("an expanded script that would be too long", "expand many", 2, errors="many: script: too many lines\n", files=MANY),
     Row("too many messages to verify", "verify --expand five many", 2, errors="many: script: too many lines\n", files=MANY),
 )
 
+MESSAGE = "a message and no event: `expand` writes its events, and --expand reads messages"
+FLAG = "a flag is service, busy, subsystem or terminal, in small letters"
 ASK = "A c 2c02\nA gap\nslot\n"
 ANSWERED = with_files(
     {**EXPANDED_FILES, "ask": ASK, "asks": ASK * 349525},
@@ -56,10 +95,10 @@ ANSWERED = with_files(
     Row("answers of messages", "answers --expand five message", 0, f"# status\n{ASK}#> A s 2800\n", files={"message": "# status\nA mode 5 2\n"}),
     Row("answers of messages that are refused", "answers --expand five refused", 2,
         errors="refused: messages: line 1, column 17: a data word is wanted: one space and four hexadecimal digits, with small letters\n"),
-    Row("a stated answer that the last event of a message cannot have", "answers --expand five misplaced", 2,
-        errors="misplaced: script: line 3: the event before it cannot have this answer\n"),
+    Row("a stated answer that no event of a message is left for", "answers --expand five misplaced", 2,
+        errors="misplaced: script: line 4: the event before it cannot have this answer\n"),
     Row("messages without --expand", "answers five message", 2,
-        errors="message: script: line 1, column 3: after a bus, c, d, gap or noise is expected\n", files={"message": "A mode 5 2\n"}),
+        errors=f"message: script: line 1, column 3: {MESSAGE}\n", files={"message": "A mode 5 2\n"}),
     Row("no script", "answers five none", 4, errors="file: cannot read none: no such file\n"),
     Row("no profile", "answers none ask", 4, errors="file: cannot read none: no such file\n"),
     Row("a script that would be too long", "answers five asks", 2, errors="asks: script: too many lines\n"),
@@ -97,8 +136,10 @@ LINES = [
     ("A c 2862 1 1", 11, "nothing may follow the last field"),
     ("slot 1", 5, "nothing may follow the last field"),
     ("bit 0001 0", 9, "nothing may follow the last field"),
-    ("flag", 5, "a flag is service, busy, subsystem or terminal"),
-    ("flag bussy 1", 6, "a flag is service, busy, subsystem or terminal"),
+    *((f"A {it}", 3, MESSAGE) for it in ("rx 5 3 1: 0001", "tx 5 3 1", "mode 5 2", "status 6 0", "data 0001")),
+    ("flag", 5, FLAG),
+    ("flag bussy 1", 6, FLAG),
+    ("flag Busy 1", 6, FLAG),
     ("flag busy", 10, "a flag is set by 1 and taken back by 0"),
     ("flag busy on", 11, "a flag is set by 1 and taken back by 0"),
     (f"#{0:064}", 65, "over 64 bytes before the line feed"),

@@ -63,8 +63,10 @@ NAMED_FILES = {
     "own": "# Profile: named.toml\nA c f822\nA d 0001\nA d 0002\nA gap\n#> hand receive broadcast 01 0001\n",
     "six.csv": "kind,value,subaddress,words,name\naddress,5,,,\n" + "".join(f"receive,,{it},1,name {it}\n" for it in range(1, 7)),
     "none.toml": "address = 5\n",
+    "general.csv": "kind,value,subaddress,words,name\naddress,5,,,\nreceive,,1,1,\nreceive,,1-6,1-32,other\n",
+    "w": "A c 2821\nA d 0001\nA gap\nslot\n#> A s 2800\nA c 2841\nA d 0001\nA gap\nslot\n#> A s 2800\n",
 }  # fmt: skip
-CHANGES = [("counts = 4", "counts = 3"), ('"1-4, 8"', '"1-3, 5"'), ('codes = "16,19"', "codes = 16"), ("words = [1, 2]", "words = [1, 3]")]
+CHANGES = [("counts = 4", "counts = 3"), ('"1-4, 8"', '"1-3, 5"'), ('codes = "16,19"', "codes = 16"), ("words = [0x0001, 0x0002]", "words = [0x0001, 0x0003]")]
 FAULTS = (
     'wrong.csv:3:1: error: kind: "recieve": allowed is address, broadcast, wraparound, accept_bus_control, vector, bit, receive, transmit, '
     'both, mode\nwrong.csv:2:2: error: value: "31": allowed is 0 to 30\n'
@@ -96,6 +98,9 @@ NAMED = [
     Row("verify with names, each script with its profile", "verify --names names.csv --profiles folder own", 1,
         'own:5: "e\\u{1b}[2Kf\\u{202e}g": expected hand receive broadcast 01 0001, came hand receive broadcast 01 0001 0002\n'
         "own: differences: 1\n"),
+    Row("a row without a name hides those behind it", "verify --names general.csv six.toml w", 1,
+        'w:3: expected nothing, came hand receive own 01 0001\nw:8: "other": expected nothing, came hand receive own 02 0001\n'
+        "w: differences: 2\n"),
     Row("a line with more than five names", "differ --names six.csv six.toml none.toml", 1,
         'receive 1-6 "name 1", "name 2", "name 3", "name 4", "name 5", ..: count 1 legal in six.toml alone\n'),
     Row("a table of names with faults", "explain --names wrong.csv named.toml", 2, errors=FAULTS),

@@ -1,7 +1,7 @@
 -- Why a line is no line of a script, in words.
 use Rattle.std.specs.Prelude.{ℕ, List, codes}
 use Rattle.refused_lines.specs.declared.reason.LineReason.{LineReason}
-use Rattle.refused_lines.specs.declared.reason.LineReason.TheVariants.{Long, Mark, Return, Tab, Front, Spaces, End, Comment, Name, Spelling, OnBus, Sent, Digits, Parity, Subaddress, Number, Flag, Value, Much, Many, Answer}
+use Rattle.refused_lines.specs.declared.reason.LineReason.TheVariants.{Long, Mark, Return, Tab, Front, Spaces, End, Comment, Name, Spelling, OnBus, Sent, Digits, Parity, Subaddress, Number, Flag, Value, Much, Many, Answer, Message}
 
 -- the words of a reason
 abbrev pub reason_text : LineReason → List ℕ
@@ -21,8 +21,9 @@ reason_text Digits = codes "a word is four hexadecimal digits, without a mark"
 reason_text Parity = codes "a parity bit is 0 or 1"
 reason_text Subaddress = codes "a subaddress is two digits, 01 to 30"
 reason_text Number = codes "the number of a word is two digits, 01 to 32"
-reason_text Flag = codes "a flag is service, busy, subsystem or terminal"
+reason_text Flag = codes "a flag is service, busy, subsystem or terminal, in small letters"
 reason_text Value = codes "a flag is set by 1 and taken back by 0"
 reason_text Much = codes "nothing may follow the last field"
 reason_text Many = codes "a script has at most 1,048,576 lines"
 reason_text Answer = codes "looks like a stated answer and is a comment: one space comes after #>, #~ or #+, and none before it"
+reason_text Message = codes "a message and no event: `expand` writes its events, and --expand reads messages"

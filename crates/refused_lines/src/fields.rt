@@ -9,9 +9,6 @@ const FIRST_NAMES: [&str; 7] = ["A", "B", "slot", "write", "vector", "bit", "fla
 /// The names that can stand behind a bus.
 const BUS_NAMES: [&str; 4] = ["c", "d", "gap", "noise"];
 
-/// The names of flags.
-const FLAG_NAMES: [&str; 4] = ["service", "busy", "subsystem", "terminal"];
-
 /// Where a line doesn't fit: with so many bytes left of it.
 #[derive(Clone, Copy)]
 struct Stop {
@@ -156,6 +153,7 @@ fn in_bus(rest: &[u8]) -> Stop {
         b"c" | b"d" => in_word_on_bus(more),
         b"gap" | b"noise" => stop_at(more, LineReason::Much),
         b"s" => stop_at(from, LineReason::Sent),
+        b"rx" | b"tx" | b"mode" | b"status" | b"data" => stop_at(from, LineReason::Message),
         _ => wrong_name(from, field, &BUS_NAMES, LineReason::OnBus),
     }
 }
@@ -179,7 +177,7 @@ fn in_flag(rest: &[u8]) -> Stop {
     let (field, more) = next_field(from);
     match field {
         b"service" | b"busy" | b"subsystem" | b"terminal" => in_truth(more, LineReason::Value),
-        _ => wrong_name(from, field, &FLAG_NAMES, LineReason::Flag),
+        _ => stop_at(from, LineReason::Flag),
     }
 }
 

@@ -32,6 +32,7 @@ pub enum LineReason {
     Much,
     Many,
     Answer,
+    Message,
 }
 
 impl LineReason {
@@ -60,12 +61,14 @@ impl LineReason {
             LineReason::Parity => "a parity bit is 0 or 1",
             LineReason::Subaddress => "a subaddress is two digits, 01 to 30",
             LineReason::Number => "the number of a word is two digits, 01 to 32",
-            LineReason::Flag => "a flag is service, busy, subsystem or terminal",
+            LineReason::Flag => "a flag is service, busy, subsystem or terminal, in small letters",
             LineReason::Value => "a flag is set by 1 and taken back by 0",
             LineReason::Much => "nothing may follow the last field",
             LineReason::Many => "a script has at most 1,048,576 lines",
             LineReason::Answer =>
                 "looks like a stated answer and is a comment: one space comes after #>, #~ or #+, and none before it",
+            LineReason::Message =>
+                "a message and no event: `expand` writes its events, and --expand reads messages",
         }
     }
 }

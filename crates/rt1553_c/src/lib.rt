@@ -23,14 +23,12 @@ ghost use Rattle.script_lines.specs.EventLine.{script_text};
 ghost use Rattle.rt1553_c.specs.Told.{IsTold, IsNotWritten, IsTooLong, RunsThrough, IsStopped, IsPlayed, IsNoMemory, IsLongState, IsNotRestoredFor, IsNewOf, when_done, when_ok};
 
 mod memory;
-mod room;
 
 use memory::{TextSource, TranscriptSink};
-use room::{event_lines, put_all};
 use rt1553::{EngineFault, LoadFault, Verdict, canonical, compare, load, run};
 use rt1553_live::{
-    Live, PlainAnswer, PlainEvent, PlainFault, copy_live, new_live, restore_live, save_live,
-    step_live, tell_fault, tell_restore_fault,
+    Live, PlainAnswer, PlainEvent, PlainFault, copy_live, event_lines, new_live, put_all,
+    restore_live, save_live, step_live, tell_fault, tell_restore_fault,
 };
 use std::alloc::Global;
 

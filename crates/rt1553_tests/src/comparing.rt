@@ -122,7 +122,7 @@ fn others_and_missing_ones(rt: HostRuntime) -> Result<(), Fail> {
     assert!(rt; !comparison.passes());
     let mut told = String::new(alloc);
     for difference in &comparison.wrong_replies {
-        writeln!(told, "{difference}")?;
+        writeln!(told, "{}: {difference}", difference.number)?;
     }
     for numbers in &comparison.missing {
         writeln!(told, "{numbers}")?;
@@ -188,7 +188,7 @@ fn first_unexplained_reply(rt: HostRuntime) -> Result<(), Fail> {
     for (text, told) in EXPLAINED {
         let explained = explained(alloc, text)?;
         let line = match &explained.first {
-            Some(first) => format!(in alloc; "{first}")?,
+            Some(first) => format!(in alloc; "{}: {first}", first.number)?,
             None => String::new(alloc),
         };
         assert_eq!(rt; line.as_str(), told);

@@ -1,5 +1,5 @@
 //! What only calls show: worked messages, columns, and texts of faults.
-use rt1553_expand::{ExpandFault, Expanded, UnexpandedLine, expand, gather};
+use rt1553_expand::{ExpandFault, Expanded, UnexpandedLine, expand, gather, source_lines};
 use std::alloc::{AllocError, Global};
 use std::format;
 use std::test::Fail;
@@ -243,6 +243,74 @@ fn kept_lines(rt: HostRuntime) -> Result<(), Fail> {
     let want = format!(in rt.alloc(); "{text}\n")?;
     assert!(rt; expands(rt.alloc(), text, want.as_str())?);
     assert!(rt; expands(rt.alloc(), "", "")?);
+    Ok(())
+}
+
+#[test]
+fn stated_answers(rt: HostRuntime) -> Result<(), Fail> {
+    let cases: [(u8, &str, &str); 9] = [
+        (
+            5,
+            "A tx 5 1 2\n#> A s 2800\n#~ A d ....\n#~ *\n",
+            "A c 2c22\nA gap\nslot\n#> A s 2800\nslot\n#~ A d ....\nslot\n#~ *\n",
+        ),
+        (
+            5,
+            "A rx 5 3 1: 0001\n#> hand receive own 03\n#+ 0001\n#> A s\n#+ 2800\n# x\n#> A s 2800\n",
+            "A c 2861\nA d 0001\nA gap\n#> hand receive own 03\n#+ 0001\nslot\n#> A s\n#+ 2800\n# x\n#> A s 2800\n",
+        ),
+        // in a transfer the hand-over comes behind the data words
+        (
+            5,
+            "A rx 5 3 1 from 6 4: 0001\n#> hand receive own 03 0001\n#> A s 2800\n",
+            "A c 2861\nA c 3481\nA gap\nA c 3000\nA d 0001\nA gap\n#> hand receive own 03 0001\nslot\n#> A s 2800\n",
+        ),
+        (
+            6,
+            "A rx 5 3 1 from 6 4: 0000\n#> A s 3000\n#> A d 0007\n",
+            "A c 2861\nA c 3481\nA gap\nslot\n#> A s 3000\nslot\n#> A d 0007\n",
+        ),
+        (
+            5,
+            "B rx all 3 1: 0001\n#~ hand\nB mode 5 1\n#> hand sync\n",
+            "B c f861\nB d 0001\nB gap\n#~ hand\nB c 2c01\nB gap\n#> hand sync\nslot\n",
+        ),
+        // those that no event is left for
+        (
+            5,
+            "A mode 5 1\n#~ handed\n#> hand sync\n#> A s 2800\nslot\n#> x\n#> y\n",
+            "A c 2c01\nA gap\nslot\n#~ handed\n#> hand sync\n#> A s 2800\nslot\n#> x\n#> y\n",
+        ),
+        (
+            5,
+            "A tx 5 1 1\n#+ x\n#+ y\n#> A d 0000\n",
+            "A c 2c21\nA gap\nslot\n#+ x\n#+ y\nslot\n#> A d 0000\n",
+        ),
+        (
+            5,
+            "A tx 5 1 1\n\n#> A s 2800\n",
+            "A c 2c21\nA gap\nslot\nslot\n\n#> A s 2800\n",
+        ),
+        (
+            5,
+            "A tx 5 1 1\n#>A s 2800\n",
+            "A c 2c21\nA gap\nslot\nslot\n#>A s 2800\n",
+        ),
+    ];
+    for (own, text, script) in cases {
+        let found = script_for(rt.alloc(), Some(own), text.as_bytes())?;
+        assert!(rt; found.as_slice() == script.as_bytes(), "{text}");
+    }
+    Ok(())
+}
+
+#[test]
+fn lines_of_stated_answers(rt: HostRuntime) -> Result<(), Fail> {
+    let text =
+        b"A tx 5 1 2\n#> A s 2800\n#> A d 0001\n#> A d 0002\nA rx 5 3 1: 0001\n#> hand\n#+ x\n";
+    let found = source_lines(rt.alloc(), text, None)?;
+    let want: [u64; 14] = [1, 1, 1, 2, 1, 3, 1, 4, 5, 5, 5, 6, 7, 5];
+    assert!(rt; found.as_slice() == want.as_slice());
     Ok(())
 }
 

@@ -1,7 +1,8 @@
 //! What only calls show: the lines of faults, names as comments, warnings, and tables as spreadsheets save them.
-use rt1553_import::{ImportFault, import_table, told_text};
+use rt1553_import::{ImportFault, import_table};
 use std::alloc::{AllocError, Global};
 use std::test::Fail;
+use tool_names::{table_warnings, told_text};
 
 /// A table as a spreadsheet saves it: a byte order mark, semicolons, quotes and carriage returns.
 const DISPLAY: &[u8] =
@@ -14,16 +15,16 @@ const DISPLAY: &[u8] =
 
 const DISPLAY_PROFILE: &str = "address = 7
 
+# pages; one each
+[[rule]]
+direction = \"receive\"
+subaddresses = \"1-4\"
+counts = \"1-32\"
+to = \"own\"
+
 [[mode]]
 codes = 17
 legal = true
-
-# pages; one each
-[[rule]]
-counts = \"1-32\"
-direction = \"receive\"
-subaddresses = \"1-4\"
-to = \"own\"
 ";
 
 /// A table with commas, initial words, a column that is left out, and a name that would end its comment.
@@ -33,19 +34,18 @@ wraparound,FALSE,,,,,x
 transmit,, 2 ,4,0001  a 00ff,\"state\n[[rule]]\",
 ";
 
-const RECORDER_PROFILE: &str = "address = 19
+const RECORDER_PROFILE: &str = "address = 0x13
 wraparound = false
 
 # state\\n[[rule]]
-[[initial]]
-subaddress = 2
-words = [1, 10, 255]
-
-# state\\n[[rule]]
 [[rule]]
-counts = 4
 direction = \"transmit\"
 subaddresses = 2
+counts = 4
+
+[[initial]]
+subaddress = 2
+words = [0x0001, 0xa, 0x00ff]
 ";
 
 #[test]
@@ -55,7 +55,7 @@ fn tables_of_spreadsheets(rt: HostRuntime) -> Result<(), Fail> {
         return Err("refused")?;
     };
     assert_eq!(rt; display.profile.as_str(), DISPLAY_PROFILE);
-    assert!(rt; display.warnings.is_empty());
+    assert!(rt; table_warnings(alloc, &display.sheet)?.is_empty());
     Ok(())
 }
 
@@ -67,7 +67,7 @@ fn names_and_warnings(rt: HostRuntime) -> Result<(), Fail> {
     };
     assert_eq!(rt; recorder.profile.as_str(), RECORDER_PROFILE);
     let mut told = String::new(alloc);
-    for warning in &recorder.warnings {
+    for warning in &table_warnings(alloc, &recorder.sheet)? {
         writeln!(told, "{warning}")?;
     }
     assert_eq!(rt;
