@@ -43,13 +43,13 @@ is_value text (Some v) = bytes_eq v text
 abbrev pub HasValue : Found → Text → Text → Type 0
 HasValue f id v = first_value f id ≡ Some v
 
--- the address of a terminal is this number, in decimal digits
-abbrev pub HasAddress : Found → ℕ → Type 0
-HasAddress f a = (text : Text) × HasValue f (codes "address") text × IsNumeral 10 text × (digits_value 10 text ≡ a) × (a ≤ 30)
-
 -- the text is a number up to this one, in decimal digits
 abbrev pub IsNumberUpTo : ℕ → Text → ℕ → Type 0
 IsNumberUpTo most text n = IsNumeral 10 text × (digits_value 10 text ≡ n) × (n ≤ most)
+
+-- the address of a terminal is this number
+abbrev pub HasAddress : Found → ℕ → Type 0
+HasAddress f a = (text : Text) × HasValue f (codes "address") text × IsNumberUpTo 30 text a
 
 -- an address of the bus, 0 to 30 or all for 31, or none is given
 abbrev pub HasBusAddress : Found → Option ℕ → Type 0

@@ -16,6 +16,9 @@ use std::alloc::{AllocError, AllocFailed, Global};
 /// What the program does.
 const ABOUT: &str = "Checks, explains, compares and tests profiles of a remote terminal";
 
+/// What is said where no command is asked for.
+pub(crate) const NO_COMMAND: &str = "see --help";
+
 /// What follows the commands in the help.
 const OPTIONS: &str = "\nOptions:\n\
     \x20 -h, --help     Print help; behind a command what the command takes\n\
@@ -30,8 +33,8 @@ pub enum NoCommand {
     Refused,
     /// What clap says of the arguments can't be printed.
     Output,
-    /// The arguments name no job.
-    Usage,
+    /// The arguments name no job, for this cause, a text that follows `arguments: `.
+    Usage(&'static str),
     /// Out of memory.
     Memory,
 }
@@ -160,7 +163,7 @@ fn say<R: AllocGlobal + Print + Eprint>(rt: &R, args: &[String]) -> Result<NoCom
     let (shown, help) = (shown_args(rt.alloc(), args)?, help_text(rt.alloc())?);
     let told = program(rt.alloc())?.override_help(help.as_str());
     let Err(error) = told.try_get_matches_from(shown.as_slice()) else {
-        return Ok(NoCommand::Usage);
+        return Ok(NoCommand::Usage(NO_COMMAND));
     };
     if error.kind() == ErrorKind::OutOfMemory {
         return Ok(NoCommand::Memory);

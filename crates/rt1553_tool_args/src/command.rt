@@ -1,11 +1,11 @@
 //! What the command line asks for.
 ghost use Rattle.std.specs.Prelude.{◌≡◌, IfOk, codes, option_map, true};
 ghost use Rattle.clap.specs.Words.{first_value, found_of};
-ghost use Rattle.rt1553_tool_args.specs.Commands.{Asks, AsksKind, AsksReport, HasAddress, HasBusAddress, HasDate, HasSubaddress, HasOption, HasValue, IsAskedBy, IsNumberUpTo, all_values, command_name, coverage_format_of, format_of, is_given, is_json, lint_format_of, messages_format_of, report_format_of, texts_of};
+ghost use Rattle.rt1553_tool_args.specs.Commands.{Asks, AsksKind, AsksReport, HasAddress, HasBusAddress, HasDate, HasSubaddress, HasOption, HasValue, IsAskedBy, all_values, command_name, coverage_format_of, format_of, is_given, is_json, lint_format_of, messages_format_of, report_format_of, texts_of};
 
-use crate::args::NoCommand;
+use crate::args::{NO_COMMAND, NoCommand};
 use crate::date::is_date;
-use crate::messages::{bus_command, messages_command};
+use crate::messages::{bus_command, messages_command, number_of};
 use clap::ArgMatches;
 use std::alloc::Global;
 
@@ -317,7 +317,7 @@ pub(crate) fn required<'a>(given: &ArgMatches<'a>, id: &str) -> Result<&'a str, 
 {
     match given.get_str(id) {
         Some(value) => Ok(value),
-        None => Err(NoCommand::Usage),
+        None => Err(NoCommand::Usage(NO_COMMAND)),
     }
 }
 
@@ -325,11 +325,7 @@ pub(crate) fn required<'a>(given: &ArgMatches<'a>, id: &str) -> Result<&'a str, 
 fn address_of(given: &ArgMatches<'_>) -> Result<u8, NoCommand>
     ensures { IfOk result (HasAddress (found_of given.now)) }
 {
-    let text = required(given, "address")?;
-    match text.parse::<u8>() {
-        Ok(address) if address <= 30 && !text.starts_with('+') => Ok(address),
-        _ => Err(NoCommand::Usage),
-    }
+    number_of(required(given, "address")?, 30, "--address is 0 to 30")
 }
 
 /// The values of an argument; none where it is left out.
@@ -409,7 +405,7 @@ fn report_of(given: &ArgMatches<'_>) -> Result<(ReportFormat, bool), NoCommand>
     match (report_format(given), summary) {
         (ReportFormat::Text, summary) => Ok((ReportFormat::Text, summary)),
         (format, false) => Ok((format, false)),
-        (_, true) => Err(NoCommand::Usage),
+        (_, true) => Err(NoCommand::Usage("--summary is for --format text alone")),
     }
 }
 
@@ -419,9 +415,11 @@ fn date_of<'a>(given: &ArgMatches<'a>, format: ReportFormat) -> Result<Option<&'
 {
     match (given.get_str("date"), format) {
         (None, _) => Ok(None),
-        (Some(_), ReportFormat::Text) => Err(NoCommand::Usage),
+        (Some(_), ReportFormat::Text) => Err(NoCommand::Usage("--date is not for text")),
         (Some(date), _) if is_date(date.as_bytes()) => Ok(Some(date)),
-        (Some(_), _) => Err(NoCommand::Usage),
+        (Some(_), _) => Err(NoCommand::Usage(
+            "--date is as 2026-01-31T12:00:00, also with Z or an offset",
+        )),
     }
 }
 
@@ -438,7 +436,10 @@ fn script_kind(given: &ArgMatches<'_>) -> Result<ScriptKind, NoCommand>
         (true, false, false) => Ok(ScriptKind::BusTest),
         (false, true, false) => Ok(ScriptKind::Recording),
         (false, true, true) => Ok(ScriptKind::LaterRecording),
-        _ => Err(NoCommand::Usage),
+        (true, true, _) => Err(NoCommand::Usage(
+            "--bus-only and --any-subsystem exclude each other",
+        )),
+        (_, false, true) => Err(NoCommand::Usage("--already-on is for --any-subsystem")),
     }
 }
 
@@ -449,10 +450,10 @@ fn witness_command<'a>(alloc: Global, given: &ArgMatches<'a>) -> Result<ToolComm
 {
     let script = match all_of(alloc, given, "script")?.as_slice() {
         [script] => *script,
-        _ => return Err(NoCommand::Usage),
+        _ => return Err(NoCommand::Usage("--witness explains one script")),
     };
     if given.get_str("profiles").is_some() || given.get_str("date").is_some() {
-        return Err(NoCommand::Usage);
+        return Err(NoCommand::Usage("--witness excludes --profiles and --date"));
     }
     match (script_kind(given)?, report_of(given)?) {
         (
@@ -467,7 +468,10 @@ fn witness_command<'a>(alloc: Global, given: &ArgMatches<'a>) -> Result<ToolComm
                 names: names_of(given),
             }))
         }
-        _ => Err(NoCommand::Usage),
+        (_, (ReportFormat::Text, false)) => {
+            Err(NoCommand::Usage("--witness is for --any-subsystem"))
+        }
+        _ => Err(NoCommand::Usage("--witness excludes --summary and the formats but text")),
     }
 }
 
@@ -489,7 +493,7 @@ fn verify_command<'a>(alloc: Global, given: &ArgMatches<'a>) -> Result<ToolComma
         None => Profiles::One(required(given, "profile")?),
     };
     if scripts.is_empty() {
-        return Err(NoCommand::Usage);
+        return Err(NoCommand::Usage("verify takes a script or several"));
     }
     let (format, summary) = report_of(given)?;
     let asked = AskedReport {
@@ -560,7 +564,7 @@ fn import_command<'a>(given: &ArgMatches<'a>) -> Result<ToolCommand<'a>, NoComma
     match (is_flag_given(given, "check"), given.get_str("profile")) {
         (false, None) => Ok(ToolCommand::Import(table)),
         (true, Some(profile)) => Ok(ToolCommand::CheckImport { table, profile }),
-        _ => Err(NoCommand::Usage),
+        _ => Err(NoCommand::Usage("import takes P with --check alone")),
     }
 }
 
@@ -608,7 +612,7 @@ fn against_command<'a>(
     ensures { IfOk result (λ command. (command_name command ≡ codes "acceptance") × Asks (found_of given.now) command) }
 {
     if given.get_str("format") == Some("csv") {
-        return Err(NoCommand::Usage);
+        return Err(NoCommand::Usage("--against excludes --format csv"));
     }
     let format = report_format(given);
     Ok(ToolCommand::Against(AskedResults {
@@ -630,7 +634,9 @@ fn acceptance_command<'a>(given: &ArgMatches<'a>) -> Result<ToolCommand<'a>, NoC
     }
     let is_report = matches!(given.get_str("format"), Some("junit") | Some("html"));
     if is_report || is_flag_given(given, "any-subsystem") || given.get_str("date").is_some() {
-        return Err(NoCommand::Usage);
+        return Err(NoCommand::Usage(
+            "--format junit and html, --any-subsystem and --date are for --against",
+        ));
     }
     Ok(ToolCommand::Acceptance {
         profile: required(given, "profile")?,
@@ -726,7 +732,7 @@ fn command_of<'a>(
         "run" => run_command(given),
         "bus" => bus_command(alloc, given),
         "compare" => compare_command(given),
-        _ => Err(NoCommand::Usage),
+        _ => Err(NoCommand::Usage(NO_COMMAND)),
     }
 }
 
@@ -738,7 +744,7 @@ pub fn tool_command_of<'a>(
     ensures { IfOk result (IsAskedBy matches.now) }
 {
     match matches.subcommand() {
-        None => Err(NoCommand::Usage),
+        None => Err(NoCommand::Usage(NO_COMMAND)),
         Some((name, given)) => command_of(alloc, name, given),
     }
 }

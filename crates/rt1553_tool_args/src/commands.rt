@@ -50,13 +50,6 @@ const OTHER: Argument = Argument {
     help: "another profile or canonical text",
 };
 
-const DATE: Argument = Argument {
-    id: "date",
-    given: Occurrence::Value,
-    value: "DATE",
-    help: "the date of the report, as 2026-01-31T12:00:00, also with Z or an offset",
-};
-
 const ADDRESS: Argument = Argument {
     id: "address",
     given: Occurrence::Needed,
@@ -139,13 +132,13 @@ const OF_VERIFY: [Argument; 12] = [
         id: "summary",
         given: Occurrence::Flag,
         value: "",
-        help: "prints what passes, too, clause by clause",
+        help: "as text prints what passes, too, clause by clause",
     },
     Argument {
         id: "bus-only",
         given: Occurrence::Flag,
         value: "",
-        help: "ignores hand-overs that a script does not state",
+        help: "ignores hand-overs that a script does not state; not with --any-subsystem",
     },
     Argument {
         id: "any-subsystem",
@@ -163,7 +156,7 @@ const OF_VERIFY: [Argument; 12] = [
         id: "witness",
         given: Occurrence::Flag,
         value: "",
-        help: "with --any-subsystem prints a script that explains the recording",
+        help: "with --any-subsystem prints, as text, a script that explains one recording",
     },
     EXPAND,
     Argument {
@@ -179,7 +172,12 @@ const OF_VERIFY: [Argument; 12] = [
         help: "the output format",
     },
     NAMES,
-    DATE,
+    Argument {
+        id: "date",
+        given: Occurrence::Value,
+        value: "DATE",
+        help: "not as text: the date, as 2026-01-31T12:00:00, also with Z or an offset",
+    },
 ];
 
 const OF_ANSWERS: [Argument; 3] = [PROFILE, SCRIPT, EXPAND];
@@ -320,10 +318,15 @@ const OF_ACCEPTANCE: [Argument; 6] = [
         id: "format",
         given: Occurrence::OneOf("text", &TEXT_OR_CSV_OR_JSON_OR_JUNIT_OR_HTML),
         value: "format",
-        help: "the output format; junit, html: with --against",
+        help: "the output format; csv: without --against; junit, html: with it",
     },
     NAMES,
-    DATE,
+    Argument {
+        id: "date",
+        given: Occurrence::Value,
+        value: "DATE",
+        help: "with --against, not as text: the date, as 2026-01-31T12:00:00Z",
+    },
 ];
 
 const OF_MESSAGES: [Argument; 8] = [
@@ -352,7 +355,7 @@ const OF_MESSAGES: [Argument; 8] = [
         id: "format",
         given: Occurrence::OneOf("text", &TEXT_OR_CSV_OR_JSON_OR_MESSAGES),
         value: "format",
-        help: "the output format",
+        help: "the output format; messages excludes the other options but --expand",
     },
     NAMES,
 ];

@@ -11,13 +11,13 @@ use crate::command::{
 use clap::ArgMatches;
 use std::alloc::Global;
 
-/// A number up to this one, of decimal digits alone.
-fn number_of(text: &str, most: u8) -> Result<u8, NoCommand>
+/// A number up to this one, of decimal digits alone; refused for this cause.
+pub(crate) fn number_of(text: &str, most: u8, cause: &'static str) -> Result<u8, NoCommand>
     ensures { IfOk result (λ n. IsNumberUpTo most text.now n) }
 {
     match text.parse::<u8>() {
         Ok(number) if number <= most && !text.starts_with('+') => Ok(number),
-        _ => Err(NoCommand::Usage),
+        _ => Err(NoCommand::Usage(cause)),
     }
 }
 
@@ -27,7 +27,7 @@ fn bus_address_of(given: &ArgMatches<'_>) -> Result<Option<u8>, NoCommand>
 {
     match given.get_str("rt") {
         Some("all") => Ok(Some(31)),
-        Some(text) => Ok(Some(number_of(text, 30)?)),
+        Some(text) => Ok(Some(number_of(text, 30, "--rt is 0 to 30, or all")?)),
         None => Ok(None),
     }
 }
@@ -37,7 +37,7 @@ fn subaddress_of(given: &ArgMatches<'_>) -> Result<Option<u8>, NoCommand>
     ensures { IfOk result (HasSubaddress (found_of given.now)) }
 {
     match given.get_str("subaddress") {
-        Some(text) => Ok(Some(number_of(text, 31)?)),
+        Some(text) => Ok(Some(number_of(text, 31, "--subaddress is 0 to 31")?)),
         None => Ok(None),
     }
 }
@@ -69,7 +69,9 @@ fn gather_command<'a>(given: &ArgMatches<'a>) -> Result<ToolCommand<'a>, NoComma
                 expand: is_flag_given(given, "expand"),
             }))
         }
-        _ => Err(NoCommand::Usage),
+        _ => Err(NoCommand::Usage(
+            "--format messages excludes --rt, --subaddress, --errors and --names",
+        )),
     }
 }
 
@@ -97,7 +99,7 @@ fn alone_of(given: &ArgMatches<'_>) -> Result<Option<u8>, NoCommand>
     ensures { IfOk result (HasAlone (found_of given.now)) }
 {
     match given.get_str("alone") {
-        Some(text) => Ok(Some(number_of(text, 30)?)),
+        Some(text) => Ok(Some(number_of(text, 30, "--alone is 0 to 30")?)),
         None => Ok(None),
     }
 }

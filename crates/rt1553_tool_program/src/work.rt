@@ -120,7 +120,7 @@ pub fn run_tool<R: Env + Files + AllocGlobal + Print + Eprint, I: Read + Drop, O
         Err(NoCommand::Helped) => Ok(0),
         Err(NoCommand::Refused) => Ok(USAGE),
         Err(NoCommand::Output) => Err(ToolFault::Output),
-        Err(NoCommand::Usage) => Err(ToolFault::Usage),
+        Err(NoCommand::Usage(cause)) => Err(ToolFault::Usage(cause)),
         Err(NoCommand::Memory) => Err(ToolFault::Memory),
     }
 }

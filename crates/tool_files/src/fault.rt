@@ -80,8 +80,8 @@ pub enum ToolFault {
     Refused(String),
     /// An argument is not UTF-8.
     NotText,
-    /// A word is missing.
-    Usage,
+    /// The arguments don't fit together, or have a wrong value, for this cause.
+    Usage(&'static str),
     /// A file isn't read, for this cause.
     Unread(String, UnreadCause),
 }
@@ -119,7 +119,7 @@ impl fmt::Display for ToolFault {
             ),
             ToolFault::Refused(told) => f.write_str(told.as_str()),
             ToolFault::NotText => f.write_str("arguments: one is not UTF-8"),
-            ToolFault::Usage => f.write_str("arguments: see --help"),
+            ToolFault::Usage(cause) => write!(f, "arguments: {cause}"),
             ToolFault::Unread(name, UnreadCause::TooLarge(most)) => {
                 write!(f, "file: too large {name}{}", UnreadCause::TooLarge(*most))
             }
@@ -141,7 +141,7 @@ impl ToolFault {
             | ToolFault::Line(_, _)
             | ToolFault::Message(_, _)
             | ToolFault::Refused(_) => REFUSED,
-            ToolFault::NotText | ToolFault::Usage => USAGE,
+            ToolFault::NotText | ToolFault::Usage(_) => USAGE,
             _ => 4,
         }
     }

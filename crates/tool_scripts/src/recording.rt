@@ -21,7 +21,9 @@ fn silence(given: Option<&str>, default: u64) -> Result<u64, ToolFault> {
     };
     match read_time(text.as_bytes()) {
         Some(time) => Ok(time.nanos),
-        None => Err(ToolFault::Usage),
+        None => Err(ToolFault::Usage(
+            "--gap, --no-response and --pause are in microseconds, as 4.5",
+        )),
     }
 }
 
@@ -30,7 +32,7 @@ fn setup_of(asked: AskedRecording<'_>) -> Result<RecordingSetup, ToolFault> {
     let usual = RecordingSetup::of(asked.address);
     let pause = silence(asked.pause, usual.pause)?;
     if pause < SHORTEST_PAUSE {
-        return Err(ToolFault::Usage);
+        return Err(ToolFault::Usage("--pause is at least 60 microseconds"));
     }
     Ok(RecordingSetup {
         address: asked.address,
