@@ -132,6 +132,20 @@ def look_at_digests(found, digests, names=None, date=None):
         assert (one["names"], one["names_sha256"], one["date"]) == (names, names and digests.of(names), date)
 
 
+def rule_before(script, line):
+    """The text of the last comment of a script before this line; None where there is none."""
+    comments = [it[2:] for it in script.split(b"\n")[:line] if it.startswith(b"# ") and not it.startswith(b"# Profile: ")]
+    return comments[-1].decode("latin-1") if comments else None
+
+
+def look_at_rules(found, folder):
+    """The rules of differences in the objects of JSON, of scripts whose comments are printed as they are."""
+    for one in found:
+        for it in one["differences"]:
+            rule = rule_before((pathlib.Path(folder) / one["file"]).read_bytes(), it["line"])
+            assert it["rule"] == rule or not re.fullmatch(r"[ -\[\]-~]*", rule or "")
+
+
 def look_at_object(one, told, name):
     assert [(it["line"], it["expected"], it["came"]) for it in one["differences"]] == told.wrong[name]
     assert one["passes"] == (name in told.passed)
@@ -156,9 +170,9 @@ def summed(found):
 
 
 def in_words(one):
-    """The difference of a JSON object as the text format tells it."""
+    """The difference of a JSON object as the text format tells it, and its rule."""
     expected, came = (it or "nothing" for it in (one["expected"], one["came"]))
-    return f"expected {expected}, came {came}"
+    return f"expected {expected}, came {came}" + (f" # {one['rule']}" if one["rule"] else "")
 
 
 def look_at_junit(text, found, shown):
@@ -275,6 +289,11 @@ def script_row(one, shown):
     return [shown[one["file"]], profile, result, answers, "".join(one["clauses"]), one["sha256"] or ""]
 
 
+def fields_of(one, has_rules):
+    """The row of a difference, with its rule where a difference of its script has one."""
+    return [str(one["line"]), *([one["rule"] or ""] if has_rules else []), one["expected"] or "nothing", one["came"] or "nothing"]
+
+
 def look_at_page(text, found, clauses, shown):
     """A page beside the objects of JSON, and the rows clause by clause of the text."""
     body = body_of(text)
@@ -297,7 +316,7 @@ def look_at_page(text, found, clauses, shown):
     others = [one for one in found if not one["passes"]]
     assert texts_of(body, "h3") == [shown[one["file"]] for one in others]
     wrong = [one["differences"] for one in others if one["differences"]]
-    fields = [[[str(it["line"]), it["expected"] or "nothing", it["came"] or "nothing"] for it in differences] for differences in wrong]
+    fields = [[fields_of(it, any(other["rule"] for other in differences)) for it in differences] for differences in wrong]
     assert [rows_in(it)[1:] for it in tables[3:]] == fields
 
 

@@ -50,17 +50,18 @@ REFUSED = [
     ('note,number,reply\n"two\nlines",1,none\n,0,none\n', f"row 4, column 2: {NOT_A_NUMBER}"),
 ]
 DATE = "2026-11-28T12:00:00Z"
-USAGE = "arguments: see --help\n"
+WITHOUT = "arguments: --format junit and html, --any-subsystem and --date are for --against\n"
+DATES = "arguments: --date is as 2026-01-31T12:00:00, also with Z or an offset\n"
 OUT_OF_RANGE = "profile: profile: root: address is out of range\n"
 FILES = {"profile": LARGEST, "results": "number,reply\n1,none\n"}
 FAILING = [
-    Row("--against with --format csv", (*AGAINST, "--format", "csv"), 3, errors=USAGE, files=FILES),
-    Row("--against with --date as text", (*AGAINST, "--date", DATE), 3, errors=USAGE, files=FILES),
-    Row("--against with a date that is none", (*AGAINST, "--format", "json", "--date", "today"), 3, errors=USAGE, files=FILES),
-    Row("a report without --against: junit", ("acceptance", "profile", "--format", "junit"), 3, errors=USAGE, files=FILES),
-    Row("a report without --against: html", ("acceptance", "profile", "--format", "html"), 3, errors=USAGE, files=FILES),
-    Row("--date without --against", ("acceptance", "profile", "--format", "json", "--date", DATE), 3, errors=USAGE, files=FILES),
-    Row("--any-subsystem without --against", ("acceptance", "profile", "--any-subsystem"), 3, errors=USAGE, files=FILES),
+    Row("--against with --format csv", (*AGAINST, "--format", "csv"), 3, errors="arguments: --against excludes --format csv\n", files=FILES),
+    Row("--against with --date as text", (*AGAINST, "--date", DATE), 3, errors="arguments: --date is not for text\n", files=FILES),
+    Row("--against with a date that is none", (*AGAINST, "--format", "json", "--date", "today"), 3, errors=DATES, files=FILES),
+    Row("a report without --against: junit", ("acceptance", "profile", "--format", "junit"), 3, errors=WITHOUT, files=FILES),
+    Row("a report without --against: html", ("acceptance", "profile", "--format", "html"), 3, errors=WITHOUT, files=FILES),
+    Row("--date without --against", ("acceptance", "profile", "--format", "json", "--date", DATE), 3, errors=WITHOUT, files=FILES),
+    Row("--any-subsystem without --against", ("acceptance", "profile", "--any-subsystem"), 3, errors=WITHOUT, files=FILES),
     Row("results that are not there", AGAINST, 4, errors="file: cannot read results: no such file\n", files={"profile": LARGEST}),
     Row("results that are a folder", AGAINST, 4, errors="file: cannot read results: it is a folder\n", files={"profile": LARGEST, "results/in": ""}),
     Row("a profile that is not there", ("acceptance", "profile"), 4, errors="file: cannot read profile: no such file\n"),

@@ -107,7 +107,9 @@ def test_report(tool, verify, shown, it, form, tmp_path):
     assert (given.status, reports.lines_of(given.errors)) == (told.status, told.told)
     profile = it.words[0] if len(it.words) == 1 else None
     found = reports.look_at_json(verify(it, "--format", "json").output.decode(), told, it.names, profile, shown)
-    reports.look_at_digests(found, reports.Digests(tool, tmp_path if it.files else TOP, "" if profile else it.words[1]))
+    folder = tmp_path if it.files else TOP
+    reports.look_at_digests(found, reports.Digests(tool, folder, "" if profile else it.words[1]))
+    reports.look_at_rules(found, folder)
     assert given == verify(it, "--format", form)
     if form == "junit":
         reports.look_at_junit(given.output.decode(), found, shown)
@@ -129,7 +131,7 @@ def test_profiles_in_a_report(verify):
 
 ROWS = with_files(
     SMALL,
-    *(Row(f"--summary beside {it}", f"verify --summary --format {it} five good", 3, errors="arguments: see --help\n") for it in FORMATS),
+    *(Row(f"--summary beside {it}", f"verify --summary --format {it} five good", 3, errors="arguments: --summary is for --format text alone\n") for it in FORMATS),
     *(Row(f"a profile that is not there: {it}", f"verify --format {it} none good", 4, errors="file: cannot read none: no such file\n") for it in FORMATS),
 )  # fmt: skip
 
@@ -140,8 +142,8 @@ JSON = """\
 {{"file":"good","profile":"five","passes":true,"answers":1,"warning":null,"clauses":["5.2.1","5.2.1.1"],"differences":[],"fault":null,\
 "sha256":"{good}",{rest}
 {{"file":"wrong","profile":"five","passes":false,"answers":3,"warning":null,"clauses":["5.2.1"],"differences":[\
-{{"line":4,"expected":"A s 2c00","came":"A s 2800"}},{{"line":6,"expected":"A d 0000","came":null}},\
-{{"line":15,"expected":null,"came":"A s 2800"}}],"fault":null,"sha256":"{wrong}",{rest}
+{{"line":4,"rule":"Plan: 5.2.1","expected":"A s 2c00","came":"A s 2800"}},{{"line":6,"rule":"Plan: 5.2.1","expected":"A d 0000","came":null}},\
+{{"line":15,"rule":"Plan: 5.2.1","expected":null,"came":"A s 2800"}}],"fault":null,"sha256":"{wrong}",{rest}
 {{"file":"none","profile":"five","passes":false,"answers":null,"warning":null,"clauses":[],"differences":[],\
 "fault":"file: cannot read none: no such file","sha256":null,{rest}
 """
@@ -169,9 +171,9 @@ JUNIT = """\
 <property name="sha256" value="{wrong}"/>
 {profile}<property name="clause" value="5.2.1"/>
 </properties>
-<failure message="differences: 3">wrong:4: expected A s 2c00, came A s 2800
-wrong:6: expected A d 0000, came nothing
-wrong:15: expected nothing, came A s 2800
+<failure message="differences: 3">wrong:4: expected A s 2c00, came A s 2800 # Plan: 5.2.1
+wrong:6: expected A d 0000, came nothing # Plan: 5.2.1
+wrong:15: expected nothing, came A s 2800 # Plan: 5.2.1
 </failure>
 </testcase>
 <testcase name="none" classname="five" time="0">
@@ -224,13 +226,13 @@ def test_date(tool, shown, form, date, tmp_path):
 def test_no_date(tool, date, tmp_path):
     write_files(tmp_path, SMALL)
     given = run(tool, "verify", "--format", "json", f"--date={date}", "five", "good", folder=tmp_path)
-    assert given == (3, b"", b"arguments: see --help\n")
+    assert given == (3, b"", b"arguments: --date is as 2026-01-31T12:00:00, also with Z or an offset\n")
 
 
-@pytest.mark.parametrize("words", [[], ["--summary"], ["--format", "text"], ["--any-subsystem", "--witness"]], ids=" ".join)
+@pytest.mark.parametrize("words", [[], ["--summary"], ["--format", "text"]], ids=" ".join)
 def test_date_of_a_text(tool, words, tmp_path):
     write_files(tmp_path, SMALL)
-    assert run(tool, "verify", *words, *DATED, "five", "good", folder=tmp_path) == (3, b"", b"arguments: see --help\n")
+    assert run(tool, "verify", *words, *DATED, "five", "good", folder=tmp_path) == (3, b"", b"arguments: --date is not for text\n")
 
 
 def look_at_all(tool, shown, it, form, folder, words=(), date=None, names=None):

@@ -46,6 +46,7 @@ ROWS = with_files(
     Row("a profile that is refused", "bus five none script", 2, "",
         "none:1:1: error: profile: root: address is out of range: 31; allowed is a whole number from 0 to 30\n", files={"script": ""}),
     Row("no script of this name", "bus five script", 4, "", "file: cannot read script: no such file\n"),
+    *(Row(f"no address: {it}", f"bus five script --alone {it}", 3, errors="arguments: --alone is 0 to 30\n", files={"script": ""}) for it in ("31", "all")),
     Row("no terminal alone", "bus five script --alone 7", 2, "", "--alone: no profile has address 07\n", files={"script": ""}),
 )  # fmt: skip
 
@@ -55,7 +56,7 @@ def test_bus(tool, row, tmp_path):
     check_row(tool, row, tmp_path)
 
 
-@pytest.mark.parametrize("words", ["bus", "bus five", "bus five script --alone 31", "bus five script --alone all"])
+@pytest.mark.parametrize("words", ["bus", "bus five"])
 def test_arguments_that_are_refused(tool, words, tmp_path):
     write_files(tmp_path, {**FILES, "script": ""})
     assert run(tool, *words.split(), folder=tmp_path).status == 3

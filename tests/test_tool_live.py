@@ -41,12 +41,14 @@ WORDS = [
         f"{NO_ADDRESS}s 2808 0\nc 2862 0\n",
         stdin="rx 31 3 2\nstatus 31\nstatus all\nmode 31 2\ns f800\ns f801 1\nstatus 31 # no terminal has this address\nstatus 5 busy busy\n"
               "rx\t5 3  2\r\n"),
+    Row("words: capitals, and a carriage return that ends no line", "words", 1,
+        "d 00af 1\ndata 00af\n? a count is 1 to 32\nc 2862 0\n", stdin="data 00AF\nd 00AF\nrx 5 3 2\r 1\n\x0crx 5 3 2 \r\n"),
     Row("words: nothing raw is written back", "words", 0,
         "# \\x1b[31m\\x7f\\x09\\x0d\n# \\xc3\\xa4 \\xe2\\x80\\xae\\xff \\ end\n#\n",
         stdin=b"# \x1b[31m\x7f\t\r\n# \xc3\xa4 \xe2\x80\xae\xff \\ end\n#\n"),
     Row("words that are refused", "words", 1,
-        f"? the parity bit is wrong: the word isn't valid\n{NO_ADDRESS}? a subaddress is 1 to 30\n"
-        "? a count is 1 to 32\n? a count is 1 to 32\n? tx or rx is expected after a mode code that has no row in the table\n"
+        f"? the parity bit of this word is 0\n{NO_ADDRESS}? a subaddress is 1 to 30\n"
+        "? a count is 1 to 32\n? a count is 1 to 32\n? after a mode code comes tx or rx; a reserved code needs it\n"
         "? a mode code is 0 to 31\n? the subaddress of a mode code is 0 or 31\n"
         "? a status has error, instrumentation, service, reserved1 to 3, broadcast, busy, subsystem, accept, terminal\n"
         "? a line begins with rx, tx, mode, status, data, c, s or d\n? a word is four hexadecimal digits\n? too much in a line\nc 2862 0\n"

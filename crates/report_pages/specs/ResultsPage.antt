@@ -59,7 +59,7 @@ verdict_field outcome =
 
 -- how many answers it states: nothing for one that was not played
 abbrev pub answers_field : ScriptOutcome → List ℕ
-answers_field (Played answers warning wrong names drawing) = count_field answers
+answers_field (Played answers warning wrong names rules drawing) = count_field answers
 answers_field (NotPlayed reason) = codes "<td></td>"
 
 -- a clause in a field, on a line of its own

@@ -411,10 +411,13 @@ fn push_answer(alloc: Global, page: &mut String, answer: &[u8]) -> Result<(), Al
 }
 
 /// Writes the head of the table of events.
-fn push_wrong_head(page: &mut String, has_names: bool) -> Result<(), AllocError> {
+fn push_wrong_head(page: &mut String, has_names: bool, has_rules: bool) -> Result<(), AllocError> {
     page.push_str("<table>\n<thead><tr><th scope=\"col\">line</th>")?;
     if has_names {
         page.push_str("<th scope=\"col\">message</th>")?;
+    }
+    if has_rules {
+        page.push_str("<th scope=\"col\">rule</th>")?;
     }
     page.push_str(
         "<th scope=\"col\">expected</th><th scope=\"col\">came</th></tr></thead>\n<tbody>\n",
@@ -438,17 +441,29 @@ fn push_message(
     page.push_str("</td>")
 }
 
+/// Writes the rule under which an event stands, where there are rules.
+fn push_rule(page: &mut String, rules: &AnswerNames, index: usize) -> Result<(), AllocError> {
+    if rules.names.is_empty() {
+        return Ok(());
+    }
+    page.push_str("<td>")?;
+    push_escaped(page, rules.at(index).unwrap_or(""))?;
+    page.push_str("</td>")
+}
+
 /// Writes each event that was not answered as stated.
 fn push_wrong(
     alloc: Global,
     page: &mut String,
     wrong: &[WrongAnswer],
     names: &Option<AnswerNames>,
+    rules: &AnswerNames,
 ) -> Result<(), AllocError> {
-    push_wrong_head(page, names.is_some())?;
+    push_wrong_head(page, names.is_some(), !rules.names.is_empty())?;
     for (index, one) in wrong.iter().enumerate() {
         write!(page, "<tr><td class=\"count\">{}</td>", one.line)?;
         push_message(alloc, page, names, index)?;
+        push_rule(page, rules, index)?;
         push_answer(alloc, page, one.expected.as_slice())?;
         push_answer(alloc, page, one.came.as_slice())?;
         page.push_str("</tr>\n")?;
@@ -488,6 +503,7 @@ fn push_result(alloc: Global, page: &mut String, of: &ScriptResult) -> Result<()
             answers,
             wrong,
             names,
+            rules,
             drawing,
             ..
         } => {
@@ -496,7 +512,7 @@ fn push_result(alloc: Global, page: &mut String, of: &ScriptResult) -> Result<()
                 "<p>differences: {}; answers stated: {answers}</p>",
                 wrong.len()
             )?;
-            push_wrong(alloc, page, wrong.as_slice(), names)?;
+            push_wrong(alloc, page, wrong.as_slice(), names, rules)?;
             push_drawing(page, wrong.len(), drawing)
         }
     }

@@ -1,11 +1,10 @@
 -- The parts of a text that was written, and where it is cut.
 use Rattle.std.proofs.Common.{ℕ, ◌≡◌, ◌≢◌, ◌∙◌, ◌+◌, ◌/◌, ◌%◌, ◌<◌, Bool, true, false, not, ◌&&◌, ◌==◌, nat_lt, if◌then◌else◌, List, [], ◌∷◌, ◌++◌, Some, None, length, codes, refl, ap, arith}
 use Rattle.std.proofs.lemmas.Bool.Decides.{nat_tests}
-use Rattle.std.specs.Char.{is_ascii_whitespace}
 use Rattle.line_format.specs.Front.{after}
 use Rattle.script_lines.specs.Digits.{decimal_digits}
 use Rattle.script_lines.specs.Text.{onto_first}
-use Rattle.rt1553_tool.specs.Parts.{before_comment, pieces_of, with_bytes, line_parts}
+use Rattle.rt1553_tool.specs.Parts.{before_comment, pieces_of, with_bytes, line_parts, is_blank}
 use Rattle.rt1553_tool.specs.WordTexts.{short_decimal, address_text, tr_text}
 use Rattle.rt1553_expand.specs.Message.{cut_here, cut}
 use Rattle.rt1553_expand.proofs.CutLaws.{cut-none, cut-byte}
@@ -112,10 +111,10 @@ cut-from (b ∷ xs) ys p =
 
 -- ---- the parts of a line
 
--- no byte is white space
+-- no byte is blank
 abbrev NoBlank : List ℕ → Type 0
 NoBlank [] = Unit {0}
-NoBlank (b ∷ bytes) = (is_ascii_whitespace b ≡ false) × NoBlank bytes
+NoBlank (b ∷ bytes) = (is_blank b ≡ false) × NoBlank bytes
 
 -- a part of a line
 pub record IsPart (p : List ℕ) : Type 0 where
@@ -173,7 +172,7 @@ parts-spaced p ps are = ap (λ line. with_bytes (pieces_of line)) (no-comment (s
 pub decimal-part : (n : ℕ) → n < 100 → IsPart (short_decimal n)
 decimal-part n small = record { plain = plain (nat_lt n 10); hash = free-decimal 35 n (omega arith); some = some (nat_lt n 10) }
   where
-    digit : (d : ℕ) → is_ascii_whitespace (48 + d) ≡ false
+    digit : (d : ℕ) → is_blank (48 + d) ≡ false
     digit d = grind (arith, nat_tests)
 
     plain : (t : Bool) → NoBlank (if t then (48 + n) ∷ [] else (48 + n / 10) ∷ (48 + n % 10) ∷ [])
@@ -191,7 +190,7 @@ two-part n small = record {
   some = omega arith;
 }
   where
-    digit : (d : ℕ) → is_ascii_whitespace (48 + d) ≡ false
+    digit : (d : ℕ) → is_blank (48 + d) ≡ false
     digit d = grind (arith, nat_tests)
 
 pub all-part : IsPart (codes "all")

@@ -1,6 +1,7 @@
 -- The line of each message of a command is read as this message.
-use Rattle.std.proofs.Common.{ℕ, zero, suc, ◌≡◌, ◌≢◌, ◌∙◌, ◌+◌, ◌*◌, ◌^◌, ◌/◌, ◌%◌, ◌<◌, ◌≤◌, Bool, true, false, ◌||◌, ◌==◌, if◌then◌else◌, List, [], ◌∷◌, ◌++◌, Option, Some, None, IfSome, Result, Ok, Err, is_ok, is_some, All, length, codes, flat_map, replicate, slice_index, lit<, refl, sym, ap, arith, length-append, append-nil, append_assoc}
+use Rattle.std.proofs.Common.{ℕ, zero, suc, ◌≡◌, ◌≢◌, ◌∙◌, ◌+◌, ◌*◌, ◌^◌, ◌/◌, ◌%◌, ◌<◌, ◌≤◌, Bool, true, false, ◌||◌, ◌==◌, if◌then◌else◌, List, [], ◌∷◌, ◌++◌, Option, Some, None, IfSome, Result, Ok, Err, is_ok, is_some, All, length, codes, flat_map, map, replicate, slice_index, lit<, refl, sym, ap, arith, length-append, append-nil, append_assoc}
 use Rattle.std.proofs.lemmas.Bool.Decides.{nat_tests}
+use Rattle.std.specs.Char.{to_ascii_lowercase}
 use Rattle.hex.specs.Hex.{lower_digits, encode_with, IsBytes}
 use Rattle.bus_word.specs.declared.word.Bus.{Bus}
 use Rattle.bus_word.specs.declared.word.Bus.TheVariants.{A, B}
@@ -111,6 +112,28 @@ word-digits w low =
     bytes (suc zero) = omega arith
     bytes (suc (suc i)) = lit< tt
 
+-- no byte is a capital
+abbrev Small : List ℕ → Type 0
+Small [] = Unit {0}
+Small (b ∷ bytes) = (to_ascii_lowercase b ≡ b) × Small bytes
+
+small_at : (xs : List ℕ) (i : ℕ) → Small xs → to_ascii_lowercase (slice_index xs i) ≡ slice_index xs i
+small_at [] i s = refl
+small_at (x ∷ xs) zero s = s.0
+small_at (x ∷ xs) (suc i) s = small_at xs i s.1
+
+small-digit : (i : ℕ) → to_ascii_lowercase (slice_index lower_digits i) ≡ slice_index lower_digits i
+small-digit i = small_at lower_digits i (refl, (refl, (refl, (refl, (refl, (refl, (refl, (refl, (refl, (refl, (refl, (refl, (refl, (refl, (refl, (refl, tt))))))))))))))))
+
+small-words : (words : List ℕ) → Small (flat_map spaced_word words)
+unfolding encode_with
+small-words [] = tt
+small-words (w ∷ words) = (refl, (small-digit (w / 256 / 16), (small-digit (w / 256 % 16), (small-digit (w % 256 / 16), (small-digit (w % 256 % 16), small-words words)))))
+
+small_stays : (xs : List ℕ) → Small xs → map to_ascii_lowercase xs ≡ xs
+small_stays [] s = refl
+small_stays (x ∷ xs) s = rw s.0 (ap (λ ys. x ∷ ys) (small_stays xs s.1))
+
 word-read : (w : ℕ) (rest : List ℕ) → w < 2 ^ 16 → field_at 16 4 (spaced_word w ++ rest) ≡ Some (w, rest)
 word-read w rest low =
     let same : 0 * 16 ^ 4 + w ≡ w = omega arith in
@@ -184,7 +207,7 @@ abbrev with_words : WordFields → Option CommandFields → List ℕ → Result 
 with_words first sender words = Ok (record { first = first; sender = sender; words = words })
 
 abbrev with_sender : Option (List ℕ) → WordFields → Option CommandFields → Result SaidMessage ExpandFault
-with_sender colon first sender = data_in (words_wanted first) (or_nothing colon) >>= with_words first sender
+with_sender colon first sender = data_in (words_wanted first) (map to_ascii_lowercase (or_nothing colon)) >>= with_words first sender
 
 abbrev with_first : Option (List ℕ) → Option (List ℕ) → WordFields → Result SaidMessage ExpandFault
 with_first from colon first = sender_of first from >>= with_sender colon first
@@ -193,7 +216,8 @@ parts-said : (m : CommandMessage) → IsMessage m → message_of (command_text m
 parts-said m is =
     ap (λ r. named_word r >>= with_first (behind_from m.sender) (behind_colon m.words)) (command-says m.command is.command)
     ∙ ap (λ r. r >>= with_sender (behind_colon m.words) (fields.Command m.command)) (sender-back m.command m.sender is.command is.sender)
-    ∙ ap (λ t. data_in (words_wanted (fields.Command m.command)) t >>= with_words (fields.Command m.command) m.sender) (words-back m.words)
+    ∙ ap (λ t. data_in (words_wanted (fields.Command m.command)) (map to_ascii_lowercase t) >>= with_words (fields.Command m.command) m.sender) (words-back m.words)
+    ∙ ap (λ t. data_in (words_wanted (fields.Command m.command)) t >>= with_words (fields.Command m.command) m.sender) (small_stays (flat_map spaced_word m.words) (small-words m.words))
     ∙ ap (λ r. r >>= with_words (fields.Command m.command) m.sender) (data-read (words_wanted (fields.Command m.command)) m.words is.count is.words)
 
 text-free : (m : CommandMessage) → IsMessage m → Free 35 (message_text m)

@@ -1,5 +1,6 @@
 -- Messages: what is written behind the letter of a bus and its space.
-use Rattle.std.specs.Prelude.{ℕ, ◌==◌, ◌||◌, if◌then◌else◌, List, [], ◌∷◌, ◌++◌, Option, Some, None, is_some, Result, Ok, Err, codes, replicate}
+use Rattle.std.specs.Prelude.{ℕ, ◌==◌, ◌||◌, if◌then◌else◌, List, [], ◌∷◌, ◌++◌, Option, Some, None, is_some, Result, Ok, Err, codes, map, replicate}
+use Rattle.std.specs.Char.{to_ascii_lowercase}
 use Rattle.bus_word.specs.Command.{is_receive, count_of, expected}
 use Rattle.line_format.specs.Front.{after}
 use Rattle.line_format.specs.Shapes.{word}
@@ -91,12 +92,12 @@ abbrev pub or_nothing : Option (List ℕ) → List ℕ
 or_nothing None = []
 or_nothing (Some text) = text
 
--- `WORD`, `WORD: XXXX ..` and `WORD from A S: XXXX ..`, by their parts
+-- `WORD`, `WORD: XXXX ..` and `WORD from A S: XXXX ..`, by their parts; the digits of data words have letters of either case
 abbrev pub message_of : List ℕ → Option (List ℕ) → Option (List ℕ) → Result SaidMessage ExpandFault
 message_of text from colon = do
   first ← named_word (word_line text)
   sender ← sender_of first from
-  words ← data_in (words_wanted first) (or_nothing colon)
+  words ← data_in (words_wanted first) (map to_ascii_lowercase (or_nothing colon))
   Ok (record { first = first; sender = sender; words = words })
 
 -- the parts of a message: the first cut is at `from`, the second at the colon

@@ -2,31 +2,31 @@
 ghost use Rattle.std.specs.Prelude.{◌≡◌, ◌≤◌, ◌<◌, ◌+◌, length, IfSome, option_map};
 
 use crate::fault::ExpandFault;
-use crate::message::{MOST, cut, words_wanted};
+use crate::message::{MOST, cut, small_letters, words_wanted};
 use line_format::{FieldKind, field};
 use refused_lines::misfit_of;
-use rt1553_tool::{WordLineFault, read_word_line};
+use rt1553_tool::{WordLineFault, is_blank, read_word_line};
 
 /// How many bytes a comment may have.
 const MAX_COMMENT: usize = 64;
 
-/// How many bytes of the text are white space, up to the first that is none.
+/// How many bytes of the text are blank, up to the first that is not.
 fn blanks(text: &[u8]) -> usize
     ensures { result ≤ length text.now }
 {
     let mut len = 0;
-    while len < text.len() && text[len].is_ascii_whitespace() {
+    while len < text.len() && is_blank(text[len]) {
         len += 1;
     }
     len
 }
 
-/// How many bytes of the text are no white space, up to the first that is.
+/// How many bytes of the text are not blank, up to the first that is.
 fn part_len(text: &[u8]) -> usize
     ensures { result ≤ length text.now }
 {
     let mut len = 0;
-    while len < text.len() && !text[len].is_ascii_whitespace() {
+    while len < text.len() && !is_blank(text[len]) {
         len += 1;
     }
     len
@@ -66,7 +66,7 @@ fn before_fault(text: &[u8], fault: WordLineFault) -> usize
     let number = match fault {
         WordLineFault::Long | WordLineFault::Name => 0,
         WordLineFault::Address | WordLineFault::Digits => 1,
-        WordLineFault::Subaddress | WordLineFault::Code | WordLineFault::Parity => 2,
+        WordLineFault::Subaddress | WordLineFault::Code | WordLineFault::Parity(_) => 2,
         WordLineFault::Count | WordLineFault::Direction => 3,
         WordLineFault::ModeSubaddress => 4,
         WordLineFault::Bit => return before_bit(text),
@@ -88,14 +88,10 @@ fn last_part(text: &[u8]) -> usize
     }
 }
 
-/// How many bytes stand before the data word that is missing or is none, or before what stands behind the last one.
-fn before_data(word: &[u8], text: &[u8]) -> usize
+/// How many bytes stand before the first of so many data words that is missing or is none, or before what stands behind the last one.
+fn before_word(wanted: u8, text: &[u8]) -> usize
     ensures { result ≤ length text.now }
 {
-    let wanted = match read_word_line(word) {
-        Ok(line) => words_wanted(line.fields),
-        Err(_) => 0,
-    };
     let mut rest = text;
     for _ in 0..wanted {
         let Some((_, others)) = field(rest, FieldKind::Word) else {
@@ -104,6 +100,18 @@ fn before_data(word: &[u8], text: &[u8]) -> usize
         rest = others;
     }
     text.len() - rest.len()
+}
+
+/// The same of the data words of a message that begins with this word, of which 256 bytes count.
+fn before_data(word: &[u8], text: &[u8]) -> usize
+    ensures { result ≤ length text.now }
+{
+    let wanted = match read_word_line(word) {
+        Ok(line) => words_wanted(line.fields),
+        Err(_) => 0,
+    };
+    let small = small_letters(&text[..text.len().min(256)]);
+    before_word(wanted, small.as_slice())
 }
 
 /// How many bytes of a message stand before what does not fit.

@@ -38,7 +38,7 @@ pub enum ExpandFault {
     #[error("after from, the address of another terminal, 0 to 30, and its subaddress, 1 to 30, are expected")]
     Sender,
     /// A data word is missing, or is none.
-    #[error("a data word is wanted: one space and four hexadecimal digits, with small letters")]
+    #[error("a data word is wanted: one space and four hexadecimal digits")]
     DataWord,
     /// Something stands behind all that is wanted.
     #[error("nothing more is wanted: the message has all its data words")]
@@ -56,15 +56,13 @@ fn word_fault_text(fault: WordLineFault) -> &'static str {
         WordLineFault::Subaddress => "a subaddress is 1 to 30",
         WordLineFault::Count => "a count is 1 to 32",
         WordLineFault::Code => "a mode code is 0 to 31",
-        WordLineFault::Direction => {
-            "tx or rx is expected after a mode code that has no row in the table"
-        }
+        WordLineFault::Direction => "after a mode code comes tx or rx; a reserved code needs it",
         WordLineFault::ModeSubaddress => "the subaddress of a mode code is 0 or 31",
         WordLineFault::Bit => {
             "a status has error, instrumentation, service, reserved1 to 3, broadcast, busy, subsystem, accept, terminal"
         }
         WordLineFault::Digits => "a word is four hexadecimal digits",
-        WordLineFault::Parity => "a parity bit is 0 or 1",
+        WordLineFault::Parity(_) => "the parity bit of this word is wrong",
         WordLineFault::Much => "nothing may follow the last field",
     }
 }

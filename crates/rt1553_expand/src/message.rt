@@ -1,5 +1,6 @@
 //! Messages, read.
-ghost use Rattle.std.specs.Prelude.{◌≡◌, ◌≤◌, Ok, Err, is_some, codes, length, option_map, replicate, IfOk, IfErr, IfSome};
+ghost use Rattle.std.specs.Prelude.{◌≡◌, ◌≤◌, Ok, Err, is_some, codes, length, map, option_map, replicate, IfOk, IfErr, IfSome};
+ghost use Rattle.std.specs.Char.{to_ascii_lowercase};
 ghost use Rattle.arrayvec.specs.ArrayVec.{array_vec_len};
 ghost use Rattle.bus_word.specs.Command.{AreOfTheirWidth};
 ghost use Rattle.rt1553_tool.specs.Fields.{AreOfWidth, in_word};
@@ -150,13 +151,26 @@ fn read_data(count: u8, text: &[u8]) -> Result<Words, ExpandFault>
     Ok(words)
 }
 
+/// A text with small letters.
+pub(crate) fn small_letters(text: &[u8]) -> ArrayVec<u8, 256>
+    requires { length text.now ≤ 256 }
+    ensures { result.items ≡ map to_ascii_lowercase text.now }
+{
+    let mut small = ArrayVec::new();
+    for byte in text {
+        small.push(byte.to_ascii_lowercase());
+    }
+    small
+}
+
 /// Reads a message by its parts: up to `from` or the colon, behind `from`, and behind a colon.
 fn read_parts(
     text: &[u8],
     from: Option<&[u8]>,
     colon: Option<&[u8]>,
 ) -> Result<BusMessage, ExpandFault>
-    requires { IfSome from (λ t. length t.now ≤ 256) }
+    requires from { IfSome from (λ t. length t.now ≤ 256) }
+    requires colon { IfSome colon (λ t. length t.now ≤ 256) }
     ensures said { IfOk result (λ message. message_of text.now (option_map (λ t. t.now) from.entry) (option_map (λ t. t.now) colon.entry) ≡ Ok (said_message message)) }
     ensures refused { IfErr result (λ fault. message_of text.now (option_map (λ t. t.now) from.entry) (option_map (λ t. t.now) colon.entry) ≡ Err fault) }
     ensures width { IfOk result (λ message. AreOfWidth message.first) }
@@ -164,7 +178,8 @@ fn read_parts(
 {
     let first = read_first(text)?;
     let sender = read_sender(first, from)?;
-    let words = read_data(words_wanted(first), colon.unwrap_or(b""))?;
+    let data = small_letters(colon.unwrap_or(b""));
+    let words = read_data(words_wanted(first), data.as_slice())?;
     Ok(BusMessage {
         first,
         sender,

@@ -8,6 +8,7 @@ use crate::head::{ReportHead, digest_text};
 use crate::result::{AnswerNames, ScriptOutcome, ScriptResult};
 use crate::told::answer_told;
 use ascii_json::in_ascii;
+use message_names::owned;
 use rt1553_files::escaped;
 use rt1553_verify::WrongAnswer;
 use serde::Serialize;
@@ -20,6 +21,8 @@ struct WrongEntry {
     /// The name of its message, null for none; left out where there are no names.
     #[serde(skip_serializing_if = "Option::is_none")]
     name: Option<Option<String>>,
+    /// The rule under which it stands, null for none.
+    rule: Option<String>,
     expected: Option<String>,
     came: Option<String>,
 }
@@ -82,12 +85,14 @@ fn wrong_lines(
     alloc: Global,
     wrong: &[WrongAnswer],
     names: &Option<AnswerNames>,
+    rules: &AnswerNames,
 ) -> Result<Vec<WrongEntry>, AllocError> {
     let mut lines = Vec::new(alloc);
     for (index, one) in wrong.iter().enumerate() {
         lines.push(WrongEntry {
             line: one.line,
             name: name_entry(alloc, names, index)?,
+            rule: owned(alloc, rules.at(index))?,
             expected: answer_told(alloc, one.expected.as_slice())?,
             came: answer_told(alloc, one.came.as_slice())?,
         })?;
@@ -108,10 +113,11 @@ fn line_of<'a>(
             answers,
             wrong,
             names,
+            rules,
             ..
         } => (
             Some(*answers),
-            wrong_lines(alloc, wrong.as_slice(), names)?,
+            wrong_lines(alloc, wrong.as_slice(), names, rules)?,
             None,
         ),
         ScriptOutcome::NotPlayed(reason) => (None, Vec::new(alloc), Some(reason.as_str())),

@@ -158,6 +158,7 @@ fn push_wrong(
     file: &str,
     wrong: &[WrongAnswer],
     names: &Option<AnswerNames>,
+    rules: &AnswerNames,
 ) -> Result<(), AllocError> {
     for (index, one) in wrong.iter().enumerate() {
         push_shown(alloc, text, file.as_bytes())?;
@@ -166,6 +167,10 @@ fn push_wrong(
             text,
             difference_told(alloc, one, name_at(names, index))?.as_str(),
         )?;
+        if let Some(rule) = rules.at(index) {
+            text.push_str(" # ")?;
+            push_escaped(text, rule)?;
+        }
         text.push_str("\n")?;
     }
     Ok(())
@@ -179,12 +184,24 @@ fn push_outcome(alloc: Global, text: &mut String, of: &ScriptResult) -> Result<(
             push_escaped(text, reason.as_str())?;
             text.push_str("\"/>\n")
         }
-        ScriptOutcome::Played { wrong, names, .. } => {
+        ScriptOutcome::Played {
+            wrong,
+            names,
+            rules,
+            ..
+        } => {
             if wrong.is_empty() {
                 return Ok(());
             }
             write!(text, "<failure message=\"differences: {}\">", wrong.len())?;
-            push_wrong(alloc, text, of.file.as_str(), wrong.as_slice(), names)?;
+            push_wrong(
+                alloc,
+                text,
+                of.file.as_str(),
+                wrong.as_slice(),
+                names,
+                rules,
+            )?;
             text.push_str("</failure>\n")
         }
     }

@@ -5,14 +5,14 @@ ghost use Rattle.rt1553_report.specs.Results.{outcome_passes, outcome_fails, out
 use crate::head::FileDigests;
 use rt1553_verify::{ScriptWarning, WrongAnswer};
 
-/// The names of the messages to which events belong that were not answered as stated, in their order; None where one has none.
+/// A name for each event that was not answered as stated, in their order, of its message or of its rule; None where one has none.
 #[derive(Drop)]
 pub struct AnswerNames {
     pub names: Vec<Option<String>>,
 }
 
 impl AnswerNames {
-    /// The name of the message of the event at this index, from 0.
+    /// The name for the event at this index, from 0.
     pub fn at(&self, index: usize) -> Option<&str> {
         match self.names.as_slice().get(index) {
             Some(Some(name)) => Some(name.as_str()),
@@ -42,6 +42,8 @@ pub enum ScriptOutcome {
         wrong: Vec<WrongAnswer>,
         /// The name of the message of each of these events, where there are names.
         names: Option<AnswerNames>,
+        /// The rule under which each of these events stands: the text of the last comment before it.
+        rules: AnswerNames,
         /// The messages in which these events stand, drawn for a page: empty where there is nothing to draw, and None where there is too much.
         drawing: Option<String>,
     },

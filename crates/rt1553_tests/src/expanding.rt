@@ -396,7 +396,7 @@ fn columns(rt: HostRuntime) -> Result<(), Fail> {
         (
             "A mode 5 20",
             12,
-            "tx or rx is expected after a mode code that has no row in the table",
+            "after a mode code comes tx or rx; a reserved code needs it",
         ),
         (
             "A mode 5 2 tx 3",
@@ -441,22 +441,22 @@ fn columns(rt: HostRuntime) -> Result<(), Fail> {
         (
             "A rx 5 3 2: 0001",
             17,
-            "a data word is wanted: one space and four hexadecimal digits, with small letters",
+            "a data word is wanted: one space and four hexadecimal digits",
         ),
         (
             "A rx 5 3 2",
             11,
-            "a data word is wanted: one space and four hexadecimal digits, with small letters",
+            "a data word is wanted: one space and four hexadecimal digits",
         ),
         (
             "A rx 5 3 2: 0001  0002",
             17,
-            "a data word is wanted: one space and four hexadecimal digits, with small letters",
+            "a data word is wanted: one space and four hexadecimal digits",
         ),
         (
-            "A rx 5 3 2: 0001 000A",
+            "A rx 5 3 2: 0001 000G",
             17,
-            "a data word is wanted: one space and four hexadecimal digits, with small letters",
+            "a data word is wanted: one space and four hexadecimal digits",
         ),
         (
             "A rx 5 3 1: 0001 0002",

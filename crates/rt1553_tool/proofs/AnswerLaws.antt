@@ -8,9 +8,8 @@ use Rattle.std.specs.Io.KnownBytes.{Appends}
 use Rattle.std.proofs.KnownBytes.{Appends-nil, Appends-trans}
 use Rattle.bus_word.specs.Word.{bit_of}
 use Rattle.script_lines.specs.Text.{lines_of}
-use Rattle.rt1553_tool.specs.Parts.{line_parts}
-use Rattle.rt1553_tool.specs.WordLines.{word_line, said_by_parts}
-use Rattle.rt1553_tool.specs.WordTexts.{shown_byte, is_comment, is_passed, answer_by, word_answer, word_answers, is_fault, is_refused_line, refused_count}
+use Rattle.rt1553_tool.specs.WordLines.{word_line}
+use Rattle.rt1553_tool.specs.WordTexts.{shown_byte, is_comment, is_passed, answer_by, without_return, ended_word_line, word_answer, word_answers, is_fault, is_refused_line, refused_count}
 use Rattle.rt1553_tool.specs.declared.word_lines.WordLineFault.TheVariants.{Long}
 use Rattle.rt1553_tool.specs.inner.Input.{TakesLine}
 use Rattle.rt1553_tool.specs.inner.Told.{TellsLine}
@@ -20,16 +19,16 @@ use Rattle.rt1553_tool.specs.inner.Told.{TellsLine}
 long_passed : (line : List ℕ) → 128 < length line → is_passed line ≡ false
 long_passed line long = let t : nat_le (length line) 128 ≡ false = grind (arith, nat_tests) in ap (λ b. b && is_comment line) t
 
-long_word : (line : List ℕ) → 128 < length line → word_line line ≡ Err Long
-long_word line long = let t : nat_lt 128 (length line) ≡ true = grind (arith, nat_tests) in ap (λ b. cond b (Err Long) (said_by_parts (line_parts line))) t
+long_word : (line : List ℕ) → 128 < length line → ended_word_line line ≡ Err Long
+long_word line long = let t : nat_lt 128 (length line) ≡ true = grind (arith, nat_tests) in ap (λ b. cond b (Err Long) (word_line (without_return line))) t
 
 long_answer : (line : List ℕ) → 128 < length line → word_answer line ≡ answer_by (Err Long) ++ 10 ∷ []
 long_answer line long =
-    ap (λ b. cond b (flat_map shown_byte line) (answer_by (word_line line)) ++ 10 ∷ []) (long_passed line long)
+    ap (λ b. cond b (flat_map shown_byte line) (answer_by (ended_word_line line)) ++ 10 ∷ []) (long_passed line long)
     ∙ ap (λ r. answer_by r ++ 10 ∷ []) (long_word line long)
 
 long_refused : (line : List ℕ) → 128 < length line → is_refused_line line ≡ true
-long_refused line long = ap (λ b. cond b false (is_fault (word_line line))) (long_passed line long) ∙ ap is_fault (long_word line long)
+long_refused line long = ap (λ b. cond b false (is_fault (ended_word_line line))) (long_passed line long) ∙ ap is_fault (long_word line long)
 
 -- the first 129 bytes of a line are answered as the line
 kept_answer : (line : List ℕ) → word_answer (take 129 line) ≡ word_answer line

@@ -2,9 +2,8 @@
 use Rattle.std.proofs.Common.{◌≡◌, ◌≢◌, ◌∙◌, ℕ, suc, ◌+◌, ◌-◌, ◌*◌, ◌<◌, ◌≤◌, ◌==◌, Bool, true, false, List, [], ◌∷◌, ◌++◌, cond, length, get_or, take, drop, refl, sym, ap, arith, append_assoc, append-nil}
 use Rattle.std.proofs.lemmas.List.{drop_more, drop_all, take_all, drop-drop, length-drop, length-take}
 use Rattle.std.proofs.lemmas.Bool.Decides.{nat_tests}
-use Rattle.std.specs.Char.{is_ascii_whitespace}
 use Rattle.script_lines.specs.Text.{onto_first}
-use Rattle.rt1553_tool.specs.Parts.{before_comment, pieces_of, with_bytes}
+use Rattle.rt1553_tool.specs.Parts.{before_comment, pieces_of, with_bytes, is_blank}
 use Rattle.rt1553_tool.specs.inner.Parts.{comment_at, piece_len}
 
 comment_other : (b : ℕ) (bytes : List ℕ) → b ≢ 35 → comment_at (b ∷ bytes) ≡ suc (comment_at bytes)
@@ -53,11 +52,11 @@ front_is (b ∷ bytes) = case (b == 35) refl (front_is bytes)
 pub comment_front : (line : List ℕ) (len : ℕ) → len ≡ comment_at line → take len line ≡ before_comment line
 comment_front line len is = ap (λ n. take n line) is ∙ front_is line
 
-piece_other : (b : ℕ) (bytes : List ℕ) → is_ascii_whitespace b ≡ false → piece_len (b ∷ bytes) ≡ suc (piece_len bytes)
+piece_other : (b : ℕ) (bytes : List ℕ) → is_blank b ≡ false → piece_len (b ∷ bytes) ≡ suc (piece_len bytes)
 unfolding piece_len
 piece_other b bytes other = rw other refl
 
-piece_here : (b : ℕ) (bytes : List ℕ) → is_ascii_whitespace b ≡ true → piece_len (b ∷ bytes) ≡ 0
+piece_here : (b : ℕ) (bytes : List ℕ) → is_blank b ≡ true → piece_len (b ∷ bytes) ≡ 0
 unfolding piece_len
 piece_here b bytes here = rw here refl
 
@@ -65,14 +64,14 @@ piece_none : piece_len [] ≡ 0
 unfolding piece_len
 piece_none = refl
 
-pub piece_step : (text : List ℕ) (len : ℕ) → len < length text → is_ascii_whitespace (get_or text len 0) ≡ false
+pub piece_step : (text : List ℕ) (len : ℕ) → len < length text → is_blank (get_or text len 0) ≡ false
     → piece_len text ≡ len + piece_len (drop len text) → piece_len text ≡ len + 1 + piece_len (drop (len + 1) text)
 piece_step text len low other before =
     let next : piece_len (drop len text) ≡ suc (piece_len (drop (len + 1) text))
     = ap piece_len (drop_more text len 0 low) ∙ piece_other (get_or text len 0) (drop (len + 1) text) other in
     omega (arith, before, next)
 
-pub piece_found : (text : List ℕ) (len : ℕ) → len < length text → is_ascii_whitespace (get_or text len 0) ≡ true
+pub piece_found : (text : List ℕ) (len : ℕ) → len < length text → is_blank (get_or text len 0) ≡ true
     → piece_len text ≡ len + piece_len (drop len text) → len ≡ piece_len text
 piece_found text len low here before =
     let next : piece_len (drop len text) ≡ 0
@@ -89,20 +88,20 @@ no_pieces : pieces_of [] ≡ []
 unfolding pieces_of
 no_pieces = refl
 
-pieces_white : (b : ℕ) (bytes : List ℕ) → is_ascii_whitespace b ≡ true → pieces_of (b ∷ bytes) ≡ [] ∷ pieces_of bytes
+pieces_white : (b : ℕ) (bytes : List ℕ) → is_blank b ≡ true → pieces_of (b ∷ bytes) ≡ [] ∷ pieces_of bytes
 unfolding pieces_of
 pieces_white b bytes e = rw e refl
 
-pieces_other : (b : ℕ) (bytes : List ℕ) → is_ascii_whitespace b ≡ false → pieces_of (b ∷ bytes) ≡ onto_first b (pieces_of bytes)
+pieces_other : (b : ℕ) (bytes : List ℕ) → is_blank b ≡ false → pieces_of (b ∷ bytes) ≡ onto_first b (pieces_of bytes)
 unfolding pieces_of
 pieces_other b bytes e = rw e refl
 
 -- a byte before the first piece of a text
 onto_piece : (b : ℕ) (text : List ℕ) → onto_first b (pieces_of text) ≡ (b ∷ take (piece_len text) text) ∷ pieces_of (drop (suc (piece_len text)) text)
 onto_piece b [] = ap (onto_first b) no_pieces ∙ sym (ap (λ n. (b ∷ take n []) ∷ pieces_of (drop (suc n) [])) piece_none ∙ ap (λ ps. (b ∷ []) ∷ ps) no_pieces)
-onto_piece b (c ∷ bytes) = case (is_ascii_whitespace c) refl (onto_piece c bytes)
+onto_piece b (c ∷ bytes) = case (is_blank c) refl (onto_piece c bytes)
   where
-    case : (t : Bool) → is_ascii_whitespace c ≡ t
+    case : (t : Bool) → is_blank c ≡ t
         → onto_first c (pieces_of bytes) ≡ (c ∷ take (piece_len bytes) bytes) ∷ pieces_of (drop (suc (piece_len bytes)) bytes)
         → onto_first b (pieces_of (c ∷ bytes)) ≡ (b ∷ take (piece_len (c ∷ bytes)) (c ∷ bytes)) ∷ pieces_of (drop (suc (piece_len (c ∷ bytes))) (c ∷ bytes))
     case true e others = ap (onto_first b) (pieces_white c bytes e) ∙ sym (ap (λ n. (b ∷ take n (c ∷ bytes)) ∷ pieces_of (drop (suc n) (c ∷ bytes))) (piece_here c bytes e))
@@ -111,9 +110,9 @@ onto_piece b (c ∷ bytes) = case (is_ascii_whitespace c) refl (onto_piece c byt
 -- the first piece of a text, and those behind it
 first_piece : (text : List ℕ) → with_bytes (pieces_of text) ≡ with_bytes (take (piece_len text) text ∷ []) ++ with_bytes (pieces_of (drop (suc (piece_len text)) text))
 first_piece [] = rw (no_pieces, piece_none) refl
-first_piece (b ∷ bytes) = case (is_ascii_whitespace b) refl
+first_piece (b ∷ bytes) = case (is_blank b) refl
   where
-    case : (t : Bool) → is_ascii_whitespace b ≡ t
+    case : (t : Bool) → is_blank b ≡ t
         → with_bytes (pieces_of (b ∷ bytes)) ≡ with_bytes (take (piece_len (b ∷ bytes)) (b ∷ bytes) ∷ []) ++ with_bytes (pieces_of (drop (suc (piece_len (b ∷ bytes))) (b ∷ bytes)))
     case true e = ap with_bytes (pieces_white b bytes e) ∙ sym (ap (λ n. with_bytes (take n (b ∷ bytes) ∷ []) ++ with_bytes (pieces_of (drop (suc n) (b ∷ bytes)))) (piece_here b bytes e))
     case false e =

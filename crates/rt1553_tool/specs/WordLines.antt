@@ -153,8 +153,8 @@ data_line parts = do
 abbrev pub parity_part : Bool → Option (List ℕ) → Result Bool WordLineFault
 parity_part parity None = Ok parity
 parity_part parity (Some part) =
-    if bytes_eq part (codes "0") then (if parity then Err Parity else Ok parity)
-    else if bytes_eq part (codes "1") then (if parity then Ok parity else Err Parity)
+    if bytes_eq part (codes "0") then (if parity then Err (Parity parity) else Ok parity)
+    else if bytes_eq part (codes "1") then (if parity then Ok parity else Err (Parity parity))
     else Err Much
 
 -- `K XXXX` and `K XXXX P`: the 16 bits of a word of the kind K

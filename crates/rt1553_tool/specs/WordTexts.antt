@@ -1,5 +1,5 @@
 -- What is written of words: by their fields and by their digits, and why a line is refused.
-use Rattle.std.specs.Prelude.{ℕ, ◌+◌, ◌/◌, ◌%◌, ◌==◌, ◌||◌, nat_le, nat_lt, Bool, true, false, if◌then◌else◌, List, [], ◌∷◌, ◌++◌, length, codes, drop, Option, Some, None, Result, Ok, Err, ◌&&◌}
+use Rattle.std.specs.Prelude.{ℕ, ◌+◌, ◌-◌, ◌/◌, ◌%◌, ◌==◌, ◌||◌, nat_le, nat_lt, Bool, true, false, if◌then◌else◌, List, [], ◌∷◌, ◌++◌, length, codes, take, drop, get_or, Option, Some, None, Result, Ok, Err, ◌&&◌}
 use Rattle.std.specs.List.{flat_map}
 use Rattle.bus_word.specs.declared.mode.ModeRow.{ModeRow}
 use Rattle.bus_word.specs.declared.word.Raw.{Raw}
@@ -114,11 +114,12 @@ fault_text Address = codes "an address is 0 to 30, or all for a command"
 fault_text Subaddress = codes "a subaddress is 1 to 30"
 fault_text Count = codes "a count is 1 to 32"
 fault_text Code = codes "a mode code is 0 to 31"
-fault_text Direction = codes "tx or rx is expected after a mode code that has no row in the table"
+fault_text Direction = codes "after a mode code comes tx or rx; a reserved code needs it"
 fault_text ModeSubaddress = codes "the subaddress of a mode code is 0 or 31"
 fault_text Bit = codes "a status has error, instrumentation, service, reserved1 to 3, broadcast, busy, subsystem, accept, terminal"
 fault_text Digits = codes "a word is four hexadecimal digits"
-fault_text Parity = codes "the parity bit is wrong: the word isn't valid"
+fault_text (Parity false) = codes "the parity bit of this word is 0"
+fault_text (Parity true) = codes "the parity bit of this word is 1"
 fault_text Much = codes "too much in a line"
 
 -- a byte as it is written back: printable ASCII as it is, any other byte by its two digits
@@ -135,13 +136,21 @@ abbrev pub answer_by : Result SaidWord WordLineFault → List ℕ
 answer_by (Ok s) = said_text s
 answer_by (Err fault) = codes "? " ++ fault_text fault
 
+-- a line without the carriage return that may end it
+abbrev pub without_return : List ℕ → List ℕ
+without_return line = if get_or line (length line - 1) 0 == 13 then take (length line - 1) line else line
+
+-- what a line says that a carriage return may end: it has at most 128 bytes with that
+abbrev pub ended_word_line : List ℕ → Result SaidWord WordLineFault
+ended_word_line line = if nat_lt 128 (length line) then Err Long else word_line (without_return line)
+
 -- a line of at most 128 bytes that is empty or a comment
 abbrev pub is_passed : List ℕ → Bool
 is_passed line = nat_le (length line) 128 && is_comment line
 
 -- the line that answers a line, with its line feed
 abbrev pub word_answer : List ℕ → List ℕ
-word_answer line = (if is_passed line then flat_map shown_byte line else answer_by (word_line line)) ++ codes "\n"
+word_answer line = (if is_passed line then flat_map shown_byte line else answer_by (ended_word_line line)) ++ codes "\n"
 
 -- the lines that answer lines
 abbrev pub word_answers : List (List ℕ) → List ℕ
@@ -154,7 +163,7 @@ is_fault (Err fault) = true
 
 -- the line is refused
 abbrev pub is_refused_line : List ℕ → Bool
-is_refused_line line = if is_passed line then false else is_fault (word_line line)
+is_refused_line line = if is_passed line then false else is_fault (ended_word_line line)
 
 -- how many lines are refused
 abbrev pub refused_count : List (List ℕ) → ℕ

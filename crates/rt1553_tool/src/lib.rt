@@ -15,6 +15,7 @@ pub use fields::{
     status_word_bits, word_with,
 };
 pub use input::ServeFault;
+pub use parts::is_blank;
 pub use session::{play_live_line, serve};
 pub use word_answers::answer_words;
 pub use word_lines::{WordLine, WordLineFault, read_word_line};

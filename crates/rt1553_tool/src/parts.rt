@@ -1,6 +1,6 @@
 //! The parts of a line.
 ghost use Rattle.std.specs.Prelude.{◌≡◌, ◌≤◌, ◌<◌, ◌*◌, ◌+◌, ◌++◌, ◌∷◌, [], length};
-ghost use Rattle.rt1553_tool.specs.Parts.{before_comment, pieces_of, with_bytes, line_parts};
+ghost use Rattle.rt1553_tool.specs.Parts.{before_comment, is_blank, pieces_of, with_bytes, line_parts};
 ghost use Rattle.rt1553_tool.specs.inner.Parts.{piece_len, comment_at, texts};
 
 use arrayvec::ArrayVec;
@@ -24,14 +24,21 @@ fn comment_at(line: &[u8]) -> usize
     len
 }
 
-/// Gives the number of bytes before the first white space, of all where there is none.
+/// Whether a byte separates the parts of a line: a space, a tab or a form feed.
+pub fn is_blank(byte: u8) -> bool
+    ensures { result ≡ is_blank byte }
+{
+    byte == b' ' || byte == b'\t' || byte == b'\x0c'
+}
+
+/// Gives the number of bytes before the first blank, of all where there is none.
 #[tactic(auto, using(crate::proofs::PartLaws::piece_step, crate::proofs::PartLaws::piece_found, crate::proofs::PartLaws::piece_end))]
 fn piece_len(text: &[u8]) -> usize
     ensures value { result ≡ piece_len text.now }
     ensures within { result ≤ length text.now }
 {
     let mut len = 0;
-    while len < text.len() && !text[len].is_ascii_whitespace() {
+    while len < text.len() && !is_blank(text[len]) {
         len += 1;
     }
     len

@@ -43,8 +43,8 @@ pub enum WordLineFault {
     Bit,
     /// The digits are missing or none.
     Digits,
-    /// The parity bit is not the one that makes the number of ones odd.
-    Parity,
+    /// The parity bit is not this one, which makes the number of ones odd.
+    Parity(bool),
     /// Something stands behind all that is wanted.
     Much,
 }
@@ -315,7 +315,7 @@ fn parity_part(parity: bool, part: Option<&[u8]>) -> Result<bool, WordLineFault>
     }
     if is_word(part, b"0") {
         return if parity {
-            Err(WordLineFault::Parity)
+            Err(WordLineFault::Parity(parity))
         } else {
             Ok(parity)
         };
@@ -324,7 +324,7 @@ fn parity_part(parity: bool, part: Option<&[u8]>) -> Result<bool, WordLineFault>
         return if parity {
             Ok(parity)
         } else {
-            Err(WordLineFault::Parity)
+            Err(WordLineFault::Parity(parity))
         };
     }
     Err(WordLineFault::Much)
@@ -433,7 +433,7 @@ fn read_parts(parts: &[&[u8]]) -> Result<WordLine, WordLineFault>
 }
 
 /// Reads a line, without its line feed, that says a word by its fields, or by its digits: what it tells of both is of one
-/// word. Parts of a line are separated by white space, and what stands behind `#` is a comment.
+/// word. Blanks separate the parts of a line, and what stands behind `#` is a comment.
 pub fn read_word_line(line: &[u8]) -> Result<WordLine, WordLineFault>
     ensures word { IfOk result (λ line. IsWordOf line.word line.fields) }
     ensures width { IfOk result (λ line. AreOfWidth line.fields) }

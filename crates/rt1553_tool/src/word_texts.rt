@@ -1,12 +1,14 @@
 //! What answers lines of words.
-ghost use Rattle.std.specs.Prelude.{◌≡◌, ◌≤◌, ◌<◌, ◌+◌, ◌*◌, ◌++◌, true, if◌then◌else◌, length};
+ghost use Rattle.std.specs.Prelude.{◌≡◌, ◌≤◌, ◌<◌, ◌+◌, ◌*◌, ◌++◌, true, if◌then◌else◌, length, IfOk};
 ghost use Rattle.std.specs.List.{flat_map};
 ghost use Rattle.arrayvec.specs.ArrayString.{array_string_len};
 ghost use Rattle.bus_word.specs.Mode.{mode_row};
+ghost use Rattle.bus_word.specs.Word.{valid_word};
 ghost use Rattle.bus_word.specs.Command.{AreOfTheirWidth};
-ghost use Rattle.rt1553_tool.specs.Fields.{AreOfWidth, in_word};
+ghost use Rattle.rt1553_tool.specs.Fields.{AreOfWidth, bits_with, in_word, sync_of};
 ghost use Rattle.rt1553_tool.specs.declared.fields.WordFields.TheVariants.{Data as DataWord};
-ghost use Rattle.rt1553_tool.specs.WordTexts.{short_decimal, address_text, tr_text, mode_note, mode_text, transfer_text, asks_mode, command_text, command_note, bit_text, first_bits_text, reserved_text, last_bits_text, address_note, status_text, fields_text, letter_text, digits_text, fault_text, shown_byte, is_passed, is_refused_line, word_answer};
+ghost use Rattle.rt1553_tool.specs.WordTexts.{short_decimal, address_text, tr_text, mode_note, mode_text, transfer_text, asks_mode, command_text, command_note, bit_text, first_bits_text, reserved_text, last_bits_text, address_note, status_text, fields_text, letter_text, digits_text, fault_text, shown_byte, without_return, ended_word_line, is_passed, is_refused_line, word_answer};
+ghost use Rattle.rt1553_tool.specs.WordLines.{said_by};
 
 use crate::fields::{CommandFields, StatusFields, WordFields};
 use crate::word_lines::{WordLine, WordLineFault, read_word_line};
@@ -271,15 +273,14 @@ fn text_of(fault: WordLineFault) -> &'static str
         WordLineFault::Subaddress => "a subaddress is 1 to 30",
         WordLineFault::Count => "a count is 1 to 32",
         WordLineFault::Code => "a mode code is 0 to 31",
-        WordLineFault::Direction => {
-            "tx or rx is expected after a mode code that has no row in the table"
-        }
+        WordLineFault::Direction => { "after a mode code comes tx or rx; a reserved code needs it" }
         WordLineFault::ModeSubaddress => "the subaddress of a mode code is 0 or 31",
         WordLineFault::Bit => {
             "a status has error, instrumentation, service, reserved1 to 3, broadcast, busy, subsystem, accept, terminal"
         }
         WordLineFault::Digits => "a word is four hexadecimal digits",
-        WordLineFault::Parity => "the parity bit is wrong: the word isn't valid",
+        WordLineFault::Parity(false) => "the parity bit of this word is 0",
+        WordLineFault::Parity(true) => "the parity bit of this word is 1",
         WordLineFault::Much => "too much in a line",
     }
 }
@@ -334,6 +335,30 @@ fn push_said(text: &mut AnswerLine, line: &WordLine)
     }
 }
 
+/// A line without the carriage return that may end it.
+fn without_return(line: &[u8]) -> &[u8]
+    ensures { result.now ≡ without_return line.now }
+{
+    let len = line.len();
+    if len > 0 && line[len - 1] == b'\r' {
+        &line[..len - 1]
+    } else {
+        line
+    }
+}
+
+/// Reads a line of at most 128 bytes that a carriage return may end.
+fn read_ended_line(line: &[u8]) -> Result<WordLine, WordLineFault>
+    ensures said { said_by result ≡ ended_word_line line.now }
+    ensures width { IfOk result (λ line. AreOfWidth line.fields) }
+    ensures digits { IfOk result (λ line. line.by_fields ≡ true → line.word ≡ valid_word (sync_of line.fields) (bits_with line.fields)) }
+{
+    if line.len() > MOST {
+        return Err(WordLineFault::Long);
+    }
+    read_word_line(without_return(line))
+}
+
 /// What answers a line of words, with its line feed, and whether the line is refused.
 pub fn answer_word_line(line: &[u8]) -> (AnswerLine, bool)
     ensures answer { result.0.bytes ≡ word_answer line.now }
@@ -344,7 +369,7 @@ pub fn answer_word_line(line: &[u8]) -> (AnswerLine, bool)
     if is_passed(line) {
         push_shown(&mut text, line);
     } else {
-        match read_word_line(line) {
+        match read_ended_line(line) {
             Ok(said) => push_said(&mut text, &said),
             Err(fault) => {
                 text.push_str("? ");

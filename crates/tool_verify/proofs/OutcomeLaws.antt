@@ -74,7 +74,7 @@ explained_passes x wrong e = (to, from)
         eq-eqb (length wrong) 0 (omega (arith, e, first, missing))
 
 passes_in : (o : ScriptOutcome) (w : List WrongAnswer) → wrong_in o ≡ Some w → outcome_passes o ≡ (length w == 0)
-passes_in (Played answers warning wrong names drawing) w e = let same : wrong.items ≡ w = cc in ap (λ ws. length ws == 0) same
+passes_in (Played answers warning wrong names rules drawing) w e = let same : wrong.items ≡ w = cc in ap (λ ws. length ws == 0) same
 passes_in (NotPlayed reason) w e = cc
 
 -- the same of an outcome with these differences

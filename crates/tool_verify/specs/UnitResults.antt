@@ -50,7 +50,7 @@ TellsReplies results c wrong =
 
 -- the differences of an outcome; None if nothing was played
 abbrev pub wrong_in : ScriptOutcome → Option (List WrongAnswer)
-wrong_in (Played answers warning wrong names drawing) = Some wrong.items
+wrong_in (Played answers warning wrong names rules drawing) = Some wrong.items
 wrong_in (NotPlayed reason) = None
 
 -- an outcome has the differences of what is told of results, for a comparison just these

@@ -113,6 +113,7 @@ fn outcome_of_script<R: AllocGlobal + Eprint, F: Read + Drop>(
         warning: it.warning,
         wrong: in_file(rt.alloc(), script, it.wrong)?,
         names: it.names,
+        rules: it.rules,
         drawing,
     })
 }

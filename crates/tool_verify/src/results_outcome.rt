@@ -205,6 +205,9 @@ fn played(alloc: Global, total: u32, found: Differences) -> ScriptOutcome
         warning: None,
         wrong: found.wrong,
         names: Some(AnswerNames { names: found.names }),
+        rules: AnswerNames {
+            names: Vec::new(alloc),
+        },
         drawing: Some(String::new(alloc)),
     }
 }

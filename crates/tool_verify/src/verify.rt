@@ -10,7 +10,9 @@ use crate::opened::{OpenScript, open_script};
 use crate::report::report_files;
 use crate::summary::put_summary;
 use bus_legal::Normal;
+use line_format::after;
 use message_names::{MessageNames, owned};
+use rt1553_files::escaped;
 use rt1553_report::{AnswerNames, TriedScript, clauses_in, difference_told, name_at};
 use rt1553_tool_args::{AskedReport, AskedWitness, Profiles, ReportFormat, ScriptKind};
 use rt1553_verify::{ScriptWarning, StatedFault, WrongAnswer, named};
@@ -257,6 +259,42 @@ pub struct PlayedScript {
     pub wrong: Vec<WrongAnswer>,
     /// The names of the messages of these events, where there are names.
     pub names: Option<AnswerNames>,
+    /// The rules under which these events stand.
+    pub rules: AnswerNames,
+}
+
+/// The text of the comment that a line is; None for any other line, and for one that names the profile.
+fn comment_in(line: &[u8]) -> Option<&[u8]> {
+    let text = after(line, b"# ")?;
+    match after(text, b"Profile: ") {
+        Some(_) => None,
+        None => Some(text),
+    }
+}
+
+/// The rule under which each of these events stands, as it is printed: the last comment before it. None for all where no event
+/// has one, and for one behind the end of the script.
+fn rules_of(
+    alloc: Global,
+    script: &[u8],
+    wrong: &[WrongAnswer],
+) -> Result<AnswerNames, AllocError> {
+    let (mut rules, mut rule) = (Vec::new(alloc), None);
+    for (before, line) in script.split(|byte| *byte == b'\n').enumerate() {
+        rule = comment_in(line).or(rule);
+        if let Some(one) = wrong.get(rules.len())
+            && one.line.checked_sub(1) == Some(before as u64)
+        {
+            rules.push(match rule {
+                Some(text) => Some(escaped(alloc, text)?),
+                None => None,
+            })?;
+        }
+    }
+    if rules.as_slice().iter().all(|rule| rule.is_none()) {
+        rules.clear();
+    }
+    Ok(AnswerNames { names: rules })
 }
 
 /// The names of the messages of commands, where there are names.
@@ -329,11 +367,13 @@ pub fn play_script<R: AllocGlobal + Eprint, F: Read + Drop>(
                 let _ = eprintln!(rt; "{name}: warning: {}", warning.text());
             }
             tell_part(rt, name, script, compared.part)?;
+            let rules = rules_of(rt.alloc(), text, compared.wrong.as_slice())?;
             Ok(PlayedScript {
                 answers: compared.answers,
                 warning: compared.warning,
                 wrong: compared.wrong,
                 names,
+                rules,
             })
         }
         Err(fault) => Err(script_fault(rt, name, script, fault)),
