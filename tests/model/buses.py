@@ -211,8 +211,11 @@ class Controller:
         """Mostly that of a terminal, or all."""
         return self.draw.choice([self.terminal()] * 6 + [31, self.draw.randrange(31)])
 
+    def subaddress(self):
+        return self.draw.choice(self.subaddresses)
+
     def place(self):
-        return self.draw.choice(self.subaddresses), self.draw.randint(*self.counts)
+        return self.subaddress(), self.draw.randint(*self.counts)
 
     def receive(self):
         bus, (subaddress, count) = self.a_bus(), self.place()
@@ -234,6 +237,7 @@ class Controller:
     def shutdown(self):
         """A transmitter shutdown or its override, selected ones too."""
         bus, code = self.a_bus(), self.draw.choice([4, 4, 5, 5, 5, 20, 21])
+        self.bus.counts["selected shutdowns and overrides"] += code >= 20
         self.command(bus, self.address(), int(code < 20), self.draw.choice([0, 31]), code)
         self.data(bus, int(code >= 20))
         self.answered(bus)
@@ -248,7 +252,7 @@ class Controller:
         """From a terminal to another one, or to all."""
         bus, (subaddress, count) = self.a_bus(), self.place()
         self.command(bus, self.draw.choice([self.terminal(), self.terminal(), 31]), 0, subaddress, count)
-        self.command(bus, self.draw.choice([self.terminal()] * 12 + [self.draw.randrange(31)]), 1, self.draw.choice(self.subaddresses), count)
+        self.command(bus, self.draw.choice([self.terminal()] * 12 + [self.draw.randrange(31)]), 1, self.subaddress(), count)
         self.answered(bus)
         self.answered(bus)
 
@@ -268,7 +272,7 @@ class Controller:
             for _ in range(self.draw.randint(0, count)):
                 self.line("slot")
         elif self.draw.randrange(2):
-            self.command(bus, self.terminal(), 1, self.draw.choice(self.subaddresses), count)
+            self.command(bus, self.terminal(), 1, self.subaddress(), count)
             self.line(f"{bus} gap")
             for _ in range(self.draw.randint(0, count)):
                 self.line("slot")
@@ -285,29 +289,30 @@ class Controller:
         receiver, sender = self.draw.sample(list(self.bus.terminals), 2)
         self.command(bus, sender, 0, subaddress, count)
         self.command(bus, self.draw.choice([receiver, receiver, 31]), 0, subaddress, count)
-        self.command(bus, sender, 1, self.draw.choice(self.subaddresses), count)
+        self.command(bus, sender, 1, self.subaddress(), count)
         self.line(f"{bus} gap")
-        self.command(bus, sender, 0, self.draw.choice(self.subaddresses), count)
+        self.command(bus, sender, 0, self.subaddress(), count)
         self.data(bus, count)
         self.answered(bus)
 
     def early(self):
         """A transfer put while a terminal replies that is not done with its words: at its gap another one begins to reply."""
         bus, (subaddress, count), left = self.a_bus(), self.place(), self.draw.choice([1, 1, 2, 3])
-        self.command(bus, self.terminal(), 1, self.draw.choice(self.subaddresses), count)
+        self.command(bus, self.terminal(), 1, self.subaddress(), count)
         self.line(f"{bus} gap")
         for _ in range(count + 1 - left):
             self.line("slot")
         self.command(bus, self.draw.choice([self.terminal(), self.terminal(), 31]), 0, subaddress, count)
-        self.command(bus, self.terminal(), 1, self.draw.choice(self.subaddresses), count)
+        self.command(bus, self.terminal(), 1, self.subaddress(), count)
         self.answered(bus)
         self.answered(bus)
         self.status_asked()
 
     def subsystem(self):
         address, bits = self.terminal(), self.draw.getrandbits(16)
-        event = self.draw.choice([f"vector {bits:04x}", f"bit {bits:04X}", f"flag {self.draw.choice(rules.FLAGS)} {int(self.draw.random() < 0.3)}",
-                                  *[f"write {self.draw.choice(self.subaddresses):02} {self.draw.randint(1, self.counts[1]):02} {bits:04x}"] * 3])  # fmt: skip
+        flag = f"flag {self.draw.choice(rules.FLAGS)} {int(self.draw.random() < 0.3)}"
+        write = f"write {self.subaddress():02} {self.draw.randint(1, self.counts[1]):02} {bits:04x}"
+        event = self.draw.choice([f"vector {bits:04x}", f"bit {bits:04X}", flag, write, write, write])
         self.put(f"{address:02} {event}")
 
     def anything(self):
