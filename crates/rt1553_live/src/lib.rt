@@ -23,7 +23,7 @@ mod saving;
 mod state_fault;
 mod terminal;
 
-pub use answer::PlainAnswer;
+pub use answer::{PlainAnswer, show};
 pub use event::{PlainEvent, plain_event};
 pub use fault::{PlainFault, tell_fault, tell_restore_fault};
 pub use live::{RestoreFault, copy_live, new_live, restore_live, save_live, step_live};

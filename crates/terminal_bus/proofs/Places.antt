@@ -12,7 +12,7 @@ use Rattle.terminal_bus.specs.declared.bus.NotAdded.TheVariants.{SameAddress, Fu
 use Rattle.terminal_bus.specs.Members.{Member}
 use Rattle.terminal_bus.specs.Discipline.{has_address}
 use Rattle.terminal_bus.specs.AtMembers.{seat_at, AtBoth, SeatStands, SeatsStandAt, not_added}
-use Rattle.terminal_bus.specs.inner.Seats.{AtSeat, EachBelow, is_addressed}
+use Rattle.terminal_bus.specs.inner.Seats.{AtSeat, EachSeat, EachBelow, is_addressed}
 
 module _ {L : Type 0} (R : Seat L → Seat L → Type 0) where
   pub below_next : (i : ℕ) (olds news : List (Option (Seat L))) (o s : Option (Seat L)) → i < length news → EachBelow R i olds news → AtSeat R (get_or news i o) s → EachBelow R (i + 1) olds (set news i s)
@@ -27,6 +27,16 @@ module _ {L : Type 0} (R : Seat L → Seat L → Type 0) where
         ];
         others = λ k h. (let ne : k ≢ i = omega (arith, h) in let le : i ≤ k = omega (arith, h) in get_or-set_other news i k s None ne ∙ b.others k le);
       }
+
+-- one place more
+pub each_append : {L : Type 0} (R : Seat L → Seat L → Type 0) (olds news : List (Option (Seat L))) (o s : Option (Seat L)) → length news ≡ length olds → EachSeat R olds news → AtSeat R o s →
+    EachSeat R (olds ++ o ∷ []) (news ++ s ∷ [])
+each_append R [] [] o s e p q zero = q
+each_append R [] [] o s e p q (suc k) = tt
+each_append R [] (n ∷ news) o s e p q k = cc
+each_append R (x ∷ olds) [] o s e p q k = cc
+each_append R (x ∷ olds) (n ∷ news) o s e p q zero = p 0
+each_append R (x ∷ olds) (n ∷ news) o s e p q (suc k) = each_append R olds news o s (omega (arith, e)) (λ j. p (suc j)) q k
 
 keep_append : {X Y : Type 0} (f : X → Option Y) (xs ys : List X) → keep f (xs ++ ys) ≡ keep f xs ++ keep f ys
 keep_append f [] ys = refl

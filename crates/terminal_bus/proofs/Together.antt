@@ -23,7 +23,7 @@ use Rattle.terminal_bus.specs.Alone.{answers_in}
 use Rattle.terminal_bus.specs.Transfer.{action_of, actions}
 use Rattle.terminal_bus.specs.Answers.{shown_kept}
 use Rattle.terminal_bus.specs.AtMembers.{seat_at, AtBoth, SeatStands, SeatsStandAt, kept_at, collides}
-use Rattle.terminal_bus.specs.inner.Seats.{TakesAll, SeatSteps, StepsIfAddressed, sends_there, sends_at, Hears, AtSeat, EachSeat, are_many, SlotSteps}
+use Rattle.terminal_bus.specs.inner.Seats.{TakesAll, Stays, SeatSteps, StepsIfAddressed, sends_there, sends_at, Hears, AtSeat, EachSeat, are_many, SlotSteps}
 
 -- what is kept of two lists that give the same at each place
 abbrev pub over : {Y Z : Type 0} → (Y → Option Z) → Option Y → Option Z
@@ -71,6 +71,13 @@ module _ {L : Type 0} (is_legal : L → Cell → Bool) (members : List Member) w
       (olds news : List (Option (Seat L))) → length news ≡ length olds → Each Q olds → EachSeat R olds news → Each Q' news
   carry Q Q' R step olds news l q r =
       (l ∙ q.0, λ k. carry_at Q Q' R step (seat_at olds k) (seat_at news k) (slice_get members k) (q.1 k) (r k))
+
+  -- terminals that stand wherever these stand
+  stays_done : (s t : Seat L) (m : Member) → SeatStands is_legal s m → Stays is_legal s t → SeatStands is_legal t m
+  stays_done s t m q r = record { address = r.address ∙ q.address; terminal = r.takes m.description m.history q.terminal }
+
+  pub all_stay : (olds news : List (Option (Seat L))) → length news ≡ length olds → SeatsStandAt is_legal members olds → EachSeat (Stays is_legal) olds news → SeatsStandAt is_legal members news
+  all_stay olds news l q r = let it = carry (SeatStands is_legal) (SeatStands is_legal) (Stays is_legal) stays_done olds news l (q.count, q.each) r in record { count = it.0; each = it.1 }
 
   -- what is put on a bus
   on_bus_done : (e : Event) (s t : Seat L) (m : Member) → SeatStands is_legal s m → SeatSteps is_legal e s t → Done (OnBus e) t m

@@ -69,9 +69,12 @@ abbrev pub play : List Member → List BusEvent → List Member
 play members [] = members
 play members (x ∷ xs) = play (bus_after members x) xs
 
+abbrev pub member_at : Description → List Event → Member
+member_at P h = record { description = P; history = h }
+
 -- terminals at power-up, with an empty history
 abbrev pub member_of : Description → Member
-member_of P = record { description = P; history = [] }
+member_of P = member_at P []
 
 abbrev pub powered_up : List Description → List Member
 powered_up Ps = map member_of Ps

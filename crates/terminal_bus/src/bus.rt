@@ -1,12 +1,14 @@
 //! A bus of terminals that are stepped together.
 use crate::answers::{AddressedAnswer, answer_of};
 use crate::came::CameTo;
+use crate::copied_answer::CopiedAnswer;
 use crate::discipline::{Breach, breach_of};
 use crate::event::BusEvent;
 use crate::exchange::{addressed_steps, each_steps, exchange, heard_unless, sent_by};
-use crate::seat::{Seat, has_address, is_addressed};
+use crate::seat::{Seat, has_address, is_addressed, place_copy};
 use arrayvec::ArrayVec;
 use bus_legal::{Legality, Setup};
+use bus_terminal::Terminal;
 use bus_word::Bus;
 use terminal_rules::Event;
 use terminal_state::OnBuses;
@@ -28,7 +30,7 @@ pub struct TerminalBus<L> {
 
 impl<L: Legality> TerminalBus<L> {
     ghost use Rattle.std.specs.Prelude.{◌≡◌, List, []};
-    ghost use Rattle.std.specs.Prelude.{length, IfSome, IfNone, ◌<◌, is_ok};
+    ghost use Rattle.std.specs.Prelude.{length, IfSome, IfNone, ◌<◌, ◌≤◌, is_ok};
     ghost use Rattle.std.specs.Result.{result_err};
     ghost use Rattle.terminal_bus.specs.Breaches.{breach};
     ghost use Rattle.terminal_bus.specs.Discipline.{may_put, has_address};
@@ -53,7 +55,8 @@ impl<L: Legality> TerminalBus<L> {
 
     /// The number of terminals, 0 to 31.
     pub fn len(&self) -> usize
-        ensures { (members : List Member) → BusStandsAt L.is_legal members self.now → result ≡ length members }
+        ensures count { (members : List Member) → BusStandsAt L.is_legal members self.now → result ≡ length members }
+        ensures most { result ≤ 31 }
     {
         self.seats.len()
     }
@@ -180,8 +183,10 @@ impl<L: Legality> TerminalBus<L> {
 impl<L: Legality + Drop> TerminalBus<L> {
     ghost use Rattle.std.specs.Prelude.{◌≡◌, List, [], ◌∷◌, ◌++◌, OnOk, OnErr};
     ghost use Rattle.std.specs.Result.{result_err};
-    ghost use Rattle.bus_legal.specs.Description.{described};
-    ghost use Rattle.terminal_bus.specs.Members.{Member, member_of};
+    ghost use Rattle.bus_legal.specs.Description.{Description, described};
+    ghost use Rattle.terminal_rules.specs.declared.event.Event.{Event};
+    ghost use Rattle.bus_terminal.specs.Stands.{StandsAt, own_description};
+    ghost use Rattle.terminal_bus.specs.Members.{Member, member_of, member_at};
     ghost use Rattle.terminal_bus.specs.AtMembers.{BusStandsAt, not_added};
 
     /// Adds a terminal at power-up behind the others. An error leaves the bus as it was.
@@ -199,5 +204,42 @@ impl<L: Legality + Drop> TerminalBus<L> {
         }
         self.seats.push(Some(Seat::power_up(setup, legality)));
         Ok(())
+    }
+
+    /// Adds a terminal with this address behind the others, where it stands. An error leaves the bus as it was.
+    ///
+    /// # Errors
+    ///
+    /// `SameAddress` if a terminal of the bus has its address, else `Full` if the bus has 31 terminals.
+    pub fn join(&mut self, address: u8, terminal: Terminal<L>) -> Result<(), NotAdded>
+        requires { (own_description L.is_legal terminal).address ≡ address }
+        ensures not_added { (members : List Member) → BusStandsAt L.is_legal members self.old → result_err result ≡ not_added members address }
+        ensures joined { OnOk result ((members : List Member) (P : Description) (h : List Event) → BusStandsAt L.is_legal members self.old → StandsAt L.is_legal P h terminal
+            → BusStandsAt L.is_legal (members ++ member_at P h ∷ []) self.new) }
+        ensures unchanged { OnErr result (self.new ≡ self.old) }
+    {
+        if let Some(reason) = self.not_added(address) {
+            return Err(reason);
+        }
+        self.seats.push(Some(Seat {
+            address,
+            terminal,
+            answer: CopiedAnswer::Silent,
+        }));
+        Ok(())
+    }
+
+    /// Gives a bus whose terminals stand wherever those of this one stand, each at its place, without answers.
+    pub fn copy(&self) -> TerminalBus<L>
+    where
+        L: Copy,
+        ensures { (members : List Member) → BusStandsAt L.is_legal members self.now → BusStandsAt L.is_legal members result }
+    {
+        let places = self.seats.as_slice();
+        let mut seats = ArrayVec::new();
+        for place in places {
+            seats.push(place_copy(place));
+        }
+        TerminalBus { seats }
     }
 }

@@ -1,7 +1,7 @@
 //! A terminal at its place on the bus.
 ghost use Rattle.std.specs.Prelude.{◌≡◌, ◌||◌};
 ghost use Rattle.terminal_rules.specs.LookBack.{some};
-ghost use Rattle.terminal_bus.specs.inner.Seats.{is_addressed};
+ghost use Rattle.terminal_bus.specs.inner.Seats.{is_addressed, AtSeat, Stays};
 
 use crate::copied_answer::{CopiedAnswer, kept};
 use bus_legal::{Legality, Setup};
@@ -29,7 +29,7 @@ impl<L: Legality> Seat<L> {
     ghost use Rattle.terminal_bus.specs.AtMembers.{SeatStands};
     ghost use Rattle.terminal_state.specs.Message.{standing_on};
     ghost use Rattle.terminal_bus.specs.inner.Replying.{awaits_in};
-    ghost use Rattle.terminal_bus.specs.inner.Seats.{SeatSteps, SeatTakes, sends_there};
+    ghost use Rattle.terminal_bus.specs.inner.Seats.{SeatSteps, SeatTakes, Stays, sends_there};
 
     /// Gives a terminal at power-up, without an answer.
     pub(crate) fn power_up(setup: Setup, legality: L) -> Seat<L>
@@ -38,6 +38,19 @@ impl<L: Legality> Seat<L> {
         Seat {
             address: setup.address,
             terminal: Terminal::power_up(setup, legality),
+            answer: CopiedAnswer::Silent,
+        }
+    }
+
+    /// Gives a terminal that stands wherever this one stands, without an answer.
+    pub(crate) fn copy(&self) -> Seat<L>
+    where
+        L: Copy,
+        ensures { Stays L.is_legal self.now result }
+    {
+        Seat {
+            address: self.address,
+            terminal: self.terminal.copy(),
             answer: CopiedAnswer::Silent,
         }
     }
@@ -102,4 +115,14 @@ pub(crate) fn has_address<L>(places: &[Option<Seat<L>>], address: u8) -> bool
         found = found || is_addressed(place, address);
     }
     found
+}
+
+/// Gives a place with the terminal of this one once more, without an answer.
+pub(crate) fn place_copy<L: Legality + Copy>(place: &Option<Seat<L>>) -> Option<Seat<L>>
+    ensures { AtSeat (Stays L.is_legal) place.now result }
+{
+    match place {
+        Some(seat) => Some(seat.copy()),
+        None => None,
+    }
 }

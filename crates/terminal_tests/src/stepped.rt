@@ -1,4 +1,5 @@
-//! A terminal that is stepped by plain numbers is made and stepped, and a text is refused.
+//! A terminal that is stepped by plain numbers is made and stepped, and a text is refused; and a bus of terminals likewise.
+use live_bus::{copy_bus, join_bus, new_bus, step_bus};
 use rt1553_live::{PlainEvent, new_live, step_live};
 
 /// A command word on bus A, transmit status word for address 5.
@@ -36,4 +37,28 @@ fn a_status_word_is_sent_in_its_slot(rt: HostRuntime) {
 #[test]
 fn a_text_is_refused(rt: HostRuntime) {
     assert!(rt; new_live(rt.alloc(), b"adress = 5\n").is_err());
+}
+
+#[test]
+fn a_bus_by_numbers_tells_who_sends(rt: HostRuntime) {
+    let (made, first) = (new_bus(rt.alloc()), new_live(rt.alloc(), b"address = 5\n"));
+    assert!(rt; made.is_some() && first.is_ok());
+    if let (Some(mut live), Ok(pump)) = (made, first) {
+        assert!(rt; join_bus(&mut live, &pump).is_ok());
+        live.event = TRANSMIT_STATUS;
+        assert_eq!(rt; step_bus(&mut live), 0);
+        live.event.what = 2;
+        assert_eq!(rt; step_bus(&mut live), 0);
+        assert!(rt; join_bus(&mut live, &pump).is_err());
+        let copy = copy_bus(rt.alloc(), &live);
+        assert!(rt; copy.is_some());
+        if let Some(mut live) = copy {
+            live.event.what = 7;
+            assert_eq!(rt; step_bus(&mut live), 0);
+            assert!(rt; live.count == 1 && !live.collided_a && !live.collided_b);
+            assert!(rt; live.answers[0].address == 5 && live.answers[0].answer.bits == 0x2800);
+            live.to = 6;
+            assert_eq!(rt; step_bus(&mut live), 2);
+        }
+    }
 }

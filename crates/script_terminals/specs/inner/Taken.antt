@@ -26,7 +26,7 @@ pub record PlaysEvent {L : Type 0} (is_legal : L → Cell → Bool) (told : BusT
   pub stands : BusStandsAt is_legal (bus_after members x) bus
 
 -- nothing was played
-pub record Stays {L : Type 0} (is_legal : L → Cell → Bool) (members : List Member) (old new : Written) (bus : TerminalBus L) : Type 0 where
+pub record Remains {L : Type 0} (is_legal : L → Cell → Bool) (members : List Member) (old new : Written) (bus : TerminalBus L) : Type 0 where
   pub text : new.text ≡ old.text
   pub warnings : new.warnings ≡ old.warnings
   pub stands : BusStandsAt is_legal members bus
@@ -34,5 +34,5 @@ pub record Stays {L : Type 0} (is_legal : L → Cell → Bool) (members : List M
 -- by what a line says: its event was played, or nothing; and the fault that ends the script
 abbrev pub PlaysBusLine : {L : Type 0} → (L → Cell → Bool) → BusTold → List Member → ℕ → Result (Option BusEvent) BusScriptFault → Option BusScriptFault → Written → Written → TerminalBus L → Type 0
 PlaysBusLine is_legal told members n (Ok (Some x)) fault old new bus = (fault ≡ None) × PlaysEvent is_legal told members n x old new bus
-PlaysBusLine is_legal told members n (Ok None) fault old new bus = (fault ≡ None) × Stays is_legal members old new bus
-PlaysBusLine is_legal told members n (Err f) fault old new bus = (fault ≡ Some f) × Stays is_legal members old new bus
+PlaysBusLine is_legal told members n (Ok None) fault old new bus = (fault ≡ None) × Remains is_legal members old new bus
+PlaysBusLine is_legal told members n (Err f) fault old new bus = (fault ≡ Some f) × Remains is_legal members old new bus

@@ -21,6 +21,11 @@ use Rattle.terminal_bus.specs.AtMembers.{seat_at}
 abbrev pub TakesAll : {L : Type 0} → (L → Cell → Bool) → List Event → Terminal L → Terminal L → Type 0
 TakesAll is_legal es t u = (P : Description) (h : List Event) → StandsAt is_legal P h t → StandsAt is_legal P (history_after es h) u
 
+-- it stands wherever the other stands
+pub record Stays {L : Type 0} (is_legal : L → Cell → Bool) (old new : Seat L) : Type 0 where
+  pub address : new.address ≡ old.address
+  pub takes : TakesAll is_legal [] old.terminal new.terminal
+
 -- it took these events, and its answer is as it was
 pub record SeatTakes {L : Type 0} (is_legal : L → Cell → Bool) (es : List Event) (old new : Seat L) : Type 0 where
   pub address : new.address ≡ old.address

@@ -1,0 +1,2 @@
+pub mod BusNumbers
+pub mod LiveBus
