@@ -7,8 +7,6 @@
  *   count: string, sent: number[], other: number, status: number, data: number[], hand: string, status2: number, data2: number[],
  *   hand2: string, differs: boolean, remark: string, tone: string, isOpen: boolean, gaps: number, slots: number, isMine: boolean,
  *   isSender: boolean, dropped: string, problems: string[]}} Row
- * What is followed on a bus: the message that is open, what comes while the terminal sends, and a dropped message up to its gap.
- * @typedef {{open: Row|null, unheard: Row|null, behind: Row|null}} Followed
  */
 import { commandOf, countOf, expectedWords, hex4, modeName, parityOf, repliedWords, statusNames } from './words.js';
 
@@ -35,7 +33,8 @@ class Decoder {
     this.own = own;
     this.broadcast = broadcast;
     /** @type {Row[]} */ this.rows = [];
-    /** @type {Record<string, Followed>} */
+    /** What is followed on a bus: the message that is open, what comes while the terminal sends, and a dropped message up to its gap.
+     * @type {Record<string, {open: Row|null, unheard: Row|null, behind: Row|null}>} */
     this.on = { A: { open: null, unheard: null, behind: null }, B: { open: null, unheard: null, behind: null } };
     /** The next slot behind each line. */
     this.next = new Int32Array(lines.length + 1).fill(-1);

@@ -15,27 +15,25 @@ function* partsOf(row) {
   const lines = row.first === row.last ? `line ${row.first + 1}` : `lines ${row.first + 1}–${row.last + 1}`;
   const head = el('h3', {}, `Message ${row.n}${row.bus && `, bus ${row.bus}`}: ${row.kind}`, el('small', {}, ` ${lines}`));
   yield el('div', { class: 'title' }, head, row.remark ? el('p', { class: `remark ${row.tone}` }, row.remark) : null);
-  if (row.cmd >= 0) yield wordOf('Command', row.cmd, 'command', tellCommand(row.cmd));
-  if (row.cmd2 >= 0) yield wordOf('Second command', row.cmd2, 'command', tellCommand(row.cmd2));
-  if (row.other >= 0) yield wordOf('Status of the other terminal', row.other, 'status', '');
-  if (row.status >= 0) yield statusOf('Status', row.status);
+  if (row.cmd >= 0) yield wordOf('Command', row.cmd, 'command');
+  if (row.cmd2 >= 0) yield wordOf('Second command', row.cmd2, 'command');
+  if (row.other >= 0) yield wordOf('Status of the other terminal', row.other, 'status');
+  if (row.status >= 0) yield wordOf('Status', row.status, 'status');
   if (row.sent.length) yield wordsOf(row.cmd < 0 ? 'Words' : 'Data words on the bus', row.sent);
   if (row.data.length) yield wordsOf('Data words of the terminal', row.data);
   if (row.hand) yield el('p', { class: 'handed' }, el('b', {}, 'Handed over: '), row.hand);
   if (!row.differs) return;
   yield el('h4', {}, 'Terminal 2 answers otherwise');
-  if (row.status2 >= 0) yield statusOf('Status, terminal 2', row.status2);
+  if (row.status2 >= 0) yield wordOf('Status, terminal 2', row.status2, 'status');
   else if (row.status >= 0) yield el('p', {}, 'It sends no status.');
   if (row.data2.length) yield wordsOf('Data words, terminal 2', row.data2);
   if (row.hand2 !== row.hand) yield el('p', {}, `It hands over: ${row.hand2 || 'nothing'}`);
 }
 
-/** @param {string} name @param {number} bits */
-const statusOf = (name, bits) => wordOf(name, bits, 'status', statusNames(bits).join(', ') || 'no bit set');
-
-/** @param {string} name @param {number} bits @param {'command'|'status'} kind @param {string} told */
-function wordOf(name, bits, kind, told) {
+/** @param {string} name @param {number} bits @param {'command'|'status'} kind */
+function wordOf(name, bits, kind) {
   const fields = fieldsOf(bits, kind), label = fields.map((it) => `${it.name} ${it.value}`).join(', ');
+  const told = kind === 'command' ? tellCommand(bits) : statusNames(bits).join(', ') || 'no bit set';
   const strip = el('div', { class: 'bits', role: 'img', 'aria-label': label }, ...fields.map((it) => fieldOf(it, bits, kind)));
   return el('section', { class: 'word' }, el('h4', {}, name, ' ', el('code', {}, hex4(bits)), el('small', {}, ` ${told}`)), strip);
 }

@@ -38,29 +38,25 @@ export function save(name, text) {
   setTimeout(() => URL.revokeObjectURL(link.href), 10_000);
 }
 
-/** @param {HTMLElement} list @returns {HTMLElement[]} the tabs that it shows */
-const tabsOf = (list) => /** @type {any[]} */ ([...list.querySelectorAll('[role=tab]')]).filter((it) => !it.hidden);
-
-/** @param {HTMLElement} list of tabs @param {(name: string) => void} chosen called for a click or an arrow key */
+/** Tabs that clicks and arrow keys choose.
+ * @param {HTMLElement} list @param {(name: string) => void} chosen @returns {(name: string) => void} chooses one */
 export function tabs(list, chosen) {
-  list.addEventListener('click', ({ target }) => {
-    const tab = /** @type {HTMLElement} */ (target).closest('[role=tab]');
-    if (tab) chosen(/** @type {HTMLElement} */ (tab).dataset.tab ?? '');
-  });
-  list.addEventListener('keydown', (event) => {
-    const all = tabsOf(list), at = all.indexOf(/** @type {any} */ (document.activeElement));
-    const to = { ArrowRight: all[at + 1] ?? all[0], ArrowLeft: all.at(at - 1) }[event.key];
+  const all = /** @type {HTMLElement[]} */ ([...list.querySelectorAll('[role=tab]')]);
+  const choose = (/** @type {string} */ name) => {
+    for (const tab of all) {
+      tab.setAttribute('aria-selected', String(tab.dataset.tab === name));
+      tab.tabIndex = tab.dataset.tab === name ? 0 : -1;
+    }
+    chosen(name);
+  };
+  for (const tab of all) tab.onclick = () => choose(tab.dataset.tab ?? '');
+  list.onkeydown = (event) => {
+    const seen = all.filter((it) => !it.hidden), at = seen.indexOf(/** @type {any} */ (document.activeElement));
+    const to = { ArrowRight: seen[at + 1] ?? seen[0], ArrowLeft: seen.at(at - 1) }[event.key];
     if (!to) return;
     to.focus();
     to.click();
     event.preventDefault();
-  });
-}
-
-/** @param {HTMLElement} list @param {string} name of the tab that is chosen from now on */
-export function choose(list, name) {
-  for (const tab of tabsOf(list)) {
-    tab.setAttribute('aria-selected', String(tab.dataset.tab === name));
-    tab.tabIndex = tab.dataset.tab === name ? 0 : -1;
-  }
+  };
+  return choose;
 }

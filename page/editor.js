@@ -22,19 +22,14 @@ export class Editor {
   constructor(place, label, changed) {
     this.changed = changed;
     this.lines = [''];
-    /** The first line of the page in the field, and how many lines it has. */
-    this.start = 0;
-    this.count = 1;
-    /** Answers beside the lines, those of a second terminal, the first line where they differ, and what is wrong with a line.
-     * @type {string[]} */ this.answers = [];
-    /** @type {string[]|null} */ this.second = null;
-    this.differs = -1;
-    /** @type {Map<number, string>} */ this.marks = new Map();
-    /** Are the answers those of an earlier text? */
-    this.isStale = false;
-    /** The lines of the message that is chosen. */
-    this.from = -1;
-    this.to = -1;
+    this.start = 0; // the first line of the page in the field
+    this.count = 1; // and how many lines that has
+    /** @type {string[]} */ this.answers = []; // beside the lines
+    /** @type {string[]|null} */ this.second = null; // those of a second terminal
+    this.differs = -1; // the first line where they differ
+    /** @type {Map<number, string>} */ this.marks = new Map(); // what is wrong with a line
+    this.isStale = false; // are the answers those of an earlier text?
+    this.from = this.to = -1; // the lines of the message that is chosen
     this.build(place, label);
     this.area.addEventListener('paste', (/** @type {ClipboardEvent} */ event) => this.paste(event));
     this.area.addEventListener('input', () => this.read());

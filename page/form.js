@@ -19,15 +19,15 @@ const ASKED = [['accept', 0, 'accepts it'], ['vector', 16, 'at power-up'], ['bit
 export class TerminalForm {
   /** @param {HTMLElement} place @param {(text: string) => {status: number, line: number}} check
    * @param {(text: string) => void} accepted takes a text that was accepted
-   * @param {(faults: number) => void} judged takes how many fields are wrong */
+   * @param {(faults: number) => void} judged takes how many fields are wrong, if any */
   constructor(place, check, accepted, judged) {
     this.check = check;
     this.accepted = accepted;
     this.judged = judged;
     /** @type {Map<string, Field>} */ this.fields = new Map();
     this.terminal = newTerminal();
-    this.gridNote = el('p', { class: 'note wrong', role: 'alert', hidden: true });
-    this.modeNote = el('p', { class: 'note wrong', role: 'alert', hidden: true });
+    this.gridNote = el('p', { class: 'note wrong', role: 'alert' });
+    this.modeNote = el('p', { class: 'note wrong', role: 'alert' });
     this.initials = el('div', { class: 'initials' });
     this.form = el('form', { class: 'terminal', autocomplete: 'off' }, this.basics(), this.grid(), this.modes(),
       section('Words at power-up', hint('Four hexadecimal digits each, from word 1 on. Words that are left out are 0000.'), this.initials));
@@ -183,24 +183,18 @@ export class TerminalForm {
 
   /** @param {Map<string, string>} faults shown at their fields */
   wrong(faults) {
-    let inGrid = '';
+    const inGrid = [];
     for (const [name, { input, note }] of this.fields) {
-      const fault = faults.get(name) ?? '';
+      const fault = faults.get(name) ?? '', [kind, sa] = name.split('-');
       input.setAttribute('aria-invalid', String(fault !== ''));
       if (note) {
         note.textContent = fault || (note.dataset.hint ?? '');
         note.classList.toggle('wrong', fault !== '');
-      } else {
-        const [kind, sa] = name.split('-');
-        input.title = fault;
-        if (fault) inGrid ||= `Subaddress ${sa}, ${kind === 'heard' ? 'broadcast receive' : kind}: ${fault}.`;
-      }
+      } else if (fault) inGrid.push(`Subaddress ${sa}, ${kind === 'heard' ? 'broadcast receive' : kind}: ${fault}.`);
     }
-    for (const [note, text] of [[this.gridNote, inGrid], [this.modeNote, faults.get('own-mode') ?? faults.get('all-mode') ?? '']]) {
-      note.textContent = text;
-      note.hidden = !text;
-    }
-    this.judged(faults.size);
+    this.gridNote.textContent = inGrid[0] ?? '';
+    this.modeNote.textContent = faults.get('own-mode') ?? faults.get('all-mode') ?? '';
+    if (faults.size) this.judged(faults.size);
   }
 
   /** @param {KeyboardEvent} event an arrow key moves in the grid as in a spreadsheet */

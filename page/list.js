@@ -15,8 +15,7 @@ export class MessageList {
     /** @type {Row[]} */ this.rows = [];
     /** @type {Row[]} */ this.seen = [];
     this.filter = '';
-    /** The row that is chosen, among those that are seen. */
-    this.at = -1;
+    this.at = -1; // the row that is chosen, among those that are seen
     this.chosen = chosen;
     this.space = el('div', { class: 'space', role: 'rowgroup' });
     this.box = el('div', { class: 'rows', role: 'grid', tabindex: '0', 'aria-label': 'messages' },

@@ -4,9 +4,9 @@
  * @typedef {{text: string, typed: string}} Held
  * @typedef {{name: string, text: string, script: string}} Example
  */
-import { newTerminal, readCanon, writeCanon } from './canon.js';
+import { readCanon } from './canon.js';
 import { showDetails } from './details.js';
-import { byId, choose, el, save, tabs } from './dom.js';
+import { byId, el, save, tabs } from './dom.js';
 import { Editor } from './editor.js';
 import { Engine } from './engine.js';
 import { TerminalForm } from './form.js';
@@ -44,20 +44,16 @@ class Page {
     this.engine = engine;
     this.examples = examples;
     /** @type {Held[]} */ this.terminals = [];
-    /** Which of them is shown. */
-    this.which = 0;
+    this.which = 0; // which of them is shown
     /** @type {'script'|'messages'} */ this.mode = 'script';
     /** @type {import('./play.js').Result|null} */ this.result = null;
     /** @type {import('./messages.js').Expansion|null} */ this.expansion = null;
-    /** The script that is played, and what was said of the two terminals. */
-    this.script = '';
-    this.verdict = '';
-    /** Does the first difference of the next play get chosen in the list? */
-    this.isFresh = true;
+    this.script = ''; // the one that is played
+    this.verdict = ''; // what was said of both terminals
+    this.isFresh = true; // does the first difference of the next play get chosen in the list?
     this.timers = { play: 0, link: 0 };
-    /** The link that this page wrote last, and what can be brought back. */
-    this.written = '';
-    /** @type {import('./state.js').Shared[]} */ this.before = [];
+    this.written = ''; // the link that this page wrote last
+    /** @type {import('./state.js').Shared[]} */ this.before = []; // what can be brought back
     this.player = new Player(engine, source, (result) => this.show(result), alarm);
     this.form = new TerminalForm(byId('form'), (text) => engine.check(text), (text) => this.take(text, true), (faults) =>
       tell('judged', `✗ ${amount(faults, 'field')} ${faults === 1 ? 'is' : 'are'} wrong: the last accepted terminal is played`, 'bad'));
@@ -65,7 +61,26 @@ class Page {
     this.scriptEditor = new Editor(byId('script-editor'), 'script', () => this.play());
     this.messageEditor = new Editor(byId('message-editor'), 'messages', () => this.playSoon());
     this.list = new MessageList(byId('rows'), (row) => this.showMessage(row));
-    this.bindTabs();
+    // of the parts of the page, a phone shows one
+    this.view = tabs(byId('views'), (name) => { byId('main').dataset.view = name; });
+    this.showAs = tabs(byId('as'), (name) => {
+      byId('form').hidden = name !== 'form';
+      byId('text').hidden = name !== 'text';
+      this.textEditor.draw();
+    });
+    this.turnTo = tabs(byId('which'), (name) => {
+      const isTwo = this.terminals.length > 1;
+      this.which = Number(name) - 1;
+      byId('tab-2').hidden = !isTwo;
+      byId('second').textContent = isTwo ? '− remove terminal 2' : '+ second terminal';
+      this.showTerminal(true);
+    });
+    this.setMode = tabs(byId('mode'), (name) => {
+      this.mode = name === 'messages' ? 'messages' : 'script';
+      byId('script-editor').hidden = this.mode !== 'script';
+      byId('message-editor').hidden = byId('expand').hidden = this.mode !== 'messages';
+    });
+    byId('mode').onclick = () => this.play();
     this.bindClicks();
     this.bindFilter();
     this.bindWindow();
@@ -75,11 +90,11 @@ class Page {
 
   /** Shows what the link carries, or the first example. */
   async begin() {
-    choose(byId('as'), 'form');
+    this.showAs('form');
     this.view('editor');
     const link = location.hash.slice(1), linked = link ? await unpack(link) : null;
     if (linked && this.restore(linked)) return;
-    this.showExample(this.examples.find((it) => it.name.startsWith('poll')) ?? { name: '', text: writeCanon(newTerminal()).text, script: '' });
+    this.showExample(this.examples.find((it) => it.name.startsWith('poll')) ?? this.examples[0]);
     if (link) alarm('This link is damaged: the first example is shown instead.');
   }
 
@@ -137,18 +152,8 @@ class Page {
   toggleSecond() {
     this.keep();
     if (this.terminals.length > 1) this.terminals.pop(); else this.terminals.push({ ...this.terminals[0] });
-    this.turnTo(this.terminals.length - 1);
+    this.turnTo(String(this.terminals.length));
     this.play();
-  }
-
-  /** @param {number} which terminal is shown from now on */
-  turnTo(which) {
-    const isTwo = this.terminals.length > 1;
-    this.which = which;
-    byId('which').querySelector('[data-tab="2"]').hidden = !isTwo;
-    byId('second').textContent = isTwo ? '− remove terminal 2' : '+ second terminal';
-    choose(byId('which'), String(which + 1));
-    this.showTerminal(true);
   }
 
   // ---- what is played
@@ -185,7 +190,6 @@ class Page {
     for (const it of [byId('editor'), this.list.box]) it.classList.toggle('two', isTwo);
     byId('answer-head').textContent = isTwo ? 'answers of terminals 1 and 2' : 'answers';
     byId('alert').hidden = true;
-    if (!result.agrees && !fault) alarm('The two runs of the module do not agree. Please report this script.');
     this.tellPlayed(result);
     byId('differing').hidden = !isTwo;
     this.sift();
@@ -215,20 +219,6 @@ class Page {
     list.set(result?.rows ?? [], byId('filter').value);
     const all = list.rows.length, seen = list.seen.length;
     byId('counted').textContent = seen === all ? amount(all, 'message') : `${seen.toLocaleString('en')} of ${amount(all, 'message')}`;
-  }
-
-  /** @param {string} name */
-  setMode(name) {
-    this.mode = name === 'messages' ? 'messages' : 'script';
-    choose(byId('mode'), this.mode);
-    byId('script-editor').hidden = this.mode !== 'script';
-    byId('message-editor').hidden = byId('expand').hidden = this.mode !== 'messages';
-  }
-
-  /** @param {string} name of a part of the page, of which a phone shows one */
-  view(name) {
-    choose(byId('views'), name);
-    byId('main').dataset.view = name;
   }
 
   // ---- what is replaced, and links
@@ -268,7 +258,7 @@ class Page {
     this.setMode(mode);
     this.scriptEditor.value = script;
     this.messageEditor.value = messages;
-    this.turnTo(0);
+    this.turnTo('1');
     this.play();
     return true;
   }
@@ -309,18 +299,6 @@ class Page {
   }
 
   // ---- what the buttons and keys do
-
-  bindTabs() {
-    tabs(byId('which'), (name) => this.turnTo(Number(name) - 1));
-    tabs(byId('as'), (name) => {
-      choose(byId('as'), name);
-      byId('form').hidden = name !== 'form';
-      byId('text').hidden = name !== 'text';
-      this.textEditor.draw();
-    });
-    tabs(byId('mode'), (name) => { this.setMode(name); this.play(); });
-    tabs(byId('views'), (name) => this.view(name));
-  }
 
   bindClicks() {
     const file = byId('file'), pick = byId('example'), root = document.documentElement;

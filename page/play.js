@@ -1,10 +1,9 @@
 /**
  * Plays scripts: short ones at once, long ones in a worker, which the next one ends.
- * `differs` is the first line that the two terminals answer differently, or -1. `agrees`: a script is played as a whole and event by
- * event, and both give the same.
+ * `differs` is the first line that the two terminals answer differently, or -1.
  * @typedef {{first: string, second: string|null, script: string}} Job
  * @typedef {{fault: string, faultLine: number, transcript: string, answers: string[], second: string[]|null,
- *   rows: import('./decode.js').Row[], differs: number, agrees: boolean, ms: number}} Result
+ *   rows: import('./decode.js').Row[], differs: number, ms: number}} Result
  */
 import { readCanon } from './canon.js';
 import { decode } from './decode.js';
@@ -21,12 +20,12 @@ export const isLong = (text) => text.split('\n', AT_ONCE + 2).length > AT_ONCE +
 /** @param {Engine} engine @param {Job} job @returns {Result} */
 function playAll(engine, { first, second, script }) {
   const start = performance.now(), lines = script.replace(/\n$/, '').split('\n');
-  const isEvent = (/** @type {string} */ line) => line !== '' && line[0] !== '#', events = lines.filter(isEvent);
+  const from = lines.findIndex((line) => line !== '' && line[0] !== '#');
   const play = (/** @type {string} */ text) => {
-    const { fault, line, text: transcript } = engine.run(text, script), given = engine.answers(text, events);
-    let n = 0;
-    return { fault, line, transcript, answers: lines.map((it) => (isEvent(it) ? given[n++] ?? '' : '')),
-      agrees: given.map((it) => it && `${it}\n`).join('') === transcript };
+    // a last line without its line feed would be played behind the read that tells that nothing follows
+    const { fault, line, text: transcript, ends } = engine.run(text, `${lines.join('\n')}\n`);
+    const answers = lines.map((_, at) => transcript.slice(ends[at - from - 1] ?? 0, ends[at - from] ?? 0).trimEnd());
+    return { fault, line, transcript, answers };
   };
   const one = play(first), other = second === null ? one : play(second);
   // lines behind a refused one are not played
@@ -34,8 +33,7 @@ function playAll(engine, { first, second, script }) {
   return {
     fault: one.fault, faultLine: one.line, transcript: one.transcript, answers: one.answers, second: second === null ? null : other.answers,
     rows: decode(lines.slice(0, end), one.answers, other.answers, address, broadcast),
-    differs: one.answers.findIndex((answer, n) => answer !== other.answers[n]),
-    agrees: one.agrees && other.agrees, ms: performance.now() - start,
+    differs: one.answers.findIndex((answer, n) => answer !== other.answers[n]), ms: performance.now() - start,
   };
 }
 

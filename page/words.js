@@ -74,11 +74,7 @@ export function tellCommand(word) {
 }
 
 /** @param {number} bits @returns {number} the right parity bit: the ones of a word and of its parity bit are odd in number */
-export function parityOf(bits) {
-  let ones = 0;
-  for (let n = bits; n; n &= n - 1) ones++;
-  return 1 - (ones & 1);
-}
+export const parityOf = (bits) => 1 - bits.toString(2).replace(/0/g, '').length % 2;
 
 /** @param {number} bits @param {'command'|'status'} kind @returns {Field[]} the fields of a word, from bit 15 on */
 export function fieldsOf(bits, kind) {
