@@ -56,10 +56,9 @@ export function writeCanon(t) {
   return { text: lines.map(([, line]) => `${line}\n`).join(''), fields: lines.map(([field]) => field) };
 }
 
-/** Lines that have a mask for a subaddress, and lines that have a hexadecimal number.
- * @type {Record<string, 'receive'|'transmit'|'heard'>} */
+/** @type {Record<string, 'receive'|'transmit'|'heard'>} lines that have a mask for a subaddress */
 const MASKS = { 'own-receive': 'receive', 'own-transmit': 'transmit', 'broadcast-receive': 'heard' };
-/** @type {Record<string, 'ownMode'|'allMode'|'vector'|'bit'>} */
+/** @type {Record<string, 'ownMode'|'allMode'|'vector'|'bit'>} lines that have a hexadecimal number */
 const NUMBERS = { 'own-mode': 'ownMode', 'broadcast-mode': 'allMode', vector: 'vector', bit: 'bit' };
 
 /** Reads a canonical text that the module has accepted, of either version.

@@ -4,15 +4,12 @@
 import { el, shown } from './dom.js';
 import { SCRIPT_LINE } from './messages.js';
 
-/** How high a line is. */
-const HIGH = 20;
+const LINE_HIGH = 20;
 /** A text with more lines is edited page by page: a field with 100,000 lines takes a browser seconds. */
 const MOST = 4000;
 const PAGE = 2000;
-/** Texts of this length are pasted into the lines, and not into the field. */
-const PASTED = 100_000;
-/** What is drawn of a line. */
-const WIDE = 400;
+const PASTED = 100_000; // texts of this length are pasted into the lines, and not into the field
+const DRAWN = 400; // what is drawn of a line
 
 /** @param {string} text */
 const linesOf = (text) => text.replace(/\r\n?/g, '\n').split('\n');
@@ -69,7 +66,6 @@ export class Editor {
     this.draw();
   }
 
-  /** Reads the field, after a key. */
   read() {
     this.replace(this.area.value.split('\n'));
     if (this.count > 2 * MOST) this.fill(this.start);
@@ -117,15 +113,15 @@ export class Editor {
     this.from = isThere ? from : -1;
     this.to = isThere ? to : -1;
     if (isThere && (from < this.start || to >= this.start + this.count)) this.fill(from - PAGE / 4);
-    const top = this.area.scrollTop, high = this.area.clientHeight, at = (from - this.start) * HIGH;
-    if (isThere && (at < top || (to + 1 - this.start) * HIGH > top + high)) this.area.scrollTop = Math.max(0, at - high / 3);
+    const top = this.area.scrollTop, high = this.area.clientHeight, at = (from - this.start) * LINE_HIGH;
+    if (isThere && (at < top || (to + 1 - this.start) * LINE_HIGH > top + high)) this.area.scrollTop = Math.max(0, at - high / 3);
     this.draw();
   }
 
   draw() {
-    const top = this.area.scrollTop, above = Math.floor(top / HIGH), first = this.start + above, all = this.lines.length;
-    const last = Math.min(this.start + this.count, first + Math.ceil(this.area.clientHeight / HIGH) + 2);
-    const rows = Array.from({ length: Math.max(0, last - first) }, (_, n) => first + n), down = above * HIGH - top;
+    const top = this.area.scrollTop, above = Math.floor(top / LINE_HIGH), first = this.start + above, all = this.lines.length;
+    const last = Math.min(this.start + this.count, first + Math.ceil(this.area.clientHeight / LINE_HIGH) + 2);
+    const rows = Array.from({ length: Math.max(0, last - first) }, (_, n) => first + n), down = above * LINE_HIGH - top;
     const put = (/** @type {HTMLElement} */ place, /** @type {number} */ left, /** @type {(n: number) => HTMLElement} */ make) =>
       place.replaceChildren(el('div', { style: `transform:translate(${left}px,${down}px)` }, ...rows.map(make)));
     put(this.numbers, 0, (n) => el('div', { class: this.tone(n) }, String(n + 1)));
@@ -158,7 +154,7 @@ const FIELDS = [[/^gap$/, 'c-gap'], [/^slot$/, 'c-slot'], [/^[AB]$/, 'c-bus'], [
 
 /** @param {string} line @returns {any[]} */
 function coloured(line) {
-  const text = shown(line.length > WIDE ? `${line.slice(0, WIDE)}…` : line);
+  const text = shown(line.length > DRAWN ? `${line.slice(0, DRAWN)}…` : line);
   if (text === '') return ['\u00a0'];
   if (text[0] === '#') return [el('i', { class: 'c-note' }, text)];
   if (line.length <= 64 && SCRIPT_LINE.test(line)) {

@@ -10,7 +10,6 @@ const NO_ROOM = 5;
 /** Where things stand in the module's memory, from its heap on: behind the number of bytes that are filled that of ends; a fault, with the
  * length of its text, its line and its text, as `PlainFault` of `rt1553_live` lays them out; ends and texts. */
 const NOTED = 8, FAULT = 16, LENGTH = 18, LINE = 24, TEXT = 32, TEXTS = 168;
-/** The largest room that a call is given. */
 const LARGEST_ROOM = 1 << 28;
 
 const encoder = new TextEncoder();

@@ -28,9 +28,10 @@ export class TerminalForm {
     this.terminal = newTerminal();
     this.gridNote = el('p', { class: 'note wrong', role: 'alert' });
     this.modeNote = el('p', { class: 'note wrong', role: 'alert' });
-    this.initials = el('div', { class: 'initials' });
+    this.nothing = hint('Nothing can be transmitted yet.');
     this.form = el('form', { class: 'terminal', autocomplete: 'off' }, this.basics(), this.grid(), this.modes(),
-      section('Words at power-up', hint('Four hexadecimal digits each, from word 1 on. Words that are left out are 0000.'), this.initials));
+      section('Words at power-up', hint('Four hexadecimal digits each, from word 1 on. Words that are left out are 0000.'),
+        el('div', { class: 'initials' }, ...SUBADDRESSES.map((sa) => this.initialField(sa))), this.nothing));
     place.append(this.form);
     this.form.addEventListener('submit', (/** @type {Event} */ event) => event.preventDefault());
     this.form.addEventListener('input', () => this.read());
@@ -125,23 +126,14 @@ export class TerminalForm {
     }
     this.form.classList.toggle('no-broadcast', !t.broadcast);
     for (const [name, { input }] of this.fields) if (/^(heard|all-code)-/.test(name)) input.disabled = !t.broadcast;
-    this.initialFields(SUBADDRESSES.filter((sa) => t.transmit[sa]));
-  }
-
-  /** @param {number[]} wanted subaddresses that have a field for their words */
-  initialFields(wanted) {
-    const t = this.terminal, had = [...this.fields.keys()].filter((name) => name.startsWith('initial-'));
-    if (had.join() !== wanted.map((sa) => `initial-${sa}`).join() || !this.initials.firstChild) {
-      for (const name of had) this.fields.delete(name);
-      this.initials.replaceChildren(...wanted.map((sa) => this.initialField(sa)));
-      if (!wanted.length) this.initials.append(hint('Nothing can be transmitted yet.'));
-    }
-    for (const sa of wanted) {
+    for (const sa of SUBADDRESSES) {
       const field = this.field(`initial-${sa}`), count = longest(t.transmit[sa]);
-      if (document.activeElement !== field.input) put(field, t);
+      field.input.disabled = field.input.parentElement.hidden = !count;
       field.input.rows = Math.max(1, Math.ceil(Math.min(count, t.initial[sa].length) / 8));
+      if (!field.input.matches(':focus, [aria-invalid=true]')) put(field, t);
       setHint(field, `${count} word${count === 1 ? '' : 's'}`);
     }
+    this.nothing.hidden = t.transmit.some(Boolean);
   }
 
   /** @param {number} sa */
@@ -158,7 +150,6 @@ export class TerminalForm {
     });
   }
 
-  /** Reads the form. */
   read() {
     const t = this.terminal;
     /** @type {Map<string, string>} */ const faults = new Map();
@@ -168,7 +159,7 @@ export class TerminalForm {
     }
     if (!canWrap(t, t.wrap)) t.wrap = 0;
     this.dependents();
-    for (const name of faults.keys()) if (this.fields.get(name)?.input.disabled ?? true) faults.delete(name);
+    for (const name of faults.keys()) if (this.field(name).input.disabled) faults.delete(name);
     const { text, fields } = writeCanon(t), { status, line } = this.check(text);
     if (status !== 0) {
       const at = fields[line - 1] ?? 'own-mode';
@@ -187,6 +178,7 @@ export class TerminalForm {
     for (const [name, { input, note }] of this.fields) {
       const fault = faults.get(name) ?? '', [kind, sa] = name.split('-');
       input.setAttribute('aria-invalid', String(fault !== ''));
+      input.title = fault;
       if (note) {
         note.textContent = fault || (note.dataset.hint ?? '');
         note.classList.toggle('wrong', fault !== '');

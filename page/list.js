@@ -5,7 +5,6 @@
 import { el } from './dom.js';
 import { bitsSet, hex4, hexWords, statusNames } from './words.js';
 
-/** How high a row is. */
 const ROW_HIGH = 26;
 export const HEADS = ['No', 'Bus', 'Kind', 'RT', 'SA / code', 'Count', 'Data', 'Status', 'Handed over', 'Remark'];
 

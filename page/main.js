@@ -17,10 +17,8 @@ import { Player, isLong, serve } from './play.js';
 import { writeRanges } from './ranges.js';
 import { LONGEST, pack, unpack } from './state.js';
 
-/** The largest file that is opened, in bytes. */
-const LARGEST = 1 << 26;
-/** Milliseconds without a key after which the link is written. */
-const REST = 400;
+const LARGEST_FILE = 1 << 26;
+const REST = 400; // milliseconds without a key after which the link is written
 
 /** Starts the page; in a worker, which has the same script, the worker.
  * @param {string} packed the module, compressed, in base64 @param {Example[]} examples */
@@ -103,8 +101,6 @@ class Page {
     this.restore({ first: text, second: null, script, messages: sampleMessages(readCanon(text)), mode: 'script' });
   }
 
-  // ---- terminals
-
   /** @param {string} typed for the terminal that is shown: if the module accepts it, it is played @param {boolean} isOfForm */
   take(typed, isOfForm) {
     const held = this.terminals[this.which], isNew = typed !== held.text && this.engine.check(typed).status === 0;
@@ -126,7 +122,6 @@ class Page {
     this.compare();
   }
 
-  /** Shows whether both terminals are the same. */
   compare() {
     const place = byId('verdict'), [one, other] = this.terminals;
     place.hidden = !other;
@@ -155,8 +150,6 @@ class Page {
     this.turnTo(String(this.terminals.length));
     this.play();
   }
-
-  // ---- what is played
 
   play() {
     const [{ text: first }, other] = this.terminals, { messageEditor } = this;
@@ -220,8 +213,6 @@ class Page {
     const all = list.rows.length, seen = list.seen.length;
     byId('counted').textContent = seen === all ? amount(all, 'message') : `${seen.toLocaleString('en')} of ${amount(all, 'message')}`;
   }
-
-  // ---- what is replaced, and links
 
   /** @returns {import('./state.js').Shared} what a link carries */
   shared() {
@@ -289,7 +280,7 @@ class Page {
   /** @param {File|undefined} file */
   async open(file) {
     if (!file) return;
-    if (file.size > LARGEST) { alarm('This file is too large.'); return; }
+    if (file.size > LARGEST_FILE) { alarm('This file is too large.'); return; }
     const text = await file.text(), isMessages = /\.messages$/.test(file.name) || /^[AB] (?:rx|tx|mode|status|data) /m.test(text);
     if (!/^rt1553 /.test(text)) { this.replace(isMessages ? 'messages' : 'script', text); return; }
     const { status, fault } = this.engine.check(text);
@@ -297,8 +288,6 @@ class Page {
     this.keep();
     this.take(text, false);
   }
-
-  // ---- what the buttons and keys do
 
   bindClicks() {
     const file = byId('file'), pick = byId('example'), root = document.documentElement;
@@ -329,16 +318,16 @@ class Page {
   }
 
   bindFilter() {
-    const field = byId('filter'), words = () => field.value.split(/\s+/).filter(Boolean);
-    const keys = /** @type {HTMLElement[]} */ ([...document.querySelectorAll('[data-filter]')]);
+    const field = byId('filter'), keys = /** @type {any[]} */ ([...document.querySelectorAll('[data-filter]')]);
+    const words = () => /** @type {string[]} */ (field.value.split(/\s+/).filter(Boolean));
     field.oninput = () => {
       this.sift();
-      for (const key of keys) key.setAttribute('aria-pressed', String(words().includes(key.dataset.filter ?? '')));
+      for (const key of keys) key.setAttribute('aria-pressed', String(words().includes(key.dataset.filter)));
     };
     for (const key of keys) {
-      const name = key.dataset.filter ?? '';
       key.onclick = () => {
-        field.value = (words().includes(name) ? words().filter((/** @type {string} */ it) => it !== name) : [...words(), name]).join(' ');
+        const others = words().filter((it) => it !== key.dataset.filter);
+        field.value = (others.length < words().length ? others : [...others, key.dataset.filter]).join(' ');
         field.oninput();
       };
     }

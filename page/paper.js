@@ -7,8 +7,7 @@ import { HEADS } from './list.js';
 import { writeRanges } from './ranges.js';
 import { MODES, has, hex4, hexWords, statusNames } from './words.js';
 
-/** How many messages and lines are printed. */
-const PRINTED = 2000;
+const PRINTED = 2000; // messages and lines at most
 
 /** @param {import('./canon.js').Terminal} t @param {string} name */
 function printedTerminal(t, name) {

@@ -9,10 +9,8 @@ import { readCanon } from './canon.js';
 import { decode } from './decode.js';
 import { Engine } from './engine.js';
 
-/** Scripts with more lines than this are played in the worker. */
-const AT_ONCE = 3000;
-/** How many messages the worker gives at a time: other work of the page comes in between. */
-const PART = 1000;
+const AT_ONCE = 3000; // scripts with more lines are played in the worker
+const PART = 1000; // how many messages the worker gives at a time: other work of the page comes in between
 
 /** @param {string} text @returns {boolean} has it more lines than are played at once? */
 export const isLong = (text) => text.split('\n', AT_ONCE + 2).length > AT_ONCE + 1;

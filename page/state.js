@@ -3,10 +3,8 @@
  * @typedef {{first: string, second: string|null, script: string, messages: string, mode: 'script'|'messages'}} Shared
  */
 
-/** The longest fragment that is written: longer links break in mail. */
-export const LONGEST = 30_000;
-/** The most bytes that a fragment unpacks to: a small link must not fill memory. */
-const MOST_UNPACKED = 1 << 24;
+export const LONGEST = 30_000; // of the fragments that are written: longer links break in mail
+const MOST_UNPACKED = 1 << 24; // bytes that a fragment unpacks to: a small link must not fill memory
 
 /** @param {string} base64 */
 export const bytesOf = (base64) => Uint8Array.from(atob(base64), (it) => it.charCodeAt(0));
