@@ -90,8 +90,8 @@ const KINDS = new Map(Object.entries({
   tx: (parts) => transfer(parts, 0x400),
   mode: (parts) => {
     const to = parts.address(), code = parts.number(2, 0, 31, 'a mode code is 0 to 31'), [, , , direction, sub = '0'] = parts.words;
-    const transmit = direction ? { tx: true, rx: false }[direction] : MODES.find((row) => row[0] === code)?.[1];
-    if (transmit === undefined) parts.refuse(3, 'tx or rx is expected after a mode code that has no row in the table');
+    const listed = MODES.find((row) => row[0] === code), transmit = direction ? direction === 'tx' : listed?.[1];
+    if (direction ? !/^[tr]x$/.test(direction) : !listed) parts.refuse(3, 'tx or rx is expected after a mode code that has no row in the table');
     if (sub !== '0' && sub !== '31') parts.refuse(4, 'the subaddress of a mode code is 0 or 31');
     parts.end(5);
     return (to << 11) | (transmit ? 0x400 : 0) | (Number(sub) << 5) | code;

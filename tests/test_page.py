@@ -194,9 +194,12 @@ def test_terminals_are_compared_as_by_the_program(browser, shipped, one):
 def test_messages_as_expand(browser, shipped, tmp_path):
     """Messages of each form, expanded by the page and by the program."""
     lines = [f"A {kind} {to} 3 {n}{':' + ' 00ff' * n if kind == 'rx' else ''}" for to in ("5", "6", "all") for kind in ("rx", "tx") for n in (1, 2, 32)]
-    lines += [f"B mode {to} {code}{more}" for to in ("5", "all") for code in range(32) for more in ("", " tx", " rx: 1234", " tx 31")]
+    more = ("", " tx", " rx: 1234", " tx 31", " tx 0", " 31", " constructor")
+    lines += [f"B mode {to} {code}{it}" for to in ("5", "all") for code in range(32) for it in more]
     lines += ["A rx 5 3 2 from 6 4: 0011 0022", "A rx all 3 2 from 6 4: 0011 0022", "B status 6 busy", "B status 31", "B data 0011", "A rx 5 3 2: 1",
-              "A rx 5 0 1: 0000", "A rx 5 1 33: 0000", "A tx 5 1 1 ", "A  tx 5 1 1", "C rx 5 1 1: 0000", "A", "", "# x", "slot", "flag busy 2", "A c 2862"]  # fmt: skip
+              "A rx 5 0 1: 0000", "A rx 5 1 33: 0000", "A tx 5 1 1 ", "A  tx 5 1 1", "C rx 5 1 1: 0000", "A", "", "# x", "slot", "flag busy 2", "A c 2862",
+              "A tx 5 1 1:", "A rx 5 1 1: 00FF", "B data 00Ff", "A d 00fF", "A tx 5 1 1 from 6 1", "A toString 5", "A rx 5 1 1 from 5 1: 0000",
+              "A rx 5 1 1 from 6: 0000", "A rx 5 1 1  from  6  1 : 0000", "A status 6 reserved1", "A status 6 x", "A tx 5 1 1 # x"]  # fmt: skip
     for line in lines:
         write_files(tmp_path, {"messages": f"{line}\n"})
         wanted = run(shipped.tool, "expand", "messages", folder=tmp_path)
