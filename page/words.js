@@ -29,10 +29,10 @@ export const STATUS_BITS = [
   [0x0080, 'reserved1', 'reserved'],
   [0x0040, 'reserved2', 'reserved'],
   [0x0020, 'reserved3', 'reserved'],
-  [0x0010, 'broadcast', 'broadcast received'],
+  [0x0010, 'broadcast', 'broadcast'],
   [0x0008, 'busy', 'busy'],
   [0x0004, 'subsystem', 'subsystem flag'],
-  [0x0002, 'accept', 'bus control accepted'],
+  [0x0002, 'accept', 'bus control'],
   [0x0001, 'terminal', 'terminal flag'],
 ];
 

@@ -238,7 +238,7 @@ REPLACES = {
     "messages are opened": "rt1553.open(new File(['A mode 5 2\\n'], 'a.messages'))",
     "messages are expanded": "document.getElementById('expand').click()",
     "a second terminal": "document.getElementById('second').click()",
-    "a canonical text is opened": "rt1553.open(new File([rt1553.terminals[0].text.replace('address 05', 'address 06')], 'a.rt1553'))",
+    "a canonical text is opened": "rt1553.open(new File([rt1553.terminals[0].text.replace(/address ../, 'address 07')], 'a.rt1553'))",
     "what tells them apart": "document.getElementById('tell').click()",
     "an example": "(() => { const it = document.getElementById('example'); it.value = '3'; it.onchange(); })()",
 }
