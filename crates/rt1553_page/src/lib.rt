@@ -3,7 +3,7 @@
 //! small. With 2 the fault is told; with the others it stays as it was.
 #![tactic(auto)]
 
-ghost use Rattle.std.specs.Prelude.{◌≡◌, ◌≢◌, ◌<◌, ◌≤◌, ℕ, List, Option, Some, Err, [], false, length, take, IfOk, IfErr, IsErrOf};
+ghost use Rattle.std.specs.Prelude.{◌≡◌, ◌≢◌, ◌<◌, ◌≤◌, ℕ, List, Option, Some, Err, [], false, length, take, All, IfOk, IfErr, IsErrOf};
 ghost use Rattle.bus_legal.specs.Description.{Description};
 ghost use Rattle.terminal_rules.specs.declared.event.Event.{Event};
 ghost use Rattle.rt1553.specs.Load.{IsCanonText, IsNoCanonText};
@@ -118,6 +118,7 @@ pub extern "C" fn page_run(
     ensures no_room { result ≡ NO_ROOM → IsFront text.now script.now (take filled.new to.new) × (filled.new ≡ length to.new)
         × (fault.new ≡ fault.old) }
     ensures noted { noted.new ≤ length ends.new }
+    ensures ends { All (λ end. end ≤ filled.new) (take noted.new ends.new) }
 {
     let mut room = Room::new(to, ends);
     let ended = play(text, script, &mut room);

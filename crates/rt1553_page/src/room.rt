@@ -1,5 +1,5 @@
 //! The sink over the slices that a caller gives. It takes no memory.
-ghost use Rattle.std.specs.Prelude.{◌≡◌, ◌≤◌, ◌<◌, ◌+◌, ◌++◌, ◌∷◌, Some, true, false, length, take};
+ghost use Rattle.std.specs.Prelude.{◌≡◌, ◌≤◌, ◌<◌, ◌+◌, ◌++◌, ◌∷◌, Some, true, false, length, take, All};
 
 use byte_streams::{IoFailed, Sink};
 
@@ -29,6 +29,7 @@ pub struct Room<'a> {
     ghost within: { filled ≤ length bytes.now },
     ghost full: { failed ≡ true → filled ≡ length bytes.now },
     ghost some: { noted ≤ length ends.now },
+    ghost each: { All (λ end. end ≤ filled) (take noted ends.now) },
 }
 
 impl<'a> Room<'a> {
