@@ -3,29 +3,33 @@
  */
 
 /** Makes an element. Texts become text nodes: nothing that was typed is ever read as HTML.
- * @param {string} tag @param {Record<string, any>} [attributes] @param {...(Node|string|null|undefined)} inside @returns {any} */
+ * @param {string} tag @param {Record<string, any>} [attributes] @param {...(Node|string|null)} inside @returns {any} */
 export function el(tag, attributes = {}, ...inside) {
   const made = document.createElement(tag);
   for (const [name, value] of Object.entries(attributes)) {
-    if (value === false || value === null || value === undefined) continue;
     if (name.startsWith('on')) made.addEventListener(name.slice(2), value);
     else if (name in made && typeof value !== 'string') /** @type {any} */ (made)[name] = value;
-    else made.setAttribute(name, value === true ? '' : String(value));
+    else made.setAttribute(name, String(value));
   }
-  for (const it of inside) if (it !== null && it !== undefined) made.append(it);
+  made.append(...inside.map((it) => it ?? ''));
   return made;
 }
+
+/** @param {string} tag of its cells @param {any[]} cells @param {string} [tone] @returns {HTMLElement} a row of a table */
+export const rowOf = (tag, cells, tone = '') => el('tr', { class: tone }, ...cells.map((it) => el(tag, {}, it)));
+
+/** @param {any[]} heads @param {HTMLElement[]} rows @param {string} [kind] @returns {HTMLElement} */
+export const tableOf = (heads, rows, kind = '') =>
+  el('table', { class: kind }, el('thead', {}, rowOf('th', heads)), el('tbody', {}, ...rows));
 
 /** @param {string} id @returns {any} */
 export const byId = (id) => document.getElementById(id);
 
-/** Control characters, and characters that change the direction of writing, as marks.
- * @param {string} text */
+/** @param {string} text @returns {string} control characters, and those that change the direction of writing, as marks */
 export const shown = (text) => text.replace(/[\u0000-\u0008\u000b-\u001f\u007f-\u009f\u200e\u200f\u202a-\u202e\u2066-\u2069\ufeff]/g,
   (it) => (it < ' ' ? String.fromCharCode(0x2400 + it.charCodeAt(0)) : '\ufffd'));
 
-/** Saves a text as a file.
- * @param {string} name @param {string} text */
+/** @param {string} name @param {string} text saved as a file of this name */
 export function save(name, text) {
   const link = el('a', { href: URL.createObjectURL(new Blob([text], { type: 'text/plain' })), download: name });
   document.body.append(link);
@@ -34,30 +38,25 @@ export function save(name, text) {
   setTimeout(() => URL.revokeObjectURL(link.href), 10_000);
 }
 
-/** Tabs that arrow keys move along.
- * @param {HTMLElement} list @param {(name: string) => void} chosen */
+/** Tabs that clicks and arrow keys choose.
+ * @param {HTMLElement} list @param {(name: string) => void} chosen @returns {(name: string) => void} chooses one */
 export function tabs(list, chosen) {
-  const all = () => /** @type {HTMLElement[]} */ ([...list.querySelectorAll('[role=tab]')]);
-  list.addEventListener('click', (event) => {
-    const tab = /** @type {HTMLElement} */ (event.target).closest('[role=tab]');
-    if (tab) chosen(/** @type {HTMLElement} */ (tab).dataset.tab ?? '');
-  });
-  list.addEventListener('keydown', (event) => {
-    const step = event.key === 'ArrowRight' ? 1 : event.key === 'ArrowLeft' ? -1 : 0;
-    if (!step) return;
-    const tabsNow = all(), at = tabsNow.indexOf(/** @type {HTMLElement} */ (document.activeElement));
-    const to = tabsNow[(at + step + tabsNow.length) % tabsNow.length];
+  const all = /** @type {HTMLElement[]} */ ([...list.querySelectorAll('[role=tab]')]);
+  const choose = (/** @type {string} */ name) => {
+    for (const tab of all) {
+      tab.setAttribute('aria-selected', String(tab.dataset.tab === name));
+      tab.tabIndex = tab.dataset.tab === name ? 0 : -1;
+    }
+    chosen(name);
+  };
+  for (const tab of all) tab.onclick = () => choose(tab.dataset.tab ?? '');
+  list.onkeydown = (event) => {
+    const seen = all.filter((it) => !it.hidden), at = seen.indexOf(/** @type {any} */ (document.activeElement));
+    const to = { ArrowRight: seen[at + 1] ?? seen[0], ArrowLeft: seen.at(at - 1) }[event.key];
+    if (!to) return;
     to.focus();
-    chosen(to.dataset.tab ?? '');
+    to.click();
     event.preventDefault();
-  });
-}
-
-/** @param {HTMLElement} list @param {string} name */
-export function choose(list, name) {
-  for (const tab of /** @type {NodeListOf<HTMLElement>} */ (list.querySelectorAll('[role=tab]'))) {
-    const on = tab.dataset.tab === name;
-    tab.setAttribute('aria-selected', String(on));
-    tab.tabIndex = on ? 0 : -1;
-  }
+  };
+  return choose;
 }

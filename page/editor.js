@@ -1,19 +1,15 @@
 /**
  * A text editor with line numbers, colours and answers beside the lines. Only the lines in sight are drawn.
- * @typedef {{tone: string, text: string}} Mark
  */
 import { el, shown } from './dom.js';
 import { SCRIPT_LINE } from './messages.js';
 
-/** How high a line is. */
-const HIGH = 20;
+const LINE_HIGH = 20;
 /** A text with more lines is edited page by page: a field with 100,000 lines takes a browser seconds. */
 const MOST = 4000;
 const PAGE = 2000;
-/** Texts of this length are pasted into the lines, and not into the field. */
-const PASTED = 100_000;
-/** What is drawn of a line. */
-const WIDE = 400;
+const PASTED = 100_000; // texts of this length are pasted into the lines, and not into the field
+const DRAWN = 400; // what is drawn of a line
 
 /** @param {string} text */
 const linesOf = (text) => text.replace(/\r\n?/g, '\n').split('\n');
@@ -23,17 +19,14 @@ export class Editor {
   constructor(place, label, changed) {
     this.changed = changed;
     this.lines = [''];
-    /** The first line of the page in the field, and how many lines it has. */
-    this.start = 0;
-    this.count = 1;
-    /** @type {string[]} */ this.answers = [];
-    /** @type {string[]|null} */ this.second = null;
-    /** @type {Map<number, Mark>} */ this.marks = new Map();
-    this.differs = -1;
-    /** The lines of the message that is chosen. */
-    this.from = -1;
-    this.to = -1;
-    this.isStale = false;
+    this.start = 0; // the first line of the page in the field
+    this.count = 1; // and how many lines that has
+    /** @type {string[]} */ this.answers = []; // beside the lines
+    /** @type {string[]|null} */ this.second = null; // those of a second terminal
+    this.differs = -1; // the first line where they differ
+    /** @type {Map<number, string>} */ this.marks = new Map(); // what is wrong with a line
+    this.isStale = false; // are the answers those of an earlier text?
+    this.from = this.to = -1; // the lines of the message that is chosen
     this.build(place, label);
     this.area.addEventListener('paste', (/** @type {ClipboardEvent} */ event) => this.paste(event));
     this.area.addEventListener('input', () => this.read());
@@ -44,21 +37,18 @@ export class Editor {
 
   /** @param {HTMLElement} place @param {string} label */
   build(place, label) {
-    const field = { spellcheck: false, wrap: 'off', autocomplete: 'off', autocapitalize: 'off', 'aria-label': label };
-    this.area = el('textarea', field);
+    this.area = el('textarea', { spellcheck: false, wrap: 'off', autocomplete: 'off', autocapitalize: 'off', 'aria-label': label });
     this.numbers = el('div', { class: 'numbers', 'aria-hidden': 'true' });
     this.colours = el('div', { class: 'colours', 'aria-hidden': 'true' });
     this.beside = el('div', { class: 'beside', role: 'region', 'aria-label': `answers to the lines of ${label}`, tabindex: '-1' });
     this.box = el('div', { class: 'code' }, this.numbers, el('div', { class: 'typing' }, this.colours, this.area), this.beside);
     this.told = el('output');
-    this.goto = el('input', { type: 'text', inputmode: 'numeric', 'aria-label': `line of ${label} to go to`, placeholder: 'line' });
-    this.goto.onchange = () => {
-      const line = Number(this.goto.value) - 1;
-      if (line in this.lines) this.show(line, line);
-    };
-    this.pager = el('div', { class: 'pager', hidden: true },
-      el('button', { type: 'button', 'aria-label': 'page before', onclick: () => this.turn(-PAGE) }, '◂'), this.told,
-      el('button', { type: 'button', 'aria-label': 'next page', onclick: () => this.turn(PAGE) }, '▸'), el('label', {}, 'go to ', this.goto));
+    const onchange = () => this.show(Number(line.value) - 1, Number(line.value) - 1);
+    const line = el('input', { inputmode: 'numeric', 'aria-label': `line of ${label} to go to`, placeholder: 'line', onchange });
+    const turn = (/** @type {string} */ name, /** @type {string} */ sign, /** @type {number} */ by) =>
+      el('button', { type: 'button', 'aria-label': name, onclick: () => this.page(this.start + by) }, sign);
+    this.pager = el('div', { class: 'pager', hidden: true }, turn('page before', '◂', -PAGE), this.told, turn('next page', '▸', PAGE),
+      el('label', {}, 'go to ', line));
     place.append(el('div', { class: 'paged' }, this.box, this.pager));
   }
 
@@ -68,21 +58,22 @@ export class Editor {
     this.lines = linesOf(text);
     this.from = this.to = -1;
     this.page(0);
-    this.area.scrollTop = 0;
+  }
+
+  /** @param {Partial<Editor>} what is shown beside the lines */
+  set(what) {
+    Object.assign(this, what);
     this.draw();
   }
 
-  /** Reads the field, after a key. */
   read() {
     this.replace(this.area.value.split('\n'));
-    if (this.count > 2 * MOST) this.page(this.start);
-    this.tell();
+    if (this.count > 2 * MOST) this.fill(this.start);
     this.draw();
     this.changed();
   }
 
-  /** Puts lines in the place of those of the field.
-   * @param {string[]} typed */
+  /** @param {string[]} typed lines that take the place of those of the field */
   replace(typed) {
     const behind = this.lines.slice(this.start + this.count);
     this.lines = this.start || behind.length ? [...this.lines.slice(0, this.start), ...typed, ...behind] : typed;
@@ -97,85 +88,73 @@ export class Editor {
     event.preventDefault();
     this.replace(linesOf(value.slice(0, selectionStart) + text + value.slice(selectionEnd)));
     this.page(this.start);
-    this.draw();
     this.changed();
   }
 
-  /** Puts the page from this line on into the field.
-   * @param {number} line */
-  page(line) {
+  /** @param {number} line from which on the field gets a page */
+  fill(line) {
     const isWhole = this.lines.length <= MOST;
     this.start = isWhole ? 0 : Math.max(0, Math.min(this.lines.length - PAGE, line));
     const part = isWhole ? this.lines : this.lines.slice(this.start, this.start + PAGE);
     this.count = part.length;
     this.area.value = part.join('\n');
-    this.tell();
   }
 
-  /** @param {number} by */
-  turn(by) {
-    this.page(this.start + by);
+  /** @param {number} line from which on a page is shown */
+  page(line) {
+    this.fill(line);
     this.area.scrollTop = 0;
     this.draw();
   }
 
-  tell() {
-    const [from, to, all] = [this.start + 1, this.start + this.count, this.lines.length].map((it) => it.toLocaleString('en'));
-    this.pager.hidden = this.count === this.lines.length;
-    this.told.textContent = `lines ${from} to ${to} of ${all}`;
-  }
-
-  /** Shows these lines, marked.
-   * @param {number} from @param {number} to */
+  /** @param {number} from @param {number} to which lines are shown, marked; none, if they are not there */
   show(from, to) {
-    this.from = from;
-    this.to = to;
-    if (from < this.start || to >= this.start + this.count) this.page(from - PAGE / 4);
-    const top = this.area.scrollTop, high = this.area.clientHeight, at = (from - this.start) * HIGH;
-    if (at < top || (to + 1 - this.start) * HIGH > top + high) this.area.scrollTop = Math.max(0, at - high / 3);
-    this.draw();
-  }
-
-  unmark() {
-    this.from = this.to = -1;
+    const isThere = from in this.lines;
+    this.from = isThere ? from : -1;
+    this.to = isThere ? to : -1;
+    if (isThere && (from < this.start || to >= this.start + this.count)) this.fill(from - PAGE / 4);
+    const top = this.area.scrollTop, high = this.area.clientHeight, at = (from - this.start) * LINE_HIGH;
+    if (isThere && (at < top || (to + 1 - this.start) * LINE_HIGH > top + high)) this.area.scrollTop = Math.max(0, at - high / 3);
     this.draw();
   }
 
   draw() {
-    const top = this.area.scrollTop, above = Math.floor(top / HIGH), first = this.start + above;
-    const last = Math.min(this.start + this.count, first + Math.ceil(this.area.clientHeight / HIGH) + 2);
-    const rows = Array.from({ length: Math.max(0, last - first) }, (_, n) => first + n), down = above * HIGH - top;
+    const top = this.area.scrollTop, above = Math.floor(top / LINE_HIGH), first = this.start + above, all = this.lines.length;
+    const last = Math.min(this.start + this.count, first + Math.ceil(this.area.clientHeight / LINE_HIGH) + 2);
+    const rows = Array.from({ length: Math.max(0, last - first) }, (_, n) => first + n), down = above * LINE_HIGH - top;
     const put = (/** @type {HTMLElement} */ place, /** @type {number} */ left, /** @type {(n: number) => HTMLElement} */ make) =>
       place.replaceChildren(el('div', { style: `transform:translate(${left}px,${down}px)` }, ...rows.map(make)));
     put(this.numbers, 0, (n) => el('div', { class: this.tone(n) }, String(n + 1)));
     put(this.colours, -this.area.scrollLeft, (n) => el('div', { class: this.tone(n) }, ...coloured(this.lines[n])));
     put(this.beside, 0, (n) => el('div', { class: `answer ${this.tone(n)}` }, ...this.answer(n)));
-    this.numbers.style.minWidth = `${String(this.lines.length).length + 2}ch`;
+    this.numbers.style.minWidth = `${String(all).length + 2}ch`;
     this.box.classList.toggle('two', this.second !== null);
     this.box.classList.toggle('stale', this.isStale);
+    this.pager.hidden = this.count === all;
+    const [from, to, count] = [this.start + 1, this.start + this.count, all].map((it) => it.toLocaleString('en'));
+    this.told.textContent = `lines ${from} to ${to} of ${count}`;
   }
 
   /** @param {number} n */
   tone(n) {
-    return [n >= this.from && n <= this.to ? 'marked' : '', this.marks.get(n)?.tone ?? '', n === this.differs ? 'differs' : ''].join(' ');
+    return [n >= this.from && n <= this.to ? 'marked' : '', this.marks.has(n) ? 'wrong' : '', n === this.differs ? 'differs' : ''].join(' ');
   }
 
   /** @param {number} n */
   answer(n) {
-    const fault = this.marks.get(n)?.text, one = this.answers[n] ?? '', other = this.second?.[n] ?? '';
+    const fault = this.marks.get(n), one = this.answers[n] ?? '', other = this.second?.[n] ?? '';
     if (fault) return [el('span', { class: 'fault', title: fault }, fault)];
     return this.second ? [toned(one), el('span', { class: one === other ? 'second' : 'second apart' }, toned(other))] : [toned(one)];
   }
 }
 
-/** What the fields of a script's line are drawn as.
- * @type {[RegExp, string][]} */
+/** @type {[RegExp, string][]} what the fields of a script's line are drawn as */
 const FIELDS = [[/^gap$/, 'c-gap'], [/^slot$/, 'c-slot'], [/^[AB]$/, 'c-bus'], [/^[0-9a-fA-F]{4}$/, 'c-word'],
   [/^(write|vector|bit|flag|noise)$/, 'c-key']];
 
 /** @param {string} line @returns {any[]} */
 function coloured(line) {
-  const text = shown(line.length > WIDE ? `${line.slice(0, WIDE)}…` : line);
+  const text = shown(line.length > DRAWN ? `${line.slice(0, DRAWN)}…` : line);
   if (text === '') return ['\u00a0'];
   if (text[0] === '#') return [el('i', { class: 'c-note' }, text)];
   if (line.length <= 64 && SCRIPT_LINE.test(line)) {
@@ -191,8 +170,7 @@ function coloured(line) {
 
 /** @param {string} answer */
 function toned(answer) {
-  if (!answer) return el('span');
   const isBad = (parseInt(answer.slice(4, 8), 16) & 0x400) !== 0;
-  const kind = answer.startsWith('hand') ? 'hand' : answer[2] !== 's' ? 'word' : isBad ? 'status bad' : 'status';
+  const kind = !answer ? '' : answer.startsWith('hand') ? 'hand' : answer[2] !== 's' ? 'word' : isBad ? 'status bad' : 'status';
   return el('span', { class: kind, title: answer }, answer);
 }

@@ -1,22 +1,15 @@
 /**
  * The calls of the module: the proved terminal, over canonical texts.
- * What a call tells: its status, the text that it wrote, and of a fault its kind, its line and its text.
- * @typedef {{status: number, text: string, kind: number, line: number, fault: string}} Told
+ * What a call tells: its status, the text that it wrote, of a fault its line and its text, and where the text ended behind each line of a
+ * script, from the first event on.
+ * @typedef {{status: number, text: string, line: number, fault: string, ends: number[]}} Told
  */
+import { bytesOf, through } from './state.js';
 
-const REFUSED = 2;
 const NO_ROOM = 5;
-/** The kind of the faults of a script. Those of canonical texts have another one. */
-const OF_SCRIPT = 4;
-
-/** Where things stand in the module's memory, from its heap on: a number of bytes, a fault, texts. */
-const FAULT = 8;
-const TEXTS = 160;
-/** Where a fault has its kind, the length of its text, its line and its text, as `PlainFault` of `rt1553_live` lays them out. */
-const LENGTH = 2;
-const LINE = 8;
-const TEXT = 16;
-/** The largest room that a call is given. */
+/** Where things stand in the module's memory, from its heap on: behind the number of bytes that are filled that of ends; a fault, with the
+ * length of its text, its line and its text, as `PlainFault` of `rt1553_live` lays them out; ends and texts. */
+const NOTED = 8, FAULT = 16, LENGTH = 18, LINE = 24, TEXT = 32, TEXTS = 168;
 const LARGEST_ROOM = 1 << 28;
 
 const encoder = new TextEncoder();
@@ -29,14 +22,13 @@ export class Engine {
     this.base = Math.ceil(Number(this.calls.__heap_base.value) / 16) * 16;
   }
 
-  /** @param {BufferSource} bytes @returns {Promise<Engine>} */
-  static async load(bytes) {
-    const made = await WebAssembly.instantiate(bytes, {});
-    return new Engine(/** @type {any} */ (made).instance);
+  /** @param {string} packed the module, compressed, in base64 */
+  static async load(packed) {
+    const made = await WebAssembly.instantiate(await through(bytesOf(packed), new DecompressionStream('gzip')), {});
+    return new Engine(made.instance);
   }
 
-  /** Makes the module's memory this large, at least.
-   * @param {number} size */
+  /** @param {number} size how large the module's memory is to be at least */
   grow(size) {
     const { memory } = this.calls, pages = Math.ceil((size - memory.buffer.byteLength) / 65536);
     if (pages <= 0) return;
@@ -44,72 +36,38 @@ export class Engine {
     try { memory.grow(BigInt(pages)); } catch { memory.grow(pages); }
   }
 
-  /** Calls the module with these texts, a room of this size if there is one, and a place for a fault if it tells one.
-   * @param {string} name @param {string[]} texts @param {number} room @param {boolean} tellsFault @returns {Told} */
-  call(name, texts, room, tellsFault) {
-    const bytes = texts.map((it) => encoder.encode(it));
-    const end = bytes.reduce((sum, it) => sum + it.length, this.base + TEXTS);
-    this.grow(end + room);
-    const memory = new Uint8Array(this.calls.memory.buffer);
-    memory.fill(0, this.base, this.base + TEXTS);
+  /** Calls the module with these texts, a room of this size if there is one, and places for so many ends if there are any.
+   * @param {string} name @param {string[]} texts @param {number} room @param {number} ends @returns {Told} */
+  call(name, texts, room, ends) {
+    const bytes = texts.map((it) => encoder.encode(it)), { base } = this, to = base + TEXTS + ends * 8;
+    this.grow(bytes.reduce((sum, it) => sum + it.length, to + room));
+    const memory = new Uint8Array(this.calls.memory.buffer), view = new DataView(memory.buffer, base);
+    memory.fill(0, base, base + TEXTS);
     /** @type {number[]} */ const words = [];
-    let at = this.base + TEXTS;
+    let at = to;
     for (const it of bytes) {
       memory.set(it, at);
       words.push(at, it.length);
       at += it.length;
     }
-    if (room) words.push(end, room, this.base);
-    if (tellsFault) words.push(this.base + FAULT);
-    const status = Number(this.calls[name](...words.map(BigInt)));
-    if (status === NO_ROOM && room < LARGEST_ROOM) return this.call(name, texts, room * 4, tellsFault);
-    return this.told(status, end);
-  }
-
-  /** @param {number} status @param {number} room where the room stands @returns {Told} */
-  told(status, room) {
-    const { buffer } = this.calls.memory, view = new DataView(buffer), fault = this.base + FAULT;
-    const textOf = (/** @type {number} */ at, /** @type {number} */ length) => decoder.decode(new Uint8Array(buffer, at, length));
+    if (room) words.push(at, room, base);
+    if (ends) words.push(base + TEXTS, ends, base + NOTED);
+    const status = Number(this.calls[name](...[...words, base + FAULT].map(BigInt)));
+    if (status === NO_ROOM && room < LARGEST_ROOM) return this.call(name, texts, room * 4, ends);
+    const numberAt = (/** @type {number} */ place) => Number(view.getBigUint64(place, true));
+    const textAt = (/** @type {number} */ place, /** @type {number} */ length) => decoder.decode(memory.subarray(place, place + length));
     return {
-      status,
-      text: textOf(room, Number(view.getBigUint64(this.base, true))),
-      kind: view.getUint8(fault),
-      line: Number(view.getBigUint64(fault + LINE, true)),
-      fault: textOf(fault + TEXT, view.getUint8(fault + LENGTH)).trimEnd(),
+      status, text: textAt(at, numberAt(0)), line: numberAt(LINE), fault: textAt(base + TEXT, view.getUint8(LENGTH)).trimEnd(),
+      ends: Array.from({ length: numberAt(NOTED) }, (_, n) => numberAt(TEXTS + n * 8)),
     };
   }
 
-  /** Is this a canonical text?
-   * @param {string} text */
-  check(text) { return this.call('page_check', [text], 0, true); }
+  /** @param {string} text @returns {Told} status 0: this is a canonical text */
+  check(text) { return this.call('page_check', [text], 0, 0); }
 
-  /** Status 0: the same terminal. 1: not, and the text is a script that shows it.
-   * @param {string} first @param {string} second */
-  compare(first, second) { return this.call('page_compare', [first, second], 4608, true); }
+  /** @param {string} first @param {string} second @returns {Told} 0: the same terminal; 1: not, and the text is a script that shows it */
+  compare(first, second) { return this.call('page_compare', [first, second], 4608, 0); }
 
-  /** The transcript of a script.
-   * @param {string} text @param {string} script */
-  run(text, script) { return this.call('page_run', [text, script], 4096 + script.length * 2, true); }
-
-  /** The answers to events, each on a line of its own.
-   * @param {string} text @param {string[]} events @returns {string[]} for each event what answers it, '' for nothing */
-  answers(text, events) {
-    const script = events.map((it) => `${it}\n`).join('');
-    const told = this.call('page_answers', [text, script], 4096 + script.length * 3, false);
-    /** @type {string[]} */ const answers = [];
-    let answer = '';
-    for (const line of told.text.split('\n')) {
-      if (line === '.') { answers.push(answer); answer = ''; } else if (line) answer = line;
-    }
-    answers.length = Math.min(answers.length, events.length);
-    return answers;
-  }
-
-  /** Plays a script twice: as a whole, and event by event. The two have to agree.
-   * @param {string} text @param {string} script @param {string[]} events */
-  play(text, script, events) {
-    const run = this.run(text, script);
-    const answers = run.status === REFUSED && run.kind !== OF_SCRIPT ? [] : this.answers(text, events);
-    return { run, answers, agrees: answers.filter(Boolean).map((it) => `${it}\n`).join('') === run.text };
-  }
+  /** @param {string} text @param {string} script @returns {Told} the text is its transcript */
+  run(text, script) { return this.call('page_run', [text, script], 4096 + script.length * 2, script.split('\n').length + 1); }
 }

@@ -3,9 +3,8 @@
  * @typedef {import('./decode.js').Row} Row
  */
 import { el } from './dom.js';
-import { hex4 } from './words.js';
+import { bitsSet, hex4, hexWords, statusNames } from './words.js';
 
-/** How high a row is. */
 const ROW_HIGH = 26;
 export const HEADS = ['No', 'Bus', 'Kind', 'RT', 'SA / code', 'Count', 'Data', 'Status', 'Handed over', 'Remark'];
 
@@ -15,8 +14,7 @@ export class MessageList {
     /** @type {Row[]} */ this.rows = [];
     /** @type {Row[]} */ this.seen = [];
     this.filter = '';
-    /** The row that is chosen, among those that are seen. */
-    this.at = -1;
+    this.at = -1; // the row that is chosen, among those that are seen
     this.chosen = chosen;
     this.space = el('div', { class: 'space', role: 'rowgroup' });
     this.box = el('div', { class: 'rows', role: 'grid', tabindex: '0', 'aria-label': 'messages' },
@@ -41,19 +39,13 @@ export class MessageList {
     event.preventDefault();
   }
 
-  /** @param {Row[]} rows */
-  set(rows) {
-    const chosen = this.seen[this.at]?.n;
+  /** Shows the messages that fit a filter. The one that was chosen stays chosen.
+   * @param {Row[]} rows @param {string} filter */
+  set(rows, filter = this.filter) {
+    const chosen = this.seen[this.at]?.n, wanted = filter.toLowerCase().split(/\s+/).filter(Boolean);
     this.rows = rows;
-    this.sift(this.filter, chosen);
-  }
-
-  /** Shows the messages that fit a filter.
-   * @param {string} text @param {number} [chosen] the number of the message that stays chosen */
-  sift(text, chosen = this.seen[this.at]?.n) {
-    this.filter = text;
-    const wanted = text.toLowerCase().split(/\s+/).filter(Boolean);
-    this.seen = wanted.length ? this.rows.filter((row) => wanted.every((it) => fits(row, it))) : this.rows;
+    this.filter = filter;
+    this.seen = wanted.length ? rows.filter((row) => wanted.every((it) => fits(row, it))) : rows;
     this.at = this.seen.findIndex((row) => row.n === chosen);
     this.space.style.height = `${this.seen.length * ROW_HIGH}px`;
     this.box.setAttribute('aria-rowcount', String(this.seen.length + 1));
@@ -89,37 +81,24 @@ export class MessageList {
 
   /** @param {Row} row @param {number} n */
   row(row, n) {
-    const cell = (/** @type {any[]} */ ...inside) => el('span', { role: 'gridcell' }, ...inside);
-    const told = (/** @type {string} */ text, /** @type {any[]} */ ...inside) => {
-      const made = cell(...inside);
-      made.title = text;
-      return made;
-    };
+    const cell = (/** @type {string} */ title, /** @type {any[]} */ ...inside) => el('span', { role: 'gridcell', title }, ...inside);
+    // what terminal 2 has in the place of it
     const apart = (/** @type {boolean} */ differs, /** @type {any[]} */ ...inside) =>
-      (row.differs && differs ? el('em', { class: 'apart', title: 'terminal 2 answers otherwise' }, ' ≠ ', ...inside) : '');
-    const data = row.sent.concat(row.data).map(hex4).join(' '), others = row.data2.map(hex4).join(' ') || 'none';
-    const status = row.status2 < 0 ? ['none'] : statusOf(row.status2, row.names2);
+      (row.differs && differs ? el('em', { class: 'apart', title: 'terminal 2 answers otherwise' }, ' ≠ ', ...inside) : null);
+    const data = hexWords([...row.sent, ...row.data]), others = hexWords(row.data2);
     return el('div', {
       id: `message-${n}`, class: `row ${row.tone}${n === this.at ? ' chosen' : ''}${row.differs ? ' differs' : ''}`, role: 'row',
       'aria-rowindex': n + 2, 'aria-selected': String(n === this.at), 'data-at': String(n), style: `top:${n * ROW_HIGH}px`,
     },
-    ...[String(row.n), row.bus, row.kind, row.rt, row.sa, row.count].map((it) => cell(it)),
-    told(data, row.data.length ? el('u', {}, data) : data, apart(row.data2.join() !== row.data.join(), others)),
-    cell(...statusOf(row.status, row.names), apart(row.status2 !== row.status, ...status)),
-    told(row.hand, row.hand, apart(row.hand2 !== row.hand, row.hand2 || 'nothing')),
-    told(row.remark, row.remark));
+    ...[String(row.n), row.bus, row.kind, row.rt, row.sa, row.count].map((it) => cell('', it)),
+    cell(data, row.data.length ? el('u', {}, data) : data, apart(others !== hexWords(row.data), others || 'none')),
+    cell('', ...badged(row.status, ''), apart(row.status2 !== row.status, ...badged(row.status2, 'none'))),
+    cell(row.hand, row.hand, apart(row.hand2 !== row.hand, row.hand2 || 'nothing')), cell(row.remark, row.remark));
   }
 }
 
-/** Shorter names of the bits of a status word.
- * @type {Record<string, string>} */
-const SHORT = {
-  'message error': 'error', 'service request': 'service', 'broadcast received': 'broadcast', 'subsystem flag': 'subsystem',
-  'terminal flag': 'terminal', 'bus control accepted': 'accepted',
-};
-
-/** @param {number} status @param {string[]} names @returns {any[]} */
-const statusOf = (status, names) => (status < 0 ? [] : [hex4(status), ...names.map((name) => el('b', {}, SHORT[name] ?? name))]);
+/** @param {number} status @param {string} none @returns {any[]} */
+const badged = (status, none) => (status < 0 ? [none] : [hex4(status), ...bitsSet(status).map((it) => el('b', { title: it[2] }, it[1]))]);
 
 /** Does a message fit a word of the filter: `rt:5`, `sa:3`, `bus:b`, `no:7`, `error`, `-busy`?
  * @param {Row} row @param {string} word @returns {boolean} */
@@ -127,10 +106,10 @@ function fits(row, word) {
   if (word[0] === '-' && word.length > 1) return !fits(row, word.slice(1));
   const [, field, wanted] = /^(rt|sa|bus|no):(.+)$/.exec(word) ?? [];
   if (field) {
-    const value = { rt: row.rt, sa: row.sa, bus: row.bus, no: String(row.n) }[/** @type {'rt'} */ (field)];
+    const value = { rt: row.rt, sa: row.sa, bus: row.bus, no: String(row.n) }[field] ?? '';
     return value.toLowerCase().split('→').includes(wanted);
   }
-  const words = [...row.sent, ...row.data, ...(row.status < 0 ? [] : [row.status])].map(hex4);
-  const told = [row.kind, row.tone, ...row.names, row.remark, row.hand, row.differs ? 'differs' : '', ...words];
+  const words = hexWords([...row.sent, ...row.data, ...(row.status < 0 ? [] : [row.status])]);
+  const told = [row.kind, row.tone, ...statusNames(row.status), row.remark, row.hand, row.differs ? 'differs' : '', words];
   return told.join(' ').toLowerCase().includes(word);
 }

@@ -3,7 +3,8 @@
  * `from` has for each line of the script the line of the messages, from 0, that it comes from.
  * @typedef {{lines: string[], from: number[], faults: {line: number, column: number, text: string}[]}} Expansion
  */
-import { MODES, STATUS_BITS, commandOf, expectedWords, hex4, repliedWords } from './words.js';
+import { longest } from './canon.js';
+import { MODES, STATUS_BITS, commandOf, expectedWords, hex4, hexWords, repliedWords } from './words.js';
 
 /** Is this a line of a script? What the module says counts; this is for colours and for messages. */
 export const SCRIPT_LINE = new RegExp(['|#.*|slot', '[AB] (?:[cd] [0-9a-fA-F]{4}(?: [01])?|noise|gap)',
@@ -18,152 +19,163 @@ class Refused extends Error {
 /** @param {string} text @param {number} own the address of this terminal @returns {Expansion} */
 export function expand(text, own) {
   /** @type {Expansion} */ const out = { lines: [], from: [], faults: [] };
+  const put = (/** @type {string[]} */ lines, /** @type {number} */ n) => {
+    out.lines.push(...lines);
+    out.from.push(...lines.map(() => n));
+  };
+  /** The events of the last message that are not put yet, its line, and whether nothing came behind it.
+   * @type {string[]} */ let left = [];
+  let source = 0, isFresh = false;
   text.replace(/\n$/, '').split('\n').forEach((line, n) => {
     try {
-      for (const event of eventsOf(line, own)) { out.lines.push(event); out.from.push(n); }
+      const events = eventsOf(line, own);
+      put(left.splice(0, dueBefore(line, left, isFresh)), source);
+      isFresh = events !== null;
+      if (events) [left, source] = [events, n]; else put([line], n);
     } catch (fault) {
       if (!(fault instanceof Refused)) throw fault;
       out.faults.push({ line: n, column: fault.column, text: fault.message });
     }
   });
+  put(left, source);
   return out;
 }
 
-/** The fields of a message, one after the other. */
-class Fields {
-  /** @param {string} line */
-  constructor(line) {
-    const colon = line.indexOf(':'), head = colon < 0 ? line : line.slice(0, colon);
-    this.line = line;
-    this.colon = colon;
-    /** @type {{word: string, column: number}[]} */
-    this.parts = [...head.slice(2).matchAll(/[^ \t\f\r]+/g)].map((found) => ({ word: found[0], column: 3 + (found.index ?? 0) }));
-    this.end = { word: '', column: Math.max(3, 1 + head.trimEnd().length) };
-    this.at = 0;
+/** How many of the events that are left of a message come before a line. Answers that are stated right behind it go to its events in
+ * their order: a hand-over to the last gap, any other to the next slot.
+ * @param {string} line @param {string[]} left @param {boolean} isFresh */
+function dueBefore(line, left, isFresh) {
+  if (!/^#[>~+] /.test(line)) return left.length;
+  if (line[1] === '+' && !isFresh) return 0;
+  const isHand = /^#[>~] hand(?: |$)/.test(line);
+  const at = left.findIndex((it, n) => (isHand ? it.endsWith(' gap') && !/^. [cd] /.test(left[n + 1] ?? '') : it === 'slot'));
+  return at < 0 ? left.length : at + 1;
+}
+
+/** The parts of what says a word, between blanks. */
+class Parts {
+  /** @param {string} text what stands behind the letter of the bus and its space */
+  constructor(text) {
+    this.text = text;
+    this.found = [...text.matchAll(/[^ \t\f\r]+/g)];
+    this.words = this.found.map((it) => it[0]);
   }
 
-  peek() { return this.parts[this.at] ?? this.end; }
+  /** @param {number} n @param {string} text @returns {never} */
+  refuse(n, text) { throw new Refused(3 + (this.found[n]?.index ?? this.text.length), text); }
 
-  next() {
-    const field = this.peek();
-    this.at++;
-    return field;
-  }
-
-  /** Takes the next field, if it is this word.
-   * @param {string} word */
-  takes(word) {
-    const isIt = this.peek().word === word;
-    if (isIt) this.at++;
-    return isIt;
-  }
-
-  /** @param {number} low @param {number} high @param {string} what */
-  number(low, high, what) {
-    const { word, column } = this.next();
-    if (!/^\d{1,2}$/.test(word) || Number(word) < low || Number(word) > high) throw new Refused(column, `${what} is ${low} to ${high}`);
+  /** @param {number} n @param {number} low @param {number} high @param {string} what */
+  number(n, low, high, what) {
+    const word = this.words[n] ?? '';
+    if (!/^\d{1,2}$/.test(word) || Number(word) < low || Number(word) > high) this.refuse(n, what);
     return Number(word);
   }
 
-  address() { return this.takes('all') ? 31 : this.number(0, 30, 'an address, or all for a command,'); }
+  address() { return this.words[1] === 'all' ? 31 : this.number(1, 0, 30, 'an address is 0 to 30, or all for a command'); }
 
-  done() { if (this.at < this.parts.length) throw new Refused(this.peek().column, 'nothing more is wanted here'); }
-
-  /** The data words of a message, of which there are this many.
-   * @param {number} count */
-  data(count) {
-    const { line, colon } = this;
-    if (colon < 0 && !count) return [];
-    if (colon < 0) throw new Refused(line.length + 1, `${count} data word${count === 1 ? ' is' : 's are'} wanted, after a colon`);
-    /** @type {string[]} */ const words = [];
-    let at = colon + 1;
-    for (; words.length < count; at += 5) {
-      const found = /^ ([0-9a-f]{4})/.exec(line.slice(at));
-      if (!found) throw new Refused(at + 1, 'a data word is wanted: one space and four hexadecimal digits, with small letters');
-      words.push(found[1]);
-    }
-    if (at < line.length || !count) throw new Refused(at + 1, 'nothing more is wanted: the message has all its data words');
-    return words;
-  }
+  /** @param {number} n how many parts there are at most */
+  end(n) { if (this.words.length > n) this.refuse(n, 'nothing may follow the last field'); }
 }
 
-/** The events of a line.
- * @param {string} line @param {number} own @returns {string[]} */
-function eventsOf(line, own) {
-  const size = new TextEncoder().encode(line).length;
-  if (size > 256) throw new Refused(257, 'a line has at most 256 bytes');
-  if (SCRIPT_LINE.test(line)) {
-    if (size > 64) throw new Refused(65, 'a comment has at most 64 bytes');
-    return [line];
-  }
-  if (!/^[AB] /.test(line)) throw new Refused(1, 'neither a line of a script nor a message, which begins with A or B and a space');
-  if (line.includes('#')) throw new Refused(line.indexOf('#') + 1, 'a comment after a message: a comment is a line of its own');
-  const fields = new Fields(line), kind = fields.next(), make = KINDS.get(kind.word);
-  if (!make) throw new Refused(kind.column, 'rx, tx, mode, status or data is expected');
-  return make(fields, own).map((it) => (it === 'slot' ? it : `${line[0]} ${it}`));
+/** @param {Parts} parts @param {number} transmit the T/R bit */
+function transfer(parts, transmit) {
+  const to = parts.address(), sub = parts.number(2, 1, 30, 'a subaddress is 1 to 30'), count = parts.number(3, 1, 32, 'a count is 1 to 32');
+  parts.end(4);
+  return (to << 11) | transmit | (sub << 5) | (count & 31);
 }
 
-/** @param {number} count */
-const slots = (count) => new Array(count).fill('slot');
-
-/** A message of one command: the words that follow it, and slots for the reply.
- * @param {Fields} fields @param {number} word */
-function message(fields, word) {
-  const c = commandOf(word), data = fields.data(expectedWords(c));
-  return [`c ${hex4(word)}`, ...data.map((it) => `d ${it}`), 'gap', ...slots(c.address === 31 ? 0 : 1 + repliedWords(c))];
-}
-
-/** @param {Fields} fields @param {number} own @param {boolean} transmit */
-function transfer(fields, own, transmit) {
-  const to = fields.address(), sub = fields.number(1, 30, 'a subaddress'), count = fields.number(1, 32, 'a word count');
-  const word = (to << 11) | (transmit ? 0x400 : 0) | (sub << 5) | (count & 31);
-  if (!transmit && fields.takes('from')) return between(fields, own, word);
-  fields.done();
-  return message(fields, word);
-}
-
-/** A transfer between terminals.
- * @param {Fields} fields @param {number} own @param {number} word the first command */
-function between(fields, own, word) {
-  const to = word >> 11, count = word & 31, { column, word: name } = fields.peek();
-  const other = fields.number(0, 30, 'the address of another terminal');
-  if (other === to) throw new Refused(column, `${name} is the receiver itself`);
-  const theirs = fields.number(1, 30, 'its subaddress');
-  fields.done();
-  const commands = [`c ${hex4(word)}`, `c ${hex4((other << 11) | 0x400 | (theirs << 5) | count)}`, 'gap'];
-  const ends = (/** @type {string[]} */ ...events) => (to === 31 ? [] : events);
-  // this terminal sends the words, and the receiver's status ends the transfer
-  if (other === own && fields.colon < 0) return [...commands, ...slots((count || 32) + 1), ...ends(`c ${hex4(to << 11)}`, 'gap')];
-  const data = fields.data(count || 32);
-  return [...commands, `c ${hex4(other << 11)}`, ...data.map((it) => `d ${it}`), 'gap', ...ends('slot')];
-}
-
-/** What each kind of message is expanded to.
- * @type {Map<string, (fields: Fields, own: number) => string[]>} */
+/** @type {Map<string, (parts: Parts) => number>} the bits of the word that a message begins with, by its first part */
 const KINDS = new Map(Object.entries({
-  rx: (fields, own) => transfer(fields, own, false),
-  tx: (fields, own) => transfer(fields, own, true),
-  mode: (fields) => {
-    const to = fields.address(), code = fields.number(0, 31, 'a mode code'), named = MODES.find((it) => it[0] === code);
-    const isTx = fields.takes('tx'), isRx = !isTx && fields.takes('rx');
-    if (!named && !isTx && !isRx) throw new Refused(fields.peek().column, 'tx or rx is expected after a mode code that has no row in the table');
-    const transmit = isTx || (!isRx && named?.[1]), sub = fields.takes('31') ? 31 : 0;
-    fields.done();
-    return message(fields, (to << 11) | (transmit ? 0x400 : 0) | (sub << 5) | code);
+  rx: (parts) => transfer(parts, 0),
+  tx: (parts) => transfer(parts, 0x400),
+  mode: (parts) => {
+    const to = parts.address(), code = parts.number(2, 0, 31, 'a mode code is 0 to 31'), [, , , direction, sub = '0'] = parts.words;
+    const listed = MODES.find((row) => row[0] === code), transmit = direction ? direction === 'tx' : listed?.[1];
+    if (direction ? !/^[tr]x$/.test(direction) : !listed) parts.refuse(3, 'tx or rx is expected after a mode code that has no row in the table');
+    if (sub !== '0' && sub !== '31') parts.refuse(4, 'the subaddress of a mode code is 0 or 31');
+    parts.end(5);
+    return (to << 11) | (transmit ? 0x400 : 0) | (Number(sub) << 5) | code;
   },
-  status: (fields) => {
-    let status = fields.number(0, 30, 'an address') << 11;
-    while (fields.at < fields.parts.length) {
-      const { word, column } = fields.next(), bit = STATUS_BITS.find((row) => row[1] === word);
-      if (!bit) throw new Refused(column, 'a bit of the status word is error, service, broadcast, busy, subsystem, accept or terminal');
-      status |= bit[0];
-    }
-    return [`c ${hex4(status)}`];
-  },
-  data: (fields) => {
-    const { word, column } = fields.next();
-    if (!/^[0-9a-fA-F]{4}$/.test(word)) throw new Refused(column, 'four hexadecimal digits are expected');
-    fields.done();
-    return [`d ${word.toLowerCase()}`];
+  status: (parts) => parts.words.slice(2).reduce((status, word, n) => {
+    const bit = STATUS_BITS.find((row) => row[1] === word);
+    return status | (bit ? bit[0] : parts.refuse(n + 2, `a status has ${STATUS_BITS.map((row) => row[1]).join(', ')}`));
+  }, parts.number(1, 0, 30, 'an address is 0 to 30, or all for a command') << 11),
+  data: (parts) => {
+    if (!/^[0-9a-fA-F]{4}$/.test(parts.words[1] ?? '')) parts.refuse(1, 'a word is four hexadecimal digits');
+    parts.end(2);
+    return parseInt(parts.words[1], 16);
   },
 }));
+
+/** @param {import('./words.js').Command} c @returns {string[]} what comes behind a command and its data words */
+const endOf = (c) => ['gap', ...new Array(c.address === 31 ? 0 : 1 + repliedWords(c)).fill('slot')];
+
+/** @param {string} line @param {number} own @returns {string[]|null} the events of a message, null for a line of a script */
+function eventsOf(line, own) {
+  const size = new TextEncoder().encode(line).length;
+  if (size > 256) throw new Refused(257, 'over 256 bytes before the line feed');
+  if (SCRIPT_LINE.test(line)) {
+    if (size > 64) throw new Refused(65, 'a comment of over 64 bytes: a script has none that long');
+    return null;
+  }
+  const [, bus, text, from, data] = /^([AB]) ([^:]*?)(?: from ([^:]*))?(?::([^]*))?$/.exec(line) ?? [];
+  if (!bus) throw new Refused(1, 'neither a line of a script nor a message, which begins with A or B and a space');
+  if (line.includes('#')) throw new Refused(line.indexOf('#') + 1, 'a comment after a message: a comment is a line of its own');
+  const parts = new Parts(text), name = parts.words[0], read = KINDS.get(name);
+  if (!read || text.length > 128) return parts.refuse(0, 'rx, tx, mode, status or data is expected, in at most 128 bytes');
+  const bits = read(parts), c = commandOf(bits), first = `${name === 'data' ? 'd' : 'c'} ${hex4(bits)}`;
+  const isCommand = name !== 'status' && name !== 'data', sender = from === undefined ? -1 : senderOf(from, name, bits, 3 + text.length);
+  const words = dataOf(line, data === undefined ? line.length : line.indexOf(':') + 1, isCommand ? expectedWords(c) : 0);
+  const heard = sender < 0 ? [] : [`c ${hex4(sender)}`, 'gap', `c ${hex4(sender & 0xf800)}`];
+  const events = !isCommand ? [first]
+    // this terminal sends words of its own, whatever the message says
+    : sender >> 11 === own ? [first, `c ${hex4(sender)}`, ...endOf(commandOf(sender))] : [first, ...heard, ...words, ...endOf(c)];
+  return events.map((it) => (it === 'slot' ? it : `${bus} ${it}`));
+}
+
+/** @param {string} from what stands behind `from` @param {string} name @param {number} bits the command before it @param {number} column
+ * @returns {number} the command to the terminal that sends */
+function senderOf(from, name, bits, column) {
+  if (name !== 'rx') throw new Refused(column, 'from follows rx alone: the terminal of rx receives what another sends');
+  const [other, sub, ...more] = from.split(/[ \t\f\r]+/).filter(Boolean), isNumber = [other, sub].every((it) => /^\d{1,2}$/.test(it ?? ''));
+  if (!isNumber || more.length || Number(other) > 30 || Number(other) === bits >> 11 || Number(sub) < 1 || Number(sub) > 30) {
+    throw new Refused(column + 6, 'after from, the address of another terminal, 0 to 30, and its subaddress, 1 to 30, are expected');
+  }
+  return (Number(other) << 11) | 0x400 | (Number(sub) << 5) | (bits & 31);
+}
+
+/** @param {string} line @param {number} start where its data words are to stand @param {number} count @returns {string[]} */
+function dataOf(line, start, count) {
+  /** @type {string[]} */ const words = [];
+  let at = start;
+  for (; words.length < count; at += 5) {
+    const found = /^ ([0-9a-f]{4})/.exec(line.slice(at));
+    if (!found) throw new Refused(at + 1, 'a data word is wanted: one space and four hexadecimal digits, with small letters');
+    words.push(`d ${found[1]}`);
+  }
+  if (at < line.length) throw new Refused(at + 1, 'nothing more is wanted: the message has all its data words');
+  return words;
+}
+
+/** @param {import('./canon.js').Terminal} t @returns {string} messages for it, to begin with */
+export function sampleMessages(t) {
+  /** @param {number[]} masks @returns {number[]} the first subaddress in use and its least count */
+  const least = (masks) => {
+    const sa = masks.findIndex((mask) => mask !== 0);
+    return sa < 0 ? [1, 2] : [sa, longest(masks[sa] & -masks[sa])];
+  };
+  const own = t.address, [to, count] = least(t.receive), [from, many] = least(t.transmit);
+  const words = Array.from({ length: count }, (_, n) => n + 1);
+  return `# Messages are expanded to events. This terminal has address ${own}.
+A tx ${own} ${from} ${many}
+A rx ${own} ${to} ${count}: ${hexWords(words)}
+A mode ${own} 2
+
+# The other bus, and an illegal mode code:
+B mode ${own} 0
+
+# The subsystem is busy:
+flag busy 1
+A tx ${own} ${from} ${many}
+`;
+}

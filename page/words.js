@@ -4,8 +4,7 @@
  * @typedef {{from: number, to: number, name: string, value: string, isOn: boolean}} Field the bits from and to, of which 15 comes first
  */
 
-/** Mode codes: code, T/R is 1, name.
- * @type {[number, boolean, string][]} */
+/** @type {[number, boolean, string][]} mode codes: code, T/R is 1, name */
 export const MODES = [
   [0, true, 'dynamic bus control'],
   [1, true, 'synchronize'],
@@ -22,8 +21,7 @@ export const MODES = [
   [19, true, 'transmit BIT word'],
 ];
 
-/** Bits of the status word: mask, name in messages, name for people.
- * @type {[number, string, string][]} */
+/** @type {[number, string, string][]} bits of the status word: mask, name in messages, name for people */
 export const STATUS_BITS = [
   [0x0400, 'error', 'message error'],
   [0x0200, 'instrumentation', 'instrumentation'],
@@ -31,17 +29,19 @@ export const STATUS_BITS = [
   [0x0080, 'reserved1', 'reserved'],
   [0x0040, 'reserved2', 'reserved'],
   [0x0020, 'reserved3', 'reserved'],
-  [0x0010, 'broadcast', 'broadcast received'],
+  [0x0010, 'broadcast', 'broadcast'],
   [0x0008, 'busy', 'busy'],
   [0x0004, 'subsystem', 'subsystem flag'],
-  [0x0002, 'accept', 'bus control accepted'],
+  [0x0002, 'accept', 'bus control'],
   [0x0001, 'terminal', 'terminal flag'],
 ];
 
+/** @param {number} mask @param {number} bit */
+export const has = (mask, bit) => ((mask >>> bit) & 1) === 1;
 /** @param {number} n */
 export const hex4 = (n) => n.toString(16).padStart(4, '0');
-/** @param {number} n */
-export const two = (n) => String(n).padStart(2, '0');
+/** @param {number[]} words */
+export const hexWords = (words) => words.map(hex4).join(' ');
 
 /** @param {number} word @returns {Command} */
 export function commandOf(word) {
@@ -54,14 +54,17 @@ export const countOf = (c) => c.low || 32;
 /** @param {number} code */
 export const modeName = (code) => MODES.find((row) => row[0] === code)?.[2] ?? 'reserved mode code';
 
+/** @param {Command} c */
+const dataWords = (c) => (c.mode ? Number(c.low >= 16) : countOf(c));
 /** @param {Command} c @returns {number} how many data words follow a command from the controller */
-export const expectedWords = (c) => (c.transmit ? 0 : c.mode ? Number(c.low >= 16) : countOf(c));
-
+export const expectedWords = (c) => (c.transmit ? 0 : dataWords(c));
 /** @param {Command} c @returns {number} how many data words a reply has */
-export const repliedWords = (c) => (!c.transmit ? 0 : c.mode ? Number(c.low >= 16) : countOf(c));
+export const repliedWords = (c) => (c.transmit ? dataWords(c) : 0);
 
-/** @param {number} status @returns {string[]} the names of the bits that are set */
-export const statusNames = (status) => STATUS_BITS.filter(([mask]) => status & mask).map((row) => row[2]);
+/** @param {number} status a status word, or -1 for none @returns {[number, string, string][]} the bits that are set */
+export const bitsSet = (status) => (status < 0 ? [] : STATUS_BITS.filter(([mask]) => status & mask));
+/** @param {number} status @returns {string[]} their names for people */
+export const statusNames = (status) => bitsSet(status).map((row) => row[2]);
 
 /** @param {number} word @returns {string} a command in words */
 export function tellCommand(word) {
@@ -71,15 +74,7 @@ export function tellCommand(word) {
 }
 
 /** @param {number} bits @returns {number} the right parity bit: the ones of a word and of its parity bit are odd in number */
-export function parityOf(bits) {
-  let ones = 0;
-  for (let n = bits; n; n &= n - 1) ones++;
-  return 1 - (ones & 1);
-}
-
-/** Shorter names, beside the bits.
- * @type {Record<string, string>} */
-const STRIP = { 'broadcast received': 'broadcast', 'bus control accepted': 'bus control', instrumentation: 'instrument.' };
+export const parityOf = (bits) => 1 - bits.toString(2).replace(/0/g, '').length % 2;
 
 /** @param {number} bits @param {'command'|'status'} kind @returns {Field[]} the fields of a word, from bit 15 on */
 export function fieldsOf(bits, kind) {
@@ -88,13 +83,14 @@ export function fieldsOf(bits, kind) {
   if (kind === 'status') {
     return [address, ...STATUS_BITS.map(([mask, , name]) => {
       const at = Math.log2(mask), isOn = (bits & mask) !== 0;
-      return { from: at, to: at, name: STRIP[name] ?? name, value: isOn ? 'set' : '–', isOn };
+      return { from: at, to: at, name, value: isOn ? 'set' : '–', isOn };
     })];
   }
   return [
     address,
     { from: 10, to: 10, name: 'T/R', value: c.transmit ? 'transmit' : 'receive', isOn: c.transmit },
     { from: 9, to: 5, name: 'subaddress', value: c.mode ? `${c.subaddress}, mode` : String(c.subaddress), isOn: true },
-    { from: 4, to: 0, name: c.mode ? 'mode code' : 'count', value: c.mode ? `${c.low}, ${modeName(c.low)}` : String(countOf(c)), isOn: true },
+    c.mode ? { from: 4, to: 0, name: 'mode code', value: `${c.low}, ${modeName(c.low)}`, isOn: true }
+      : { from: 4, to: 0, name: 'count', value: String(countOf(c)), isOn: true },
   ];
 }

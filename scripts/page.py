@@ -1,8 +1,8 @@
 #!/usr/bin/env python3
 """Links the module of the proved calls, and joins it with what is in page/ and the examples into one file: page.py ARCHIVE TO
 
-The JavaScript modules are joined to two scripts, that of the page and that of its worker, in the order of their imports. All that a
-script has shares one scope, so no name may stand in two modules. The policy of the page admits its own script alone, by its sum.
+The JavaScript modules are joined to one script, in the order of their imports, which the page and its worker have. All share one scope,
+so no name may stand in two modules. The policy of the page admits its own script alone, by its sum.
 """
 import base64
 import gzip
@@ -64,7 +64,7 @@ def module_of(archive):
 def page_of(module):
     """The page, with this module."""
     packed = base64.b64encode(gzip.compress(module, 9, mtime=0)).decode()
-    words = [json.dumps(it) for it in (packed, f"'use strict';\n{joined('worker.js')}serve(self);\n", list(examples()))]
+    words = [json.dumps(it) for it in (packed, list(examples()))]
     script = f"'use strict';\n(async () => {{\n{joined('main.js')}await start({', '.join(words)});\n}})();\n"
     # nothing in it may end the element that holds it
     script = re.sub(r"<(?=/script|!--)", r"\\x3c", script, flags=re.I)

@@ -3,8 +3,12 @@
 import base64
 import gzip
 import re
+import time
+import tomllib
 
+import play
 import pytest
+import rules
 import vector_tables
 from browser import Browser
 from programs import TOP, encoded, run, write_files
@@ -36,6 +40,19 @@ FIELDS = {"address": "9", "receive-3": "1-2, 8", "transmit-3": "2", "broadcast":
 SCRIPT = "A c 4862\nA d 1111\nA d 2222\nA gap\nslot\nA c 4c62\nA gap\nslot\nslot\nslot\nB c 4c13\nB gap\nslot\nslot\n"
 HOSTILE = ['<img src=x onerror="window.hit=1">', '"><script>window.hit=1</script>', "\u202e\0\ufeff", "9" * 5000, "-1", "1e3", "1-", "4-1",
            "1,,2", "ffff " * 80, "{{}}", "';window.hit=1;'", "１２", "A c 2862\u2028slot", "\n\n\n", "٣", "x" * (1 << 20)]  # fmt: skip
+PROFILES = [it for it in sorted(TOP.glob("examples/profiles/*.toml")) if (TOP / f"examples/canonical/{it.stem}.rt1553").exists()]
+# what the page has beside the lines of a script, up to the first that is refused
+BESIDE = """(text, script) => {
+    rt1553.restore({ first: text, second: null, script, messages: '', mode: 'script' });
+    const { answers, faultLine } = rt1553.result;
+    return faultLine ? answers.slice(0, faultLine - 1) : answers;
+}"""
+# what messages are expanded to, and what is played and shown then
+EXPANDED = """(text, messages) => {
+    rt1553.restore({ first: text, second: null, script: '', messages, mode: 'messages' });
+    const { expansion, script, result, messageEditor } = rt1553;
+    return { faults: expansion.faults, script, transcript: result.transcript, beside: messageEditor.answers };
+}"""
 # what the page gives for a canonical text and a script, bytes that are UTF-8
 PLAYED = """(text, script) => {
     const told = rt1553.engine.run(text, script);
@@ -132,6 +149,18 @@ def test_scripts_as_the_program_plays_them(browser, shipped, tmp_path):
         assert given == [wanted.status, wanted.output.decode(), wanted.errors.decode()], (text.name, script.name)
 
 
+def test_answers_stand_beside_their_lines(browser):
+    """Each answer beside the line that it answers, as a model of the terminal has it."""
+    for path in PROFILES:
+        text = TOP / f"examples/canonical/{path.stem}.rt1553"
+        setup = play.setup_of(tomllib.loads(path.read_text(encoding="utf-8")))
+        for script in SCRIPTS:
+            terminal = rules.Terminal(setup)
+            answers = ["".join(play.transcript(terminal, [event])) for _, event in play.events_of(script.read_bytes())]
+            given = browser.call(BESIDE, text.read_text(encoding="utf-8"), script.read_text(encoding="utf-8"))
+            assert given == answers, (path.name, script.name)
+
+
 def changed_texts(text):
     """A canonical text, and others that begin as it."""
     lines = text.splitlines(keepends=True)
@@ -165,15 +194,84 @@ def test_terminals_are_compared_as_by_the_program(browser, shipped, one):
 def test_messages_as_expand(browser, shipped, tmp_path):
     """Messages of each form, expanded by the page and by the program."""
     lines = [f"A {kind} {to} 3 {n}{':' + ' 00ff' * n if kind == 'rx' else ''}" for to in ("5", "6", "all") for kind in ("rx", "tx") for n in (1, 2, 32)]
-    lines += [f"B mode {to} {code}{more}" for to in ("5", "all") for code in range(32) for more in ("", " tx", " rx: 1234", " tx 31")]
+    more = ("", " tx", " rx: 1234", " tx 31", " tx 0", " 31", " constructor")
+    lines += [f"B mode {to} {code}{it}" for to in ("5", "all") for code in range(32) for it in more]
     lines += ["A rx 5 3 2 from 6 4: 0011 0022", "A rx all 3 2 from 6 4: 0011 0022", "B status 6 busy", "B status 31", "B data 0011", "A rx 5 3 2: 1",
-              "A rx 5 0 1: 0000", "A rx 5 1 33: 0000", "A tx 5 1 1 ", "A  tx 5 1 1", "C rx 5 1 1: 0000", "A", "", "# x", "slot", "flag busy 2", "A c 2862"]  # fmt: skip
+              "A rx 5 0 1: 0000", "A rx 5 1 33: 0000", "A tx 5 1 1 ", "A  tx 5 1 1", "C rx 5 1 1: 0000", "A", "", "# x", "slot", "flag busy 2", "A c 2862",
+              "A tx 5 1 1:", "A rx 5 1 1: 00FF", "B data 00Ff", "A d 00fF", "A tx 5 1 1 from 6 1", "A toString 5", "A rx 5 1 1 from 5 1: 0000",
+              "A rx 5 1 1 from 6: 0000", "A rx 5 1 1  from  6  1 : 0000", "A status 6 reserved1", "A status 6 x", "A tx 5 1 1 # x"]  # fmt: skip
     for line in lines:
         write_files(tmp_path, {"messages": f"{line}\n"})
         wanted = run(shipped.tool, "expand", "messages", folder=tmp_path)
         given = browser.call("(text) => { rt1553.setMode('messages'); rt1553.messageEditor.value = text; rt1553.play(); return rt1553.expansion; }", f"{line}\n")
         script = None if given["faults"] else "".join(f"{it}\n" for it in given["lines"])
         assert script == (None if wanted.status else wanted.output.decode()), line
+
+
+STATED = [
+    ["A rx 5 1 2: 0011 0022", "#> hand receive own 01 0011 0022", "#> A s 2800", "A mode 5 2", "#> A s 2c00"],
+    ["A tx 5 1 3", "#> A s 2800", "#~ A d ....", "#+ x", "#> A d 0003", "#> A d 0004", "#+ y", "slot"],
+    ["A rx 5 3 2 from 6 4: 0011 0022", "#~ hand *", "#+ 0011", "#> A s 2800", "A rx 6 3 2 from 5 4: 0011 0022", "#> A s 2800", "#> hand", "#> handy"],
+    ["B tx 5 14 1", "#+ z", "#> B s 2800", "# a comment", "#> B d 0001", "", "#> B d 0002"],
+    ["#> A s 2800", "A mode 5 2", "#>A s 2800", "#> A s 2800", "B status 6 busy", "#> x", "B data 00Ff", "#~ *", "flag busy 1", "#> y"],
+    ["A mode all 1", "#> hand sync", "#> A s 2810", "A rx all 2 1: 00ff", "#> A s 2800", "#> hand receive broadcast 02 00ff"],
+]  # fmt: skip
+
+
+@pytest.mark.parametrize("lines", STATED, ids=lambda it: it[0])
+def test_stated_answers_behind_messages(browser, shipped, tmp_path, lines):
+    """They go to the events of the message, as with `expand --for`; what is played is the same without them."""
+    messages = "".join(f"{line}\n" for line in lines)
+    write_files(tmp_path, {"messages": messages, "profile": FIVE})
+    wanted = run(shipped.tool, "expand", "--for", "profile", "messages", folder=tmp_path)
+    text = canonical(shipped.rt1553, tmp_path, FIVE)
+    told = browser.call(EXPANDED, text, messages)
+    assert (told["faults"], told["script"]) == ([], wanted.output.decode())
+    write_files(tmp_path, {"text": text, "script": wanted.output.decode()})
+    assert told["transcript"] == run(shipped.rt1553, "run", "text", "script", folder=tmp_path).output.decode()
+    shown = browser.call(EXPANDED, text, "".join(f"{line}\n" for line in lines if not re.match("#[>~+]", line)))
+    assert (shown["transcript"], [it for it in told["beside"] if it]) == (told["transcript"], [it for it in shown["beside"] if it])
+
+
+REPLACES = {
+    "a script is opened": "rt1553.open(new File(['A c 2c02\\nA gap\\nslot\\n'], 'a.script'))",
+    "messages are opened": "rt1553.open(new File(['A mode 5 2\\n'], 'a.messages'))",
+    "messages are expanded": "document.getElementById('expand').click()",
+    "a second terminal": "document.getElementById('second').click()",
+    "a canonical text is opened": "rt1553.open(new File([rt1553.terminals[0].text.replace(/address ../, 'address 07')], 'a.rt1553'))",
+    "what tells them apart": "document.getElementById('tell').click()",
+    "an example": "(() => { const it = document.getElementById('example'); it.value = '3'; it.onchange(); })()",
+}
+
+
+def test_replaced_texts_come_back(browser, page):
+    """What a file, an example or a button replaces comes back with "Undo", the last one first."""
+    browser.open(page.as_uri())
+    type_script(browser, SCRIPT)
+    states = []
+    for name, replaces in REPLACES.items():
+        states.append(browser.value("rt1553.shared()"))
+        browser.value(replaces)
+        assert browser.value("rt1553.shared()") != states[-1], name
+    for state in reversed(states):
+        browser.value("document.getElementById('undo').click()")
+        assert browser.value("rt1553.shared()") == state
+    assert states[0]["script"] == SCRIPT and browser.value("document.getElementById('undo').hidden")
+
+
+def test_files_are_saved(browser, page, tmp_path):
+    """The menu \"Save\" writes what is shown."""
+    browser.open(page.as_uri())
+    type_script(browser, SCRIPT)
+    browser.send("Page.setDownloadBehavior", behavior="allow", downloadPath=str(tmp_path))
+    wanted = {"save-text": ("terminal.rt1553", "rt1553.terminals[0].text"), "save-script": ("bus.script", "rt1553.script"),
+              "save-transcript": ("bus.transcript", "rt1553.result.transcript")}  # fmt: skip
+    for button, (name, value) in wanted.items():
+        browser.value(f"document.getElementById('{button}').click()")
+        end = time.monotonic() + 20
+        while not (tmp_path / name).exists() and time.monotonic() < end:
+            time.sleep(0.05)
+        assert (tmp_path / name).read_text(encoding="utf-8") == browser.value(value)
 
 
 def test_hostile_texts(browser, page):
@@ -251,7 +349,7 @@ def test_long_scripts(browser, page, shipped, tmp_path, record_property):
             return [returned, performance.now() - began];
         }""", lengthened(script, count))  # fmt: skip
         assert browser.value("rt1553.result.transcript") == wanted
-        assert browser.value("rt1553.result.agrees")
+        assert browser.value("rt1553.result.answers.filter(Boolean).map((it) => `${it}\\n`).join('')") == wanted
         keys = sorted(browser.call("""async () => {
             const { area } = rt1553.scriptEditor, times = [];
             area.focus();
@@ -274,5 +372,4 @@ def test_sizes(page):
     text = page.read_text(encoding="utf-8")
     module = max(re.findall(r'"(H4sI[\w+/=]+)"', text), key=len)
     assert len(gzip.decompress(base64.b64decode(module))) < 120_000 and len(text.encode()) < 300_000
-    code = [line for it in TOP.glob("page/*.js") for line in it.read_text(encoding="utf-8").splitlines() if re.match(r"\s*(?!//|/\*\*|\*)\S", line)]
-    assert len(code) < 2000
+    assert sum(len(it.read_text(encoding="utf-8").splitlines()) for it in TOP.glob("page/*.js")) < 2000

@@ -3,7 +3,7 @@
 //! small. With 2 the fault is told; with the others it stays as it was.
 #![tactic(auto)]
 
-ghost use Rattle.std.specs.Prelude.{◌≡◌, ◌≢◌, ◌<◌, ℕ, List, Option, Some, Err, [], false, length, take, IfOk, IfErr, IsErrOf};
+ghost use Rattle.std.specs.Prelude.{◌≡◌, ◌≢◌, ◌<◌, ◌≤◌, ℕ, List, Option, Some, Err, [], false, length, take, All, IfOk, IfErr, IsErrOf};
 ghost use Rattle.bus_legal.specs.Description.{Description};
 ghost use Rattle.terminal_rules.specs.declared.event.Event.{Event};
 ghost use Rattle.rt1553.specs.Load.{IsCanonText, IsNoCanonText};
@@ -16,7 +16,7 @@ mod room;
 mod script;
 
 use bus_script::RunFault;
-use room::{DottedRoom, Room};
+use room::Room;
 use rt1553::{EngineFault, Verdict, compare_canonical, load_canonical, run_canonical};
 use rt1553_live::{PlainFault, event_lines, put_all, tell_fault};
 use script::ScriptBytes;
@@ -85,6 +85,7 @@ fn play<'a>(text: &[u8], script: &[u8], room: &mut Room<'a>) -> Result<u64, Engi
     requires empty { room.old.filled ≡ 0 }
     requires fresh { room.old.failed ≡ false }
     ensures same_room { room.new.bytes.ghost_name ≡ room.old.bytes.ghost_name }
+    ensures same_ends { room.new.ends.ghost_name ≡ room.old.ends.ghost_name }
     ensures done { IfOk result (RunCompletes text.now (Some script.now) (Some []) (Some (take room.new.filled room.new.bytes.now))) }
     ensures not_loaded { IfErr result (λ fault. OnLoad fault (λ f.
         IsNoCanonText text.now f × (take room.new.filled room.new.bytes.now ≡ []))) }
@@ -93,19 +94,22 @@ fn play<'a>(text: &[u8], script: &[u8], room: &mut Room<'a>) -> Result<u64, Engi
     ensures not_read { result ≢ Err (EngineFault.Script RunFault.Read) }
     ensures full { IsErrOf result (EngineFault.Script RunFault.Write) → room.new.filled ≡ length room.new.bytes.now }
 {
-    let mut source = ScriptBytes::new(script, false);
+    let mut source = ScriptBytes::new(script);
     run_canonical(text, &mut source, room)
 }
 
 /// Plays a script to the terminal of a canonical text, from power-up, and writes its transcript at the front of the room, and how
 /// many bytes it has. Where the run is stopped, the transcript so far is there. Where it has more bytes than the room, the room
-/// holds its front.
+/// holds its front. Behind each line from the first event on, and once more at the end, it notes where the transcript ends by then, as long
+/// as there is a place for that, and counts these notes.
 #[unsafe(no_mangle)]
 pub extern "C" fn page_run(
     text: &[u8],
     script: &[u8],
     to: &mut [u8],
     filled: &mut usize,
+    ends: &mut [usize],
+    noted: &mut usize,
     fault: &mut PlainFault,
 ) -> u8
     ensures done { result ≡ DONE → (n : ℕ) × RunCompletes text.now (Some script.now) (Some []) (Some (take filled.new to.new)) n
@@ -113,10 +117,13 @@ pub extern "C" fn page_run(
     ensures stopped { result ≢ DONE → result ≢ NO_ROOM → (result ≡ REFUSED) × TellsStop text.now script.now (take filled.new to.new) fault.new }
     ensures no_room { result ≡ NO_ROOM → IsFront text.now script.now (take filled.new to.new) × (filled.new ≡ length to.new)
         × (fault.new ≡ fault.old) }
+    ensures noted { noted.new ≤ length ends.new }
+    ensures ends { All (λ end. end ≤ filled.new) (take noted.new ends.new) }
 {
-    let mut room = Room::new(to);
+    let mut room = Room::new(to, ends);
     let ended = play(text, script, &mut room);
     *filled = room.filled;
+    *noted = room.noted;
     match ended {
         Ok(_) => DONE,
         Err(EngineFault::Script(RunFault::Write)) => NO_ROOM,
@@ -124,25 +131,5 @@ pub extern "C" fn page_run(
             tell_fault(fault, &why);
             REFUSED
         }
-    }
-}
-
-/// Writes the transcript of a script of which each line is an event, with the line `.` behind what answers each event, and one
-/// more at the end. So it shows which event has which answer.
-#[unsafe(no_mangle)]
-pub extern "C" fn page_answers(
-    text: &[u8],
-    script: &[u8],
-    to: &mut [u8],
-    filled: &mut usize,
-) -> u8 {
-    let mut source = ScriptBytes::new(script, true);
-    let mut dotted = DottedRoom::new(to);
-    let ended = run_canonical(text, &mut source, &mut dotted);
-    *filled = dotted.filled;
-    match ended {
-        Ok(_) => DONE,
-        Err(EngineFault::Script(RunFault::Write)) => NO_ROOM,
-        Err(_) => REFUSED,
     }
 }
