@@ -57,7 +57,7 @@ class Parts {
   /** @param {string} text what stands behind the letter of the bus and its space */
   constructor(text) {
     this.text = text;
-    this.found = [...text.matchAll(/[^ \t\f\r]+/g)];
+    this.found = [...text.matchAll(/[^ \t\f]+/g)];
     this.words = this.found.map((it) => it[0]);
   }
 
@@ -91,7 +91,7 @@ const KINDS = new Map(Object.entries({
   mode: (parts) => {
     const to = parts.address(), code = parts.number(2, 0, 31, 'a mode code is 0 to 31'), [, , , direction, sub = '0'] = parts.words;
     const listed = MODES.find((row) => row[0] === code), transmit = direction ? direction === 'tx' : listed?.[1];
-    if (direction ? !/^[tr]x$/.test(direction) : !listed) parts.refuse(3, 'tx or rx is expected after a mode code that has no row in the table');
+    if (direction ? !/^[tr]x$/.test(direction) : !listed) parts.refuse(3, 'after a mode code comes tx or rx; a reserved code needs it');
     if (sub !== '0' && sub !== '31') parts.refuse(4, 'the subaddress of a mode code is 0 or 31');
     parts.end(5);
     return (to << 11) | (transmit ? 0x400 : 0) | (Number(sub) << 5) | code;
@@ -137,7 +137,7 @@ function eventsOf(line, own) {
  * @returns {number} the command to the terminal that sends */
 function senderOf(from, name, bits, column) {
   if (name !== 'rx') throw new Refused(column, 'from follows rx alone: the terminal of rx receives what another sends');
-  const [other, sub, ...more] = from.split(/[ \t\f\r]+/).filter(Boolean), isNumber = [other, sub].every((it) => /^\d{1,2}$/.test(it ?? ''));
+  const [other, sub, ...more] = from.split(/[ \t\f]+/).filter(Boolean), isNumber = [other, sub].every((it) => /^\d{1,2}$/.test(it ?? ''));
   if (!isNumber || more.length || Number(other) > 30 || Number(other) === bits >> 11 || Number(sub) < 1 || Number(sub) > 30) {
     throw new Refused(column + 6, 'after from, the address of another terminal, 0 to 30, and its subaddress, 1 to 30, are expected');
   }
@@ -149,9 +149,9 @@ function dataOf(line, start, count) {
   /** @type {string[]} */ const words = [];
   let at = start;
   for (; words.length < count; at += 5) {
-    const found = /^ ([0-9a-f]{4})/.exec(line.slice(at));
-    if (!found) throw new Refused(at + 1, 'a data word is wanted: one space and four hexadecimal digits, with small letters');
-    words.push(`d ${found[1]}`);
+    const found = /^ ([0-9a-fA-F]{4})/.exec(line.slice(at));
+    if (!found) throw new Refused(at + 1, 'a data word is wanted: one space and four hexadecimal digits');
+    words.push(`d ${found[1].toLowerCase()}`);
   }
   if (at < line.length) throw new Refused(at + 1, 'nothing more is wanted: the message has all its data words');
   return words;
