@@ -197,6 +197,7 @@ SUMMARIES = with_files(
         "clause 5.2.3: 0 of 1 scripts pass\nno clause: 0 of 1 scripts pass\nall: 0 of 2 scripts pass\n",
         "broken: script: line 3, column 5: a space at the end: nothing may follow the last field\nfile: cannot read none: no such file\n"),
     Row("no script is named", "verify --profiles folder", 3, errors="arguments: verify takes a script or several\n"),
+    Row("a folder without a name", ("verify", "--profiles", "", "one"), 4, errors="file: the name of a file is empty\n"),
     Row("a clause named twice, an empty one, and one called all", "verify --summary --profiles folder list", 0,
         "list: passed (answers: 0)\nclause 1: 1 of 1 scripts pass\nclause 2: 1 of 1 scripts pass\nclause all: 1 of 1 scripts pass\n"
         "all: 1 of 1 scripts pass\n",

@@ -493,6 +493,7 @@ pub fn verify_scripts<R: Files + AllocGlobal + Eprint, W: Write>(
 {
     let to = match asked.profiles {
         Profiles::One(name) => PlayedTo::One(load_profile_file(rt, name)?),
+        Profiles::Folder(folder) if folder.is_empty() => return Err(ToolFault::NoName),
         Profiles::Folder(folder) => PlayedTo::Folder(folder),
     };
     let names = match &to {
