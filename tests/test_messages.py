@@ -136,8 +136,8 @@ def test_messages(tool, row, tmp_path):
     check_row(tool, row, tmp_path)
 
 
-def played(number):
-    """A profile, and a script that looks random with its events, by a number."""
+def played(number, count=40):
+    """A profile, and a script of so many messages that looks random with its events, by a number."""
     profile = random_scripts.profile_of(number % 16)
     setup, lines, events = play.setup_of(tomllib.loads(profile)), [], []
 
@@ -146,7 +146,7 @@ def played(number):
         events.append((len(lines), event))
 
     messages = random_scripts.Messages(setup, (29, 30), number, note)
-    for _ in range(40):
+    for _ in range(count):
         messages.message()
     return profile, setup, "".join(f"{it}\n" for it in lines), events
 
@@ -234,11 +234,12 @@ def test_messages_that_were_expanded(tool, tmp_path):
         assert told.output.decode() == text
 
 
-def test_messages_expanded_again(tool, tmp_path):
-    """10,000 messages that look random are gathered, and give their events again."""
+@pytest.mark.parametrize("part", range(8))
+def test_messages_expanded_again(tool, part, tmp_path, count_runs):
+    """10,000 runs that look random, of 1 to 7 messages, are gathered, and give their events again."""
     kinds = set()
-    for number in range(250):
-        profile, _, script, _ = played(number)
+    for number in range(1250 * part, 1250 * (part + 1)):
+        profile, _, script, _ = played(number, 1 + number % 7)
         write_files(tmp_path, {"profile": profile, "script": script})
         told = run(tool, "messages", "--format", "messages", "profile", "script", folder=tmp_path)
         assert (told.status, told.errors) == (0, b"")
@@ -246,6 +247,7 @@ def test_messages_expanded_again(tool, tmp_path):
         assert run(tool, "expand", "--for", "profile", "messages", folder=tmp_path).output.decode() == script
         kinds |= {it.split()[1] for it in told.output.decode().splitlines() if it[:1] in "AB"}
     assert kinds >= {"rx", "tx", "mode", "c", "d", "gap", "noise"}
+    count_runs(1250)
 
 
 def test_messages_to_a_closed_pipe(tool, tmp_path):
