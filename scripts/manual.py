@@ -158,7 +158,7 @@ def page_of(program):
             yield ".Pp"
             yield f".Fl Fl {option['name'][2:]}{value} :"
             values = f" ({', '.join(option['values'])})" if "values" in option else ""
-            yield escaped(f"{option['help']}{values}.")
+            yield from map(escaped, textwrap.wrap(f"{option['help']}{values}.", 78, break_on_hyphens=False))
     yield ".El"
     yield ".Pp"
     yield from paragraphs(program["after"])

@@ -27,7 +27,7 @@ OFTEN = {
     "gaps during a reply": 200, "commands taken for a status word": 70, "buses without a warning": 20,
     "mode code 4, own": 30, "mode code 4, broadcast": 4, "mode code 5, own": 45, "mode code 5, broadcast": 6,
     "selected shutdowns and overrides": 45, "replies that a shutdown keeps back": 60,
-    "mode code 8, own": 25, "mode code 8, broadcast": 6, "resets": 35,
+    "mode code 8, own": 25, "mode code 8, broadcast": 4, "resets": 35,
     "mode code 2, own": 250, "mode code 18, own": 50, "lines of a subsystem": 350, "noise": 45, "words of wrong parity": 60,
 }  # fmt: skip
 

@@ -72,7 +72,7 @@ RECORDINGS = with_files(
     Row("two recordings, by a script", "verify --any-subsystem --witness five flags reserved", 3, errors="arguments: --witness explains one script\n"),
     Row("a summary and a script", "verify --any-subsystem --witness --summary five flags", 3, errors="arguments: --witness excludes --summary and the formats but text\n"),
     Row("a date and a script", "verify --any-subsystem --witness --date 2026-11-28T12:00:00Z five flags", 3, errors="arguments: --witness excludes --profiles and --date\n"),
-    Row("a folder of profiles and a script", "verify --any-subsystem --witness --profiles . flags", 3, errors="arguments: --witness excludes --profiles and --date\n"),
+    Row("a folder of profiles and a script", "verify --any-subsystem --witness --profiles . flags", 3, errors="arguments: --witness explains one script\n"),
     Row("a report and a script", "verify --any-subsystem --witness --format json five flags", 3, errors="arguments: --witness excludes --summary and the formats but text\n"),
     Row("a unit that was on", "verify --any-subsystem --already-on five on", errors="on: judged after line 9\n"),
     Row("the same from power-up", "verify --any-subsystem five on", 1, "on:3: expected A s 2d04, came A s 2800\non: differences: 1\n"),

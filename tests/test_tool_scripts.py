@@ -67,7 +67,7 @@ EXPANDED = with_files(
         "B c 3008\nslot\n#> A s 2800\n\nA c 2c02\n"),
     Row("capital digits in messages", "expand capitals", 0, "A c 2862\nA d 00af\nA d ff00\nA gap\nslot\n", files={"capitals": "A rx 5 3 2: 00AF fF00\n"}),
     Row("a carriage return that ends a message", "expand returns", 2, files={"returns": "A tx 5 1 2\r\n"},
-        errors="returns: messages: line 1, column 11: a carriage return: a line ends in a line feed alone\n"),
+        errors="returns:1:11: error: a carriage return: a line ends in a line feed alone\n"),
     Row("messages that are not there", "expand none", 4, errors="file: cannot read none: no such file\n"),
     Row("messages that are verified, by the lines of their file", "verify --expand five check", 1,
         "check:4: expected A s 2c00, came A s 2800\ncheck:8: expected nothing, came A s 2800\ncheck: differences: 2\n"),
