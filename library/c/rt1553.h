@@ -5,27 +5,27 @@
    canonical text (docs/canonical-text.md).
 
    Statuses. A call that returns uint8_t returns RT1553_DONE, RT1553_DIFFER, RT1553_REFUSED,
-   RT1553_NO_MEMORY or RT1553_NO_ROOM. With RT1553_REFUSED and RT1553_NO_MEMORY *fault says why;
-   with the others it stays as it was.
+   RT1553_NO_MEMORY or RT1553_NO_ROOM. With RT1553_REFUSED and RT1553_NO_MEMORY *fault, if the call
+   has one, says why; with the others it stays as it was.
 
    Pointers. No pointer may be null, not even one with a length or a room of 0. A call reads and
    writes only what its pointers name, and keeps none of them. What it writes to may not overlap
    with anything else that it is given.
 
    Threads. There is no global state, so any number of threads may make calls at once. A terminal
-   takes one call at a time. It may be handed from thread to thread if the threads order that, by a
-   lock or a join.
+   or a bus takes one call at a time. It may be handed from thread to thread if the threads order
+   that, by a lock or a join.
 
-   Stack. A step needs up to 4 KiB. A call that copies, saves or restores a terminal needs up to
-   128 KiB, whatever the bytes. Each other call needs as much for a text whose tables nest as those
-   of a profile do, and up to 128 KiB more if memory runs out. A text whose tables nest deeper needs
-   more, even if it is refused: the texts of N bytes that were tried needed up to 180 N bytes and
-   256 KiB, and none of up to 1 MiB needed more than 4 MiB. If a thread has less, a signal ends the
-   process. So give a thread that reads texts of others 4 MiB, and refuse longer texts first. This
-   is measured and not proved (docs/library.md).
+   Stack. A step needs up to 4 KiB. A call that copies, saves or restores a terminal needs up to 128
+   KiB, whatever the bytes; a call for a bus too, but rt1553_bus_copy up to 512 KiB. Each other call
+   needs as much for a text whose tables nest as those of a profile do, and up to 128 KiB more if
+   memory runs out. A text whose tables nest deeper needs more, even if it is refused: the texts of
+   N bytes that were tried needed up to 180 N bytes and 256 KiB, and none of up to 1 MiB needed more
+   than 4 MiB. If a thread has less, a signal ends the process. So give a thread that reads texts of
+   others 4 MiB, and refuse longer texts first. This is measured and not proved (docs/library.md).
 
-   Memory comes from malloc and realloc, and goes back by free. Only a terminal outlives the call
-   that makes it. A step and rt1553_version take no memory. Calls that take memory may not be made
+   Memory comes from malloc and realloc, and goes back by free. Only a terminal or a bus outlives the
+   call that makes it. A step, rt1553_bus_join and rt1553_version take no memory. Calls that take memory may not be made
    in a signal handler, nor in the forked child of a process with threads.
 
    Proved, and what you owe. Each call does what its contract in crates/rt1553_c says, in a program
@@ -49,7 +49,7 @@ extern "C" {
 enum {
     RT1553_DONE = 0,      /* done; from rt1553_compare: the same terminal */
     RT1553_DIFFER = 1,    /* from rt1553_compare: not the same terminal */
-    RT1553_REFUSED = 2,   /* a text or a saved state is refused, or numbers mean no event */
+    RT1553_REFUSED = 2,   /* a text, a saved state or a terminal is refused, or numbers mean no event */
     RT1553_NO_MEMORY = 4, /* out of memory, which says nothing about the texts */
     RT1553_NO_ROOM = 5    /* what is to be written is longer than its room */
 };
@@ -301,6 +301,93 @@ static inline uint8_t rt1553_flag(rt1553_terminal *terminal, uint8_t flag, bool 
     return rt1553_play(terminal, event);
 }
 
+/* --- a bus of terminals ----------------------------------------------------------------------- */
+
+/* Instead of the address of a terminal: all terminals of a bus. And how many these are at most. */
+enum { RT1553_FOR_ALL = 255, RT1553_MOST_TERMINALS = 31 };
+
+/* What a terminal of a bus sent or handed over. */
+typedef struct {
+    uint8_t address;      /* the address of the terminal, 0 to 30 */
+    rt1553_answer answer; /* never RT1553_SILENT */
+} rt1553_bus_answer;
+
+/* A bus with up to 31 terminals of different addresses. After these fields comes memory that only
+   the library reads and writes. So only rt1553_bus_new and rt1553_bus_copy make a bus, and the
+   struct itself is never copied. A program writes to `event` and `to`, reads the other fields, and
+   touches nothing else. */
+typedef struct {
+    rt1553_event event;
+    uint8_t to;                                       /* RT1553_FOR_ALL: a word, noise or a gap on a bus, or a slot.
+                                                         The address of a terminal of the bus: an event for it alone,
+                                                         such as those of its subsystem */
+    uint8_t count;                                    /* how many terminals sent or handed over something */
+    bool collided_a;                                  /* whether two or more sent a word on bus A at once */
+    bool collided_b;                                  /* whether two or more did on bus B */
+    rt1553_bus_answer answers[RT1553_MOST_TERMINALS]; /* the first `count`: what they sent or handed over, in the
+                                                         order in which they joined */
+} rt1553_bus;
+
+/* Makes a bus without terminals, and writes its address to *bus. The caller owns it and frees it by
+   rt1553_bus_free. Its event is a word for all. RT1553_NO_MEMORY: *bus stays as it was. */
+uint8_t rt1553_bus_new(rt1553_bus **bus, rt1553_fault *fault);
+
+/* Puts a terminal on a bus, behind the others: RT1553_DONE. What joins is a copy, in the state in
+   which the terminal is; the terminal stays the caller's, and as it is. RT1553_REFUSED: a terminal
+   of the bus has its address, and nothing changes. So a bus never has more than 31. */
+uint8_t rt1553_bus_join(rt1553_bus *bus, const rt1553_terminal *terminal);
+
+/* Plays bus->event, and leaves in the other fields what comes of it: RT1553_DONE. If the numbers
+   mean nothing that can happen: RT1553_REFUSED, and nothing changes. A word, noise or a gap comes
+   to every terminal. In a slot each sends the next word of its reply; then each hears what the
+   others sent on a bus, unless it sent there itself: the word, or noise if two or more sent. */
+uint8_t rt1553_bus_step(rt1553_bus *bus);
+
+/* Frees a bus, which may not be used afterwards. Does nothing if it is null. */
+static inline void rt1553_bus_free(rt1553_bus *bus) { free(bus); }
+
+/* Makes a bus whose fields are the same and whose terminals answer every further event as those of
+   the other, and writes its address to *copy. The caller owns it and frees it by rt1553_bus_free.
+   RT1553_NO_MEMORY: *copy stays as it was. */
+uint8_t rt1553_bus_copy(const rt1553_bus *bus, rt1553_bus **copy, rt1553_fault *fault);
+
+/* Sets bus->to and bus->event, and plays it as rt1553_bus_step does. */
+static inline uint8_t rt1553_bus_play(rt1553_bus *bus, uint8_t to, rt1553_event event) {
+    bus->to = to;
+    bus->event = event;
+    return rt1553_bus_step(bus);
+}
+
+/* How many words of a message are kept: a transfer has two status words and 32 data words. */
+enum { RT1553_MOST_SENT = 66 };
+
+/* A word that terminals sent. */
+typedef struct {
+    uint8_t address; /* of the terminal that sent it; the first of them if words collided */
+    uint8_t what;    /* RT1553_SENDS_STATUS or RT1553_SENDS_DATA; RT1553_NOISE_SENT if words collided */
+    uint8_t bus;     /* RT1553_BUS_A or RT1553_BUS_B */
+    uint16_t bits;   /* the 16 bits of the word; 0 if words collided */
+} rt1553_sent;
+
+/* Instead of RT1553_SENDS_STATUS: two or more terminals sent at once, so all hear noise. */
+enum { RT1553_NOISE_SENT = 255 };
+
+/* What came of a message. */
+typedef struct {
+    size_t sent_count;                               /* how many words were sent */
+    size_t handed_count;                             /* how often something was handed over */
+    rt1553_sent sent[RT1553_MOST_SENT];              /* the first of these words, in order */
+    rt1553_bus_answer handed[RT1553_MOST_TERMINALS]; /* the first that was handed over, in order */
+} rt1553_message;
+
+/* Plays a whole message on a bus of terminals: the words of the controller, each an event of kind
+   RT1553_WORD or RT1553_NOISE on one bus, for all; then a gap there, slots until none sends
+   anything, and a gap; and slots and a gap again until in a slot none sends anything. So the reply
+   to a transfer is in it, and the time-out if there is none. RT1553_REFUSED: there is no word, or an
+   event has another kind or bus, or its numbers mean none; nothing changes. It is plain C that uses
+   rt1553_bus_step, so no contract speaks of it. */
+uint8_t rt1553_bus_message(rt1553_bus *bus, const rt1553_event *words, size_t count, rt1553_message *message);
+
 /* --- the layout that the library uses --------------------------------------------------------- */
 
 RT1553_ASSERT(sizeof(rt1553_versions) == 6);
@@ -310,6 +397,9 @@ RT1553_ASSERT(sizeof(bool) == 1 && sizeof(rt1553_answer) == 72 && offsetof(rt155
 RT1553_ASSERT(offsetof(rt1553_answer, broadcast) == 4 && offsetof(rt1553_answer, count) == 6);
 RT1553_ASSERT(offsetof(rt1553_answer, words) == 8);
 RT1553_ASSERT(offsetof(rt1553_terminal, answer) == 10);
+RT1553_ASSERT(sizeof(rt1553_bus_answer) == 74 && offsetof(rt1553_bus_answer, answer) == 2);
+RT1553_ASSERT(offsetof(rt1553_bus, to) == 10 && offsetof(rt1553_bus, collided_a) == 12);
+RT1553_ASSERT(offsetof(rt1553_bus, answers) == 14 && sizeof(rt1553_bus) == 2308);
 
 #undef RT1553_ASSERT
 #ifdef __cplusplus

@@ -107,6 +107,19 @@ inline std::uint8_t done(std::uint8_t status, const rt1553_fault &fault) {
     }
 }
 
+// what a call of rt1553.h makes of these arguments
+template <typename T, typename C, typename... As> T *made(C call, As... arguments) {
+    T *it = nullptr;
+    rt1553_fault fault;
+    done(call(arguments..., &it, &fault), fault);
+    return it;
+}
+
+struct frees {
+    void operator()(rt1553_terminal *terminal) const { rt1553_terminal_free(terminal); }
+    void operator()(rt1553_bus *bus) const { rt1553_bus_free(bus); }
+};
+
 } // namespace detail
 
 inline rt1553_versions version() {
@@ -214,22 +227,67 @@ class terminal {
         return answer_view(terminal_->answer);
     }
 
-    struct frees {
-        void operator()(rt1553_terminal *terminal) const { rt1553_terminal_free(terminal); }
-    };
-    using owner = std::unique_ptr<rt1553_terminal, frees>;
+    friend class terminal_bus;
+    using owner = std::unique_ptr<rt1553_terminal, detail::frees>;
 
     explicit terminal(owner made) : terminal_(std::move(made)) {}
 
-    // what a call of rt1553.h makes of these arguments
     template <typename C, typename... As> static owner made_by(C call, As... arguments) {
-        rt1553_terminal *made = nullptr;
-        rt1553_fault fault;
-        detail::done(call(arguments..., &made, &fault), fault);
-        return owner(made);
+        return owner(detail::made<rt1553_terminal>(call, arguments...));
     }
 
     owner terminal_;
+};
+
+// A bus with up to 31 terminals of different addresses, which are stepped together. One thread at a time
+// may use it. A copy answers every further event as the other does, and neither knows of the other. A bus
+// that was moved from may be assigned to, copied or destroyed, and nothing else.
+class terminal_bus {
+  public:
+    terminal_bus() : bus_(detail::made<rt1553_bus>(rt1553_bus_new)) {}
+    terminal_bus(const terminal_bus &other) : bus_(other.bus_ ? detail::made<rt1553_bus>(rt1553_bus_copy, other.bus_.get()) : nullptr) {}
+    terminal_bus(terminal_bus &&) noexcept = default;
+    // This bus stays as it was if there is no memory for the other.
+    terminal_bus &operator=(const terminal_bus &other) {
+        if (this != &other)
+            *this = terminal_bus(other);
+        return *this;
+    }
+    terminal_bus &operator=(terminal_bus &&) noexcept = default;
+    ~terminal_bus() = default;
+
+    // A copy of the terminal joins, in the state in which it is. Throws std::invalid_argument if a
+    // terminal of the bus has its address; then nothing changes.
+    void join(const terminal &it) {
+        if (rt1553_bus_join(bus_.get(), it.terminal_.get()) != RT1553_DONE)
+            throw std::invalid_argument("rt1553: a terminal of the bus has this address");
+    }
+
+    // Plays an event, for all or for the terminal with an address. Throws std::invalid_argument if this
+    // means nothing that can happen; then nothing changes.
+    void play(const rt1553_event &event, std::uint8_t to = RT1553_FOR_ALL) { played(rt1553_bus_play(bus_.get(), to, event)); }
+
+    // How many terminals sent or handed over something, and each: its address, and what. Read an answer
+    // before the next event.
+    std::size_t size() const { return bus_->count; }
+    std::uint8_t address(std::size_t at) const { return bus_->answers[at].address; }
+    answer_view answer(std::size_t at) const { return answer_view(bus_->answers[at].answer); }
+    bool collided(bus on) const { return on == bus::a ? bus_->collided_a : bus_->collided_b; }
+
+    // Plays a whole message, as rt1553_bus_message does. Throws std::invalid_argument if that refuses an event.
+    rt1553_message message(const rt1553_event *words, std::size_t count) {
+        rt1553_message came;
+        played(rt1553_bus_message(bus_.get(), words, count, &came));
+        return came;
+    }
+
+  private:
+    static void played(std::uint8_t status) {
+        if (status != RT1553_DONE)
+            throw std::invalid_argument("rt1553: no such event");
+    }
+
+    std::unique_ptr<rt1553_bus, detail::frees> bus_;
 };
 
 } // namespace rt1553

@@ -1,7 +1,8 @@
-// Copies and saved states of terminals by rt1553.hpp. The last line is 'N passed, M failed'.
+// Copies and saved states of terminals, and buses of terminals, by rt1553.hpp. The last line is 'N passed, M failed'.
 #include "rt1553.hpp"
 
 #include <cstdio>
+#include <stdexcept>
 #include <type_traits>
 #include <utility>
 #include <vector>
@@ -101,12 +102,60 @@ void states() {
     row("nothing was assigned", sent(restored).empty());
 }
 
+// the words that the terminals of a bus send up to the first slot in which they send nothing
+std::vector<std::uint16_t> sent(rt1553::terminal_bus &bus) {
+    std::vector<std::uint16_t> words;
+    for (bus.play(rt1553_event_of(RT1553_SLOT)); bus.size() > 0; bus.play(rt1553_event_of(RT1553_SLOT)))
+        words.push_back(bus.address(0) == 5 ? bus.answer(0).bits() : 0xffff);
+    return words;
+}
+
+template <typename F> bool is_invalid(F call) {
+    try {
+        call();
+    } catch (const std::invalid_argument &) {
+        return true;
+    }
+    return false;
+}
+
+void buses() {
+    rt1553::terminal five = replying();
+    rt1553::terminal_bus bus;
+    bus.join(five);
+    bus.join(rt1553::terminal("address = 6"));
+    row("an address that is taken", is_invalid([&] { bus.join(five); }));
+    rt1553::terminal_bus copy = bus, other;
+    rt1553_event write = rt1553_event_of(RT1553_WRITE);
+    write.subaddress = 3;
+    write.number = 2;
+    write.bits = 0xcc;
+    copy.play(write, 5);
+    other = copy;
+    row("a copy of a bus goes its own way", sent(copy) == another && sent(bus) == written && sent(five) == written);
+    row("so does what was assigned", sent(other) == another);
+    row("no event for all", is_invalid([&] { bus.play(write); }));
+    row("no terminal 7", is_invalid([&] { bus.play(write, 7); }));
+    rt1553_event words[] = {rt1553_event_of(RT1553_WORD), rt1553_event_of(RT1553_SLOT)};
+    words[0].parity = RT1553_RIGHT_PARITY;
+    words[0].bits = 0x3402;
+    rt1553_message came = bus.message(words, 1);
+    row("a message", came.sent_count == 1 && came.sent[0].address == 6 && came.sent[0].bits == 0x3000 && came.handed_count == 0);
+    row("a slot in a message", is_invalid([&] { bus.message(words, 2); }));
+    row("no collision", !bus.collided(rt1553::bus::a) && !bus.collided(rt1553::bus::b));
+    rt1553::terminal_bus moved = std::move(bus), empty = bus;
+    row("a bus that was moved", moved.message(words, 1).sent_count == 1);
+    bus = moved;
+    row("is assigned to", bus.message(words, 1).sent_count == 1);
+}
+
 } // namespace
 
 int main() {
     copies();
     moved();
     states();
+    buses();
     std::printf("%d passed, %d failed\n", passed, failed);
     return failed > 0;
 }

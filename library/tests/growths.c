@@ -109,6 +109,41 @@ static void restore(answer *to) {
     made_is(to, made);
 }
 
+/* what a call made of a bus: what the terminal sends that is on it or joins it, without memory */
+static void bus_is(answer *to, rt1553_bus *made) {
+    if (to->status == RT1553_DONE) {
+        long before = seen;
+        rt1553_event word = rt1553_event_of(RT1553_WORD);
+        word.parity = RT1553_RIGHT_PARITY;
+        word.bits = 0x2c02;
+        static rt1553_message came;
+        rt1553_bus_join(made, saved);
+        rt1553_bus_message(made, &word, 1, &came);
+        to->length = sizeof came.sent->bits;
+        memcpy(to->bytes, &came.sent->bits, to->length);
+        if (seen != before)
+            to->status = 99;
+        rt1553_bus_free(made);
+    } else if (made) {
+        to->status = 98;
+    }
+}
+
+static void bus(answer *to) {
+    rt1553_bus *made = NULL;
+    to->status = rt1553_bus_new(&made, &to->fault);
+    bus_is(to, made);
+}
+
+/* the bus that is copied */
+static rt1553_bus *full;
+
+static void bus_copy(answer *to) {
+    rt1553_bus *made = NULL;
+    to->status = rt1553_bus_copy(full, &made, &to->fault);
+    bus_is(to, made);
+}
+
 static int is_same(const answer *one, const answer *other) {
     return one->status == other->status && one->length == other->length && memcmp(one->bytes, other->bytes, one->length) == 0;
 }
@@ -145,15 +180,17 @@ int main(void) {
         const char *name;
         void (*call)(answer *);
     } calls[] = {{"check", check}, {"canonical", canonical}, {"compare", compare}, {"run", run}, {"terminal", terminal},
-                 {"copy", copy},   {"save", save},           {"restore", restore}};
+                 {"copy", copy},   {"save", save},           {"restore", restore}, {"bus", bus}, {"copy of a bus", bus_copy}};
     int passed = 0, all = sizeof calls / sizeof *calls;
     rt1553_fault fault;
     if (rt1553_terminal_new(TEXT(PROFILE), &saved, &fault) != RT1553_DONE
-        || rt1553_terminal_save(saved, state, sizeof state, &state_length, &fault) != RT1553_DONE)
+        || rt1553_terminal_save(saved, state, sizeof state, &state_length, &fault) != RT1553_DONE
+        || rt1553_bus_new(&full, &fault) != RT1553_DONE || rt1553_bus_join(full, saved) != RT1553_DONE)
         return 1;
     for (int i = 0; i < all; i++)
         passed += swept(calls[i].name, calls[i].call);
     rt1553_terminal_free(saved);
+    rt1553_bus_free(full);
     printf("%d passed, %d failed\n", passed, all - passed);
     return passed != all;
 }

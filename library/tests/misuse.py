@@ -20,7 +20,7 @@ import rt1553
 from rt1553 import bus
 from rt1553 import (
     Bit, Bus, BusControl, Fault, FaultKind, Flag, FlagName, Gap, NoEvent, NoMemory, Noise, NoRoom, Received, Refused, SelfTest, Sent, Slot,
-    Sync, Synchronize, Terminal, Vector, Word, Write, packed, read_event,
+    Sync, Synchronize, Terminal, TerminalBus, Vector, Word, Write, packed, read_event,
 )  # fmt: skip
 
 PROFILE = "address = 5\n"
@@ -349,7 +349,7 @@ def called():
     """Each public name without words, with far too many and with an odd one; and the annotations of what is called."""
     for name in rt1553.__all__:
         thing = getattr(rt1553, name)
-        if name not in ("Slot", "SelfTest", "BusControl", "Synchronize", "version"):
+        if name not in ("Slot", "SelfTest", "BusControl", "Synchronize", "TerminalBus", "version"):
             yield f"{name}()", Raises(TypeError), thing
         if name not in ("Bus", "Sync", "FlagName", "FaultKind"):
             yield f"{name} of 40 words", Raises(TypeError), thing, *[None] * 40
@@ -726,12 +726,103 @@ def threads():
     yield "and still answers", True, asked, terminal
 
 
+# --- buses of terminals
+
+
+class UnmadeBus(TerminalBus):
+    """A bus whose __init__ doesn't call that of TerminalBus."""
+
+    def __init__(self):
+        self.mine = 5
+
+
+def deleted_bus():
+    it = TerminalBus([Terminal(PROFILE)])
+    it.__del__()
+    return it
+
+
+def bus_asked(it):
+    """Whether terminal 5 of a bus answers, by a message and by steps."""
+    steps = [it.step(event) for event in ASK]
+    return it.message(ASK[:1]) == rt1553.Message(((5, STATUS),), ()) and steps == [[], [], [(5, STATUS)]]
+
+
+def bus_again(*rows):
+    """A bus that is made of one row of terminals after another, refused or not."""
+    it = TerminalBus([Terminal(PROFILE)])
+    for row in rows:
+        ended(it.__init__, (row,))
+    return it
+
+
+def own_of_bus(through):
+    it = TerminalBus([Terminal(PROFILE)])
+    it.mine = [5]
+    other = through(it)
+    other.mine.append(6)
+    return it.mine, bus_asked(it) and bus_asked(other)
+
+
+def buses():
+    methods = {"step": [Slot()], "join": [Terminal("address = 6")], "message": [ASK[:1]]}
+    taken = Raises(ValueError, "has address 5")
+    makes = {"not made": lambda: TerminalBus.__new__(TerminalBus), "a subclass": UnmadeBus, "deleted": deleted_bus}
+    for name, make in makes.items():
+        for method, arguments in methods.items():
+            yield f"{name}, {method}", NOT_MADE, getattr(make(), method), *arguments
+        yield f"{name}, copied", NOT_MADE, copy.copy, make()
+        yield f"{name}, deleted", None, make().__del__
+    for method, arguments in methods.items():
+        yield f"{method} of None", Raises(AttributeError), getattr(TerminalBus, method), None, *arguments
+        yield f"{method}, too few words", Raises(TypeError), getattr(TerminalBus(), method)
+        for value in NO_TEXT:
+            if value != {} and not (method == "step" and isinstance(value, Slot)):
+                yield f"{method} of {value!r}", Raises(TypeError), getattr(TerminalBus(), method), value
+    for value in [None, 5, 5.0, object(), [None], [5], "x", b"x", [TerminalBus()], [Terminal]]:
+        yield f"of {value!r}", Raises(TypeError), TerminalBus, value
+    yield "of a terminal that is not made", NOT_MADE, TerminalBus, [Terminal.__new__(Terminal)]
+    yield "of a terminal that was deleted", NOT_MADE, TerminalBus().join, deleted()
+    yield "of two of an address", taken, TerminalBus, [Terminal(PROFILE)] * 2
+    yield "of 31, and one more", taken, TerminalBus([Terminal(f"address = {k}") for k in range(31)]).join, Terminal(PROFILE)
+    for row in ([], [None], None, [Terminal(PROFILE), Terminal(PROFILE)], [Terminal("address = 6"), 5], [Terminal(PROFILE)]):
+        yield f"made again of {row!r:.20}", row != [], lambda row=row: bus_answers(bus_again(row))
+    for value in NO_NUMBER:
+        yield f"to {value!r}", WANTED, TerminalBus([Terminal(PROFILE)]).step, Slot(), value
+    for value in (-1, 31, 255, 1 << 70):
+        yield f"to {value}", Raises(ValueError, "0 to 30"), TerminalBus([Terminal(PROFILE)]).step, Slot(), value
+    it = TerminalBus([Terminal(PROFILE)])
+    for event, to in ((Vector(1), None), (Slot(), 6), (Gap(2), None), (Write(31, 1, 1), 5), (Word(0, 0, 1 << 16), None)):
+        yield f"{event!r} to {to}", Raises(ValueError, "no event"), it.step, event, to
+    for words in ([], [ASK[0], Noise(Bus.B)], [Word(0, 0, -1)], [Noise(2)]):
+        yield f"the words {words!r}", Raises(ValueError), it.message, words
+    for words in ([Slot()], [Gap(Bus.A)], [None], [5], "A c 2c02"):
+        yield f"the words {words!r}", WANTED, it.message, words
+    yield "and still answers", True, bus_asked, it
+    yield "pickled", Raises(TypeError, "no saved state"), pickle.dumps, it
+    yield "copied", ([5, 6], True), own_of_bus, copy.copy
+    yield "deeply copied", ([5], True), own_of_bus, copy.deepcopy
+    terminal = Terminal(PROFILE)
+    terminal.play(ASK[:2])
+    it = TerminalBus([terminal])
+    yield "a terminal that joined goes its own way", (STATUS, [(5, STATUS)]), lambda: (terminal.step(Slot()), it.step(Slot()))
+    yield "on threads", [True] * 8, on_threads, 8, lambda: [it.message(ASK[:1]).sent for _ in range(300)] == [((5, STATUS),)] * 300
+    yield "made and dropped", 0, grown, lambda: TerminalBus([terminal])
+    yield "copied often", 0, grown, lambda: copy.copy(it)
+    yield "refused often", 0, grown, lambda: ended(it.join, (terminal,))
+
+
+def bus_answers(it):
+    """Whether terminal 5 of a bus answers by its status."""
+    return it.message(ASK[:1]).sent == ((5, STATUS),)
+
+
 def main():
     passed = failed = 0
     # a crash tells where it was, and so does a call that doesn't end
     faulthandler.enable()
     faulthandler.dump_traceback_later(900, exit=True)
-    for part in (workers, texts, rooms, lives, events, read, values, called, saved, pickles, rows, scripts, threads, leaks):
+    for part in (workers, texts, rooms, lives, events, read, values, called, saved, pickles, rows, scripts, threads, leaks, buses):
         for name, wanted, call, *arguments in part():
             found = ended(call, arguments)
             if type(found) is type(wanted) and found == wanted or isinstance(wanted, Raises) and wanted == found:

@@ -10,8 +10,8 @@
 
 enum { STACK = 8 << 20, PAINT = 0xa5, DEPTH = 80, LONGEST = 1 << 20 };
 
-/* The bounds: of a step, of ordinary texts, of any text of up to 1 MiB, and of a text by its length. */
-enum { OF_STEP = 4 << 10, OF_ORDINARY = 128 << 10, OF_ANY = 4 << 20, OF_BYTE = 180, OF_CALL = 256 << 10 };
+/* The bounds: of a step, of ordinary texts, of a copy of a bus, of any text of up to 1 MiB, and of a text by its length. */
+enum { OF_STEP = 4 << 10, OF_ORDINARY = 128 << 10, OF_COPY = 512 << 10, OF_ANY = 4 << 20, OF_BYTE = 180, OF_CALL = 256 << 10 };
 
 static int passed, failed;
 
@@ -30,6 +30,7 @@ static uint8_t room[RT1553_STATE_ROOM];
 static size_t written;
 static rt1553_fault fault;
 static rt1553_terminal *terminal;
+static rt1553_bus *bus;
 
 #define TEXT (const uint8_t *)text, length
 
@@ -87,6 +88,37 @@ static uint8_t restore(void) {
 static uint8_t refused_state(void) {
     rt1553_terminal *restored = NULL;
     return rt1553_terminal_restore(room, written - 1, &restored, &fault) == RT1553_REFUSED ? RT1553_DONE : RT1553_REFUSED;
+}
+
+static uint8_t bus_new(void) { return rt1553_bus_new(&bus, &fault); }
+
+static uint8_t bus_join(void) { return rt1553_bus_join(bus, terminal); }
+
+/* a message of each kind, each with 32 words, and events of the subsystem */
+static uint8_t bus_steps(void) {
+    static rt1553_event words[33];
+    static rt1553_message came;
+    for (int command = 0; command < 1 << 11; command++) {
+        for (int word = 0; word < 33; word++) {
+            words[word] = rt1553_event_of(RT1553_WORD);
+            words[word].parity = RT1553_RIGHT_PARITY;
+            words[word].sync = word > 0;
+            words[word].bits = (uint16_t)(5 << 11 | command);
+        }
+        if (rt1553_bus_message(bus, words, command >> 10 ? 1 : 33, &came) != RT1553_DONE)
+            return RT1553_REFUSED;
+        rt1553_event event = rt1553_event_of(RT1553_VECTOR);
+        if (rt1553_bus_play(bus, 5, event) != RT1553_DONE)
+            return RT1553_REFUSED;
+    }
+    return RT1553_DONE;
+}
+
+static uint8_t bus_copy(void) {
+    rt1553_bus *copied = NULL;
+    uint8_t status = rt1553_bus_copy(bus, &copied, &fault);
+    rt1553_bus_free(copied);
+    return status;
 }
 
 static struct {
@@ -268,13 +300,18 @@ static void of_terminals(void) {
                 {"rt1553_terminal_copy", copy, OF_ORDINARY},
                 {"rt1553_terminal_save", save, OF_ORDINARY},
                 {"rt1553_terminal_restore", restore, OF_ORDINARY},
-                {"rt1553_terminal_restore, refused", refused_state, OF_ORDINARY}};
+                {"rt1553_terminal_restore, refused", refused_state, OF_ORDINARY},
+                {"rt1553_bus_new", bus_new, OF_ORDINARY},
+                {"rt1553_bus_join", bus_join, OF_ORDINARY},
+                {"rt1553_bus_step", bus_steps, OF_STEP},
+                {"rt1553_bus_copy", bus_copy, OF_COPY}};
     for (size_t i = 0; i < sizeof rows / sizeof *rows; i++) {
         size_t took = taken(rows[i].call);
         row(rows[i].name, "a terminal", status == RT1553_DONE && took <= rows[i].most);
         printf("%s: %zu bytes\n", rows[i].name, took);
     }
     rt1553_terminal_free(terminal);
+    rt1553_bus_free(bus);
 }
 
 int main(void) {

@@ -1,5 +1,5 @@
 -- What a call tells with its status.
-use Rattle.std.specs.Prelude.{◌≡◌, ◌≢◌, ◌<◌, ◌⊎◌, ℕ, zero, suc, List, [], Some, Option, Result, Ok, Err, length}
+use Rattle.std.specs.Prelude.{◌≡◌, ◌≢◌, ◌<◌, ◌⊎◌, ℕ, zero, suc, List, [], Some, None, Option, Result, Ok, Err, length}
 use base.Fml.{Fml, ftrue}
 use Rattle.bus_legal.specs.Description.{Description}
 use Rattle.bus_script.specs.declared.fault.RunFault.{RunFault}
@@ -20,6 +20,11 @@ use Rattle.rt1553_live.specs.PlainFault.{TellsFault}
 use Rattle.rt1553_live.specs.Restored.{IsNotRestored, TellsRestoreFault, restore_status}
 use Rattle.rt1553_live.specs.declared.live.RestoreFault.{RestoreFault}
 use Rattle.rt1553_live.specs.declared.fault.PlainFault.{PlainFault}
+use Rattle.terminal_bus.specs.declared.bus.NotAdded.{NotAdded}
+use Rattle.terminal_bus.specs.Members.{Member}
+use Rattle.terminal_bus.specs.AtMembers.{not_added}
+use Rattle.live_bus.specs.declared.front.LiveBus.{LiveBus}
+use Rattle.live_bus.specs.LiveBus.{StandsAtMembers, Joins}
 
 -- A fault for which this holds is told by its numbers and its line, with the status of the program `rt1553` for it: 2
 -- where a text is refused, 4 where memory runs out.
@@ -81,6 +86,16 @@ pub record IsStopped (profile script transcript : List ℕ) (to : PlainFault) (s
 -- a terminal at power-up, of which nothing was asked yet, of a description of this text
 abbrev pub IsNewOf : List ℕ → Live → Type 0
 IsNewOf text w = (P : Description) × Of text P × IsNew P w
+
+-- What a terminal does that is put on a bus with these members: 0, and it joins them; or 2, it is refused for this reason, and
+-- nothing changed.
+abbrev pub JoinsBy : List Member → Option NotAdded → Live → LiveBus → ℕ → LiveBus → Type 0
+JoinsBy members None it x status w = (status ≡ 0) × Joins members it x w
+JoinsBy members (Some _) it x status w = (status ≡ 2) × (w ≡ x)
+
+-- so at whatever members the bus stood
+abbrev pub JoinsAtAll : Live → LiveBus → ℕ → LiveBus → Type 0
+JoinsAtAll it x status w = (members : List Member) → StandsAtMembers members x → JoinsBy members (not_added members it.terminal.legality.address) it x status w
 
 -- what is owned where the status is 0: done
 abbrev pub when_done : ℕ → Fml → Fml

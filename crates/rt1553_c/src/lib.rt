@@ -22,6 +22,7 @@ ghost use Rattle.rt1553_live.specs.Live.{Steps, IsCopy, IsRestored};
 ghost use Rattle.script_lines.specs.EventLine.{script_text};
 ghost use Rattle.rt1553_c.specs.Told.{IsTold, IsNotWritten, IsTooLong, RunsThrough, IsStopped, IsPlayed, IsNoMemory, IsLongState, IsNotRestoredFor, IsNewOf, when_done, when_ok};
 
+mod bus;
 mod memory;
 
 use memory::{TextSource, TranscriptSink};

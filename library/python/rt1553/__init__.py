@@ -51,9 +51,9 @@ from dataclasses import dataclass
 from typing import Any, Callable, Optional, TypeVar, Union, cast
 
 __all__ = [
-    "Answer", "Bit", "Bus", "BusControl", "Event", "Fault", "FaultKind", "Flag", "FlagName", "Gap", "NoEvent", "NoMemory", "NoRoom",
-    "Noise",
-    "Received", "Refused", "SelfTest", "Sent", "Slot", "Sync", "Synchronize", "Terminal", "Vector", "Word", "Write",
+    "Answer", "Bit", "Bus", "BusControl", "Event", "Fault", "FaultKind", "Flag", "FlagName", "Gap", "Message", "NoEvent", "NoMemory",
+    "NoRoom", "Noise",
+    "Received", "Refused", "SelfTest", "Sent", "Slot", "Sync", "Synchronize", "Terminal", "TerminalBus", "Vector", "Word", "Write",
     "canonical", "check", "compare", "packed", "read_event", "run", "version",
 ]  # fmt: skip
 
@@ -425,6 +425,11 @@ _copy = _call("terminal_copy", ctypes.c_uint8, _at, ctypes.POINTER(_at), _at)
 _save = _call("terminal_save", ctypes.c_uint8, _at, _at, _size, _sized, _at)
 _restore = _call("terminal_restore", ctypes.c_uint8, _bytes, _size, ctypes.POINTER(_at), _at)
 _play = _call("terminal_play", _size, _at, _at, _size, _at, _at, _size, _at)
+_bus_new = _call("bus_new", ctypes.c_uint8, ctypes.POINTER(_at), _at)
+_bus_join = _call("bus_join", ctypes.c_uint8, _at, _at)
+_bus_step = _call("bus_step", ctypes.c_uint8, _at)
+_bus_copy = _call("bus_copy", ctypes.c_uint8, _at, ctypes.POINTER(_at), _at)
+_bus_message = _call("bus_message", ctypes.c_uint8, _at, _at, _size, _at)
 _free = ctypes.CDLL(None).free
 _free.argtypes, _free.restype = [_at], None
 
@@ -681,7 +686,7 @@ def _answer_at(front: ctypes.Array[ctypes.c_char], at: int) -> Optional[Answer]:
 
 
 class _Memory:
-    """The memory of a terminal. It is freed when nothing refers to it any more, so never during a call on it."""
+    """The memory of a terminal or of a bus. It is freed when nothing refers to it any more, so never during a call on it."""
 
     at: Any = None
 
@@ -890,3 +895,158 @@ class Terminal:
                 if played < count and filled.value < room:
                     raise NoEvent(f"no event: number {played}", answers)
         return answers
+
+
+# --- a bus of terminals
+
+# the places of rt1553_bus and rt1553_message in rt1553.h: an answer with its address, answers behind the front, words that are sent
+_BUS_ANSWER, _BUS_FRONT, _MOST_TERMINALS, _FOR_ALL = 2 + _ANSWER.size, 14, 31, 255
+_SENT, _MOST_SENT, _SENDS_DATA = struct.Struct("=BBBxH"), 66, 2
+_Front = ctypes.c_char * (_BUS_FRONT + _MOST_TERMINALS * _BUS_ANSWER)
+_HANDED = 16 + _MOST_SENT * _SENT.size
+# the whole of rt1553_message is a multiple of 8 bytes
+_Came = ctypes.c_char * (-(-(_HANDED + _MOST_TERMINALS * _BUS_ANSWER) // 8) * 8)
+
+
+@dataclass(frozen=True)
+class Message:
+    """What comes of a message: the words that terminals send and what they hand over, in order, each with the address of its
+    terminal. In place of words that collide there is a `Noise`, with the address of the first terminal that sends one."""
+
+    sent: tuple[tuple[int, Union[Sent, Noise]], ...]
+    handed: tuple[tuple[int, Answer], ...]
+
+
+def _answers_at(front: ctypes.Array[ctypes.c_char], at: int, count: int) -> list[tuple[int, Answer]]:
+    """So many answers from this place on, with the addresses of their terminals."""
+    places = range(at, at + count * _BUS_ANSWER, _BUS_ANSWER)
+    return [(front[place][0], cast("Answer", _answer_at(front, place + 2))) for place in places]
+
+
+_B = TypeVar("_B", bound="TerminalBus")
+
+
+class TerminalBus:
+    """Up to 31 terminals with different addresses, which hear each other and are stepped together, in one call for each event or
+    message. If several threads use it, their calls come one after the other.
+
+    What joins is a copy of a terminal, in its state: from then on the two go their own ways. `copy.copy` and `copy.deepcopy` make
+    a bus whose terminals answer every further event as these do. It has no saved state, so it is not pickled.
+
+    >>> bus = TerminalBus([Terminal("address = 5"), Terminal("address = 6")])
+    >>> bus.step(Word(Bus.A, Sync.COMMAND, 0x2C02))
+    []
+    >>> bus.step(Gap(Bus.A))
+    []
+    >>> bus.step(Slot())
+    [(5, Sent(bus=<Bus.A: 0>, sync=<Sync.COMMAND: 0>, bits=10240))]
+    """
+
+    __memory: Optional[_Memory] = None
+
+    def __init__(self, terminals: Iterable[Terminal] = ()) -> None:
+        # a second call makes it anew; if a terminal is refused, it stays as it was
+        memory = _Memory(_bus_new)
+        for terminal in terminals:
+            self.__joined(memory, terminal)
+        self.__memory = memory
+
+    def __del__(self) -> None:
+        self.__memory = None
+
+    def __made(self) -> _Memory:
+        """Its memory. RuntimeError if it has none."""
+        memory = self.__memory
+        if memory is None:
+            raise RuntimeError("this bus was not made by `TerminalBus.__init__`, or it was deleted")
+        return memory
+
+    def __copy__(self: _B) -> _B:
+        memory, bus = self.__made(), type(self).__new__(type(self))
+        with memory.lock:
+            bus.__memory = _Memory(_bus_copy, memory.at)
+        vars(bus).update({name: value for name, value in vars(self).items() if value is not memory})
+        return bus
+
+    def __deepcopy__(self: _B, memo: dict[int, Any]) -> _B:
+        bus = memo[id(self)] = self.__copy__()
+        own = {name: value for name, value in vars(bus).items() if value is not bus.__memory}
+        vars(bus).update(copy.deepcopy(own, memo))
+        return bus
+
+    def __reduce__(self) -> tuple[Any, ...]:
+        raise TypeError("a bus has no saved state; save its terminals before they join it")
+
+    def join(self, terminal: Terminal) -> None:
+        """Puts a copy of a terminal on the bus, behind the others. ValueError if a terminal of the bus has its address.
+
+        >>> bus = TerminalBus([Terminal("address = 5")])
+        >>> bus.join(Terminal("address = 5"))
+        Traceback (most recent call last):
+          ...
+        ValueError: a terminal of the bus has address 5
+        """
+        self.__joined(self.__made(), terminal)
+
+    @staticmethod
+    def __joined(memory: _Memory, terminal: Terminal) -> None:
+        if not isinstance(terminal, Terminal):
+            raise TypeError(f"a Terminal is wanted, not {_kind(terminal)}")
+        other = terminal._Terminal__made()  # type: ignore[attr-defined]
+        with memory.lock, other.lock:
+            status = _bus_join(memory.at, other.at)
+        if status:
+            raise ValueError(f"a terminal of the bus has address {terminal.address}")
+
+    def step(self, event: Event, to: Optional[int] = None) -> list[tuple[int, Answer]]:
+        """Plays an event and returns what terminals send and hand over, in the order in which they joined, each with the address of
+        its terminal. Words on the same bus collide: all others hear noise. A word, noise, a gap and a slot come to all terminals;
+        `to` is the address of a terminal, 0 to 30, to which an event comes alone, such as those of its subsystem. ValueError if
+        this means nothing that can happen; then nothing changes.
+
+        >>> bus = TerminalBus([Terminal("address = 5")])
+        >>> bus.step(Flag(FlagName.BUSY, True), to=5)
+        []
+        >>> bus.step(Flag(FlagName.BUSY, True))
+        Traceback (most recent call last):
+          ...
+        ValueError: no event for all terminals: Flag(flag=<FlagName.BUSY: 1>, value=True)
+        """
+        memory, data, address = self.__made(), packed(event), _FOR_ALL
+        if to is not None:
+            if not hasattr(type(to), "__index__"):
+                raise TypeError(f"to: None or a number from 0 to 30 is wanted, not {_kind(to)}")
+            address = operator.index(to)
+            if not 0 <= address <= 30:
+                raise ValueError("to is not from 0 to 30")
+        with memory.lock:
+            ctypes.memmove(memory.at, data + bytes([address]), _EVENT.size + 1)
+            front = _Front.from_address(memory.at.value)
+            if not _bus_step(memory.at):
+                return _answers_at(front, _BUS_FRONT, front[_EVENT.size + 1][0])
+        raise ValueError(f"no event for {'all terminals' if to is None else f'terminal {address}'}: {event!r}")
+
+    def message(self, words: Iterable[Union[Word, Noise]]) -> Message:
+        """Plays a whole message: the words of a controller, on one bus; a gap; and slots and gaps until no terminal sends anything, so
+        that the reply to a transfer is in it, and the time-out if there is none. ValueError if there is no word, or they are not
+        on one bus; then nothing is played.
+
+        >>> bus = TerminalBus([Terminal("address = 5")])
+        >>> bus.message([Word(Bus.A, Sync.COMMAND, 0x2C02)])
+        Message(sent=((5, Sent(bus=<Bus.A: 0>, sync=<Sync.COMMAND: 0>, bits=10240)),), handed=())
+        """
+        memory, row, came = self.__made(), list(words), _Came()
+        for word in row:
+            if not isinstance(word, (Word, Noise)):
+                raise TypeError(f"a Word or a Noise is wanted, not {_kind(word)}")
+        data = b"".join(map(packed, row))
+        if len({word.bus for word in row}) != 1:
+            raise ValueError("words: 1 or more words on one bus are wanted")
+        with memory.lock:
+            _bus_message(memory.at, data, len(row), came)
+        sent_count, handed_count = struct.unpack_from("=QQ", came)
+        sent: list[tuple[int, Union[Sent, Noise]]] = []
+        for place in range(min(sent_count, _MOST_SENT)):
+            address, what, bus, bits = _SENT.unpack_from(came, 16 + place * _SENT.size)
+            sent.append((address, Noise(_BUSES[bus]) if what > _SENDS_DATA else Sent(_BUSES[bus], _SYNCS[what - 1], bits)))
+        return Message(tuple(sent), tuple(_answers_at(came, _HANDED, min(handed_count, _MOST_TERMINALS))))

@@ -85,6 +85,47 @@ pub struct rt1553_terminal {
     pub answer: rt1553_answer,
 }
 
+pub const RT1553_FOR_ALL: u8 = 255;
+pub const RT1553_MOST_TERMINALS: usize = 31;
+pub const RT1553_MOST_SENT: usize = 66;
+pub const RT1553_NOISE_SENT: u8 = 255;
+
+#[repr(C)]
+#[derive(Clone, Copy, Debug, Default, PartialEq, Eq)]
+pub struct rt1553_bus_answer {
+    pub address: u8,
+    pub answer: rt1553_answer,
+}
+
+#[repr(C)]
+pub struct rt1553_bus {
+    pub event: rt1553_event,
+    pub to: u8,
+    pub count: u8,
+    pub collided_a: bool,
+    pub collided_b: bool,
+    pub answers: [rt1553_bus_answer; RT1553_MOST_TERMINALS],
+}
+
+#[repr(C)]
+#[derive(Clone, Copy, Debug, Default, PartialEq, Eq)]
+pub struct rt1553_sent {
+    pub address: u8,
+    pub what: u8,
+    pub bus: u8,
+    pub bits: u16,
+}
+
+#[repr(C)]
+#[derive(Clone)]
+pub struct rt1553_message {
+    pub sent_count: usize,
+    pub handed_count: usize,
+    pub sent: [rt1553_sent; RT1553_MOST_SENT],
+    pub handed: [rt1553_bus_answer; RT1553_MOST_TERMINALS],
+}
+
+const _: () = assert!(size_of::<rt1553_bus>() == 2308 && size_of::<rt1553_sent>() == 6);
 const _: () = assert!(size_of::<rt1553_event>() == 10 && size_of::<rt1553_answer>() == 72 && size_of::<rt1553_fault>() == 152);
 
 extern "C" {
@@ -152,7 +193,26 @@ extern "C" {
         room: usize,
         answered: *mut usize,
     ) -> usize;
+    pub fn rt1553_bus_new(bus: *mut *mut rt1553_bus, fault: *mut rt1553_fault) -> u8;
+    pub fn rt1553_bus_join(bus: *mut rt1553_bus, terminal: *const rt1553_terminal) -> u8;
+    pub fn rt1553_bus_step(bus: *mut rt1553_bus) -> u8;
+    pub fn rt1553_bus_copy(bus: *const rt1553_bus, copy: *mut *mut rt1553_bus, fault: *mut rt1553_fault) -> u8;
+    pub fn rt1553_bus_message(
+        bus: *mut rt1553_bus,
+        words: *const rt1553_event,
+        count: usize,
+        message: *mut rt1553_message,
+    ) -> u8;
     fn free(block: *mut core::ffi::c_void);
+}
+
+/// Frees the memory of a bus.
+///
+/// # Safety
+///
+/// The bus was made by `rt1553_bus_new` or `rt1553_bus_copy`, and is not used again.
+pub unsafe fn rt1553_bus_free(bus: *mut rt1553_bus) {
+    free(bus.cast());
 }
 
 /// Frees the memory of a terminal.

@@ -39,6 +39,8 @@ pub enum Fault {
     NoRoom,
     /// The numbers mean no event.
     NoEvent,
+    /// A terminal of the bus has this address.
+    SameAddress,
 }
 
 impl fmt::Display for Fault {
@@ -48,6 +50,7 @@ impl fmt::Display for Fault {
             Fault::NoMemory => "out of memory",
             Fault::NoRoom => "no room",
             Fault::NoEvent => "no event",
+            Fault::SameAddress => "a terminal of the bus has this address",
         })
     }
 }
@@ -325,6 +328,98 @@ impl Drop for Terminal {
     }
 }
 
+/// What the terminals of a bus sent and handed over, in the order in which they joined.
+#[derive(Clone, Copy)]
+pub struct Answers<'a>(&'a [sys::rt1553_bus_answer]);
+
+impl<'a> Answers<'a> {
+    /// Each answer with the address of its terminal.
+    pub fn iter(self) -> impl Iterator<Item = (u8, Answer<'a>)> {
+        self.0.iter().map(|it| (it.address, shown(&it.answer)))
+    }
+}
+
+/// A bus with up to 31 terminals of different addresses, which are stepped together. A clone answers
+/// every further event as the other does, and neither knows of the other.
+pub struct TerminalBus(NonNull<sys::rt1553_bus>);
+
+// It is one block of plain values without pointers, and each call has exclusive access by `&mut`.
+unsafe impl Send for TerminalBus {}
+
+impl TerminalBus {
+    /// The bus that a call makes, or the fault of the call.
+    fn made(call: impl FnOnce(*mut *mut sys::rt1553_bus, *mut sys::rt1553_fault) -> u8) -> Result<TerminalBus, Fault> {
+        let (mut made, mut fault) = (ptr::null_mut(), MaybeUninit::uninit());
+        let status = call(&mut made, fault.as_mut_ptr());
+        NonNull::new(made).map(TerminalBus).ok_or_else(|| told(status, &fault))
+    }
+
+    /// A bus without terminals, or `NoMemory`.
+    pub fn new() -> Result<TerminalBus, Fault> {
+        TerminalBus::made(|made, fault| unsafe { sys::rt1553_bus_new(made, fault) })
+    }
+
+    /// A clone, or `NoMemory`.
+    pub fn try_clone(&self) -> Result<TerminalBus, Fault> {
+        TerminalBus::made(|made, fault| unsafe { sys::rt1553_bus_copy(self.0.as_ptr(), made, fault) })
+    }
+
+    /// A copy of the terminal joins, in the state in which it is. `SameAddress` if a terminal of the bus
+    /// has its address; then nothing changes.
+    pub fn join(&mut self, terminal: &Terminal) -> Result<(), Fault> {
+        match unsafe { sys::rt1553_bus_join(self.0.as_ptr(), terminal.0.as_ptr()) } {
+            sys::RT1553_DONE => Ok(()),
+            _ => Err(Fault::SameAddress),
+        }
+    }
+
+    fn play(&mut self, to: u8, event: Event) -> Result<Answers<'_>, Fault> {
+        let bus = self.0.as_ptr();
+        // the library made it, and the caller may use what stands before its terminals
+        unsafe {
+            (*bus).to = to;
+            (*bus).event = event.plain();
+            match sys::rt1553_bus_step(bus) {
+                sys::RT1553_DONE => Ok(Answers(&(&(*bus).answers)[..(*bus).count.into()])),
+                _ => Err(Fault::NoEvent),
+            }
+        }
+    }
+
+    /// Plays a word, noise, a gap or a slot for all terminals. `NoEvent` for another event; then nothing
+    /// changes.
+    pub fn step(&mut self, event: Event) -> Result<Answers<'_>, Fault> {
+        self.play(sys::RT1553_FOR_ALL, event)
+    }
+
+    /// Plays an event for the terminal with this address alone. `NoEvent` if the bus has none, or one of
+    /// the event's numbers is out of range; then nothing changes.
+    pub fn step_one(&mut self, address: u8, event: Event) -> Result<Answer<'_>, Fault> {
+        let to = if address == sys::RT1553_FOR_ALL { 254 } else { address };
+        self.play(to, event).map(|answers| answers.iter().next().map_or(Answer::Silent, |it| it.1))
+    }
+
+    /// Whether words of two or more terminals collided on a bus, in the latest slot.
+    pub fn collided(&self, bus: Bus) -> bool {
+        let it = unsafe { self.0.as_ref() };
+        if bus == Bus::A { it.collided_a } else { it.collided_b }
+    }
+}
+
+impl Clone for TerminalBus {
+    /// Ends the process if there is no memory for the clone, as the collections of `std` do.
+    fn clone(&self) -> TerminalBus {
+        self.try_clone().unwrap_or_else(|_| handle_alloc_error(Layout::new::<sys::rt1553_bus>()))
+    }
+}
+
+impl Drop for TerminalBus {
+    fn drop(&mut self) {
+        // the library made it, and it is not used again
+        unsafe { sys::rt1553_bus_free(self.0.as_ptr()) }
+    }
+}
+
 #[cfg(test)]
 mod tests {
     use super::*;
@@ -411,6 +506,38 @@ mod tests {
         state.truncate(state.len() - 2);
         let lines = state.split(|byte| *byte == b'\n').count() as u64;
         assert_eq!(refused(&state), (1, lines, format!("saved state: line {lines}")));
+    }
+
+    #[test]
+    fn terminals_on_a_bus() {
+        let mut bus = TerminalBus::new().unwrap();
+        is_send(&bus);
+        let mut five = replying();
+        assert_eq!(bus.join(&five), Ok(()));
+        assert_eq!(bus.join(&five), Err(Fault::SameAddress));
+        bus.join(&Terminal::new("address = 6").unwrap()).unwrap();
+        let status = |address, bits| (address, Answer::Sends { bus: Bus::A, sync: Sync::Command, bits });
+        assert!(bus.step(Event::Slot).unwrap().iter().eq([status(5, 0x2800)]));
+        let mut clone = bus.clone();
+        assert_eq!(clone.step_one(5, Event::Write { subaddress: 3, number: 2, bits: 0xcc }), Ok(Answer::Silent));
+        for (it, second) in [(&mut clone, 0xcc), (&mut bus, 0xbb)] {
+            for bits in [0, second] {
+                let sent = Answer::Sends { bus: Bus::A, sync: Sync::Data, bits };
+                assert!(it.step(Event::Slot).unwrap().iter().eq([(5, sent)]));
+            }
+        }
+        drop(bus);
+        clone.step(Event::word(Bus::A, Sync::Command, 0x2c62)).unwrap();
+        clone.step(Event::Gap(Bus::A)).unwrap();
+        clone.step(Event::word(Bus::A, Sync::Command, 0x3402)).unwrap();
+        clone.step(Event::Gap(Bus::A)).unwrap();
+        assert!(clone.step(Event::Slot).unwrap().iter().eq([status(5, 0x2800), status(6, 0x3000)]));
+        assert!(clone.collided(Bus::A) && !clone.collided(Bus::B));
+        assert_eq!(sent(&mut five), [0x2800, 0, 0xbb]);
+        for address in [7, 31, 254, 255] {
+            assert_eq!(clone.step_one(address, Event::Slot), Err(Fault::NoEvent));
+        }
+        assert!(matches!(clone.step(Event::Vector(1)).err(), Some(Fault::NoEvent)));
     }
 
     #[test]
