@@ -1,4 +1,4 @@
-"""`rt1553-tool bus`: a transfer, collisions, warnings and faults, and each terminal alone against `run`, over random scripts."""
+"""`rt1553-tool bus`: a transfer, collisions, messages, warnings and faults, and each terminal alone against `run`, over random scripts."""
 
 import random
 
@@ -9,6 +9,15 @@ RULES = "".join(f"[[rule]]\ndirection = \"{it}\"\nsubaddresses = {s}\ncounts = 1
 FILES = {"five": f"address = 5\n{RULES}", "six": f"address = 6\n{RULES}", "again": "address = 5\n", "none": "address = 31\n"}
 TRANSFER = "05 write 02 01 5201\nA c 3021\nA c 2c41\nA gap\nslot\nslot\nA gap\nslot\n"
 TRANSCRIPT = "05 A s 2800\n05 A d 5201\n06 hand receive own 01 5201\n06 A s 3000\n"
+
+
+HEARER = 'address = 6\nbroadcast = true\n[[rule]]\nto = "both"\ndirection = "receive"\nsubaddresses = 1\ncounts = 1\n'
+MESSAGES = "05 write 02 01 5201\n# 5 to 6\nA rx 6 1 1 from 5 2: 0000\n"
+
+
+def expanded(name, output, errors, *lines, status=0, more=""):
+    """A run of messages."""
+    return Row(name, f"bus --expand five six script{more}", status, output, errors, files={"script": "".join(f"{it}\n" for it in lines)})
 
 
 def refused(name, line, told):
@@ -47,6 +56,29 @@ ROWS = with_files(
         "none:1:1: error: profile: root: address is out of range: 31; allowed is a whole number from 0 to 30\n", files={"script": ""}),
     Row("no script of this name", "bus five script", 4, "", "file: cannot read script: no such file\n"),
     *(Row(f"no address: {it}", f"bus five script --alone {it}", 3, errors="arguments: --alone is 0 to 30\n", files={"script": ""}) for it in ("31", "all")),
+    expanded("messages: a transfer between two terminals of the bus", TRANSCRIPT, "", MESSAGES),
+    expanded("messages: what comes to one terminal of a transfer",
+             "A c 3021\nA c 2c41\nA gap\nslot\nA c 2800\nslot\nA d 5201\nA gap\nslot\n", "", MESSAGES, more=" --alone 6"),
+    expanded("messages: the same on a bus without the receiver", "05 A s 2800\n05 A d 5201\n", "", "05 write 02 01 5201", "A rx 7 1 1 from 5 2: 0000"),
+    expanded("messages: behind a transfer without the receiver", "05 A s 2800\n05 A d 0000\n06 hand receive own 01 1111\n06 A s 3000\n", "",
+             "A rx 7 1 1 from 5 2: 0000", "A rx 6 1 1: 1111"),
+    Row("messages: a transfer to all", "bus --expand five hearer script", 0, "05 A s 2800\n05 A d 5201\n06 hand receive broadcast 01 5201\n", "",
+        files={"hearer": HEARER, "script": "05 write 02 01 5201\nA rx all 1 1 from 5 2: 0000\n"}),
+    expanded("messages: a transfer from a terminal that is not there", "06 hand receive own 01 1234\n06 A s 3000\n", "", "A rx 6 1 1 from 9 1: 1234"),
+    expanded("messages: to a terminal that is not there", "06 A s 3000\n06 A d 0000\n", "", "A rx 9 1 1: 1234", "A tx 9 1 2", "A tx 6 2 1"),
+    expanded("messages: lines of subsystems", "05 B s 2808\n06 B s 3000\n06 B d 0000\n", "", "05 flag busy 1", "B tx 5 2 1", "B tx 6 2 1"),
+    expanded("messages: a line that is refused as a message", "", "script:2:3: error: after a bus, rx, tx, mode, status or data is expected for a message,"
+             " and c, d, gap or noise for an event\n", "05 flag busy 1", "A rxx 5 1 1: 0001", "07 flag busy 1", status=2),
+    expanded("messages: a line of a subsystem that is refused", "05 A s 2800\n05 A d 0000\n", "script:2:1: error: no profile has address 07\n",
+             "A tx 5 2 1", "07 flag busy 1", "A tx 5 2 1", status=2),
+    expanded("messages: no address", "05 A s 2800\n05 A d 0000\n",
+             "script:2:1: error: a line of a subsystem begins with the address of its terminal, in two digits\n", "A tx 5 2 1", "flag busy 1", status=2),
+    expanded("messages: no line behind an address", "05 A s 2800\n05 A d 0000\n",
+             "script:2:11: error: a word is four hexadecimal digits, without a mark\n", "A tx 5 2 1", "05 bit 001", status=2),
+    expanded("messages: a warning tells the line of the file", "", "script:4: warning: a gap while terminal 05 replies: another terminal can begin its reply\n",
+             "A rx 9 1 1: 0001", "A c 2c41", "A gap", "A gap"),
+    Row("a message without --expand", "bus five six script", 2, "", "script:1:3: error: a message and no event: `expand` writes its events, and --expand reads messages\n",
+        files={"script": "A tx 5 2 1\n"}),
     Row("no terminal alone", "bus five script --alone 7", 2, "", "--alone: no profile has address 07\n", files={"script": ""}),
 )  # fmt: skip
 

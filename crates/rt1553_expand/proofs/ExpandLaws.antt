@@ -1,11 +1,12 @@
 -- Texts that are expanded line by line.
-use Rattle.std.proofs.Common.{ℕ, ◌≡◌, ◌∙◌, ◌+◌, List, [], ◌∷◌, ◌++◌, None, length, refl, sym, ap, arith, append_assoc, append-nil, flat_map}
+use Rattle.std.proofs.Common.{ℕ, ◌≡◌, ◌∙◌, ◌+◌, List, [], ◌∷◌, ◌++◌, length, refl, sym, ap, arith, append_assoc, append-nil, flat_map}
 use Rattle.std.specs.List.{sum_by}
 use Rattle.std.proofs.lemmas.List.Sums.{sum_by-cons}
 use Rattle.terminal_rules.specs.declared.event.Event.{Event}
 use Rattle.script_lines.specs.Text.{lines_of}
 use Rattle.bus_script.specs.Reading.{reading, adds, nothing}
 use Rattle.bus_script.specs.inner.Lines.{ReadsLines}
+use Rattle.rt1553_expand.specs.declared.script_for.ScriptFor.{ScriptFor}
 use Rattle.rt1553_expand.specs.Expansion.{expansion_of, refusal_at, Refusal, refusals_from}
 
 no-lines : lines_of [] ≡ []
@@ -42,17 +43,17 @@ all-read text es n r = ap (λ bytes. reading 0 (lines_of bytes)) (sym (append-ni
 
 -- ---- refusals
 
-refusals-none : (n : ℕ) → refusals_from n (lines_of []) ≡ []
+refusals-none : (own : ScriptFor) (n : ℕ) → refusals_from own n (lines_of []) ≡ []
 unfolding refusals_from
-refusals-none n = ap (refusals_from n) no-lines
+refusals-none own n = ap (refusals_from own n) no-lines
 
-pub refusals-on : (n : ℕ) (rest line more : List ℕ) (old new all : List Refusal) → lines_of rest ≡ line ∷ lines_of more → new ≡ old ++ refusal_at n (expansion_of None line)
-    → all ≡ old ++ refusals_from n (lines_of rest) → all ≡ new ++ refusals_from (n + 1) (lines_of more)
+pub refusals-on : (own : ScriptFor) (n : ℕ) (rest line more : List ℕ) (old new all : List Refusal) → lines_of rest ≡ line ∷ lines_of more → new ≡ old ++ refusal_at n (expansion_of own line)
+    → all ≡ old ++ refusals_from own n (lines_of rest) → all ≡ new ++ refusals_from own (n + 1) (lines_of more)
 unfolding refusals_from
-refusals-on n rest line more old new all first added is =
-    is ∙ ap (λ ls. old ++ refusals_from n ls) first ∙ sym (append_assoc old (refusal_at n (expansion_of None line)) (refusals_from (n + 1) (lines_of more)))
-    ∙ ap (λ l. l ++ refusals_from (n + 1) (lines_of more)) (sym added)
+refusals-on own n rest line more old new all first added is =
+    is ∙ ap (λ ls. old ++ refusals_from own n ls) first ∙ sym (append_assoc old (refusal_at n (expansion_of own line)) (refusals_from own (n + 1) (lines_of more)))
+    ∙ ap (λ l. l ++ refusals_from own (n + 1) (lines_of more)) (sym added)
 
-pub refusals-all : (n : ℕ) (rest : List ℕ) (old all : List Refusal) → length rest ≡ 0 → all ≡ old ++ refusals_from n (lines_of rest) → old ≡ all
-refusals-all n [] old all none is = sym (is ∙ ap (λ l. old ++ l) (refusals-none n) ∙ append-nil old)
-refusals-all n (b ∷ bytes) old all none is = absurd (omega (arith, none))
+pub refusals-all : (own : ScriptFor) (n : ℕ) (rest : List ℕ) (old all : List Refusal) → length rest ≡ 0 → all ≡ old ++ refusals_from own n (lines_of rest) → old ≡ all
+refusals-all own n [] old all none is = sym (is ∙ ap (λ l. old ++ l) (refusals-none own n) ∙ append-nil old)
+refusals-all own n (b ∷ bytes) old all none is = absurd (omega (arith, none))

@@ -13,8 +13,9 @@ use Rattle.rt1553_tool.specs.declared.fields.CommandFields.{CommandFields}
 use Rattle.rt1553_tool.specs.declared.fields.WordFields.TheVariants as fields
 use Rattle.rt1553_tool.specs.Fields.{in_word, command_fields_in}
 use Rattle.rt1553_tool.specs.WordLines.{status_with}
-use Rattle.rt1553_expand.specs.Message.{words_wanted}
-use Rattle.rt1553_expand.specs.Events.{word_event, data_events, message_end, is_own, own_events, heard_events, message_events}
+use Rattle.rt1553_expand.specs.declared.script_for.ScriptFor.{ScriptFor}
+use Rattle.rt1553_expand.specs.Message.{SaidMessage, words_wanted}
+use Rattle.rt1553_expand.specs.Events.{word_event, data_events, message_end, is_own, own_events, receiver_events, heard_events, message_events}
 use Rattle.rt1553_expand.specs.Gathered.{CommandMessage, said, IsSender, IsListed}
 use Rattle.rt1553_expand.specs.inner.Found.{heard_in, fields_heard, sender_found, bits_heard, events_before, words_found, message_sent_by, message_behind, message_at}
 
@@ -38,9 +39,10 @@ heard-command bus f wide =
     rw (is_valid-valid_word Com (command_bits (in_word f))) (ap (λ g. Some (record { bus = bus; command = g })) (fields-back f wide))
 
 -- the events of a message behind its first word
-abbrev behind : Option ℕ → Bus → CommandFields → Option CommandFields → List ℕ → List Event
+abbrev behind : ScriptFor → Bus → CommandFields → Option CommandFields → List ℕ → List Event
 behind own bus command sender words =
-    if is_own own sender then own_events bus sender else heard_events bus (record { first = fields.Command command; sender = sender; words = words })
+    let m : SaidMessage = record { first = fields.Command command; sender = sender; words = words } in
+    if is_own own sender then own_events bus sender ++ receiver_events own bus m else heard_events bus m
 
 -- a command to receive wants a data word at least
 wanted-some : (c : ℕ) → is_receive c ≡ true → 1 ≤ expected c
@@ -62,17 +64,15 @@ some-back : (bus : Bus) (command f : CommandFields) (more : List Event) → AreO
     → sender_found command (word_event bus (fields.Command f) ∷ more) ≡ Some f
 some-back bus command f more wide receive = rw receive (ap fields_heard (heard-command bus f wide))
 
-sender-back : (own : Option ℕ) (bus : Bus) (command : CommandFields) (sender : Option CommandFields) (words : List ℕ) (rest : List Event)
+sender-back : (own : ScriptFor) (bus : Bus) (command : CommandFields) (sender : Option CommandFields) (words : List ℕ) (rest : List Event)
     → IfSome sender (λ f. AreOfTheirWidth (in_word f) × (is_receive (command_bits (in_word command)) ≡ true)) → length words ≡ words_wanted (fields.Command command)
     → sender_found command (behind own bus command sender words ++ rest) ≡ sender
-sender-back None bus command None words rest of count =
-    ap (sender_found command) (append_assoc (data_events bus words) (message_end bus (fields.Command command)) rest) ∙ none-back bus command words _ count
-sender-back (Some address) bus command None words rest of count =
+sender-back own bus command None words rest of count =
     ap (sender_found command) (append_assoc (data_events bus words) (message_end bus (fields.Command command)) rest) ∙ none-back bus command words _ count
 sender-back own bus command (Some f) words rest of count = case (is_own own (Some f)) refl
   where
     case : (b : Bool) → is_own own (Some f) ≡ b → sender_found command (behind own bus command (Some f) words ++ rest) ≡ Some f
-    case true e = rw e (some-back bus command f (message_end bus (fields.Command f) ++ rest) of.0 of.1)
+    case true e = rw e (some-back bus command f ((message_end bus (fields.Command f) ++ receiver_events own bus (record { first = fields.Command command; sender = Some f; words = words })) ++ rest) of.0 of.1)
     case false e = rw e (some-back bus command f (event.Gap bus ∷ word_event bus (fields.Status (status_with f.address []))
         ∷ ((data_events bus words ++ message_end bus (fields.Command command)) ++ rest)) of.0 of.1)
 
@@ -81,7 +81,7 @@ words-heard : (bus : Bus) (words : List ℕ) (more : List Event) → map bits_he
 words-heard bus [] more = refl
 words-heard bus (word ∷ words) more = ap (λ ws. word ∷ ws) (words-heard bus words more)
 
-words-back : (own : Option ℕ) (bus : Bus) (command : CommandFields) (sender : Option CommandFields) (words : List ℕ) (rest : List Event)
+words-back : (own : ScriptFor) (bus : Bus) (command : CommandFields) (sender : Option CommandFields) (words : List ℕ) (rest : List Event)
     → length words ≡ words_wanted (fields.Command command) → (is_own own sender ≡ true → words ≡ replicate (words_wanted (fields.Command command)) 0)
     → words_found own sender (words_wanted (fields.Command command)) (behind own bus command sender words ++ rest) ≡ words
 words-back own bus command sender words rest count zeros = case sender (is_own own sender) refl zeros
@@ -113,7 +113,7 @@ with-receive command (Some f) wide is =
     )
 
 -- the message of these events is found
-pub found-next : (own : Option ℕ) (bus : Bus) (m : CommandMessage) (rest : List Event) → IsListed own m
+pub found-next : (own : ScriptFor) (bus : Bus) (m : CommandMessage) (rest : List Event) → IsListed own m
     → message_at own (message_events own bus (said m) ++ rest) ≡ Some (record { bus = bus; message = m })
 found-next own bus m rest listed =
     let es : List Event = behind own bus m.command m.sender m.words ++ rest in

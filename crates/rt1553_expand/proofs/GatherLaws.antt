@@ -9,6 +9,7 @@ use Rattle.bus_script.specs.Reading.{Reading, reading, adds, nothing, then_reads
 use Rattle.bus_script.proofs.ReadingLaws.{reading-line, reading-too_long, reading-long_line, adds-adds}
 use Rattle.rt1553_tool.specs.declared.fields.CommandFields.{CommandFields}
 use Rattle.rt1553_tool.specs.declared.fields.WordFields.TheVariants as fields
+use Rattle.rt1553_expand.specs.declared.script_for.ScriptFor.{ScriptFor}
 use Rattle.rt1553_expand.specs.Message.{SaidMessage, words_wanted}
 use Rattle.rt1553_expand.specs.Events.{message_events}
 use Rattle.rt1553_expand.specs.Gathered.{CommandMessage, said, IsMessage, IsListed, NoneNext}
@@ -20,12 +21,12 @@ some-not : {A : Type 0} (x : A) → Some x ≡ None → ⊥
 some-not x e = absurd (cc)
 
 -- nothing is found, so no message comes next
-pub none-found : (own : Option ℕ) (es : List Event) → message_at own es ≡ None → NoneNext own es
+pub none-found : (own : ScriptFor) (es : List Event) → message_at own es ≡ None → NoneNext own es
 none-found own es missing bus m rest listed next =
     some-not (record { bus = bus; message = m }) (sym (found-next own bus m rest listed) ∙ ap (message_at own) (sym next) ∙ missing)
 
 -- what is found is no message that comes next
-pub other-found : (own : Option ℕ) (es : List Event) (found : MessageOn) → message_at own es ≡ Some found
+pub other-found : (own : ScriptFor) (es : List Event) (found : MessageOn) → message_at own es ≡ Some found
     → ((rest : List Event) → IsListed own found.message → es ≡ message_events own found.bus (said found.message) ++ rest → ⊥) → NoneNext own es
 other-found own es found is other bus m rest listed next =
     let both : Some found ≡ Some (record { bus = bus; message = m }) = sym is ∙ ap (message_at own) next ∙ found-next own bus m rest listed in
@@ -69,10 +70,10 @@ reads-all n (b ∷ rest) events all none before = absurd (omega (arith, none))
 
 -- ---- pieces
 
-pub listed-events : (own : Option ℕ) (bus : Bus) (a b : SaidMessage) (old new : List Event) → old ≡ [] → new ≡ old ++ message_events own bus a → a ≡ b → new ≡ message_events own bus b
+pub listed-events : (own : ScriptFor) (bus : Bus) (a b : SaidMessage) (old new : List Event) → old ≡ [] → new ≡ old ++ message_events own bus a → a ≡ b → new ≡ message_events own bus b
 listed-events own bus a b old new none pushed same = pushed ∙ ap (λ es. es ++ message_events own bus a) none ∙ ap (message_events own bus) same
 
-pub message-listed : (own : Option ℕ) (es : List Event) (m : CommandMessage) (command : CommandFields) → message_found own command es ≡ m → IsMessage m → IsListed own m
+pub message-listed : (own : ScriptFor) (es : List Event) (m : CommandMessage) (command : CommandFields) → message_found own command es ≡ m → IsMessage m → IsListed own m
 message-listed own es m command same is =
     let words : words_found own m.sender (words_wanted (fields.Command m.command)) es ≡ m.words
     = subst (λ it. words_found own it.sender (words_wanted (fields.Command it.command)) es ≡ it.words) same refl in
@@ -82,7 +83,7 @@ message-listed own es m command same is =
     }
 
 -- what is found is listed, where it is a message
-pub found-listed : (own : Option ℕ) (es : List Event) (bus : Bus) (m : CommandMessage) → message_at own es ≡ Some (record { bus = bus; message = m }) → IsMessage m → IsListed own m
+pub found-listed : (own : ScriptFor) (es : List Event) (bus : Bus) (m : CommandMessage) → message_at own es ≡ Some (record { bus = bus; message = m }) → IsMessage m → IsListed own m
 found-listed own [] bus m is message = absurd (some-not (record { bus = bus; message = m }) (sym is))
 found-listed own (e ∷ es) bus m is message = heard (heard_in e) is
   where

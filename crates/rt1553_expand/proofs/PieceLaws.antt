@@ -1,5 +1,5 @@
 -- Pieces that are written one behind the other, and expanded again.
-use Rattle.std.proofs.Common.{ℕ, ◌≡◌, ◌∙◌, ◌+◌, ◌<◌, ◌≤◌, false, List, [], ◌∷◌, ◌++◌, Option, Some, None, Result, Ok, Err, is_ok, length, get_or, drop, refl, sym, ap, subst, arith, append_assoc, append-nil}
+use Rattle.std.proofs.Common.{ℕ, ◌≡◌, ◌∙◌, ◌+◌, ◌<◌, ◌≤◌, false, List, [], ◌∷◌, ◌++◌, Option, Some, Result, Ok, Err, is_ok, length, get_or, drop, refl, sym, ap, subst, arith, append_assoc, append-nil}
 use Rattle.std.proofs.lemmas.Bool.Decides.{nat_tests}
 use Rattle.std.proofs.lemmas.Grind.{flat_map-append}
 use Rattle.bus_word.specs.declared.word.Bus.{Bus}
@@ -11,6 +11,7 @@ use Rattle.script_lines.specs.Text.{lines_of}
 use Rattle.script_lines.specs.EventLine.{event_text, event_line}
 use Rattle.script_lines.proofs.LineLaws.{lines-line}
 use Rattle.bus_script.specs.Reading.{Reading, adds, nothing}
+use Rattle.rt1553_expand.specs.declared.script_for.ScriptFor.{ScriptFor}
 use Rattle.rt1553_expand.specs.Message.{message_in}
 use Rattle.rt1553_expand.specs.Events.{message_events}
 use Rattle.rt1553_expand.specs.Expansion.{Expansion, Stays, Gives, message_expansion, by_bus_letter, with_named_fault, by_meaning, expansion_of, expanded_events, all_events, refusal_at, refusals_from, refusals_in}
@@ -23,16 +24,16 @@ use Rattle.rt1553_expand.proofs.SpelledLaws.{each_is_said}
 -- ---- a line expands to the events of its piece
 
 -- a line that is none of a script
-refused-meaning : (own : Option ℕ) (line : List ℕ) (x : Expansion) (r : Result (Option Event) LineFault) → is_ok r ≡ false → by_bus_letter own (bus_first line) (drop 2 line) ≡ Ok x
+refused-meaning : (own : ScriptFor) (line : List ℕ) (x : Expansion) (r : Result (Option Event) LineFault) → is_ok r ≡ false → by_bus_letter own line (bus_first line) ≡ Ok x
     → by_meaning own line r ≡ Ok x
 refused-meaning own line x (Ok said) other is = absurd (cc)
 refused-meaning own line x (Err fault) other is = ap (with_named_fault line) is
 
-within-most : (own : Option ℕ) (line : List ℕ) → length line ≤ 256 → expansion_of own line ≡ by_meaning own line (meaning line)
+within-most : (own : ScriptFor) (line : List ℕ) → length line ≤ 256 → expansion_of own line ≡ by_meaning own line (meaning line)
 within-most own line short = grind (arith, nat_tests, short)
 
-by-letter : (own : Option ℕ) (bus : Bus) (m : CommandMessage) → message_in (message_text m) ≡ Ok (said m)
-    → by_bus_letter own (bus_first (listed_line bus m)) (drop 2 (listed_line bus m)) ≡ Ok (Gives (message_events own bus (said m)))
+by-letter : (own : ScriptFor) (bus : Bus) (m : CommandMessage) → message_in (message_text m) ≡ Ok (said m)
+    → by_bus_letter own (listed_line bus m) (bus_first (listed_line bus m)) ≡ Ok (Gives (message_events own bus (said m)))
 by-letter own A m read = ap (message_expansion own A) read
 by-letter own B m read = ap (message_expansion own B) read
 
@@ -47,7 +48,7 @@ message-says bus m is = record {
       );
 }
 
-kept-line : (own : Option ℕ) (e : Event) → length (event_text e) ≤ 64 → by_meaning own (event_text e) (Ok (Some e)) ≡ Ok (Stays (event_text e) (Some e))
+kept-line : (own : ScriptFor) (e : Event) → length (event_text e) ≤ 64 → by_meaning own (event_text e) (Ok (Some e)) ≡ Ok (Stays (event_text e) (Some e))
 kept-line own e short = grind (arith, nat_tests, short)
 
 event-says : (e : Event) → meaning (event_text e) ≡ Ok (Some e) → Says (Alone e)
@@ -63,11 +64,11 @@ event-says e read =
 
 -- ---- one piece more
 
-some-events : (own : Option ℕ) (bus : Bus) (m : CommandMessage) (room : List Event) → room ≡ message_events own bus (said m) → 0 < length room
+some-events : (own : ScriptFor) (bus : Bus) (m : CommandMessage) (room : List Event) → room ≡ message_events own bus (said m) → 0 < length room
 some-events own bus m [] is = absurd (omega (arith, ap length is))
 some-events own bus m (e ∷ room) is = omega arith
 
-pub wrote-message : (own : Option ℕ) (es room : List Event) (old mid new line : List ℕ) → IsNextLine own es room line → mid ≡ old ++ line → new ≡ mid ++ 10 ∷ [] → WroteNext own old new es (length room)
+pub wrote-message : (own : ScriptFor) (es room : List Event) (old mid new line : List ℕ) → IsNextLine own es room line → mid ≡ old ++ line → new ≡ mid ++ 10 ∷ [] → WroteNext own old new es (length room)
 wrote-message own es room old mid new line n wrote feed = record {
   piece = Whole n.bus n.message;
   some = some-events own n.bus n.message room n.room_is;
@@ -78,7 +79,7 @@ wrote-message own es room old mid new line n wrote feed = record {
   text = feed ∙ ap (λ t. t ++ 10 ∷ []) (wrote ∙ ap (λ l. old ++ l) n.spelled) ∙ append_assoc old (listed_line n.bus n.message) (10 ∷ []);
 }
 
-pub wrote-alone : (own : Option ℕ) (es : List Event) (e : Event) (old new : List ℕ) → 0 < length es → e ≡ get_or es 0 e → NoneNext own es → Wrote old new (e ∷ []) → WroteNext own old new es 1
+pub wrote-alone : (own : ScriptFor) (es : List Event) (e : Event) (old new : List ℕ) → 0 < length es → e ≡ get_or es 0 e → NoneNext own es → Wrote old new (e ∷ []) → WroteNext own old new es 1
 wrote-alone own [] e old new some is none wrote = absurd (omega (arith, some))
 wrote-alone own (first ∷ es) e old new some is none wrote = record {
   piece = Alone e;
@@ -92,7 +93,7 @@ wrote-alone own (first ∷ es) e old new some is none wrote = record {
 
 -- ---- pieces, one behind the other
 
-next-more : (own : Option ℕ) (pieces : List Piece) (p : Piece) (rest : List Event) → AreNext own pieces (piece_events own p ++ rest) → IsNext own p rest → AreNext own (pieces ++ p ∷ []) rest
+next-more : (own : ScriptFor) (pieces : List Piece) (p : Piece) (rest : List Event) → AreNext own pieces (piece_events own p ++ rest) → IsNext own p rest → AreNext own (pieces ++ p ∷ []) rest
 next-more own [] p rest before next = (next, tt)
 next-more own (q ∷ pieces) p rest before next =
     let same : events_in own pieces ++ (piece_events own p ++ rest) ≡ events_in own (pieces ++ p ∷ []) ++ rest
@@ -104,7 +105,7 @@ say-more : (pieces : List Piece) (p : Piece) → AllSay pieces → Says p → Al
 say-more [] p all one = (one, tt)
 say-more (q ∷ pieces) p all one = (all.0, say-more pieces p all.1 one)
 
-pub wrote-more : (own : Option ℕ) (es rest : List Event) (old new : List ℕ) (taken : ℕ) → WroteSo own es rest old → WroteNext own old new rest taken → WroteSo own es (drop taken rest) new
+pub wrote-more : (own : ScriptFor) (es rest : List Event) (old new : List ℕ) (taken : ℕ) → WroteSo own es rest old → WroteNext own old new rest taken → WroteSo own es (drop taken rest) new
 wrote-more own es rest old new taken so next =
     let left : List Event = drop taken rest in
     let more : events_in own so.pieces ++ piece_events own next.piece ≡ events_in own (so.pieces ++ next.piece ∷ [])
@@ -127,24 +128,24 @@ no-lines = refl
 lines-more : (p : Piece) (pieces : List Piece) → Says p → lines_of (lines_text (p ∷ pieces)) ≡ piece_line p ∷ lines_of (lines_text pieces)
 lines-more p pieces says = ap lines_of (append_assoc (piece_line p) (10 ∷ []) (lines_text pieces)) ∙ lines-line (piece_line p) (lines_text pieces) says.feeds
 
-pub events-back : (own : Option ℕ) (pieces : List Piece) → AllSay pieces → all_events own (lines_of (lines_text pieces)) ≡ events_in own pieces
+pub events-back : (own : ScriptFor) (pieces : List Piece) → AllSay pieces → all_events own (lines_of (lines_text pieces)) ≡ events_in own pieces
 events-back own [] say = ap (all_events own) no-lines
 events-back own (p ∷ pieces) say =
     let e = say.0.expands own in
     ap (all_events own) (lines-more p pieces say.0) ∙ ap (λ x. expanded_events x ++ all_events own (lines_of (lines_text pieces))) e.1
     ∙ ap (λ es. es ++ all_events own (lines_of (lines_text pieces))) e.2 ∙ ap (λ es. piece_events own p ++ es) (events-back own pieces say.1)
 
-pub none-refused : (n : ℕ) (pieces : List Piece) → AllSay pieces → refusals_from n (lines_of (lines_text pieces)) ≡ []
+pub none-refused : (own : ScriptFor) (n : ℕ) (pieces : List Piece) → AllSay pieces → refusals_from own n (lines_of (lines_text pieces)) ≡ []
 unfolding refusals_from
-none-refused n [] say = ap (refusals_from n) no-lines
-none-refused n (p ∷ pieces) say =
-    let e = say.0.expands None in
-    ap (refusals_from n) (lines-more p pieces say.0) ∙ ap (λ x. refusal_at n x ++ refusals_from (n + 1) (lines_of (lines_text pieces))) e.1 ∙ none-refused (n + 1) pieces say.1
+none-refused own n [] say = ap (refusals_from own n) no-lines
+none-refused own n (p ∷ pieces) say =
+    let e = say.0.expands own in
+    ap (refusals_from own n) (lines-more p pieces say.0) ∙ ap (λ x. refusal_at n x ++ refusals_from own (n + 1) (lines_of (lines_text pieces))) e.1 ∙ none-refused own (n + 1) pieces say.1
 
-pub gives-back : (own : Option ℕ) (script : Reading) (events es : List Event) (text : List ℕ) → WroteSo own events [] text → events ≡ es → script ≡ adds es nothing
-    → (refusals_in text ≡ []) × (all_events own (lines_of text) ≡ script.events)
+pub gives-back : (own : ScriptFor) (script : Reading) (events es : List Event) (text : List ℕ) → WroteSo own events [] text → events ≡ es → script ≡ adds es nothing
+    → (refusals_in own text ≡ []) × (all_events own (lines_of text) ≡ script.events)
 gives-back own script events es text so same read = (
-  ap refusals_in so.text ∙ none-refused 1 so.pieces so.say,
+  ap (refusals_in own) so.text ∙ none-refused own 1 so.pieces so.say,
   ap (λ t. all_events own (lines_of t)) so.text ∙ events-back own so.pieces so.say ∙ sym (append-nil (events_in own so.pieces)) ∙ sym so.events ∙ same
       ∙ sym (append-nil es) ∙ sym (ap (λ r. r.events) read),
 )

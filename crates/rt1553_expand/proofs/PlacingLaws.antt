@@ -5,6 +5,7 @@ use Rattle.std.proofs.lemmas.Grind.{flat_map-append}
 use Rattle.terminal_rules.specs.declared.event.Event.{Event}
 use Rattle.script_lines.specs.Text.{lines_of}
 use Rattle.script_lines.specs.EventLine.{event_line, script_text}
+use Rattle.rt1553_expand.specs.declared.script_for.ScriptFor.{ScriptFor}
 use Rattle.rt1553_expand.specs.Placing.{ScriptLine, Statement, Placing, is_stating, is_more, is_hand, can_have, event_at, among_events, nothing_placed, lines_in_order, leading, statement_lines}
 use Rattle.rt1553_expand.specs.Expansion.{Expansion, Stays, Gives, events_said, events_given, lines_given, is_statement, with_expansion, with_expanded, expansion_of, placing, spelled}
 use Rattle.rt1553_expand.specs.inner.StillLeft.{StillLeft, to_come, first_can_have, up_to, due_before, due, own_line, left_behind}
@@ -158,12 +159,12 @@ sources-end l old new written = ap (λ ls. old ++ sources ls) (come-end l) ∙ a
 
 -- ---- lines of a text
 
-pub placing-on : (own : Option ℕ) (n : ℕ) (rest line more : List ℕ) → lines_of rest ≡ line ∷ lines_of more
+pub placing-on : (own : ScriptFor) (n : ℕ) (rest line more : List ℕ) → lines_of rest ≡ line ∷ lines_of more
     → placing own n (lines_of rest) ≡ with_expanded n (expansion_of own line) (placing own (n + 1) (lines_of more))
 unfolding placing
 placing-on own n rest line more first = ap (placing own n) first
 
-pub placing-none : (own : Option ℕ) (n : ℕ) (rest : List ℕ) → length rest ≡ 0 → placing own n (lines_of rest) ≡ nothing_placed
+pub placing-none : (own : ScriptFor) (n : ℕ) (rest : List ℕ) → length rest ≡ 0 → placing own n (lines_of rest) ≡ nothing_placed
 unfolding placing lines_of
 placing-none own n [] none = refl
 placing-none own n (b ∷ bytes) none = absurd (omega (arith, none))

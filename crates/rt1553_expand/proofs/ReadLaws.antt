@@ -8,11 +8,12 @@ use Rattle.script_lines.specs.EventLine.{event_text, event_line, script_text}
 use Rattle.bus_script.specs.Reading.{Reading, adds, then_reads}
 use Rattle.bus_script.specs.inner.Lines.{ReadsLines}
 use Rattle.bus_script.proofs.ReadingLaws.{ReadsLines-nil, ReadsLines-line, ReadsLines-trans}
+use Rattle.rt1553_expand.specs.declared.script_for.ScriptFor.{ScriptFor}
 use Rattle.rt1553_expand.specs.declared.expanding.ScriptSoFar.{ScriptSoFar}
 use Rattle.rt1553_expand.specs.declared.expanding.ReadLine.{ReadLine}
 use Rattle.rt1553_expand.specs.declared.expanding.ReadLine.TheVariants.{Kept, Written}
 use Rattle.rt1553_expand.specs.Placing.{Placing}
-use Rattle.rt1553_expand.specs.Expansion.{Expansion, Stays, Gives, events_said, events_given, lines_given, expansion_of, with_expanded, spelled, expanded_events, expanded_lines}
+use Rattle.rt1553_expand.specs.Expansion.{Expansion, Stays, Gives, events_said, events_given, lines_given, is_of_bus, expansion_of, with_expanded, spelled, expanded_events, expanded_lines}
 use Rattle.rt1553_expand.specs.inner.Wrote.{AreRead, Wrote}
 use Rattle.rt1553_expand.specs.inner.StillLeft.{StillLeft, left_of, to_come, IsPending, due, own_line, left_behind}
 use Rattle.rt1553_expand.specs.inner.Added.{Added, ReadSo}
@@ -43,9 +44,9 @@ abbrev IsRight : Expansion → Type 0
 IsRight (Stays line said) = (length line ≤ 64) × NoLineFeed line × (meaning line ≡ Ok said)
 IsRight (Gives es) = Unit {0}
 
-is-right : (own : Option ℕ) (line : List ℕ) (read : ReadLine) → IsWritable line read → NoLineFeed line → IsRight (expansion_by own line read)
-is-right own line (Kept said) sound none = (sound.0, none, sound.1)
-is-right own line (Written bus message) sound none = tt
+is-right : (own : ScriptFor) (line : List ℕ) (read : ReadLine) → is_of_bus own ≡ false → IsWritable own line read → NoLineFeed line → IsRight (expansion_by own line read)
+is-right own line (Kept said) one sound none = ((sound one).0, none, (sound one).1)
+is-right own line (Written bus message) one sound none = tt
 
 own-read : (k n : ℕ) (x : Expansion) → IsRight x → n + own_count x ≤ 1048576 → ReadsLines n (flat_map spelled (own_line k x)) (own_said x) (n + own_count x)
 own-read k n (Gives es) right few =
@@ -77,8 +78,8 @@ read-on n l x old mid new lines count all right wrote own counted few so =
     }
 
 -- what was added for a line that is not refused
-pub added-by : (own : Option ℕ) (n : ℕ) (old new : ScriptSoFar) (line : List ℕ) (read : ReadLine) (mid : List ℕ) (count : ℕ) → expansion_of own line ≡ Ok (expansion_by own line read)
-    → IsWritable line read → count ≡ due (left_of old.pending) (expansion_by own line read) → Wrote old.text.items mid (take count (left_of old.pending).events)
+pub added-by : (own : ScriptFor) (n : ℕ) (old new : ScriptSoFar) (line : List ℕ) (read : ReadLine) (mid : List ℕ) (count : ℕ) → expansion_of own line ≡ Ok (expansion_by own line read)
+    → IsWritable own line read → count ≡ due (left_of old.pending) (expansion_by own line read) → Wrote old.text.items mid (take count (left_of old.pending).events)
     → new.text.items ≡ mid ++ flat_map spelled (own_line n (expansion_by own line read))
     → left_of new.pending ≡ left_behind n (left_of old.pending) (expansion_by own line read) → IsPending new.pending
     → new.lines ≡ old.lines + lines_given (expansion_by own line read) → new.lines ≤ 1048576 → Added own n old new line
@@ -92,10 +93,10 @@ added-by own n old new line read mid count is sound counted wrote stays left fit
       lines = lines ∙ ap (λ o. old.lines + expanded_lines o) (sym is);
       few = few;
       fits = fits;
-      reads = λ none all so.
+      reads = λ one none all so.
           subst (λ o. ReadSo new.text.items (left_of new.pending).events new.lines (all ++ expanded_events o)) (sym is)
           (subst (λ it. ReadSo new.text.items it.events new.lines (all ++ events_given x)) (sym left)
-          (read-on n l x old.text.items mid new.text.items old.lines new.lines all (is-right own line read sound none) due_wrote stays lines few so));
+          (read-on n l x old.text.items mid new.text.items old.lines new.lines all (is-right own line read one sound none) due_wrote stays lines few so));
     }
 
 -- the events that were left were written
@@ -118,7 +119,7 @@ read-start text left all empty nothing none = record {
 }
 
 -- where the lines come from of a line that is not refused
-pub sources-by : (own : Option ℕ) (n : ℕ) (was now : StillLeft) (line : List ℕ) (read : ReadLine) (old mid new : List ℕ) (count : ℕ) → expansion_of own line ≡ Ok (expansion_by own line read)
+pub sources-by : (own : ScriptFor) (n : ℕ) (was now : StillLeft) (line : List ℕ) (read : ReadLine) (old mid new : List ℕ) (count : ℕ) → expansion_of own line ≡ Ok (expansion_by own line read)
     → count ≡ due was (expansion_by own line read) → count ≤ length was.events → mid ≡ old ++ replicate count was.source
     → new ≡ mid ++ map (λ l. l.source) (own_line n (expansion_by own line read)) → now ≡ left_behind n was (expansion_by own line read)
     → (p : Placing) → old ++ map (λ l. l.source) (to_come was (with_expanded n (expansion_of own line) p)) ≡ new ++ map (λ l. l.source) (to_come now p)

@@ -1,8 +1,9 @@
 -- The events of a message.
-use Rattle.std.specs.Prelude.{ℕ, ◌+◌, ◌==◌, Bool, false, nat_le, if◌then◌else◌, List, [], ◌∷◌, ◌++◌, map, Option, Some, None, replicate}
+use Rattle.std.specs.Prelude.{ℕ, ◌+◌, ◌==◌, Bool, false, not, ◌&&◌, ◌||◌, nat_le, if◌then◌else◌, List, [], ◌∷◌, ◌++◌, map, Option, Some, None, replicate}
 use Rattle.bus_word.specs.declared.word.Bus.{Bus}
 use Rattle.bus_word.specs.Word.{valid_word}
 use Rattle.bus_word.specs.Command.{transmits, is_mode, is_broadcast, code_of, count_of}
+use Rattle.terminal_rules.specs.LookBack.{some}
 use Rattle.terminal_rules.specs.declared.event.Event.{Event}
 use Rattle.terminal_rules.specs.declared.event.Event.TheVariants as event
 use Rattle.rt1553_tool.specs.declared.fields.CommandFields.{CommandFields}
@@ -10,6 +11,8 @@ use Rattle.rt1553_tool.specs.declared.fields.WordFields.{WordFields}
 use Rattle.rt1553_tool.specs.declared.fields.WordFields.TheVariants as fields
 use Rattle.rt1553_tool.specs.Fields.{sync_of, bits_with}
 use Rattle.rt1553_tool.specs.WordLines.{status_with}
+use Rattle.rt1553_expand.specs.declared.script_for.ScriptFor.{ScriptFor}
+use Rattle.rt1553_expand.specs.declared.script_for.ScriptFor.TheVariants as script_for
 use Rattle.rt1553_expand.specs.Message.{SaidMessage}
 
 -- the valid word of these fields comes on the bus
@@ -42,22 +45,47 @@ abbrev pub sender_events : Bus → Option CommandFields → List Event
 sender_events bus None = []
 sender_events bus (Some f) = word_event bus (fields.Command f) ∷ event.Gap bus ∷ word_event bus (fields.Status (status_with f.address [])) ∷ []
 
--- it is the terminal of this address that sends in a transfer
-abbrev pub is_own : Option ℕ → Option CommandFields → Bool
-is_own (Some address) (Some f) = f.address == address
-is_own (Some address) None = false
-is_own None sender = false
+-- the terminal of this address plays its own part
+abbrev pub plays : ScriptFor → ℕ → Bool
+plays (script_for.Terminal None) address = false
+plays (script_for.Terminal (Some own)) address = own == address
+plays (script_for.Bus addresses) address = some (λ a. a == address) addresses.items
 
--- Behind the command to receive, where the own terminal sends: the command to it, a gap, and a slot for each word of its reply. The words
+-- the terminal that sends in a transfer plays its own part
+abbrev pub is_own : ScriptFor → Option CommandFields → Bool
+is_own own None = false
+is_own own (Some f) = plays own f.address
+
+-- the terminal of this address hears a command to the address `to`, and is not the sender
+abbrev pub hears_beside : ℕ → ℕ → ℕ → Bool
+hears_beside to sender address = not (address == sender) && ((address == to) || (to == 31))
+
+-- another terminal than the sender plays its own part, and hears it; in a script for one terminal there is no other
+abbrev pub other_hears : ScriptFor → ℕ → ℕ → Bool
+other_hears (script_for.Terminal own) to sender = false
+other_hears (script_for.Bus addresses) to sender = some (hears_beside to sender) addresses.items
+
+-- in a transfer, another terminal than the sender plays its own part, and hears the first command
+abbrev pub other_receives : ScriptFor → WordFields → Option CommandFields → Bool
+other_receives own first None = false
+other_receives own (fields.Command f) (Some sender) = other_hears own f.address sender.address
+other_receives own (fields.Status f) (Some sender) = false
+other_receives own (fields.Data word) (Some sender) = false
+
+-- Behind the command to receive, where an own terminal sends: the command to it, a gap, and a slot for each word of its reply. The words
 -- are its own, whatever the message says.
 abbrev pub own_events : Bus → Option CommandFields → List Event
 own_events bus None = []
 own_events bus (Some f) = word_event bus (fields.Command f) ∷ message_end bus (fields.Command f)
 
--- behind the first word, what others put on the bus, and slots for the own terminal
+-- Behind that, where another own terminal receives: the end of the message, with slots for its status word.
+abbrev pub receiver_events : ScriptFor → Bus → SaidMessage → List Event
+receiver_events own bus m = if other_receives own m.first m.sender then message_end bus m.first else []
+
+-- behind the first word, what others put on the bus, and slots for own terminals
 abbrev pub heard_events : Bus → SaidMessage → List Event
 heard_events bus m = sender_events bus m.sender ++ (data_events bus m.words ++ message_end bus m.first)
 
--- the events of a message, in their order, for the terminal of this address, if there is one
-abbrev pub message_events : Option ℕ → Bus → SaidMessage → List Event
-message_events own bus m = word_event bus m.first ∷ (if is_own own m.sender then own_events bus m.sender else heard_events bus m)
+-- the events of a message, in their order, for these terminals
+abbrev pub message_events : ScriptFor → Bus → SaidMessage → List Event
+message_events own bus m = word_event bus m.first ∷ (if is_own own m.sender then own_events bus m.sender ++ receiver_events own bus m else heard_events bus m)

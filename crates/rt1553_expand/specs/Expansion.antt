@@ -1,5 +1,5 @@
 -- The script that a text of events and messages stands for.
-use Rattle.std.specs.Prelude.{ℕ, ◌+◌, ◌-◌, ◌≡◌, ◌≢◌, ◌<◌, ◌≤◌, ◌==◌, Bool, false, nat_lt, if◌then◌else◌, List, [], ◌∷◌, ◌++◌, length, get_or, map, drop, Option, Some, None, is_some, Result, Ok, Err}
+use Rattle.std.specs.Prelude.{ℕ, ◌+◌, ◌-◌, ◌≡◌, ◌≢◌, ◌<◌, ◌≤◌, ◌==◌, Bool, true, false, ◌&&◌, nat_lt, if◌then◌else◌, List, [], ◌∷◌, ◌++◌, length, get_or, map, drop, Option, Some, None, is_some, Result, Ok, Err}
 use Rattle.std.specs.List.{flat_map, sum_by}
 use Rattle.bus_word.specs.declared.word.Bus.{Bus}
 use Rattle.terminal_rules.specs.declared.event.Event.{Event}
@@ -12,6 +12,9 @@ use Rattle.rt1553_expand.specs.declared.fault.ExpandFault.TheVariants.{Long, Lon
 use Rattle.rt1553_expand.specs.declared.expanding.Expanded.{Expanded}
 use Rattle.rt1553_expand.specs.declared.expanding.Expanded.TheVariants.{Script, Refused, TooLong}
 use Rattle.rt1553_expand.specs.declared.expanding.UnexpandedLine.{UnexpandedLine}
+use Rattle.script_terminals.specs.BusLine.{address_first}
+use Rattle.rt1553_expand.specs.declared.script_for.ScriptFor.{ScriptFor}
+use Rattle.rt1553_expand.specs.declared.script_for.ScriptFor.TheVariants as script_for
 use Rattle.rt1553_expand.specs.Message.{SaidMessage, message_in}
 use Rattle.rt1553_expand.specs.Events.{message_events}
 use Rattle.rt1553_expand.specs.Placing.{ScriptLine, Placing, is_stating, nothing_placed, lines_in_order, with_message, with_statement, with_line}
@@ -37,14 +40,20 @@ lines_given (Stays line said) = 1
 lines_given (Gives es) = length es
 
 -- a message on the bus gives the lines of its events, unless it has a fault
-abbrev pub message_expansion : Option ℕ → Bus → Result SaidMessage ExpandFault → Result Expansion ExpandFault
+abbrev pub message_expansion : ScriptFor → Bus → Result SaidMessage ExpandFault → Result Expansion ExpandFault
 message_expansion own bus (Err fault) = Err fault
 message_expansion own bus (Ok message) = Ok (Gives (message_events own bus message))
 
--- a message begins with the letter of a bus; a line without one is no message
-abbrev pub by_bus_letter : Option ℕ → Option Bus → List ℕ → Result Expansion ExpandFault
-by_bus_letter own None text = Err Neither
-by_bus_letter own (Some bus) text = message_expansion own bus (message_in text)
+-- lines of subsystems have the address of their terminal in front
+abbrev pub is_of_bus : ScriptFor → Bool
+is_of_bus (script_for.Terminal own) = false
+is_of_bus (script_for.Bus addresses) = true
+
+-- A message begins with the letter of a bus. A line without one is no message; on a bus, one with an address in front stays, whatever is
+-- behind it.
+abbrev pub by_bus_letter : ScriptFor → List ℕ → Option Bus → Result Expansion ExpandFault
+by_bus_letter own line None = if is_of_bus own && is_some (address_first line) then Ok (Stays line None) else Err Neither
+by_bus_letter own line (Some bus) = message_expansion own bus (message_in (drop 2 line))
 
 -- the line ends in a carriage return
 abbrev pub ends_in_return : List ℕ → Bool
@@ -63,13 +72,12 @@ with_named_fault line (Ok expansion) = Ok expansion
 with_named_fault line (Err fault) = Err (named_fault line fault)
 
 -- a line of a script stays, unless it is a comment too long for a script; any other line is read as a message
-abbrev pub by_meaning : Option ℕ → List ℕ → Result (Option Event) LineFault → Result Expansion ExpandFault
+abbrev pub by_meaning : ScriptFor → List ℕ → Result (Option Event) LineFault → Result Expansion ExpandFault
 by_meaning own line (Ok said) = if nat_lt 64 (length line) then Err LongComment else Ok (Stays line said)
-by_meaning own line (Err fault) = with_named_fault line (by_bus_letter own (bus_first line) (drop 2 line))
+by_meaning own line (Err fault) = with_named_fault line (by_bus_letter own line (bus_first line))
 
--- What stands in the script for a line of the text, or why the line is refused; the script is for the terminal of this address, if there
--- is one.
-abbrev pub expansion_of : Option ℕ → List ℕ → Result Expansion ExpandFault
+-- what stands in the script for a line of the text, or why the line is refused
+abbrev pub expansion_of : ScriptFor → List ℕ → Result Expansion ExpandFault
 expansion_of own line = if nat_lt 256 (length line) then Err Long else by_meaning own line (meaning line)
 
 -- the events that a line of the text adds to the script: none where it is refused
@@ -99,12 +107,12 @@ with_expanded n (Ok expansion) p = with_expansion n expansion p
 with_expanded n (Err fault) p = p
 
 -- lines, of which the first has number n, with their statements and the script behind these
-unfoldable pub placing : Option ℕ → ℕ → List (List ℕ) → Placing
+unfoldable pub placing : ScriptFor → ℕ → List (List ℕ) → Placing
 placing own n [] = nothing_placed
 placing own n (line ∷ lines) = with_expanded n (expansion_of own line) (placing own (n + 1) lines)
 
 -- the lines of the script of a text
-abbrev pub script_lines : Option ℕ → List (List ℕ) → List ScriptLine
+abbrev pub script_lines : ScriptFor → List (List ℕ) → List ScriptLine
 script_lines own lines = lines_in_order (placing own 1 lines)
 
 -- a line with its line feed
@@ -112,15 +120,15 @@ abbrev pub spelled : ScriptLine → List ℕ
 spelled l = l.text ++ 10 ∷ []
 
 -- the script
-abbrev pub script_in : Option ℕ → List (List ℕ) → List ℕ
+abbrev pub script_in : ScriptFor → List (List ℕ) → List ℕ
 script_in own lines = flat_map spelled (script_lines own lines)
 
 -- its events
-abbrev pub all_events : Option ℕ → List (List ℕ) → List Event
+abbrev pub all_events : ScriptFor → List (List ℕ) → List Event
 all_events own lines = flat_map (λ line. expanded_events (expansion_of own line)) lines
 
 -- how many lines these are
-abbrev pub line_count : Option ℕ → List (List ℕ) → ℕ
+abbrev pub line_count : ScriptFor → List (List ℕ) → ℕ
 line_count own lines = sum_by (λ line. expanded_lines (expansion_of own line)) lines
 
 -- a line that is refused, by its number, and why
@@ -133,14 +141,14 @@ abbrev pub refusal_at : ℕ → Result Expansion ExpandFault → List Refusal
 refusal_at n (Ok expansion) = []
 refusal_at n (Err fault) = record { line = n; fault = fault } ∷ []
 
--- the lines that are refused, of which the first has number n; whether a line is, no address changes
-unfoldable pub refusals_from : ℕ → List (List ℕ) → List Refusal
-refusals_from n [] = []
-refusals_from n (line ∷ lines) = refusal_at n (expansion_of None line) ++ refusals_from (n + 1) lines
+-- the lines that are refused, of which the first has number n
+unfoldable pub refusals_from : ScriptFor → ℕ → List (List ℕ) → List Refusal
+refusals_from own n [] = []
+refusals_from own n (line ∷ lines) = refusal_at n (expansion_of own line) ++ refusals_from own (n + 1) lines
 
 -- those of a text
-abbrev pub refusals_in : List ℕ → List Refusal
-refusals_in text = refusals_from 1 (lines_of text)
+abbrev pub refusals_in : ScriptFor → List ℕ → List Refusal
+refusals_in own text = refusals_from own 1 (lines_of text)
 
 -- the number and the fault of a line that is returned as refused; its column is left out
 abbrev pub refusal_of : UnexpandedLine → Refusal
@@ -148,10 +156,10 @@ refusal_of line = record { line = line.line; fault = line.fault }
 
 -- What a text is expanded to. The three exclude one another: some lines are refused, and these are all of them; none is, and
 -- the script would have over 1,048,576 lines; or this is the script.
-abbrev pub IsExpansion : Option ℕ → List ℕ → Expanded → Type 0
-IsExpansion own text (Refused lines) = (map refusal_of lines.items ≡ refusals_in text) × (refusals_in text ≢ [])
-IsExpansion own text TooLong = (refusals_in text ≡ []) × (1048576 < line_count own (lines_of text))
-IsExpansion own text (Script script) = (refusals_in text ≡ []) × (line_count own (lines_of text) ≤ 1048576) × (script.items ≡ script_in own (lines_of text))
+abbrev pub IsExpansion : ScriptFor → List ℕ → Expanded → Type 0
+IsExpansion own text (Refused lines) = (map refusal_of lines.items ≡ refusals_in own text) × (refusals_in own text ≢ [])
+IsExpansion own text TooLong = (refusals_in own text ≡ []) × (1048576 < line_count own (lines_of text))
+IsExpansion own text (Script script) = (refusals_in own text ≡ []) × (line_count own (lines_of text) ≤ 1048576) × (script.items ≡ script_in own (lines_of text))
 
 -- a fact of the script, where there is one
 abbrev pub IfScript : Expanded → (List ℕ → Type 0) → Type 0

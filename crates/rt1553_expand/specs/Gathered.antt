@@ -14,6 +14,7 @@ use Rattle.rt1553_tool.specs.declared.fields.CommandFields.{CommandFields}
 use Rattle.rt1553_tool.specs.declared.fields.WordFields.TheVariants as fields
 use Rattle.rt1553_tool.specs.Fields.{in_word}
 use Rattle.rt1553_tool.specs.WordTexts.{address_text, short_decimal, command_text}
+use Rattle.rt1553_expand.specs.declared.script_for.ScriptFor.{ScriptFor}
 use Rattle.rt1553_expand.specs.Message.{SaidMessage, words_wanted, message_in}
 use Rattle.rt1553_expand.specs.Events.{is_own, message_events}
 use Rattle.rt1553_expand.specs.Expansion.{all_events, refusals_in}
@@ -78,8 +79,8 @@ pub record IsSaid (bus : Bus) (m : CommandMessage) : Type 0 where
 abbrev pub EachIsSaid : Type 0
 EachIsSaid = (bus : Bus) (m : CommandMessage) → IsMessage m → IsSaid bus m
 
--- a message as it is listed: the words of the own terminal are not on the bus, and are written as 0000
-pub record IsListed (own : Option ℕ) (m : CommandMessage) : Type 0 where
+-- a message as it is listed: the words of an own terminal are not on the bus, and are written as 0000
+pub record IsListed (own : ScriptFor) (m : CommandMessage) : Type 0 where
   pub message : IsMessage m
   pub zeros : is_own own m.sender ≡ true → m.words ≡ replicate (words_wanted (fields.Command m.command)) 0
 
@@ -93,13 +94,13 @@ abbrev pub piece_line : Piece → List ℕ
 piece_line (Whole bus m) = listed_line bus m
 piece_line (Alone e) = event_text e
 
--- the events of a piece, for the terminal of this address, if there is one
-abbrev pub piece_events : Option ℕ → Piece → List Event
+-- the events of a piece, for these terminals
+abbrev pub piece_events : ScriptFor → Piece → List Event
 piece_events own (Whole bus m) = message_events own bus (said m)
 piece_events own (Alone e) = e ∷ []
 
 -- the events of pieces
-abbrev pub events_in : Option ℕ → List Piece → List Event
+abbrev pub events_in : ScriptFor → List Piece → List Event
 events_in own pieces = flat_map (piece_events own) pieces
 
 -- the lines of pieces, each with its line feed
@@ -107,32 +108,32 @@ abbrev pub lines_text : List Piece → List ℕ
 lines_text pieces = flat_map (λ p. piece_line p ++ 10 ∷ []) pieces
 
 -- the events begin with those of no message that is listed
-abbrev pub NoneNext : Option ℕ → List Event → Type 0
+abbrev pub NoneNext : ScriptFor → List Event → Type 0
 NoneNext own es = (bus : Bus) (m : CommandMessage) (rest : List Event) → IsListed own m → es ≢ message_events own bus (said m) ++ rest
 
 -- the piece is a message that is listed, or an event where no such message comes next, as these events follow
-abbrev pub IsNext : Option ℕ → Piece → List Event → Type 0
+abbrev pub IsNext : ScriptFor → Piece → List Event → Type 0
 IsNext own (Whole bus m) rest = IsListed own m
 IsNext own (Alone e) rest = NoneNext own (e ∷ rest)
 
 -- each piece is, before the events of the others and these
-abbrev pub AreNext : Option ℕ → List Piece → List Event → Type 0
+abbrev pub AreNext : ScriptFor → List Piece → List Event → Type 0
 AreNext own [] rest = Unit {0}
 AreNext own (p ∷ pieces) rest = IsNext own p (events_in own pieces ++ rest) × AreNext own pieces rest
 
 -- A text whose lines are the messages of these events, and the events between them: no message of them is left out.
-pub record IsGathered (own : Option ℕ) (es : List Event) (text : List ℕ) : Type 0 where
+pub record IsGathered (own : ScriptFor) (es : List Event) (text : List ℕ) : Type 0 where
   pub pieces : List Piece
   pub events : events_in own pieces ≡ es
   pub next : AreNext own pieces []
   pub lines : text ≡ lines_text pieces
 
 -- a script without a fault is gathered, and one with a fault is not
-abbrev pub GathersScript : Option ℕ → Reading → Option (List ℕ) → Type 0
+abbrev pub GathersScript : ScriptFor → Reading → Option (List ℕ) → Type 0
 GathersScript own script None = is_some script.fault ≡ true
 GathersScript own script (Some text) = (script.fault ≡ None) × IsGathered own script.events text
 
 -- expanded again, a text that was gathered has no line that is refused, and gives the events of its script
-abbrev pub GivesBack : Option ℕ → Reading → Option (List ℕ) → Type 0
+abbrev pub GivesBack : ScriptFor → Reading → Option (List ℕ) → Type 0
 GivesBack own script None = Unit {0}
-GivesBack own script (Some text) = (refusals_in text ≡ []) × (all_events own (lines_of text) ≡ script.events)
+GivesBack own script (Some text) = (refusals_in own text ≡ []) × (all_events own (lines_of text) ≡ script.events)

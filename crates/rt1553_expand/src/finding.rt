@@ -7,6 +7,7 @@ ghost use Rattle.rt1553_expand.specs.inner.Said.{said_message};
 ghost use Rattle.rt1553_expand.specs.inner.Found.{heard_in, command_first, sender_found, bits_heard, events_before, words_found, message_at, heard_command, command_message, message_on, IsOfWidth};
 
 use crate::message::{BusMessage, Words, words_wanted};
+use crate::script_for::ScriptFor;
 use crate::writing::is_own;
 use arrayvec::ArrayVec;
 use bus_terminal::Event;
@@ -96,13 +97,13 @@ fn zeros(count: u8) -> Words
 
 /// The data words of a message, of which these events stand behind the first command.
 fn words_found(
-    own: Option<u8>,
+    own: &ScriptFor,
     sender: Option<CommandFields>,
     wanted: u8,
     events: &[Event],
 ) -> Words
     requires { wanted ≤ 32 }
-    ensures { result.items ≡ words_found own sender wanted events.now }
+    ensures { result.items ≡ words_found own.now sender wanted events.now }
 {
     if is_own(own, sender) {
         return zeros(wanted);
@@ -112,8 +113,8 @@ fn words_found(
 }
 
 /// The message that events seem to begin with: what they have where its parts would stand.
-pub fn message_found(own: Option<u8>, events: &[Event]) -> Option<FoundMessage>
-    ensures value { option_map message_on result ≡ message_at own events.now }
+pub fn message_found(own: &ScriptFor, events: &[Event]) -> Option<FoundMessage>
+    ensures value { option_map message_on result ≡ message_at own.now events.now }
     ensures width { IfSome result IsOfWidth }
 {
     if events.is_empty() {

@@ -11,6 +11,7 @@ ghost use Rattle.rt1553_expand.specs.inner.Gathering.{IsNextLine, WroteNext, Wro
 
 use crate::finding::{FoundMessage, as_read, message_found};
 use crate::message::{ALL_TERMINALS, words_wanted};
+use crate::script_for::ScriptFor;
 use crate::spelling::{MessageLine, listed_line};
 use crate::writing::{push_events, write_line};
 use bus_terminal::Event;
@@ -99,11 +100,11 @@ fn is_message(found: &FoundMessage) -> bool
 /// The line of the message that comes next, if one does that can be listed; then `room` becomes its events.
 fn next_message(
     room: &mut Vec<Event>,
-    own: Option<u8>,
+    own: &ScriptFor,
     events: &[Event],
 ) -> Result<Option<MessageLine>, AllocError>
-    ensures some { IfOk result (λ o. IfSome o (λ line. IsNextLine own events.now room.new.items line.bytes)) }
-    ensures none { IfOk result (λ o. IfNone o (NoneNext own events.now)) }
+    ensures some { IfOk result (λ o. IfSome o (λ line. IsNextLine own.now events.now room.new.items line.bytes)) }
+    ensures none { IfOk result (λ o. IfNone o (NoneNext own.now events.now)) }
 {
     let Some(found) = message_found(own, events) else {
         return Ok(None);
@@ -125,11 +126,11 @@ fn next_message(
 fn push_piece(
     out: &mut Vec<u8>,
     room: &mut Vec<Event>,
-    own: Option<u8>,
+    own: &ScriptFor,
     events: &[Event],
 ) -> Result<usize, AllocError>
     requires { 0 < length events.now }
-    ensures { IfOk result (WroteNext own out.old.items out.new.items events.now) }
+    ensures { IfOk result (WroteNext own.now out.old.items out.new.items events.now) }
 {
     match next_message(room, own, events)? {
         Some(line) => {
@@ -145,8 +146,8 @@ fn push_piece(
 }
 
 /// Writes the lines of all events.
-fn lines_of_events(alloc: Global, own: Option<u8>, events: &[Event]) -> Result<Vec<u8>, AllocError>
-    ensures { IfOk result (λ text. WroteSo own events.now [] text.items) }
+fn lines_of_events(alloc: Global, own: &ScriptFor, events: &[Event]) -> Result<Vec<u8>, AllocError>
+    ensures { IfOk result (λ text. WroteSo own.now events.now [] text.items) }
 {
     let mut text = Vec::new(alloc);
     let mut room = Vec::new(alloc);
@@ -197,11 +198,11 @@ fn script_events(alloc: Global, script: &[u8]) -> Result<Option<Vec<Event>>, All
 }
 
 /// Gathers the events of a script into messages, as `expand` reads them: a line for each message, and for each event between
-/// them. Comments are left out. The script is for the terminal of the address `own`, 0 to 30, if there is one: where it
-/// sends in a transfer, its words are written as 0000. None where a run refuses the script. The only error is out of memory.
-pub fn gather(alloc: Global, script: &[u8], own: Option<u8>) -> Result<Option<Vec<u8>>, AllocError>
-    ensures gathered { IfOk result (λ o. GathersScript own (reading 0 (lines_of script.now)) (option_map (λ text. text.items) o)) }
-    ensures back { IfOk result (λ o. GivesBack own (reading 0 (lines_of script.now)) (option_map (λ text. text.items) o)) }
+/// them. Comments are left out. The script is for the terminals `own`: where one of them sends in a transfer, its words are written
+/// as 0000. None where a run refuses the script. The only error is out of memory.
+pub fn gather(alloc: Global, script: &[u8], own: &ScriptFor) -> Result<Option<Vec<u8>>, AllocError>
+    ensures gathered { IfOk result (λ o. GathersScript own.now (reading 0 (lines_of script.now)) (option_map (λ text. text.items) o)) }
+    ensures back { IfOk result (λ o. GivesBack own.now (reading 0 (lines_of script.now)) (option_map (λ text. text.items) o)) }
 {
     match script_events(alloc, script)? {
         Some(events) => Ok(Some(lines_of_events(alloc, own, events.as_slice())?)),

@@ -8,6 +8,7 @@ ghost use Rattle.rt1553_expand.specs.inner.Read.{expansion_by, IsWritable};
 
 use crate::expanding::ReadLine;
 use crate::gathering::behind;
+use crate::script_for::ScriptFor;
 use crate::writing::push_events;
 use bus_terminal::Event;
 use line_format::after;
@@ -164,7 +165,7 @@ fn is_statement(line: &[u8], said: Option<Event>) -> bool
 /// How many events come before the lines of a line that was read.
 pub fn due(pending: &Pending, line: &[u8], read: &ReadLine) -> usize
     requires { IsPending pending.now }
-    ensures value { (own : Option ℕ) → result ≡ due (left_of pending.now) (expansion_by own line.now read.now) }
+    ensures value { (own : ScriptFor) → result ≡ due (left_of pending.now) (expansion_by own line.now read.now) }
     ensures within { result ≤ length (left_of pending.now).events }
 {
     match read {
@@ -177,16 +178,16 @@ pub fn due(pending: &Pending, line: &[u8], read: &ReadLine) -> usize
 pub fn go_behind(
     pending: &mut Pending,
     count: usize,
-    own: Option<u8>,
+    own: &ScriptFor,
     number: u64,
     line: &[u8],
     read: &ReadLine,
 ) -> Result<(), AllocError>
     requires fits { IsPending pending.old }
-    requires sound { IsWritable line.now read.now }
-    requires due { count ≡ due (left_of pending.old) (expansion_by own line.now read.now) }
+    requires sound { IsWritable own.now line.now read.now }
+    requires due { count ≡ due (left_of pending.old) (expansion_by own.now line.now read.now) }
     requires within { count ≤ length (left_of pending.old).events }
-    ensures left { OnOk result (left_of pending.new ≡ left_behind number (left_of pending.old) (expansion_by own line.now read.now)) }
+    ensures left { OnOk result (left_of pending.new ≡ left_behind number (left_of pending.old) (expansion_by own.now line.now read.now)) }
     ensures fits { OnOk result (IsPending pending.new) }
 {
     match read {

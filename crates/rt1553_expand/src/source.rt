@@ -8,6 +8,7 @@ ghost use Rattle.rt1553_expand.specs.inner.Read.{expansion_by};
 
 use crate::expanding::{ReadLine, read_line};
 use crate::placing::{Pending, due, go_behind, how_many_left, nothing_pending};
+use crate::script_for::ScriptFor;
 use refused_lines::first_line;
 use std::alloc::{AllocError, Global};
 
@@ -23,7 +24,7 @@ fn push_times(sources: &mut Vec<u64>, count: usize, number: u64) -> Result<(), A
 
 /// Adds the number of a line that stays.
 fn push_own(sources: &mut Vec<u64>, read: &ReadLine, number: u64) -> Result<(), AllocError>
-    ensures { (own : Option ℕ) (line : List ℕ) → OnOk result (sources.new.items ≡ sources.old.items ++ map (λ l. l.source) (own_line number (expansion_by own line read.now))) }
+    ensures { (own : ScriptFor) (line : List ℕ) → OnOk result (sources.new.items ≡ sources.old.items ++ map (λ l. l.source) (own_line number (expansion_by own line read.now))) }
 {
     if let ReadLine::Kept(_) = read {
         sources.push(number)?;
@@ -35,15 +36,15 @@ fn push_own(sources: &mut Vec<u64>, read: &ReadLine, number: u64) -> Result<(), 
 fn push_sources(
     sources: &mut Vec<u64>,
     pending: &mut Pending,
-    own: Option<u8>,
+    own: &ScriptFor,
     line: &[u8],
     number: u64,
 ) -> Result<(), AllocError>
     requires { IsPending pending.old }
-    ensures sources { OnOk result ((p : Placing) → sources.old.items ++ map (λ l. l.source) (to_come (left_of pending.old) (with_expanded number (expansion_of own line.now) p)) ≡ sources.new.items ++ map (λ l. l.source) (to_come (left_of pending.new) p)) }
+    ensures sources { OnOk result ((p : Placing) → sources.old.items ++ map (λ l. l.source) (to_come (left_of pending.old) (with_expanded number (expansion_of own.now line.now) p)) ≡ sources.new.items ++ map (λ l. l.source) (to_come (left_of pending.new) p)) }
     ensures fits { OnOk result (IsPending pending.new) }
 {
-    let Ok(read) = read_line(line) else {
+    let Ok(read) = read_line(own, line) else {
         return Ok(());
     };
     let count = due(pending, line, &read);
@@ -54,8 +55,8 @@ fn push_sources(
 }
 
 /// Gives, for each line of the script that `expand` makes of a text, the number of the line of the text that it stands for, from 1.
-pub fn source_lines(alloc: Global, text: &[u8], own: Option<u8>) -> Result<Vec<u64>, AllocError>
-    ensures { IfOk result (λ sources. sources.items ≡ sources_in own text.now) }
+pub fn source_lines(alloc: Global, text: &[u8], own: &ScriptFor) -> Result<Vec<u64>, AllocError>
+    ensures { IfOk result (λ sources. sources.items ≡ sources_in own.now text.now) }
 {
     let mut sources = Vec::new(alloc);
     let mut pending = nothing_pending(alloc);

@@ -5,11 +5,12 @@ ghost use Rattle.bus_word.specs.Command.{AreOfTheirWidth};
 ghost use Rattle.terminal_rules.specs.declared.event.Event.TheVariants.{Slot as SlotEvent};
 ghost use Rattle.rt1553_tool.specs.Fields.{AreOfWidth, in_word};
 ghost use Rattle.rt1553_tool.specs.WordLines.{status_with};
-ghost use Rattle.rt1553_expand.specs.Events.{word_event, data_events, data_words_sent, reply_words, message_end, sender_events, is_own, own_events, heard_events, message_events};
+ghost use Rattle.rt1553_expand.specs.Events.{word_event, data_events, data_words_sent, reply_words, message_end, sender_events, is_own, own_events, other_receives, receiver_events, heard_events, message_events};
 ghost use Rattle.rt1553_expand.specs.inner.Said.{said_message};
 ghost use Rattle.rt1553_expand.specs.inner.Wrote.{Wrote};
 
 use crate::message::BusMessage;
+use crate::script_for::ScriptFor;
 use bus_terminal::Event;
 use bus_word::{Bus, Command};
 use rt1553_tool::{CommandFields, StatusFields, WordFields, command_bits, word_with};
@@ -134,17 +135,17 @@ fn end_lines(first: WordFields) -> usize
     }
 }
 
-/// Whether it is the terminal of this address that sends in a transfer.
-pub fn is_own(own: Option<u8>, sender: Option<CommandFields>) -> bool
-    ensures { result ≡ is_own own sender }
+/// Whether the terminal that sends in a transfer plays its own part.
+pub fn is_own(own: &ScriptFor, sender: Option<CommandFields>) -> bool
+    ensures { result ≡ is_own own.now sender }
 {
-    match (own, sender) {
-        (Some(address), Some(command)) => command.address == address,
-        _ => false,
+    match sender {
+        Some(command) => own.plays(command.address),
+        None => false,
     }
 }
 
-/// How many lines come behind the first word where the own terminal sends, 0 to 35.
+/// How many lines come behind the first word where an own terminal sends, 0 to 35.
 fn own_lines(sender: Option<CommandFields>) -> usize
     requires { IfSome sender (λ s. AreOfTheirWidth (in_word s)) }
     ensures value { (bus : Bus) → result ≡ length (own_events bus sender) }
@@ -153,6 +154,31 @@ fn own_lines(sender: Option<CommandFields>) -> usize
     match sender {
         Some(command) => 1 + end_lines(WordFields::Command(command)),
         None => 0,
+    }
+}
+
+/// Whether another own terminal than the sender receives in a transfer.
+fn other_receives(own: &ScriptFor, first: WordFields, sender: Option<CommandFields>) -> bool
+    ensures { result ≡ other_receives own.now first sender }
+{
+    match (first, sender) {
+        (WordFields::Command(command), Some(sender)) => {
+            own.other_hears(command.address, sender.address)
+        }
+        _ => false,
+    }
+}
+
+/// How many lines come behind those of the sender where another own terminal receives, 0 to 34.
+fn receiver_lines(own: &ScriptFor, message: &BusMessage) -> usize
+    requires { AreOfWidth message.now.first }
+    ensures value { (bus : Bus) → result ≡ length (receiver_events own.now bus (said_message message.now)) }
+    ensures few { result ≤ 34 }
+{
+    if other_receives(own, message.first, message.sender) {
+        end_lines(message.first)
+    } else {
+        0
     }
 }
 
@@ -166,21 +192,21 @@ fn heard_lines(message: &BusMessage) -> usize
     of_sender + message.words.len() + end_lines(message.first)
 }
 
-/// How many lines a message has for the terminal of this address, if there is one: 1 to 70.
-pub fn message_lines(own: Option<u8>, message: &BusMessage) -> usize
+/// How many lines a message has for these terminals: 1 to 70.
+pub fn message_lines(own: &ScriptFor, message: &BusMessage) -> usize
     requires width { AreOfWidth message.now.first }
     requires sender { IfSome message.now.sender (λ s. AreOfTheirWidth (in_word s)) }
-    ensures value { (bus : Bus) → result ≡ length (message_events own bus (said_message message.now)) }
+    ensures value { (bus : Bus) → result ≡ length (message_events own.now bus (said_message message.now)) }
     ensures few { result ≤ 70 }
 {
     if is_own(own, message.sender) {
-        1 + own_lines(message.sender)
+        1 + own_lines(message.sender) + receiver_lines(own, message)
     } else {
         1 + heard_lines(message)
     }
 }
 
-/// Adds what comes behind the first word where the own terminal sends.
+/// Adds what comes behind the first word where an own terminal sends.
 fn push_own(out: &mut Vec<Event>, bus: Bus, sender: Option<CommandFields>) -> Result<(), AllocError>
     requires { IfSome sender (λ s. AreOfTheirWidth (in_word s)) }
     ensures { OnOk result (out.new.items ≡ out.old.items ++ own_events bus sender) }
@@ -188,6 +214,22 @@ fn push_own(out: &mut Vec<Event>, bus: Bus, sender: Option<CommandFields>) -> Re
     if let Some(command) = sender {
         push_word(out, bus, WordFields::Command(command))?;
         push_end(out, bus, WordFields::Command(command))?;
+    }
+    Ok(())
+}
+
+/// Adds what comes behind that where another own terminal receives.
+fn push_receiver(
+    out: &mut Vec<Event>,
+    own: &ScriptFor,
+    bus: Bus,
+    message: &BusMessage,
+) -> Result<(), AllocError>
+    requires { AreOfWidth message.now.first }
+    ensures { OnOk result (out.new.items ≡ out.old.items ++ receiver_events own.now bus (said_message message.now)) }
+{
+    if other_receives(own, message.first, message.sender) {
+        push_end(out, bus, message.first)?;
     }
     Ok(())
 }
@@ -204,20 +246,21 @@ fn push_heard(out: &mut Vec<Event>, bus: Bus, message: &BusMessage) -> Result<()
     Ok(())
 }
 
-/// Adds the events of a message for the terminal of this address, if there is one.
+/// Adds the events of a message for these terminals.
 pub fn push_events(
     out: &mut Vec<Event>,
-    own: Option<u8>,
+    own: &ScriptFor,
     bus: Bus,
     message: &BusMessage,
 ) -> Result<(), AllocError>
     requires width { AreOfWidth message.now.first }
     requires sender { IfSome message.now.sender (λ s. AreOfTheirWidth (in_word s)) }
-    ensures { OnOk result (out.new.items ≡ out.old.items ++ message_events own bus (said_message message.now)) }
+    ensures { OnOk result (out.new.items ≡ out.old.items ++ message_events own.now bus (said_message message.now)) }
 {
     push_word(out, bus, message.first)?;
     if is_own(own, message.sender) {
         push_own(out, bus, message.sender)?;
+        push_receiver(out, own, bus, message)?;
     } else {
         push_heard(out, bus, message)?;
     }

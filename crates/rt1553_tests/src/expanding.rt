@@ -1,12 +1,14 @@
 //! What only calls show: worked messages, columns, and texts of faults.
-use rt1553_expand::{ExpandFault, Expanded, UnexpandedLine, expand, gather, source_lines};
+use rt1553_expand::{
+    ExpandFault, Expanded, ScriptFor, UnexpandedLine, expand, gather, source_lines,
+};
 use std::alloc::{AllocError, Global};
 use std::format;
 use std::test::Fail;
 
 /// The script of a text for the terminal of an address, if there is one; nothing where there is none.
 fn script_for(alloc: Global, own: Option<u8>, text: &[u8]) -> Result<Vec<u8>, AllocError> {
-    match expand(alloc, text, own)? {
+    match expand(alloc, text, &ScriptFor::Terminal(own))? {
         Expanded::Script(script) => Ok(script),
         _ => Ok(Vec::new(alloc)),
     }
@@ -25,7 +27,7 @@ fn expands(alloc: Global, text: &str, script: &str) -> Result<bool, AllocError> 
 
 /// The lines of a text that are refused.
 fn refused_of(alloc: Global, text: &[u8]) -> Result<Vec<UnexpandedLine>, AllocError> {
-    match expand(alloc, text, None)? {
+    match expand(alloc, text, &ScriptFor::Terminal(None))? {
         Expanded::Refused(lines) => Ok(lines),
         _ => Ok(Vec::new(alloc)),
     }
@@ -38,7 +40,7 @@ fn gathers(
     script: &str,
     messages: &str,
 ) -> Result<bool, AllocError> {
-    match gather(alloc, script.as_bytes(), own)? {
+    match gather(alloc, script.as_bytes(), &ScriptFor::Terminal(own))? {
         Some(found) => Ok(found.as_slice() == messages.as_bytes()),
         None => Ok(false),
     }
@@ -106,7 +108,8 @@ fn events_that_are_no_message(rt: HostRuntime) -> Result<(), Fail> {
     for (own, script, messages) in cases {
         assert!(rt; gathers(rt.alloc(), own, script, messages)?);
     }
-    assert!(rt; gather(rt.alloc(), b"A gap\nx\n", None)?.is_none());
+    let nobody = ScriptFor::Terminal(None);
+    assert!(rt; gather(rt.alloc(), b"A gap\nx\n", &nobody)?.is_none());
     Ok(())
 }
 
@@ -165,6 +168,42 @@ fn transfers_for_a_terminal(rt: HostRuntime) -> Result<(), Fail> {
         let found = script_for(rt.alloc(), Some(own), text.as_bytes())?;
         assert!(rt; found.as_slice() == script.as_bytes(), "{own}: {text}");
     }
+    Ok(())
+}
+
+#[test]
+fn messages_on_a_bus(rt: HostRuntime) -> Result<(), Fail> {
+    let bus = ScriptFor::Bus(Vec::from_slice(rt.alloc(), &[5, 6])?);
+    for (text, script) in [
+        // to another terminal of the bus, to all, and to one that is not there
+        (
+            "A rx 5 3 2 from 6 4: 0001 0002",
+            "A c 2862\nA c 3482\nA gap\nslot\nslot\nslot\nA gap\nslot\n",
+        ),
+        (
+            "B rx all 3 1 from 6 30: abcd",
+            "B c f861\nB c 37c1\nB gap\nslot\nslot\nB gap\n",
+        ),
+        (
+            "A rx 7 3 1 from 6 4: 0001",
+            "A c 3861\nA c 3481\nA gap\nslot\nslot\n",
+        ),
+        // from one that is not there
+        (
+            "A rx 6 1 1 from 9 1: 0007",
+            "A c 3021\nA c 4c21\nA gap\nA s 4800\nA d 0007\nA gap\nslot\n",
+        ),
+        // a line with an address in front stays, whatever is behind it
+        ("05 bit 0001", "05 bit 0001\n"),
+        ("99 x", "99 x\n"),
+    ] {
+        let Expanded::Script(found) = expand(rt.alloc(), text.as_bytes(), &bus)? else {
+            panic!(rt; "{text} is refused");
+        };
+        assert!(rt; found.as_slice() == script.as_bytes(), "{text}");
+    }
+    let refused = refused_of(rt.alloc(), b"05 bit 0001\n")?;
+    assert!(rt; refused.as_slice()[0].fault == ExpandFault::Neither);
     Ok(())
 }
 
@@ -308,7 +347,7 @@ fn stated_answers(rt: HostRuntime) -> Result<(), Fail> {
 fn lines_of_stated_answers(rt: HostRuntime) -> Result<(), Fail> {
     let text =
         b"A tx 5 1 2\n#> A s 2800\n#> A d 0001\n#> A d 0002\nA rx 5 3 1: 0001\n#> hand\n#+ x\n";
-    let found = source_lines(rt.alloc(), text, None)?;
+    let found = source_lines(rt.alloc(), text, &ScriptFor::Terminal(None))?;
     let want: [u64; 14] = [1, 1, 1, 2, 1, 3, 1, 4, 5, 5, 5, 6, 7, 5];
     assert!(rt; found.as_slice() == want.as_slice());
     Ok(())
@@ -513,6 +552,7 @@ fn all_refused_lines(rt: HostRuntime) -> Result<(), Fail> {
 
 #[test]
 fn too_many_lines(rt: HostRuntime) -> Result<(), Fail> {
+    let nobody = ScriptFor::Terminal(None);
     let mut text = Vec::new(rt.alloc());
     for _ in 0..29_959 {
         text.extend_from_slice(b"A tx 5 3 32\n")?;
@@ -523,14 +563,14 @@ fn too_many_lines(rt: HostRuntime) -> Result<(), Fail> {
     }
     assert!(rt;
         matches!(
-            expand(rt.alloc(), text.as_slice(), None)?,
+            expand(rt.alloc(), text.as_slice(), &nobody)?,
             Expanded::Script(_)
         )
     );
     text.push(b'\n')?;
     assert!(rt;
         matches!(
-            expand(rt.alloc(), text.as_slice(), None)?,
+            expand(rt.alloc(), text.as_slice(), &nobody)?,
             Expanded::TooLong
         )
     );

@@ -222,7 +222,8 @@ Asks f (Check p) = HasValue f (codes "profile") p.now
 Asks f (Canon p) = HasValue f (codes "profile") p.now
 Asks f (Run p script) = HasValue f (codes "profile") p.now × HasValue f (codes "script") script.now
 Asks f (Bus asked profiles) =
-    HasValue f (codes "script") asked.script.now × HasAlone f asked.alone × (texts_of profiles.items ≡ all_values f (codes "profile"))
+    HasValue f (codes "script") asked.script.now × (asked.expand ≡ is_given f (codes "expand")) × HasAlone f asked.alone
+    × (texts_of profiles.items ≡ all_values f (codes "profile"))
 Asks f (Compare p q) = HasValue f (codes "profile") p.now × HasValue f (codes "other") q.now
 
 -- clap met the subcommand of this command, with these arguments

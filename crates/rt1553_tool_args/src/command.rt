@@ -222,6 +222,8 @@ pub struct AskedMessages<'a> {
 #[derive(Clone, Copy)]
 pub struct AskedBus<'a> {
     pub script: &'a str,
+    /// The script has messages, too.
+    pub expand: bool,
     /// The address of the terminal of which is told what comes to it, in place of the transcript, where one is given.
     pub alone: Option<u8>,
 }

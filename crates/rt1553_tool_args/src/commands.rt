@@ -22,18 +22,18 @@ const PROFILE: Argument = Argument {
     help: "a profile or a canonical text",
 };
 
-const NAMES: Argument = Argument {
-    id: "names",
-    given: Occurrence::Value,
-    value: "TABLE",
-    help: "puts the names of messages in TABLE beside their numbers",
-};
-
 const EXPAND: Argument = Argument {
     id: "expand",
     given: Occurrence::Flag,
     value: "",
     help: "takes messages, too, as `expand` does",
+};
+
+const NAMES: Argument = Argument {
+    id: "names",
+    given: Occurrence::Value,
+    value: "TABLE",
+    help: "puts the names of messages in TABLE beside their numbers",
 };
 
 const SCRIPT: Argument = Argument {
@@ -72,7 +72,7 @@ const OF_COMPARE: [Argument; 2] = [PROFILE, OTHER];
 
 const OF_RUN: [Argument; 2] = [PROFILE, SCRIPT];
 
-const OF_BUS: [Argument; 3] = [
+const OF_BUS: [Argument; 4] = [
     Argument {
         id: "profile",
         given: Occurrence::Often,
@@ -85,6 +85,7 @@ const OF_BUS: [Argument; 3] = [
         value: "SCRIPT",
         help: "a script, with addresses in front of subsystem lines",
     },
+    EXPAND,
     Argument {
         id: "alone",
         given: Occurrence::Value,
@@ -407,7 +408,7 @@ pub const COMMANDS: [CommandRow; 23] = [
     },
     CommandRow {
         name: "bus",
-        group: CommandGroup::Scripts,
+        group: CommandGroup::Buses,
         about: "Prints the transcript of a script for a bus of terminals",
         after: "Example: rt1553-tool bus pump.toml valve.toml both.script",
         arguments: &OF_BUS,

@@ -111,8 +111,10 @@ pub(crate) fn bus_command<'a>(
 ) -> Result<ToolCommand<'a>, NoCommand>
     ensures { IfOk result (λ command. (command_name command ≡ codes "bus") × Asks (found_of given.now) command) }
 {
+    let expand = is_flag_given(given, "expand");
     let asked = AskedBus {
         script: required(given, "script")?,
+        expand,
         alone: alone_of(given)?,
     };
     Ok(ToolCommand::Bus(asked, all_of(alloc, given, "profile")?))

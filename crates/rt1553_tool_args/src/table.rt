@@ -41,14 +41,16 @@ pub enum CommandGroup {
     Scripts,
     Units,
     Documents,
+    Buses,
 }
 
 /// The headings with their texts, in the order of the help.
-pub const HEADINGS: [(CommandGroup, &str); 4] = [
+pub const HEADINGS: [(CommandGroup, &str); 5] = [
     (CommandGroup::Profiles, "Profiles"),
     (CommandGroup::Scripts, "Scripts"),
     (CommandGroup::Units, "Units and recordings"),
     (CommandGroup::Documents, "Documents"),
+    (CommandGroup::Buses, "Buses"),
 ];
 
 /// A command.

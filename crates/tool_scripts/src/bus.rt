@@ -1,9 +1,9 @@
 //! The command `bus`: a script that is played to the terminals of several profiles, on one bus.
 ghost use Rattle.std.specs.Prelude.{◌≡◌, ◌≤◌, IfOk};
 
-use crate::refused_profile::{NamedBytes, refused_profile};
 use refused_lines::{first_line, misfit_of};
-use rt1553::{Normal, load};
+use rt1553::Normal;
+use rt1553_expand::ScriptFor;
 use rt1553_tool_args::AskedBus;
 use script_terminals::{
     BusLineFault, BusScriptFault, BusTold, BusWarning, address_first, play_on_bus,
@@ -12,20 +12,33 @@ use std::alloc::{AllocError, Global};
 use std::io::Write;
 use std::rt::Files;
 use terminal_bus::{Breach, TerminalBus};
-use tool_files::{ToolFault, read_script_file, read_tool_profile, shown, write_bytes};
+use tool_files::{
+    LoadedScript, ToolFault, load_messages, load_profile, load_script, shown, write_bytes,
+};
 
 /// The terminals of profiles, in their order.
 fn load_all<R: Files + AllocGlobal>(rt: &R, names: &[&str]) -> Result<Vec<Normal>, ToolFault> {
     let mut normals = Vec::new(rt.alloc());
     for name in names {
-        let text = read_tool_profile(rt, name)?;
-        let bytes = text.as_slice();
-        match load(rt.alloc(), bytes) {
-            Ok(normal) => normals.push(normal)?,
-            Err(fault) => return Err(refused_profile(rt, NamedBytes { name, bytes }, fault)),
-        }
+        normals.push(load_profile(rt, name)?)?;
     }
     Ok(normals)
+}
+
+/// The script of a file, or that of its messages, for the terminals of profiles.
+fn load_for<R: Files + AllocGlobal>(
+    rt: &R,
+    asked: AskedBus<'_>,
+    normals: &[Normal],
+) -> Result<LoadedScript, ToolFault> {
+    if !asked.expand {
+        return load_script(rt, asked.script, None);
+    }
+    let mut addresses = Vec::new(rt.alloc());
+    for normal in normals {
+        addresses.push(normal.address())?;
+    }
+    load_messages(rt, asked.script, &ScriptFor::Bus(addresses))
 }
 
 /// What is printed of profiles that have the same address, without a line feed.
@@ -104,11 +117,12 @@ fn told_of<R: AllocGlobal>(
 fn warn<R: AllocGlobal + Eprint>(
     rt: &R,
     name: &str,
+    script: &LoadedScript,
     warnings: &[BusWarning],
 ) -> Result<(), ToolFault> {
     let name = shown(rt, name)?;
     for warning in warnings {
-        let line = warning.line;
+        let line = script.line_in_file(warning.line);
         let _ = match warning.breach {
             Breach::GapDuringReply(address) => eprintln!(rt;
                 "{name}:{line}: warning: a gap while terminal {address:02} replies: another terminal can begin its reply"
@@ -183,14 +197,16 @@ fn misfit_text(alloc: Global, line: &[u8]) -> Result<String, AllocError> {
 fn refused_script<R: AllocGlobal>(
     rt: &R,
     name: &str,
-    script: &[u8],
+    script: &LoadedScript,
     fault: BusScriptFault,
 ) -> Result<ToolFault, ToolFault> {
     let name = shown(rt, name)?;
     let told = match fault {
         BusScriptFault::Line(number, fault) => {
-            let reason = reason_of(rt.alloc(), line_at(script, number), fault)?;
-            format!(in rt.alloc(); "{name}:{number}:{reason}")?
+            let text = line_at(script.text.as_slice(), number);
+            let reason = reason_of(rt.alloc(), text, fault)?;
+            let line = script.line_in_file(number);
+            format!(in rt.alloc(); "{name}:{line}:{reason}")?
         }
         BusScriptFault::TooLong => format!(in rt.alloc();
             "{name}:1048577:1: error: a script has at most 1,048,576 lines"
@@ -210,14 +226,14 @@ pub fn play_bus<R: Files + AllocGlobal + Eprint, W: Write>(
     ensures { IfOk result (λ status. status ≡ 0) }
 {
     let normals = load_all(rt, names)?;
-    let script = read_script_file(rt, asked.script)?;
+    let script = load_for(rt, asked, normals.as_slice())?;
     let mut bus = bus_of(rt, names, normals.as_slice())?;
     let told = told_of(rt, &bus, asked.alone)?;
-    let played = play_on_bus(rt.alloc(), &mut bus, script.as_slice(), told)?;
-    warn(rt, asked.script, played.warnings.as_slice())?;
+    let played = play_on_bus(rt.alloc(), &mut bus, script.text.as_slice(), told)?;
+    warn(rt, asked.script, &script, played.warnings.as_slice())?;
     write_bytes(output, played.text.as_slice())?;
     match played.fault {
-        Some(fault) => Err(refused_script(rt, asked.script, script.as_slice(), fault)?),
+        Some(fault) => Err(refused_script(rt, asked.script, &script, fault)?),
         None => Ok(0),
     }
 }

@@ -8,6 +8,7 @@ use Rattle.terminal_rules.specs.declared.event.Event.TheVariants as event
 use Rattle.rt1553_tool.specs.declared.fields.CommandFields.{CommandFields}
 use Rattle.rt1553_tool.specs.declared.fields.WordFields.TheVariants as fields
 use Rattle.rt1553_tool.specs.Fields.{in_word, command_fields_in}
+use Rattle.rt1553_expand.specs.declared.script_for.ScriptFor.{ScriptFor}
 use Rattle.rt1553_expand.specs.declared.finding.FoundMessage.{FoundMessage}
 use Rattle.rt1553_expand.specs.Message.{words_wanted}
 use Rattle.rt1553_expand.specs.Events.{is_own}
@@ -64,15 +65,15 @@ events_before None = 0
 events_before (Some f) = 3
 
 -- the data words, of which the own terminal's are not heard
-abbrev pub words_found : Option ℕ → Option CommandFields → ℕ → List Event → List ℕ
+abbrev pub words_found : ScriptFor → Option CommandFields → ℕ → List Event → List ℕ
 words_found own sender wanted es = if is_own own sender then replicate wanted 0 else map bits_heard (take wanted (drop (events_before sender) es))
 
 -- the message of a command with these events behind it, by whose sender
-abbrev pub message_sent_by : Option ℕ → CommandFields → Option CommandFields → List Event → CommandMessage
+abbrev pub message_sent_by : ScriptFor → CommandFields → Option CommandFields → List Event → CommandMessage
 message_sent_by own command sender es = record { command = command; sender = sender; words = words_found own sender (words_wanted (fields.Command command)) es }
 
 -- the message of a command with these events behind it
-abbrev pub message_found : Option ℕ → CommandFields → List Event → CommandMessage
+abbrev pub message_found : ScriptFor → CommandFields → List Event → CommandMessage
 message_found own command es = message_sent_by own command (sender_found command es) es
 
 -- a message on a bus
@@ -81,12 +82,12 @@ pub record MessageOn : Type 0 where
   pub message : CommandMessage
 
 -- the message of the command that was heard, if one was
-abbrev pub message_behind : Option ℕ → List Event → Option HeardCommand → Option MessageOn
+abbrev pub message_behind : ScriptFor → List Event → Option HeardCommand → Option MessageOn
 message_behind own es None = None
 message_behind own es (Some heard) = Some (record { bus = heard.bus; message = message_found own heard.command es })
 
 -- the message that events seem to begin with
-abbrev pub message_at : Option ℕ → List Event → Option MessageOn
+abbrev pub message_at : ScriptFor → List Event → Option MessageOn
 message_at own [] = None
 message_at own (e ∷ es) = message_behind own es (heard_in e)
 

@@ -1,9 +1,10 @@
 -- Pieces that were written, and what is left.
-use Rattle.std.specs.Prelude.{ℕ, ◌+◌, ◌≡◌, ◌<◌, ◌≤◌, Bool, true, false, List, [], ◌∷◌, ◌++◌, length, drop, is_some, Option, Ok}
+use Rattle.std.specs.Prelude.{ℕ, ◌+◌, ◌≡◌, ◌<◌, ◌≤◌, Bool, true, false, List, [], ◌∷◌, ◌++◌, length, drop, is_some, Ok}
 use Rattle.bus_word.specs.declared.word.Bus.{Bus}
 use Rattle.terminal_rules.specs.declared.event.Event.{Event}
 use Rattle.script_lines.specs.Text.{NoLineFeed}
 use Rattle.bus_script.specs.Reading.{reading, adds}
+use Rattle.rt1553_expand.specs.declared.script_for.ScriptFor.{ScriptFor}
 use Rattle.rt1553_expand.specs.Events.{message_events}
 use Rattle.rt1553_expand.specs.Expansion.{Expansion, events_given, expansion_of}
 use Rattle.rt1553_expand.specs.Gathered.{CommandMessage, said, listed_line, IsListed, Piece, piece_line, piece_events, events_in, lines_text, IsNext, AreNext}
@@ -11,14 +12,14 @@ use Rattle.rt1553_expand.specs.Gathered.{CommandMessage, said, listed_line, IsLi
 -- the line of a piece is one line, which is expanded to its events, whatever terminal the script is for
 pub record Says (p : Piece) : Type 0 where
   pub feeds : NoLineFeed (piece_line p)
-  pub expands : (own : Option ℕ) → (x : Expansion) × (expansion_of own (piece_line p) ≡ Ok x) × (events_given x ≡ piece_events own p)
+  pub expands : (own : ScriptFor) → (x : Expansion) × (expansion_of own (piece_line p) ≡ Ok x) × (events_given x ≡ piece_events own p)
 
 abbrev pub AllSay : List Piece → Type 0
 AllSay [] = Unit {0}
 AllSay (p ∷ pieces) = Says p × AllSay pieces
 
 -- events begin with those of a message that is listed; this is its line
-pub record IsNextLine (own : Option ℕ) (es room : List Event) (line : List ℕ) : Type 0 where
+pub record IsNextLine (own : ScriptFor) (es room : List Event) (line : List ℕ) : Type 0 where
   pub bus : Bus
   pub message : CommandMessage
   pub listed : IsListed own message
@@ -28,7 +29,7 @@ pub record IsNextLine (own : Option ℕ) (es room : List Event) (line : List ℕ
   pub begins : es ≡ room ++ drop (length room) es
 
 -- the line of the piece that comes next was written; it has so many events
-pub record WroteNext (own : Option ℕ) (old new : List ℕ) (es : List Event) (taken : ℕ) : Type 0 where
+pub record WroteNext (own : ScriptFor) (old new : List ℕ) (es : List Event) (taken : ℕ) : Type 0 where
   pub piece : Piece
   pub some : 0 < taken
   pub within : taken ≤ length es
@@ -38,7 +39,7 @@ pub record WroteNext (own : Option ℕ) (old new : List ℕ) (es : List Event) (
   pub text : new ≡ old ++ (piece_line piece ++ 10 ∷ [])
 
 -- the lines of pieces were written, and these events are left
-pub record WroteSo (own : Option ℕ) (es rest : List Event) (written : List ℕ) : Type 0 where
+pub record WroteSo (own : ScriptFor) (es rest : List Event) (written : List ℕ) : Type 0 where
   pub pieces : List Piece
   pub events : es ≡ events_in own pieces ++ rest
   pub next : AreNext own pieces rest

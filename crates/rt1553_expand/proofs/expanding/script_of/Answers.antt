@@ -16,10 +16,10 @@ loop-rest-init c =
       few = omega arith;
       fits = e.fits;
       number = omega arith;
-      text = ap (flat_map spelled) (sym (come-start (left_of c.nothing_pending.result) (placing c.args.own 1 (lines_of c.args.text.now)) e.nothing e.stale))
-          ∙ ap (λ t. whole t (left_of c.nothing_pending.result) (placing c.args.own 1 (lines_of c.args.text.now))) (sym c.new.ensures.items);
+      text = ap (flat_map spelled) (sym (come-start (left_of c.nothing_pending.result) (placing c.args.own.now 1 (lines_of c.args.text.now)) e.nothing e.stale))
+          ∙ ap (λ t. whole t (left_of c.nothing_pending.result) (placing c.args.own.now 1 (lines_of c.args.text.now))) (sym c.new.ensures.items);
       count = omega arith;
-      read = ([], refl, read-start _ _ _ c.new.ensures.items e.nothing refl);
+      read = λ _. ([], refl, read-start _ _ _ c.new.ensures.items e.nothing refl);
     }
 
 pub loop-rest-preserved : goal.loop-rest-preserved
@@ -35,13 +35,13 @@ loop-rest-preserved c =
       fits = a.fits;
       number = omega (arith, i.number, c.first_line.ensures.shorter);
       text = i.text
-          ∙ ap (whole c.loop-rest.script.text.items (left_of c.loop-rest.script.pending)) (placing-on c.args.own c.loop-rest.number rest line more first)
-          ∙ a.text (placing c.args.own (c.loop-rest.number + 1) (lines_of more));
-      count = count-on (λ l. expanded_lines (expansion_of c.args.own l)) rest line more _ _ _ first a.lines i.count;
-      read = (
-        i.read.0 ++ expanded_events (expansion_of c.args.own line),
-        lists-on (λ l. expanded_events (expansion_of c.args.own l)) rest line more i.read.0 _ _ first refl i.read.1,
-        a.reads (line-no_feed rest line (lines_of more) first) i.read.0 i.read.2,
+          ∙ ap (whole c.loop-rest.script.text.items (left_of c.loop-rest.script.pending)) (placing-on c.args.own.now c.loop-rest.number rest line more first)
+          ∙ a.text (placing c.args.own.now (c.loop-rest.number + 1) (lines_of more));
+      count = count-on (λ l. expanded_lines (expansion_of c.args.own.now l)) rest line more _ _ _ first a.lines i.count;
+      read = λ one. (
+        (i.read one).0 ++ expanded_events (expansion_of c.args.own.now line),
+        lists-on (λ l. expanded_events (expansion_of c.args.own.now l)) rest line more (i.read one).0 _ _ first refl (i.read one).1,
+        a.reads one (line-no_feed rest line (lines_of more) first) (i.read one).0 (i.read one).2,
       );
     }
 
@@ -49,16 +49,17 @@ pub returns-clause-text : goal.returns-clause-text
 returns-clause-text c =
     let i = c.loop-rest.invariant in
     sym (i.text
-    ∙ ap (whole c.loop-rest.script.text.items (left_of c.loop-rest.script.pending)) (placing-none c.args.own c.loop-rest.number c.loop-rest.rest.now (grind arith))
+    ∙ ap (whole c.loop-rest.script.text.items (left_of c.loop-rest.script.pending)) (placing-none c.args.own.now c.loop-rest.number c.loop-rest.rest.now (grind arith))
     ∙ text-end (left_of c.loop-rest.script.pending) _ _ c.in_ok-push_left.ensures.bytes)
 
 pub returns-clause-count : goal.returns-clause-count
 returns-clause-count c =
-    let all = count-all (λ l. expanded_lines (expansion_of c.args.own l)) c.loop-rest.rest.now c.loop-rest.script.lines _ (grind arith) c.loop-rest.invariant.count in
+    let all = count-all (λ l. expanded_lines (expansion_of c.args.own.now l)) c.loop-rest.rest.now c.loop-rest.script.lines _ (grind arith) c.loop-rest.invariant.count in
     omega (arith, all, c.loop-rest.invariant.few)
 
 pub returns-clause-read : goal.returns-clause-read
-returns-clause-read c =
+returns-clause-read c = λ one.
     let i = c.loop-rest.invariant in
-    all-read _ i.read.0 c.loop-rest.script.lines (read-end _ _ _ _ _ c.in_ok-push_left.ensures i.few i.read.2)
-    ∙ ap (λ es. adds es nothing) (lists-all (λ l. expanded_events (expansion_of c.args.own l)) c.loop-rest.rest.now i.read.0 _ (grind arith) i.read.1)
+    let read = i.read one in
+    all-read _ read.0 c.loop-rest.script.lines (read-end _ _ _ _ _ c.in_ok-push_left.ensures i.few read.2)
+    ∙ ap (λ es. adds es nothing) (lists-all (λ l. expanded_events (expansion_of c.args.own.now l)) c.loop-rest.rest.now read.0 _ (grind arith) read.1)

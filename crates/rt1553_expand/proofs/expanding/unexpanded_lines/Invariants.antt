@@ -5,7 +5,7 @@ use Rattle.rt1553_expand.proofs.expanding.unexpanded_lines.Given as goal
 
 abbrev pub invariant-loop-rest : goal.invariant-loop-rest
 invariant-loop-rest l = (l.number + length l.rest ≤ 1 + length l.text)
-    × (refusals_from 1 (lines_of l.text) ≡ map refusal_of l.found.items ++ refusals_from l.number (lines_of l.rest))
+    × (refusals_from l.own 1 (lines_of l.text) ≡ map refusal_of l.found.items ++ refusals_from l.own l.number (lines_of l.rest))
 
 abbrev pub decreases-loop-rest : goal.decreases-loop-rest
 decreases-loop-rest l = length l.rest

@@ -9,8 +9,8 @@ pub loop-rest-init : goal.loop-rest-init
 loop-rest-init c = record {
   fits = c.nothing_pending-pending.ensures.fits;
   few = omega arith;
-  lines = ap (map (λ it. it.source)) (sym (come-start (left_of c.nothing_pending-pending.result) (placing c.args.own 1 (lines_of c.args.text.now)) c.nothing_pending-pending.ensures.nothing c.nothing_pending-pending.ensures.stale))
-      ∙ ap (λ t. t ++ map (λ it. it.source) (to_come (left_of c.nothing_pending-pending.result) (placing c.args.own 1 (lines_of c.args.text.now)))) (sym c.new-sources.ensures.items);
+  lines = ap (map (λ it. it.source)) (sym (come-start (left_of c.nothing_pending-pending.result) (placing c.args.own.now 1 (lines_of c.args.text.now)) c.nothing_pending-pending.ensures.nothing c.nothing_pending-pending.ensures.stale))
+      ∙ ap (λ t. t ++ map (λ it. it.source) (to_come (left_of c.nothing_pending-pending.result) (placing c.args.own.now 1 (lines_of c.args.text.now)))) (sym c.new-sources.ensures.items);
 }
 
 pub loop-rest-preserved : goal.loop-rest-preserved
@@ -22,12 +22,12 @@ loop-rest-preserved c =
       few = omega (arith, i.few, c.first_line.ensures.shorter);
       lines = i.lines
           ∙ ap (λ p. c.loop-rest.sources.items ++ map (λ it. it.source) (to_come (left_of c.loop-rest.pending) p))
-          (placing-on c.args.own c.loop-rest.number c.loop-rest.rest.now c.first_line.result.0.now c.first_line.result.1.now c.first_line.ensures.lines)
-          ∙ a.sources (placing c.args.own (c.loop-rest.number + 1) (lines_of c.first_line.result.1.now));
+          (placing-on c.args.own.now c.loop-rest.number c.loop-rest.rest.now c.first_line.result.0.now c.first_line.result.1.now c.first_line.ensures.lines)
+          ∙ a.sources (placing c.args.own.now (c.loop-rest.number + 1) (lines_of c.first_line.result.1.now));
     }
 
 pub returns : goal.returns
 returns c =
     sym (c.loop-rest.invariant.lines
-    ∙ ap (λ p. c.loop-rest.sources.items ++ map (λ it. it.source) (to_come (left_of c.loop-rest.pending) p)) (placing-none c.args.own c.loop-rest.number c.loop-rest.rest.now (grind arith))
+    ∙ ap (λ p. c.loop-rest.sources.items ++ map (λ it. it.source) (to_come (left_of c.loop-rest.pending) p)) (placing-none c.args.own.now c.loop-rest.number c.loop-rest.rest.now (grind arith))
     ∙ sources-end (left_of c.loop-rest.pending) _ _ (c.in_ok-push_times.ensures ∙ ap (λ n. c.loop-rest.sources.items ++ replicate n c.loop-rest.pending.source) c.how_many_left.ensures))
