@@ -94,8 +94,8 @@ TOLD = with_files(
         HEADER + LINES[1] + "     2       2 A   mode       5   2       done; status 2800\n"),
     Row("a refused line, behind a message", "messages five bad", 2,
         HEADER + "     1       1 A   mode       5   2       done; status 2800\n",
-        errors="bad: script: line 5, column 3: after a bus, c, d, gap or noise is expected\n"),
-    Row("a long line", "messages five long", 2, HEADER, errors="long: script: line 2, column 65: over 64 bytes before the line feed\n"),
+        errors="bad:5:3: error: after a bus, c, d, gap or noise is expected\n"),
+    Row("a long line", "messages five long", 2, HEADER, errors="long:2:65: error: over 64 bytes before the line feed\n"),
     Row("messages for expand", "messages --format messages five script", 0, """\
 A rx 5 3 2: 0011 0022
 B rx all 3 2: 0001 0002
@@ -118,8 +118,8 @@ A c 2c64
 A gap
 slot
 """),
-    Row("messages for expand, of a fault", "messages --format messages five bad", 2, errors="bad: script: line 5, column 3: after a bus, c, d, gap or noise is expected\n"),
-    Row("messages for expand, of a long line", "messages --format messages five long", 2, errors="long: script: line 2, column 65: over 64 bytes before the line feed\n"),
+    Row("messages for expand, of a fault", "messages --format messages five bad", 2, errors="bad:5:3: error: after a bus, c, d, gap or noise is expected\n"),
+    Row("messages for expand, of a long line", "messages --format messages five long", 2, errors="long:2:65: error: over 64 bytes before the line feed\n"),
     Row("messages for expand, of an address", "messages --format messages --rt 5 five script", 3, errors=ALL),
     Row("messages for expand, of a subaddress", "messages --format messages --subaddress 3 five script", 3, errors=ALL),
     Row("messages for expand, those in error", "messages --format messages --errors five script", 3, errors=ALL),
@@ -174,7 +174,8 @@ def test_messages_of_the_model(tool, tmp_path):
             assert misfits_of_lines(given.output, "docs/messages.schema.json") == []
     assert {it for it, _ in ends} >= {"done", "busy", "illegal", "in error", "superseded", "ignored", "other"}
     assert {it for _, it in ends} >= {"wrong word count", "invalid word or noise", "command within", "gap within",
-                                      "no status from the transmitter", "transmitter shut down"}  # fmt: skip
+                                      "no status from the transmitter", "transmitter shut down", "during a reply",
+                                      "no gap after a command", "reply dropped by a command on the other bus"}  # fmt: skip
 
 
 def test_messages_as_a_table(tool, tmp_path):

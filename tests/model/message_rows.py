@@ -20,6 +20,8 @@ class Watched(rules.Terminal):
     def start(self, bus, command):
         if self.message and self.message.bus != bus:
             self.notes.append(("superseded", self.message.bus))
+        if self.reply and self.reply.bus != bus:
+            self.notes.append(("dropped", self.reply.bus))
         super().start(bus, command)
         self.notes.append(("started", bus))
 
@@ -48,7 +50,7 @@ class Row:
         self.number, self.line, self.bus, self.command = number, line, bus, command
         self.second = None
         self.came = []                                  # "data", "invalid", "command", "status", "gap"
-        self.ended, self.why, self.is_off = "other", None, False
+        self.ended, self.why, self.unsent = "other", None, None
         self.expected, self.came_before_end = 0, None
         self.words, self.status, self.handed = [], None, None        # the words: valid data words, also of the terminal
 
@@ -85,8 +87,7 @@ class Row:
             later = self.came[self.came_before_end:].count("data")
             if later and before < self.expected:
                 self.why = "gap within"
-        if self.is_off:
-            self.why = "transmitter shut down"
+        self.why = self.unsent or self.why
         return self
 
 
@@ -144,7 +145,7 @@ class Run:
         if is_deaf and what == "command":
             row = self.begin(line, bus, event[2][1])
             heard = terminal.is_for_it(event[2])
-            row.ended = "ignored" if heard else "other"
+            row.ended, row.why = ("ignored", "during a reply") if heard else ("other", None)
             self.rows.append(row)
         elif bus and not is_deaf:
             self.come(line, bus, what, event, awaited, before)
@@ -158,7 +159,9 @@ class Run:
             elif name == "in error":
                 self.open[bus].end_in_error(more[0], what, more[1])
             elif name in ("done", "busy", "illegal"):
-                self.open[bus].ended, self.open[bus].is_off = name, more[0]
+                self.open[bus].ended, self.open[bus].unsent = name, "transmitter shut down" if more[0] else None
+            elif name == "dropped":
+                self.open[bus].unsent = "reply dropped by a command on the other bus"
 
     def note_starts(self):
         for name, bus, *_ in self.terminal.notes:
@@ -175,6 +178,8 @@ class Run:
                 other = rules.other_bus(bus)
                 self.close([bus] if engaged(self.terminal) == other else [bus, other])
                 self.open[bus] = self.begin(line, bus, bits)
+                if self.terminal.is_for_it(event[2]) and ("started", bus) not in self.terminal.notes:
+                    self.open[bus].ended, self.open[bus].why = "ignored", "no gap after a command"
             elif role == "second":
                 row.second = bits
             else:

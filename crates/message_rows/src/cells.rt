@@ -1,18 +1,22 @@
 //! Rows as the cells of a list for people.
 use crate::row::RunRow;
-use crate::status::set_bit_names;
-use crate::text::{ToldAddress, ToldNumber, bus_name, count_of, end_name, form_name, why};
+use crate::text::{
+    ToldAddress, ToldNumber, bus_name, count_of, end_name, form_name, status_told,
+    transmitter_told, why, words_told,
+};
 use std::alloc::{AllocError, Global};
 
 /// What the cells of a row are, in their order.
-pub const CELL_NAMES: [&str; 9] = [
+pub const CELL_NAMES: [&str; 11] = [
     "bus",
     "kind",
     "RT",
     "subaddress or mode code",
     "words",
+    "from",
     "name",
     "ended",
+    "data",
     "status",
     "handed over",
 ];
@@ -24,18 +28,6 @@ fn end_told(alloc: Global, row: &RunRow) -> Result<String, AllocError> {
         Some(why) => format!(in alloc; "{end}: {why}"),
         None => String::from_str(alloc, end),
     }
-}
-
-/// The status word of the terminal, and its bits by name; empty for none.
-fn status_told(alloc: Global, status: Option<u16>) -> Result<String, AllocError> {
-    let mut text = String::new(alloc);
-    if let Some(word) = status {
-        write!(text, "{word:04x}")?;
-        for name in set_bit_names(alloc, word)?.as_slice() {
-            write!(text, " {name}")?;
-        }
-    }
-    Ok(text)
 }
 
 /// The cells of a row, as `CELL_NAMES` says, without the numbers of the message and of its line; with the name of the message, where it
@@ -61,8 +53,10 @@ pub fn row_cells(
         false => format!(in alloc; "{}", command.subaddress())?,
     })?;
     cells.push(format!(in alloc; "{words}")?)?;
+    cells.push(transmitter_told(alloc, &row.commands)?)?;
     cells.push(String::from_str(alloc, name.unwrap_or(""))?)?;
     cells.push(end_told(alloc, row)?)?;
+    cells.push(words_told(alloc, row)?)?;
     cells.push(status_told(alloc, row.status)?)?;
     cells.push(String::from_str(alloc, row.handed_text().unwrap_or(""))?)?;
     Ok(cells)

@@ -20,6 +20,24 @@ pub enum ErrorCause {
     NoStatus,
 }
 
+/// Why a command for the terminal starts nothing.
+#[derive(Clone, Copy, PartialEq, Eq, Debug)]
+pub enum IgnoreCause {
+    /// The terminal replies on its bus, where it hears nothing then.
+    Reply,
+    /// Another command for the terminal came before it on its bus, without a gap between them.
+    NoGap,
+}
+
+/// Why a reply is not sent, or not whole.
+#[derive(Clone, Copy, PartialEq, Eq, Debug)]
+pub enum Unsent {
+    /// The transmitter is shut down.
+    ShutDown,
+    /// A command on the other bus dropped the rest.
+    Dropped,
+}
+
 /// How a message ended for the terminal.
 #[derive(Clone, Copy, PartialEq, Eq, Debug)]
 pub enum RowEnd {
@@ -27,8 +45,8 @@ pub enum RowEnd {
     Other,
     /// It has not ended.
     Open,
-    /// It came on the bus of a reply in progress, where the terminal hears nothing.
-    Ignored,
+    /// Its command is for the terminal and starts nothing.
+    Ignored(IgnoreCause),
     /// A command on the other bus superseded it.
     Superseded,
     /// In error.

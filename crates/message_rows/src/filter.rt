@@ -13,18 +13,18 @@ pub struct RowFilter {
     pub address: Option<u8>,
     /// Those with a command of this subaddress, 0 to 31; None for all.
     pub subaddress: Option<u8>,
-    /// Those for the terminal alone that were not done, or lack their reply.
+    /// Those for the terminal alone that were not done, or lack their reply or a part of it.
     pub errors: bool,
 }
 
 impl RunRow {
-    /// Whether it is for the terminal and was not done, or lacks its reply.
+    /// Whether it is for the terminal and was not done, or lacks its reply or a part of it.
     pub fn is_faulty(&self) -> bool
-        ensures { result ≡ is_faulty self.now.end self.now.is_shut_down }
+        ensures { result ≡ is_faulty self.now.end self.now.unsent }
     {
         match self.end {
             RowEnd::Other => false,
-            RowEnd::Done => self.is_shut_down,
+            RowEnd::Done => self.unsent.is_some(),
             _ => true,
         }
     }

@@ -17,7 +17,7 @@ mod watch;
 
 pub use cells::{CELL_NAMES, row_cells};
 pub use commands::{MessageCommands, MessageForm};
-pub use ending::{ErrorCause, RowEnd};
+pub use ending::{ErrorCause, IgnoreCause, RowEnd, Unsent};
 pub use filter::RowFilter;
 pub use json::row_json;
 pub use row::RunRow;

@@ -3,7 +3,7 @@ ghost use Rattle.std.specs.Prelude.{◌≡◌};
 ghost use Rattle.message_rows.specs.Ends.{cause_at_gap};
 
 use crate::commands::{MessageCommands, is_transmitter_for};
-use crate::ending::{ErrorCause, RowEnd, end_after, lacks_reply};
+use crate::ending::{ErrorCause, RowEnd, Unsent, end_after, lacks_reply};
 use crate::played::{KeptAnswer, PlayedEvent};
 use crate::row::RunRow;
 use bus_word::Command;
@@ -57,10 +57,11 @@ fn cause_at_gap(is_awaited: bool, has_invalid: bool, has_command: bool) -> Error
 }
 
 impl OpenRow {
-    ghost use Rattle.std.specs.Prelude.{◌≡◌, ◌||◌, if◌then◌else◌, is_some, List, ℕ};
+    ghost use Rattle.std.specs.Prelude.{◌≡◌, if◌then◌else◌, is_some, Some, List, ℕ};
     ghost use Rattle.terminal_state.specs.Ended.{ending_of};
     ghost use Rattle.message_rows.specs.declared.ending.ErrorCause.TheVariants.{NoStatus, InvalidWord};
-    ghost use Rattle.message_rows.specs.Ends.{end_after, cause_at_gap, lacks_reply};
+    ghost use Rattle.message_rows.specs.declared.ending.Unsent.TheVariants.{ShutDown};
+    ghost use Rattle.message_rows.specs.Ends.{end_after, cause_at_gap, lacks_reply, superseded_end, dropped_reply};
 
     /// A message of which just the first command came, that expects so many data words and the status word of the terminal of this
     /// address, if there is one.
@@ -161,12 +162,14 @@ impl OpenRow {
     /// Takes a gap on its bus; `replies` says whether a reply is in progress after it.
     pub fn add_gap(&mut self, played: &PlayedEvent, replies: bool)
         ensures end { (ds : List ℕ) → self.new.row.end ≡ end_after self.old.row.end (cause_at_gap (is_some played.now.awaited) self.old.has_invalid self.old.has_command) (ending_of played.now.ended ds) }
-        ensures shut_down { (ds : List ℕ) → self.new.row.is_shut_down ≡ (self.old.row.is_shut_down || lacks_reply replies (ending_of played.now.ended ds)) }
+        ensures unsent { (ds : List ℕ) → self.new.row.unsent ≡ (if lacks_reply replies (ending_of played.now.ended ds) then Some ShutDown else self.old.row.unsent) }
     {
         let is_awaited = played.awaited.is_some();
         let cause = cause_at_gap(is_awaited, self.has_invalid, self.has_command);
         self.row.end = end_after(self.row.end, &played.ended, cause);
-        self.row.is_shut_down = self.row.is_shut_down || lacks_reply(&played.ended, replies);
+        if lacks_reply(&played.ended, replies) {
+            self.row.unsent = Some(Unsent::ShutDown);
+        }
         if let KeptAnswer::Handed(line) = &played.answer {
             self.row.handed = Some(*line);
         }
@@ -179,10 +182,16 @@ impl OpenRow {
         self.row.end = RowEnd::Open;
     }
 
-    /// Takes note that a command on the other bus started a message.
-    pub fn supersede(&mut self) {
+    /// Takes note that a command on the other bus started a message; `replied` says whether a reply to this one was in progress.
+    pub fn supersede(&mut self, replied: bool)
+        ensures end { self.new.row.end ≡ superseded_end self.old.row.end }
+        ensures unsent { self.new.row.unsent ≡ dropped_reply replied self.old.row.unsent }
+    {
         if self.row.end == RowEnd::Open {
             self.row.end = RowEnd::Superseded;
+        }
+        if replied {
+            self.row.unsent = Some(Unsent::Dropped);
         }
     }
 }

@@ -1,6 +1,6 @@
 //! The messages whose rows are not written yet: one on each bus.
 use crate::commands::MessageCommands;
-use crate::ending::RowEnd;
+use crate::ending::{IgnoreCause, RowEnd};
 use crate::open_row::{OpenRow, other_status};
 use crate::played::{KeptAnswer, PlayedEvent};
 use crate::row::RunRow;
@@ -140,13 +140,18 @@ impl OpenRows {
         }
     }
 
-    /// The row of a command that comes during a reply on its bus.
-    fn ignored(&mut self, bus: Bus, word: Raw, line: u64) -> ClosedRows {
-        let end = if word.is_for(self.own, self.broadcast) {
-            RowEnd::Ignored
+    /// How the message of a valid command ends that starts nothing, for this cause if it is for the terminal.
+    fn unstarted(&self, word: Raw, cause: IgnoreCause) -> RowEnd {
+        if word.is_for(self.own, self.broadcast) {
+            RowEnd::Ignored(cause)
         } else {
             RowEnd::Other
-        };
+        }
+    }
+
+    /// The row of a command that comes during a reply on its bus.
+    fn ignored(&mut self, bus: Bus, word: Raw, line: u64) -> ClosedRows {
+        let end = self.unstarted(word, IgnoreCause::Reply);
         let number = self.next_number();
         let commands = MessageCommands {
             command: Command::of(word.bits),
@@ -157,7 +162,8 @@ impl OpenRows {
 
     /// Begins a message, and gives the messages that are over then: that on its bus, and that on the other one, unless the terminal is
     /// still in it.
-    fn begin(&mut self, bus: Bus, command: Command, played: &PlayedEvent) -> ClosedRows {
+    fn begin(&mut self, bus: Bus, word: Raw, played: &PlayedEvent) -> ClosedRows {
+        let command = Command::of(word.bits);
         let there = self.take(bus);
         let other = if played.after == Some(other_bus(bus)) {
             None
@@ -167,7 +173,7 @@ impl OpenRows {
         let end = if played.after == Some(bus) {
             RowEnd::Open
         } else {
-            RowEnd::Other
+            self.unstarted(word, IgnoreCause::NoGap)
         };
         let number = self.next_number();
         let commands = MessageCommands {
@@ -204,7 +210,7 @@ impl OpenRows {
         let role = self.role_of(bus, command, played);
         match role {
             CommandRole::Ignored => self.ignored(bus, word, played.line),
-            CommandRole::Begins => self.begin(bus, command, played),
+            CommandRole::Begins => self.begin(bus, word, played),
             CommandRole::Transmits => {
                 self.add_command(bus, command, role, played.after == Some(bus));
                 ClosedRows::none()
@@ -275,12 +281,12 @@ impl OpenRows {
         }
     }
 
-    /// Takes note where the event started a message, and so dropped one on the other bus.
+    /// Takes note where the event started a message, and so dropped one on the other bus, or its reply.
     fn note_superseded(&mut self, played: &PlayedEvent) {
         if let (Some(before), Some(after)) = (played.before, played.after) {
             if before != after {
                 if let Some(mut row) = self.take(before) {
-                    row.supersede();
+                    row.supersede(played.replied == Some(before));
                     self.put(before, row);
                 }
             }

@@ -1,6 +1,6 @@
 //! A message of a run.
 use crate::commands::MessageCommands;
-use crate::ending::RowEnd;
+use crate::ending::{RowEnd, Unsent};
 use arrayvec::{ArrayString, ArrayVec};
 use bus_word::Bus;
 
@@ -25,8 +25,8 @@ pub struct RunRow {
     /// The line of the transcript by which the terminal handed something over.
     pub handed: Option<ArrayString<320>>,
     pub end: RowEnd,
-    /// Whether the terminal owes a reply and sends none, since its transmitter is shut down.
-    pub is_shut_down: bool,
+    /// Why the reply that the terminal owes is not sent, or not whole.
+    pub unsent: Option<Unsent>,
 }
 
 impl RunRow {
@@ -48,7 +48,7 @@ impl RunRow {
             status: None,
             handed: None,
             end,
-            is_shut_down: false,
+            unsent: None,
         }
     }
 

@@ -9,7 +9,6 @@ use crate::status::set_bit_names;
 use crate::text::{
     ToldAddress, ToldNumber, bus_name, count_of, end_name, form_name, why, words_told,
 };
-use bus_word::Command;
 use csv::{Terminator, WriterBuilder};
 use std::alloc::{AllocError, Global};
 
@@ -84,23 +83,6 @@ fn bits_told(alloc: Global, status: Option<u16>) -> Result<String, AllocError> {
     Ok(text)
 }
 
-/// The mode code of a command, if it is one.
-fn code_of(command: Command) -> Option<u8> {
-    if command.is_mode() {
-        Some(command.code())
-    } else {
-        None
-    }
-}
-
-/// The bits of a command, if there is one.
-fn bits_of(command: Option<Command>) -> Option<u16> {
-    match command {
-        Some(command) => Some(command.bits()),
-        None => None,
-    }
-}
-
 /// A number as it is told.
 fn number_told(alloc: Global, number: Option<u8>) -> Result<String, AllocError> {
     format!(in alloc; "{}", ToldNumber { number })
@@ -109,12 +91,6 @@ fn number_told(alloc: Global, number: Option<u8>) -> Result<String, AllocError> 
 /// The word, or nothing.
 fn copied(alloc: Global, text: Option<&str>) -> Result<String, AllocError> {
     String::from_str(alloc, text.unwrap_or(""))
-}
-
-/// The data words of a message, with a space between two.
-fn data_told(alloc: Global, row: &RunRow) -> Result<String, AllocError> {
-    let text = words_told(alloc, row)?;
-    String::from_str(alloc, text.as_str().trim_start())
 }
 
 /// Adds what a message is.
@@ -130,10 +106,12 @@ fn push_place(
     cells.push(copied(alloc, Some(form_name(commands.form())))?)?;
     cells.push(format!(in alloc; "{address}")?)?;
     cells.push(number_told(alloc, Some(command.subaddress()))?)?;
-    cells.push(number_told(alloc, code_of(command))?)?;
+    let code = command.is_mode().then_some(command.code());
+    cells.push(number_told(alloc, code)?)?;
     cells.push(number_told(alloc, count_of(command))?)?;
     cells.push(digits_told(alloc, Some(command.bits()))?)?;
-    cells.push(digits_told(alloc, bits_of(commands.transmitter))?)?;
+    let transmitter = commands.transmitter.map(|command| command.bits());
+    cells.push(digits_told(alloc, transmitter)?)?;
     Ok(())
 }
 
@@ -141,7 +119,7 @@ fn push_place(
 fn push_course(alloc: Global, cells: &mut Vec<String>, row: &RunRow) -> Result<(), AllocError> {
     cells.push(copied(alloc, Some(end_name(row.end)))?)?;
     cells.push(copied(alloc, why(row))?)?;
-    cells.push(data_told(alloc, row)?)?;
+    cells.push(words_told(alloc, row)?)?;
     cells.push(digits_told(alloc, row.status)?)?;
     cells.push(bits_told(alloc, row.status)?)?;
     cells.push(copied(alloc, row.handed_text())?)?;

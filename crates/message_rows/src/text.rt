@@ -1,6 +1,6 @@
 //! Rows as lines of text.
 use crate::commands::{MessageCommands, MessageForm};
-use crate::ending::{ErrorCause, RowEnd};
+use crate::ending::{ErrorCause, IgnoreCause, RowEnd, Unsent};
 use crate::row::RunRow;
 use crate::status::set_bit_names;
 use bus_word::{Bus, Command};
@@ -64,7 +64,7 @@ pub fn end_name(end: RowEnd) -> &'static str {
     match end {
         RowEnd::Other => "other",
         RowEnd::Open => "open",
-        RowEnd::Ignored => "ignored",
+        RowEnd::Ignored(_) => "ignored",
         RowEnd::Superseded => "superseded",
         RowEnd::InError(_) => "in error",
         RowEnd::Illegal => "illegal",
@@ -84,17 +84,22 @@ fn cause_name(cause: ErrorCause) -> &'static str {
     }
 }
 
-/// Why a message ended so, where there is a reason, or is not answered.
+/// Why a command starts nothing.
+fn ignore_name(cause: IgnoreCause) -> &'static str {
+    match cause {
+        IgnoreCause::Reply => "during a reply",
+        IgnoreCause::NoGap => "no gap after a command",
+    }
+}
+
+/// Why a message ended so, where there is a reason, or lacks its reply or a part of it.
 pub fn why(row: &RunRow) -> Option<&'static str> {
-    match row.end {
-        RowEnd::InError(cause) => Some(cause_name(cause)),
-        _ => {
-            if row.is_shut_down {
-                Some("transmitter shut down")
-            } else {
-                None
-            }
-        }
+    match (row.end, row.unsent) {
+        (RowEnd::InError(cause), _) => Some(cause_name(cause)),
+        (RowEnd::Ignored(cause), _) => Some(ignore_name(cause)),
+        (_, Some(Unsent::ShutDown)) => Some("transmitter shut down"),
+        (_, Some(Unsent::Dropped)) => Some("reply dropped by a command on the other bus"),
+        (_, None) => None,
     }
 }
 
@@ -143,11 +148,14 @@ fn push_columns(alloc: Global, text: &mut String, row: &RunRow) -> Result<(), Al
     )
 }
 
-/// The words of a message, each four digits behind a space, and how many are left out.
+/// The data words of a message, each as four digits with a space between two, and how many are left out; empty for none.
 pub fn words_told(alloc: Global, row: &RunRow) -> Result<String, AllocError> {
     let mut text = String::new(alloc);
     for word in row.data.as_slice() {
-        write!(text, " {word:04x}")?;
+        if !text.is_empty() {
+            text.push_str(" ")?;
+        }
+        write!(text, "{word:04x}")?;
     }
     if row.left_out > 0 {
         write!(text, " and {} more", row.left_out)?;
@@ -155,26 +163,37 @@ pub fn words_told(alloc: Global, row: &RunRow) -> Result<String, AllocError> {
     Ok(text)
 }
 
-/// Adds the transmitter of a transfer.
-fn push_transmitter(text: &mut String, commands: &MessageCommands) -> Result<(), AllocError> {
-    if let Some(command) = commands.transmitter {
-        let address = command.address();
-        let place = place_of(command);
-        let mode = if command.is_mode() { " mode" } else { "" };
-        write!(text, "; from {address}{mode} {place}")?;
+/// The transmitter of a transfer, and its subaddress or mode code; empty where the message is none.
+pub fn transmitter_told(alloc: Global, commands: &MessageCommands) -> Result<String, AllocError> {
+    match commands.transmitter {
+        Some(command) => {
+            let address = command.address();
+            let place = place_of(command);
+            let mode = if command.is_mode() { " mode" } else { "" };
+            format!(in alloc; "{address}{mode} {place}")
+        }
+        None => Ok(String::new(alloc)),
     }
-    Ok(())
 }
 
-/// Adds the status word of the terminal, and its bits by name.
-fn push_status(alloc: Global, text: &mut String, status: Option<u16>) -> Result<(), AllocError> {
+/// The status word of the terminal, and its bits by name; empty for none.
+pub fn status_told(alloc: Global, status: Option<u16>) -> Result<String, AllocError> {
+    let mut text = String::new(alloc);
     if let Some(word) = status {
-        write!(text, "; status {word:04x}")?;
+        write!(text, "{word:04x}")?;
         for name in set_bit_names(alloc, word)?.as_slice() {
             write!(text, " {name}")?;
         }
     }
-    Ok(())
+    Ok(text)
+}
+
+/// Adds what is told of a message behind these words, where there is something.
+fn push_told(text: &mut String, front: &str, told: &str) -> Result<(), AllocError> {
+    if told.is_empty() {
+        return Ok(());
+    }
+    write!(text, "; {front}{told}")
 }
 
 /// A row as a line of text, with its line feed; with the name of its message, where it has one.
@@ -184,18 +203,18 @@ pub fn row_text(alloc: Global, row: &RunRow, name: Option<&str>) -> Result<Strin
     if let Some(why) = why(row) {
         write!(text, ", {why}")?;
     }
-    push_transmitter(&mut text, &row.commands)?;
+    let from = transmitter_told(alloc, &row.commands)?;
+    push_told(&mut text, "from ", from.as_str())?;
     if let Some(name) = name {
         write!(text, "; {}", quoted(alloc, name)?)?;
     }
-    let words = words_told(alloc, row)?;
-    if !words.is_empty() {
-        write!(text, "; data{words}")?;
-    }
-    push_status(alloc, &mut text, row.status)?;
-    if let Some(handed) = row.handed_text() {
-        write!(text, "; hand {handed}")?;
-    }
+    push_told(&mut text, "data ", words_told(alloc, row)?.as_str())?;
+    push_told(
+        &mut text,
+        "status ",
+        status_told(alloc, row.status)?.as_str(),
+    )?;
+    push_told(&mut text, "hand ", row.handed_text().unwrap_or(""))?;
     text.push_str("\n")?;
     Ok(text)
 }

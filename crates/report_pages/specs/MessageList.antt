@@ -26,4 +26,4 @@ IsCell cell field = (written : List ℕ) × StandsFor (string_bytes cell) writte
 unfoldable pub IsListRow : RunRow → List (String Global) → List ℕ → Type 0
 IsListRow row cells text =
     (fields : List ℕ) × AreRowsOf IsCell cells fields
-    × (text ≡ list_begin (is_faulty row.end row.is_shut_down) ++ link_field row.number row.line ++ count_field row.line ++ fields ++ codes "</tr>\n")
+    × (text ≡ list_begin (is_faulty row.end row.unsent) ++ link_field row.number row.line ++ count_field row.line ++ fields ++ codes "</tr>\n")
