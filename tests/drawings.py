@@ -414,8 +414,11 @@ def list_cells(row):
     count = "" if command["count"] is None else str(command["count"])
     ended = row["ended"] if row["why"] is None else f"{row['ended']}: {row['why']}"
     status = "" if row["status"] is None else " ".join([row["status"], *row["bits"]])
+    sender = row["transmitter"]
+    told = "" if sender is None else f"{sender['address']} " + (str(sender["subaddress"]) if sender["code"] is None else f"mode {sender['code']}")
+    data = " ".join(row["data"]) + (f" and {row['left_out']} more" if row["left_out"] else "")
     return [str(row["number"]), str(row["line"]), row["bus"], row["kind"], "all" if command["address"] == 31 else str(command["address"]), place,
-            count, row.get("name") or "", ended, status, row["handed"] or ""]  # fmt: skip
+            count, told, row.get("name") or "", ended, data, status, row["handed"] or ""]  # fmt: skip
 
 
 def look_at_code(root):

@@ -252,6 +252,21 @@ def test_list_of_messages(tool, named):
     assert page.index('<table id="messages">') < page.index("<svg") and "<b>" not in page
 
 
+def test_lines_of_messages(tool, tmp_path):
+    """With `--expand` the drawings and the list of a page have the lines of the file."""
+    write_files(tmp_path, {"all.toml": ALL, "script": "# speed\nA rx 5 3 2: 0001 0002\n#> hand receive own 03 0001 0002\n#> A s 2800\n\n"
+                                                      "A rx 5 3 2 from 9 1: 0003 0004\nflag busy 1\nA tx 5 3 2\nA c 2c02\nA gap\nslot\n"})
+    words = ["--expand", tmp_path / "all.toml", tmp_path / "script"]
+    rows = [json.loads(it) for it in drawings.printed(tool, "messages", "--format", "json", *words).splitlines()]
+    assert [it["line"] for it in rows] == [2, 6, 8, 9]
+    root = xml.fromstring(drawings.printed(tool, "draw", "--html", *words))
+    folds = [it for it in root.iter(f"{HTML}details") if it.find(f"{HTML}div") is not None]
+    drawings.look_at_list(root, rows, folds)
+    svg = xml.fromstring(drawings.printed(tool, "draw", *words))
+    numbers = [int(it.text) for it in svg.iter(f"{SVG}text") if "number" in classes(it)]
+    assert numbers == [*[2] * 5, *[6] * 8, 7, *[8] * 5, 9, 10, 11]
+
+
 def escaped_name(name):
     """A name as the list has it."""
     return re.sub(r"([\\\"'])", r"\\\1", name)
@@ -324,7 +339,7 @@ def test_table_without_names_changes_no_drawing(tool, named):
 
 ROWS = [
     Row("draw: a script that is refused", "draw five refused", 2,
-        errors="refused: script: line 3, column 5: a space at the end: nothing may follow the last field\n",
+        errors="refused:3:5: error: a space at the end: nothing may follow the last field\n",
         files={"five": "address = 5\n", "refused": "A c 2c02\nA gap\nslot \n"}),
     Row("draw: too many events", "draw five most", 2,
         errors="most: script: too many events to draw\n", files={"five": "address = 5\n", "most": "slot\n" * 4097}),

@@ -9,6 +9,6 @@ mod reason;
 mod script;
 
 pub use answers::mistyped_answer;
-pub use lines::first_line;
+pub use lines::{first_line, line_in_file};
 pub use reason::{LineReason, Misfit, misfit_of};
 pub use script::{RefusedLine, mistyped_answers, refused_lines};

@@ -5,6 +5,7 @@ ghost use Rattle.rt1553_draw.specs.inner.Marked.{IsMarkedBy};
 ghost use Rattle.rt1553_draw.specs.inner.Placed.{number_width, IsWidthOf};
 
 use crate::expected::{Expected, StatedAnswer, expected_at};
+use crate::shown_line::ShownLine;
 use bus_terminal::{Answer, Event};
 use bus_word::Bus;
 use drawing_boxes::{Caption, Lane, Lanes, MARGIN, Numbered};
@@ -33,6 +34,8 @@ pub enum Mark {
 pub struct Column {
     /// The event that it is of.
     pub of: Numbered,
+    /// The line of the event, as it is shown.
+    pub line: ShownLine,
     pub mark: Mark,
     /// What is handed over at the event.
     pub handed: Option<Caption>,
@@ -80,14 +83,6 @@ fn mark_of(event: Event, is_status: bool, answer: &Answer<'_>) -> Mark {
         Event::Vector(word) => Mark::Box(Lane::Subsystem, Caption::Vector(word)),
         Event::Bit(word) => Mark::Box(Lane::Subsystem, Caption::Bit(word)),
         Event::Flag(flag, is_set) => Mark::Box(Lane::Subsystem, Caption::Flag(flag, is_set)),
-    }
-}
-
-/// What is handed over.
-fn handed_of(answer: &Answer<'_>) -> Option<Caption> {
-    match answer {
-        Answer::Hands(hand) => Some(Caption::of_hand(*hand)),
-        _ => None,
     }
 }
 
@@ -156,25 +151,30 @@ fn answer_line(alloc: Global, answer: &Answer<'_>) -> Result<String, AllocError>
 }
 
 impl Column {
-    /// What is drawn of an event that is answered so.
+    /// What is drawn of an event, of a line that is shown so, that is answered so.
     pub fn of(
         alloc: Global,
         of: Numbered,
+        line: ShownLine,
         is_status: bool,
         answer: &Answer<'_>,
     ) -> Result<Column, AllocError>
         requires { IsSmall (shown_answer answer.now) }
         ensures of { IfOk result (λ column. column.of ≡ of) }
-        ensures width { IfOk result (λ column. IsWidthOf (number_width of.line) column.mark column.width) }
+        ensures line { IfOk result (λ column. column.line ≡ line) }
+        ensures width { IfOk result (λ column. IsWidthOf (number_width line.number) column.mark column.width) }
     {
-        let line = of.line;
         let mark = mark_of(of.event, is_status, answer);
-        let handed = handed_of(answer);
-        let width = width_of_mark(&mark, number_width(alloc, line)?);
+        let handed = match answer {
+            Answer::Hands(hand) => Some(Caption::of_hand(*hand)),
+            _ => None,
+        };
+        let width = width_of_mark(&mark, number_width(alloc, line.number)?);
         let handed_width = width_if(handed);
         let answer = answer_line(alloc, answer)?;
         Ok(Column {
             of,
+            line,
             mark,
             handed,
             answer,

@@ -12,6 +12,7 @@ use crate::piece::pieces_of;
 use crate::plan::{plan, plan_at};
 use crate::row::{bottom_of, right_of, rows_of};
 use crate::shape::{push_head, push_rows, push_style};
+use crate::shown_line::DrawnScript;
 use bus_legal::Normal;
 use drawing_boxes::DrawFault;
 use message_names::MessageNames;
@@ -76,10 +77,10 @@ pub fn draw(
     alloc: Global,
     normal: &Normal,
     names: Option<&MessageNames>,
-    script: &[u8],
+    script: DrawnScript<'_>,
 ) -> Result<String, DrawFault>
-    ensures drawn { OnOk result (refusal (reading 0 (lines_of script.now)) ≡ None) }
-    ensures refused { IfErr result (λ fault. fault ≢ DrawFault.Memory → refusal (reading 0 (lines_of script.now)) ≡ Some fault) }
+    ensures drawn { OnOk result (refusal (reading 0 (lines_of script.entry.text.now)) ≡ None) }
+    ensures refused { IfErr result (λ fault. fault ≢ DrawFault.Memory → refusal (reading 0 (lines_of script.entry.text.now)) ≡ Some fault) }
 {
     let parts = plan(alloc, normal, names, script)?;
     Ok(drawing_of(alloc, normal, parts.as_slice())?)
@@ -90,7 +91,7 @@ pub fn draw(
 struct FoldLook {
     /// Whether each is unfolded.
     is_open: bool,
-    /// Whether each event has an anchor.
+    /// Whether the first event of each line has an anchor.
     has_anchors: bool,
 }
 
@@ -182,16 +183,16 @@ fn folds_of(
     Ok(text)
 }
 
-/// Draws the same message by message, for a page: each stands below a line that says what it is, and can be folded. The number of
-/// line 12 of the script has the anchor `line-12`, so a page has one such drawing at most.
+/// Draws the same message by message, for a page: each stands below a line that says what it is, and can be folded. Line 12 of the file
+/// has the anchor `line-12` at its first event, so a page has one such drawing at most.
 pub fn draw_folded(
     alloc: Global,
     normal: &Normal,
     names: Option<&MessageNames>,
-    script: &[u8],
+    script: DrawnScript<'_>,
 ) -> Result<String, DrawFault>
-    ensures drawn { OnOk result (refusal (reading 0 (lines_of script.now)) ≡ None) }
-    ensures refused { IfErr result (λ fault. fault ≢ DrawFault.Memory → refusal (reading 0 (lines_of script.now)) ≡ Some fault) }
+    ensures drawn { OnOk result (refusal (reading 0 (lines_of script.entry.text.now)) ≡ None) }
+    ensures refused { IfErr result (λ fault. fault ≢ DrawFault.Memory → refusal (reading 0 (lines_of script.entry.text.now)) ≡ Some fault) }
 {
     let parts = plan(alloc, normal, names, script)?;
     Ok(folds_of(alloc, parts.as_slice(), true)?)
@@ -230,11 +231,11 @@ pub fn draw_stated(
     alloc: Global,
     normal: &Normal,
     names: Option<&MessageNames>,
-    script: &[u8],
+    script: DrawnScript<'_>,
     stated: &[StatedAnswer],
 ) -> Result<String, DrawFault>
-    ensures drawn { OnOk result ((reading 0 (lines_of script.now)).fault ≡ None) }
-    ensures refused { IfErr result (λ fault. fault ≢ DrawFault.Memory → refusal (reading 0 (lines_of script.now)) ≡ Some fault) }
+    ensures drawn { OnOk result ((reading 0 (lines_of script.entry.text.now)).fault ≡ None) }
+    ensures refused { IfErr result (λ fault. fault ≢ DrawFault.Memory → refusal (reading 0 (lines_of script.entry.text.now)) ≡ Some fault) }
 {
     let stated = &stated[..stated.len().min(MOST_STATED)];
     let lines = lines_of_stated(alloc, stated)?;

@@ -11,8 +11,10 @@ mod piece;
 mod plan;
 mod row;
 mod shape;
+mod shown_line;
 mod style;
 
 pub use drawing::{MOST_STATED, draw, draw_folded, draw_stated};
 pub use expected::StatedAnswer;
 pub use page::{PageParts, page_with, push_front, push_keys};
+pub use shown_line::DrawnScript;

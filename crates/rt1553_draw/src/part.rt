@@ -131,10 +131,10 @@ impl DrawnMessage {
         Ok(())
     }
 
-    /// The number of the first line of the script that it comes from; 0 where it has no event.
+    /// The number of the first line of the file that it comes from; 0 where it has no event.
     pub fn first_line(&self) -> u64 {
         match self.columns.as_slice() {
-            [column, ..] => column.of.line,
+            [column, ..] => column.line.number,
             [] => 0,
         }
     }
@@ -142,7 +142,7 @@ impl DrawnMessage {
     /// The number of the last line.
     pub fn last_line(&self) -> u64 {
         match self.columns.as_slice() {
-            [.., column] => column.of.line,
+            [.., column] => column.line.number,
             [] => 0,
         }
     }
@@ -193,7 +193,7 @@ impl DrawnMessage {
     }
 }
 
-/// A message in one line, as it stands in XML: its number, the line of the script in which it begins, what it is, its name if it has one,
+/// A message in one line, as it stands in XML: its number, the line of the file in which it begins, what it is, its name if it has one,
 /// and how it is answered.
 #[derive(Clone, Copy)]
 pub struct MessageTitle<'a>(pub &'a DrawnMessage);

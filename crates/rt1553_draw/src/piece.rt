@@ -19,7 +19,7 @@ pub struct MessagePiece<'a> {
     pub columns: &'a [Column],
     /// Whether the message begins with them.
     pub is_first: bool,
-    /// Whether each column has an anchor.
+    /// Whether the first column of each line has an anchor.
     pub has_anchors: bool,
 }
 

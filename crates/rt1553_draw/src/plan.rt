@@ -7,6 +7,7 @@ ghost use Rattle.rt1553_draw.specs.inner.Drawn.{drawn_of, drawn_in, wanted, AreW
 
 use crate::column::Column;
 use crate::part::DrawnMessage;
+use crate::shown_line::{DrawnScript, ShownLine};
 use bus_legal::{Legality, Normal};
 use bus_terminal::{Event, Terminal};
 use drawing_boxes::{Course, DrawFault, Heard, Numbered, events_to_draw, numbered_events};
@@ -56,15 +57,17 @@ fn play_event<L: Legality>(
     terminal: &mut Terminal<L>,
     course: Course,
     of: Numbered,
+    line: ShownLine,
 ) -> Result<Column, AllocError>
-    ensures { IfOk result (λ column. column.of ≡ of) }
+    ensures of { IfOk result (λ column. column.of ≡ of) }
+    ensures line { IfOk result (λ column. column.line ≡ line) }
 {
     let is_status = match of.event {
         Event::Word(bus, word) => course.is_status(terminal, bus, word),
         _ => false,
     };
     let answer = terminal.step(of.event);
-    Column::of(alloc, of, is_status, &answer)
+    Column::of(alloc, of, line, is_status, &answer)
 }
 
 /// Plays an event, and adds its column to a message.
@@ -74,25 +77,27 @@ fn add_event<L: Legality>(
     heard: Heard,
     part: &mut DrawnMessage,
     of: Numbered,
+    line: ShownLine,
 ) -> Result<(), AllocError>
     ensures { OnOk result (drawn_of part.new ≡ drawn_of part.old ++ of ∷ []) }
 {
     let event = of.event;
     let course = part.course;
-    let column = play_event(alloc, terminal, course, of)?;
+    let column = play_event(alloc, terminal, course, of, line)?;
     let sent = column.is_sent();
     part.add(column)?;
     part.course = course.with(terminal, heard, event, sent);
     Ok(())
 }
 
-/// Plays events from power-up, and gives the messages of them that are wanted.
+/// Plays events from power-up, and gives the messages of them that are wanted. `sources` are the lines by which they are shown.
 fn messages_of(
     alloc: Global,
     normal: &Normal,
     names: Option<&MessageNames>,
     events: &[Numbered],
     lines: Option<&[u64]>,
+    sources: Option<&[u64]>,
 ) -> Result<Vec<DrawnMessage>, AllocError>
     ensures { IfOk result (λ parts. AreWanted (option_map (λ ls. ls.now) lines.entry) events.now parts.items) }
 {
@@ -104,9 +109,11 @@ fn messages_of(
     let mut terminal = Terminal::power_up(setup, *normal);
     let mut parts = Vec::new(alloc);
     let mut part = DrawnMessage::new(alloc, 1);
+    let mut shown = ShownLine::NONE;
     for of in events {
+        shown = shown.next(sources, of.line);
         part = begin_another(alloc, &mut parts, part, lines, heard, of.event)?;
-        add_event(alloc, &mut terminal, heard, &mut part, *of)?;
+        add_event(alloc, &mut terminal, heard, &mut part, *of, shown)?;
         part.take_name(alloc, names, heard, of.event)?;
     }
     keep_wanted(&mut parts, part, lines)?;
@@ -119,13 +126,14 @@ pub fn plan(
     alloc: Global,
     normal: &Normal,
     names: Option<&MessageNames>,
-    script: &[u8],
+    script: DrawnScript<'_>,
 ) -> Result<Vec<DrawnMessage>, DrawFault>
-    ensures drawn { IfOk result (λ parts. (refusal (reading 0 (lines_of script.now)) ≡ None) × (drawn_in parts.items ≡ events_on 0 (lines_of script.now))) }
-    ensures refused { IfErr result (λ fault. fault ≢ DrawFault.Memory → refusal (reading 0 (lines_of script.now)) ≡ Some fault) }
+    ensures drawn { IfOk result (λ parts. (refusal (reading 0 (lines_of script.entry.text.now)) ≡ None) × (drawn_in parts.items ≡ events_on 0 (lines_of script.entry.text.now))) }
+    ensures refused { IfErr result (λ fault. fault ≢ DrawFault.Memory → refusal (reading 0 (lines_of script.entry.text.now)) ≡ Some fault) }
 {
-    let events = events_to_draw(alloc, script)?;
-    Ok(messages_of(alloc, normal, names, events.as_slice(), None)?)
+    let events = events_to_draw(alloc, script.text)?;
+    let events = events.as_slice();
+    Ok(messages_of(alloc, normal, names, events, None, script.sources)?)
 }
 
 /// Of the messages of a script of any number of events, those with an event in one of these lines.
@@ -133,12 +141,13 @@ pub fn plan_at(
     alloc: Global,
     normal: &Normal,
     names: Option<&MessageNames>,
-    script: &[u8],
+    script: DrawnScript<'_>,
     lines: &[u64],
 ) -> Result<Vec<DrawnMessage>, DrawFault>
-    ensures drawn { IfOk result (λ parts. ((reading 0 (lines_of script.now)).fault ≡ None) × AreWanted (Some lines.now) (events_on 0 (lines_of script.now)) parts.items) }
-    ensures refused { IfErr result (λ fault. fault ≢ DrawFault.Memory → refusal (reading 0 (lines_of script.now)) ≡ Some fault) }
+    ensures drawn { IfOk result (λ parts. ((reading 0 (lines_of script.entry.text.now)).fault ≡ None) × AreWanted (Some lines.now) (events_on 0 (lines_of script.entry.text.now)) parts.items) }
+    ensures refused { IfErr result (λ fault. fault ≢ DrawFault.Memory → refusal (reading 0 (lines_of script.entry.text.now)) ≡ Some fault) }
 {
-    let events = numbered_events(alloc, script)?;
-    Ok(messages_of(alloc, normal, names, events.as_slice(), Some(lines))?)
+    let events = numbered_events(alloc, script.text)?;
+    let (events, sources) = (events.as_slice(), script.sources);
+    Ok(messages_of(alloc, normal, names, events, Some(lines), sources)?)
 }

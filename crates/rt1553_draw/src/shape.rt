@@ -9,9 +9,10 @@ use crate::expected::Expected;
 use crate::part::{Heading, MessageTitle};
 use crate::piece::MessagePiece;
 use crate::row::Row;
+use crate::shown_line::ShownLine;
 use crate::style::LIGHT_STYLE;
 use drawing_boxes::{
-    Caption, Digits, Frame, InOneLine, LANES_FROM, Lane, MARGIN, More, Numbered, Rest, What,
+    Caption, Digits, Frame, InOneLine, LANES_FROM, Lane, MARGIN, More, Rest, What,
 };
 use script_lines::write_event;
 use std::alloc::AllocError;
@@ -124,17 +125,17 @@ fn push_box(
     text.push_str("</g>\n")
 }
 
-/// The line of the script that an event stands in, with its number.
-fn push_event_line(text: &mut String, of: Numbered) -> Result<(), AllocError> {
-    let line = of.line;
-    let event = write_event(&of.event);
+/// The event of a column, behind the number of its line.
+fn push_event_line(text: &mut String, column: &Column) -> Result<(), AllocError> {
+    let line = column.line.number;
+    let event = write_event(&column.of.event);
     let event = event.as_str();
     write!(text, "line {line}: {event}")
 }
 
 /// What the script and the transcript say of a column.
 fn push_said(text: &mut String, column: &Column) -> Result<(), AllocError> {
-    push_event_line(text, column.of)?;
+    push_event_line(text, column)?;
     let answer = column.answer.as_str();
     if !answer.is_empty() {
         write!(text, ", {answer}")?;
@@ -156,7 +157,7 @@ fn push_gap(
     let top = place.frame.lane_top(lane);
     let bottom = top.saturating_add(height);
     text.push_str("<g role=\"img\"><title>")?;
-    push_event_line(text, column.of)?;
+    push_event_line(text, column)?;
     writeln!(
         text,
         "</title><rect class=\"area\" x=\"{left}\" y=\"{top}\" width=\"{width}\" height=\"{height}\"/><line class=\"gap\" x1=\"{middle}\" y1=\"{top}\" x2=\"{middle}\" y2=\"{bottom}\"/></g>"
@@ -168,7 +169,7 @@ fn push_silence(text: &mut String, place: Place, column: &Column) -> Result<(), 
     let middle = place.middle();
     let top = place.frame.middle();
     text.push_str("<g role=\"img\"><title>")?;
-    push_event_line(text, column.of)?;
+    push_event_line(text, column)?;
     writeln!(
         text,
         ", nothing is sent</title><circle class=\"silence\" cx=\"{middle}\" cy=\"{top}\" r=\"3\"/></g>"
@@ -197,7 +198,7 @@ fn push_expected(
     let left = begin.saturating_add(MARGIN);
     let width = expected.width.saturating_sub(2 * MARGIN);
     let whole = expected.whole.as_str();
-    let number = column.of.line;
+    let number = column.line.number;
     writeln!(
         text,
         "<g role=\"img\"><title>expected at line {number}: {whole}</title><rect class=\"box expected\" x=\"{left}\" y=\"{top}\" width=\"{width}\" height=\"{height}\"/>"
@@ -226,19 +227,20 @@ fn push_anchor(text: &mut String, line: u64) -> Result<(), AllocError>
     text.push_str("\"")
 }
 
-/// The number of a line, with an anchor or without.
+/// The number of a line; where anchors are asked for, its first event has one.
 fn push_number(
     text: &mut String,
     place: Place,
-    line: u64,
-    has_anchor: bool,
+    line: ShownLine,
+    has_anchors: bool,
 ) -> Result<(), AllocError> {
     let middle = place.middle();
     let top = place.frame.numbers();
     text.push_str("<text")?;
-    if has_anchor {
-        push_anchor(text, line)?;
+    if has_anchors && line.is_first {
+        push_anchor(text, line.number)?;
     }
+    let line = line.number;
     writeln!(
         text,
         " class=\"digits number\" x=\"{middle}\" y=\"{top}\">{line}</text>"
@@ -250,9 +252,9 @@ fn push_column(
     text: &mut String,
     place: Place,
     column: &Column,
-    has_anchor: bool,
+    has_anchors: bool,
 ) -> Result<(), AllocError> {
-    push_number(text, place, column.of.line, has_anchor)?;
+    push_number(text, place, column.line, has_anchors)?;
     push_mark(text, place, column)?;
     if let Some(expected) = &column.expected {
         push_expected(text, place, column, expected)?;

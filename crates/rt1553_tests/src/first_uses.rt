@@ -13,8 +13,8 @@ use refused_lines::{misfit_of, refused_lines};
 use rt1553::{canonical, load};
 use rt1553_acceptance::label_of;
 use rt1553_differ::{differences, explain};
-use rt1553_draw::draw;
-use rt1553_expand::{Expanded, expand, gather};
+use rt1553_draw::{DrawnScript, draw};
+use rt1553_expand::{Expanded, ScriptFor, expand, gather};
 use rt1553_export::export_table;
 use rt1553_files::escaped;
 use rt1553_import::import_table;
@@ -243,7 +243,11 @@ fn what_is_wrong(rt: HostRuntime) -> Result<(), Fail> {
 #[test]
 fn a_drawing(rt: HostRuntime) -> Result<(), Fail> {
     let normal = load(rt.alloc(), b"address = 5")?;
-    let svg = draw(rt.alloc(), &normal, None, b"A c 2c02\nA gap\nslot\n")?;
+    let script = DrawnScript {
+        text: b"A c 2c02\nA gap\nslot\n",
+        sources: None,
+    };
+    let svg = draw(rt.alloc(), &normal, None, script)?;
     assert!(rt; !svg.as_str().is_empty());
     Ok(())
 }
@@ -284,8 +288,9 @@ fn a_key_without_effect(rt: HostRuntime) -> Result<(), Fail> {
 
 #[test]
 fn messages_of_a_script(rt: HostRuntime) -> Result<(), Fail> {
-    let expanded = expand(rt.alloc(), b"A rx 5 3 1: 0001\n", None)?;
-    let gathered = gather(rt.alloc(), b"A c 2c02\nA gap\nslot\n", None)?;
+    let nobody = ScriptFor::Terminal(None);
+    let expanded = expand(rt.alloc(), b"A rx 5 3 1: 0001\n", &nobody)?;
+    let gathered = gather(rt.alloc(), b"A c 2c02\nA gap\nslot\n", &nobody)?;
     let Expanded::Script(script) = expanded else {
         panic!(rt; "the message is refused");
     };

@@ -14,7 +14,7 @@ use drawing_boxes::DrawFault;
 use message_names::MessageNames;
 use report_pages::{RESULTS_STYLE, push_list_code};
 use rt1553_differ::explain;
-use rt1553_draw::{PageParts, draw, draw_folded, page_with};
+use rt1553_draw::{DrawnScript, PageParts, draw, draw_folded, page_with};
 use rt1553_tool_args::AskedDrawing;
 use std::alloc::Global;
 use std::io::Write;
@@ -48,10 +48,10 @@ fn drawn_run(
     alloc: Global,
     normal: &Normal,
     names: Option<&MessageNames>,
-    script: &[u8],
+    script: DrawnScript<'_>,
     folded: bool,
 ) -> Result<DrawnRun, DrawFault>
-    ensures drawn { OnOk result (refusal (reading 0 (lines_of script.now)) ≡ None) }
+    ensures drawn { OnOk result (refusal (reading 0 (lines_of script.entry.text.now)) ≡ None) }
 {
     if folded {
         let drawing = draw_folded(alloc, normal, names, script)?;
@@ -76,14 +76,17 @@ fn draw_file<R: Files + AllocGlobal>(
     ensures { IfOk result (λ drawn. (text : List ℕ) × (script : LoadedScript) × IsScriptOf expand_for text script × (refusal (reading 0 (lines_of script.text.items)) ≡ None)) }
 {
     let script = load_script(rt, name, expand_for)?;
-    let script = script.text.as_slice();
-    match drawn_run(rt.alloc(), normal, names, script, folded) {
+    let drawn = DrawnScript {
+        text: script.text.as_slice(),
+        sources: script.sources(),
+    };
+    match drawn_run(rt.alloc(), normal, names, drawn, folded) {
         Ok(run) => Ok(run),
         Err(fault) => {
             let told = drawing_fault(rt, name, fault);
             Err(match fault {
                 DrawFault::Script(RunFault::Line(_) | RunFault::LongLine(_)) => {
-                    first_refused(rt, name, script, told)
+                    first_refused(rt, name, script.text.as_slice(), told)
                 }
                 _ => told,
             })

@@ -2,8 +2,9 @@
 use bus_legal::Normal;
 use message_names::MessageNames;
 use message_rows::{ClosedRows, MessageWatch, RunRow, row_cells};
-use refused_lines::first_line;
+use refused_lines::{first_line, line_in_file};
 use report_pages::{push_list_end, push_list_front, push_list_row};
+use rt1553_draw::DrawnScript;
 use script_lines::read_event;
 use std::alloc::{AllocError, Global};
 use tool_names::name_of_command;
@@ -61,14 +62,15 @@ impl<'a> ListWriter<'a> {
         &self,
         watch: &mut MessageWatch<Normal>,
         page: &mut String,
-        script: &[u8],
+        script: DrawnScript<'_>,
     ) -> Result<(), AllocError> {
-        let mut rest = script;
+        let mut rest = script.text;
         let mut lines = 0u64;
         while !rest.is_empty() {
             let (line, more) = first_line(rest);
             lines = lines.saturating_add(1);
-            self.play_line(watch, page, lines, line)?;
+            let number = line_in_file(script.sources, lines);
+            self.play_line(watch, page, number, line)?;
             rest = more;
         }
         self.push_closed(page, watch.end())
@@ -80,7 +82,7 @@ pub fn messages_list(
     alloc: Global,
     normal: &Normal,
     names: Option<&MessageNames>,
-    script: &[u8],
+    script: DrawnScript<'_>,
 ) -> Result<String, AllocError> {
     let writer = ListWriter {
         alloc,
