@@ -45,7 +45,7 @@ LINT = with_files(
         "required:3:1: error: profile: mode code 8 must be legal; mode 1 makes it illegal\n"),
     Row("lint: 257 rules", "lint many", 2,
         "many:514:1: error: profile: root: rule has too many items: an array of 257 items; allowed is at most 256 tables [[rule]]\n"),
-    Row("lint: a canonical text that is refused", "lint canonical", 2, "canonical:3:1: error: canonical text: line 3\n"),
+    Row("lint: a canonical text that is refused", "lint canonical", 2, 'canonical:3:1: error: canonical text: line 3: a line like "broadcast 0" is expected\n'),
     Row("lint: a fault far down", "lint far", 2,
         'far:4999:1: error: profile: rule 1: direction is out of range: "up"; allowed is "receive", "transmit" or "both"\n'),
     Row("lint: unknown keys, the first of the text first", "lint order", 2,

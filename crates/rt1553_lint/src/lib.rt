@@ -1,6 +1,7 @@
 //! What is wrong with a profile text, all of it, and what in it has no effect, each with its line; and this as SARIF.
 #![tactic(auto)]
 
+mod canon_hint;
 mod errors;
 mod finding;
 mod hint;

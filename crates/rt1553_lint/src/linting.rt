@@ -10,6 +10,7 @@ ghost use Rattle.rt1553_lint.specs.Findings.{FindsInTree, FindsInOther};
 ghost use Rattle.rt1553_lint.specs.Places.{IsNone, AreStatementsOf};
 ghost use Rattle.rt1553_lint.specs.Standing.{IsPlaced};
 
+use crate::canon_hint::line_in_place_of;
 use crate::errors::errors_of;
 use crate::finding::{Finding, LintFault};
 use crate::hint::hint_of;
@@ -76,17 +77,23 @@ fn lint_table(alloc: Global, text: &[u8], table: &Table) -> Result<Vec<Finding>,
     Ok(placed)
 }
 
-/// The finding of a canonical text that is refused.
+/// The finding of a canonical text that is refused: of a wrong line also one that could stand there.
 fn canon_finding(alloc: Global, text: &[u8], fault: CanonFault) -> Result<Finding, AllocError>
     ensures fault { IfOk result (λ finding. finding.fault ≡ Some (lint_fault.Canon fault)) }
     ensures spare { IfOk result (λ finding. finding.spare ≡ None) }
     ensures placed { IfOk result (IsPlaced text.now) }
 {
+    let mut message = format!(in alloc; "{fault}")?;
+    if let CanonFault::Line(line) = fault {
+        if let Some(right) = line_in_place_of(alloc, text, line)? {
+            write!(message, ": a line like \"{right}\" is expected")?;
+        }
+    }
     Ok(Finding {
         position: Some(canon_position(text, fault)),
         fault: Some(LintFault::Canon(fault)),
         spare: None,
-        message: format!(in alloc; "{fault}")?,
+        message,
     })
 }
 
