@@ -52,7 +52,7 @@ REFUSED = [
 DATE = "2026-11-28T12:00:00Z"
 WITHOUT = "arguments: --format junit and html, --any-subsystem and --date are for --against\n"
 DATES = "arguments: --date is as 2026-01-31T12:00:00, also with Z or an offset\n"
-OUT_OF_RANGE = "profile: profile: root: address is out of range\n"
+OUT_OF_RANGE = "profile:1:1: error: profile: root: address is out of range: 31; allowed is a whole number from 0 to 30\n"
 FILES = {"profile": LARGEST, "results": "number,reply\n1,none\n"}
 FAILING = [
     Row("--against with --format csv", (*AGAINST, "--format", "csv"), 3, errors="arguments: --against excludes --format csv\n", files=FILES),

@@ -62,7 +62,7 @@ def test_help_of_all(tool):
     given = run(tool, "--help")
     assert (given.status, given.errors) == (0, b"")
     lines = given.output.decode().splitlines()
-    assert [it for it in lines if it.endswith(":")] == ["Profiles:", "Scripts:", "Units and recordings:", "Documents:", "Options:"]
+    assert [it for it in lines if it.endswith(":")] == ["Profiles:", "Scripts:", "Units and recordings:", "Documents:", "Buses:", "Options:"]
     assert sorted(it.split()[0] for it in lines if it.startswith("  ") and not it.startswith("  -")) == sorted(WORDS)
     assert run(tool, "help") == given
 

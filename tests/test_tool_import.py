@@ -85,7 +85,7 @@ CHECKS = with_files(
     Row("check: another terminal", "import --check t.csv six", 1, 'address:           5 in t.csv, 6 in six\nreceive 1 "speed": count 2 legal in t.csv alone\n'),
     Row("check: warnings of the table", "import --check left.csv same", 0, "", 'left.csv:1:5: warning: the column "my name" is left out\n'),
     Row("check: a table with a fault", "import --check wrong.csv same", 2, "", f'wrong.csv:3:1: error: kind: "recieve": allowed is {KINDS}\n'),
-    Row("check: a profile that is refused", "import --check t.csv bad", 2, "", "bad: profile: root: address is out of range\n"),
+    Row("check: a profile that is refused", "import --check t.csv bad", 2, "", "bad:1:1: error: profile: root: address is out of range: 31; allowed is a whole number from 0 to 30\n"),
     Row("check: a profile that is not there", "import --check t.csv none", 4, "", "file: cannot read none: no such file\n"),
     Row("check: no profile", "import --check t.csv", 3, "", MISSING.format("<P>")),
     Row("a profile without --check", "import t.csv same", 3, "", MISSING.format("--check")),

@@ -71,7 +71,7 @@ DIFFERING = with_files(
 AS_TOML = [
     Row("the smallest profile as TOML", "toml five", 0, "address = 5\n", files={"five": "address = 5\n"}),
     Row("the TOML of a refused profile", "toml thirty_one", 2,
-        errors="thirty_one: profile: root: address is out of range\n", files={"thirty_one": "address = 31\n"}),
+        errors="thirty_one:1:1: error: profile: root: address is out of range: 31; allowed is a whole number from 0 to 30\n", files={"thirty_one": "address = 31\n"}),
 ]  # fmt: skip
 
 

@@ -40,7 +40,7 @@ CAUSES = with_files(
     Row("a script on the standard input", "run five /dev/stdin", 0, "A s 2800\n", stdin=ASK),
     Row("a folder", "check folder", 4, errors="file: cannot read folder: it is a folder\n"),
     Row("a folder for a script", "run five folder", 4, errors="file: cannot read folder: it is a folder\n"),
-    Row("a folder for a table", "recording folder --address 5", 4, errors="file: cannot read folder\n"),
+    Row("a folder for a table", "recording folder --address 5", 4, errors="file: cannot read folder: it is a folder\n"),
     Row("an empty name", ("canon", ""), 4, errors="file: the name of a file is empty\n"),
     Row("a name of more lines", ("check", "a\nb"), 4, errors="file: cannot read a\\nb: no such file\n"),
     Row("a profile that is too large", "check over", 4, errors="file: too large over: at most 1,048,576 bytes\n", files=files_named("over")),
@@ -49,7 +49,7 @@ FAULTS = with_files(
     {**files_named("five bad cut trailing"), "script": ASK},
     *(Row(it, it, 2, errors=OUT_OF_RANGE)
       for it in ("check bad", "canon bad", "run bad script", "compare bad five", "compare five bad", "compare bad bad", "compare bad cut")),
-    Row("a canonical text", "check cut", 2, errors="cut:64:1: error: canonical text: line 64\n"),
+    Row("a canonical text", "check cut", 2, errors='cut:64:1: error: canonical text: line 64: a line like "own-mode 00000134" is expected\n'),
     Row("bytes after a canonical text", "canon trailing", 2, errors="trailing:66:1: error: canonical text: bytes after the end\n"),
     Row("no TOML", "check text", 2, errors="text:1:4: error: profile: not TOML: key with no value, expected `=`\n", files={"text": "no TOML\n"}),
     Row("all faults", "check two", 2,

@@ -72,11 +72,11 @@ EXPANDED = with_files(
     Row("messages that are verified, by the lines of their file", "verify --expand five check", 1,
         "check:4: expected A s 2c00, came A s 2800\ncheck:8: expected nothing, came A s 2800\ncheck: differences: 2\n"),
     Row("messages that verify refuses", "verify --expand five refused", 2,
-        errors="refused: messages: line 1, column 17: a data word is wanted: one space and four hexadecimal digits\n"),
+        errors="refused:1:17: error: a data word is wanted: one space and four hexadecimal digits\n"),
     Row("messages that draw refuses", "draw --expand five refused", 2,
-        errors="refused: messages: line 1, column 17: a data word is wanted: one space and four hexadecimal digits\n"),
+        errors="refused:1:17: error: a data word is wanted: one space and four hexadecimal digits\n"),
     Row("an answer that no event of a message is left for", "verify --expand five misplaced", 2,
-        errors="misplaced: script: line 4: the event before it cannot have this answer\n"),
+        errors="misplaced:4: error: the event before it cannot have this answer\n"),
     Row("answers behind messages", "verify --expand nine stated", files={"nine": NINE, "stated": ANSWERS}),
     Row("wrong answers behind messages, by the lines of their file", "verify --expand nine wrong", 1,
         "wrong:10: expected hand receive own 03 0008, came hand receive own 03 0007\nwrong:13: expected A d 0003, came A d 0002\n"
@@ -97,11 +97,11 @@ ANSWERED = with_files(
     Row("answers", "answers five ask", 0, f"{ASK}#> A s 2800\n"),
     Row("answers of messages", "answers --expand five message", 0, f"# status\n{ASK}#> A s 2800\n", files={"message": "# status\nA mode 5 2\n"}),
     Row("answers of messages that are refused", "answers --expand five refused", 2,
-        errors="refused: messages: line 1, column 17: a data word is wanted: one space and four hexadecimal digits\n"),
+        errors="refused:1:17: error: a data word is wanted: one space and four hexadecimal digits\n"),
     Row("a stated answer that no event of a message is left for", "answers --expand five misplaced", 2,
-        errors="misplaced: script: line 4: the event before it cannot have this answer\n"),
+        errors="misplaced:4: error: the event before it cannot have this answer\n"),
     Row("messages without --expand", "answers five message", 2,
-        errors=f"message: script: line 1, column 3: {MESSAGE}\n", files={"message": "A mode 5 2\n"}),
+        errors=f"message:1:3: error: {MESSAGE}\n", files={"message": "A mode 5 2\n"}),
     Row("no script", "answers five none", 4, errors="file: cannot read none: no such file\n"),
     Row("no profile", "answers none ask", 4, errors="file: cannot read none: no such file\n"),
     Row("a script that would be too long", "answers five asks", 2, errors="asks: script: too many lines\n"),
@@ -154,9 +154,9 @@ def refused(line, column, reason):
     return with_files(
         {"five": "address = 5\n", "refused": f"slot\n{line}\n"},
         Row(f"check-script: {line}", "check-script refused", 2, f"refused:2:{column}: error: {reason}\n"),
-        Row(f"verify: {line}", "verify five refused", 2, errors=f"refused: script: line 2, column {column}: {reason}\n"),
-        Row(f"draw: {line}", "draw five refused", 2, errors=f"refused: script: line 2, column {column}: {reason}\n"),
-        Row(f"answers: {line}", "answers five refused", 2, errors=f"refused: script: line 2, column {column}: {reason}\n"),
+        Row(f"verify: {line}", "verify five refused", 2, errors=f"refused:2:{column}: error: {reason}\n"),
+        Row(f"draw: {line}", "draw five refused", 2, errors=f"refused:2:{column}: error: {reason}\n"),
+        Row(f"answers: {line}", "answers five refused", 2, errors=f"refused:2:{column}: error: {reason}\n"),
     )
 
 

@@ -44,7 +44,7 @@ pub struct TableFault {
 #[derive(Debug, Drop)]
 pub struct FaultyTable {
     pub sheet: Sheet,
-    /// All the faults, in the order of the rows.
+    /// All the faults: those of the table itself in the order of its rows, then those of the profile that it says.
     pub faults: Vec<TableFault>,
 }
 

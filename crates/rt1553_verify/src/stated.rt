@@ -51,13 +51,13 @@ pub enum StatedFault {
     #[error("script: too many lines")]
     TooLong,
     /// This line looks like a stated answer from this column on and is a comment.
-    #[error("script: line {0}, column {1}: looks like a stated answer and is a comment: one space comes after #>, #~ or #+, and none before it")]
+    #[error("looks like a stated answer and is a comment: one space comes after #>, #~ or #+, and none before it")]
     Mistyped(u64, u64),
     /// This line states an answer, or goes on with one, and doesn't follow an event that it can answer.
-    #[error("script: line {0}: the event before it cannot have this answer")]
+    #[error("the event before it cannot have this answer")]
     Misplaced(u64),
     /// The answer that this line states, with the lines that go on with it, is none that a terminal gives.
-    #[error("script: line {0}: no terminal answers so: an answer is a line that run prints, as \"A s 2800\", \"A d 0001\" or \"hand receive own 01 0011\"")]
+    #[error("no terminal answers so: an answer is a line that run prints, as \"A s 2800\", \"A d 0001\" or \"hand receive own 01 0011\"")]
     Impossible(u64),
     /// The script can't be read on, which says nothing of it.
     #[error("script: read failed")]

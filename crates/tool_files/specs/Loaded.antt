@@ -1,6 +1,8 @@
 -- Profiles and scripts of files, the scripts as they stand there, or expanded.
-use Rattle.std.specs.Prelude.{ℕ, ◌≡◌, ◌-◌, ◌≤◌, length, List, [], ◌∷◌, Option, Some, None, option_map, get_or}
+use Rattle.std.specs.Prelude.{ℕ, ◌≡◌, ◌≤◌, length, List, [], ◌∷◌, Option, Some, None, option_map}
 use Rattle.rt1553_expand.specs.declared.expanding.Expanded.TheVariants.{Script}
+use Rattle.rt1553_expand.specs.declared.script_for.ScriptFor.{ScriptFor}
+use Rattle.rt1553_expand.specs.declared.script_for.ScriptFor.TheVariants.{Terminal}
 use Rattle.rt1553_expand.specs.Expansion.{IsExpansion}
 use Rattle.rt1553_expand.specs.Sources.{sources_in}
 use Rattle.rt1553_expand.specs.declared.expanding.UnexpandedLine.{UnexpandedLine}
@@ -15,18 +17,17 @@ use Rattle.tool_files.specs.declared.loaded.LoadedScript.{LoadedScript}
 abbrev pub IsLoadedFile : LoadedProfile → Type 0
 IsLoadedFile profile = (text : List ℕ) × (length text ≤ 1048576) × Reaches text profile.normal × (profile.digest ≡ sha256 text)
 
--- The script of a file with this text: the text, or what it is expanded to for the terminal of an address, with the line of the file from
--- which each line comes. What is expanded has the digest of the file's text beside it.
-abbrev pub IsScriptOf : Option ℕ → List ℕ → LoadedScript → Type 0
-IsScriptOf None text script = (script.text.items ≡ text) × (script.sources ≡ None) × (script.digest ≡ None)
-IsScriptOf (Some own) text script =
-    IsExpansion (Some own) text (Script script.text) × (option_map (λ lines. lines.items) script.sources ≡ Some (sources_in (Some own) text))
+-- What a file with this text is expanded to for these terminals, with the line of the file from which each line comes, and the digest of
+-- the file's text.
+abbrev pub IsExpandedScript : ScriptFor → List ℕ → LoadedScript → Type 0
+IsExpandedScript own text script =
+    IsExpansion own text (Script script.text) × (option_map (λ lines. lines.items) script.sources ≡ Some (sources_in own text))
     × (script.digest ≡ Some (sha256 text))
 
--- the line of the file that a line of its script stands for
-abbrev pub line_in_file : Option (List ℕ) → ℕ → ℕ
-line_in_file None line = line
-line_in_file (Some sources) line = get_or sources (line - 1) line
+-- the script of a file with this text: the text, or what it is expanded to for the terminal of an address
+abbrev pub IsScriptOf : Option ℕ → List ℕ → LoadedScript → Type 0
+IsScriptOf None text script = (script.text.items ≡ text) × (script.sources ≡ None) × (script.digest ≡ None)
+IsScriptOf (Some own) text script = IsExpandedScript (Terminal (Some own)) text script
 
 -- the line of events and messages of which a fault tells that it is refused
 abbrev pub message_told : ToolFault → Option UnexpandedLine

@@ -3,9 +3,7 @@ ghost use Rattle.std.specs.Prelude.{◌≡◌, ◌≤◌};
 ghost use Rattle.tool_files.specs.Status.{tool_status};
 
 use refused_lines::RefusedLine;
-use rt1553::LoadFault;
 use rt1553_expand::UnexpandedLine;
-use rt1553_files::FileFault;
 use std::alloc::{AllocError, AllocFailed};
 use std::fmt;
 
@@ -62,16 +60,12 @@ impl fmt::Display for UnreadCause {
 pub enum ToolFault {
     /// Out of memory.
     Memory,
-    /// A file can't be read on.
-    File(FileFault),
     /// The name of a file is empty.
     NoName,
     /// The input can't be read.
     Input,
     /// The output can't be written.
     Output,
-    /// The profile or canonical text is refused.
-    Profile(String, LoadFault),
     /// A line of the script is refused.
     Line(String, RefusedLine),
     /// A line of events and messages is refused.
@@ -86,37 +80,20 @@ pub enum ToolFault {
     Unread(String, UnreadCause),
 }
 
-/// The line of a script that is refused, and why.
-#[derive(Clone, Copy)]
-struct RefusedText(RefusedLine);
-
-impl fmt::Display for RefusedText {
-    fn fmt<W: fmt::Write>(&self, f: &mut fmt::Formatter<W>) -> fmt::Result {
-        let refused = self.0;
-        let (line, column) = (refused.line, refused.misfit.column);
-        write!(
-            f,
-            "script: line {line}, column {column}: {}",
-            refused.misfit.reason
-        )
-    }
-}
-
 impl fmt::Display for ToolFault {
     fn fmt<W: fmt::Write>(&self, f: &mut fmt::Formatter<W>) -> fmt::Result {
         match self {
             ToolFault::Memory => f.write_str("out of memory"),
-            ToolFault::File(fault) => write!(f, "{fault}"),
             ToolFault::NoName => f.write_str("file: the name of a file is empty"),
             ToolFault::Input => f.write_str("input: read failed"),
             ToolFault::Output => f.write_str("output: write failed"),
-            ToolFault::Profile(name, fault) => write!(f, "{name}: {fault}"),
-            ToolFault::Line(name, line) => write!(f, "{name}: {}", RefusedText(*line)),
-            ToolFault::Message(name, line) => write!(
-                f,
-                "{name}: messages: line {}, column {}: {}",
-                line.line, line.column, line.fault
-            ),
+            ToolFault::Line(name, of) => {
+                let (line, column) = (of.line, of.misfit.column);
+                write!(f, "{name}:{line}:{column}: error: {}", of.misfit.reason)
+            }
+            ToolFault::Message(name, of) => {
+                write!(f, "{name}:{}:{}: error: {}", of.line, of.column, of.fault)
+            }
             ToolFault::Refused(told) => f.write_str(told.as_str()),
             ToolFault::NotText => f.write_str("arguments: one is not UTF-8"),
             ToolFault::Usage(cause) => write!(f, "arguments: {cause}"),
@@ -136,11 +113,7 @@ impl ToolFault {
         ensures most { result ≤ 4 }
     {
         match self {
-            ToolFault::Profile(_, LoadFault::Memory) => 4,
-            ToolFault::Profile(_, _)
-            | ToolFault::Line(_, _)
-            | ToolFault::Message(_, _)
-            | ToolFault::Refused(_) => REFUSED,
+            ToolFault::Line(_, _) | ToolFault::Message(_, _) | ToolFault::Refused(_) => REFUSED,
             ToolFault::NotText | ToolFault::Usage(_) => USAGE,
             _ => 4,
         }
@@ -166,16 +139,5 @@ impl<T: Drop> From<AllocFailed<T>> for ToolFault {
 
     fn from(_failed: AllocFailed<T>) -> ToolFault {
         ToolFault::Memory
-    }
-}
-
-impl From<FileFault> for ToolFault {
-    ghost use Rattle.std.specs.Prelude.{◌≡◌};
-    ghost use Rattle.tool_files.specs.declared.fault.ToolFault.TheVariants.{File};
-
-    ghost from_gives = { λ file fault. fault ≡ File file };
-
-    fn from(fault: FileFault) -> ToolFault {
-        ToolFault::File(fault)
     }
 }

@@ -5,6 +5,7 @@ ghost use Rattle.tool_files.specs.Loaded.{IsLoadedFile};
 
 use crate::digest::digest_of;
 use crate::fault::ToolFault;
+use crate::profile_fault::{NamedBytes, refused_profile};
 use crate::unread::unread_file;
 use bus_legal::Normal;
 use rt1553::load;
@@ -76,7 +77,13 @@ pub fn load_profile_file<R: Files + AllocGlobal>(
             normal,
             digest: digest_of(bytes.as_slice()),
         }),
-        Err(fault) => Err(ToolFault::Profile(shown(rt, name)?, fault)),
+        Err(fault) => {
+            let text = NamedBytes {
+                name,
+                bytes: bytes.as_slice(),
+            };
+            Err(refused_profile(rt, text, fault))
+        }
     }
 }
 

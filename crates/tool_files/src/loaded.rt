@@ -1,14 +1,16 @@
 //! Scripts of files: as they stand there, or expanded.
 ghost use Rattle.std.specs.Prelude.{◌≡◌, ◌⊎◌, IfOk, List, ℕ, Option, option_map, Some};
 ghost use Rattle.sha2.specs.Sha256.{sha256};
-ghost use Rattle.tool_files.specs.Loaded.{IsScriptOf, TellsMessage, line_in_file};
+ghost use Rattle.refused_lines.specs.Sources.{line_in_file};
+ghost use Rattle.tool_files.specs.Loaded.{IsExpandedScript, IsScriptOf, TellsMessage};
 
 use crate::digest::digest_of;
 use crate::fault::ToolFault;
 use crate::files::{read_script_file, shown};
 use crate::refused::refused_file;
 use bus_script::RunFault;
-use rt1553_expand::{Expanded, UnexpandedLine, expand, source_lines};
+use refused_lines::line_in_file;
+use rt1553_expand::{Expanded, ScriptFor, UnexpandedLine, expand, source_lines};
 use std::rt::Files;
 
 /// A script of a file.
@@ -26,13 +28,16 @@ impl LoadedScript {
     pub fn line_in_file(&self, line: u64) -> u64
         ensures { result ≡ line_in_file (option_map (λ lines. lines.items) self.now.sources) line }
     {
-        let Some(sources) = &self.sources else {
-            return line;
-        };
-        let index = line.saturating_sub(1) as usize;
-        match sources.get(index) {
-            Some(source) => *source,
-            None => line,
+        line_in_file(self.sources(), line)
+    }
+
+    /// For each line of the script the line of the file that it stands for; None where the file is the script.
+    pub fn sources(&self) -> Option<&[u64]>
+        ensures { option_map (λ s. s.now) result ≡ option_map (λ lines. lines.items) self.now.sources }
+    {
+        match &self.sources {
+            Some(sources) => Some(sources.as_slice()),
+            None => None,
         }
     }
 }
@@ -62,19 +67,19 @@ fn message_fault<R: AllocGlobal>(rt: &R, name: &str, refused: &[UnexpandedLine])
     }
 }
 
-/// The script of the messages in the file of this name, for the terminal of this address.
-fn load_messages<R: Files + AllocGlobal>(
+/// The script of the messages in the file of this name, for these terminals.
+pub fn load_messages<R: Files + AllocGlobal>(
     rt: &R,
     name: &str,
-    own: u8,
+    own: &ScriptFor,
 ) -> Result<LoadedScript, ToolFault>
-    ensures { IfOk result (λ script. (text : List ℕ) × IsScriptOf (Some own) text script) }
+    ensures { IfOk result (λ script. (text : List ℕ) × IsExpandedScript own.now text script) }
 {
     let text = read_script_file(rt, name)?;
-    match expand(rt.alloc(), text.as_slice(), Some(own))? {
+    match expand(rt.alloc(), text.as_slice(), own)? {
         Expanded::Script(script) => Ok(LoadedScript {
             text: script,
-            sources: Some(source_lines(rt.alloc(), text.as_slice(), Some(own))?),
+            sources: Some(source_lines(rt.alloc(), text.as_slice(), own)?),
             digest: Some(digest_of(text.as_slice())),
         }),
         Expanded::Refused(lines) => Err(message_fault(rt, name, lines.as_slice())),
@@ -91,7 +96,7 @@ pub fn load_script<R: Files + AllocGlobal>(
     ensures { IfOk result (λ script. (text : List ℕ) × IsScriptOf expand_for text script) }
 {
     if let Some(own) = expand_for {
-        return load_messages(rt, name, own);
+        return load_messages(rt, name, &ScriptFor::Terminal(Some(own)));
     }
     Ok(LoadedScript {
         text: read_script_file(rt, name)?,

@@ -4,20 +4,43 @@ ghost use Rattle.tool_files.specs.Status.{RefusesText, TellsRefused};
 use crate::fault::ToolFault;
 use crate::files::shown;
 use refused_lines::refused_lines;
+use std::alloc::AllocError;
 use std::{fmt, format};
+
+/// The fault for which this is printed. Out of memory, where memory ran out for that.
+fn refused_as(told: Result<String, AllocError>) -> ToolFault
+    ensures { RefusesText result }
+{
+    match told {
+        Ok(told) => ToolFault::Refused(told),
+        Err(_) => ToolFault::Memory,
+    }
+}
 
 /// The fault of the text in the file of this name, which is refused for this cause: `NAME: CAUSE` is printed. Out of memory, where
 /// memory runs out for that.
 pub fn refused_file<R: AllocGlobal, T: fmt::Display>(rt: &R, name: &str, cause: &T) -> ToolFault
     ensures { RefusesText result }
 {
-    let name = match shown(rt, name) {
-        Ok(name) => name,
-        Err(fault) => return fault,
-    };
-    match format!(in rt.alloc(); "{name}: {cause}") {
-        Ok(told) => ToolFault::Refused(told),
-        Err(_) => ToolFault::Memory,
+    match shown(rt, name) {
+        Ok(name) => refused_as(format!(in rt.alloc(); "{name}: {cause}")),
+        Err(fault) => fault,
+    }
+}
+
+/// The fault of this line in the file of this name, which is refused for this cause: `NAME:LINE: error: CAUSE` is printed. Out of memory,
+/// where memory runs out for that.
+pub fn refused_line<R: AllocGlobal, T: fmt::Display>(
+    rt: &R,
+    name: &str,
+    line: u64,
+    cause: &T,
+) -> ToolFault
+    ensures { RefusesText result }
+{
+    match shown(rt, name) {
+        Ok(name) => refused_as(format!(in rt.alloc(); "{name}:{line}: error: {cause}")),
+        Err(fault) => fault,
     }
 }
 

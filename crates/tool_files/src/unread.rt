@@ -1,8 +1,9 @@
 //! Why files aren't read.
 ghost use Rattle.std.specs.Prelude.{◌≡◌};
-ghost use Rattle.tool_files.specs.Status.{TellsUnread};
+ghost use Rattle.tool_files.specs.Status.{IsUnread, TellsUnread};
 
 use crate::fault::{ToolFault, UnreadCause};
+use crate::files::shown;
 use rt1553_files::FileFault;
 use std::fs;
 use std::io::{ErrorKind, Read};
@@ -40,5 +41,15 @@ pub fn unread_file<R: Files>(rt: &R, name: &str, most: usize, fault: FileFault) 
             ToolFault::Unread(shown, cause_of(name, error_of(rt, name)))
         }
         FileFault::TooLarge(shown) => ToolFault::Unread(shown, UnreadCause::TooLarge(most)),
+    }
+}
+
+/// The fault of the file of this name that was opened and can't be read on, with its cause.
+pub fn failed_read<R: Files + AllocGlobal>(rt: &R, name: &str) -> ToolFault
+    ensures { IsUnread result }
+{
+    match shown(rt, name) {
+        Ok(shown) => ToolFault::Unread(shown, cause_of(name, error_of(rt, name))),
+        Err(fault) => fault,
     }
 }

@@ -195,14 +195,16 @@ fn push_fault(
     )
 }
 
-/// What is told of a table with faults, in the file of this name as it is printed: a line for each warning and each fault, but for the
-/// last line feed.
+/// What is told of a table with faults, in the file of this name as it is printed: a line for each warning, and for each fault in the order
+/// of the rows, but for the last line feed.
 pub fn told_text(alloc: Global, name: &str, table: &FaultyTable) -> Result<String, AllocError> {
     let mut text = String::new(alloc);
     for warning in table_warnings(alloc, &table.sheet)?.as_slice() {
         writeln!(text, "{name}:{warning}")?;
     }
-    for (index, fault) in table.faults.as_slice().iter().enumerate() {
+    let mut faults = Vec::from_slice(alloc, table.faults.as_slice())?;
+    faults.sort_by_key(|fault| fault.place.row)?;
+    for (index, fault) in faults.as_slice().iter().enumerate() {
         if index > 0 {
             text.push('\n')?;
         }

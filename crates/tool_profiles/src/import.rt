@@ -12,7 +12,10 @@ use rt1553_differ::Pair;
 use rt1553_import::{ImportFault, import_table};
 use std::io::Write;
 use std::rt::Files;
-use tool_files::{REFUSED, Screen, ToolFault, load_profile, read_tool_profile, shown, write_bytes};
+use tool_files::{
+    NamedBytes, REFUSED, Screen, ToolFault, load_profile, read_tool_profile, refused_profile,
+    shown, write_bytes,
+};
 use tool_names::{names_in, table_fault, table_warnings, told_text};
 
 /// The text of the profile that a table means, from the file of this name. What of the table is worth a look is written on the standard
@@ -65,7 +68,10 @@ fn load_imported<R: AllocGlobal>(rt: &R, name: &str, profile: &str) -> Result<No
 {
     match load(rt.alloc(), profile.as_bytes()) {
         Ok(normal) => Ok(normal),
-        Err(fault) => Err(ToolFault::Profile(shown(rt, name)?, fault)),
+        Err(fault) => {
+            let bytes = profile.as_bytes();
+            Err(refused_profile(rt, NamedBytes { name, bytes }, fault))
+        }
     }
 }
 

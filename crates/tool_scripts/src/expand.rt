@@ -1,9 +1,9 @@
 //! The command `expand`: messages as the lines of a script.
-ghost use Rattle.std.specs.Prelude.{IfOk, List, Option, ℕ};
+ghost use Rattle.std.specs.Prelude.{IfOk, List, ℕ};
 ghost use Rattle.tool_scripts.specs.Ends.{EndsExpansion};
 
 use bus_script::RunFault;
-use rt1553_expand::{Expanded, UnexpandedLine, expand};
+use rt1553_expand::{Expanded, ScriptFor, UnexpandedLine, expand};
 use std::io::Write;
 use std::rt::Files;
 use tool_files::{
@@ -26,7 +26,7 @@ pub fn expand_file<R: Files + AllocGlobal + Eprint, W: Write>(
     profile: Option<&str>,
     output: &mut W,
 ) -> Result<u8, ToolFault>
-    ensures { IfOk result (λ status. (own : Option ℕ) × (text : List ℕ) × EndsExpansion own text status) }
+    ensures { IfOk result (λ status. (own : ScriptFor) × (text : List ℕ) × EndsExpansion own text status) }
 {
     let own = match profile {
         Some(profile) => Some(load_profile(rt, profile)?.address()),
@@ -34,7 +34,7 @@ pub fn expand_file<R: Files + AllocGlobal + Eprint, W: Write>(
     };
     let text = read_script_file(rt, name)?;
     let shown_name = shown(rt, name)?;
-    match expand(rt.alloc(), text.as_slice(), own)? {
+    match expand(rt.alloc(), text.as_slice(), &ScriptFor::Terminal(own))? {
         Expanded::Script(script) => {
             write_bytes(output, script.as_slice())?;
             Ok(0)

@@ -2,10 +2,11 @@
 ghost use Rattle.std.specs.Prelude.{◌≡◌, IfOk, List, ℕ, Some};
 ghost use Rattle.script_lines.specs.Text.{lines_of};
 ghost use Rattle.bus_script.specs.Reading.{reading};
+ghost use Rattle.rt1553_expand.specs.declared.script_for.ScriptFor.TheVariants.{Terminal};
 ghost use Rattle.rt1553_expand.specs.Gathered.{GathersScript, GivesBack};
 
 use bus_script::RunFault;
-use rt1553_expand::gather;
+use rt1553_expand::{ScriptFor, gather};
 use rt1553_tool_args::AskedAnswers;
 use std::io::Write;
 use std::rt::Files;
@@ -17,11 +18,12 @@ fn gathered_script<R: Files + AllocGlobal>(
     own: u8,
     asked: AskedAnswers<'_>,
 ) -> Result<Vec<u8>, ToolFault>
-    ensures { IfOk result (λ text. (script : List ℕ) × GathersScript (Some own) (reading 0 (lines_of script)) (Some text.items)
-        × GivesBack (Some own) (reading 0 (lines_of script)) (Some text.items)) }
+    ensures { IfOk result (λ text. (script : List ℕ) × GathersScript (Terminal (Some own)) (reading 0 (lines_of script)) (Some text.items)
+        × GivesBack (Terminal (Some own)) (reading 0 (lines_of script)) (Some text.items)) }
 {
     let script = load_script(rt, asked.script, asked.expand.then_some(own))?;
-    match gather(rt.alloc(), script.text.as_slice(), Some(own))? {
+    let own = ScriptFor::Terminal(Some(own));
+    match gather(rt.alloc(), script.text.as_slice(), &own)? {
         Some(text) => Ok(text),
         None => {
             let other = refused_file(rt, asked.script, &RunFault::TooLong);

@@ -10,7 +10,6 @@ mod gather;
 mod live;
 mod messages;
 mod recording;
-mod refused_profile;
 mod results;
 mod run;
 mod script_file;

@@ -4,11 +4,10 @@ ghost use Rattle.std.specs.Prelude.{◌≡◌, IfOk};
 use byte_streams::{FromWrite, Sink};
 use monitor_cells::{RecordingSetup, read_time};
 use monitor_tables::{LeftOutColumn, MonitorFault, open_table, write_recording};
-use rt1553_files::FileFault;
 use rt1553_tool_args::AskedRecording;
 use std::io::Write;
 use std::rt::Files;
-use tool_files::{ToolFault, open_named, refused_file, shown};
+use tool_files::{ToolFault, failed_read, open_named, refused_file, shown};
 
 /// The shortest silence that can be a pause, in nanoseconds: a terminal that receives from another waits at most so long for
 /// its status word (MIL-STD-1553B Notice 2, 30.9).
@@ -43,14 +42,11 @@ fn setup_of(asked: AskedRecording<'_>) -> Result<RecordingSetup, ToolFault> {
 }
 
 /// The fault of the table in the file of this name.
-fn table_fault<R: AllocGlobal>(rt: &R, name: &str, fault: MonitorFault) -> ToolFault {
+fn table_fault<R: Files + AllocGlobal>(rt: &R, name: &str, fault: MonitorFault) -> ToolFault {
     match fault {
         MonitorFault::Memory => ToolFault::Memory,
         MonitorFault::Write => ToolFault::Output,
-        MonitorFault::Read => match shown(rt, name) {
-            Ok(name) => ToolFault::File(FileFault::CannotRead(name)),
-            Err(fault) => fault,
-        },
+        MonitorFault::Read => failed_read(rt, name),
         _ => refused_file(rt, name, &fault),
     }
 }

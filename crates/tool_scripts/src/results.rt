@@ -4,13 +4,14 @@ ghost use Rattle.rt1553.specs.Canon.{IsCanon};
 ghost use Rattle.script_lines.specs.EventLine.{event_line, script_text};
 ghost use Rattle.tool_scripts.specs.Results.{IsOfTerminal, IsRefusalOf, IsVerdict, RefusesEither};
 
-use crate::refused_profile::{NamedBytes, refused_profile};
 use bus_terminal::Event;
 use rt1553::{Verdict, canonical, compare, load, write_event};
 use std::alloc::{AllocError, Global};
 use std::io::Write;
 use std::rt::Files;
-use tool_files::{DIFFERENT, ToolFault, read_tool_profile, write_bytes};
+use tool_files::{
+    DIFFERENT, NamedBytes, ToolFault, read_tool_profile, refused_profile, write_bytes,
+};
 
 /// Refuses a text that isn't of a terminal.
 fn check_text<R: AllocGlobal>(rt: &R, profile: NamedBytes<'_>) -> Result<(), ToolFault>

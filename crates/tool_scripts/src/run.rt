@@ -5,13 +5,14 @@ ghost use Rattle.rt1553.specs.Report.{exit_status_of};
 ghost use Rattle.rt1553.specs.declared.fault.EngineFault.TheVariants.{Script};
 ghost use Rattle.tool_files.specs.Status.{tool_status};
 
-use crate::refused_profile::{NamedBytes, refused_profile};
-use crate::script_file::first_told;
 use byte_streams::{FromWrite, MemorySource, Sink};
 use rt1553::{EngineFault, RunFault, run};
 use std::io::Write;
 use std::rt::Files;
-use tool_files::{ToolFault, read_script_file, read_tool_profile, refused_file};
+use tool_files::{
+    NamedBytes, ToolFault, first_refused, read_script_file, read_tool_profile, refused_file,
+    refused_profile,
+};
 
 /// How many bytes of a script are taken at once.
 const PIECE: usize = 65_536;
@@ -24,11 +25,8 @@ fn unplayed<R: AllocGlobal>(rt: &R, script: NamedBytes<'_>, fault: RunFault) -> 
         RunFault::Write => ToolFault::Output,
         RunFault::Read => ToolFault::Input,
         RunFault::Line(_) | RunFault::LongLine(_) | RunFault::TooLong => {
-            match first_told(rt, script.name, script.bytes) {
-                Ok(Some(told)) => ToolFault::Refused(told),
-                Ok(None) => refused_file(rt, script.name, &fault),
-                Err(_) => ToolFault::Memory,
-            }
+            let other = refused_file(rt, script.name, &fault);
+            first_refused(rt, script.name, script.bytes, other)
         }
     }
 }

@@ -5,37 +5,10 @@ ghost use Rattle.refused_lines.specs.Refused.{refused_from};
 ghost use Rattle.tool_scripts.specs.Ends.{lines_status};
 
 use refused_lines::{RefusedLine, mistyped_answers, refused_lines};
-use std::alloc::{AllocError, Global};
+use std::alloc::Global;
 use std::io::Write;
 use std::rt::Files;
 use tool_files::{REFUSED, ToolFault, read_script_file, shown, status_or_stop, worst, write_bytes};
-
-/// What is printed of a line of the file of this name, without a line feed: an error, or what a warning is of.
-fn line_told(
-    alloc: Global,
-    name: &str,
-    of: &RefusedLine,
-    kind: &str,
-) -> Result<String, AllocError> {
-    let (line, column, reason) = (of.line, of.misfit.column, of.misfit.reason);
-    format!(in alloc; "{name}:{line}:{column}: {kind}: {reason}")
-}
-
-/// What is printed of the first line of a script that is refused, without a line feed; None where there is none.
-pub fn first_told<R: AllocGlobal>(
-    rt: &R,
-    name: &str,
-    script: &[u8],
-) -> Result<Option<String>, ToolFault> {
-    let found = refused_lines(rt.alloc(), script)?;
-    match found.as_slice().first() {
-        Some(line) => {
-            let name = shown(rt, name)?;
-            Ok(Some(line_told(rt.alloc(), name.as_str(), line, "error")?))
-        }
-        None => Ok(None),
-    }
-}
 
 /// Writes lines of the file of this name, each with what is found there.
 fn put_refused<W: Write>(
@@ -46,8 +19,8 @@ fn put_refused<W: Write>(
     output: &mut W,
 ) -> Result<(), ToolFault> {
     for of in found {
-        let mut text = line_told(alloc, name, of, kind)?;
-        text.push('\n')?;
+        let (line, column, reason) = (of.line, of.misfit.column, of.misfit.reason);
+        let text = format!(in alloc; "{name}:{line}:{column}: {kind}: {reason}\n")?;
         write_bytes(output, text.as_str().as_bytes())?;
     }
     Ok(())

@@ -2,10 +2,12 @@
 ghost use Rattle.std.specs.Prelude.{◌≡◌, ◌≢◌, ◌⊎◌};
 ghost use Rattle.tool_files.specs.Status.{RefusesText};
 
+use crate::fault::ToolFault;
+use crate::files::shown;
+use crate::refused::refused_file;
 use rt1553::LoadFault;
 use rt1553_lint::{Finding, lint};
 use std::alloc::AllocError;
-use tool_files::{ToolFault, refused_file, shown};
 
 /// A file with its bytes.
 #[derive(Clone, Copy)]
