@@ -10,6 +10,8 @@ ASK = "A c 2c02\nA gap\nslot\n"
 PAUSE = "A gap\nA gap\nB gap\nB gap\nslot\n"
 AGAIN = "A c 2c05\nA gap\nslot\n"
 FLAGS = "A c 2c61\nA gap\nslot\n#> A s 2d00\nA c 2c61\nA gap\nslot\n#> A s 2c05\n"
+LEFT_OUT = "hands: warning: what is handed over is left out: a bus does not show it\n"
+NONE_FOUND = "{0}: no profile is found that explains this recording\n"
 # over 1,048,576 bytes: it is read on while it is judged
 LONG = f"{ASK}#> A s 2800\n" * 40000
 FAULT = f"{ASK}#> A s 2820\n"
@@ -23,7 +25,9 @@ RECORDINGS = with_files(
         "unasked": "slot\n#> B d 0001\n",
         "acts": f"# by hand\nflag busy 1\n{ASK}#> A s 2808\n",
         "masks": f"{ASK}#~ A s 2...\n",
+        "tests": "address = 5\n[[mode]]\ncodes = 3\n",
         "hands": "A c 2c03\nA gap\n#> hand self-test\nslot\n#> A s 2800\n",
+        "masked": "A c 2c03\nA gap\n#~ hand self-test\nslot\n#> A s 2800\n",
         "capital": f"{ASK}#> A s 28AB\n",
         "on": f"{ASK}#> A s 2d04\n{PAUSE}{AGAIN}#> A s 2804\n",
         "worse": f"{PAUSE}{AGAIN}#> A s 2820\n",
@@ -39,7 +43,7 @@ RECORDINGS = with_files(
     Row("a fault at its end", "verify --any-subsystem five long", 1,
         "long:160003: expected A s 2820, came A s 2800\nlong: differences: 1\n", files={"long": LONG + FAULT}),
     Row("a line at its end that is refused", "verify --any-subsystem five long", 2,
-        errors="long: script: line 160002: the event before it cannot have this answer\n", files={"long": f"{LONG}A c 2c02\n#> A s 2820\n"}),
+        errors="long:160002: error: the event before it cannot have this answer\n", files={"long": f"{LONG}A c 2c02\n#> A s 2820\n"}),
     Row("a long recording that began later", "verify --any-subsystem --already-on five long", 1,
         "long:160012: expected A s 2820, came A s 2800\nlong: differences: 1\n",
         "long: judged after line 5\n", files={"long": f"{PAUSE}{AGAIN}#> A s 2800\n{LONG}{FAULT}"}),
@@ -54,11 +58,13 @@ RECORDINGS = with_files(
     Row("a word where none can come", "verify --any-subsystem five unasked", 1,
         "unasked:1: expected B d 0001, came nothing\nunasked: differences: 1\n"),
     Row("what the subsystem does in a recording", "verify --any-subsystem five acts", 2,
-        errors="acts: script: line 2: what the subsystem does is not seen in a recording\n"),
+        errors="acts:2: error: what the subsystem does is not seen in a recording\n"),
     Row("a mask of a status word in a recording", "verify --any-subsystem five masks", 2,
-        errors='masks: script: line 3: a recording states each word whole, or leaves a data word open, as in "#~ A d ...."\n'),
-    Row("a hand-over in a recording", "verify --any-subsystem five hands", 2,
-        errors='hands: script: line 2: a recording states the word that was sent, as in "A s 2800"\n'),
+        errors='masks:3: error: a recording states each word whole, or leaves a data word open, as in "#~ A d ...."\n'),
+    Row("a hand-over in a recording", "verify --any-subsystem --summary tests hands", 0,
+        "hands: passed (answers: 1)\nno clause: 1 of 1 scripts pass\nall: 1 of 1 scripts pass\n", LEFT_OUT),
+    Row("a mask of a hand-over in a recording", "verify --any-subsystem tests masked", 0, "", LEFT_OUT.replace("hands", "masked")),
+    Row("a hand-over, by a script", "verify --any-subsystem --witness tests hands", 0, "A c 2c03\nA gap\nslot\n", LEFT_OUT),
     Row("capital digits in a recording", "verify --any-subsystem five capital", 1,
         "capital:3: expected A s 28ab, came A s 2800\ncapital: differences: 1\n"),
     Row("a recording and a test on the bus", "verify --any-subsystem --bus-only five flags", 3, errors="arguments: --bus-only and --any-subsystem exclude each other\n"),
@@ -67,7 +73,7 @@ RECORDINGS = with_files(
     Row("a recording that nothing explains, by a script", "verify --any-subsystem --witness five reserved", 1,
         "reserved:7: expected A s 2820, came A s 2800\nreserved: differences: 1\n"),
     Row("no recording, by a script", "verify --any-subsystem --witness five acts", 2,
-        errors="acts: script: line 2: what the subsystem does is not seen in a recording\n"),
+        errors="acts:2: error: what the subsystem does is not seen in a recording\n"),
     Row("a test, by a script", "verify --witness five flags", 3, errors="arguments: --witness is for --any-subsystem\n"),
     Row("two recordings, by a script", "verify --any-subsystem --witness five flags reserved", 3, errors="arguments: --witness explains one script\n"),
     Row("a summary and a script", "verify --any-subsystem --witness --summary five flags", 3, errors="arguments: --witness excludes --summary and the formats but text\n"),
@@ -98,7 +104,7 @@ RECORDINGS = with_files(
     Row("several recordings", "verify --any-subsystem --summary five flags reserved acts", 2,
         "flags: passed (answers: 2)\nreserved:7: expected A s 2820, came A s 2800\nreserved: differences: 1\nno clause: 1 of 3 scripts pass\n"
         "all: 1 of 3 scripts pass\n",
-        "acts: script: line 2: what the subsystem does is not seen in a recording\n"),
+        "acts:2: error: what the subsystem does is not seen in a recording\n"),
 )
 
 # what `coverage` counts, and which profile `infer` proposes
@@ -108,6 +114,9 @@ SHOWN_FILES = {
     "flags": FLAGS,
     "reserved": f"{ASK}#> A s 2820\n",
     "acts": f"flag busy 1\n{ASK}#> A s 2808\n",
+    "messages": "A mode 5 2\n",
+    "tests": "address = 5\n[[mode]]\ncodes = 3\n",
+    "hands": "A c 2c03\nA gap\n#> hand self-test\nslot\n#> A s 2800\n",
 }
 SHOWN = with_files(
     SHOWN_FILES,
@@ -126,16 +135,22 @@ SHOWN = with_files(
         '"mode":"reset remote terminal","done":0,"busy":0,"illegal":0,"in_error":0}],"illegal":[{"command":"2c61","message":"transmit",'
         '"subaddress":3,"count":1,"done":0,"busy":0,"illegal":2,"in_error":0}]}\n'),
     Row("a recording of the subsystem, counted", "coverage five acts", 2,
-        errors="acts: script: line 1: what the subsystem does is not seen in a recording\n"),
+        errors="acts:1: error: what the subsystem does is not seen in a recording\n"),
     Row("a profile of a recording", "infer came --address 5", 0,
         "# Terminal 5, as a recording shows it: this profile explains the recording.\n"
         '# "line 9": the command of the first message that shows the entry is line 9 of the recording.\n'
         '# "tried": no message shows it alone, and the recording is explained with it.\n# What the recording does not show is illegal here.\n'
         "# It never shows which words are held: vector, bit, initial and wraparound are left out.\naddress = 5\n"),
-    Row("a recording that no profile explains", "infer reserved --address 5", 1),
+    Row("a recording that no profile explains", "infer reserved --address 5", 1, errors=NONE_FOUND.format("reserved")),
+    Row("messages without answers, for a profile", "infer --expand messages --address 5", 1,
+        errors=NONE_FOUND.format("messages") + "messages: warning: the script states no answer\n"),
+    Row("hand-overs in a recording, counted", "coverage tests hands", 0,
+        "mode code 2, transmit status word           never\nmode code 3, initiate self test             1 done\n"
+        "mode code 4, transmitter shutdown           never\nmode code 5, override transmitter shutdown  never\n"
+        "mode code 8, reset remote terminal          never\n\nlegal messages: 1 of 5 came, 1 done\nillegal messages: 0 came\n", LEFT_OUT),
     Row("no address of a terminal", "infer came --address 31", 3, errors="arguments: --address is 0 to 30\n"),
     Row("a recording of the subsystem, for a profile", "infer acts --address 5", 2,
-        errors="acts: script: line 1: what the subsystem does is not seen in a recording\n"),
+        errors="acts:1: error: what the subsystem does is not seen in a recording\n"),
 )
 
 # what `recording` makes of the tables of a monitor

@@ -1,6 +1,6 @@
 -- The recording that a script states: each of its events is one that is seen, and what is stated of it is the line of the word that
--- was sent, or nothing where none was. A data word can be left open.
-use Rattle.std.specs.Prelude.{◌≡◌, ◌≢◌, ◌<◌, ◌^◌, ℕ, Bool, true, false, Option, Some, None, codes, Ok, Err, List, [], ◌∷◌, ◌++◌}
+-- was sent, or nothing where none was. A data word can be left open. What is handed over is left out.
+use Rattle.std.specs.Prelude.{◌≡◌, ◌≢◌, ◌<◌, ◌^◌, ℕ, Bool, true, false, if◌then◌else◌, Option, Some, None, codes, Ok, Err, List, [], ◌∷◌, ◌++◌}
 use Rattle.bus_word.specs.declared.word.Bus.{Bus}
 use Rattle.bus_word.specs.declared.word.Bus.TheVariants.{A, B}
 use Rattle.bus_word.specs.declared.word.Kind.TheVariants.{Dat}
@@ -10,7 +10,7 @@ use Rattle.terminal_recordings.specs.Masks.{MaskedSighting}
 use Rattle.script_lines.specs.Transcript.{answer_text, sent_text}
 use Rattle.rt1553_verify.specs.declared.matching.Matching.TheVariants.{Exact, Masked as Mask}
 use Rattle.rt1553_verify.specs.declared.stated.StatedFault.TheVariants.{Memory, Read}
-use Rattle.rt1553_verify.specs.Stated.{StatedEvent, stated_through}
+use Rattle.rt1553_verify.specs.Stated.{StatedEvent, is_gap, stated_through}
 use Rattle.script_recordings.specs.declared.reading.RecordingFault.{RecordingFault}
 use Rattle.script_recordings.specs.declared.reading.RecordingFault.TheVariants.{Unseen, Masked, NoWord, Script}
 
@@ -35,11 +35,15 @@ abbrev pub StatesSent : StatedEvent → Bool → Option Sending → Type 0
 StatesSent s false sent = (s.matching ≡ Exact) × (s.answer ≡ stated_word false sent)
 StatesSent s true sent = (s.matching ≡ Mask) × (s.answer ≡ stated_word true sent) × IsData sent
 
+-- what a bus shows of what is stated: nothing of what is stated of a gap, where something is handed over, and no word is sent
+abbrev pub bus_shows : StatedEvent → StatedEvent
+bus_shows s = if is_gap s.event then record s { matching = Exact; answer = [] } else s
+
 -- what a script states of an event is this sighting
 pub record IsSeenAs (s : StatedEvent) (x : MaskedSighting) : Type 0 where
   pub event : x.sighting.event ≡ s.event
   pub seen : is_seen s.event ≡ true
-  pub sent : StatesSent s x.any_word x.sighting.sent
+  pub sent : StatesSent (bus_shows s) x.any_word x.sighting.sent
 
 -- event by event
 abbrev pub AreSeenAs : List StatedEvent → List MaskedSighting → Type 0
@@ -60,7 +64,7 @@ StatesNoWord s _ = ⊥
 -- why what a script states of an event is no sighting
 abbrev pub IsUnseenAs : StatedEvent → RecordingFault → Type 0
 IsUnseenAs s (Unseen n) = (n ≡ s.line) × (is_seen s.event ≡ false)
-IsUnseenAs s fault = StatesNoWord s fault
+IsUnseenAs s fault = StatesNoWord (bus_shows s) fault
 
 -- events are no recording, since this is the first of them that is no sighting
 abbrev pub IsNoRecording : List StatedEvent → RecordingFault → Type 0

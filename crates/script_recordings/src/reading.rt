@@ -5,14 +5,14 @@ ghost use Rattle.rt1553_verify.specs.Stated.{shown, stated_through};
 ghost use Rattle.rt1553_verify.specs.Reader.{left_in, turns_left};
 ghost use Rattle.recorded_terminal.specs.Watched.{masked_in};
 ghost use Rattle.recorded_terminal.specs.SentWords.{word_shown};
-ghost use Rattle.script_recordings.specs.Seen.{open_line, stated_word, IsData, StatesSent, IsNoWord, StatesNoWord, IsUnseenAs, StatesRecording, StatesNoRecording};
+ghost use Rattle.script_recordings.specs.Seen.{bus_shows, open_line, stated_word, IsData, StatesSent, IsNoWord, StatesNoWord, IsUnseenAs, StatesRecording, StatesNoRecording};
 ghost use Rattle.script_recordings.specs.Messages.{InMessage, AreInMessages};
 ghost use Rattle.script_recordings.specs.inner.Reads.{IsMarkedAs, NextSeen, RefusesRest};
 ghost use Rattle.script_recordings.specs.declared.reading.RecordingFault.TheVariants.{Masked, NoWord, Script};
 ghost use Rattle.rt1553_verify.specs.declared.stated.StatedFault.TheVariants.{Memory};
 
 use crate::words::{open_bus, read_sent};
-use bus_terminal::Sent;
+use bus_terminal::{Event, Sent};
 use bus_word::Kind;
 use recorded_terminal::{Marked, Sighting};
 use rt1553_verify::{Matching, Stated, StatedFault, StatedReader, command_after};
@@ -24,13 +24,13 @@ use thiserror::Error;
 #[derive(Clone, Copy, Debug, PartialEq, Eq, Error)]
 pub enum RecordingFault {
     /// The event of this line is one of the subsystem.
-    #[error("script: line {0}: what the subsystem does is not seen in a recording")]
+    #[error("what the subsystem does is not seen in a recording")]
     Unseen(u64),
     /// What is stated of the event of this line is a mask other than `A d ....`.
-    #[error("script: line {0}: a recording states each word whole, or leaves a data word open, as in \"#~ A d ....\"")]
+    #[error("a recording states each word whole, or leaves a data word open, as in \"#~ A d ....\"")]
     Masked(u64),
     /// What is stated of the event of this line is no line of a word that was sent.
-    #[error("script: line {0}: a recording states the word that was sent, as in \"A s 2800\"")]
+    #[error("a recording states the word that was sent, as in \"A s 2800\"")]
     NoWord(u64),
     /// The script is refused, or it is not read on.
     #[error("{0}")]
@@ -105,11 +105,14 @@ fn open_word(line: u64, mask: &[u8]) -> Result<StatedWord, RecordingFault>
     }
 }
 
-/// The word that is stated of an event.
+/// The word that is stated of an event. What is stated of a gap is left out: something is handed over there, and no word is sent.
 fn word_of(stated: &Stated) -> Result<StatedWord, RecordingFault>
-    ensures sent { IfOk result (λ word. StatesSent (shown stated.now) word.any_word (word_shown word.sent)) }
-    ensures refused { IfErr result (λ fault. StatesNoWord (shown stated.now) fault) }
+    ensures sent { IfOk result (λ word. StatesSent (bus_shows (shown stated.now)) word.any_word (word_shown word.sent)) }
+    ensures refused { IfErr result (λ fault. StatesNoWord (bus_shows (shown stated.now)) fault) }
 {
+    if matches!(stated.event, Event::Gap(_)) {
+        return whole_word(stated.line, b"");
+    }
     match stated.matching {
         Matching::Exact => whole_word(stated.line, stated.answer.as_slice()),
         Matching::Masked => open_word(stated.line, stated.answer.as_slice()),

@@ -18,11 +18,11 @@ use Rattle.rt1553_tool_args.specs.declared.command.ScriptKind.TheVariants.{Test,
 use Rattle.tool_verify.specs.declared.compared.ScriptFault.{ScriptFault}
 use Rattle.tool_verify.specs.declared.compared.ScriptFault.TheVariants as script
 use Rattle.rt1553_verify.specs.declared.stated.StatedFault.{StatedFault}
-use Rattle.rt1553_verify.specs.declared.stated.StatedFault.TheVariants as stated
 use Rattle.tool_verify.specs.declared.verify.PlayedTo.{PlayedTo}
 use Rattle.tool_verify.specs.declared.verify.PlayedTo.TheVariants.{One, Folder}
 use Rattle.tool_files.specs.declared.files.LoadedProfile.{LoadedProfile}
 use Rattle.tool_files.specs.Loaded.{IsLoadedFile}
+use Rattle.tool_files.specs.Status.{stated_status}
 
 -- nothing is told
 abbrev pub tells_nothing : Result (List ToldAnswer) StatedFault → Bool
@@ -87,13 +87,7 @@ abbrev pub IsExplaining : ScriptKind → Parts → List ℕ → List ℕ → Typ
 IsExplaining LaterRecording value script text = IsExplainingLater value script text ⊎ (HasNoPart (description_in value) script × (text ≡ []))
 IsExplaining _ value script text = IsExplainingScript value script text
 
--- the status of a script that is not read
-abbrev pub stated_status : StatedFault → ℕ
-stated_status stated.Memory = 4
-stated_status stated.Read = 4
-stated_status _ = 2
-
--- the same of one that is no recording
+-- the status of a script that is no recording, or is not read
 abbrev pub recording_status : RecordingFault → ℕ
 recording_status (recording.Script fault) = stated_status fault
 recording_status _ = 2

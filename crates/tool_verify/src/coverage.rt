@@ -4,6 +4,7 @@ ghost use Rattle.rt1553_tool_args.specs.declared.command.CoverageFormat.TheVaria
 ghost use Rattle.report_pages.specs.CoveragePage.{IsCoveragePage};
 
 use crate::verify::recording_fault;
+use crate::warned::warn_of_hand_overs;
 use bus_legal::Normal;
 use message_names::MessageNames;
 use recording_coverage::{Coverage, CoverageTable, count_events, coverage_json, coverage_text};
@@ -17,7 +18,7 @@ use tool_files::{ToolFault, load_profile, load_script, write_bytes};
 use tool_names::load_names;
 
 /// Counts what came of the messages in the recording of a file.
-fn count_file<R: Files + AllocGlobal>(
+fn count_file<R: Files + AllocGlobal + Eprint>(
     rt: &R,
     normal: &Normal,
     name: &str,
@@ -28,7 +29,7 @@ fn count_file<R: Files + AllocGlobal>(
     match recorded_events(rt.alloc(), normal, script.text.as_slice()) {
         Ok(events) => {
             count_events(coverage, normal, events.as_slice());
-            Ok(())
+            warn_of_hand_overs(rt, name, script.text.as_slice())
         }
         Err(fault) => Err(recording_fault(rt, name, &script, fault)),
     }

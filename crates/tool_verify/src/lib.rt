@@ -14,6 +14,7 @@ mod results_outcome;
 mod summary;
 mod unit_results;
 mod verify;
+mod warned;
 
 pub use acceptance::write_test;
 pub use coverage::cover_scripts;

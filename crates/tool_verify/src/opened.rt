@@ -1,11 +1,10 @@
 //! Scripts of files, opened: of a long recording the front is read at once, and the rest while it is played.
 ghost use Rattle.std.specs.Prelude.{◌≡◌, None, IfOk};
 
-use rt1553_files::{FileFault, open_file};
 use rt1553_tool_args::ScriptKind;
 use std::io::{ErrorKind, Read};
 use std::rt::Files;
-use tool_files::{LoadedScript, ToolFault, load_script, shown};
+use tool_files::{LoadedScript, ToolFault, failed_read, load_script, open_named};
 
 /// How many bytes of a recording are read at once.
 const FRONT: u64 = 1_048_576;
@@ -24,15 +23,12 @@ fn open_recording<R: Files + AllocGlobal>(
     rt: &R,
     name: &str,
 ) -> Result<OpenScript<R::File>, ToolFault> {
-    if name.is_empty() {
-        return Err(ToolFault::NoName);
-    }
-    let mut front = open_file(rt, name)?.take(FRONT);
+    let mut front = open_named(rt, name)?.take(FRONT);
     let mut text = Vec::new(rt.alloc());
     if let Err(error) = front.read_to_end(&mut text) {
         return match error.kind() {
             ErrorKind::OutOfMemory => Err(ToolFault::Memory),
-            _ => Err(ToolFault::File(FileFault::CannotRead(shown(rt, name)?))),
+            _ => Err(failed_read(rt, name)),
         };
     }
     let is_all = (text.len() as u64) < FRONT;

@@ -13,7 +13,7 @@ use bus_legal::Normal;
 use drawing_boxes::DrawFault;
 use message_names::MessageNames;
 use report_pages::results_page;
-use rt1553_draw::{StatedAnswer, draw_stated};
+use rt1553_draw::{DrawnScript, StatedAnswer, draw_stated};
 use rt1553_report::{
     FileDigests, ReportHead, ScriptOutcome, ScriptResult, answer_told, clauses_in, junit_report,
     result_json,
@@ -58,14 +58,18 @@ fn drawing_of<R: AllocGlobal>(
     names: Option<&MessageNames>,
     normal: &Normal,
     name: &str,
-    script: &[u8],
+    script: &LoadedScript,
     it: &PlayedScript,
 ) -> Result<Option<String>, ToolFault> {
     if it.wrong.is_empty() {
         return Ok(None);
     }
     let stated = stated_of(rt.alloc(), it.wrong.as_slice())?;
-    match draw_stated(rt.alloc(), normal, names, script, stated.as_slice()) {
+    let drawn = DrawnScript {
+        text: script.text.as_slice(),
+        sources: script.sources(),
+    };
+    match draw_stated(rt.alloc(), normal, names, drawn, stated.as_slice()) {
         Ok(drawing) => Ok(Some(drawing)),
         Err(DrawFault::Memory) => Err(ToolFault::Memory),
         Err(fault) => Err(refused_file(rt, name, &fault)),
@@ -103,8 +107,7 @@ fn outcome_of_script<R: AllocGlobal + Eprint, F: Read + Drop>(
     let drawn = drawn && rest.is_none();
     let it = play_script(rt, played, normal, name, script, rest)?;
     let drawing = if drawn {
-        let text = script.text.as_slice();
-        drawing_of(rt, played.message_names(), normal, name, text, &it)?
+        drawing_of(rt, played.message_names(), normal, name, script, &it)?
     } else {
         None
     };

@@ -1,29 +1,30 @@
 //! The command `verify`: scripts that state their answers are played.
 ghost use Rattle.std.specs.Prelude.{◌≡◌, ◌⊎◌, ◌≤◌, ◌==◌, None, IfOk, length};
 ghost use Rattle.tool_files.specs.Loaded.{IsLoadedFile};
-ghost use Rattle.tool_files.specs.Status.{RefusesText, tool_status};
-ghost use Rattle.tool_verify.specs.Passing.{IsPlayedTo, SaysOf, recording_status, script_status, stated_status};
+ghost use Rattle.tool_files.specs.Status.{tool_status};
+ghost use Rattle.tool_verify.specs.Passing.{IsPlayedTo, SaysOf, recording_status, script_status};
 
 use crate::compared::{JudgedPart, ScriptFault, compare_open, explaining_script};
 use crate::head::loaded_names;
 use crate::opened::{OpenScript, open_script};
 use crate::report::report_files;
 use crate::summary::put_summary;
+use crate::warned::warn_of_hand_overs;
 use bus_legal::Normal;
 use line_format::after;
 use message_names::{MessageNames, owned};
 use rt1553_files::escaped;
 use rt1553_report::{AnswerNames, TriedScript, clauses_in, difference_told, name_at};
 use rt1553_tool_args::{AskedReport, AskedWitness, Profiles, ReportFormat, ScriptKind};
-use rt1553_verify::{ScriptWarning, StatedFault, WrongAnswer, named};
+use rt1553_verify::{ScriptWarning, WrongAnswer, named};
 use script_recordings::RecordingFault;
 use std::alloc::{AllocError, Global};
 use std::format;
 use std::io::{Read, Write};
 use std::rt::Files;
 use tool_files::{
-    DIFFERENT, Ink, LoadedProfile, LoadedScript, Screen, ToolFault, first_refused,
-    load_profile_file, load_script, put_in, read_script_file, refused_file, shown, status_or_stop,
+    DIFFERENT, Ink, LoadedProfile, LoadedScript, Screen, ToolFault, load_profile_file, load_script,
+    put_in, read_script_file, refused_file, refused_line, shown, stated_fault, status_or_stop,
     worst, write_bytes,
 };
 use tool_names::{LoadedNames, name_of_command};
@@ -178,17 +179,6 @@ fn put_count<W: Write>(
     write_bytes(output, b"\n")
 }
 
-/// The fault of the script in the file of this name, which is refused for this; its lines are those of the file.
-fn stated_fault<R: AllocGlobal>(rt: &R, name: &str, fault: StatedFault) -> ToolFault
-    ensures memory { fault ≡ StatedFault.Memory → result ≡ ToolFault.Memory }
-    ensures refused { RefusesText result }
-{
-    match fault {
-        StatedFault::Memory => ToolFault::Memory,
-        _ => refused_file(rt, name, &fault),
-    }
-}
-
 /// The fault of a script that states no recording.
 pub fn recording_fault<R: AllocGlobal>(
     rt: &R,
@@ -198,13 +188,14 @@ pub fn recording_fault<R: AllocGlobal>(
 ) -> ToolFault
     ensures { (result ≡ ToolFault.Memory) ⊎ (tool_status result ≡ recording_status fault) }
 {
-    let fault = match fault {
-        RecordingFault::Unseen(line) => RecordingFault::Unseen(script.line_in_file(line)),
-        RecordingFault::Masked(line) => RecordingFault::Masked(script.line_in_file(line)),
-        RecordingFault::NoWord(line) => RecordingFault::NoWord(script.line_in_file(line)),
-        RecordingFault::Script(fault) => return unread_fault(rt, name, script, fault),
-    };
-    refused_file(rt, name, &fault)
+    match fault {
+        RecordingFault::Unseen(line)
+        | RecordingFault::Masked(line)
+        | RecordingFault::NoWord(line) => {
+            refused_line(rt, name, script.line_in_file(line), &fault)
+        }
+        RecordingFault::Script(fault) => stated_fault(rt, name, script, fault),
+    }
 }
 
 /// The fault of a script that is refused.
@@ -217,35 +208,8 @@ fn script_fault<R: AllocGlobal>(
     ensures { (result ≡ ToolFault.Memory) ⊎ (tool_status result ≡ script_status fault) }
 {
     match fault {
-        ScriptFault::Stated(fault) => unread_fault(rt, name, script, fault),
+        ScriptFault::Stated(fault) => stated_fault(rt, name, script, fault),
         ScriptFault::Recording(fault) => recording_fault(rt, name, script, fault),
-    }
-}
-
-/// The fault of a script that states no answers as it should.
-fn unread_fault<R: AllocGlobal>(
-    rt: &R,
-    name: &str,
-    script: &LoadedScript,
-    fault: StatedFault,
-) -> ToolFault
-    ensures { (result ≡ ToolFault.Memory) ⊎ (tool_status result ≡ stated_status fault) }
-{
-    let fault = match fault {
-        StatedFault::Misplaced(line) => StatedFault::Misplaced(script.line_in_file(line)),
-        StatedFault::Impossible(line) => StatedFault::Impossible(script.line_in_file(line)),
-        StatedFault::Mistyped(line, column) => {
-            StatedFault::Mistyped(script.line_in_file(line), column)
-        }
-        other => other,
-    };
-    let told = stated_fault(rt, name, fault);
-    match fault {
-        StatedFault::Line(_) | StatedFault::LongLine(_) => {
-            first_refused(rt, name, script.text.as_slice(), told)
-        }
-        StatedFault::Read => ToolFault::Input,
-        _ => told,
     }
 }
 
@@ -280,6 +244,9 @@ fn rules_of(
     wrong: &[WrongAnswer],
 ) -> Result<AnswerNames, AllocError> {
     let (mut rules, mut rule) = (Vec::new(alloc), None);
+    if wrong.is_empty() {
+        return Ok(AnswerNames { names: rules });
+    }
     for (before, line) in script.split(|byte| *byte == b'\n').enumerate() {
         rule = comment_in(line).or(rule);
         if let Some(one) = wrong.get(rules.len())
@@ -365,6 +332,12 @@ pub fn play_script<R: AllocGlobal + Eprint, F: Read + Drop>(
             if let Some(warning) = compared.warning {
                 let name = shown(rt, name)?;
                 let _ = eprintln!(rt; "{name}: warning: {}", warning.text());
+            }
+            if matches!(
+                played.kind,
+                ScriptKind::Recording | ScriptKind::LaterRecording
+            ) {
+                warn_of_hand_overs(rt, name, text)?;
             }
             tell_part(rt, name, script, compared.part)?;
             let rules = rules_of(rt.alloc(), text, compared.wrong.as_slice())?;
