@@ -149,6 +149,7 @@ STATIC = "{library}/lib/librt1553.a"
 # a program over the library that counts its cases: its source, and how it is built
 PROGRAMS = {
     "calls.c": ("calls.c", STATIC, "-pthread"),
+    "buses.c": ("buses.c", STATIC, "-pthread"),
     "copies.cpp": ("copies.cpp", STATIC, "-pthread"),
     "threads.c": ("threads.c", STATIC, "-pthread"),
     "stack.c": ("stack.c", STATIC, "-pthread"),

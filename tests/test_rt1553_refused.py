@@ -39,6 +39,11 @@ GROWTH_ROWS = [
     growth_row("run of a refused profile", "run bad script", ""),
     growth_row("run, an absent script", "run five absent", ""),
 ]
+# the table of a document, and one with faults
+TABLES = {
+    "table": "kind,name,subaddress,words,code,to,initial,value\naddress,,,,,,,5\nreceive,speed,1,2,,,,\ntransmit,state,2,\"1-2, 4\",,,0001 ffff,\nmode,clock,,,1,both,,\n",
+    "faulty": "kind,name,subaddress,words\nrecieve,speed,1,2\ntransmit,state,31,0\n",
+}
 # the same of `rt1553-tool`
 TOOL_GROWTH_ROWS = [
     *GROWTH_ROWS,
@@ -48,6 +53,8 @@ TOOL_GROWTH_ROWS = [
     growth_row("an option left out", "infer script", ""),
     growth_row("lint", "lint bad", ""),
     growth_row("check-script", "check-script script", ""),
+    *(Row(it, it, files={**TABLES, **files_named("five")})
+      for it in ("import table", "import faulty", "import --check table five", "explain --names table five", "explain five --names faulty")),
 ]
 FAILING_ROWS = [
     ("REFUSE_READ", "", READ_FAILED),
