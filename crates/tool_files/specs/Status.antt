@@ -38,10 +38,10 @@ TellsUnread most file.Memory told = told ≡ Memory
 TellsUnread most (file.CannotRead name) told = (cause : UnreadCause) × (told ≡ Unread name cause)
 TellsUnread most (file.TooLarge name) told = told ≡ Unread name (TooLarge most)
 
--- a file can't be read, or memory ran out
-abbrev pub IsUnread : ToolFault → Type 0
-IsUnread (Unread name cause) = Unit {0}
-IsUnread fault = fault ≡ Memory
+-- a file can't be read on, or memory ran out
+abbrev pub IsFailedRead : ToolFault → Type 0
+IsFailedRead (Unread name cause) = Unit {0}
+IsFailedRead fault = fault ≡ Memory
 
 -- a text is refused, or memory ran out
 abbrev pub RefusesText : ToolFault → Type 0

@@ -1,6 +1,6 @@
 //! Why files aren't read.
 ghost use Rattle.std.specs.Prelude.{◌≡◌};
-ghost use Rattle.tool_files.specs.Status.{IsUnread, TellsUnread};
+ghost use Rattle.tool_files.specs.Status.{IsFailedRead, TellsUnread};
 
 use crate::fault::{ToolFault, UnreadCause};
 use crate::files::shown;
@@ -46,7 +46,7 @@ pub fn unread_file<R: Files>(rt: &R, name: &str, most: usize, fault: FileFault) 
 
 /// The fault of the file of this name that was opened and can't be read on, with its cause.
 pub fn failed_read<R: Files + AllocGlobal>(rt: &R, name: &str) -> ToolFault
-    ensures { IsUnread result }
+    ensures { IsFailedRead result }
 {
     match shown(rt, name) {
         Ok(shown) => ToolFault::Unread(shown, cause_of(name, error_of(rt, name))),
