@@ -16,10 +16,10 @@ FILES = {
     "messages": "A rx 6 1 2 from 9 1: 0001 0002\nA tx 9 1 1\n",
 }
 REFUSED = {
-    "line": (f"{ASK}slot \n", "line 4, column 5: a space at the end: nothing may follow the last field"),
-    "mistyped": ("A gap\n#>hand sync\n", "line 2, column 3: looks like a stated answer and is a comment: one space comes after #>, #~ or #+, and none before it"),
-    "misplaced": ("A c 2c02\n#> A s 2800\n", "line 2: the event before it cannot have this answer"),
-    "many": (f"{ASK}" + "\n" * 1048573, "too many lines"),
+    "line": (f"{ASK}slot \n", ":4:5: error: a space at the end: nothing may follow the last field"),
+    "mistyped": ("A gap\n#>hand sync\n", ":2:3: error: looks like a stated answer and is a comment: one space comes after #>, #~ or #+, and none before it"),
+    "misplaced": ("A c 2c02\n#> A s 2800\n", ":2: error: the event before it cannot have this answer"),
+    "many": (f"{ASK}" + "\n" * 1048573, ": script: too many lines"),
 }  # fmt: skip
 ROWS = with_files(
     FILES,
@@ -34,7 +34,7 @@ ROWS = with_files(
         "#+ 0013 0014 0015 0016 0017 0018 0019 001a 001b 001c 001d 001e\n#+ 001f\nslot\n#> A s 2800\n",
         files={"long": f"A c 2820\n{WORDS}A gap\nslot\n"}),
     Row("just enough lines", "answers five full", output=f"{ASK}#> A s 2800\n" + "\n" * 1048572, files={"full": ASK + "\n" * 1048572}),
-    *(Row(f"refused: {name}", f"answers five {name}", 2, errors=f"{name}: script: {why}\n", files={name: text}) for name, (text, why) in REFUSED.items()),
+    *(Row(f"refused: {name}", f"answers five {name}", 2, errors=f"{name}{why}\n", files={name: text}) for name, (text, why) in REFUSED.items()),
 )  # fmt: skip
 
 

@@ -23,7 +23,7 @@ TABLES = [
     table("a quote that stays open", 'kind,value\naddress,"5\nbit,1\n', 2, "", " table: row 2, column 2: not CSV, a quote is misplaced or missing"),
     table("CR alone", "kind,value\raddress,5\r", 0, FIVE),
     table("CR alone: the rows of faults", "kind,value\raddress,5\rbit,x\rvector,70000\r", 2, "",
-          '4:2: error: value: "70000": allowed is 0 to 65535, or 0x0000 to 0xffff', '3:2: error: value: "x": allowed is 0 to 65535, or 0x0000 to 0xffff'),
+          '3:2: error: value: "x": allowed is 0 to 65535, or 0x0000 to 0xffff', '4:2: error: value: "70000": allowed is 0 to 65535, or 0x0000 to 0xffff'),
     table("CR alone: the row of a quote", 'kind,value\raddress,5\rbit,1"\r', 2, "", " table: row 3, column 2: not CSV, a quote is misplaced or missing"),
     # --- what stands between fields
     table("tabs", "kind\tvalue\naddress\t5\n", 0, FIVE),

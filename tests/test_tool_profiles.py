@@ -36,7 +36,7 @@ EXPLAINED = with_files(
         "19: transmit BIT word\n\nmode codes by broadcast\n 1: synchronize\n"),
     Row("another format", "explain --format none six", 3,
         errors="error: invalid value 'none' for '--format <format>'\n  [possible values: text, json]\n\nFor more information, try '--help'.\n"),
-    Row("a refused profile explained", "explain stdin", 2, errors="stdin: profile: root: address is missing\n"),
+    Row("a refused profile explained", "explain stdin", 2, errors="stdin:1:1: error: profile: root: address is missing; allowed is a whole number from 0 to 30\n"),
 )  # fmt: skip
 DIFFERING = with_files(
     {
