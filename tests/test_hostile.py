@@ -64,12 +64,12 @@ NAMES = [
 ARGUMENTS = [Row(f"arguments: {' '.join(it)}", it, None, 3) for it in (
     ("li~nt",), ("explain", "five", "mo~re"), ("explain", "--fo~rmat", "five"), ("lint", "--format", "te~xt", "five"))]  # fmt: skip
 # keys, texts and syntax of a profile
-PROFILES = [row for name, text in (
-    ("key", 'address = 5\n"ke^y" = 1\n'),
-    ("text", 'address = 5\n[[rule]]\ndirection = "u^p"\nsubaddresses = "1^"\n'),
-    ("syntax", "address = 5\nx~y = [\n"),
+PROFILES = [row for name, faults, text in (
+    ("key", 1, 'address = 5\n"ke^y" = 1\n'),
+    ("text", 2, 'address = 5\n[[rule]]\ndirection = "u^p"\nsubaddresses = "1^"\n'),
+    ("syntax", 1, "address = 5\nx~y = [\n"),
 ) for row in [
-    *rows_of(name, {"it": text}, ("lint it", 0, 2), ("lint --format sarif it", 0, 2), ("toml it", 1, 2)),
+    *rows_of(name, {"it": text}, ("lint it", 0, 2), ("lint --format sarif it", 0, 2), ("toml it", faults, 2)),
     *rows_of(f"{name}: rt1553", {"it": text}, ("check it", 1, 2), program="rt1553"),
 ]]  # fmt: skip
 # names of columns and rows, kinds and values of a table

@@ -68,8 +68,8 @@ NAMED_FILES = {
 }  # fmt: skip
 CHANGES = [("counts = 4", "counts = 3"), ('"1-4, 8"', '"1-3, 5"'), ('codes = "16,19"', "codes = 16"), ("words = [0x0001, 0x0002]", "words = [0x0001, 0x0003]")]
 FAULTS = (
-    'wrong.csv:3:1: error: kind: "recieve": allowed is address, broadcast, wraparound, accept_bus_control, vector, bit, receive, transmit, '
-    'both, mode\nwrong.csv:2:2: error: value: "31": allowed is 0 to 30\n'
+    'wrong.csv:2:2: error: value: "31": allowed is 0 to 30\nwrong.csv:3:1: error: kind: "recieve": allowed is address, broadcast, '
+    'wraparound, accept_bus_control, vector, bit, receive, transmit, both, mode\n'
 )
 # commands that take names
 WITH_NAMES = ["explain named.toml", "differ named.toml changed.toml", "verify named.toml v", "draw --html named.toml v", "acceptance named.toml"]
