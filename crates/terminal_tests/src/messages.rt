@@ -86,7 +86,7 @@ fn messages_on_both_buses(rt: HostRuntime) -> Result<(), Fail> {
         "     1       1 A   rx         5   3     2 done; data 0011 0022; status 2800; hand receive own 03 0011 0022\n",
         "     2       3 B   rx         7   1     2 other; data 0001\n",
         "     3       9 A   rx         5   3     2 superseded\n",
-        "     5      12 B   mode       5   2       ignored\n",
+        "     5      12 B   mode       5   2       ignored, during a reply\n",
         "     4      10 B   mode       5   2       done; status 2800\n"
     );
     assert_eq!(rt; text.as_str(), lines);
