@@ -12,7 +12,7 @@ import play
 import rules
 from programs import Given
 
-COLUMNS = ["number", "tries", "command", "data", "reply", "handed"]
+COLUMNS = ["number", "tries", "command", "data", "expected", "handed"]
 MODE_NAMES = {
     0: "dynamic bus control",
     1: "synchronize",
@@ -172,6 +172,11 @@ def table_of(exchanges):
     writer.writerow(COLUMNS)
     writer.writerows(fields_of(number, it) for number, it in enumerate(exchanges, 1))
     return text.getvalue()
+
+
+def filled_of(exchanges):
+    """The table with what is expected as the replies of a unit."""
+    return table_of(exchanges).replace("expected", "reply", 1)
 
 
 def json_of(exchanges):

@@ -200,7 +200,8 @@ def properties_of(element):
 
 
 def look_at_case(case, one, name, profile):
-    assert case.attrib == {"name": name, "classname": profile, "time": "0"}
+    answers = {} if one["answers"] is None else {"assertions": str(one["answers"])}
+    assert case.attrib == {"name": name, "classname": profile, **answers, "time": "0"}
     properties = [(it, one[it]) for it in DIGESTS if one[it]] + [("clause", it) for it in one["clauses"]]
     assert properties_of(case) == properties
     kinds = {"properties": properties, "failure": one["differences"], "error": one["fault"], "system-err": one["warning"]}

@@ -5,7 +5,7 @@ import subprocess
 
 import canonical
 import pytest
-from exchanges import LARGEST, SMALLEST, check_lines, json_of, modelled, numbered, results_in, script_of, table_of, told_by_against, transcript_of
+from exchanges import LARGEST, SMALLEST, check_lines, filled_of, json_of, modelled, numbered, results_in, script_of, table_of, told_by_against, transcript_of
 from programs import TOP, Given, run, write_files
 from schemas import misfits_of_lines
 
@@ -19,11 +19,11 @@ SIZED = {"`address = 5`": "smallest", "the largest": "largest", "all that can be
 # the columns of the table of sizes in docs/acceptance.md
 SIZES = ["exchanges", "events", "lines of the script", "words on the bus", "from the terminal", "time"]
 SCHEMA = "docs/acceptance.schema.json"
-FIRST = '{"number":1,"tries":"broadcast transmit status word: illegal","command":"fc02","data":[],"reply":null,"handed":null}'
+FIRST = '{"number":1,"tries":"broadcast transmit status word: illegal","command":"fc02","data":[],"expected":null,"handed":null}'
 MISFITS = {
     "a key more": FIRST.replace("{", '{"more":0,', 1),
     "a key less": FIRST.replace(',"handed":null', ""),
-    "an empty answer": FIRST.replace('"reply":null', '"reply":[]'),
+    "an empty answer": FIRST.replace('"expected":null', '"expected":[]'),
     "a word in capital letters": FIRST.replace('"fc02"', '"FC02"'),
 }
 
@@ -65,7 +65,7 @@ def played(build, folder):
 
 def against_its_own_table(build, folder):
     exchanges = exchanges_in(folder)
-    write_files(folder, {"results": table_of(exchanges)})
+    write_files(folder, {"results": filled_of(exchanges)})
     given = run(build.tool, "acceptance", "profile", "--against", "results", folder=folder)
     assert given == told_by_against(exchanges, results_in(exchanges))
 

@@ -7,10 +7,11 @@ import os
 import re
 import subprocess
 import xml.etree.ElementTree as xml
+from typing import NamedTuple
 
 import canonical
 import pytest
-from exchanges import LARGEST, SMALLEST, modelled, results_in, results_text, table_of, told_by_against
+from exchanges import LARGEST, SMALLEST, filled_of, modelled, results_in, results_text, told_by_against
 from programs import Given, Row, check_row, run, write_files
 from reports import Digests, HTML, VERSIONS, objects_of
 from schemas import misfits
@@ -27,6 +28,7 @@ REFUSED = [
     ("n,reply\n1,none\n", "row 1, column 3: no column is named number"),
     ("Number,reply\n1,none\n", "row 1, column 3: no column is named number"),
     ("number,answer\n1,none\n", "row 1, column 3: no column is named reply"),
+    ("number,tries,command,data,expected,handed\r\n1,,fc02,,none,\r\n", "row 1, column 7: no column is named reply"),
     ("number\n1\n", "row 1, column 2: no column is named reply"),
     ("number,reply,number\n1,none,1\n", "row 1, column 3: a second column is named number"),
     ("reply,number,note,reply\nnone,1,,none\n", "row 1, column 4: a second column is named reply"),
@@ -99,7 +101,7 @@ def results_of(row_of, exchanges, header="number,reply", quoting=csv.QUOTE_MINIM
 
 def with_commands(change, exchanges, number=None):
     """The table with the command of the row of this number changed, or of each row."""
-    rows = list(csv.reader(io.StringIO(table_of(exchanges))))
+    rows = list(csv.reader(io.StringIO(filled_of(exchanges))))
     for row in rows[1:]:
         if number in (None, int(row[0])):
             row[2] = change(row[2])
@@ -108,17 +110,17 @@ def with_commands(change, exchanges, number=None):
 
 def reversed_rows(exchanges):
     """The table with its last row first."""
-    header, *rows = table_of(exchanges).splitlines(True)
+    header, *rows = filled_of(exchanges).splitlines(True)
     return "".join([header, *reversed(rows)])
 
 
 # tables that say what the exchanges say
 SAME = {
-    "lines that end in LF": lambda it: table_of(it).replace("\r\n", "\n"),
-    "no end of the last line": lambda it: table_of(it).removesuffix("\r\n"),
-    "a byte order mark": lambda it: "\ufeff" + table_of(it),
+    "lines that end in LF": lambda it: filled_of(it).replace("\r\n", "\n"),
+    "no end of the last line": lambda it: filled_of(it).removesuffix("\r\n"),
+    "a byte order mark": lambda it: "\ufeff" + filled_of(it),
     "rows the other way round": reversed_rows,
-    "empty lines": lambda it: "\n\n" + table_of(it).replace("\r\n", "\n\n"),
+    "empty lines": lambda it: "\n\n" + filled_of(it).replace("\r\n", "\n\n"),
     "more columns, in another order": lambda it: results_of(lambda number, reply: (f'a, "b"\n{number}', reply, number), it, "note,reply,number"),
     "capital digits": lambda it: results_of(lambda number, reply: (number, reply if reply == "none" else reply.upper()), it),
     "quoted fields": lambda it: results_of(lambda number, reply: (number, reply), it, quoting=csv.QUOTE_ALL),
@@ -157,7 +159,7 @@ def test_another_command(shipped, largest, name, tmp_path):
 @pytest.mark.parametrize("name", MISSING)
 def test_missing_rows(shipped, largest, name, tmp_path):
     numbers, told = MISSING[name]
-    rows = table_of(largest).split("\r\n")
+    rows = filled_of(largest).split("\r\n")
     text = "\n".join(rows[number] for number in [0, *numbers])
     assert against(shipped.tool, tmp_path, text) == Given(1, "".join(f"{line}\n" for line in told).encode(), b"")
 
@@ -182,14 +184,39 @@ def report(tool, folder, form, *words):
     return run(tool, *AGAINST, "--format", form, *words, folder=folder)
 
 
+class Told(NamedTuple):
+    """A reply that differs, as a report tells it."""
+
+    line: int
+    number: int
+    command: str
+    tries: str
+    word: int
+    expected: list
+    came: list
+
+    def text(self):
+        """As a line of JUnit, behind the line of its row."""
+        replies = [" ".join(it) or "none" for it in (self.expected, self.came)]
+        return f"{self.number}: command {self.command}, word {self.word}: {self.tries}: expected {replies[0]}, came {replies[1]}"
+
+
 def differing(largest):
-    """A table with other replies and a missing row, and what a report tells of it: lines, exchanges, what was expected, what came."""
-    results = {**results_in(largest), 1: ("2c10",), 102: ()}
+    """A table with other replies and a missing row, and the differences that a report tells."""
+    long = next(number for number, it in enumerate(largest, 1) if number > 102 and len(it.reply()) > 3)
+    reply = list(largest[long - 1].reply())
+    came = [*reply[:2], f"{int(reply[2], 16) ^ 1:04x}"]
+    results = {**results_in(largest), 2: ("2800",), 102: (), long: came}
     del results[7]
-    told = [(2, "1: broadcast transmit status word: illegal", "none", "2c10"),
-            (102, f"102: {largest[101].tries}", " ".join(largest[101].reply()), "none"),
-            (1, "no result for 7", "results", None)]  # fmt: skip
+    wrong = {2: (list(largest[1].reply()), ["2800"], 1), 102: (list(largest[101].reply()), [], 1), long: (reply, came, 3)}
+    told = [Told(number + (number < 7), number, largest[number - 1].command, largest[number - 1].tries, word, expected, came)
+            for number, (expected, came, word) in sorted(wrong.items())]  # fmt: skip
     return results_text(results), told
+
+
+def verdict(count):
+    """The last line where so many replies differ."""
+    return f"{count} of {TOTAL} exchanges are answered otherwise: it is another terminal"
 
 
 def test_report_in_json(shipped, largest, tmp_path):
@@ -198,7 +225,8 @@ def test_report_in_json(shipped, largest, tmp_path):
     given = report(shipped.tool, tmp_path, "json", "--date", DATE)
     (one,) = objects_of(given.output.decode())
     assert (given.status, misfits(one, "docs/verify.schema.json")) == (1, [])
-    assert [(it["line"], it["name"], it["expected"], it["came"]) for it in one["differences"]] == told
+    assert [Told(**it) for it in one["differences"]] == told
+    assert (one["missing"], one["verdict"]) == ([{"first": 7, "last": 7}], verdict(3))
     assert (one["file"], one["profile"], one["passes"], one["answers"], one["date"]) == ("results", "profile", False, TOTAL, DATE)
     assert {it: one[it] for it in VERSIONS} == VERSIONS
     digests = Digests(shipped.tool, tmp_path)
@@ -212,23 +240,52 @@ def test_report_in_junit(shipped, largest, tmp_path):
     suite = xml.fromstring(given.output).find("testsuite")
     assert (given.status, suite.get("name"), suite.get("timestamp"), suite.get("failures")) == (1, "rt1553-tool acceptance", DATE, "1")
     case = suite.find("testcase")
-    assert (case.get("name"), case.get("classname")) == ("results", "profile")
-    lines = [f'results:{line}: "{name}": expected {wanted}, came {came or "nothing"}' for line, name, wanted, came in told]
-    assert case.find("failure").text.splitlines() == lines
+    assert (case.get("name"), case.get("classname"), case.get("assertions")) == ("results", "profile", str(TOTAL))
+    failure = case.find("failure")
+    assert failure.get("message") == verdict(3)
+    assert failure.text.splitlines() == [*(f"results:{it.line}: {it.text()}" for it in told), "results: no result for 7"]
+
+
+def marked(words, others):
+    """The words of a reply as a page has them: each that the other reply has not in its place is marked."""
+    return [(it, it != other) for it, other in zip(words, [*others, *[None] * 33])]
+
+
+def words_of(cell):
+    """The words in a cell, and which are marked."""
+    parts = [(cell.text, False), *(it for bold in cell for it in ((bold.text, True), (bold.tail, False)))]
+    return [(word, is_marked) for text, is_marked in parts for word in (text or "").split() if word != "none"]
 
 
 def test_report_as_page(shipped, largest, tmp_path):
     text, told = differing(largest)
     write_files(tmp_path, {"results": text})
     given = report(shipped.tool, tmp_path, "html")
-    cells = [["".join(cell.itertext()) for cell in row] for row in xml.fromstring(given.output).iter(f"{HTML}tr")]
-    rows = [[str(line), f'"{name}"', wanted, came or "nothing"] for line, name, wanted, came in told]
-    assert (given.status, [it for it in cells if it in rows]) == (1, rows)
+    page = xml.fromstring(given.output)
+    rows = [list(row) for row in page.iter(f"{HTML}tr") if len(list(row)) == 7 and row[0].tag == f"{HTML}td"]
+    assert [["".join(cell.itertext()) for cell in row[:5]] for row in rows] == [[str(it) for it in (one.line, one.number, one.tries, one.command, one.word)] for one in told]
+    assert [[words_of(row[5]), words_of(row[6])] for row in rows] == [[marked(one.expected, one.came), marked(one.came, one.expected)] for one in told]
+    texts = ["".join(it.itertext()) for it in page.iter(f"{HTML}p")]
+    assert (given.status, texts, page.find(f".//{HTML}h1").text) == (1, [verdict(3), "no result for 7"], f"Acceptance test of a unit: {verdict(3)}")
+
+
+def test_report_with_names(shipped, largest, tmp_path):
+    """Each format has the name of the message, or that it has none; the verdict stays."""
+    text, told = differing(largest)
+    table = "kind,value,code,name\naddress,5,,\nmode,,2,<status>\n"
+    write_files(tmp_path, {"results": text, "names": table})
+    words = ("--names", "names")
+    (one,) = objects_of(report(shipped.tool, tmp_path, "json", *words).output.decode())
+    assert (misfits(one, "docs/verify.schema.json"), [it["name"] for it in one["differences"]]) == ([], ["<status>", None, None])
+    failure = xml.fromstring(report(shipped.tool, tmp_path, "junit", *words).output).find(".//failure")
+    assert failure.text.splitlines()[0] == f'results:3: {told[0].text().replace("2: ", "2: " + chr(34) + "<status>" + chr(34) + ": ", 1)}'
+    rows = [list(row) for row in xml.fromstring(report(shipped.tool, tmp_path, "html", *words).output).iter(f"{HTML}tr") if len(list(row)) == 8]
+    assert ["".join(row[2].itertext()) for row in rows[1:]] == ['"<status>"', "", ""]
 
 
 @pytest.mark.parametrize("form", ["json", "junit", "html"])
 def test_report_of_the_same(shipped, largest, form, tmp_path):
-    write_files(tmp_path, {"results": table_of(largest)})
+    write_files(tmp_path, {"results": filled_of(largest)})
     given = report(shipped.tool, tmp_path, form)
     passed = {"json": b'"passes":true', "junit": b'failures="0" errors="0"', "html": b"None: every file passes."}
     assert (given.status, given.errors, passed[form] in given.output) == (0, b"", True)
@@ -239,8 +296,17 @@ def test_report_of_any_subsystem(shipped, largest, tmp_path):
     results = {**results_in(largest), number: ("2c00",)}
     write_files(tmp_path, {"results": results_text(results)})
     (one,) = objects_of(report(shipped.tool, tmp_path, "json", "--any-subsystem").output.decode())
-    told = [(number + 1, f"{number}: {largest[number - 1].tries}", "2800 as word 1", "2c00")]
-    assert [(it["line"], it["name"], it["expected"], it["came"]) for it in one["differences"]] == told
+    told = Told(number + 1, number, largest[number - 1].command, largest[number - 1].tries, 1, ["2800"], ["2c00"])
+    assert [Told(**it) for it in one["differences"]] == [told]
+    assert one["verdict"] == f"no behaviour of the subsystem explains exchange {number} of {TOTAL}: it is another terminal"
+
+
+def test_missing_rows_of_any_subsystem(shipped, largest, tmp_path):
+    results = results_in(largest)
+    del results[9], results[12]
+    write_files(tmp_path, {"results": results_text(results)})
+    told = f"no result for 9\nno result for 12\n2 of {TOTAL} exchanges have no result, and from 9 on nothing is judged: no verdict\n"
+    assert run(shipped.tool, *AGAINST, "--any-subsystem", folder=tmp_path) == Given(1, told.encode(), b"")
 
 
 # ---- files that fail, and progress

@@ -110,6 +110,7 @@ ACCEPTANCE = rows_of(
     },
     ("acceptance --names table five", 0, 0), ("acceptance --names table --format csv five", 0, 0),
     ("acceptance --names table --format json five", 0, 0), ("acceptance --names table --against replies five", 0, 1),
+    *((f"acceptance --names table --against replies --format {it} five", 0, 1) for it in ("json", "junit", "html")),
     characters=["\x1b", "\x85", "\u202e", "\n"],
 )  # fmt: skip
 ROWS = ABSENT + REFUSED + NAMES + ARGUMENTS + PROFILES + TABLES + SCRIPTS + ACCEPTANCE

@@ -159,14 +159,14 @@ JUNIT = """\
 <property name="toolchain" value="{kit}"/>
 <property name="canonical" value="2"/>
 </properties>
-<testcase name="good" classname="five" time="0">
+<testcase name="good" classname="five" assertions="1" time="0">
 <properties>
 <property name="sha256" value="{good}"/>
 {profile}<property name="clause" value="5.2.1"/>
 <property name="clause" value="5.2.1.1"/>
 </properties>
 </testcase>
-<testcase name="wrong" classname="five" time="0">
+<testcase name="wrong" classname="five" assertions="3" time="0">
 <properties>
 <property name="sha256" value="{wrong}"/>
 {profile}<property name="clause" value="5.2.1"/>

@@ -6,12 +6,11 @@ use Rattle.rt1553_report.specs.declared.head.NamesTable.{NamesTable}
 use Rattle.rt1553_report.specs.declared.head.ReportHead.{ReportHead}
 use Rattle.report_pages.specs.declared.page.TestedProfile.{TestedProfile}
 use Rattle.rt1553_report.specs.declared.result.ScriptOutcome.{ScriptOutcome}
-use Rattle.rt1553_report.specs.declared.result.ScriptOutcome.TheVariants.{Played, NotPlayed}
 use Rattle.rt1553_report.specs.declared.result.ScriptResult.{ScriptResult}
 use Rattle.report_pages.specs.CoveragePage.{AreRowsOf, IsFileRow}
 use Rattle.report_pages.specs.Fields.{count_field}
 use Rattle.rt1553_report.specs.Pieces.{AddsPiece}
-use Rattle.rt1553_report.specs.Results.{outcome_passes, outcome_fails}
+use Rattle.rt1553_report.specs.Results.{outcome_answers, outcome_passes, outcome_fails}
 use Rattle.rt1553_report.specs.Shown.{StandsFor}
 
 -- a digest in a field, on a line of its own
@@ -57,10 +56,10 @@ verdict_field outcome =
     else if outcome_fails outcome then codes "<td class=\"differs\">differs</td>"
     else codes "<td class=\"differs\">not played</td>"
 
--- how many answers it states: nothing for one that was not played
-abbrev pub answers_field : ScriptOutcome → List ℕ
-answers_field (Played answers warning wrong names rules drawing) = count_field answers
-answers_field (NotPlayed reason) = codes "<td></td>"
+-- how many answers it states, or exchanges the test of a unit has: nothing for one that was not played
+abbrev pub answers_field : Option ℕ → List ℕ
+answers_field (Some answers) = count_field answers
+answers_field None = codes "<td></td>"
 
 -- a clause in a field, on a line of its own
 abbrev pub IsClauseLine : List ℕ → List ℕ → Type 0
@@ -84,7 +83,7 @@ unfoldable pub IsScriptRow : ScriptResult → List ℕ → Type 0
 IsScriptRow of row =
     (file profile clauses : List ℕ) × StandsFor (string_bytes of.file) file × IsProfileField (option_map string_bytes of.profile) profile
     × AreRowsOf (λ c. IsClauseLine c.items) of.clauses.items clauses
-    × (row ≡ codes "<tr><th scope=\"row\">" ++ file ++ codes "</th>" ++ profile ++ verdict_field of.outcome ++ answers_field of.outcome
+    × (row ≡ codes "<tr><th scope=\"row\">" ++ file ++ codes "</th>" ++ profile ++ verdict_field of.outcome ++ answers_field (outcome_answers of.outcome)
     ++ codes "<td>" ++ clauses ++ codes "</td>" ++ digest_field of.digests.script ++ codes "</tr>\n")
 
 unfoldable pub scripts_head : List ℕ

@@ -2,7 +2,7 @@
 ghost use Rattle.std.specs.Prelude.{◌≡◌, ℕ, List, Some, IfOk, OnOk, map, option_map, string_bytes};
 ghost use Rattle.report_pages.specs.CoveragePage.{AreRowsOf};
 ghost use Rattle.rt1553_report.specs.Pieces.{AddsPiece};
-ghost use Rattle.rt1553_report.specs.Results.{outcome_passes};
+ghost use Rattle.rt1553_report.specs.Results.{outcome_answers, outcome_passes};
 ghost use Rattle.report_pages.specs.ResultsPage.{AreHeadRows, IsClauseLine, IsDateRow, IsDigestRow, IsNamesRow, IsProfileField, IsProfileRow, IsResultsPage, IsScriptRow, answers_field, digest_cell, digest_field, digest_line, digest_told, verdict_field};
 
 use crate::fields::{push_count_field, push_count_row, push_file_row};
@@ -11,9 +11,9 @@ use drawing_boxes::push_escaped;
 use message_names::quoted;
 use rt1553_draw::{MOST_STATED, push_front, push_keys};
 use rt1553_report::{
-    AnswerNames, FileDigests, NamesTable, ReportHead, Scope, ScopeRow, ScriptOutcome, ScriptResult,
-    TriedScript, answer_told, clause_rows, name_at, push_digest, push_markup, push_shown,
-    totals_of,
+    AnswerNames, FileDigests, NamesTable, ReplyDifference, ReportHead, Scope, ScopeRow,
+    ScriptOutcome, ScriptResult, TriedScript, UnitVerdict, answer_told, clause_rows, name_at,
+    push_digest, push_markup, push_shown, totals_of,
 };
 use rt1553_verify::WrongAnswer;
 use std::alloc::{AllocError, Global};
@@ -22,6 +22,13 @@ use std::format;
 /// How the table of scripts begins.
 const SCRIPTS_HEAD: &str =
     "<h2>Files</h2>\n<table>\n<thead><tr><th scope=\"col\">file</th><th scope=\"col\">profile</th><th scope=\"col\">result</th><th scope=\"col\">answers</th><th scope=\"col\">clauses</th><th scope=\"col\">SHA-256</th></tr></thead>\n<tbody>\n";
+
+/// How the table of replies that differ begins, up to the names of messages, and from there on.
+const DIFFERENCES_HEAD: &str =
+    "<table>\n<thead><tr><th scope=\"col\">line</th><th scope=\"col\">exchange</th>";
+
+const REPLIES_HEAD: &str =
+    "<th scope=\"col\">tries</th><th scope=\"col\">command</th><th scope=\"col\">word</th><th scope=\"col\">expected</th><th scope=\"col\">came</th></tr></thead>\n<tbody>\n";
 
 /// A profile by which scripts were tested.
 #[derive(Clone, Copy)]
@@ -213,9 +220,7 @@ fn push_head(alloc: Global, page: &mut String, head: ReportHead<'_>) -> Result<(
 fn answers_of(results: &[ScriptResult]) -> usize {
     let mut all = 0usize;
     for of in results {
-        if let ScriptOutcome::Played { answers, .. } = &of.outcome {
-            all = all.saturating_add(*answers);
-        }
+        all = all.saturating_add(of.outcome.answers().unwrap_or(0));
     }
     all
 }
@@ -231,12 +236,22 @@ fn push_sums(page: &mut String, results: &[ScriptResult]) -> Result<(), AllocErr
     push_count_row(page, "answers stated", answers_of(results))
 }
 
-/// The rows of `push_sums`, and the table clause by clause.
+/// The verdict on a unit, where its results are all that was judged.
+fn verdict_in(results: &[ScriptResult]) -> Option<&str> {
+    match results {
+        [one] => one.outcome.verdict(),
+        _ => None,
+    }
+}
+
+/// The rows of `push_sums`, and the table clause by clause; a table of results names no clause.
 fn sums_text(alloc: Global, results: &[ScriptResult]) -> Result<String, AllocError> {
     let mut text = String::new(alloc);
     push_sums(&mut text, results)?;
     push_markup(&mut text, "</table>\n")?;
-    push_clauses(alloc, &mut text, results)?;
+    if verdict_in(results).is_none() {
+        push_clauses(alloc, &mut text, results)?;
+    }
     Ok(text)
 }
 
@@ -293,11 +308,11 @@ fn push_verdict(page: &mut String, outcome: &ScriptOutcome) -> Result<(), AllocE
 
 /// Writes how many answers a script states; nothing for one that was not played.
 fn push_count(page: &mut String, outcome: &ScriptOutcome) -> Result<(), AllocError>
-    ensures { OnOk result (AddsPiece (string_bytes page.old) (string_bytes page.new) (answers_field outcome.now)) }
+    ensures { OnOk result (AddsPiece (string_bytes page.old) (string_bytes page.new) (answers_field (outcome_answers outcome.now))) }
 {
-    match outcome {
-        ScriptOutcome::Played { answers, .. } => push_count_field(page, *answers as u64),
-        ScriptOutcome::NotPlayed(_) => push_markup(page, "<td></td>"),
+    match outcome.answers() {
+        Some(answers) => push_count_field(page, answers as u64),
+        None => push_markup(page, "<td></td>"),
     }
 }
 
@@ -424,6 +439,15 @@ fn push_wrong_head(page: &mut String, has_names: bool, has_rules: bool) -> Resul
     )
 }
 
+/// Writes the name of a message in a field, empty for none.
+fn push_name_field(alloc: Global, page: &mut String, name: Option<&str>) -> Result<(), AllocError> {
+    page.push_str("<td>")?;
+    if let Some(name) = name {
+        push_escaped(page, quoted(alloc, name)?.as_str())?;
+    }
+    page.push_str("</td>")
+}
+
 /// Writes the name of the message of an event, where there are names.
 fn push_message(
     alloc: Global,
@@ -434,11 +458,7 @@ fn push_message(
     if names.is_none() {
         return Ok(());
     }
-    page.push_str("<td>")?;
-    if let Some(name) = name_at(names, index) {
-        push_escaped(page, quoted(alloc, name)?.as_str())?;
-    }
-    page.push_str("</td>")
+    push_name_field(alloc, page, name_at(names, index))
 }
 
 /// Writes the rule under which an event stands, where there are rules.
@@ -488,6 +508,89 @@ fn push_drawing(
     }
 }
 
+/// Writes a word of a reply. One in place of which the other reply has another, or none, is marked.
+fn push_word(page: &mut String, word: u16, is_same: bool) -> Result<(), AllocError> {
+    if is_same {
+        write!(page, "{word:04x} ")
+    } else {
+        write!(page, "<b class=\"differs\">{word:04x}</b> ")
+    }
+}
+
+/// Writes the words of a reply, beside which stands the other one.
+fn push_reply(page: &mut String, reply: &[u16], other: &[u16]) -> Result<(), AllocError> {
+    page.push_str("<td class=\"line\">")?;
+    for (index, word) in reply.iter().enumerate() {
+        push_word(page, *word, other.get(index) == Some(word))?;
+    }
+    page.push_str(if reply.is_empty() {
+        "none</td>"
+    } else {
+        "</td>"
+    })
+}
+
+/// Writes the row of a reply that is not that of the terminal.
+fn push_difference(
+    alloc: Global,
+    page: &mut String,
+    one: &ReplyDifference,
+    has_names: bool,
+) -> Result<(), AllocError> {
+    let reply = &one.reply;
+    write!(
+        page,
+        "<tr><td class=\"count\">{}</td><td class=\"count\">{}</td>",
+        one.line, reply.number
+    )?;
+    if has_names {
+        push_name_field(alloc, page, one.name.as_ref().map(|name| name.as_str()))?;
+    }
+    write!(
+        page,
+        "<td>{}</td><td class=\"line\">{:04x}</td><td class=\"count\">{}</td>",
+        reply.label.as_str(),
+        reply.command,
+        reply.differing_word()
+    )?;
+    push_reply(page, reply.expected.as_slice(), reply.came.as_slice())?;
+    push_reply(page, reply.came.as_slice(), reply.expected.as_slice())?;
+    page.push_str("</tr>\n")
+}
+
+/// Writes each reply that is not that of the terminal.
+fn push_differences(
+    alloc: Global,
+    page: &mut String,
+    unit: &UnitVerdict,
+) -> Result<(), AllocError> {
+    page.push_str(DIFFERENCES_HEAD)?;
+    page.push_str(if unit.has_names {
+        "<th scope=\"col\">message</th>"
+    } else {
+        ""
+    })?;
+    page.push_str(REPLIES_HEAD)?;
+    for one in unit.differences.as_slice() {
+        push_difference(alloc, page, one, unit.has_names)?;
+    }
+    page.push_str("</tbody>\n</table>\n")
+}
+
+/// Writes what the results of a unit tell of it.
+fn push_unit(alloc: Global, page: &mut String, unit: &UnitVerdict) -> Result<(), AllocError> {
+    page.push_str("<p>")?;
+    push_escaped(page, unit.text.as_str())?;
+    page.push_str("</p>\n")?;
+    if !unit.differences.is_empty() {
+        push_differences(alloc, page, unit)?;
+    }
+    for numbers in unit.missing.as_slice() {
+        writeln!(page, "<p class=\"differs\">{numbers}</p>")?;
+    }
+    Ok(())
+}
+
 /// Writes what came of a script that does not pass.
 fn push_result(alloc: Global, page: &mut String, of: &ScriptResult) -> Result<(), AllocError> {
     page.push_str("<h3>")?;
@@ -499,6 +602,7 @@ fn push_result(alloc: Global, page: &mut String, of: &ScriptResult) -> Result<()
             push_escaped(page, reason.as_str())?;
             page.push_str("</p>\n")
         }
+        ScriptOutcome::Judged(unit) => push_unit(alloc, page, unit),
         ScriptOutcome::Played {
             answers,
             wrong,
@@ -584,8 +688,11 @@ fn failures_text(alloc: Global, results: &[ScriptResult]) -> Result<String, Allo
     Ok(text)
 }
 
-/// The title of the page.
+/// The title of the page: the verdict on a unit, or how many files pass.
 fn title_of(alloc: Global, results: &[ScriptResult]) -> Result<String, AllocError> {
+    if let Some(verdict) = verdict_in(results) {
+        return format!(in alloc; "Acceptance test of a unit: {verdict}");
+    }
     let totals = totals_of(results);
     let failed = totals.failures.saturating_add(totals.errors);
     let passed = totals.tests.saturating_sub(failed);

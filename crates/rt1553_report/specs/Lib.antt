@@ -1,3 +1,4 @@
+pub mod Unit
 pub mod Results
 pub mod Clauses
 pub mod Shown

@@ -7,9 +7,11 @@ ghost use Rattle.rt1553_report.specs.inner.Lines.{IsLineOf};
 use crate::head::{ReportHead, digest_text};
 use crate::result::{AnswerNames, ScriptOutcome, ScriptResult};
 use crate::told::answer_told;
+use crate::unit::{ReplyDifference, UnitVerdict};
 use ascii_json::in_ascii;
 use message_names::owned;
 use rt1553_files::escaped;
+use rt1553_results::{NumberRange, word_string, word_strings};
 use rt1553_verify::WrongAnswer;
 use serde::Serialize;
 use std::alloc::{AllocError, Global};
@@ -27,7 +29,40 @@ struct WrongEntry {
     came: Option<String>,
 }
 
-/// What came of a script.
+/// A reply of a unit that is not that of the terminal.
+#[derive(Drop, Serialize)]
+struct ReplyEntry {
+    line: u64,
+    /// The number of its exchange, from 1.
+    number: u32,
+    /// The name of its message, null for none; left out where there are no names.
+    #[serde(skip_serializing_if = "Option::is_none")]
+    name: Option<Option<String>>,
+    command: String,
+    /// What the exchange tries.
+    tries: String,
+    /// The number of the first word that differs, from 1.
+    word: usize,
+    expected: Vec<String>,
+    came: Vec<String>,
+}
+
+/// What differs.
+#[derive(Drop, Serialize)]
+#[serde(untagged)]
+enum ReportedDifference {
+    Answer(WrongEntry),
+    Reply(ReplyEntry),
+}
+
+/// Numbers of exchanges without a result, one after the other.
+#[derive(Drop, Serialize)]
+struct MissingEntry {
+    first: u32,
+    last: u32,
+}
+
+/// What came of a script, or of the results of a unit.
 #[derive(Drop, Serialize)]
 struct ResultLine<'a> {
     file: &'a str,
@@ -39,7 +74,12 @@ struct ResultLine<'a> {
     /// Null where there is nothing to warn of.
     warning: Option<&'static str>,
     clauses: Vec<String>,
-    differences: Vec<WrongEntry>,
+    differences: Vec<ReportedDifference>,
+    /// Left out where no results of a unit were judged; the same of the verdict.
+    #[serde(skip_serializing_if = "Option::is_none")]
+    missing: Option<Vec<MissingEntry>>,
+    #[serde(skip_serializing_if = "Option::is_none")]
+    verdict: Option<&'a str>,
     /// Null where the script was played.
     fault: Option<&'a str>,
     /// Null where the file was not read; the same of the other digests.
@@ -86,18 +126,89 @@ fn wrong_lines(
     wrong: &[WrongAnswer],
     names: &Option<AnswerNames>,
     rules: &AnswerNames,
-) -> Result<Vec<WrongEntry>, AllocError> {
+) -> Result<Vec<ReportedDifference>, AllocError> {
     let mut lines = Vec::new(alloc);
     for (index, one) in wrong.iter().enumerate() {
-        lines.push(WrongEntry {
+        lines.push(ReportedDifference::Answer(WrongEntry {
             line: one.line,
             name: name_entry(alloc, names, index)?,
             rule: owned(alloc, rules.at(index))?,
             expected: answer_told(alloc, one.expected.as_slice())?,
             came: answer_told(alloc, one.came.as_slice())?,
+        }))?;
+    }
+    Ok(lines)
+}
+
+/// A reply that is not that of the terminal, with the name of its message, where there are names.
+fn reply_entry(
+    alloc: Global,
+    one: &ReplyDifference,
+    has_names: bool,
+) -> Result<ReplyEntry, AllocError> {
+    let name = match &one.name {
+        Some(name) => Some(String::from_str(alloc, name.as_str())?),
+        None => None,
+    };
+    Ok(ReplyEntry {
+        line: one.line,
+        number: one.reply.number,
+        name: has_names.then_some(name),
+        command: word_string(alloc, one.reply.command)?,
+        tries: String::from_str(alloc, one.reply.label.as_str())?,
+        word: one.reply.differing_word(),
+        expected: word_strings(alloc, one.reply.expected.as_slice())?,
+        came: word_strings(alloc, one.reply.came.as_slice())?,
+    })
+}
+
+/// Each reply of a unit that is not that of the terminal.
+fn reply_lines(alloc: Global, unit: &UnitVerdict) -> Result<Vec<ReportedDifference>, AllocError> {
+    let mut lines = Vec::new(alloc);
+    for one in unit.differences.as_slice() {
+        lines.push(ReportedDifference::Reply(reply_entry(alloc, one, unit.has_names)?))?;
+    }
+    Ok(lines)
+}
+
+/// What differs.
+fn differences_of(
+    alloc: Global,
+    outcome: &ScriptOutcome,
+) -> Result<Vec<ReportedDifference>, AllocError> {
+    match outcome {
+        ScriptOutcome::Played {
+            wrong,
+            names,
+            rules,
+            ..
+        } => wrong_lines(alloc, wrong.as_slice(), names, rules),
+        ScriptOutcome::Judged(unit) => reply_lines(alloc, unit),
+        ScriptOutcome::NotPlayed(_) => Ok(Vec::new(alloc)),
+    }
+}
+
+/// The exchanges without a result.
+fn missing_lines(alloc: Global, missing: &[NumberRange]) -> Result<Vec<MissingEntry>, AllocError> {
+    let mut lines = Vec::new(alloc);
+    for numbers in missing {
+        lines.push(MissingEntry {
+            first: numbers.first,
+            last: numbers.last(),
         })?;
     }
     Ok(lines)
+}
+
+/// The same of an outcome, where results of a unit were judged.
+fn missing_of(
+    alloc: Global,
+    outcome: &ScriptOutcome,
+) -> Result<Option<Vec<MissingEntry>>, AllocError> {
+    match outcome {
+        ScriptOutcome::Judged(unit) => Ok(Some(missing_lines(alloc, unit.missing.as_slice())?)),
+        _ => Ok(None),
+    }
 }
 
 /// The result of a script as it is written.
@@ -108,29 +219,17 @@ fn line_of<'a>(
 ) -> Result<ResultLine<'a>, AllocError>
     ensures { IfOk result (λ line. IsLineOf head.entry of.entry.now line) }
 {
-    let (answers, differences, fault) = match &of.outcome {
-        ScriptOutcome::Played {
-            answers,
-            wrong,
-            names,
-            rules,
-            ..
-        } => (
-            Some(*answers),
-            wrong_lines(alloc, wrong.as_slice(), names, rules)?,
-            None,
-        ),
-        ScriptOutcome::NotPlayed(reason) => (None, Vec::new(alloc), Some(reason.as_str())),
-    };
     Ok(ResultLine {
         file: of.file.as_str(),
         profile: of.profile.as_ref().map(|name| name.as_str()),
         passes: of.outcome.passes(),
-        answers,
+        answers: of.outcome.answers(),
         warning: of.outcome.warning(),
         clauses: clauses_told(alloc, of.clauses.as_slice())?,
-        differences,
-        fault,
+        differences: differences_of(alloc, &of.outcome)?,
+        missing: missing_of(alloc, &of.outcome)?,
+        verdict: of.outcome.verdict(),
+        fault: of.outcome.fault(),
         sha256: digest_text(alloc, of.digests.script)?,
         profile_sha256: digest_text(alloc, of.digests.profile)?,
         canonical_sha256: digest_text(alloc, of.digests.canonical)?,

@@ -6,7 +6,9 @@ ghost use Rattle.rt1553_report.specs.Junit.{AreNamesProperties, AreSuiteProperti
 use crate::head::{FileDigests, NamesTable, ReportHead, push_digest};
 use crate::result::{AnswerNames, ScriptOutcome, ScriptResult, Totals, name_at, totals_of};
 use crate::told::{difference_told, push_markup, push_shown};
+use crate::unit::{ReplyDifference, UnitVerdict};
 use drawing_boxes::push_escaped;
+use rt1553_results::NumberRange;
 use rt1553_verify::WrongAnswer;
 use std::alloc::{AllocError, Global};
 use std::format;
@@ -176,6 +178,54 @@ fn push_wrong(
     Ok(())
 }
 
+/// Writes the lines of a failure: one for each reply that is not that of the terminal.
+fn push_replies(
+    alloc: Global,
+    text: &mut String,
+    file: &str,
+    replies: &[ReplyDifference],
+) -> Result<(), AllocError> {
+    for one in replies {
+        push_shown(alloc, text, file.as_bytes())?;
+        write!(text, ":{}: ", one.line)?;
+        push_escaped(text, one.told(alloc)?.as_str())?;
+        text.push_str("\n")?;
+    }
+    Ok(())
+}
+
+/// The same of exchanges without a result.
+fn push_missing(
+    alloc: Global,
+    text: &mut String,
+    file: &str,
+    missing: &[NumberRange],
+) -> Result<(), AllocError> {
+    for numbers in missing {
+        push_shown(alloc, text, file.as_bytes())?;
+        writeln!(text, ": {numbers}")?;
+    }
+    Ok(())
+}
+
+/// Writes what the results of a unit tell of it: nothing where it passes.
+fn push_unit(
+    alloc: Global,
+    text: &mut String,
+    file: &str,
+    unit: &UnitVerdict,
+) -> Result<(), AllocError> {
+    if unit.passes() {
+        return Ok(());
+    }
+    text.push_str("<failure message=\"")?;
+    push_escaped(text, unit.text.as_str())?;
+    text.push_str("\">")?;
+    push_replies(alloc, text, file, unit.differences.as_slice())?;
+    push_missing(alloc, text, file, unit.missing.as_slice())?;
+    text.push_str("</failure>\n")
+}
+
 /// Writes what came of a script: nothing where it passes.
 fn push_outcome(alloc: Global, text: &mut String, of: &ScriptResult) -> Result<(), AllocError> {
     match &of.outcome {
@@ -184,6 +234,7 @@ fn push_outcome(alloc: Global, text: &mut String, of: &ScriptResult) -> Result<(
             push_escaped(text, reason.as_str())?;
             text.push_str("\"/>\n")
         }
+        ScriptOutcome::Judged(unit) => push_unit(alloc, text, of.file.as_str(), unit),
         ScriptOutcome::Played {
             wrong,
             names,
@@ -223,6 +274,9 @@ fn push_case(alloc: Global, text: &mut String, of: &ScriptResult) -> Result<(), 
     match &of.profile {
         Some(profile) => push_shown(alloc, text, profile.as_str().as_bytes())?,
         None => text.push_str("no profile")?,
+    }
+    if let Some(answers) = of.outcome.answers() {
+        write!(text, "\" assertions=\"{answers}")?;
     }
     text.push_str("\" time=\"0\">\n")?;
     push_properties(alloc, text, of)?;

@@ -7,6 +7,7 @@ mod json;
 mod junit;
 mod result;
 mod told;
+mod unit;
 
 pub use clauses::{Scope, ScopeRow, ScriptCount, TriedScript, clause_rows, clauses_in};
 pub use head::{FileDigests, NamesTable, ReportHead, push_digest};
@@ -14,3 +15,4 @@ pub use json::result_json;
 pub use junit::junit_report;
 pub use result::{AnswerNames, ScriptOutcome, ScriptResult, Totals, name_at, totals_of};
 pub use told::{answer_told, difference_told, push_markup, push_shown};
+pub use unit::{ReplyDifference, UnitVerdict};

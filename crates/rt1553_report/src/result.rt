@@ -1,8 +1,9 @@
 //! What came of scripts that state their answers.
-ghost use Rattle.std.specs.Prelude.{◌≡◌, length, filter};
-ghost use Rattle.rt1553_report.specs.Results.{outcome_passes, outcome_fails, outcome_is_missing, totals_of};
+ghost use Rattle.std.specs.Prelude.{◌≡◌, length, filter, option_map};
+ghost use Rattle.rt1553_report.specs.Results.{outcome_answers, outcome_fault, outcome_passes, outcome_fails, outcome_is_missing, outcome_verdict, totals_of};
 
 use crate::head::FileDigests;
+use crate::unit::UnitVerdict;
 use rt1553_verify::{ScriptWarning, WrongAnswer};
 
 /// A name for each event that was not answered as stated, in their order, of its message or of its rule; None where one has none.
@@ -47,27 +48,31 @@ pub enum ScriptOutcome {
         /// The messages in which these events stand, drawn for a page: empty where there is nothing to draw, and None where there is too much.
         drawing: Option<String>,
     },
+    /// It is a table of the results of a unit, which were judged by the acceptance test.
+    Judged(UnitVerdict),
     /// It can't be read or is refused, for this reason: one line.
     NotPlayed(String),
 }
 
 impl ScriptOutcome {
-    /// Whether it was played, and each event was answered as stated.
+    /// Whether it was played, and each event was answered as stated; or the unit is the terminal, or can be.
     pub fn passes(&self) -> bool
         ensures { result ≡ outcome_passes self.now }
     {
         match self {
             ScriptOutcome::Played { wrong, .. } => wrong.is_empty(),
+            ScriptOutcome::Judged(unit) => unit.passes(),
             ScriptOutcome::NotPlayed(_) => false,
         }
     }
 
-    /// Whether it was played, and an event was not answered as stated.
+    /// Whether it was played, and an event was not answered as stated; or a result of the unit differs or is missing.
     pub fn fails(&self) -> bool
         ensures { result ≡ outcome_fails self.now }
     {
         match self {
             ScriptOutcome::Played { wrong, .. } => !wrong.is_empty(),
+            ScriptOutcome::Judged(unit) => !unit.passes(),
             ScriptOutcome::NotPlayed(_) => false,
         }
     }
@@ -89,7 +94,39 @@ impl ScriptOutcome {
     {
         match self {
             ScriptOutcome::Played { .. } => false,
+            ScriptOutcome::Judged(_) => false,
             ScriptOutcome::NotPlayed(_) => true,
+        }
+    }
+
+    /// How many answers it states, or exchanges the acceptance test has. None where it was not played.
+    pub fn answers(&self) -> Option<usize>
+        ensures { result ≡ outcome_answers self.now }
+    {
+        match self {
+            ScriptOutcome::Played { answers, .. } => Some(*answers),
+            ScriptOutcome::Judged(unit) => Some(unit.exchanges as usize),
+            ScriptOutcome::NotPlayed(_) => None,
+        }
+    }
+
+    /// The verdict on a unit, where its results were judged.
+    pub fn verdict(&self) -> Option<&str>
+        ensures { option_map (λ t. t.now) result ≡ outcome_verdict self.now }
+    {
+        match self {
+            ScriptOutcome::Judged(unit) => Some(unit.text.as_str()),
+            _ => None,
+        }
+    }
+
+    /// Why it was not played, where it was not.
+    pub fn fault(&self) -> Option<&str>
+        ensures { option_map (λ t. t.now) result ≡ outcome_fault self.now }
+    {
+        match self {
+            ScriptOutcome::NotPlayed(reason) => Some(reason.as_str()),
+            _ => None,
         }
     }
 }

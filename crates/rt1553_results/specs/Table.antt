@@ -36,7 +36,7 @@ table_writer = with_terminator default_writer CRLF
 
 -- the names of the columns
 abbrev pub columns : List (List ℕ)
-columns = codes "number" ∷ codes "tries" ∷ codes "command" ∷ codes "data" ∷ codes "reply" ∷ codes "handed" ∷ []
+columns = codes "number" ∷ codes "tries" ∷ codes "command" ∷ codes "data" ∷ codes "expected" ∷ codes "handed" ∷ []
 
 -- the fields of row number n, of the terminal of P
 abbrev pub csv_fields : Description → ℕ → Answered → List (List ℕ)

@@ -1,5 +1,6 @@
 //! What a comparison of results tells.
 ghost use Rattle.std.specs.Prelude.{◌≡◌, ◌↔◌, ◌≤◌, [], map, IsTrue};
+ghost use Rattle.rt1553_results.specs.Differing.{DiffersFirstAt};
 
 use arrayvec::{ArrayString, ArrayVec};
 
@@ -38,9 +39,36 @@ pub struct Comparison {
     pub missing: Vec<NumberRange>,
 }
 
+/// The index, from 0, of the first word in which two replies differ; their length where they are the same.
+fn first_difference(expected: &[u16], came: &[u16]) -> usize
+    ensures { DiffersFirstAt expected.now came.now result }
+{
+    for (index, word) in expected.iter().enumerate() {
+        if came.get(index) != Some(word) {
+            return index;
+        }
+    }
+    expected.len()
+}
+
+impl WrongReply {
+    ghost use Rattle.rt1553_results.specs.Differing.{IsDifferingWord};
+
+    /// The number, from 1, of the first word that differs. It may be one that did not come, or that was not expected.
+    pub fn differing_word(&self) -> usize
+        ensures { IsDifferingWord self.now.expected.items self.now.came.items result }
+    {
+        first_difference(self.expected.as_slice(), self.came.as_slice()) + 1
+    }
+}
+
 impl NumberRange {
+    ghost use Rattle.std.specs.Prelude.{◌≡◌, ◌+◌, ◌<◌, ◌^◌};
+
     /// The last of them.
-    pub(crate) fn last(&self) -> u32 {
+    pub fn last(&self) -> u32
+        ensures { self.now.first + self.now.count < 2 ^ 32 → result + 1 ≡ self.now.first + self.now.count }
+    {
         self.first.saturating_add(self.count - 1)
     }
 }

@@ -1,5 +1,5 @@
 //! Whether some behaviour of the subsystem explains the results of a unit.
-ghost use Rattle.std.specs.Prelude.{◌≡◌, ◌++◌, ℕ, List, Some, IfOk, IfErr, OnOk, length};
+ghost use Rattle.std.specs.Prelude.{◌≡◌, ◌≤◌, ◌<◌, ◌++◌, ℕ, List, Some, IfOk, IfErr, OnOk, length, take, option_map, option_to_list};
 ghost use Rattle.bus_legal.specs.Description.{Description};
 ghost use Rattle.bus_legal.specs.Parts.{description_in};
 ghost use Rattle.bus_legal.specs.Reach.{reach};
@@ -10,7 +10,7 @@ ghost use Rattle.rt1553_results.specs.ExplainedResults.{ExplainsResults, TellsMi
 ghost use Rattle.rt1553_results.specs.inner.Told.{TellsUnexplainedReply, TellsPlace};
 
 use crate::comparing::{CompareFault, beyond, miss};
-use crate::comparison::NumberRange;
+use crate::comparison::{NumberRange, WrongReply};
 use crate::playing::copied;
 use crate::results::Results;
 use crate::watching::{SLOT_LINES, watch_results};
@@ -36,6 +36,37 @@ pub struct UnexplainedReply {
     pub slot: u32,
     /// The word that can come in its place. None where none can come.
     pub possible: Option<Sent>,
+}
+
+/// The words before one of a reply, and another word in its place, if there is one.
+fn with_possible(came: &[u16], slot: u32, possible: Option<Sent>) -> ArrayVec<u16, 33>
+    requires { length came.now ≤ 33 }
+    ensures { slot < 33 → result.items ≡ take slot came.now ++ option_to_list (option_map (λ s. s.bits) possible) }
+{
+    let before = came.len().min(slot as usize);
+    let mut reply = copied(&came[..before]);
+    if let Some(sent) = possible {
+        let _ = reply.try_push(sent.bits);
+    }
+    reply
+}
+
+impl UnexplainedReply {
+    ghost use Rattle.std.specs.Prelude.{◌≡◌, ◌<◌, ◌++◌, take, option_map, option_to_list};
+
+    /// The reply as one in place of which another was expected: the words before the one that is not explained, and the one that can come.
+    pub fn wrong(self) -> WrongReply
+        ensures same { (result.number ≡ self.number) × (result.command ≡ self.command) × (result.label ≡ self.label) × (result.came ≡ self.came) }
+        ensures expected { self.slot < 33 → result.expected.items ≡ take self.slot self.came.items ++ option_to_list (option_map (λ s. s.bits) self.possible) }
+    {
+        WrongReply {
+            number: self.number,
+            command: self.command,
+            label: self.label,
+            expected: with_possible(self.came.as_slice(), self.slot, self.possible),
+            came: self.came,
+        }
+    }
 }
 
 /// What comes of results where the subsystem may do anything.

@@ -1,4 +1,7 @@
 //! Rows of the acceptance test as JSON.
+ghost use Rattle.std.specs.Prelude.{◌≡◌, IfOk, map, string_bytes};
+ghost use Rattle.script_lines.specs.Digits.{digits_of};
+
 use crate::playing::TestRow;
 use crate::texts::{data_words, handed_text};
 use bus_legal::Normal;
@@ -14,8 +17,8 @@ struct JsonRow {
     tries: String,
     command: String,
     data: Vec<String>,
-    /// Null where there is no reply.
-    reply: Option<Vec<String>>,
+    /// The words of the reply. Null where there is no reply.
+    expected: Option<Vec<String>>,
     /// Null where nothing is handed over.
     handed: Option<String>,
     /// The name of its message, null for none; left out where there are no names.
@@ -23,15 +26,17 @@ struct JsonRow {
     name: Option<Option<String>>,
 }
 
-/// The four hexadecimal digits of a word.
-fn word_string(alloc: Global, word: u16) -> Result<String, AllocError> {
-    let mut text = String::new(alloc);
-    write!(text, "{word:04x}")?;
-    Ok(text)
+/// The four hexadecimal digits of a word, small.
+pub fn word_string(alloc: Global, word: u16) -> Result<String, AllocError>
+    ensures { IfOk result (λ text. string_bytes text ≡ digits_of word) }
+{
+    hex::encode(alloc, word.to_be_bytes())
 }
 
 /// The digits of each word.
-fn word_strings(alloc: Global, words: &[u16]) -> Result<Vec<String>, AllocError> {
+pub fn word_strings(alloc: Global, words: &[u16]) -> Result<Vec<String>, AllocError>
+    ensures { IfOk result (λ texts. map string_bytes texts.items ≡ map digits_of words.now) }
+{
     let mut list = Vec::new(alloc);
     for word in words {
         list.push(word_string(alloc, *word)?)?;
@@ -85,7 +90,7 @@ fn line_of(
         tries: String::from_str(alloc, label.as_str())?,
         command: word_string(alloc, row.exchange.command)?,
         data: word_strings(alloc, data_words(alloc, &row.exchange)?.as_slice())?,
-        reply: reply_strings(alloc, row.reply.as_slice())?,
+        expected: reply_strings(alloc, row.reply.as_slice())?,
         handed: handed_string(alloc, row)?,
         name: name_string(alloc, name)?,
     })

@@ -21,7 +21,7 @@ pub use bus_complete_test::Exchange;
 pub use comparing::{CompareFault, compare_results};
 pub use comparison::{Comparison, NumberRange, WrongReply};
 pub use explaining::{ResultsExplained, UnexplainedReply, explain_results};
-pub use json::json_row;
+pub use json::{json_row, word_string, word_strings};
 pub use playing::{Handed, TestRow};
 pub use results::{GivenReply, Results, ResultsFault, read_results};
 pub use rows::Rows;

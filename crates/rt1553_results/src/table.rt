@@ -39,7 +39,7 @@ pub fn csv_header(alloc: Global, with_names: bool) -> Result<Vec<u8>, AllocError
         b"tries".as_slice(),
         b"command".as_slice(),
         b"data".as_slice(),
-        b"reply".as_slice(),
+        b"expected".as_slice(),
         b"handed".as_slice(),
         b"name".as_slice(),
     ];

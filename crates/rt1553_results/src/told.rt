@@ -107,11 +107,12 @@ impl fmt::Display for ResultsExplained {
                 "no behaviour of the subsystem explains exchange {} of {total}: it is another terminal",
                 first.number
             )
-        } else if !self.missing.is_empty() {
+        } else if let Some(numbers) = self.missing.as_slice().first() {
             let missing = count_of(self.missing.as_slice());
             write!(
                 f,
-                "{missing} of {total} exchanges have no result: no verdict"
+                "{missing} of {total} exchanges have no result, and from {} on nothing is judged: no verdict",
+                numbers.first
             )
         } else {
             write!(

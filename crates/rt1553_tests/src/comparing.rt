@@ -31,9 +31,9 @@ fn row_number(p: &Normal, number: u32) -> Option<TestRow> {
     None
 }
 
-/// The header and all rows.
+/// A header with the column of replies, and all rows.
 fn table(alloc: Global, p: &Normal) -> Result<Vec<u8>, AllocError> {
-    let mut text = csv_header(alloc, false)?;
+    let mut text = Vec::from_slice(alloc, b"number,tries,command,data,reply,handed\r\n")?;
     let mut rows = Rows::new(p);
     while let Some(row) = rows.next() {
         text.extend_from_slice(csv_row(alloc, p, &row, None)?.as_slice())?;
@@ -63,7 +63,7 @@ fn rows_as_csv(rt: HostRuntime) -> Result<(), Fail> {
     }
     assert_eq!(rt;
         csv_header(alloc, false)?.as_slice(),
-        b"number,tries,command,data,reply,handed\r\n".as_slice()
+        b"number,tries,command,data,expected,handed\r\n".as_slice()
     );
     assert!(rt; row_number(&p, TOTAL + 1).is_none());
     Ok(())
@@ -76,11 +76,11 @@ fn rows_as_json(rt: HostRuntime) -> Result<(), Fail> {
     let cases: [(u32, &str); 2] = [
         (
             1,
-            "{\"number\":1,\"tries\":\"broadcast transmit status word: illegal\",\"command\":\"fc02\",\"data\":[],\"reply\":null,\"handed\":null}",
+            "{\"number\":1,\"tries\":\"broadcast transmit status word: illegal\",\"command\":\"fc02\",\"data\":[],\"expected\":null,\"handed\":null}",
         ),
         (
             1028,
-            "{\"number\":1028,\"tries\":\"receive 3, 2 words: legal\",\"command\":\"2862\",\"data\":[\"0000\",\"0000\"],\"reply\":[\"2800\"],\"handed\":\"receive own 03 0000 0000\"}",
+            "{\"number\":1028,\"tries\":\"receive 3, 2 words: legal\",\"command\":\"2862\",\"data\":[\"0000\",\"0000\"],\"expected\":[\"2800\"],\"handed\":\"receive own 03 0000 0000\"}",
         ),
     ];
     for (number, text) in cases {

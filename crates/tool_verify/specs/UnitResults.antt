@@ -1,19 +1,18 @@
 -- What comes of the results of a unit, and how a report has it.
-use Rattle.std.specs.Prelude.{ℕ, ◌≡◌, Bool, true, false, List, [], ◌++◌, codes, length, map, Option, None, Some}
+use Rattle.std.specs.Prelude.{ℕ, ◌≡◌, Bool, true, false, List, [], map, None, option_to_list}
 use Rattle.std.specs.Option.{unwrap_or}
 use Rattle.bus_legal.specs.Description.{Description}
 use Rattle.bus_legal.specs.Reach.{reach}
-use Rattle.rt1553_report.specs.declared.result.ScriptOutcome.{ScriptOutcome}
-use Rattle.rt1553_report.specs.declared.result.ScriptOutcome.TheVariants.{Played, NotPlayed}
+use Rattle.rt1553_report.specs.declared.unit.ReplyDifference.{ReplyDifference}
+use Rattle.rt1553_report.specs.declared.unit.UnitVerdict.{UnitVerdict}
 use Rattle.rt1553_results.specs.Asked.{AsksTheTest}
 use Rattle.rt1553_results.specs.Compare.{ToldReply, told_reply, numbers_in, Compares}
 use Rattle.rt1553_results.specs.ExplainedResults.{ExplainsResults}
 use Rattle.rt1553_results.specs.Results.{SaysResults, answer, line_in}
-use Rattle.rt1553_results.specs.Table.{reply_text}
 use Rattle.rt1553_results.specs.declared.comparison.Comparison.{Comparison}
+use Rattle.rt1553_results.specs.declared.explaining.ResultsExplained.{ResultsExplained}
+use Rattle.rt1553_results.specs.declared.explaining.UnexplainedReply.{UnexplainedReply}
 use Rattle.rt1553_results.specs.declared.results.Results.{Results}
-use Rattle.rt1553_verify.specs.Verify.{ToldAnswer, told_answer}
-use Rattle.rt1553_verify.specs.declared.verifying.WrongAnswer.{WrongAnswer}
 use Rattle.sha2.specs.Sha256.{sha256}
 use Rattle.tool_verify.specs.declared.unit_results.JudgedResults.{JudgedResults}
 use Rattle.tool_verify.specs.declared.unit_results.JudgedResults.TheVariants.{Compared, Explained}
@@ -34,26 +33,33 @@ abbrev pub IsVerdictOn : Description → Results → Bool → JudgedResults → 
 IsVerdictOn D results any_subsystem (Compared c) = (any_subsystem ≡ false) × Compares D (answer results) c
 IsVerdictOn D results any_subsystem (Explained e) = (any_subsystem ≡ true) × ((P : Description) → D ≡ reach P → ExplainsResults D P (answer results) e)
 
--- the difference of a reply, at the line of its row: the words of the terminal, and those that came
-abbrev pub reply_difference : Results → ToldReply → ToldAnswer
-reply_difference results r = record { line = unwrap_or (line_in results r.number) 0; expected = reply_text r.expected; came = reply_text r.came }
+-- a difference as these definitions speak of it, and that of a reply, at the line of its row
+abbrev pub told_difference : ReplyDifference → ℕ × ToldReply
+told_difference d = (d.line, told_reply d.reply)
 
--- the difference of numbers without a result, at the line of the header
-abbrev pub range_difference : ToldAnswer
-range_difference = record { line = 1; expected = codes "results"; came = [] }
+abbrev pub reply_difference : Results → ToldReply → ℕ × ToldReply
+reply_difference results r = (unwrap_or (line_in results r.number) 0, r)
 
--- the differences of a comparison begin with those of its replies, in their order; then comes one for each range of numbers without a result
-abbrev pub TellsReplies : Results → Comparison → List WrongAnswer → Type 0
-TellsReplies results c wrong =
-    (missing : List ToldAnswer) × (map told_answer wrong ≡ map (λ r. reply_difference results (told_reply r)) c.wrong_replies.items ++ missing)
-    × (length missing ≡ length c.missing.items)
+-- the differences are the replies of a comparison, in their order, and the missing numbers are its
+pub record TellsCompared (results : Results) (c : Comparison) (unit : UnitVerdict) : Type 0 where
+  pub exchanges : unit.exchanges ≡ c.total
+  pub differences : map told_difference unit.differences.items ≡ map (λ r. reply_difference results (told_reply r)) c.wrong_replies.items
+  pub missing : unit.missing ≡ c.missing
 
--- the differences of an outcome; None if nothing was played
-abbrev pub wrong_in : ScriptOutcome → Option (List WrongAnswer)
-wrong_in (Played answers warning wrong names rules drawing) = Some wrong.items
-wrong_in (NotPlayed reason) = None
+-- the line and the number of a difference, and the words that came
+abbrev pub told_place : ReplyDifference → ℕ × ℕ × List ℕ
+told_place d = (d.line, d.reply.number, d.reply.came.items)
 
--- an outcome has the differences of what is told of results, for a comparison just these
-abbrev pub OutcomeTells : Results → JudgedResults → ScriptOutcome → Type 0
-OutcomeTells results (Compared c) outcome = (wrong : List WrongAnswer) × (wrong_in outcome ≡ Some wrong) × TellsReplies results c wrong
-OutcomeTells results (Explained e) outcome = (wrong : List WrongAnswer) × (wrong_in outcome ≡ Some wrong)
+abbrev pub unexplained_place : Results → UnexplainedReply → ℕ × ℕ × List ℕ
+unexplained_place results r = (unwrap_or (line_in results r.number) 0, r.number, r.came.items)
+
+-- the only difference is the reply that nothing explains, if there is one, and the missing numbers are those of the search
+pub record TellsExplained (results : Results) (e : ResultsExplained) (unit : UnitVerdict) : Type 0 where
+  pub exchanges : unit.exchanges ≡ e.total
+  pub differences : map told_place unit.differences.items ≡ map (unexplained_place results) (option_to_list e.first)
+  pub missing : unit.missing ≡ e.missing
+
+-- a report tells of a unit what its results tell
+abbrev pub TellsOf : Results → JudgedResults → UnitVerdict → Type 0
+TellsOf results (Compared c) unit = TellsCompared results c unit
+TellsOf results (Explained e) unit = TellsExplained results e unit

@@ -1,3 +1,2 @@
 -- What the contracts of private functions speak of.
 pub mod Tried
-pub mod Differing

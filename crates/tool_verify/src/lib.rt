@@ -10,9 +10,9 @@ mod head;
 mod infer;
 mod opened;
 mod report;
-mod results_outcome;
 mod summary;
 mod unit_results;
+mod unit_verdict;
 mod verify;
 mod warned;
 

@@ -10,10 +10,10 @@ ghost use Rattle.tool_verify.specs.UnitResults.{IsVerdictOn, IsLoadedResults, Un
 
 use crate::head::{head_of, loaded_names, profile_digests};
 use crate::report::{put_kept, put_or_keep};
-use crate::results_outcome::results_outcome;
+use crate::unit_verdict::unit_verdict_of;
 use bus_legal::Normal;
 use message_names::{MessageNames, quoted};
-use rt1553_report::{ScriptOutcome, ScriptResult};
+use rt1553_report::{ScriptOutcome, ScriptResult, UnitVerdict};
 use rt1553_results::{
     CompareFault, Comparison, Results, ResultsExplained, ResultsFault, compare_results,
     explain_results, other_command, read_results,
@@ -185,9 +185,9 @@ fn result_of(
     asked: AskedResults<'_>,
     profile: &LoadedProfile,
     loaded: &LoadedResults,
-    outcome: ScriptOutcome,
+    unit: UnitVerdict,
 ) -> Result<ScriptResult, AllocError>
-    ensures { IfOk result (λ of. (of.outcome ≡ outcome) × (of.digests.script ≡ Some loaded.now.digest) × HasDigestsOf profile.now of.digests) }
+    ensures { IfOk result (λ of. (of.outcome ≡ ScriptOutcome.Judged unit) × (of.digests.script ≡ Some loaded.now.digest) × HasDigestsOf profile.now of.digests) }
 {
     let mut digests = profile_digests(alloc, profile)?;
     digests.script = Some(loaded.digest);
@@ -196,7 +196,7 @@ fn result_of(
         profile: Some(String::from_str(alloc, asked.profile)?),
         clauses: Vec::new(alloc),
         digests,
-        outcome,
+        outcome: ScriptOutcome::Judged(unit),
     })
 }
 
@@ -207,12 +207,12 @@ fn put_report<W: Write>(
     profile: &LoadedProfile,
     names: &Option<LoadedNames>,
     loaded: &LoadedResults,
-    judged: &JudgedResults,
+    judged: JudgedResults,
     output: &mut W,
 ) -> Result<(), ToolFault> {
     let named = names.as_ref().map(|loaded| &loaded.names);
-    let outcome = results_outcome(alloc, named, &loaded.results, judged)?;
-    let of = result_of(alloc, asked, profile, loaded, outcome)?;
+    let unit = unit_verdict_of(alloc, named, &loaded.results, judged)?;
+    let of = result_of(alloc, asked, profile, loaded, unit)?;
     let head = head_of("acceptance", asked.names, names, asked.date);
     let mut kept = Vec::new(alloc);
     put_or_keep(alloc, asked.format, head, of, &mut kept, output)?;
@@ -226,7 +226,7 @@ fn put_judged<W: Write>(
     profile: &LoadedProfile,
     names: &Option<LoadedNames>,
     loaded: &LoadedResults,
-    judged: &JudgedResults,
+    judged: JudgedResults,
     output: &mut W,
 ) -> Result<(), ToolFault> {
     match asked.format {
@@ -260,14 +260,7 @@ pub fn against<R: Files + AllocGlobal + Eprint, W: Write>(
         Ok(judged) => judged,
         Err(fault) => return Err(comparison_fault(rt, asked.results, fault)),
     };
-    put_judged(
-        rt.alloc(),
-        asked,
-        &profile,
-        &names,
-        &loaded,
-        &judged,
-        output,
-    )?;
-    Ok(judged.status())
+    let status = judged.status();
+    put_judged(rt.alloc(), asked, &profile, &names, &loaded, judged, output)?;
+    Ok(status)
 }
