@@ -18,3 +18,18 @@ escaped_char c =
 -- behind some bytes just the characters of a text were written, each so
 abbrev pub Escapes : List ℕ → List ℕ → List ℕ → Type 0
 Escapes text old new = (cs : List ℕ) × (encode_utf8_all cs ≡ text) × (new ≡ old ++ flat_map escaped_char cs)
+
+-- A character as it is written in a string of CSS on a page: `"` and `\` behind a `\`, `<` and `&` by their numbers, a control character by
+-- the replacement character; any other by itself.
+abbrev pub css_char : ℕ → List ℕ
+css_char c =
+    if c == 34 then codes "\\\""
+    else if c == 92 then codes "\\\\"
+    else if c == 60 then codes "\\3c "
+    else if c == 38 then codes "\\26 "
+    else if is_control c then encode_utf8 65533
+    else encode_utf8 c
+
+-- behind some bytes just the characters of a text were written, each so
+abbrev pub IsCssOf : List ℕ → List ℕ → List ℕ → Type 0
+IsCssOf text old new = (cs : List ℕ) × (encode_utf8_all cs ≡ text) × (new ≡ old ++ flat_map css_char cs)

@@ -1,7 +1,7 @@
 //! Texts as they stand in pages.
 ghost use Rattle.std.specs.Prelude.{◌≡◌, ◌++◌, [], IfOk, OnOk};
 ghost use Rattle.std.specs.String.{string_bytes};
-ghost use Rattle.drawing_boxes.specs.Escaped.{escaped_char, Escapes};
+ghost use Rattle.drawing_boxes.specs.Escaped.{escaped_char, Escapes, css_char, IsCssOf};
 
 use std::alloc::{AllocError, Global};
 
@@ -44,4 +44,34 @@ pub fn in_xml(alloc: Global, text: &str) -> Result<String, AllocError>
     let mut page = String::new(alloc);
     push_escaped(&mut page, text)?;
     Ok(page)
+}
+
+/// Writes a character as it stands in a string of CSS on a page: what would end the string or the style is escaped, and a control character
+/// is the replacement character.
+fn push_css_char(page: &mut String, c: char) -> Result<(), AllocError>
+    ensures { OnOk result (string_bytes page.new ≡ string_bytes page.old ++ css_char c) }
+{
+    if c == '"' {
+        page.push_str("\\\"")
+    } else if c == '\\' {
+        page.push_str("\\\\")
+    } else if c == '<' {
+        page.push_str("\\3c ")
+    } else if c == '&' {
+        page.push_str("\\26 ")
+    } else if c.is_control() {
+        page.push('\u{fffd}')
+    } else {
+        page.push(c)
+    }
+}
+
+/// Writes a text as it stands in a string of CSS on a page, between its `"`.
+pub fn push_css_text(page: &mut String, text: &str) -> Result<(), AllocError>
+    ensures { OnOk result (IsCssOf text.now (string_bytes page.old) (string_bytes page.new)) }
+{
+    for c in text.chars() {
+        push_css_char(page, c)?;
+    }
+    Ok(())
 }

@@ -14,7 +14,7 @@ mod width;
 pub use caption::{Caption, Digits, InOneLine, More, Rest, What};
 pub use course::{Course, Heard};
 pub use drawn_name::{DrawnName, name_after};
-pub use escaped::{in_xml, push_escaped};
+pub use escaped::{in_xml, push_css_text, push_escaped};
 pub use fault::DrawFault;
 pub use frame::{Frame, LANES_FROM, LANES_WIDTH, Lane, Lanes, MARGIN};
 pub use numbered::{MAX_EVENTS, Numbered, events_to_draw, numbered_events};

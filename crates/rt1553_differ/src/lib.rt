@@ -15,5 +15,5 @@ pub use differing::differences;
 pub use explained::{Codes, SubaddressRow, codes_of, row_of};
 pub use groups::{CountKind, Group, groups_of};
 pub use scripts::script_of;
-pub use table::{explain, explain_json};
+pub use table::{explain, explain_json, explain_page};
 pub use told::{Pair, differ_json, differ_text};

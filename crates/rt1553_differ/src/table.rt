@@ -7,6 +7,7 @@ use crate::named::code_cell;
 use bus_legal::{Normal, Numbers};
 use bus_word::mode::{BIT_WORD, DYNAMIC_BUS_CONTROL, VECTOR_WORD};
 use bus_word::mode_name;
+use drawing_boxes::push_escaped;
 use message_names::{MessageCounts, MessageKind, MessageNames, name_in, owned, push_name};
 use serde::Serialize;
 use std::alloc::{AllocError, Global};
@@ -285,6 +286,69 @@ fn push_settings(text: &mut String, normal: &Normal, codes: Codes) -> Result<(),
         writeln!(text, "BIT word:    {:04x}", normal.bit())?;
     }
     Ok(())
+}
+
+/// How the table of word counts begins on a page.
+const COUNTS_HEAD: &str =
+    "<table>\n<thead><tr><th scope=\"col\">subaddresses</th><th scope=\"col\">receive</th><th scope=\"col\">transmit</th><th scope=\"col\">broadcast receive</th></tr></thead>\n<tbody>\n";
+
+/// Writes a cell of the table of word counts on a page.
+fn push_page_cell(page: &mut String, text: &str) -> Result<(), AllocError> {
+    page.push_str("<td>")?;
+    push_escaped(page, text)?;
+    page.push_str("</td>")
+}
+
+/// Writes a line of the table of word counts on a page.
+fn push_page_line(page: &mut String, line: &TableLine<'_>) -> Result<(), AllocError> {
+    page.push_str("<tr>")?;
+    push_page_cell(page, line.at.as_str())?;
+    push_page_cell(page, line.texts.receive.as_str())?;
+    push_page_cell(page, line.texts.transmit.as_str())?;
+    push_page_cell(page, line.texts.broadcast.as_str())?;
+    page.push_str("</tr>\n")
+}
+
+/// Writes the table of word counts on a page, or that none is legal.
+fn push_page_counts(
+    alloc: Global,
+    page: &mut String,
+    normal: &Normal,
+    names: Option<&MessageNames>,
+) -> Result<(), AllocError> {
+    let all = all_texts(alloc, normal, names)?;
+    let lines = table_lines(alloc, all.as_slice())?;
+    if lines.is_empty() {
+        return page.push_str("<p>no word count is legal at any subaddress</p>\n");
+    }
+    page.push_str(COUNTS_HEAD)?;
+    for line in lines.as_slice() {
+        push_page_line(page, line)?;
+    }
+    page.push_str("</tbody>\n</table>\n")
+}
+
+/// What `explain` tells, as a part of a page, HTML and well-formed XML too: what stands beside the table of word counts as lines of text.
+pub fn explain_page(
+    alloc: Global,
+    normal: &Normal,
+    names: Option<&MessageNames>,
+) -> Result<String, AllocError> {
+    let codes = codes_of(normal);
+    let (mut settings, mut rest) = (String::new(alloc), String::new(alloc));
+    push_settings(&mut settings, normal, codes)?;
+    push_words(&mut rest, normal)?;
+    push_codes(alloc, &mut rest, names, false, codes.own)?;
+    push_codes(alloc, &mut rest, names, true, codes.broadcast)?;
+    let mut page = String::new(alloc);
+    page.push_str("<h2>What is legal, and what the terminal holds</h2>\n<pre>")?;
+    push_escaped(&mut page, settings.as_str())?;
+    page.push_str("</pre>\n")?;
+    push_page_counts(alloc, &mut page, normal, names)?;
+    page.push_str("<pre>")?;
+    push_escaped(&mut page, rest.as_str())?;
+    page.push_str("</pre>\n")?;
+    Ok(page)
 }
 
 /// What a terminal does, as a text that a person reads; with the names of messages beside their numbers, where there are names.

@@ -1,6 +1,6 @@
 //! Pages with drawings.
 use crate::style::{DARK_STYLE, LIGHT_STYLE, PAGE_STYLE};
-use drawing_boxes::push_escaped;
+use drawing_boxes::{push_css_text, push_escaped};
 use std::alloc::{AllocError, Global};
 
 /// What the colours of a drawing say: the class of a box, and what it is.
@@ -34,8 +34,9 @@ pub fn push_keys(page: &mut String) -> Result<(), AllocError> {
     )
 }
 
-/// Writes the begin of a page that can have drawings: HTML, and well-formed XML too. Its first heading is the title. The style is CSS
-/// for what stands on the page beside drawings, and may be empty; it has no `<` and no `&`.
+/// Writes the begin of a page that can have drawings: HTML, and well-formed XML too. Its first heading is the title, which stands on each
+/// printed page, too, with the number of the page. The style is CSS for what stands on the page beside drawings, and may be empty; it has
+/// no `<` and no `&`.
 pub fn push_front(page: &mut String, title: &str, style: &str) -> Result<(), AllocError> {
     page.push_str(
         "<!DOCTYPE html>\n<html xmlns=\"http://www.w3.org/1999/xhtml\" lang=\"en\"><head><meta charset=\"utf-8\"/>",
@@ -49,6 +50,9 @@ pub fn push_front(page: &mut String, title: &str, style: &str) -> Result<(), All
     page.push_str(LIGHT_STYLE)?;
     page.push_str(DARK_STYLE)?;
     page.push_str(style)?;
+    page.push_str("@page{font:9px Arial,Helvetica,sans-serif;@top-left{content:\"")?;
+    push_css_text(page, title)?;
+    page.push_str("\"}@bottom-right{content:counter(page) \" / \" counter(pages)}}")?;
     page.push_str("</style></head><body>\n<h1>")?;
     push_escaped(page, title)?;
     page.push_str("</h1>\n")
@@ -61,9 +65,7 @@ pub struct PageParts<'a> {
     pub style: &'a str,
     /// HTML above the drawings.
     pub head: &'a str,
-    /// A text of lines below them.
-    pub table: &'a str,
-    /// HTML at the end.
+    /// HTML below them.
     pub foot: &'a str,
 }
 
@@ -79,9 +81,6 @@ pub fn page_with(
     page.push_str(parts.head)?;
     push_keys(&mut page)?;
     page.push_str(drawings)?;
-    page.push_str("<h2>What is legal, and what the terminal holds</h2>\n<pre>")?;
-    push_escaped(&mut page, parts.table)?;
-    page.push_str("</pre>\n")?;
     page.push_str(parts.foot)?;
     page.push_str("</body></html>\n")?;
     Ok(page)

@@ -64,12 +64,12 @@ details details{margin-left:1rem}\
 .keys{display:flex;flex-wrap:wrap;gap:.2rem 1.2rem;list-style:none;padding:0}\
 pre{overflow-x:auto}\
 @media screen and (prefers-color-scheme:dark){body{background:#1b1d21;color:#eee}}\
-@page{size:landscape;margin:10mm}\
+@page{size:landscape;margin:14mm 10mm}\
 @media print{\
 body{margin:0;font-size:11px}\
 .run{overflow:visible}\
 .run svg{max-width:100%;height:auto}\
-.run,summary,.keys{break-inside:avoid}\
+.run,summary,.keys,pre{break-inside:avoid}\
 summary{break-after:avoid}\
 details::details-content{content-visibility:visible;block-size:auto}\
 pre{white-space:pre-wrap;overflow-wrap:anywhere}\

@@ -13,7 +13,7 @@ use bus_script::RunFault;
 use drawing_boxes::DrawFault;
 use message_names::MessageNames;
 use report_pages::{RESULTS_STYLE, push_list_code};
-use rt1553_differ::explain;
+use rt1553_differ::explain_page;
 use rt1553_draw::{DrawnScript, PageParts, draw, draw_folded, page_with};
 use rt1553_tool_args::AskedDrawing;
 use std::alloc::Global;
@@ -102,14 +102,12 @@ fn page<R: AllocGlobal>(
     title: &str,
     run: &DrawnRun,
 ) -> Result<String, ToolFault> {
-    let table = explain(rt.alloc(), normal, names)?;
-    let mut code = String::new(rt.alloc());
-    push_list_code(&mut code)?;
+    let mut foot = explain_page(rt.alloc(), normal, names)?;
+    push_list_code(&mut foot)?;
     let parts = PageParts {
         style: RESULTS_STYLE,
         head: run.list.as_str(),
-        table: table.as_str(),
-        foot: code.as_str(),
+        foot: foot.as_str(),
     };
     Ok(page_with(rt.alloc(), title, run.drawing.as_str(), parts)?)
 }
