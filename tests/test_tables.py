@@ -19,6 +19,7 @@ SETTINGS = ["address", "broadcast", "wraparound", "accept_bus_control", "vector"
 MESSAGES = ["receive", "transmit", "both"]
 KINDS = [*SETTINGS, *MESSAGES, "mode"]
 COLUMNS = ["kind", "value", "subaddress", "words", "code", "to", "initial", "legal", "name"]
+KNOWN = ", ".join(COLUMNS)
 # what a column becomes in an entry of a profile
 KEYS = {"subaddress": "subaddresses", "words": "counts", "code": "codes", "to": "to", "legal": "legal"}
 # columns whose texts may have capitals
@@ -188,9 +189,11 @@ class Layout:
         left_out = [(at, it) for at, it in enumerate(header, 1) if it not in COLUMNS]
         counts = [(line, row) for line, row in zip(lines[1:], rows) if row["kind"] in MESSAGES and not row.get("words")]
         return [
-            *(f'{lines[0]}:{at}: warning: the column "{self.case(it)}" is left out' for at, it in left_out),
+            *(f'{lines[0]}:{at}: warning: the column "{self.case(it)}" is left out; known are {KNOWN}' for at, it in left_out),
+            *([f"{lines[0]}:{len(header) + 1}: warning: no column is named words, so all counts 1 to 32: is this meant?"]
+              if "words" not in header and counts and "kind" in header else []),
             *(f"{line}:{header.index('words') + 1}: warning: {self.case('words')}: empty, so all counts 1 to 32: is this meant?"
-              for line, _ in counts if "kind" in header),
+              for line, _ in counts if "kind" in header and "words" in header),
         ]  # fmt: skip
 
 

@@ -7,6 +7,7 @@ FIVE = "address = 5\n"
 KINDS = "address, broadcast, wraparound, accept_bus_control, vector, bit, receive, transmit, both, mode"
 COUNTS = 'allowed is 1 to 32, as "1-3, 5"'
 RULE = 'address = 5\n\n[[rule]]\ndirection = "receive"\nsubaddresses = 3\ncounts = 2\nto = "both"\n'
+KNOWN = "; known are kind, value, subaddress, words, code, to, initial, legal, name"
 MOST = 1_048_576
 
 
@@ -27,8 +28,8 @@ TABLES = [
     table("CR alone: the row of a quote", 'kind,value\raddress,5\rbit,1"\r', 2, "", " table: row 3, column 2: not CSV, a quote is misplaced or missing"),
     # --- what stands between fields
     table("tabs", "kind\tvalue\naddress\t5\n", 0, FIVE),
-    table("semicolons in quotes, before commas", '"a;b",kind,value\n,address,5\n', 0, FIVE, '1:1: warning: the column "a;b" is left out'),
-    table("commas in quotes, before semicolons", '"a,b";kind;value\n;address;5\n', 0, FIVE, '1:1: warning: the column "a,b" is left out'),
+    table("semicolons in quotes, before commas", '"a;b",kind,value\n,address,5\n', 0, FIVE, '1:1: warning: the column "a;b" is left out' + KNOWN),
+    table("commas in quotes, before semicolons", '"a,b";kind;value\n;address;5\n', 0, FIVE, '1:1: warning: the column "a,b" is left out' + KNOWN),
     table("an empty line, before semicolons", "\nkind;value\naddress;5\n", 0, FIVE),
     table("an empty row, before the header", ";;\nkind;value;\naddress;5;\n", 0, FIVE),
     # --- blanks, and capitals
@@ -50,9 +51,12 @@ TABLES = [
     table("a number that is too long to be told", f"kind,value\naddress,{'9' * 41}\n", 2, "", f'2:2: error: value: "{"9" * 40}..": allowed is 0 to 30'),
     # --- warnings
     table("a column left out explains a fault", "kind,value,subadress,words\naddress,5,,\nreceive,,3,2\n", 2, "",
-          '1:3: warning: the column "subadress" is left out', '3:1: error: no column is named subaddress: allowed is 1 to 30, as "1-3, 5"'),
+          '1:3: warning: the column "subadress" is left out' + KNOWN, '3:1: error: no column is named subaddress: allowed is 1 to 30, as "1-3, 5"'),
     table("no word counts", "kind,value,subaddress,words\naddress,5,,\nreceive,,3,\nmode,,,\n", 2, "",
           "3:4: warning: words: empty, so all counts 1 to 32: is this meant?", '4:1: error: no column is named code: allowed is 0 to 31, as "1-3, 5"'),
+    table("no column for word counts", "kind,value,subaddress,to\naddress,5,,\nreceive,,3,both\n", 0, RULE.replace("counts = 2\n", ""),
+          "1:5: warning: no column is named words, so all counts 1 to 32: is this meant?"),
+    table("no column for word counts, and no message", "kind,value\naddress,5\n", 0, FIVE),
     table("no word counts, and no fault", "kind,value,subaddress,Words,to\naddress,5,,,\nreceive,,3,,both\n", 0, RULE.replace("counts = 2\n", ""),
           "3:4: warning: Words: empty, so all counts 1 to 32: is this meant?"),
     # --- faults
@@ -83,7 +87,7 @@ CHECKS = with_files(
     Row("check: the same", "import --check t.csv same"),
     Row("check: the option after the files", "import t.csv same --check"),
     Row("check: another terminal", "import --check t.csv six", 1, 'address:           5 in t.csv, 6 in six\nreceive 1 "speed": count 2 legal in t.csv alone\n'),
-    Row("check: warnings of the table", "import --check left.csv same", 0, "", 'left.csv:1:5: warning: the column "my name" is left out\n'),
+    Row("check: warnings of the table", "import --check left.csv same", 0, "", f'left.csv:1:5: warning: the column "my name" is left out{KNOWN}\n'),
     Row("check: a table with a fault", "import --check wrong.csv same", 2, "", f'wrong.csv:3:1: error: kind: "recieve": allowed is {KINDS}\n'),
     Row("check: a profile that is refused", "import --check t.csv bad", 2, "", "bad:1:1: error: profile: root: address is out of range: 31; allowed is a whole number from 0 to 30\n"),
     Row("check: a profile that is not there", "import --check t.csv none", 4, "", "file: cannot read none: no such file\n"),

@@ -27,7 +27,7 @@ def test_table_of_a_document(tool, path, tmp_path):
     write_files(tmp_path, {path.name: path.read_bytes()})
     given = run(tool, "import", path.name, folder=tmp_path)
     assert (given.status, given.output) == (0, path.with_suffix(".toml").read_bytes())
-    warned = (': warning: the column "remarks" is left out', ": warning: words: empty, so all counts 1 to 32: is this meant?")
+    warned = (': warning: the column "remarks" is left out; known are kind, value, subaddress, words, code, to, initial, legal, name', ": warning: words: empty, so all counts 1 to 32: is this meant?")
     assert [it for it in given.errors.decode().splitlines() if not it.endswith(warned)] == []
     assert run(tool, "lint", path.with_suffix(".toml")).status == 0
 
@@ -162,7 +162,7 @@ def test_acceptance_test_with_names(tool, folder):
 def test_acceptance_test_with_names_as_a_table(tool, folder):
     given = run(tool, "acceptance", "--format", "csv", "--names", "names.csv", "named.toml", folder=folder)
     lines = given.output.replace(b"\r", b"").decode().split("\n")
-    assert lines[0] == "number,tries,command,data,reply,handed,name"
+    assert lines[0] == "number,tries,command,data,expected,handed,name"
     assert lines[1027] == '1027,"receive 3, 1 word: legal",2861,0000,2800,receive own 03 0000,settings'
 
 

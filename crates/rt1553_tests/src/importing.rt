@@ -72,7 +72,7 @@ fn names_and_warnings(rt: HostRuntime) -> Result<(), Fail> {
     }
     assert_eq!(rt;
         told.as_str(),
-        "1:7: warning: the column \"my \\\"notes\\\"\" is left out\n"
+        "1:7: warning: the column \"my \\\"notes\\\"\" is left out; known are kind, value, subaddress, words, code, to, initial, legal, name\n"
     );
     Ok(())
 }
@@ -124,11 +124,11 @@ const REFUSED: [(&[u8], &str); 18] = [
     ),
     (
         b"kind,value,code,initial,subaddress\naddress,1,2,,\nreceive,,,0001,3\n",
-        "t:2:3: error: code: \"2\": a row of this kind takes nothing here\nt:3:4: error: initial: \"0001\": a row of this kind takes nothing here",
+        "t:1:6: warning: no column is named words, so all counts 1 to 32: is this meant?\nt:2:3: error: code: \"2\": a row of this kind takes nothing here\nt:3:4: error: initial: \"0001\": a row of this kind takes nothing here",
     ),
     (
         b"kind,value,subaddress,initial\naddress,1,,\ntransmit,,1-2,0001\ntransmit,,2,00001\ntransmit,,2,xyz\n",
-        "t:3:3: error: subaddress: \"1-2\": allowed beside initial words is 1 to 30, one number\nt:4:4: error: initial: \"00001\": allowed is at most 32 words of 1 to 4 hexadecimal digits, as \"0001 00ff\"\nt:5:4: error: initial: \"xyz\": allowed is at most 32 words of 1 to 4 hexadecimal digits, as \"0001 00ff\"",
+        "t:1:5: warning: no column is named words, so all counts 1 to 32: is this meant?\nt:3:3: error: subaddress: \"1-2\": allowed beside initial words is 1 to 30, one number\nt:4:4: error: initial: \"00001\": allowed is at most 32 words of 1 to 4 hexadecimal digits, as \"0001 00ff\"\nt:5:4: error: initial: \"xyz\": allowed is at most 32 words of 1 to 4 hexadecimal digits, as \"0001 00ff\"",
     ),
     (
         b"kind,value\nbit,1\n",
@@ -148,11 +148,11 @@ const REFUSED: [(&[u8], &str); 18] = [
     ),
     (
         b"kind,value,subaddress,initial\naddress,1,,\ntransmit,,3,\ntransmit,,31,1 2\n",
-        "t:4:3: error: subaddress: \"31\": allowed is 1 to 30, as \"1-3, 5\"\nt:4:3: error: subaddress: \"31\": allowed is 1 to 30",
+        "t:1:5: warning: no column is named words, so all counts 1 to 32: is this meant?\nt:4:3: error: subaddress: \"31\": allowed is 1 to 30, as \"1-3, 5\"\nt:4:3: error: subaddress: \"31\": allowed is 1 to 30",
     ),
     (
         b"Kind,Subaddress ,counts\nAddress,1,\n",
-        "t:1:3: warning: the column \"counts\" is left out\nt:2:2: error: Subaddress: \"1\": a row of this kind takes nothing here\nt:2:1: error: no column is named value: allowed is 0 to 30",
+        "t:1:3: warning: the column \"counts\" is left out; known are kind, value, subaddress, words, code, to, initial, legal, name\nt:2:2: error: Subaddress: \"1\": a row of this kind takes nothing here\nt:2:1: error: no column is named value: allowed is 0 to 30",
     ),
 ];
 

@@ -1,7 +1,7 @@
 //! What of a table is worth a look.
 use csv_rows::CellPlace;
 use rt1553_files::escaped;
-use rt1553_import::{RowKind, Sheet, TABLE_COLUMNS, TableColumn, is_alike};
+use rt1553_import::{RowKind, Sheet, TABLE_COLUMNS, TableColumn, TableRow, is_alike};
 use std::alloc::{AllocError, Global};
 use std::fmt;
 
@@ -12,6 +12,22 @@ pub enum TableWarning {
     LeftOut(CellPlace, String),
     /// A message of data says no word counts, in the column of this name: all are legal.
     AllCounts(CellPlace, String),
+    /// There are messages of data and no column for their word counts, behind the last: all are legal.
+    NoCounts(CellPlace),
+}
+
+/// The columns that count, by their names.
+struct KnownColumns;
+
+impl fmt::Display for KnownColumns {
+    fn fmt<W: fmt::Write>(&self, f: &mut fmt::Formatter<W>) -> fmt::Result {
+        let mut before = "";
+        for column in TABLE_COLUMNS {
+            write!(f, "{before}{}", column.name())?;
+            before = ", ";
+        }
+        Ok(())
+    }
 }
 
 impl fmt::Display for TableWarning {
@@ -20,10 +36,11 @@ impl fmt::Display for TableWarning {
         match self {
             TableWarning::LeftOut(place, name) => write!(
                 f,
-                "{}:{}: warning: the column \"{}\" is left out",
+                "{}:{}: warning: the column \"{}\" is left out; known are {}",
                 place.row,
                 place.column,
-                name.as_str()
+                name.as_str(),
+                KnownColumns
             ),
             TableWarning::AllCounts(place, name) => write!(
                 f,
@@ -31,6 +48,11 @@ impl fmt::Display for TableWarning {
                 place.row,
                 place.column,
                 name.as_str()
+            ),
+            TableWarning::NoCounts(place) => write!(
+                f,
+                "{}:{}: warning: no column is named words, so all counts 1 to 32: is this meant?",
+                place.row, place.column
             ),
         }
     }
@@ -89,20 +111,38 @@ fn push_left_out(
     Ok(())
 }
 
-/// Adds the messages of data that say no word counts, if there is a column for them.
+/// Whether a row is a message of data.
+fn is_message(sheet: &Sheet, row: &TableRow) -> bool {
+    match RowKind::of(sheet.cell(row, TableColumn::Kind)) {
+        Some(kind) => kind.is_message(),
+        None => false,
+    }
+}
+
+/// Adds that no column has word counts, if there is a message of data.
+fn push_no_counts(sheet: &Sheet, warnings: &mut Vec<TableWarning>) -> Result<(), AllocError> {
+    for row in sheet.rows.as_slice() {
+        if is_message(sheet, row) {
+            return Ok(warnings.push(TableWarning::NoCounts(CellPlace {
+                row: sheet.header.line,
+                column: (sheet.header.fields.len() as u64).saturating_add(1),
+            }))?);
+        }
+    }
+    Ok(())
+}
+
+/// Adds the messages of data that say no word counts, or that there is no column for them.
 fn push_all_counts(
     alloc: Global,
     sheet: &Sheet,
     warnings: &mut Vec<TableWarning>,
 ) -> Result<(), AllocError> {
     if sheet.place_of(TableColumn::Words).is_none() {
-        return Ok(());
+        return push_no_counts(sheet, warnings);
     }
     for row in sheet.rows.as_slice() {
-        let Some(kind) = RowKind::of(sheet.cell(row, TableColumn::Kind)) else {
-            continue;
-        };
-        if kind.is_message() && sheet.cell(row, TableColumn::Words).is_empty() {
+        if is_message(sheet, row) && sheet.cell(row, TableColumn::Words).is_empty() {
             let place = sheet.place(row, TableColumn::Words);
             let name = column_text(alloc, sheet, TableColumn::Words)?;
             warnings.push(TableWarning::AllCounts(place, name))?;
