@@ -41,7 +41,7 @@ _rt1553_tool() {
         canon) flags='--help' kinds=(profile) many='' ;;
         compare) flags='--help' kinds=(profile profile) many='' ;;
         run) flags='--help' kinds=(profile script) many='' ;;
-        bus) flags='--expand --alone --help' kinds=(profile script) many='profile' ;;
+        bus) flags='--expand --alone --messages --check --help' kinds=(profile script) many='profile' ;;
         lint) flags='--format --help' kinds=(profile) many='profile' ;;
         check-script) flags='--help' kinds=(script) many='script' ;;
         verify) flags='--summary --bus-only --any-subsystem --already-on --witness --expand --profiles --format --names --date --help' kinds=(profile script) many='script' ;;

@@ -13,6 +13,8 @@ complete -c rt1553-tool -n '__fish_seen_subcommand_from run' -F
 complete -c rt1553-tool -n __fish_use_subcommand -a bus -d 'Prints the transcript of a script for a bus of terminals'
 complete -c rt1553-tool -n '__fish_seen_subcommand_from bus' -l expand -d 'takes messages, too, as `expand` does'
 complete -c rt1553-tool -n '__fish_seen_subcommand_from bus' -l alone -x -d 'prints what comes to the terminal of this address, as a script'
+complete -c rt1553-tool -n '__fish_seen_subcommand_from bus' -l messages -d 'prints the messages, as `messages` does, a line for each of their terminals'
+complete -c rt1553-tool -n '__fish_seen_subcommand_from bus' -l check -d 'takes messages as --expand does, and prints which of them do not end well'
 complete -c rt1553-tool -n '__fish_seen_subcommand_from bus' -F
 complete -c rt1553-tool -n __fish_use_subcommand -a lint -d 'Prints all faults of profiles, and what has no effect'
 complete -c rt1553-tool -n '__fish_seen_subcommand_from lint' -l format -x -a 'text json sarif' -d 'the output format'

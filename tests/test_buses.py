@@ -1,5 +1,5 @@
 """`rt1553-tool bus` against the bus of tests/model, over random terminals and random controllers: transcript and warnings, and of some
-terminals what comes to them and what they answer to that alone.
+terminals what comes to them and what they answer to that alone. And `bus --check` over random schedules.
 
 What the counts name has to happen often.
 """
@@ -7,14 +7,17 @@ What the counts name has to happen often.
 import collections
 import random
 import re
+from typing import NamedTuple
 
 import buses
 import canonical
+import message_rows
 import pieces
 import play
 import pytest
+import rules
 import tomllib
-from programs import run, write_files
+from programs import Given, run, write_files
 
 SEEDS, BUSES = 20, 250
 VARIANTS = 3
@@ -77,3 +80,223 @@ def check_alone(tool, rt1553, name, names, bus, wanted, folder):
     assert [it for _, it in play.events_of(alone.output) if it] == bus.came[int(address)]
     answers = "".join(f"{it[3:]}\n" for it in wanted.transcript if it.startswith(f"{address} "))
     assert run(rt1553, "run", name, "/dev/stdin", stdin=alone.output, folder=folder) == (0, answers.encode(), b"")
+
+
+CHECK_SEEDS, SCHEDULES = 4, 80
+# in the schedules of each seed
+CHECKED = {
+    "well": 100, "neither": 150, "in the run": 12, "both, and not the same": 15, "all end well": 1, "lines of a subsystem": 80,
+    "no profile has address": 40, "no terminal takes the broadcast": 40, "illegal": 150, "busy": 8, "done: transmitter shut down": 3,
+    "in error: wrong word count": 20, "in error: no status from the transmitter": 1,
+    "takes it for no message": 3, "ignored: during a reply": 1,
+}  # fmt: skip
+
+
+class Message(NamedTuple):
+    """A message of a schedule: its line, and what the controller puts."""
+
+    line: str
+    bus: str
+    commands: list
+    data: list
+
+    def events(self, present):
+        """The lines of a script for it, where these terminals are on the bus."""
+        first, *second = self.commands
+        words = [f"{self.bus} d {it:04x}" for it in self.data]
+        lines = [f"{self.bus} c {it:04x}" for it in self.commands]
+        if not second:
+            return [*lines, *words, f"{self.bus} gap", *["slot"] * reply_of(first)]
+        to, sender = first >> 11, second[0] >> 11
+        lines += [f"{self.bus} gap", *(["slot"] * reply_of(second[0]) if sender in present else [f"{self.bus} c {sender << 11:04x}", *words])]
+        receivers = {*present} - {sender} if to == 31 else {*present} & {to}
+        if sender in present and not receivers:
+            return lines
+        return [*lines, f"{self.bus} gap", *["slot"] * (to != 31)]
+
+
+def reply_of(command):
+    """How many words the reply to a command has that is done."""
+    if rules.is_broadcast(command):
+        return 0
+    if rules.is_mode(command):
+        return 1 + (rules.is_transmit(command) and command & 31 >= 16)
+    return 1 + rules.is_transmit(command) * rules.count_of(command)
+
+
+class Schedule:
+    """1 to 12 messages for some terminals that look random, with lines of subsystems between them, and strange lines in some."""
+
+    def __init__(self, draw, addresses):
+        self.draw, self.addresses = draw, addresses
+        self.subaddresses, self.most = [*draw.sample(range(1, 31), 2), 30], draw.choice([1, 4, 4, 32])
+        # what a schedule is like differs from one to the other
+        self.busy, self.absent = draw.choice([0, 0.3, 0.7]), draw.choice([0, 0, 0.1])
+        self.all, self.strange = draw.choice([0, 0.1, 0.4]), draw.choice([0, 0, 0.4])
+        kinds = [self.receive, self.transmit, self.mode_code, self.mode_code, self.shutdown, self.transfer, self.subsystem, self.subsystem]
+        kinds = draw.sample(kinds, draw.choice([3, 6, len(kinds)])) + [self.receive, self.transfer]
+        self.lines, length = [], draw.randint(1, 12)
+        while sum(isinstance(it, Message) for it in self.lines) < length:
+            self.lines += self.strangers() if draw.random() < self.strange else []
+            line = draw.choice(kinds)()
+            if self.strange and isinstance(line, Message) and rules.is_broadcast(line.commands[0]):
+                # without it some terminal may take the broadcast for a word of another message; the test leaves open what is told then
+                self.lines.append(f"{line.bus} gap")
+            self.lines.append(line)
+
+    def own(self):
+        """The address of a terminal, or one without a profile."""
+        return self.draw.randrange(31) if self.draw.random() < self.absent else self.draw.choice(self.addresses)
+
+    def address(self):
+        return 31 if self.draw.random() < self.all else self.own()
+
+    def words(self, count):
+        return [self.draw.getrandbits(16) for _ in range(count)]
+
+    def message(self, fields, commands, count):
+        bus, data = self.draw.choice("AAB"), self.words(count)
+        line = f"{bus} {fields}" + ":" * bool(data) + "".join(f" {it:04x}" for it in data)
+        return Message(line, bus, commands, data)
+
+    def receive(self, transmit=0):
+        address, subaddress, count = self.address(), self.draw.choice(self.subaddresses), self.draw.randint(1, self.most)
+        command = address << 11 | transmit << 10 | subaddress << 5 | count % 32
+        return self.message(f"{['rx', 'tx'][transmit]} {named(address)} {subaddress} {count}", [command], count * (1 - transmit))
+
+    def transmit(self):
+        return self.receive(1)
+
+    def transfer(self):
+        sender, to, count = self.own(), self.address(), self.draw.randint(1, self.most)
+        while to == sender:
+            to = self.draw.randrange(32)
+        at, of = self.draw.choices(self.subaddresses, k=2)
+        commands = [to << 11 | at << 5 | count % 32, sender << 11 | 1 << 10 | of << 5 | count % 32]
+        return self.message(f"rx {named(to)} {at} {count} from {sender} {of}", commands, count)
+
+    def mode_code(self, codes=(0, 1, 2, 3, 6, 7, 8, 16, 17, 18, 19)):
+        """One of the standard as it is there, mostly, or with any T/R, and at subaddress 31."""
+        address, code = self.address(), self.draw.choice(codes)
+        if self.draw.randrange(4):
+            transmit, at, fields = rules.MODE_CODES[code][0], 0, f"mode {named(address)} {code}"
+        else:
+            code, transmit, at = self.draw.choice([code, self.draw.randrange(32)]), self.draw.randrange(2), self.draw.choice([0, 31])
+            fields = f"mode {named(address)} {code} {['rx', 'tx'][transmit]}" + " 31" * (at == 31)
+        return self.message(fields, [address << 11 | transmit << 10 | at << 5 | code], int(not transmit and code >= 16))
+
+    def shutdown(self):
+        return self.mode_code((4, 4, 4, 5))
+
+    def subsystem(self):
+        bits, address = self.draw.getrandbits(16), self.draw.choice(self.addresses)
+        write = f"write {self.draw.choice(self.subaddresses):02} {self.draw.randint(1, self.most):02} {bits:04x}"
+        flag = f"flag busy {int(self.draw.random() < self.busy)}"
+        return f"{address:02} {self.draw.choice([write, flag, flag])}"
+
+    def strangers(self):
+        """Events, status and data words that belong to no message, and lines that say nothing."""
+        bus, message = self.draw.choice("AAB"), self.draw.choice([self.receive, self.transmit, self.mode_code])()
+        command, gap = f"{bus} c {message.commands[0]:04x}", f"{bus} gap"
+        others = [gap, "slot", f"{bus} noise", f"{bus} d 0000", f"{bus} status {self.own()}", f"{bus} data 0011", "", "# A tx 5 1 1"]
+        return self.draw.choice([[command], [command], [command, gap], [command, gap], [command, gap, "slot"], *([it] for it in others)])
+
+
+def named(address):
+    return "all" if address == 31 else f"{address}"
+
+
+def event_of(line):
+    """The line of a script for one that is no message."""
+    status = re.fullmatch(r"([AB]) status (\d+)", line)
+    return f"{status[1]} c {int(status[2]) << 11:04x}" if status else line.replace("data", "d")
+
+
+def rows_of(setups, numbered, counts):
+    """The messages of each terminal, of numbered lines of a script on a bus of these, and the warnings."""
+    bus = buses.Bus(setups, counts)
+    events, warnings = {it.address: [] for it in setups}, []
+    for number, line in numbered:
+        warning = bus.take(line.encode())[1]
+        warnings += [f"schedule:{number}: warning: {warning}\n"] if warning else []
+        for address, came in bus.came.items():
+            events[address] += [(number, it) for it in came[len(events[address]):]]
+    return {it.address: message_rows.rows_of(it, events[it.address]) for it in setups}, warnings
+
+
+def result_of(rows, number, command):
+    """How a terminal ended the message of a line that has this command for it, or None where it did so well."""
+    words = [([part["word"] for part in (it["command"], it["transmitter"]) if part], it) for it in rows if it["line"] == number]
+    ends = [(it["ended"], it["why"]) for has, it in words if f"{command:04x}" in has and it["ended"] != "other"]
+    if not ends:
+        return "takes it for no message"
+    (ended, why), = ends
+    return None if (ended, why) == ("done", None) else ended + (f": {why}" if why else "")
+
+
+def reasons_of(message, number, setups, rows):
+    """Why a message does not end well, docs/bus.md."""
+    reasons = []
+    for command in message.commands:
+        if command >> 11 == 31:
+            # the transmitter of the transfer is no receiver of it
+            hearers = [it.address for it in setups if it.broadcast and it.address not in [other >> 11 for other in message.commands]]
+            results = {it: result_of(rows[it], number, command) for it in sorted(hearers)}
+            reasons += ["no terminal takes the broadcast"] * (None not in results.values())
+        elif command >> 11 in rows:
+            results = {command >> 11: result_of(rows[command >> 11], number, command)}
+        else:
+            results = {}
+            reasons.append(f"no profile has address {command >> 11:02}")
+        reasons += [f"terminal {address:02}: {result}" for address, result in results.items() if result]
+    return "; ".join(reasons)
+
+
+def judged(schedule, setups, counts):
+    """What is told of a schedule, with the status and the warnings."""
+    present = [it.address for it in setups]
+    events = [it.events(present) if isinstance(it, Message) else [event_of(it)] for it in schedule]
+    run_rows, warnings = rows_of(setups, [(number, event) for number, its in enumerate(events, 1) for event in its], counts)
+    told, messages, wrong = [], 0, 0
+    for number, message in enumerate(schedule, 1):
+        if not isinstance(message, Message):
+            continue
+        alone_rows, _ = rows_of(setups, [(number, it) for it in events[number - 1]], collections.Counter())
+        alone, in_run = (reasons_of(message, number, setups, it) for it in (alone_rows, run_rows))
+        messages, wrong = messages + 1, wrong + bool(alone or in_run)
+        if alone == in_run:
+            told += [f"schedule:{number}: {alone}"] if alone else []
+            counts["neither" if alone else "well"] += 1
+        else:
+            told += [f"schedule:{number}: {it} # {mark}" for it, mark in ((alone, "alone"), (in_run, "in the run")) if it]
+            counts["both, and not the same" if alone and in_run else "alone" if alone else "in the run"] += 1
+        counts.update(re.sub(r"^terminal \d\d: | \d\d$", "", it) for it in {*alone.split("; "), *in_run.split("; ")} if it)
+    counts["all end well"] += not wrong
+    told.append(f"{messages} messages" + (f", {wrong} of them don't end well" if wrong else ": all end well"))
+    return Given(int(wrong > 0), "".join(f"{it}\n" for it in told).encode(), "".join(warnings).encode())
+
+
+def loosened(output):
+    """What is told, with the reasons of a line as a set: the page gives no order."""
+    lines = [re.split("( # .*)", line) for line in output.decode().splitlines()]
+    return [({*line.split(": ", 1)[-1].split("; ")}, line.split(": ", 1)[0], *mark) for line, *mark in lines]
+
+
+@pytest.mark.parametrize("seed", range(CHECK_SEEDS))
+def test_check(tool, seed, tmp_path, count_runs):
+    """`bus --check` of random schedules: what is told of each message, the last line, the status and the warnings."""
+    draw, counts = random.Random(seed), collections.Counter()
+    profiles = {name: (text, setup) for name, text, setup in profiles_of(draw)}
+    write_files(tmp_path, {name: text for name, (text, _) in profiles.items()})
+    for number in range(SCHEDULES):
+        names = [f"{it:02}.{draw.randrange(VARIANTS)}" for it in draw.sample(range(31), draw.randint(1, 4))]
+        setups = [profiles[it][1] for it in names]
+        schedule = Schedule(draw, [it.address for it in setups])
+        lines = [it.line if isinstance(it, Message) else it for it in schedule.lines]
+        write_files(tmp_path, {"schedule": "".join(f"{it}\n" for it in lines)})
+        given, wanted = run(tool, "bus", "--check", *names, "schedule", folder=tmp_path), judged(schedule.lines, setups, counts)
+        assert given._replace(output=loosened(given.output)) == wanted._replace(output=loosened(wanted.output)), (number, names, lines)
+        # in the order of the commands, then of the addresses, where nothing strange is
+        assert given == wanted or schedule.strange, (number, names, lines)
+    assert {name: counts[name] for name, least in CHECKED.items() if counts[name] < least} == {}
+    count_runs(SCHEDULES)

@@ -20,6 +20,18 @@ def expanded(name, output, errors, *lines, status=0, more=""):
     return Row(name, f"bus --expand five six script{more}", status, output, errors, files={"script": "".join(f"{it}\n" for it in lines)})
 
 
+HEADER = "number    line bus kind      RT sub words ended\n"
+SEVEN = ("address = 7\nbroadcast = true\n[[rule]]\nto = \"both\"\ndirection = \"receive\"\nsubaddresses = 1\n"
+         "[[rule]]\ndirection = \"transmit\"\nsubaddresses = 2\n[[mode]]\ncodes = 4\n")  # fmt: skip
+
+
+def checked(name, told, *lines, status=1, errors=""):
+    """A check of messages for three terminals."""
+    output = "".join(f"script:{it}\n" if it[0].isdigit() and "messages" not in it else f"{it}\n" for it in told)
+    return Row(f"check: {name}", "bus --check five six seven script", status, output, errors,
+               files={"seven": SEVEN, "script": "".join(f"{it}\n" for it in lines)})
+
+
 def refused(name, line, told):
     """A script whose second line is refused."""
     return Row(name, "bus six five script", 2, "", f"script:2:{told}\n", files={"script": f"# so\n{line}\nA gap\n"})
@@ -79,6 +91,49 @@ ROWS = with_files(
              "A rx 9 1 1: 0001", "A c 2c41", "A gap", "A gap"),
     Row("a message without --expand", "bus five six script", 2, "", "script:1:3: error: a message and no event: `expand` writes its events, and --expand reads messages\n",
         files={"script": "A tx 5 2 1\n"}),
+    Row("the messages of each terminal", "bus --messages five six script", 0,
+        HEADER + "     1       2 A   transfer   6   1     1 done; from 5 2; data 5201; status 2800\n"
+        "     1       2 A   transfer   6   1     1 done; from 5 2; data 5201; status 3000; hand receive own 01 5201\n", files={"script": TRANSFER}),
+    expanded("the messages of each terminal: lines of the file",
+             HEADER + "     1       3 A   transfer   6   1     1 done; from 5 2; data 5201; status 2800\n"
+             "     1       3 A   transfer   6   1     1 done; from 5 2; data 5201; status 3000; hand receive own 01 5201\n"
+             "     2       4 A   tx         5   3     1 illegal; status 2c00 error\n"
+             "     4       6 B   rx         6   1     1 done; data 0002; status 3000; hand receive own 01 0002\n",
+             "", "05 write 02 01 5201", "# 5 to 6", "A rx 6 1 1 from 5 2: 0000", "A tx 5 3 1", "A rx 9 1 1: 0001", "B rx 6 1 1: 0002", more=" --messages"),
+    Row("the messages of each terminal: a broadcast", "bus --expand --messages five hearer seven script", 0,
+        HEADER + "     1       1 A   rx       all   1     1 done; data 0001; hand receive broadcast 01 0001\n"
+        "     1       1 A   rx       all   1     1 done; data 0001; hand receive broadcast 01 0001\n",
+        files={"hearer": HEARER, "seven": SEVEN, "script": "A rx all 1 1: 0001\n"}),
+    Row("the messages of each terminal: before a refused line", "bus --messages five script", 2,
+        HEADER + "     1       1 A   tx         5   2     1 done; data 0000; status 2800\n", "script:6:1: error: no profile has address 06\n",
+        files={"script": "A c 2c41\nA gap\nslot\nslot\nA c 2c41\n06 bit 0001\n"}),
+    Row("the messages of each terminal: a warning", "bus --messages five six script", 0,
+        HEADER + "     1       1 B   tx         5   2     1 done; status 2800\n     2       3 B   tx         6   2     1 done; status 3000\n",
+        "script:4: warning: a gap while terminal 05 replies: another terminal can begin its reply\n",
+        files={"script": "B c 2c41\nB gap\nB c 3441\nB gap\nslot\n"}),
+    checked("all end well", ["3 messages: all end well"], "# to 5", "A rx 5 1 1: 0001", "A rx 6 1 1 from 5 2: 0000", "B tx 6 2 1", status=0),
+    checked("no message", ["0 messages: all end well"], "A c 2c41", "A gap", "slot", "A status 5", "A data 0001", status=0),
+    checked("the name of no profile", ["1: no profile has address 09", "2: no profile has address 12; no profile has address 13",
+                                       "2 messages, 2 of them don't end well"], "A rx 9 1 1: 0001", "A rx 12 1 1 from 13 1: 0001"),
+    checked("illegal", ["1: terminal 05: illegal", "2: terminal 06: in error: wrong word count; terminal 05: illegal", "3: terminal 05: illegal",
+                        "4 messages, 3 of them don't end well"], "A tx 5 3 1", "A rx 6 1 1 from 5 3: 0000", "B mode 5 19", "B tx 6 2 1"),
+    checked("busy in the run", ["2: terminal 05: busy # in the run", "2 messages, 1 of them don't end well"],
+            "05 flag busy 1", "A rx 5 1 1: 0001", "05 flag busy 0", "A rx 5 1 1: 0001"),
+    checked("behind a command without its words", ["2: terminal 06: takes it for no message # in the run", "1 messages, 1 of them don't end well"],
+            "A c 3021", "A rx 6 1 1: 0001"),
+    checked("a transmitter that is shut down", ["2: terminal 06: in error: no status from the transmitter; terminal 07: done: transmitter shut down # in the run",
+                                                "3: terminal 06: in error: wrong word count; terminal 07: illegal # alone",
+                                                "3: terminal 06: in error: no status from the transmitter; terminal 07: illegal: transmitter shut down # in the run",
+                                                "3 messages, 2 of them don't end well"],
+            "B mode 7 4", "A rx 6 1 1 from 7 2: 0000", "A rx 6 1 1 from 7 3: 0000"),
+    checked("broadcasts", ["2: no terminal takes the broadcast; terminal 07: illegal", "2 messages, 1 of them don't end well"],
+            "A rx all 1 1: 0001", "A rx all 2 1: 0001"),
+    Row("check: a broadcast without a terminal that has the option", "bus --check five six script", 1,
+        "script:1: no terminal takes the broadcast\n1 messages, 1 of them don't end well\n", files={"script": "A rx all 1 1: 0001\n"}),
+    checked("stated answers", ["2 messages: all end well"], "A tx 5 2 1", "#> A s 2800", "#> A d 0000", "A rx 5 1 1: 0001", "#> hand receive own 01 0001", status=0),
+    checked("a warning", ["3: terminal 05: ignored: during a reply # in the run", "1 messages, 1 of them don't end well"], "A c 2c41\nA gap", "A tx 5 2 1",
+            errors="script:3: warning: a gap while terminal 05 replies: another terminal can begin its reply\n"),
+    checked("a line that is refused", [], "A tx 5 2 1", "08 flag busy 1", status=2, errors="script:2:1: error: no profile has address 08\n"),
     Row("no terminal alone", "bus five script --alone 7", 2, "", "--alone: no profile has address 07\n", files={"script": ""}),
 )  # fmt: skip
 
@@ -88,7 +143,8 @@ def test_bus(tool, row, tmp_path):
     check_row(tool, row, tmp_path)
 
 
-@pytest.mark.parametrize("words", ["bus", "bus five"])
+@pytest.mark.parametrize("words", ["bus", "bus five", "bus five script --check --messages", "bus five script --alone 5 --check",
+                                   "bus five script --messages --alone 5"])  # fmt: skip
 def test_arguments_that_are_refused(tool, words, tmp_path):
     write_files(tmp_path, {**FILES, "script": ""})
     assert run(tool, *words.split(), folder=tmp_path).status == 3
@@ -144,3 +200,8 @@ def test_each_terminal_answers_as_alone(tool, seed, tmp_path):
 def test_examples(tool, script):
     given = run(tool, "bus", "examples/bus/pump.toml", "examples/bus/valve.toml", f"examples/bus/{script}", folder=TOP)
     assert given.status == 0 and (b"warning" in given.errors) == (script != "transfer.script")
+
+
+def test_examples_are_checked(tool):
+    given = run(tool, "bus", "--check", "examples/bus/pump.toml", "examples/bus/valve.toml", "examples/bus/day.messages", folder=TOP)
+    assert given.status == 1 and given.output.decode().splitlines()[-1] == "5 messages, 2 of them don't end well"

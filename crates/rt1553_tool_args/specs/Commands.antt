@@ -23,6 +23,8 @@ use Rattle.rt1553_tool_args.specs.declared.command.ReportFormat.{ReportFormat}
 use Rattle.rt1553_tool_args.specs.declared.command.ReportFormat.TheVariants as report
 use Rattle.rt1553_tool_args.specs.declared.command.MessagesFormat.{MessagesFormat}
 use Rattle.rt1553_tool_args.specs.declared.command.MessagesFormat.TheVariants as messages
+use Rattle.rt1553_tool_args.specs.declared.command.BusOutput.{BusOutput}
+use Rattle.rt1553_tool_args.specs.declared.command.BusOutput.TheVariants as printed
 use Rattle.rt1553_tool_args.specs.declared.command.TestFormat.{TestFormat}
 use Rattle.rt1553_tool_args.specs.declared.command.TestFormat.TheVariants.{Script, Csv, Json}
 
@@ -81,6 +83,13 @@ is_given f id = is_value (codes "true") (first_value f id)
 -- JSON is asked for
 abbrev pub is_json : Found → Bool
 is_json f = is_value (codes "json") (first_value f (codes "format"))
+
+-- what `bus` is to print: at most one of the three options is given
+abbrev pub AsksOutput : Found → BusOutput → Type 0
+AsksOutput f printed.Transcript = HasAlone f None × (is_given f (codes "messages") ≡ false) × (is_given f (codes "check") ≡ false)
+AsksOutput f (printed.CameTo a) = HasAlone f (Some a) × (is_given f (codes "messages") ≡ false) × (is_given f (codes "check") ≡ false)
+AsksOutput f printed.Messages = HasAlone f None × (is_given f (codes "messages") ≡ true) × (is_given f (codes "check") ≡ false)
+AsksOutput f printed.Check = HasAlone f None × (is_given f (codes "messages") ≡ false) × (is_given f (codes "check") ≡ true)
 
 -- the argument, if it is there, before the others
 abbrev pub first_and_rest : Option Text → List Text → List Text
@@ -222,7 +231,7 @@ Asks f (Check p) = HasValue f (codes "profile") p.now
 Asks f (Canon p) = HasValue f (codes "profile") p.now
 Asks f (Run p script) = HasValue f (codes "profile") p.now × HasValue f (codes "script") script.now
 Asks f (Bus asked profiles) =
-    HasValue f (codes "script") asked.script.now × (asked.expand ≡ is_given f (codes "expand")) × HasAlone f asked.alone
+    HasValue f (codes "script") asked.script.now × (asked.expand ≡ is_given f (codes "expand")) × AsksOutput f asked.output
     × (texts_of profiles.items ≡ all_values f (codes "profile"))
 Asks f (Compare p q) = HasValue f (codes "profile") p.now × HasValue f (codes "other") q.now
 

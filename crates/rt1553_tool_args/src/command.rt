@@ -218,14 +218,27 @@ pub struct AskedMessages<'a> {
     pub names: Option<&'a str>,
 }
 
+/// What `bus` prints.
+#[derive(Clone, Copy)]
+pub enum BusOutput {
+    /// The transcript.
+    Transcript,
+    /// What comes to the terminal of this address, 0 to 30, as a script.
+    CameTo(u8),
+    /// The messages, a line for each terminal that they are for.
+    Messages,
+    /// Which messages don't end well. The script has messages, whether or not `expand` is asked for.
+    Check,
+}
+
 /// What `bus` is asked for.
 #[derive(Clone, Copy)]
 pub struct AskedBus<'a> {
     pub script: &'a str,
     /// The script has messages, too.
     pub expand: bool,
-    /// The address of the terminal of which is told what comes to it, in place of the transcript, where one is given.
-    pub alone: Option<u8>,
+    /// What is printed.
+    pub output: BusOutput,
 }
 
 /// What the command line asks for. The texts are names of files.
@@ -452,7 +465,7 @@ fn witness_command<'a>(alloc: Global, given: &ArgMatches<'a>) -> Result<ToolComm
 {
     let script = match all_of(alloc, given, "script")?.as_slice() {
         [script] => *script,
-        _ => return Err(NoCommand::Usage("--witness explains one script")),
+        _ => return Err(NoCommand::Usage("--witness takes one profile and one script")),
     };
     if given.get_str("profiles").is_some() || given.get_str("date").is_some() {
         return Err(NoCommand::Usage("--witness excludes --profiles and --date"));

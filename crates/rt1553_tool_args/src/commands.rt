@@ -72,7 +72,7 @@ const OF_COMPARE: [Argument; 2] = [PROFILE, OTHER];
 
 const OF_RUN: [Argument; 2] = [PROFILE, SCRIPT];
 
-const OF_BUS: [Argument; 4] = [
+const OF_BUS: [Argument; 6] = [
     Argument {
         id: "profile",
         given: Occurrence::Often,
@@ -91,6 +91,18 @@ const OF_BUS: [Argument; 4] = [
         given: Occurrence::Value,
         value: "ADDRESS",
         help: "prints what comes to the terminal of this address, as a script",
+    },
+    Argument {
+        id: "messages",
+        given: Occurrence::Flag,
+        value: "",
+        help: "prints the messages, as `messages` does, a line for each of their terminals",
+    },
+    Argument {
+        id: "check",
+        given: Occurrence::Flag,
+        value: "",
+        help: "takes messages as --expand does, and prints which of them do not end well",
     },
 ];
 

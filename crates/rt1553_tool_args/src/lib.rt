@@ -12,7 +12,8 @@ mod versions;
 pub use args::{NoCommand, read_tool_args};
 pub use command::{
     AskedAnswers, AskedBus, AskedComparison, AskedCoverage, AskedDrawing, AskedMessages,
-    AskedProfile, AskedRecording, AskedReport, AskedResults, AskedWitness, CoverageFormat,
-    LintFormat, MessagesFormat, Profiles, ReportFormat, ScriptKind, TestFormat, ToolCommand,
+    AskedProfile, AskedRecording, AskedReport, AskedResults, AskedWitness, BusOutput,
+    CoverageFormat, LintFormat, MessagesFormat, Profiles, ReportFormat, ScriptKind, TestFormat,
+    ToolCommand,
 };
 pub use versions::{CANONICAL_VERSION, PROGRAM_VERSION, TOOLCHAIN, VERSION};

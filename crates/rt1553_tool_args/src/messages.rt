@@ -1,12 +1,12 @@
 //! What `messages` and `bus` are asked for.
 ghost use Rattle.std.specs.Prelude.{◌≡◌, IfOk, codes};
 ghost use Rattle.clap.specs.Words.{first_value, found_of};
-ghost use Rattle.rt1553_tool_args.specs.Commands.{Asks, HasAlone, HasBusAddress, HasSubaddress, IsNumberUpTo, command_name, messages_format_of};
+ghost use Rattle.rt1553_tool_args.specs.Commands.{Asks, AsksOutput, HasAlone, HasBusAddress, HasSubaddress, IsNumberUpTo, command_name, messages_format_of};
 
 use crate::args::NoCommand;
 use crate::command::{
-    AskedAnswers, AskedBus, AskedMessages, MessagesFormat, ToolCommand, all_of, is_flag_given,
-    names_of, required,
+    AskedAnswers, AskedBus, AskedMessages, BusOutput, MessagesFormat, ToolCommand, all_of,
+    is_flag_given, names_of, required,
 };
 use clap::ArgMatches;
 use std::alloc::Global;
@@ -104,6 +104,22 @@ fn alone_of(given: &ArgMatches<'_>) -> Result<Option<u8>, NoCommand>
     }
 }
 
+/// What `bus` is to print.
+fn bus_output(given: &ArgMatches<'_>) -> Result<BusOutput, NoCommand>
+    ensures { IfOk result (AsksOutput (found_of given.now)) }
+{
+    let alone = alone_of(given)?;
+    let messages = is_flag_given(given, "messages");
+    let check = is_flag_given(given, "check");
+    match (alone, messages, check) {
+        (None, false, false) => Ok(BusOutput::Transcript),
+        (Some(address), false, false) => Ok(BusOutput::CameTo(address)),
+        (None, true, false) => Ok(BusOutput::Messages),
+        (None, false, true) => Ok(BusOutput::Check),
+        _ => Err(NoCommand::Usage("--alone, --messages and --check exclude each other")),
+    }
+}
+
 /// What `bus` is asked for.
 pub(crate) fn bus_command<'a>(
     alloc: Global,
@@ -115,7 +131,7 @@ pub(crate) fn bus_command<'a>(
     let asked = AskedBus {
         script: required(given, "script")?,
         expand,
-        alone: alone_of(given)?,
+        output: bus_output(given)?,
     };
     Ok(ToolCommand::Bus(asked, all_of(alloc, given, "profile")?))
 }

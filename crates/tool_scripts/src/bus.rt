@@ -1,10 +1,14 @@
 //! The command `bus`: a script that is played to the terminals of several profiles, on one bus.
 ghost use Rattle.std.specs.Prelude.{◌≡◌, ◌≤◌, IfOk};
+ghost use Rattle.tool_scripts.specs.Troubles.{IsBusStatus};
 
+use crate::bus_check::check_on_bus;
+use crate::bus_list::list_on_bus;
+use crate::bus_watch::{SpokenTo, WatchedBus};
 use refused_lines::{first_line, misfit_of};
 use rt1553::Normal;
 use rt1553_expand::ScriptFor;
-use rt1553_tool_args::AskedBus;
+use rt1553_tool_args::{AskedBus, BusOutput};
 use script_terminals::{
     BusLineFault, BusScriptFault, BusTold, BusWarning, address_first, play_on_bus,
 };
@@ -31,7 +35,7 @@ fn load_for<R: Files + AllocGlobal>(
     asked: AskedBus<'_>,
     normals: &[Normal],
 ) -> Result<LoadedScript, ToolFault> {
-    if !asked.expand {
+    if !asked.expand && !matches!(asked.output, BusOutput::Check) {
         return load_script(rt, asked.script, None);
     }
     let mut addresses = Vec::new(rt.alloc());
@@ -93,19 +97,16 @@ fn bus_of<R: AllocGlobal>(
     Ok(bus)
 }
 
-/// What is to be told: of the terminal of this address alone, if one is given.
-fn told_of<R: AllocGlobal>(
+/// The place of the terminal of this address.
+fn place_of<R: AllocGlobal>(
     rt: &R,
     bus: &TerminalBus<Normal>,
-    alone: Option<u8>,
-) -> Result<BusTold, ToolFault> {
-    let Some(address) = alone else {
-        return Ok(BusTold::Answers);
-    };
+    address: u8,
+) -> Result<usize, ToolFault> {
     for place in 0..bus.len() {
         if let Some(it) = bus.answer(place) {
             if it.address == address {
-                return Ok(BusTold::CameTo(place));
+                return Ok(place);
             }
         }
     }
@@ -114,7 +115,7 @@ fn told_of<R: AllocGlobal>(
 }
 
 /// Warns, on the standard error, of lines that break the discipline of a controller.
-fn warn<R: AllocGlobal + Eprint>(
+pub(crate) fn warn<R: AllocGlobal + Eprint>(
     rt: &R,
     name: &str,
     script: &LoadedScript,
@@ -194,7 +195,7 @@ fn misfit_text(alloc: Global, line: &[u8]) -> Result<String, AllocError> {
 }
 
 /// The fault of a script that is not played to its end.
-fn refused_script<R: AllocGlobal>(
+pub(crate) fn refused_script<R: AllocGlobal>(
     rt: &R,
     name: &str,
     script: &LoadedScript,
@@ -215,25 +216,53 @@ fn refused_script<R: AllocGlobal>(
     Ok(ToolFault::Refused(told))
 }
 
-/// Plays the script of a file to the terminals of profiles on one bus, and writes the transcript, or what comes to one of them. Of a
-/// script that is refused, that of the lines before is written. The status is 0.
+/// Plays the script of a file to a bus, and writes what is to be told. Of a script that is refused, that of the lines before is written.
+/// The status is 0.
+fn write_played<R: AllocGlobal + Eprint, W: Write>(
+    rt: &R,
+    name: &str,
+    script: &LoadedScript,
+    mut bus: TerminalBus<Normal>,
+    told: BusTold,
+    output: &mut W,
+) -> Result<u8, ToolFault>
+    ensures { IfOk result (λ status. status ≡ 0) }
+{
+    let played = play_on_bus(rt.alloc(), &mut bus, script.text.as_slice(), told)?;
+    warn(rt, name, script, played.warnings.as_slice())?;
+    write_bytes(output, played.text.as_slice())?;
+    match played.fault {
+        Some(fault) => Err(refused_script(rt, name, script, fault)?),
+        None => Ok(0),
+    }
+}
+
+/// Plays the script of a file to the terminals of profiles on one bus, and writes what is asked for: the transcript, what comes to one of
+/// them, the messages, or which of these don't end well. The status is 0, and that of a check 1 where a message doesn't.
 pub fn play_bus<R: Files + AllocGlobal + Eprint, W: Write>(
     rt: &R,
     asked: AskedBus<'_>,
     names: &[&str],
     output: &mut W,
 ) -> Result<u8, ToolFault>
-    ensures { IfOk result (λ status. status ≡ 0) }
+    ensures status { IfOk result (IsBusStatus asked.entry.output) }
+    ensures most { IfOk result (λ status. status ≤ 1) }
 {
     let normals = load_all(rt, names)?;
-    let script = load_for(rt, asked, normals.as_slice())?;
-    let mut bus = bus_of(rt, names, normals.as_slice())?;
-    let told = told_of(rt, &bus, asked.alone)?;
-    let played = play_on_bus(rt.alloc(), &mut bus, script.text.as_slice(), told)?;
-    warn(rt, asked.script, &script, played.warnings.as_slice())?;
-    write_bytes(output, played.text.as_slice())?;
-    match played.fault {
-        Some(fault) => Err(refused_script(rt, asked.script, &script, fault)?),
-        None => Ok(0),
+    let normals = normals.as_slice();
+    let script = load_for(rt, asked, normals)?;
+    let bus = bus_of(rt, names, normals)?;
+    let name = asked.script;
+    match asked.output {
+        BusOutput::Transcript => write_played(rt, name, &script, bus, BusTold::Answers, output),
+        BusOutput::CameTo(address) => {
+            let told = BusTold::CameTo(place_of(rt, &bus, address)?);
+            write_played(rt, name, &script, bus, told, output)
+        }
+        BusOutput::Messages => {
+            let watched = WatchedBus::power_up(rt.alloc(), normals, SpokenTo::ALL)?;
+            list_on_bus(rt, name, &script, watched, output)
+        }
+        BusOutput::Check => check_on_bus(rt, name, &script, &bus, normals, output),
     }
 }

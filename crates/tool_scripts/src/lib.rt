@@ -3,6 +3,11 @@
 
 mod answers;
 mod bus;
+mod bus_check;
+mod bus_list;
+mod bus_messages;
+mod bus_trouble;
+mod bus_watch;
 mod draw;
 mod draw_list;
 mod expand;

@@ -1,0 +1,208 @@
+//! Terminals on a bus, beside each of which its messages are watched.
+use message_rows::{ClosedRows, MessageWatch, RowEnd, RunRow};
+use refused_lines::{first_line, line_in_file};
+use rt1553::{Event, Normal};
+use script_lines::MAX_LINES;
+use script_terminals::{BusLineFault, BusScriptFault, BusWarning, read_bus_line};
+use std::alloc::{AllocError, Global};
+use terminal_bus::{BusEvent, CameTo, TerminalBus};
+use tool_files::ToolFault;
+
+/// The address of all terminals.
+pub const ALL_TERMINALS: u8 = 31;
+
+/// What takes the rows of messages as they end, each for the terminal of this address.
+pub trait TakesRows {
+    /// Takes a row.
+    fn take(&mut self, address: u8, row: &RunRow) -> Result<(), ToolFault>;
+}
+
+/// To which terminals a message speaks.
+#[derive(Clone, Copy)]
+pub struct SpokenTo {
+    /// The address of its first command, 0 to 31, of which 31 stands for all terminals.
+    pub address: u8,
+    /// In a transfer between two terminals, the address of that which transmits.
+    pub transmitter: Option<u8>,
+}
+
+/// A terminal, and its messages.
+#[derive(Drop)]
+struct WatchedTerminal {
+    address: u8,
+    watch: MessageWatch<Normal>,
+}
+
+/// Terminals on a bus, and the messages of each.
+#[derive(Drop)]
+pub struct WatchedBus {
+    bus: TerminalBus<Normal>,
+    /// Those of the bus, at their places.
+    terminals: Vec<WatchedTerminal>,
+}
+
+impl WatchedTerminal {
+    /// Hands the rows of messages on that are over, of those that are for the terminal.
+    fn hand_closed<T: TakesRows>(
+        &self,
+        closed: &ClosedRows,
+        taker: &mut T,
+    ) -> Result<(), ToolFault> {
+        for row in [&closed.earlier, &closed.later] {
+            match row {
+                Some(row) if row.end != RowEnd::Other => taker.take(self.address, row)?,
+                _ => {}
+            }
+        }
+        Ok(())
+    }
+
+    /// Plays what came in a step of the bus, under this number.
+    fn play_came<T: TakesRows>(
+        &mut self,
+        came: &CameTo,
+        number: u64,
+        taker: &mut T,
+    ) -> Result<(), ToolFault> {
+        for event in [came.event, came.on_a, came.on_b] {
+            if let Some(event) = event {
+                let closed = self.watch.step(event, number);
+                self.hand_closed(&closed, taker)?;
+            }
+        }
+        Ok(())
+    }
+}
+
+impl SpokenTo {
+    /// All terminals.
+    pub const ALL: SpokenTo = SpokenTo {
+        address: ALL_TERMINALS,
+        transmitter: None,
+    };
+
+    /// Whether the terminal of this address, 0 to 30, is one of them.
+    fn has(&self, address: u8) -> bool {
+        self.address == ALL_TERMINALS
+            || self.address == address
+            || self.transmitter == Some(address)
+    }
+}
+
+/// What the line of this number says to the terminals of a bus.
+fn said_to(
+    bus: &TerminalBus<Normal>,
+    number: u64,
+    line: &[u8],
+) -> Result<Option<BusEvent>, BusScriptFault> {
+    if number > MAX_LINES as u64 {
+        return Err(BusScriptFault::TooLong);
+    }
+    match read_bus_line(line) {
+        Ok(Some(BusEvent::Subsystem(address, _))) if !bus.has_terminal(address) => {
+            Err(BusScriptFault::Line(number, BusLineFault::NoTerminal(address)))
+        }
+        Ok(said) => Ok(said),
+        Err(fault) => Err(BusScriptFault::Line(number, fault)),
+    }
+}
+
+impl WatchedBus {
+    /// The bus of those terminals of profiles that are spoken to, at power-up and in the order of their addresses.
+    pub fn power_up(
+        alloc: Global,
+        normals: &[Normal],
+        spoken_to: SpokenTo,
+    ) -> Result<WatchedBus, AllocError> {
+        let mut watched = WatchedBus {
+            bus: TerminalBus::new(),
+            terminals: Vec::new(alloc),
+        };
+        for address in 0..31u8 {
+            if spoken_to.has(address) {
+                watched.add_at(normals, address)?;
+            }
+        }
+        Ok(watched)
+    }
+
+    /// Adds the terminals of profiles with this address, of which there is one at most.
+    fn add_at(&mut self, normals: &[Normal], address: u8) -> Result<(), AllocError> {
+        for normal in normals {
+            if normal.address() == address && self.bus.add(normal.setup(), *normal).is_ok() {
+                let watch = MessageWatch::power_up(normal.setup(), *normal);
+                self.terminals.push(WatchedTerminal { address, watch })?;
+            }
+        }
+        Ok(())
+    }
+
+    /// Adds the event of the line of this number to the warnings, if it breaks the discipline of a controller.
+    fn warn_of(
+        &self,
+        event: &BusEvent,
+        line: u64,
+        warnings: &mut Vec<BusWarning>,
+    ) -> Result<(), AllocError> {
+        if let BusEvent::OnBus(event) = event {
+            if let Err(breach) = self.bus.may_put(*event) {
+                warnings.push(BusWarning { line, breach })?;
+            }
+        }
+        Ok(())
+    }
+
+    /// Plays an event under this number, and hands the rows on that it ends, in the order of the terminals.
+    fn play_event<T: TakesRows>(
+        &mut self,
+        event: &BusEvent,
+        number: u64,
+        taker: &mut T,
+    ) -> Result<(), ToolFault> {
+        let _ = self.bus.step(*event);
+        for place in 0..self.terminals.len() {
+            let came = self.bus.came_to(*event, place);
+            if let Some(terminal) = self.terminals.as_mut_slice().get_mut(place) {
+                terminal.play_came(&came, number, taker)?;
+            }
+        }
+        Ok(())
+    }
+
+    /// Hands the rows of messages on that are left, in the order of the terminals.
+    fn end<T: TakesRows>(&mut self, taker: &mut T) -> Result<(), ToolFault> {
+        for terminal in self.terminals.iter_mut() {
+            let closed = terminal.watch.end();
+            terminal.hand_closed(&closed, taker)?;
+        }
+        Ok(())
+    }
+
+    /// Plays a script, and hands the rows of its messages on as they end. The events of its lines count under `numbers`, or under the
+    /// numbers of the lines. Gives the fault for which the run ends before the script does.
+    pub fn play<T: TakesRows>(
+        &mut self,
+        script: &[u8],
+        numbers: Option<&[u64]>,
+        warnings: &mut Vec<BusWarning>,
+        taker: &mut T,
+    ) -> Result<Option<BusScriptFault>, ToolFault> {
+        let mut rest = script;
+        let mut line_number = 1u64;
+        while !rest.is_empty() {
+            let (line, more) = first_line(rest);
+            match said_to(&self.bus, line_number, line) {
+                Ok(Some(event)) => {
+                    self.warn_of(&event, line_number, warnings)?;
+                    self.play_event(&event, line_in_file(numbers, line_number), taker)?;
+                }
+                Ok(None) => {}
+                Err(fault) => return Ok(Some(fault)),
+            }
+            line_number = line_number.saturating_add(1);
+            rest = more;
+        }
+        self.end(taker)?;
+        Ok(None)
+    }
+}
