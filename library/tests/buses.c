@@ -1,29 +1,6 @@
 /* What rt1553.h says of a bus of terminals, that no clause says or that lies on C's side: layouts, statuses, what stays as it was,
    the calls in the header and whole messages. The last line is 'N passed, M failed'. */
-#include "rt1553.h"
-
-#include <stdio.h>
-#include <string.h>
-
-static int passed, failed;
-
-static void row(const char *name, int holds) {
-    passed += holds != 0;
-    failed += holds == 0;
-    if (!holds)
-        printf("FAILED: %s\n", name);
-}
-
-static rt1553_fault untouched(void) {
-    rt1553_fault fault;
-    memset(&fault, 0xa5, sizeof fault);
-    return fault;
-}
-
-static int is_untouched(const rt1553_fault *fault) {
-    rt1553_fault same = untouched();
-    return memcmp(fault, &same, sizeof same) == 0;
-}
+#include "rows.h"
 
 static rt1553_terminal *terminal_of(int address) {
     char text[256];

@@ -1,18 +1,6 @@
 /* What rt1553.h says of each call, that no clause says or that lies on C's side: layouts, statuses, rooms, what stays as it
    was, the calls in the header and the batch. The last line is 'N passed, M failed'. */
-#include "rt1553.h"
-
-#include <stdio.h>
-#include <string.h>
-
-static int passed, failed;
-
-static void row(const char *name, int holds) {
-    passed += holds != 0;
-    failed += holds == 0;
-    if (!holds)
-        printf("FAILED: %s\n", name);
-}
+#include "rows.h"
 
 static const uint8_t *bytes(const char *text) { return (const uint8_t *)text; }
 
@@ -32,17 +20,6 @@ static const char *const WHOLE = "address = 5\n"
                                  "[[mode]]\n"
                                  "to = \"both\"\n"
                                  "codes = \"0-31\"\n";
-
-static rt1553_fault untouched(void) {
-    rt1553_fault fault;
-    memset(&fault, 0xa5, sizeof fault);
-    return fault;
-}
-
-static int is_untouched(const rt1553_fault *fault) {
-    rt1553_fault same = untouched();
-    return memcmp(fault, &same, sizeof same) == 0;
-}
 
 static int tells(const rt1553_fault *fault, uint8_t kind, uint8_t number, uint64_t line, const char *text) {
     return fault->kind == kind && fault->number == number && fault->line == line && strcmp(fault->text, text) == 0
