@@ -113,7 +113,9 @@ impl<L: Legality> Terminal<L> {
     /// most scripts are made, are taken where this is called.
     #[inline(always)]
     pub fn take(&mut self, event: Event)
-        ensures { TakesEvent L.is_legal event self.old self.new }
+        ensures takes { TakesEvent L.is_legal event self.old self.new }
+        ensures legality { self.new.legality ≡ self.old.legality }
+        ensures description { own_description L.is_legal self.new ≡ own_description L.is_legal self.old }
     {
         match event {
             Event::Word(bus, word) => self.hear(bus, word),
@@ -124,7 +126,9 @@ impl<L: Legality> Terminal<L> {
     /// Takes the word of this sync and these bits with the right parity, as nearly all words have it.
     #[inline(always)]
     pub fn take_valid(&mut self, bus: Bus, kind: Kind, bits: u16)
-        ensures { TakesEvent L.is_legal (WordEvent bus (valid_word kind bits)) self.old self.new }
+        ensures takes { TakesEvent L.is_legal (WordEvent bus (valid_word kind bits)) self.old self.new }
+        ensures legality { self.new.legality ≡ self.old.legality }
+        ensures description { own_description L.is_legal self.new ≡ own_description L.is_legal self.old }
     {
         if self.replies_on(bus) {
             return;

@@ -68,4 +68,4 @@ returns-in-Err-write_all-clause-err g c =
 pub returns-clause-ok : goal.returns-clause-ok
 returns-clause-ok g c =
     taken_played c.args.terminal.now c.take_valid.new.self c.args.writer.now c.args.bytes.now c.args.most c.of.result
-    (word_taken c.args.terminal.now c.take_valid.new.self c.args.bytes.now c.args.most 8 c.in-Some.word.0 (valid_word Com c.in-Some.word.1) c.of.result c.requires.some (omega arith) c.in-Some.ensures c.of.ensures c.take_valid.ensures)
+    (word_taken c.args.terminal.now c.take_valid.new.self c.args.bytes.now c.args.most 8 c.in-Some.word.0 (valid_word Com c.in-Some.word.1) c.of.result c.requires.some (omega arith) c.in-Some.ensures c.of.ensures c.take_valid.ensures.takes)

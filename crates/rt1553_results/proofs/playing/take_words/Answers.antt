@@ -10,4 +10,4 @@ returns-in-Some g c P h s =
     let x = c.args.exchange.now in
     let k = command_event x.command ∷ h in
     subst (λ first. StandsAt g.L.Legality.is_legal P (after_words (words_in first x.zeros) k) c.take_zeros.new.terminal) (sym c.in-Some.is)
-    (c.take_zeros.ensures P (data_event c.in-Some.first ∷ k) (c.take_valid-in-Some.ensures P k (c.take_valid.ensures P h s)))
+    (c.take_zeros.ensures P (data_event c.in-Some.first ∷ k) (c.take_valid-in-Some.ensures.takes P k (c.take_valid.ensures.takes P h s)))

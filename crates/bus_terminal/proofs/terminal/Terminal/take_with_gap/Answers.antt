@@ -33,6 +33,6 @@ returns-then-starts_alone g c =
 
 pub returns : goal.returns
 returns g c = (
-  (refl, λ _. tt, (λ P h s. c.step.follows.holds-at-none.0 P _ (c.take_valid.ensures P h s))),
-  record { answer = λ P h s. c.step.ensures.answer P _ (c.take_valid.ensures P h s); stands = tt; small = c.step.ensures.small },
+  (refl, λ _. tt, (λ P h s. c.step.follows.holds-at-none.0 P _ (c.take_valid.ensures.takes P h s))),
+  record { answer = λ P h s. c.step.ensures.answer P _ (c.take_valid.ensures.takes P h s); stands = tt; small = c.step.ensures.small },
 )

@@ -10,7 +10,7 @@ use Rattle.recorded_terminal.proofs.follower.Follower.exchange_if.Goals as goal
 pub returns-then-takes : goal.returns-then-takes
 returns-then-takes g c P h s =
     subst (λ takes. StandsAt g.L.Legality.is_legal P (history_after (if_shut takes (Word c.args.bus (valid_word Com c.args.command) ∷ Gap c.args.bus ∷ Slot ∷ [])) h) c.take-then-takes.new.self)
-    (sym c.if-takes.true) (c.take-then-takes.ensures P _ (c.take.ensures P _ (c.take_valid.ensures P h s)))
+    (sym c.if-takes.true) (c.take-then-takes.ensures.takes P _ (c.take.ensures.takes P _ (c.take_valid.ensures.takes P h s)))
 
 pub returns-else-takes : goal.returns-else-takes
 returns-else-takes g c P h s =
