@@ -12,6 +12,7 @@ pub mod Fair
 pub mod TransferLaw
 pub mod Proper
 pub mod Together
+pub mod Same
 pub mod Places
 pub mod BreachLaw
 pub mod CameLaw

@@ -11,8 +11,8 @@ use Rattle.bus_word.specs.declared.cell.Cell.{Cell}
 use Rattle.terminal_bus.specs.declared.bus.NotAdded.TheVariants.{SameAddress, Full}
 use Rattle.terminal_bus.specs.Members.{Member}
 use Rattle.terminal_bus.specs.Discipline.{has_address}
-use Rattle.terminal_bus.specs.AtMembers.{seat_at, AtBoth, SeatStands, SeatsStandAt, not_added}
-use Rattle.terminal_bus.specs.inner.Seats.{AtSeat, EachSeat, EachBelow, is_addressed}
+use Rattle.terminal_bus.specs.AtMembers.{seat_at, AtBoth, SeatStands, SeatsStandAt, not_added, AtSeat, EachSeat}
+use Rattle.terminal_bus.specs.inner.Seats.{EachBelow, is_addressed}
 
 module _ {L : Type 0} (R : Seat L → Seat L → Type 0) where
   pub below_next : (i : ℕ) (olds news : List (Option (Seat L))) (o s : Option (Seat L)) → i < length news → EachBelow R i olds news → AtSeat R (get_or news i o) s → EachBelow R (i + 1) olds (set news i s)

@@ -22,8 +22,8 @@ use Rattle.terminal_bus.specs.Members.{Member, word_sent, if_on, sent_on, heard_
 use Rattle.terminal_bus.specs.Alone.{answers_in}
 use Rattle.terminal_bus.specs.Transfer.{action_of, actions}
 use Rattle.terminal_bus.specs.Answers.{shown_kept}
-use Rattle.terminal_bus.specs.AtMembers.{seat_at, AtBoth, SeatStands, SeatsStandAt, kept_at, collides}
-use Rattle.terminal_bus.specs.inner.Seats.{TakesAll, Stays, SeatSteps, StepsIfAddressed, sends_there, sends_at, Hears, AtSeat, EachSeat, are_many, SlotSteps}
+use Rattle.terminal_bus.specs.AtMembers.{seat_at, AtBoth, SeatStands, SeatsStandAt, kept_at, collides, AtSeat, EachSeat}
+use Rattle.terminal_bus.specs.inner.Seats.{TakesAll, Stays, SeatSteps, StepsIfAddressed, sends_there, sends_at, Hears, are_many, SlotSteps}
 
 -- what is kept of two lists that give the same at each place
 abbrev pub over : {Y Z : Type 0} → (Y → Option Z) → Option Y → Option Z

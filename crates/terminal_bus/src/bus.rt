@@ -5,7 +5,7 @@ use crate::copied_answer::CopiedAnswer;
 use crate::discipline::{Breach, breach_of};
 use crate::event::BusEvent;
 use crate::exchange::{addressed_steps, each_steps, exchange, heard_unless, sent_by};
-use crate::seat::{Seat, has_address, is_addressed, place_copy};
+use crate::seat::{Seat, has_address, is_addressed, place_copy, terminal_copy};
 use arrayvec::ArrayVec;
 use bus_legal::{Legality, Setup};
 use bus_terminal::Terminal;
@@ -41,7 +41,7 @@ impl<L: Legality> TerminalBus<L> {
     ghost use Rattle.terminal_bus.specs.Came.{events_that_came};
     ghost use Rattle.terminal_rules.specs.LookBack.{some};
     ghost use Rattle.terminal_bus.specs.Members.{Member, bus_after, events_for, heard_on};
-    ghost use Rattle.terminal_bus.specs.AtMembers.{BusStandsAt, AnswersAt, collisions, seat_at, kept_at, not_added, answered_address, member_address};
+    ghost use Rattle.terminal_bus.specs.AtMembers.{BusStandsAt, AnswersAt, AreSameTerminals, collisions, seat_at, kept_at, not_added, answered_address, member_address};
     ghost use Rattle.terminal_bus.specs.inner.Seats.{SlotSteps};
 
     /// Gives a bus without terminals.
@@ -154,6 +154,7 @@ impl<L: Legality> TerminalBus<L> {
         ensures stands { (members : List Member) → BusStandsAt L.is_legal members self.old → BusStandsAt L.is_legal (bus_after members event) self.new }
         ensures answers { (members : List Member) → BusStandsAt L.is_legal members self.old → AnswersAt members event self.new }
         ensures collisions { (members : List Member) → BusStandsAt L.is_legal members self.old → result ≡ collisions members event }
+        ensures same { AreSameTerminals L.is_legal self.old self.new }
     {
         match event {
             BusEvent::OnBus(event) => {
@@ -187,7 +188,7 @@ impl<L: Legality + Drop> TerminalBus<L> {
     ghost use Rattle.terminal_rules.specs.declared.event.Event.{Event};
     ghost use Rattle.bus_terminal.specs.Stands.{StandsAt, own_description};
     ghost use Rattle.terminal_bus.specs.Members.{Member, member_of, member_at};
-    ghost use Rattle.terminal_bus.specs.AtMembers.{BusStandsAt, not_added};
+    ghost use Rattle.terminal_bus.specs.AtMembers.{BusStandsAt, AreSameTerminals, IsBehind, IsTerminalAt, not_added, seat_at};
 
     /// Adds a terminal at power-up behind the others. An error leaves the bus as it was.
     ///
@@ -216,6 +217,7 @@ impl<L: Legality + Drop> TerminalBus<L> {
         ensures not_added { (members : List Member) → BusStandsAt L.is_legal members self.old → result_err result ≡ not_added members address }
         ensures joined { OnOk result ((members : List Member) (P : Description) (h : List Event) → BusStandsAt L.is_legal members self.old → StandsAt L.is_legal P h terminal
             → BusStandsAt L.is_legal (members ++ member_at P h ∷ []) self.new) }
+        ensures behind { OnOk result (IsBehind terminal self.old self.new) }
         ensures unchanged { OnErr result (self.new ≡ self.old) }
     {
         if let Some(reason) = self.not_added(address) {
@@ -229,11 +231,24 @@ impl<L: Legality + Drop> TerminalBus<L> {
         Ok(())
     }
 
+    /// Gives the terminal at a place once more: it stands wherever that one stands. None where the bus has no terminal there.
+    pub fn terminal(&self, place: usize) -> Option<Terminal<L>>
+    where
+        L: Copy,
+        ensures { IsTerminalAt L.is_legal (seat_at self.now.seats.items place) result }
+    {
+        match self.seats.as_slice().get(place) {
+            Some(seat) => terminal_copy(seat),
+            None => None,
+        }
+    }
+
     /// Gives a bus whose terminals stand wherever those of this one stand, each at its place, without answers.
     pub fn copy(&self) -> TerminalBus<L>
     where
         L: Copy,
-        ensures { (members : List Member) → BusStandsAt L.is_legal members self.now → BusStandsAt L.is_legal members result }
+        ensures stands { (members : List Member) → BusStandsAt L.is_legal members self.now → BusStandsAt L.is_legal members result }
+        ensures same { AreSameTerminals L.is_legal self.now result }
     {
         let places = self.seats.as_slice();
         let mut seats = ArrayVec::new();

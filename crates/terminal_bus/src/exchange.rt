@@ -6,8 +6,8 @@ ghost use Rattle.bus_terminal.specs.Answer.{shown_word};
 ghost use Rattle.terminal_rules.specs.LookBack.{keep};
 ghost use Rattle.terminal_rules.specs.Out.{Sending};
 ghost use Rattle.terminal_bus.specs.Members.{heard_of, unless_sends};
-ghost use Rattle.terminal_bus.specs.AtMembers.{seat_at};
-ghost use Rattle.terminal_bus.specs.inner.Seats.{EachSeat, AtSeat, SeatSteps, SeatTakes, StepsIfAddressed, Hears, sends_at, are_many};
+ghost use Rattle.terminal_bus.specs.AtMembers.{seat_at, EachSeat, AtSeat};
+ghost use Rattle.terminal_bus.specs.inner.Seats.{SeatSteps, SeatTakes, StepsIfAddressed, Hears, sends_at, are_many};
 
 use crate::copied_answer::CopiedAnswer;
 use crate::seat::Seat;

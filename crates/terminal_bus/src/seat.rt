@@ -1,11 +1,12 @@
 //! A terminal at its place on the bus.
 ghost use Rattle.std.specs.Prelude.{◌≡◌, ◌||◌};
 ghost use Rattle.terminal_rules.specs.LookBack.{some};
-ghost use Rattle.terminal_bus.specs.inner.Seats.{is_addressed, AtSeat, Stays};
+ghost use Rattle.terminal_bus.specs.AtMembers.{AtSeat, IsTerminalAt};
+ghost use Rattle.terminal_bus.specs.inner.Seats.{is_addressed, Stays};
 
 use crate::copied_answer::{CopiedAnswer, kept};
 use bus_legal::{Legality, Setup};
-use bus_terminal::{Sent, Terminal};
+use bus_terminal::{Answer, Sent, Terminal};
 use bus_word::{Bus, Kind, Raw};
 use terminal_rules::Event;
 use terminal_state::{Phase, same_bus};
@@ -55,14 +56,24 @@ impl<L: Legality> Seat<L> {
         }
     }
 
-    /// Takes an event, and keeps the answer.
+    /// Takes an event, and keeps the answer. Words, of which most events are, have none.
+    #[inline(always)]
     pub(crate) fn step(&mut self, event: Event)
         ensures { SeatSteps L.is_legal event self.old self.new }
     {
-        self.answer = kept(self.terminal.step(event));
+        if let Event::Word(_, _) = event {
+            self.terminal.take(event);
+            self.answer = CopiedAnswer::Silent;
+            return;
+        }
+        match self.terminal.step(event) {
+            Answer::Silent => self.answer = CopiedAnswer::Silent,
+            answer => self.answer = kept(answer),
+        }
     }
 
     /// Takes an event that is not answered.
+    #[inline(always)]
     pub(crate) fn take(&mut self, event: Event)
         ensures { SeatTakes L.is_legal (event ∷ []) self.old self.new }
     {
@@ -123,6 +134,16 @@ pub(crate) fn place_copy<L: Legality + Copy>(place: &Option<Seat<L>>) -> Option<
 {
     match place {
         Some(seat) => Some(seat.copy()),
+        None => None,
+    }
+}
+
+/// Gives the terminal of a place once more.
+pub(crate) fn terminal_copy<L: Legality + Copy>(place: &Option<Seat<L>>) -> Option<Terminal<L>>
+    ensures { IsTerminalAt L.is_legal place.now result }
+{
+    match place {
+        Some(seat) => Some(seat.terminal.copy()),
         None => None,
     }
 }

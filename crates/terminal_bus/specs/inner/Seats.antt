@@ -15,7 +15,7 @@ use Rattle.bus_terminal.specs.declared.terminal.Terminal.{Terminal}
 use Rattle.terminal_bus.specs.declared.seat.Seat.{Seat}
 use Rattle.terminal_bus.specs.Members.{word_sent, if_on, unless_sends, heard_of}
 use Rattle.terminal_bus.specs.Answers.{shown_kept}
-use Rattle.terminal_bus.specs.AtMembers.{seat_at}
+use Rattle.terminal_bus.specs.AtMembers.{seat_at, IsSameTerminal, AtSeat, EachSeat}
 
 -- a terminal that took these events, wherever it stood
 abbrev pub TakesAll : {L : Type 0} → (L → Cell → Bool) → List Event → Terminal L → Terminal L → Type 0
@@ -25,24 +25,28 @@ TakesAll is_legal es t u = (P : Description) (h : List Event) → StandsAt is_le
 pub record Stays {L : Type 0} (is_legal : L → Cell → Bool) (old new : Seat L) : Type 0 where
   pub address : new.address ≡ old.address
   pub takes : TakesAll is_legal [] old.terminal new.terminal
+  pub same : IsSameTerminal is_legal old new
 
 -- it took these events, and its answer is as it was
 pub record SeatTakes {L : Type 0} (is_legal : L → Cell → Bool) (es : List Event) (old new : Seat L) : Type 0 where
   pub address : new.address ≡ old.address
   pub answer : shown_kept new.answer ≡ shown_kept old.answer
   pub takes : TakesAll is_legal es old.terminal new.terminal
+  pub same : IsSameTerminal is_legal old new
 
 -- it took an event, and keeps its answer
 pub record SeatSteps {L : Type 0} (is_legal : L → Cell → Bool) (e : Event) (old new : Seat L) : Type 0 where
   pub address : new.address ≡ old.address
   pub answer : AnswersEvent is_legal e old.terminal (shown_kept new.answer)
   pub takes : TakesAll is_legal (e ∷ []) old.terminal new.terminal
+  pub same : IsSameTerminal is_legal old new
 
 -- it took an event if it has this address, and else has no answer
 pub record StepsIfAddressed {L : Type 0} (is_legal : L → Cell → Bool) (a : ℕ) (e : Event) (old new : Seat L) : Type 0 where
   pub address : new.address ≡ old.address
   pub own : (old.address == a) ≡ true → SeatSteps is_legal e old new
   pub other : (old.address == a) ≡ false → (shown_kept new.answer ≡ Silence) × TakesAll is_legal [] old.terminal new.terminal
+  pub same : IsSameTerminal is_legal old new
 
 -- the word that a terminal sends on a bus, by its answer
 abbrev pub sends_there : {L : Type 0} → Bus → Seat L → Option Sending
@@ -55,17 +59,6 @@ sends_at b (Some seat) = sends_there b seat
 -- it took these events, unless it sends on the bus
 abbrev pub Hears : {L : Type 0} → (L → Cell → Bool) → Bus → List Event → Seat L → Seat L → Type 0
 Hears is_legal b es old new = SeatTakes is_legal (unless_sends (sends_there b old) es) old new
-
--- of the terminal at a place, if there is one
-abbrev pub AtSeat : {L : Type 0} → (Seat L → Seat L → Type 0) → Option (Seat L) → Option (Seat L) → Type 0
-AtSeat R None None = Unit {0}
-AtSeat R None (Some new) = ⊥
-AtSeat R (Some old) None = ⊥
-AtSeat R (Some old) (Some new) = R old new
-
--- of each place
-abbrev pub EachSeat : {L : Type 0} → (Seat L → Seat L → Type 0) → List (Option (Seat L)) → List (Option (Seat L)) → Type 0
-EachSeat R olds news = (k : ℕ) → AtSeat R (seat_at olds k) (seat_at news k)
 
 abbrev pub are_many : List Sending → Bool
 are_many words = nat_le 2 (length words)

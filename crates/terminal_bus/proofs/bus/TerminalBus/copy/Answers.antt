@@ -1,9 +1,10 @@
-use Rattle.std.proofs.Common.{◌≡◌, ◌+◌, ◌∷◌, [], ◌++◌, ◌<◌, ◌≤◌, Option, List, None, length, take, get_or, arith, ap, sym, subst, ◌∙◌}
+use Rattle.std.proofs.Common.{◌≡◌, ◌+◌, ◌∷◌, [], ◌++◌, ◌<◌, ◌≤◌, Option, List, length, take, arith, ap, sym, subst, ◌∙◌}
 use Rattle.std.proofs.lemmas.List.{length-take-le, take_more, take_all}
 use Rattle.terminal_bus.specs.declared.seat.Seat.{Seat}
-use Rattle.terminal_bus.specs.AtMembers.{SeatsStandAt}
-use Rattle.terminal_bus.specs.inner.Seats.{Stays, AtSeat, EachSeat}
+use Rattle.terminal_bus.specs.AtMembers.{IsSameTerminal, EachSeat}
+use Rattle.terminal_bus.specs.inner.Seats.{Stays}
 use Rattle.terminal_bus.proofs.Places.{each_append}
+use Rattle.terminal_bus.proofs.Same.{each_gives}
 use Rattle.terminal_bus.proofs.Together.{all_stay}
 use Rattle.terminal_bus.proofs.bus.TerminalBus.copy.Goals as goal
 
@@ -20,12 +21,20 @@ loop-place-preserved g c =
           (subst (λ (ns : List (Option (Seat g.row.L.Denot))). EachSeat (Stays g.L.Legality.is_legal) (take i olds ++ c.place-item.result ∷ []) ns) (sym c.push.ensures.items) each),
     )
 
-pub returns : goal.returns
-returns g c members s =
+pub returns-clause-stands : goal.returns-clause-stands
+returns-clause-stands g c members s =
     let olds = c.as_slice-places.result.now in let i = c.loop-place.place-index in
     let past : length olds ≤ i = c.loop-place-test.false in
     let end : i ≤ length olds = c.loop-place.auto.place-index-end in
     let all : take i olds ≡ c.args.self.now.seats.items = take_all i olds past ∙ c.as_slice-places.ensures.value in
     let count : length c.loop-place.seats.items ≡ length c.args.self.now.seats.items = c.loop-place.invariant.0 ∙ (omega (arith, past, end)) ∙ ap length c.as_slice-places.ensures.value in
     all_stay g.L.Legality.is_legal members c.args.self.now.seats.items c.loop-place.seats.items count s
+    (subst (λ (os : List (Option (Seat g.row.L.Denot))). EachSeat (Stays g.L.Legality.is_legal) os c.loop-place.seats.items) all c.loop-place.invariant.1)
+
+pub returns-clause-same : goal.returns-clause-same
+returns-clause-same g c =
+    let olds = c.as_slice-places.result.now in let i = c.loop-place.place-index in
+    let past : length olds ≤ i = c.loop-place-test.false in
+    let all : take i olds ≡ c.args.self.now.seats.items = take_all i olds past ∙ c.as_slice-places.ensures.value in
+    each_gives g.L.Legality.is_legal (Stays g.L.Legality.is_legal) (IsSameTerminal g.L.Legality.is_legal) (λ x y r. r.same) c.args.self.now.seats.items c.loop-place.seats.items
     (subst (λ (os : List (Option (Seat g.row.L.Denot))). EachSeat (Stays g.L.Legality.is_legal) os c.loop-place.seats.items) all c.loop-place.invariant.1)

@@ -1,5 +1,6 @@
 use Rattle.std.proofs.Common.{◌≡◌, length, take}
-use Rattle.terminal_bus.specs.inner.Seats.{Stays, EachSeat}
+use Rattle.terminal_bus.specs.AtMembers.{EachSeat}
+use Rattle.terminal_bus.specs.inner.Seats.{Stays}
 use Rattle.terminal_bus.proofs.bus.TerminalBus.copy.Given as goal
 
 abbrev pub invariant-loop-place : goal.invariant-loop-place

@@ -1,7 +1,8 @@
 use Rattle.std.proofs.Common.{rules, ◌≡◌, List, Option, length, ap, sym, subst, ◌∙◌}
 use Rattle.terminal_rules.specs.declared.event.Event.TheVariants.{Slot}
 use Rattle.terminal_bus.specs.declared.seat.Seat.{Seat}
-use Rattle.terminal_bus.specs.inner.Seats.{EachSeat, SeatSteps, SlotSteps}
+use Rattle.terminal_bus.specs.AtMembers.{EachSeat}
+use Rattle.terminal_bus.specs.inner.Seats.{SeatSteps, SlotSteps}
 use Rattle.terminal_bus.proofs.Places.{refilled}
 use Rattle.terminal_bus.proofs.bus.TerminalBus.pass_slot.Goals as goal
 
