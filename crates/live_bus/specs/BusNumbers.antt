@@ -1,5 +1,5 @@
 -- What happens on a bus and what its terminals answer, as plain numbers.
-use Rattle.std.specs.Prelude.{ℕ, ◌==◌, if◌then◌else◌, Option, Some, None, option_and_then, List, [], ◌∷◌, map, take}
+use Rattle.std.specs.Prelude.{ℕ, Bool, true, false, ◌==◌, if◌then◌else◌, Option, Some, None, option_and_then, List, [], ◌∷◌, map, take}
 use Rattle.terminal_rules.specs.declared.event.Event.{Event}
 use Rattle.terminal_rules.specs.declared.event.Event.TheVariants.{Word, Noise, Gap, Slot}
 use Rattle.terminal_rules.specs.LookBack.{some}
@@ -33,6 +33,12 @@ directed members to e =
 -- what the numbers in front of a bus mean, or nothing
 abbrev pub meant_event : List Member → LiveBus → Option BusEvent
 meant_event members x = option_and_then (directed members x.to) (plain_event x.event)
+
+-- whether some terminal may answer what happens: words and noise are never answered
+abbrev pub brings_answers : BusEvent → Bool
+brings_answers (OnBus (Word b w)) = false
+brings_answers (OnBus (Noise b)) = false
+brings_answers _ = true
 
 -- an answer with the address of its terminal
 pub record Told : Type 0 where

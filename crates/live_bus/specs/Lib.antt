@@ -1,2 +1,3 @@
 pub mod BusNumbers
 pub mod LiveBus
+pub mod Made

@@ -5,12 +5,14 @@ use Rattle.bus_legal.specs.Description.{Description}
 use Rattle.bus_legal.specs.Parts.{Parts}
 use Rattle.bus_legal.specs.Tables.{tables_say}
 use Rattle.terminal_rules.specs.declared.event.Event.{Event}
+use Rattle.terminal_rules.specs.Out.{Silence}
 use Rattle.terminal_bus.specs.declared.event.BusEvent.{BusEvent}
 use Rattle.terminal_bus.specs.declared.bus.TerminalBus.{TerminalBus}
 use Rattle.terminal_bus.specs.Members.{Member, bus_after, member_at}
 use Rattle.terminal_bus.specs.AtMembers.{BusStandsAt, collisions}
 use Rattle.rt1553_live.specs.declared.terminal.Live.{Live}
 use Rattle.rt1553_live.specs.Live.{AnswersAs}
+use Rattle.rt1553_live.specs.PlainAnswer.{answer_in}
 use Rattle.live_bus.specs.declared.front.LiveBus.{LiveBus}
 use Rattle.live_bus.specs.BusNumbers.{meant_event, member_told, told_in}
 
@@ -57,6 +59,13 @@ pub record Joins (members : List Member) (it : Live) (x w : LiveBus) : Type 0 wh
   pub to : w.to ≡ x.to
   pub answers : w.answers ≡ x.answers
   pub count : w.count ≡ x.count
+
+-- A terminal that goes on as a member does, of which nothing was asked yet; there is one exactly if there is that member.
+abbrev pub IsTaken : Option Member → Option Live → Type 0
+IsTaken None None = Unit {0}
+IsTaken None (Some it) = ⊥
+IsTaken (Some m) None = ⊥
+IsTaken (Some m) (Some it) = AnswersAs m.description m.history it.terminal × (answer_in it.answer ≡ Some Silence)
 
 -- the same in front, and a bus that stands wherever that one stands
 pub record IsBusCopy (x w : LiveBus) : Type 0 where

@@ -1,4 +1,6 @@
 //! A bus with a place for the event that happens next and places for what its terminals answered last.
+ghost use Rattle.live_bus.specs.Made.{EachIsMade};
+
 use bus_legal::Normal;
 use rt1553_live::{PlainAnswer, PlainEvent};
 use terminal_bus::TerminalBus;
@@ -29,5 +31,7 @@ pub struct LiveBus {
     pub collided_b: bool,
     /// What they sent or handed over, from the front, in the order in which they joined the bus.
     pub answers: [BusAnswer; 31],
+    /// Each of its terminals is set up as its own profile says.
     pub bus: TerminalBus<Normal>,
+    pub ghost made: { EachIsMade bus },
 }

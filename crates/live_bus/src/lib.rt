@@ -6,8 +6,10 @@ mod event;
 mod front;
 mod making;
 mod stepping;
+mod taking;
 mod telling;
 
 pub use front::{BusAnswer, LiveBus};
 pub use making::{bus_is_sent, copy_bus, join_bus, new_bus};
 pub use stepping::step_bus;
+pub use taking::{NotTaken, terminal_of_bus};

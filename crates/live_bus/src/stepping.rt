@@ -5,7 +5,7 @@ ghost use Rattle.live_bus.specs.LiveBus.{StandsAtMembers, IsBusStepped, StepsAtA
 
 use crate::event::meant_event;
 use crate::front::LiveBus;
-use crate::telling::tell_each;
+use crate::telling::tell_answers;
 use terminal_bus::BusEvent;
 
 /// Takes what happens, and leaves in front what comes of it.
@@ -15,7 +15,7 @@ fn take_event(live: &mut LiveBus, event: BusEvent)
     let collided = live.bus.step(event);
     live.collided_a = collided.a;
     live.collided_b = collided.b;
-    live.count = tell_each(&mut live.answers, &live.bus);
+    live.count = tell_answers(&mut live.answers, &live.bus, &event);
 }
 
 /// Takes the event that stands in front of the bus, and leaves there what its terminals answer. Gives 0; or 2 where the numbers

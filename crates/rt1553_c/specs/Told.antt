@@ -1,5 +1,5 @@
 -- What a call tells with its status.
-use Rattle.std.specs.Prelude.{◌≡◌, ◌≢◌, ◌<◌, ◌⊎◌, ℕ, zero, suc, List, [], Some, None, Option, Result, Ok, Err, length}
+use Rattle.std.specs.Prelude.{◌≡◌, ◌≢◌, ◌<◌, ◌⊎◌, ℕ, zero, suc, List, [], Some, None, Option, Result, Ok, Err, length, slice_get}
 use base.Fml.{Fml, ftrue}
 use Rattle.bus_legal.specs.Description.{Description}
 use Rattle.bus_script.specs.declared.fault.RunFault.{RunFault}
@@ -24,7 +24,7 @@ use Rattle.terminal_bus.specs.declared.bus.NotAdded.{NotAdded}
 use Rattle.terminal_bus.specs.Members.{Member}
 use Rattle.terminal_bus.specs.AtMembers.{not_added}
 use Rattle.live_bus.specs.declared.front.LiveBus.{LiveBus}
-use Rattle.live_bus.specs.LiveBus.{StandsAtMembers, Joins}
+use Rattle.live_bus.specs.LiveBus.{StandsAtMembers, Joins, IsTaken}
 
 -- A fault for which this holds is told by its numbers and its line, with the status of the program `rt1553` for it: 2
 -- where a text is refused, 4 where memory runs out.
@@ -96,6 +96,16 @@ JoinsBy members (Some _) it x status w = (status ≡ 2) × (w ≡ x)
 -- so at whatever members the bus stood
 abbrev pub JoinsAtAll : Live → LiveBus → ℕ → LiveBus → Type 0
 JoinsAtAll it x status w = (members : List Member) → StandsAtMembers members x → JoinsBy members (not_added members it.terminal.legality.address) it x status w
+
+-- a terminal that goes on as that at a place of a bus, at whatever members this stood
+abbrev pub TakenAtAll : LiveBus → ℕ → Live → Type 0
+TakenAtAll x place w = (members : List Member) → StandsAtMembers members x → IsTaken (slice_get members place) (Some w)
+
+-- the bus has no terminal at this place, and no fault is told; or memory ran out, and that is told
+abbrev pub IsNotTaken : LiveBus → ℕ → PlainFault → PlainFault → ℕ → Type 0
+IsNotTaken x place old new status =
+    ((status ≡ 2) × (new ≡ old) × ((members : List Member) → StandsAtMembers members x → slice_get members place ≡ None))
+    ⊎ IsTold IsNoMemory new status
 
 -- what is owned where the status is 0: done
 abbrev pub when_done : ℕ → Fml → Fml

@@ -8,10 +8,12 @@ ghost use Rattle.rt1553_live.specs.contracts.terminal.Live.{the_row};
 ghost use Rattle.live_bus.specs.declared.front.LiveBus.{LiveBus};
 ghost use Rattle.live_bus.specs.contracts.front.LiveBus.{the_row as the_bus_row};
 ghost use Rattle.live_bus.specs.LiveBus.{IsEmptyBus, StepsAtAll, IsBusCopy};
-ghost use Rattle.rt1553_c.specs.Told.{IsTold, IsNoMemory, JoinsAtAll, when_done, when_ok};
+ghost use Rattle.rt1553_c.specs.Told.{IsTold, IsNoMemory, JoinsAtAll, TakenAtAll, IsNotTaken, when_done, when_ok};
 
-use crate::{DONE, Front, told};
-use live_bus::{BusAnswer, LiveBus, copy_bus, join_bus, new_bus, step_bus};
+use crate::{DONE, Front, hand_over, told};
+use live_bus::{
+    BusAnswer, LiveBus, NotTaken, copy_bus, join_bus, new_bus, step_bus, terminal_of_bus,
+};
 use rt1553::LoadFault;
 use rt1553_live::{Live, PlainEvent, PlainFault};
 use std::alloc::Global;
@@ -148,5 +150,44 @@ fn made_bus_copy(
     match copy_bus(alloc, bus) {
         Some(copy) => Ok(copy),
         None => Err(told(fault, LoadFault::Memory)),
+    }
+}
+
+/// Makes a terminal that goes on as the one at a place of a bus, in a block of the C library's: the place is the number of those that
+/// joined before it. Where it isn't made, `to` stays as it was; the status is 2 where the bus has no terminal there.
+#[unsafe(no_mangle)]
+pub unsafe extern "C" fn rt1553_bus_terminal(
+    alloc: Global,
+    bus: *mut BusFront,
+    place: usize,
+    to: &mut *mut Front,
+    fault: &mut PlainFault,
+) -> u8
+    ghost x: { LiveBus }
+    requires* { sem 𝓛 (lies_at the_bus_row full_share bus x) }
+    ensures* same { sem 𝓛 (lies_at the_bus_row full_share bus x) }
+    ensures* lies { sem 𝓛 (when_done result (fex Live (λ w. fsep (lies_at the_row full_share to.new w) (fex (TakenAtAll x place w) (λ _. ftrue))))) }
+    ensures done { result ≡ DONE → fault.new ≡ fault.old }
+    ensures refused { result ≢ DONE → IsNotTaken x place fault.old fault.new result × (to.new ≡ to.old) }
+{
+    let live = bus as *mut LiveBus;
+    hand_over(made_taken(alloc, unsafe { &mut *live }, place, fault), to)
+}
+
+/// Makes the terminal at a place of a bus; or tells why there is none, and gives the status for it.
+fn made_taken(
+    alloc: Global,
+    bus: &mut LiveBus,
+    place: usize,
+    fault: &mut PlainFault,
+) -> Result<Box<Live>, u8>
+    ensures same { bus.new ≡ bus.old }
+    ensures made { IfOk result (λ it. TakenAtAll bus.old place it.value × (fault.new ≡ fault.old)) }
+    ensures refused { IfErr result (λ status. (status ≢ DONE) × IsNotTaken bus.old place fault.old fault.new status) }
+{
+    match terminal_of_bus(alloc, bus, place) {
+        Ok(it) => Ok(it),
+        Err(NotTaken::NoTerminal) => Err(REFUSED),
+        Err(NotTaken::Memory) => Err(told(fault, LoadFault::Memory)),
     }
 }

@@ -219,7 +219,7 @@ fn made_new(alloc: Global, text: &[u8], fault: &mut PlainFault) -> Result<Box<Li
 }
 
 /// Hands a terminal over to the caller, who owns it from here on; or gives the status, and `to` stays as it was.
-fn hand_over(made: Result<Box<Live>, u8>, to: &mut *mut Front) -> u8
+pub(crate) fn hand_over(made: Result<Box<Live>, u8>, to: &mut *mut Front) -> u8
     ensures* lies { sem 𝓛 (when_ok made (λ live. lies_at the_row full_share to.new live.value)) }
     ensures done { IfOk made (λ _. result ≡ DONE) }
     ensures refused { IfErr made (λ status. (result ≡ status) × (to.new ≡ to.old)) }
