@@ -15,7 +15,7 @@ LIBRARY = TOP / "bin/library"
 sys.path.insert(0, str(LIBRARY / "python"))
 import rt1553  # noqa: E402
 from rt1553 import Bus, Sync, Word  # noqa: E402
-from rt1553.bus import BusController, command  # noqa: E402
+from rt1553.bus import BusController, Faulty, command  # noqa: E402
 
 PROFILE = "address = {}\n[[rule]]\ndirection = \"both\"\nsubaddresses = 3\n"
 TURNS, MOST, WORDS = 5, 31, list(range(1, 17))
@@ -40,18 +40,22 @@ def in_python(play, messages):
 
 
 def main():
-    bus, controller = rt1553.TerminalBus(terminals().values()), BusController(terminals())
+    bus = rt1553.TerminalBus(terminals().values())
+    together, one_by_one = BusController(terminals()), BusController({address: Faulty(it, []) for address, it in terminals().items()})
     data = [Word(Bus.A, Sync.DATA, bits) for bits in WORDS]
 
     def by_bus(address, transmit):
         words = [Word(Bus.A, Sync.COMMAND, command(address, bool(transmit), 3, len(WORDS)))]
         bus.message(words if transmit else words + data)
 
-    def by_controller(address, transmit):
-        if transmit:
-            controller.transmit(address, 3, len(WORDS))
-        else:
-            controller.receive(address, 3, WORDS)
+    def by(controller):
+        def play(address, transmit):
+            if transmit:
+                controller.transmit(address, 3, len(WORDS))
+            else:
+                controller.receive(address, 3, WORDS)
+
+        return play
 
     with tempfile.TemporaryDirectory() as folder:
         program = f"{folder}/buses"
@@ -60,7 +64,8 @@ def main():
         rows = {
             "C, rt1553_bus_message": (200_000, lambda count: in_c(program, count) - in_c(program, 0)),
             "Python, TerminalBus.message": (20_000, lambda count: in_python(by_bus, count)),
-            "Python, BusController": (500, lambda count: in_python(by_controller, count)),
+            "Python, BusController": (5_000, lambda count: in_python(by(together), count)),
+            "Python, BusController, each terminal by itself": (200, lambda count: in_python(by(one_by_one), count)),
         }
         for name, (count, seconds) in rows.items():
             print(f"{name}: {count / min(seconds(count) for _ in range(TURNS)):.0f} messages a second")

@@ -45,7 +45,7 @@ PROGRAMS = [
     Program("the stack that calls take", "stack.c", ("-pthread",)),
 ]
 # a program in Python, and variables: bytes around each block of memory are looked at when it is freed, and what is freed is overwritten
-IN_PYTHON = {"package.py": {}, "bus.py": {}, "misuse.py": {"PYTHONMALLOC": "debug", "MALLOC_PERTURB_": "85"}}
+IN_PYTHON = {"package.py": {}, "bus.py": {}, "model_buses.py": {}, "misuse.py": {"PYTHONMALLOC": "debug", "MALLOC_PERTURB_": "85"}}
 
 
 def static(library):
@@ -197,7 +197,7 @@ def test_example_in_c(library, tmp_path):
     assert run(program) == (0, (EXAMPLES / "bus31.transcript").read_bytes(), b"")
 
 
-@pytest.mark.parametrize("name", ["bus31", "two_terminals", "poll31", "controller_test"])
+@pytest.mark.parametrize("name", ["bus31", "two_terminals", "poll31", "controller_test", "five_units"])
 def test_example_in_python(name, in_python):
     assert run("python3", EXAMPLES / f"{name}.py") == (0, (EXAMPLES / f"{name}.transcript").read_bytes(), b"")
 

@@ -25,8 +25,8 @@
    others 4 MiB, and refuse longer texts first. This is measured and not proved (docs/library.md).
 
    Memory comes from malloc and realloc, and goes back by free. Only a terminal or a bus outlives the
-   call that makes it. A step, rt1553_bus_join and rt1553_version take no memory. Calls that take memory may not be made
-   in a signal handler, nor in the forked child of a process with threads.
+   call that makes it. A step, rt1553_bus_join and rt1553_version take no memory. Calls that take
+   memory may not be made in a signal handler, nor in the forked child of a process with threads.
 
    Proved, and what you owe. Each call does what its contract in crates/rt1553_c says, in a program
    that keeps to this page; docs/library.md says what the contracts are. */
@@ -313,8 +313,8 @@ typedef struct {
 } rt1553_bus_answer;
 
 /* A bus with up to 31 terminals of different addresses. After these fields comes memory that only
-   the library reads and writes. So only rt1553_bus_new and rt1553_bus_copy make a bus, and the
-   struct itself is never copied. A program writes to `event` and `to`, reads the other fields, and
+   the library reads and writes. So only rt1553_bus_new, rt1553_bus_copy and rt1553_bus_restore make
+   a bus, and the struct itself is never copied. A program writes to `event` and `to`, reads the other fields, and
    touches nothing else. */
 typedef struct {
     rt1553_event event;
@@ -350,6 +350,28 @@ static inline void rt1553_bus_free(rt1553_bus *bus) { free(bus); }
    the other, and writes its address to *copy. The caller owns it and frees it by rt1553_bus_free.
    RT1553_NO_MEMORY: *copy stays as it was. */
 uint8_t rt1553_bus_copy(const rt1553_bus *bus, rt1553_bus **copy, rt1553_fault *fault);
+
+/* Makes a terminal that goes on as one of a bus, in the state in which that is, and writes its
+   address to *terminal. The place of that one is the number of those that joined before it. The
+   caller owns what is made, and frees it by rt1553_terminal_free; the bus stays as it is.
+   RT1553_REFUSED: the bus has no terminal there, and *fault stays as it was. RT1553_REFUSED and
+   RT1553_NO_MEMORY: *terminal stays as it was. */
+uint8_t rt1553_bus_terminal(const rt1553_bus *bus, size_t place, rt1553_terminal **terminal, rt1553_fault *fault);
+
+/* Room for the saved state of any bus. */
+enum { RT1553_BUS_STATE_ROOM = 32 + RT1553_MOST_TERMINALS * RT1553_STATE_ROOM };
+
+/* Writes the saved state of a bus (docs/library.md) to the front of `to`, and its number of bytes to
+   *length. A room of RT1553_BUS_STATE_ROOM is always enough. RT1553_NO_ROOM: *length bytes are
+   needed, and `to` stays as it was. RT1553_NO_MEMORY: `to` stays as it was, and *length is 0. This
+   and rt1553_bus_restore are plain C over the calls for terminals, so no contract speaks of them. */
+uint8_t rt1553_bus_save(const rt1553_bus *bus, uint8_t *to, size_t room, size_t *length, rt1553_fault *fault);
+
+/* Makes a bus in a saved state, whose terminals answer every further event as those of the saved bus
+   do, and writes its address to *bus. The caller owns it and frees it by rt1553_bus_free. Its event is
+   a word for all, and nothing was answered yet. RT1553_REFUSED: the bytes are no saved state of a
+   bus. RT1553_REFUSED and RT1553_NO_MEMORY: *bus stays as it was. */
+uint8_t rt1553_bus_restore(const uint8_t *state, size_t state_length, rt1553_bus **bus, rt1553_fault *fault);
 
 /* Sets bus->to and bus->event, and plays it as rt1553_bus_step does. */
 static inline uint8_t rt1553_bus_play(rt1553_bus *bus, uint8_t to, rt1553_event event) {

@@ -274,6 +274,33 @@ class terminal_bus {
     answer_view answer(std::size_t at) const { return answer_view(bus_->answers[at].answer); }
     bool collided(bus on) const { return on == bus::a ? bus_->collided_a : bus_->collided_b; }
 
+    // A terminal that goes on as one of the bus does, which stays; its place is the number of those that
+    // joined before it. Throws std::out_of_range if the bus has no terminal there.
+    terminal at(std::size_t place) const {
+        rt1553_terminal *it = nullptr;
+        rt1553_fault fault;
+        std::uint8_t status = rt1553_bus_terminal(bus_.get(), place, &it, &fault);
+        if (status == RT1553_REFUSED)
+            throw std::out_of_range("rt1553: the bus has no terminal at this place");
+        detail::done(status, fault);
+        return terminal(terminal::owner(it));
+    }
+
+    // Its saved state, by which `restore` makes a bus whose terminals answer every further event alike.
+    std::string save() const {
+        std::string to(RT1553_BUS_STATE_ROOM, '\0');
+        std::size_t length = 0;
+        rt1553_fault fault;
+        detail::done(rt1553_bus_save(bus_.get(), detail::at(to), to.size(), &length, &fault), fault);
+        to.resize(length);
+        return to;
+    }
+
+    // A bus in a saved state. Throws refused if the bytes are none.
+    static terminal_bus restore(std::string_view state) {
+        return terminal_bus(owner(detail::made<rt1553_bus>(rt1553_bus_restore, detail::at(state), state.size())));
+    }
+
     // Plays a whole message, as rt1553_bus_message does. Throws std::invalid_argument if that refuses an event.
     rt1553_message message(const rt1553_event *words, std::size_t count) {
         rt1553_message came;
@@ -282,12 +309,16 @@ class terminal_bus {
     }
 
   private:
+    using owner = std::unique_ptr<rt1553_bus, detail::frees>;
+
+    explicit terminal_bus(owner made) : bus_(std::move(made)) {}
+
     static void played(std::uint8_t status) {
         if (status != RT1553_DONE)
             throw std::invalid_argument("rt1553: no such event");
     }
 
-    std::unique_ptr<rt1553_bus, detail::frees> bus_;
+    owner bus_;
 };
 
 } // namespace rt1553

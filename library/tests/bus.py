@@ -11,7 +11,8 @@ import sys
 
 import rt1553
 from rt1553 import (
-    Bit, Bus, BusControl, Flag, FlagName, Received, SelfTest, Sent, Slot, Sync, Synchronize, Terminal, Vector, Word, Write,
+    Bit, Bus, BusControl, Flag, FlagName, Gap, Noise, Received, SelfTest, Sent, Slot, Sync, Synchronize, Terminal, TerminalBus, Vector,
+    Word, Write,
 )  # fmt: skip
 from rt1553 import bus as tested
 from rt1553.bus import (
@@ -347,7 +348,7 @@ def late():
     terminals, controller = system(9, [FaultyReply(delay=1)])
     controller.mode(9, 2)
     yield "on the other bus", controller.transmit(3, 1, 1, bus=Bus.B), good(3, (0x11,))
-    wanted = "A c 4c02, A gap, slot, A gap, B c 1c21, B gap, slot, A c 4800, B c 1800, slot, A gap, B d 0011, slot, B gap"
+    wanted = "A c 4c02, A gap, slot, A gap, B c 1c21, B gap, slot, A c 4800, B c 1800, slot, B d 0011, A gap, slot, B gap"
     yield "on the other bus, what is heard", terminals[5].script, wanted.replace(", ", "\n") + "\n"
     # a message on the bus of a late reply that isn't at its end begins with the gap that it hasn't had
     terminals, controller = system(9, [FaultyReply(delay=1)])
@@ -698,8 +699,71 @@ def faulty_replies(seed):
         yield chosen.choice([None, FaultyReply(word=chosen.randrange(4), **{name: chosen.randrange(most[name] + 1)})])
 
 
+class Alike:
+    """Controllers that are asked the same, of which each has to see the same."""
+
+    def __init__(self, *controllers):
+        self.controllers, self.differing = list(controllers), []
+
+    def __getattr__(self, name):
+        def ask(*arguments, **named):
+            first, *others = [getattr(it, name)(*arguments, **named) for it in self.controllers]
+            self.differing += [(name, arguments, first, it) for it in others if it != first]
+            return first
+
+        return ask
+
+
+def stepped_together(seed):
+    """Terminals on a bus beside those that are recorded, and so stepped one by one. Other controllers take those of the bus over."""
+    chosen, recorded = random.Random(seed), on_the_bus()
+    plain = {address: Terminal(it.profile) for address, it in recorded.items()}
+    alike = Alike(BusController(recorded), BusController(plain))
+    for number in range(MESSAGES_OF_A_SEED):
+        if chosen.random() < 0.3:
+            address, event = chosen.choice(ADDRESSES), subsystem(chosen)
+            yield "what a subsystem does", plain[address].step(event), recorded[address].step(event)
+        random_message(alike, chosen)
+        if number % 60 == 20:
+            alike.controllers[1] = BusController(plain)
+        elif number % 60 == 40:
+            plain, alike.controllers[1] = pickle.loads(pickle.dumps((plain, alike.controllers[1])))
+    yield "what controllers see", alike.differing, []
+    wanted = {address: it.terminal.save() for address, it in recorded.items()}
+    yield "the states", {address: it.save() for address, it in plain.items()}, wanted
+
+
+def random_event(chosen):
+    """An event for all, or for one terminal, that is there or not."""
+    on = Bus(chosen.random() < 0.3)
+    if chosen.random() < 0.2:
+        return subsystem(chosen), chosen.choice([*ADDRESSES, 20])
+    bits = command(chosen.choice([*ADDRESSES, BROADCAST]), chosen.random() < 0.5, chosen.randrange(1, 4), chosen.randrange(1, 4))
+    word = chosen.choice([Word(on, Sync.COMMAND, bits), Word(on, Sync.DATA, chosen.randrange(1 << 16)), Noise(on)])
+    return (chosen.choice([word, word, word, Gap(on), Slot(), Slot(), Slot()]),)
+
+
+def saved_buses(seed):
+    """A bus beside one that is saved, copied or pickled again and again, anywhere."""
+    chosen = random.Random(seed)
+    bus = TerminalBus(it.terminal for it in on_the_bus().values())
+    ways = [lambda it: TerminalBus.restore(it.save()), copy.copy, copy.deepcopy, lambda it: pickle.loads(pickle.dumps(it))]
+    ways.append(lambda it: TerminalBus(map(it.terminal, on_the_bus())))
+    other, differing = copy.copy(bus), []
+    for _ in range(600):
+        if chosen.random() < 0.1:
+            other = chosen.choice(ways)(other)
+            differing += [] if other.save() == bus.save() else ["its state"]
+        event = random_event(chosen)
+        one, two = repr(ended(bus.step, *event)), repr(ended(other.step, *event))
+        differing += [] if one == two else [(event, one, two)]
+    yield "what comes of events", differing, []
+
+
 def random_traffic():
     for seed in range(10):
+        yield from within(f"seed {seed}, together", stepped_together(seed))
+        yield from within(f"seed {seed}, saved", saved_buses(seed))
         yield from within(f"seed {seed}", random_messages(seed, {}))
         yield from within(f"seed {seed}, faulty", random_messages(seed, {9: faulty_replies(seed), 12: faulty_replies(seed + 100)}))
 

@@ -208,6 +208,64 @@ static void copies(void) {
     rt1553_bus_free(last);
 }
 
+/* A terminal of a bus goes on alone as it does there. */
+static void taken(void) {
+    rt1553_fault fault = untouched();
+    rt1553_bus *bus = bus_of(5, 6);
+    rt1553_terminal *terminal = NULL, *none = NULL;
+    ask(bus, RT1553_BUS_A, command(6, 1, 3, 1));
+    row("a status of 6", sends(bus, 6, RT1553_SENDS_STATUS, 0x3000));
+    row("the second that joined", rt1553_bus_terminal(bus, 1, &terminal, &fault) == RT1553_DONE && is_untouched(&fault));
+    row("nothing was asked of it", terminal->event.what == RT1553_WORD && terminal->answer.what == RT1553_SILENT);
+    rt1553_write(terminal, 3, 1, 0x00cc);
+    row("it goes on", rt1553_slot(terminal) == RT1553_DONE && terminal->answer.what == RT1553_SENDS_DATA && terminal->answer.bits == 0xcc);
+    row("and so does the bus", sends(bus, 6, RT1553_SENDS_DATA, 0));
+    for (size_t place = 2; place < 40; place++)
+        row("nobody there", rt1553_bus_terminal(bus, place, &none, &fault) == RT1553_REFUSED && !none && is_untouched(&fault));
+    row("far away", rt1553_bus_terminal(bus, SIZE_MAX, &none, &fault) == RT1553_REFUSED && !none && is_untouched(&fault));
+    rt1553_terminal_free(terminal);
+    rt1553_bus_free(bus);
+}
+
+/* A bus is saved while a reply is in progress, and restored. */
+static void saved(void) {
+    static uint8_t state[RT1553_BUS_STATE_ROOM], again[RT1553_BUS_STATE_ROOM];
+    rt1553_fault fault = untouched();
+    rt1553_bus *bus = bus_of(0, 30), *restored = NULL;
+    size_t length = 0, second = 0;
+    ask(bus, RT1553_BUS_B, command(30, 1, 3, 2));
+    rt1553_bus before = *bus;
+    row("saved", rt1553_bus_save(bus, state, sizeof state, &length, &fault) == RT1553_DONE && length > 0 && is_untouched(&fault));
+    row("it is as it was", memcmp(&before, bus, sizeof before) == 0);
+    row("a room for it", rt1553_bus_save(bus, again, length, &second, &fault) == RT1553_DONE && second == length);
+    row("the same text", memcmp(state, again, length) == 0);
+    memset(again, 7, sizeof again);
+    row("a byte less", rt1553_bus_save(bus, again, length - 1, &second, &fault) == RT1553_NO_ROOM && second == length);
+    row("nothing is written", again[0] == 7 && again[length - 2] == 7 && is_untouched(&fault));
+    row("restored", rt1553_bus_restore(state, length, &restored, &fault) == RT1553_DONE && is_untouched(&fault));
+    row("nothing was answered", restored->count == 0 && restored->to == RT1553_FOR_ALL && restored->event.what == RT1553_WORD);
+    row("both go on", sends(restored, 30, RT1553_SENDS_STATUS, 0xf000) && sends(bus, 30, RT1553_SENDS_STATUS, 0xf000));
+    rt1553_bus_free(restored);
+    rt1553_bus_free(bus);
+    /* a beginning is a saved state where it is one of fewer terminals */
+    size_t whole = 0;
+    for (size_t cut = 0; cut <= length; cut += cut < 32 ? 1 : 31) {
+        restored = NULL;
+        fault = untouched();
+        uint8_t status = rt1553_bus_restore(state, cut, &restored, &fault);
+        row("a beginning", status == RT1553_DONE ? restored && is_untouched(&fault)
+                                                 : status == RT1553_REFUSED && !restored && fault.kind == RT1553_OF_STATE
+                                                       && fault.number == (fault.line > 0 ? 1 : 2));
+        if (restored) {
+            row("its text", rt1553_bus_save(restored, again, sizeof again, &second, &fault) == RT1553_DONE && second == cut
+                                && memcmp(state, again, cut) == 0);
+            whole++;
+        }
+        rt1553_bus_free(restored);
+    }
+    row("the head alone is one", whole > 0);
+}
+
 static int is_sent(const rt1553_sent *it, int address, uint8_t what, uint16_t bits) {
     return it->address == address && it->what == what && it->bits == bits;
 }
@@ -266,6 +324,8 @@ int main(void) {
     collisions();
     refused_events();
     copies();
+    taken();
+    saved();
     messages();
     printf("%d passed, %d failed\n", passed, failed);
     return failed > 0;

@@ -142,6 +142,21 @@ void buses() {
     rt1553_message came = bus.message(words, 1);
     row("a message", came.sent_count == 1 && came.sent[0].address == 6 && came.sent[0].bits == 0x3000 && came.handed_count == 0);
     row("a slot in a message", is_invalid([&] { bus.message(words, 2); }));
+    const std::string state = copy.save();
+    row("a saved bus is restored", rt1553::terminal_bus::restore(state).save() == state);
+    row("a terminal of a bus", copy.at(1).save() == rt1553::terminal_bus::restore(state).at(1).save());
+    try {
+        copy.at(2);
+        row("no terminal there", false);
+    } catch (const std::out_of_range &) {
+        row("no terminal there", true);
+    }
+    try {
+        copy = rt1553::terminal_bus::restore(state + '\n');
+        row("a byte too many for a bus", false);
+    } catch (const rt1553::refused &fault) {
+        row("a byte too many for a bus", fault.number == 2 && fault.line == 0 && copy.save() == state);
+    }
     row("no collision", !bus.collided(rt1553::bus::a) && !bus.collided(rt1553::bus::b));
     rt1553::terminal_bus moved = std::move(bus), empty = bus;
     row("a bus that was moved", moved.message(words, 1).sent_count == 1);

@@ -144,6 +144,34 @@ static void bus_copy(answer *to) {
     bus_is(to, made);
 }
 
+static void bus_save(answer *to) {
+    static uint8_t saved_bus[RT1553_BUS_STATE_ROOM];
+    size_t length = 0;
+    to->status = rt1553_bus_save(full, saved_bus, sizeof saved_bus, &length, &to->fault);
+    to->length = length < sizeof to->bytes ? length : sizeof to->bytes;
+    memcpy(to->bytes, saved_bus, to->length);
+}
+
+static void bus_restore(answer *to) {
+    rt1553_bus *made = NULL;
+    static uint8_t saved_bus[RT1553_BUS_STATE_ROOM];
+    memcpy(saved_bus, "rt1553-bus-state 1\n", 19);
+    memcpy(saved_bus + 19, state, state_length);
+    to->status = rt1553_bus_restore(saved_bus, 19 + state_length, &made, &to->fault);
+    if (made) {
+        rt1553_bus_step(made);
+        to->length = made->count;
+        rt1553_bus_free(made);
+    }
+}
+
+static void bus_terminal(answer *to) {
+    rt1553_terminal *made = NULL;
+    to->status = rt1553_bus_terminal(full, 0, &made, &to->fault);
+    to->length = made != NULL;
+    rt1553_terminal_free(made);
+}
+
 static int is_same(const answer *one, const answer *other) {
     return one->status == other->status && one->length == other->length && memcmp(one->bytes, other->bytes, one->length) == 0;
 }
@@ -180,7 +208,8 @@ int main(void) {
         const char *name;
         void (*call)(answer *);
     } calls[] = {{"check", check}, {"canonical", canonical}, {"compare", compare}, {"run", run}, {"terminal", terminal},
-                 {"copy", copy},   {"save", save},           {"restore", restore}, {"bus", bus}, {"copy of a bus", bus_copy}};
+                 {"copy", copy},   {"save", save},           {"restore", restore}, {"bus", bus}, {"copy of a bus", bus_copy},
+                 {"saved bus", bus_save}, {"restored bus", bus_restore}, {"terminal of a bus", bus_terminal}};
     int passed = 0, all = sizeof calls / sizeof *calls;
     rt1553_fault fault;
     if (rt1553_terminal_new(TEXT(PROFILE), &saved, &fault) != RT1553_DONE

@@ -764,20 +764,47 @@ def own_of_bus(through):
     return it.mine, bus_asked(it) and bus_asked(other)
 
 
+def wrong_states(bus):
+    """Bytes that are no saved state of a bus, with the line that is told."""
+    state = bus.save()
+    lines = state.split(b"\n")
+    address = next(number for number, line in enumerate(lines, 1) if line.startswith(b"address "))
+    head, one = lines[0] + b"\n", state[len(lines[0]) + 1 :]
+    rows = {b"": 1, head[:-1]: 1, b"x" + state: 1, b"rt1553-bus-state 2\n" + one: 1, one: 1, head + b"\n": 2, head + b"x" + one: 2,
+            state[:-1]: len(lines) - 1, state[: len(state) // 2]: state[: len(state) // 2].count(b"\n") + 1,
+            head + one + one: len(lines) - 2 + address, head + one + head: None, state + b"\n": None}  # fmt: skip
+    for number, (bytes_, line) in enumerate(rows.items()):
+        told = "saved state: bytes after the end" if line is None else f"saved state: line {line}"
+        yield f"no saved state {number}", (told, line or 0), lambda bytes_=bytes_: refused_state(bytes_)
+    for state in (head, head + one, bytearray(state), memoryview(state)):
+        yield f"a saved state of {len(state)} bytes", bytes(state), lambda state=state: TerminalBus.restore(state).save()
+
+
+def refused_state(state):
+    """What is told of bytes that are no saved state of a bus, and the line."""
+    try:
+        TerminalBus.restore(state)
+    except Refused as fault:
+        return (str(fault), fault.line) if fault.kind == FaultKind.STATE and fault.number == (1 if fault.line else 2) else "another fault"
+    return "restored"
+
+
 def buses():
-    methods = {"step": [Slot()], "join": [Terminal("address = 6")], "message": [ASK[:1]]}
+    methods = {"step": [Slot()], "join": [Terminal("address = 6")], "message": [ASK[:1]], "terminal": [5]}
     taken = Raises(ValueError, "has address 5")
     makes = {"not made": lambda: TerminalBus.__new__(TerminalBus), "a subclass": UnmadeBus, "deleted": deleted_bus}
     for name, make in makes.items():
         for method, arguments in methods.items():
             yield f"{name}, {method}", NOT_MADE, getattr(make(), method), *arguments
         yield f"{name}, copied", NOT_MADE, copy.copy, make()
+        yield f"{name}, saved", NOT_MADE, make().save
+        yield f"{name}, pickled", NOT_MADE, pickle.dumps, make()
         yield f"{name}, deleted", None, make().__del__
     for method, arguments in methods.items():
         yield f"{method} of None", Raises(AttributeError), getattr(TerminalBus, method), None, *arguments
         yield f"{method}, too few words", Raises(TypeError), getattr(TerminalBus(), method)
         for value in NO_TEXT:
-            if value != {} and not (method == "step" and isinstance(value, Slot)):
+            if value != {} and not isinstance(value, {"step": Slot, "terminal": int}.get(method, ())):
                 yield f"{method} of {value!r}", Raises(TypeError), getattr(TerminalBus(), method), value
     for value in [None, 5, 5.0, object(), [None], [5], "x", b"x", [TerminalBus()], [Terminal]]:
         yield f"of {value!r}", Raises(TypeError), TerminalBus, value
@@ -799,8 +826,15 @@ def buses():
     for words in ([Slot()], [Gap(Bus.A)], [None], [5], "A c 2c02"):
         yield f"the words {words!r}", WANTED, it.message, words
     yield "and still answers", True, bus_asked, it
-    yield "pickled", Raises(TypeError, "no saved state"), pickle.dumps, it
+    yield "terminal 6", Raises(ValueError, "no terminal of the bus has address 6"), it.terminal, 6
+    for address in (-1, 31, 255, 1 << 70):
+        yield f"terminal {address}", Raises(ValueError, "0 to 30"), it.terminal, address
+    for value in [*NO_TEXT, "rt1553-bus-state 1\n"]:
+        if not isinstance(value, (bytes, bytearray, memoryview)):
+            yield f"restored of {value!r:.20}", Raises(TypeError), TerminalBus.restore, value
+    yield from wrong_states(it)
     yield "copied", ([5, 6], True), own_of_bus, copy.copy
+    yield "pickled", ([5], True), own_of_bus, lambda it: pickle.loads(pickle.dumps(it))
     yield "deeply copied", ([5], True), own_of_bus, copy.deepcopy
     terminal = Terminal(PROFILE)
     terminal.play(ASK[:2])
@@ -809,6 +843,10 @@ def buses():
     yield "on threads", [True] * 8, on_threads, 8, lambda: [it.message(ASK[:1]).sent for _ in range(300)] == [((5, STATUS),)] * 300
     yield "made and dropped", 0, grown, lambda: TerminalBus([terminal])
     yield "copied often", 0, grown, lambda: copy.copy(it)
+    yield "saved and restored", 0, grown, lambda: TerminalBus.restore(it.save())
+    yield "no state, often", 0, grown, lambda: ended(TerminalBus.restore, (b"rt1553-bus-state 1\nrt1553-state 1\n",))
+    yield "taken often", 0, grown, lambda: it.terminal(5)
+    yield "no terminal, often", 0, grown, lambda: ended(it.terminal, (6,))
     yield "refused often", 0, grown, lambda: ended(it.join, (terminal,))
 
 

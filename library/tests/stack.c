@@ -121,6 +121,25 @@ static uint8_t bus_copy(void) {
     return status;
 }
 
+static uint8_t bus_terminal(void) {
+    rt1553_terminal *one = NULL;
+    uint8_t status = rt1553_bus_terminal(bus, 0, &one, &fault);
+    rt1553_terminal_free(one);
+    return status;
+}
+
+static uint8_t bus_state[RT1553_BUS_STATE_ROOM];
+static size_t bus_written;
+
+static uint8_t bus_save(void) { return rt1553_bus_save(bus, bus_state, sizeof bus_state, &bus_written, &fault); }
+
+static uint8_t bus_restore(void) {
+    rt1553_bus *restored = NULL;
+    uint8_t status = rt1553_bus_restore(bus_state, bus_written, &restored, &fault);
+    rt1553_bus_free(restored);
+    return status;
+}
+
 static struct {
     const char *name;
     uint8_t (*call)(void);
@@ -304,7 +323,10 @@ static void of_terminals(void) {
                 {"rt1553_bus_new", bus_new, OF_ORDINARY},
                 {"rt1553_bus_join", bus_join, OF_ORDINARY},
                 {"rt1553_bus_step", bus_steps, OF_STEP},
-                {"rt1553_bus_copy", bus_copy, OF_COPY}};
+                {"rt1553_bus_copy", bus_copy, OF_COPY},
+                {"rt1553_bus_terminal", bus_terminal, OF_ORDINARY},
+                {"rt1553_bus_save", bus_save, OF_ORDINARY},
+                {"rt1553_bus_restore", bus_restore, OF_ORDINARY}};
     for (size_t i = 0; i < sizeof rows / sizeof *rows; i++) {
         size_t took = taken(rows[i].call);
         row(rows[i].name, "a terminal", status == RT1553_DONE && took <= rows[i].most);

@@ -5,9 +5,15 @@ the addresses holds, and bus A comes before bus B.
 """
 
 import re
+import tomllib
 
+import canonical
+import pieces
 import play
 import rules
+
+# how many profiles there are for an address
+VARIANTS = 3
 
 ADDRESSED = re.compile(rb"([0-9]{2}) ((?:write|vector|bit|flag) .*)")
 EARLY = "a gap while terminal {:02} replies: another terminal can begin its reply"
@@ -322,3 +328,27 @@ class Controller:
 
     def stranger(self):
         self.draw.choice([self.anything, self.anything, self.subsystem])()
+
+
+# --- random runs
+
+
+def profiles_of(draw):
+    """For each address some profiles by their names, as texts, with what their terminals are at power-up."""
+    profiles = {}
+    for name in (f"{address:02}.{variant}" for address in range(31) for variant in range(VARIANTS)):
+        text, _ = pieces.profile_of(draw.randrange(1 << 30))
+        text = re.sub(r"address = \d+", f"address = {int(name[:2])}", text, count=1)
+        profile = tomllib.loads(text)
+        if draw.randrange(3) == 0:
+            text = canonical.text_of(canonical.reached_of(profile))
+        profiles[name] = text, play.setup_of(profile)
+    return profiles
+
+
+def random_run(draw, profiles, counts):
+    """The names of 2 to 31 profiles, their bus, and a controller that has played to it."""
+    addresses = draw.sample(range(31), draw.choice([2, 2, 3, 4, 5, draw.randint(6, 31), draw.randint(2, 31)]))
+    names = [f"{it:02}.{draw.randrange(VARIANTS)}" for it in addresses]
+    bus = Bus([profiles[it][1] for it in names], counts)
+    return names, bus, Controller(draw, bus, [*draw.sample(range(1, 31), 2), 30]).play(draw.choice([30, 100, 300]))

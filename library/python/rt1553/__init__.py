@@ -400,6 +400,7 @@ _VERSION = struct.Struct("=HHH")  # major, minor, canonical text
 
 _DONE, _DIFFER, _REFUSED, _NO_MEMORY, _NO_ROOM = 0, 1, 2, 4, 5
 _CANONICAL_ROOM, _SCRIPT_ROOM, _STATE_ROOM = 7680, 4608, 13056
+_BUS_STATE_ROOM = 32 + 31 * _STATE_ROOM
 # limits of scripts: the bytes of a line, the lines, and the bytes of the answer to a line
 _LONGEST_LINE, _MOST_LINES, _LONGEST_ANSWER = 64, 1048576, 186
 
@@ -430,6 +431,9 @@ _bus_join = _call("bus_join", ctypes.c_uint8, _at, _at)
 _bus_step = _call("bus_step", ctypes.c_uint8, _at)
 _bus_copy = _call("bus_copy", ctypes.c_uint8, _at, ctypes.POINTER(_at), _at)
 _bus_message = _call("bus_message", ctypes.c_uint8, _at, _at, _size, _at)
+_bus_terminal = _call("bus_terminal", ctypes.c_uint8, _at, _size, ctypes.POINTER(_at), _at)
+_bus_save = _call("bus_save", ctypes.c_uint8, _at, _at, _size, _sized, _at)
+_bus_restore = _call("bus_restore", ctypes.c_uint8, _bytes, _size, ctypes.POINTER(_at), _at)
 _free = ctypes.CDLL(None).free
 _free.argtypes, _free.restype = [_at], None
 
@@ -728,15 +732,17 @@ class Terminal:
     'A s 2800'
     """
 
+    # its own memory; or that of a bus on which it is, its place there and its address
     __memory: Optional[_Memory] = None
+    __seat: Optional[tuple[_Memory, int, int]] = None
 
     def __init__(self, text: Text) -> None:
         # a second call makes it anew; if the text is refused, it stays as it was
         data = _of(text)
-        self.__memory = _Memory(_new, data, len(data), profile=data)
+        self.__memory, self.__seat = _Memory(_new, data, len(data), profile=data), None
 
     def __del__(self) -> None:
-        self.__memory = None
+        self.__memory = self.__seat = None
 
     @classmethod
     def restore(cls: type[_T], state: Union[bytes, bytearray, memoryview]) -> _T:
@@ -791,7 +797,7 @@ class Terminal:
 
     def __own(self) -> dict[str, Any]:
         """What a subclass has of its own."""
-        return {name: value for name, value in vars(self).items() if value is not self.__memory}
+        return {name: value for name, value in vars(self).items() if name not in ("_Terminal__memory", "_Terminal__seat")}
 
     def __copy__(self: _T) -> _T:
         terminal = self.__twin()
@@ -807,11 +813,31 @@ class Terminal:
         return type(self).restore, (self.save(),), self.__own() or None
 
     def __made(self) -> _Memory:
-        """Its memory. RuntimeError if it has none."""
+        """Its memory; of one that is on a bus, the memory of a copy. RuntimeError if it has none."""
+        if seat := self.__seat:
+            with seat[0].lock:
+                return _Memory(_bus_terminal, seat[0].at, seat[1])
         memory = self.__memory
         if memory is None:
             raise RuntimeError("this terminal was not made by `Terminal.__init__`, or it was deleted")
         return memory
+
+    @classmethod
+    def _taken(cls: type[_T], bus: _Memory, place: int) -> Optional[_T]:
+        """A terminal that goes on as the one at this place of a bus; None if there is none."""
+        terminal = cls.__new__(cls)
+        try:
+            terminal.__memory = _Memory(_bus_terminal, bus.at, place)
+        except Refused:
+            return None
+        return terminal
+
+    def _sit(self, memory: _Memory, place: int, address: int) -> None:
+        """From now on it is the terminal at this place of a bus, and no longer where it was."""
+        self.__seat, self.__memory = (memory, place, address), None
+
+    def _sits_on(self, memory: _Memory) -> bool:
+        return self.__seat is not None and self.__seat[0] is memory
 
     def step(self, event: Event) -> Optional[Answer]:
         """Plays an event and returns its answer, if there is one. ValueError if its numbers mean no event; then nothing changes.
@@ -821,6 +847,9 @@ class Terminal:
           ...
         ValueError: no event: Write(subaddress=31, number=1, bits=0)
         """
+        if seat := self.__seat:
+            answers = _bus_stepped(seat[0], packed(event), seat[2])
+            return answers[0][1] if answers else None
         memory, data, to = self.__made(), packed(event), _Stepped()
         at = ctypes.addressof(to)
         place = at + _ANSWER.size
@@ -882,6 +911,8 @@ class Terminal:
 
     def __played(self, events: bytes) -> list[tuple[int, Answer]]:
         """Plays packed events. `NoEvent` at the first whose numbers mean none."""
+        if self.__seat:
+            return self.__played_on_bus(events)
         memory, count = self.__made(), len(events) // _EVENT.size
         room = max(min(count, 4096), 1)
         to, places, filled = ctypes.create_string_buffer(room * _ANSWER.size), (_size * room)(), _size()
@@ -894,6 +925,17 @@ class Terminal:
                 played += done
                 if played < count and filled.value < room:
                     raise NoEvent(f"no event: number {played}", answers)
+        return answers
+
+    def __played_on_bus(self, events: bytes) -> list[tuple[int, Answer]]:
+        """The same of a terminal on a bus."""
+        (memory, _, address), answers = cast("tuple[_Memory, int, int]", self.__seat), []
+        with memory.lock:
+            for number, at in enumerate(range(0, len(events), _EVENT.size)):
+                told = _bus_stepped(memory, events[at : at + _EVENT.size], address)
+                if told is None:
+                    raise NoEvent(f"no event: number {number}", answers)
+                answers += [(number, answer) for _, answer in told]
         return answers
 
 
@@ -923,6 +965,23 @@ def _answers_at(front: ctypes.Array[ctypes.c_char], at: int, count: int) -> list
     return [(front[place][0], cast("Answer", _answer_at(front, place + 2))) for place in places]
 
 
+def _bus_stepped(memory: _Memory, data: bytes, address: int) -> Optional[list[tuple[int, Answer]]]:
+    """Plays an event for all terminals of a bus or for one. Returns what they answer, or None if it means nothing that can happen."""
+    with memory.lock:
+        ctypes.memmove(memory.at, data + bytes([address]), _EVENT.size + 1)
+        front = _Front.from_address(memory.at.value)
+        return None if _bus_step(memory.at) else _answers_at(front, _BUS_FRONT, front[_EVENT.size + 1][0])
+
+
+def _address(wanted: str, name: str, value: Any) -> int:
+    """An address of a terminal. TypeError if it is not a number, ValueError if it is out of range."""
+    if not hasattr(type(value), "__index__"):
+        raise TypeError(f"{wanted} a number from 0 to 30 is wanted, not {_kind(value)}")
+    if not 0 <= operator.index(value) <= 30:
+        raise ValueError(f"{name} is not from 0 to 30")
+    return int(operator.index(value))
+
+
 _B = TypeVar("_B", bound="TerminalBus")
 
 
@@ -931,7 +990,7 @@ class TerminalBus:
     message. If several threads use it, their calls come one after the other.
 
     What joins is a copy of a terminal, in its state: from then on the two go their own ways. `copy.copy` and `copy.deepcopy` make
-    a bus whose terminals answer every further event as these do. It has no saved state, so it is not pickled.
+    a bus whose terminals answer every further event as these do; so do `save` and `restore`, and `pickle`.
 
     >>> bus = TerminalBus([Terminal("address = 5"), Terminal("address = 6")])
     >>> bus.step(Word(Bus.A, Sync.COMMAND, 0x2C02))
@@ -974,8 +1033,67 @@ class TerminalBus:
         vars(bus).update(copy.deepcopy(own, memo))
         return bus
 
+    @classmethod
+    def restore(cls: type[_B], state: Union[bytes, bytearray, memoryview]) -> _B:
+        """A bus in a saved state, whose terminals answer every further event as those of the saved one do. `Refused` if the bytes
+        are none. `__init__` is not called.
+
+        >>> try:
+        ...     TerminalBus.restore(b"rt1553-bus-state 2")
+        ... except Refused as refused:
+        ...     print(refused, refused.kind.name, refused.number, refused.line)
+        saved state: line 1 STATE 1 1
+        """
+        if not isinstance(state, _BYTES):
+            raise TypeError(f"a saved state is wanted, as bytes, not {_kind(state)}")
+        bus, data = cls.__new__(cls), _of(state)
+        bus.__memory = _Memory(_bus_restore, data, len(data))
+        return bus
+
+    def save(self) -> bytes:
+        """Its saved state, a text of ASCII (docs/library.md).
+
+        >>> bus = TerminalBus([Terminal("address = 5"), Terminal("address = 6")])
+        >>> TerminalBus.restore(bus.save()).terminal(6).address
+        6
+        """
+        memory, fault = self.__made(), ctypes.create_string_buffer(_FAULT.size)
+        to, length = ctypes.create_string_buffer(_BUS_STATE_ROOM), _size()
+        with memory.lock:
+            status = _bus_save(memory.at, to, len(to), ctypes.byref(length), fault)
+        if status:
+            raise _told(status, fault)
+        return to.raw[: length.value]
+
     def __reduce__(self) -> tuple[Any, ...]:
-        raise TypeError("a bus has no saved state; save its terminals before they join it")
+        memory = self.__made()
+        return type(self).restore, (self.save(),), {name: it for name, it in vars(self).items() if it is not memory} or None
+
+    def terminal(self, address: int) -> Terminal:
+        """A terminal that goes on as the one with this address, 0 to 30, does, which stays. ValueError if the bus has none."""
+        memory, wanted = self.__made(), _address("address:", "address", address)
+        with memory.lock:
+            for place in range(_MOST_TERMINALS):
+                terminal = Terminal._taken(memory, place)
+                if terminal is None:
+                    break
+                if terminal.address == wanted:
+                    return terminal
+        raise ValueError(f"no terminal of the bus has address {wanted}")
+
+    @classmethod
+    def _seating(cls, terminals: Iterable[Terminal]) -> "TerminalBus":
+        """A bus on which these terminals are from now on."""
+        row = list(terminals)
+        bus = cls(row)
+        for place, terminal in enumerate(row):
+            terminal._sit(bus.__made(), place, terminal.address)
+        return bus
+
+    def _seats(self, terminals: Iterable[Terminal]) -> bool:
+        """Whether these terminals are still on it."""
+        memory = self.__made()
+        return all(terminal._sits_on(memory) for terminal in terminals)
 
     def join(self, terminal: Terminal) -> None:
         """Puts a copy of a terminal on the bus, behind the others. ValueError if a terminal of the bus has its address.
@@ -1014,17 +1132,11 @@ class TerminalBus:
         """
         memory, data, address = self.__made(), packed(event), _FOR_ALL
         if to is not None:
-            if not hasattr(type(to), "__index__"):
-                raise TypeError(f"to: None or a number from 0 to 30 is wanted, not {_kind(to)}")
-            address = operator.index(to)
-            if not 0 <= address <= 30:
-                raise ValueError("to is not from 0 to 30")
-        with memory.lock:
-            ctypes.memmove(memory.at, data + bytes([address]), _EVENT.size + 1)
-            front = _Front.from_address(memory.at.value)
-            if not _bus_step(memory.at):
-                return _answers_at(front, _BUS_FRONT, front[_EVENT.size + 1][0])
-        raise ValueError(f"no event for {'all terminals' if to is None else f'terminal {address}'}: {event!r}")
+            address = _address("to: None or", "to", to)
+        answers = _bus_stepped(memory, data, address)
+        if answers is None:
+            raise ValueError(f"no event for {'all terminals' if to is None else f'terminal {address}'}: {event!r}")
+        return answers
 
     def message(self, words: Iterable[Union[Word, Noise]]) -> Message:
         """Plays a whole message: the words of a controller, on one bus; a gap; and slots and gaps until no terminal sends anything, so

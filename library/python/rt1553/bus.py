@@ -43,7 +43,7 @@ from itertools import islice
 from typing import Any, Optional, Union
 
 from . import (
-    Answer, Bus, BusControl, Event, Gap, Noise, Received, SelfTest, Sent, Slot, Sync, Synchronize, Terminal, Text, Word,
+    Answer, Bus, BusControl, Event, Gap, Noise, Received, SelfTest, Sent, Slot, Sync, Synchronize, Terminal, TerminalBus, Text, Word,
 )  # fmt: skip
 
 __all__ = [
@@ -332,6 +332,69 @@ def _terminal_of(terminal: Union[Terminal, Recorder, Faulty]) -> Terminal:
     return terminal
 
 
+# --- how terminals are stepped
+
+
+class _OneByOne:
+    """Terminals of which some are recorded or faulty: each takes each event by a call of its own."""
+
+    def __init__(self, terminals: dict[int, Union[Terminal, Recorder, Faulty]]) -> None:
+        self._terminals = terminals
+
+    def begin(self) -> None:
+        """Called before each message."""
+
+    def tell(self, event: Event, but: Collection[int] = ()) -> dict[int, Union[Answer, Word, Noise]]:
+        """Tells an event to all terminals except `but`, and returns the answers by their addresses."""
+        answers = {address: terminal.step(event) for address, terminal in self._terminals.items() if address not in but}
+        return {address: answer for address, answer in answers.items() if answer is not None}
+
+    def slot(self) -> dict[Bus, _Heard]:
+        """The time of one word: what is on each bus. Each terminal hears it, unless it sends there itself."""
+        answers = self.tell(Slot()).items()
+        sent = {address: answer.heard() if isinstance(answer, Sent) else answer for address, answer in answers}
+        heard: dict[Bus, _Heard] = {}
+        for bus in Bus:
+            words = {address: word for address, word in sent.items() if isinstance(word, (Word, Noise)) and word.bus == bus}
+            if words:
+                heard[bus] = Noise(bus) if len(words) > 1 else next(iter(words.values()))
+                self.tell(heard[bus], but=words)
+        return heard
+
+
+class _Together:
+    """Terminals that are stepped in one call, on a bus of their own, where each is as long as no other controller takes it over."""
+
+    def __init__(self, terminals: dict[int, Terminal]) -> None:
+        self._terminals = terminals
+        self._bus = TerminalBus()
+
+    def __getstate__(self) -> dict[str, Any]:
+        return {"_terminals": self._terminals, "_bus": TerminalBus()}
+
+    def begin(self) -> None:
+        """Takes the terminals over where they are elsewhere. Called before each message."""
+        if not self._bus._seats(self._terminals.values()):
+            self._bus = TerminalBus._seating(self._terminals.values())
+
+    def tell(self, event: Event) -> dict[int, Union[Answer, Word, Noise]]:
+        """Tells an event to all terminals, and returns the answers by their addresses."""
+        return dict(self._bus.step(event))
+
+    def slot(self) -> dict[Bus, _Heard]:
+        """The time of one word: what is on each bus. Each terminal hears it, unless it sends there itself."""
+        heard: dict[Bus, _Heard] = {}
+        for answer in self.tell(Slot()).values():
+            if isinstance(answer, Sent):
+                heard[answer.bus] = Noise(answer.bus) if answer.bus in heard else answer.heard()
+        return heard
+
+
+def _is_plain(terminal: Union[Terminal, Recorder, Faulty]) -> bool:
+    """Whether a terminal takes events by `Terminal.step` itself."""
+    return isinstance(terminal, Terminal) and type(terminal).step is Terminal.step
+
+
 # --- the bus controller
 
 
@@ -397,6 +460,10 @@ class BusController:
 
     Each silence is one gap, and if no reply follows it, the no-response time-out is one more. A word is heard by all but its
     sender; two words at once are noise. While the controller waits for a reply, time passes in slots.
+
+    If each is a `Terminal`, they are stepped together, on a `TerminalBus`: the first message takes their states over, and from then on
+    each `Terminal` is the one on the bus. No other thread may use them in that message. With a `Recorder`, a `Faulty` or a subclass
+    that has a `step` of its own, each is stepped by itself.
     """
 
     def __init__(self, terminals: Mapping[int, Union[Terminal, Recorder, Faulty]]) -> None:
@@ -411,6 +478,7 @@ class BusController:
         for address, terminal in self._terminals.items():
             if (own := _terminal_of(terminal).address) != address:
                 raise ValueError(f"terminals: the profile of the terminal at address {address} has address {own}")
+        self._line = _Together(self._terminals) if all(map(_is_plain, self._terminals.values())) else _OneByOne(self._terminals)
         self._handed: dict[int, list[HandedOver]] = {}
         # the buses that have had a word since their last gap
         self._in_use: set[Bus] = set()
@@ -455,11 +523,11 @@ class BusController:
         if not isinstance(bus, Bus):
             raise _unwanted("bus", "Bus.A or Bus.B", bus)
         self._handed = {}
+        self._line.begin()
         self._silence(bus)
-        for bits in commands:
-            self._tell(Word(bus, Sync.COMMAND, bits))
-        for bits in words:
-            self._tell(Word(bus, Sync.DATA, bits))
+        for event in [Word(bus, Sync.COMMAND, bits) for bits in commands] + [Word(bus, Sync.DATA, bits) for bits in words]:
+            self._in_use.add(bus)
+            self._line.tell(event)
         self._silence(bus)
         return self._result(bus, awaited)
 
@@ -487,16 +555,11 @@ class BusController:
         return reply
 
     def _slot(self) -> dict[Bus, _Heard]:
-        """The time of one word: what is on each bus."""
-        answers = self._tell(Slot()).items()
-        sent = {address: answer.heard() if isinstance(answer, Sent) else answer for address, answer in answers}
-        heard: dict[Bus, _Heard] = {}
+        """The time of one word: what is on each bus. A bus on which nothing is has a silence."""
+        heard = self._line.slot()
+        self._in_use.update(heard)
         for bus in Bus:
-            words = {address: word for address, word in sent.items() if isinstance(word, (Word, Noise)) and word.bus == bus}
-            if words:
-                heard[bus] = Noise(bus) if len(words) > 1 else next(iter(words.values()))
-                self._tell(heard[bus], but=words)
-            else:
+            if bus not in heard:
                 self._silence(bus)
         return heard
 
@@ -508,13 +571,6 @@ class BusController:
     def _gap(self, bus: Bus) -> None:
         """A gap on a bus. What terminals hand over is kept for the result."""
         self._in_use.discard(bus)
-        for address, answer in self._tell(Gap(bus)).items():
+        for address, answer in self._line.tell(Gap(bus)).items():
             if isinstance(answer, (Received, Synchronize, SelfTest, BusControl)):
                 self._handed.setdefault(address, []).append(answer)
-
-    def _tell(self, event: Event, but: Collection[int] = ()) -> dict[int, Union[Answer, Word, Noise]]:
-        """Tells an event to all terminals except `but`, and returns the answers by their addresses."""
-        if isinstance(event, (Word, Noise)):
-            self._in_use.add(event.bus)
-        answers = {address: terminal.step(event) for address, terminal in self._terminals.items() if address not in but}
-        return {address: answer for address, answer in answers.items() if answer is not None}

@@ -87,6 +87,7 @@ pub struct rt1553_terminal {
 
 pub const RT1553_FOR_ALL: u8 = 255;
 pub const RT1553_MOST_TERMINALS: usize = 31;
+pub const RT1553_BUS_STATE_ROOM: usize = 32 + RT1553_MOST_TERMINALS * RT1553_STATE_ROOM;
 pub const RT1553_MOST_SENT: usize = 66;
 pub const RT1553_NOISE_SENT: u8 = 255;
 
@@ -197,6 +198,25 @@ extern "C" {
     pub fn rt1553_bus_join(bus: *mut rt1553_bus, terminal: *const rt1553_terminal) -> u8;
     pub fn rt1553_bus_step(bus: *mut rt1553_bus) -> u8;
     pub fn rt1553_bus_copy(bus: *const rt1553_bus, copy: *mut *mut rt1553_bus, fault: *mut rt1553_fault) -> u8;
+    pub fn rt1553_bus_terminal(
+        bus: *const rt1553_bus,
+        place: usize,
+        terminal: *mut *mut rt1553_terminal,
+        fault: *mut rt1553_fault,
+    ) -> u8;
+    pub fn rt1553_bus_save(
+        bus: *const rt1553_bus,
+        to: *mut u8,
+        room: usize,
+        length: *mut usize,
+        fault: *mut rt1553_fault,
+    ) -> u8;
+    pub fn rt1553_bus_restore(
+        state: *const u8,
+        state_length: usize,
+        bus: *mut *mut rt1553_bus,
+        fault: *mut rt1553_fault,
+    ) -> u8;
     pub fn rt1553_bus_message(
         bus: *mut rt1553_bus,
         words: *const rt1553_event,
@@ -210,7 +230,7 @@ extern "C" {
 ///
 /// # Safety
 ///
-/// The bus was made by `rt1553_bus_new` or `rt1553_bus_copy`, and is not used again.
+/// The bus was made by `rt1553_bus_new`, `rt1553_bus_copy` or `rt1553_bus_restore`, and is not used again.
 pub unsafe fn rt1553_bus_free(bus: *mut rt1553_bus) {
     free(bus.cast());
 }
@@ -219,8 +239,8 @@ pub unsafe fn rt1553_bus_free(bus: *mut rt1553_bus) {
 ///
 /// # Safety
 ///
-/// The terminal was made by `rt1553_terminal_new`, `rt1553_terminal_copy` or
-/// `rt1553_terminal_restore`, and is not used again.
+/// The terminal was made by `rt1553_terminal_new`, `rt1553_terminal_copy`,
+/// `rt1553_terminal_restore` or `rt1553_bus_terminal`, and is not used again.
 pub unsafe fn rt1553_terminal_free(terminal: *mut rt1553_terminal) {
     free(terminal.cast());
 }

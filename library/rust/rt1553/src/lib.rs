@@ -339,6 +339,31 @@ impl<'a> Answers<'a> {
     }
 }
 
+/// What came of a whole message: at most the first 66 words, and the first 31 times that something was
+/// handed over.
+pub struct Message(Box<sys::rt1553_message>);
+
+impl Message {
+    /// The words that terminals sent, as the others heard them, each with the address of its terminal.
+    /// In place of words that collided there is noise, with the address of the first that sent one.
+    pub fn sent(&self) -> impl Iterator<Item = (u8, Event)> + '_ {
+        self.0.sent[..self.0.sent_count.min(sys::RT1553_MOST_SENT)].iter().map(|it| {
+            let bus = if it.bus == 0 { Bus::A } else { Bus::B };
+            let heard = match it.what {
+                sys::RT1553_SENDS_STATUS => Event::word(bus, Sync::Command, it.bits),
+                sys::RT1553_SENDS_DATA => Event::word(bus, Sync::Data, it.bits),
+                _ => Event::Noise(bus),
+            };
+            (it.address, heard)
+        })
+    }
+
+    /// What was handed over, in order.
+    pub fn handed(&self) -> Answers<'_> {
+        Answers(&self.0.handed[..self.0.handed_count.min(sys::RT1553_MOST_TERMINALS)])
+    }
+}
+
 /// A bus with up to 31 terminals of different addresses, which are stepped together. A clone answers
 /// every further event as the other does, and neither knows of the other.
 pub struct TerminalBus(NonNull<sys::rt1553_bus>);
@@ -397,6 +422,43 @@ impl TerminalBus {
     pub fn step_one(&mut self, address: u8, event: Event) -> Result<Answer<'_>, Fault> {
         let to = if address == sys::RT1553_FOR_ALL { 254 } else { address };
         self.play(to, event).map(|answers| answers.iter().next().map_or(Answer::Silent, |it| it.1))
+    }
+
+    /// Plays a whole message: words and noise of the controller, on one bus; a gap; and slots and gaps
+    /// until no terminal sends anything. `NoEvent` if there is none, one is another event or on another
+    /// bus, or the numbers of one are out of range; then nothing is played.
+    pub fn message(&mut self, words: &[Event]) -> Result<Message, Fault> {
+        let events: Vec<_> = words.iter().map(|it| it.plain()).collect();
+        let mut came = MaybeUninit::zeroed();
+        match unsafe { sys::rt1553_bus_message(self.0.as_ptr(), events.as_ptr(), events.len(), came.as_mut_ptr()) } {
+            // its fields are numbers and booleans, for which zeros are values, and the call has written the rest
+            sys::RT1553_DONE => Ok(Message(Box::new(unsafe { came.assume_init() }))),
+            _ => Err(Fault::NoEvent),
+        }
+    }
+
+    /// A terminal that goes on as one of the bus does, which stays. Its place is the number of those that
+    /// joined before it. None if the bus has no terminal there; `NoMemory`.
+    pub fn terminal(&self, place: usize) -> Result<Option<Terminal>, Fault> {
+        let (mut made, mut fault) = (ptr::null_mut(), MaybeUninit::uninit());
+        match unsafe { sys::rt1553_bus_terminal(self.0.as_ptr(), place, &mut made, fault.as_mut_ptr()) } {
+            sys::RT1553_NO_MEMORY => Err(Fault::NoMemory),
+            _ => Ok(NonNull::new(made).map(Terminal)),
+        }
+    }
+
+    /// The bus in a saved state, whose terminals answer every further event as those of the saved one do.
+    pub fn restore(state: impl AsRef<[u8]>) -> Result<TerminalBus, Fault> {
+        let state = state.as_ref();
+        TerminalBus::made(|made, fault| unsafe { sys::rt1553_bus_restore(state.as_ptr(), state.len(), made, fault) })
+    }
+
+    /// Its saved state, a text of ASCII.
+    pub fn save(&self) -> Result<Vec<u8>, Fault> {
+        let (_, state, fault) = written(sys::RT1553_BUS_STATE_ROOM, |to, room, length, fault| unsafe {
+            sys::rt1553_bus_save(self.0.as_ptr(), to, room, length, fault)
+        });
+        fault.map_or(Ok(state), Err)
     }
 
     /// Whether words of two or more terminals collided on a bus, in the latest slot.
@@ -538,6 +600,42 @@ mod tests {
             assert_eq!(clone.step_one(address, Event::Slot), Err(Fault::NoEvent));
         }
         assert!(matches!(clone.step(Event::Vector(1)).err(), Some(Fault::NoEvent)));
+    }
+
+    #[test]
+    fn messages_on_a_bus() {
+        let mut bus = TerminalBus::new().unwrap();
+        for address in [5, 6] {
+            bus.join(&Terminal::new(PROFILE.replace("= 5", &format!("= {address}"))).unwrap()).unwrap();
+        }
+        bus.step_one(5, Event::Write { subaddress: 3, number: 1, bits: 0xbb }).unwrap();
+        let command = |bits| Event::word(Bus::A, Sync::Command, bits);
+        let came = bus.message(&[command(0x3062), command(0x2c62)]).unwrap();
+        let data = |bits| (5, Event::word(Bus::A, Sync::Data, bits));
+        assert!(came.sent().eq([(5, command(0x2800)), data(0xbb), data(0), (6, command(0x3000))]));
+        let words = &[0xbb, 0][..];
+        assert!(came.handed().iter().eq([(6, Answer::Received { broadcast: false, subaddress: 3, words })]));
+        assert!(matches!(bus.message(&[command(0x2c02), Event::Slot]).err(), Some(Fault::NoEvent)));
+        assert!(matches!(bus.message(&[]).err(), Some(Fault::NoEvent)));
+    }
+
+    #[test]
+    fn a_bus_is_saved_and_its_terminals_are_taken() {
+        let mut bus = TerminalBus::new().unwrap();
+        bus.join(&Terminal::new("address = 6").unwrap()).unwrap();
+        bus.join(&replying()).unwrap();
+        let state = bus.save().unwrap();
+        let mut restored = TerminalBus::restore(&state).unwrap();
+        assert_eq!(restored.save(), Ok(state.clone()));
+        assert_eq!(sent(&mut restored.terminal(1).unwrap().unwrap()), [0x2800, 0, 0xbb]);
+        assert!(restored.terminal(2).unwrap().is_none());
+        assert_eq!(restored.step(Event::Slot).unwrap().iter().count(), 1);
+        assert_eq!(bus.save(), Ok(state.clone()));
+        let lines = state.split(|byte| *byte == b'\n').count() as u64 - 1;
+        match TerminalBus::restore(&state[..state.len() - 1]).err() {
+            Some(Fault::Refused { kind: 5, number: 1, line, .. }) => assert_eq!(line, lines),
+            fault => panic!("{fault:?}"),
+        }
     }
 
     #[test]
