@@ -8,6 +8,11 @@ _rt1553_tool() {
     fi
     case ${COMP_WORDS[1]}:$before in
         bus:--alone) return ;;
+        bus:--format) mapfile -t COMPREPLY < <(compgen -W 'text json junit' -- "$now"); return ;;
+        bus:--names) mapfile -t COMPREPLY < <(compgen -f -X '!*.csv' -- "$now"; compgen -d -- "$now"); return ;;
+        bus:--date) return ;;
+        bus:--response) return ;;
+        bus:--gap) return ;;
         lint:--format) mapfile -t COMPREPLY < <(compgen -W 'text json sarif' -- "$now"); return ;;
         verify:--profiles) mapfile -t COMPREPLY < <(compgen -d -- "$now"); return ;;
         verify:--format) mapfile -t COMPREPLY < <(compgen -W 'text json junit html' -- "$now"); return ;;
@@ -41,7 +46,7 @@ _rt1553_tool() {
         canon) flags='--help' kinds=(profile) many='' ;;
         compare) flags='--help' kinds=(profile profile) many='' ;;
         run) flags='--help' kinds=(profile script) many='' ;;
-        bus) flags='--expand --alone --messages --check --help' kinds=(profile script) many='profile' ;;
+        bus) flags='--expand --alone --messages --check --format --names --date --response --gap --help' kinds=(profile script) many='profile' ;;
         lint) flags='--format --help' kinds=(profile) many='profile' ;;
         check-script) flags='--help' kinds=(script) many='script' ;;
         verify) flags='--summary --bus-only --any-subsystem --already-on --witness --expand --profiles --format --names --date --help' kinds=(profile script) many='script' ;;
@@ -65,6 +70,11 @@ _rt1553_tool() {
     for ((index = 2; index < COMP_CWORD; index++)); do
         case ${COMP_WORDS[1]}:${COMP_WORDS[index]} in
             bus:--alone) index=$((index + 1)) ;;
+            bus:--format) index=$((index + 1)) ;;
+            bus:--names) index=$((index + 1)) ;;
+            bus:--date) index=$((index + 1)) ;;
+            bus:--response) index=$((index + 1)) ;;
+            bus:--gap) index=$((index + 1)) ;;
             lint:--format) index=$((index + 1)) ;;
             verify:--profiles) kinds=("${kinds[@]:1}") index=$((index + 1)) ;;
             verify:--format) index=$((index + 1)) ;;

@@ -15,6 +15,11 @@ complete -c rt1553-tool -n '__fish_seen_subcommand_from bus' -l expand -d 'takes
 complete -c rt1553-tool -n '__fish_seen_subcommand_from bus' -l alone -x -d 'prints what comes to the terminal of this address, as a script'
 complete -c rt1553-tool -n '__fish_seen_subcommand_from bus' -l messages -d 'prints the messages, as `messages` does, a line for each of their terminals'
 complete -c rt1553-tool -n '__fish_seen_subcommand_from bus' -l check -d 'takes messages as --expand does, and prints which of them do not end well'
+complete -c rt1553-tool -n '__fish_seen_subcommand_from bus' -l format -x -a 'text json junit' -d 'with --check: the output format'
+complete -c rt1553-tool -n '__fish_seen_subcommand_from bus' -l names -r -F -d 'with --check: the names of messages to the terminal of TABLE, also several times'
+complete -c rt1553-tool -n '__fish_seen_subcommand_from bus' -l date -x -d 'with --check, not as text: the date, as 2026-01-31T12:00:00'
+complete -c rt1553-tool -n '__fish_seen_subcommand_from bus' -l response -x -d 'with --check: the time before a status word, in us; 12 if left out'
+complete -c rt1553-tool -n '__fish_seen_subcommand_from bus' -l gap -x -d 'with --check: the time between messages, in us; 4 if left out'
 complete -c rt1553-tool -n '__fish_seen_subcommand_from bus' -F
 complete -c rt1553-tool -n __fish_use_subcommand -a lint -d 'Prints all faults of profiles, and what has no effect'
 complete -c rt1553-tool -n '__fish_seen_subcommand_from lint' -l format -x -a 'text json sarif' -d 'the output format'

@@ -105,7 +105,8 @@ def synopsis_of(command):
         if option.get("instead"):
             instead = f"Fl Fl {option['name'][2:]}{value}"
         else:
-            yield f".Op Fl Fl {option['name'][2:]}{value}"
+            many = " ..." if option.get("many") else ""
+            yield f".Op Fl Fl {option['name'][2:]}{value}{many}"
     for number, takes in enumerate(command["takes"]):
         many = " ..." if takes.get("many") else ""
         if instead and not number:
@@ -358,7 +359,7 @@ def zsh_specs(command):
             value = f":{option['value']}: "
         elif "value" in option:
             value = f":{option['value']}:{zsh_files(option['kind'])}"
-        but = "(1)" if option.get("instead") else ""
+        but = "(1)" if option.get("instead") else "*" if option.get("many") else ""
         yield f"'{but}{option['name']}[{zsh_text(option['help'])}]{value}'"
     for number, takes in enumerate(command["takes"], 1):
         but = f"({instead})" if instead and number == 1 else ""
@@ -439,7 +440,8 @@ def occurrence_of(argument, instead):
     if argument["name"].startswith("--"):
         if "values" in argument:
             return f"OneOf({rust_text(argument['values'][0])}, &{values_name(argument)})"
-        return "Flag" if "value" not in argument else "Needed" if argument.get("needed") else "Value"
+        value = "Needed" if argument.get("needed") else "Values" if argument.get("many") else "Value"
+        return value if "value" in argument else "Flag"
     if "with" in argument:
         return f"OnceWith({rust_text(argument['with'][2:])})"
     often = "Often" if argument.get("many") else "Once"

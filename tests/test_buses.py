@@ -10,17 +10,13 @@ import re
 from typing import NamedTuple
 
 import buses
-import canonical
 import message_rows
-import pieces
 import play
 import pytest
 import rules
-import tomllib
 from programs import Given, run, write_files
 
 SEEDS, BUSES = 20, 250
-VARIANTS = 3
 # in the buses of each seed
 OFTEN = {
     "messages received, own": 100, "messages received, broadcast": 200,
@@ -35,32 +31,13 @@ OFTEN = {
 }  # fmt: skip
 
 
-def profiles_of(draw):
-    """For each address some profiles, as texts, with what their terminals are at power-up."""
-    for address in range(31):
-        for variant in range(VARIANTS):
-            text, _ = pieces.profile_of(draw.randrange(1 << 30))
-            text = re.sub(r"address = \d+", f"address = {address}", text, count=1)
-            profile = tomllib.loads(text)
-            if draw.randrange(3) == 0:
-                text = canonical.text_of(canonical.reached_of(profile))
-            yield f"{address:02}.{variant}", text, play.setup_of(profile)
-
-
-def addresses_of(draw):
-    """Those of 2 to 31 terminals."""
-    return draw.sample(range(31), draw.choice([2, 2, 3, 4, 5, draw.randint(6, 31), draw.randint(2, 31)]))
-
-
 @pytest.mark.parametrize("seed", range(SEEDS))
 def test_random_buses(tool, rt1553, seed, tmp_path, count_runs):
     draw, counts = random.Random(seed), collections.Counter()
-    profiles = {name: (text, setup) for name, text, setup in profiles_of(draw)}
+    profiles = buses.profiles_of(draw)
     write_files(tmp_path, {name: text for name, (text, _) in profiles.items()})
     for number in range(BUSES):
-        names = [f"{it:02}.{draw.randrange(VARIANTS)}" for it in addresses_of(draw)]
-        bus = buses.Bus([profiles[it][1] for it in names], counts)
-        wanted = buses.Controller(draw, bus, [*draw.sample(range(1, 31), 2), 30]).play(draw.choice([30, 100, 300]))
+        names, bus, wanted = buses.random_run(draw, profiles, counts)
         write_files(tmp_path, {"script": b"".join(it + b"\n" for it in wanted.lines)})
         given = run(tool, "bus", *names, "script", folder=tmp_path)
         assert given == (0, "".join(f"{it}\n" for it in wanted.transcript).encode(), "".join(wanted.warnings).encode()), number
@@ -89,6 +66,8 @@ CHECKED = {
     "no profile has address": 40, "no terminal takes the broadcast": 40, "illegal": 150, "busy": 8, "done: transmitter shut down": 3,
     "in error: wrong word count": 20, "in error: no status from the transmitter": 1,
     "takes it for no message": 3, "ignored: during a reply": 1,
+    "loads to 100 %": 10, "loads over 100 %": 20, "rated: data": 40, "rated: data to all": 5, "rated: mode code": 20, "rated: mode code to all": 4,
+    "rated: transfer": 20, "rated: transfer to all": 4,
 }  # fmt: skip
 
 
@@ -252,7 +231,68 @@ def reasons_of(message, number, setups, rows):
     return "; ".join(reasons)
 
 
-def judged(schedule, setups, counts):
+def data_words(command):
+    """How many data words the standard's format has for a command to which a terminal replies."""
+    return int(command & 31 >= 16) if rules.is_mode(command) else rules.count_of(command)
+
+
+def time_of(message, response, gap):
+    """How long a message takes, in microseconds, docs/bus.md."""
+    first, *second = message.commands
+    if second:
+        statuses, words = 1 + (not rules.is_broadcast(first)), 2 + data_words(second[0])
+    elif rules.is_broadcast(first):
+        statuses, words = 0, 1 + (0 if rules.is_transmit(first) else data_words(first))
+    else:
+        statuses, words = 1, 1 + data_words(first)
+    return 20 * (words + statuses) + response * statuses + gap
+
+
+def rated(draw, lines):
+    """A schedule, in most with comments that tell rates between its lines."""
+    if draw.random() < 0.4:
+        return lines
+    found = []
+    for line in lines:
+        if draw.random() < 0.3:
+            found.append(f"# rate {draw.choice([0, 1, 3, 25, 50, 64, 400, draw.randint(1, 10 ** 6), 10 ** 6])}")
+        found.append(line)
+    return found
+
+
+def load_told(lines, response, gap, counts):
+    """The lines that tell the load of a schedule."""
+    groups, rate = [], None
+    for line in lines:
+        if isinstance(line, Message):
+            if rate:
+                groups[-1][1].append(line)
+        elif line.startswith("# rate "):
+            rate = int(line[7:])
+            groups.append((rate, []))
+    told, busy = [], {}
+    for rate, messages in groups:
+        for bus in "AB":
+            times = [time_of(it, response, gap) for it in messages if it.bus == bus]
+            if times:
+                told.append(f"rate {rate}: {counted(len(times))}, {sum(times)} us of each {10 ** 6 // rate} us on bus {bus}")
+                busy[bus] = busy.get(bus, 0) + rate * sum(times)
+    for bus, time in sorted(busy.items()):
+        tenths, over = -(-time // 1000), ": more than the bus has" if time > 10 ** 6 else ""
+        told.append(f"load: {tenths // 10}.{tenths % 10} % of bus {bus}{over}")
+        counts["loads over 100 %" if over else "loads to 100 %"] += 1
+    counts.update(kind_of(it) for _, messages in groups for it in messages)
+    return told
+
+
+def kind_of(message):
+    """What a message is, by its format."""
+    first, *second = message.commands
+    kind = "transfer" if second else "mode code" if rules.is_mode(first) else "data"
+    return f"rated: {kind}{' to all' if rules.is_broadcast(first) else ''}"
+
+
+def judged(schedule, setups, counts, times):
     """What is told of a schedule, with the status and the warnings."""
     present = [it.address for it in setups]
     events = [it.events(present) if isinstance(it, Message) else [event_of(it)] for it in schedule]
@@ -272,8 +312,14 @@ def judged(schedule, setups, counts):
             counts["both, and not the same" if alone and in_run else "alone" if alone else "in the run"] += 1
         counts.update(re.sub(r"^terminal \d\d: | \d\d$", "", it) for it in {*alone.split("; "), *in_run.split("; ")} if it)
     counts["all end well"] += not wrong
-    told.append(f"{messages} messages" + (f", {wrong} of them don't end well" if wrong else ": all end well"))
+    told += load_told(schedule, *times, counts)
+    told.append(counted(messages) + (f", {wrong} of them do{'es' * (wrong == 1)}n't end well" if wrong else ": all end well"))
     return Given(int(wrong > 0), "".join(f"{it}\n" for it in told).encode(), "".join(warnings).encode())
+
+
+def counted(messages):
+    """A number of messages in words."""
+    return f"{messages} message" + "s" * (messages != 1)
 
 
 def loosened(output):
@@ -284,17 +330,20 @@ def loosened(output):
 
 @pytest.mark.parametrize("seed", range(CHECK_SEEDS))
 def test_check(tool, seed, tmp_path, count_runs):
-    """`bus --check` of random schedules: what is told of each message, the last line, the status and the warnings."""
-    draw, counts = random.Random(seed), collections.Counter()
-    profiles = {name: (text, setup) for name, text, setup in profiles_of(draw)}
+    """`bus --check` of random schedules: what is told of each message, the load, the last line, the status and the warnings."""
+    draw, rates, counts = random.Random(seed), random.Random(f"rates {seed}"), collections.Counter()
+    profiles = buses.profiles_of(draw)
     write_files(tmp_path, {name: text for name, (text, _) in profiles.items()})
     for number in range(SCHEDULES):
-        names = [f"{it:02}.{draw.randrange(VARIANTS)}" for it in draw.sample(range(31), draw.randint(1, 4))]
+        names = [f"{it:02}.{draw.randrange(buses.VARIANTS)}" for it in draw.sample(range(31), draw.randint(1, 4))]
         setups = [profiles[it][1] for it in names]
         schedule = Schedule(draw, [it.address for it in setups])
-        lines = [it.line if isinstance(it, Message) else it for it in schedule.lines]
+        parts, times = rated(rates, schedule.lines), rates.choice([(12, 4), (12, 4), (rates.randint(0, 1000), rates.randint(0, 1000))])
+        lines = [it.line if isinstance(it, Message) else it for it in parts]
         write_files(tmp_path, {"schedule": "".join(f"{it}\n" for it in lines)})
-        given, wanted = run(tool, "bus", "--check", *names, "schedule", folder=tmp_path), judged(schedule.lines, setups, counts)
+        options = [] if times == (12, 4) else ["--response", f"{times[0]}", "--gap", f"{times[1]}"]
+        given = run(tool, "bus", "--check", *options, *names, "schedule", folder=tmp_path)
+        wanted = judged(parts, setups, counts, times)
         assert given._replace(output=loosened(given.output)) == wanted._replace(output=loosened(wanted.output)), (number, names, lines)
         # in the order of the commands, then of the addresses, where nothing strange is
         assert given == wanted or schedule.strange, (number, names, lines)

@@ -102,6 +102,17 @@ SCRIPTS = [
     Row("words", ("words",), 0, None, stdin="# ~\nrx ~\nx~\nc 2862 ~\n", characters=IN_A_LINE),
     Row("live", ("live", "five"), 0, 0, stdin="A~\n# ~\n", characters=IN_A_LINE),
 ]  # fmt: skip
+# names of the files of a bus, and of messages
+BUSES = rows_of(
+    "bus", {
+        "ta~ble": 'kind,name,value,words,subaddress\naddress,,5,,\ntransmit,"na~me",,2,1\n', "ot~her": "kind,name,value\naddress,,6\n",
+        "scr~ipt": "A tx 5 1 2\n",
+    },
+    *(row for more in ("", "--format json ", "--format junit ") for row in (
+        (f"bus --check {more}--names ta~ble five scr~ipt", 0, 1), (f"bus --check {more}--names ot~her five scr~ipt", 1, 2),
+        (f"bus --check {more}--names ta~ble --names ta~ble five scr~ipt", 1, 2), (f"bus --check {more}five no~file", 1, 4),
+    )),
+) + rows_of("bus: a rate", {"rates": "# rate 5~\n"}, ("bus --check five rates", 1, 0), characters=[it for it in HOSTILE if it not in "\n"])  # fmt: skip
 # names in an acceptance test and in what is compared with it
 ACCEPTANCE = rows_of(
     "acceptance", {
@@ -113,7 +124,7 @@ ACCEPTANCE = rows_of(
     *((f"acceptance --names table --against replies --format {it} five", 0, 1) for it in ("json", "junit", "html")),
     characters=["\x1b", "\x85", "\u202e", "\n"],
 )  # fmt: skip
-ROWS = ABSENT + REFUSED + NAMES + ARGUMENTS + PROFILES + TABLES + SCRIPTS + ACCEPTANCE
+ROWS = ABSENT + REFUSED + NAMES + ARGUMENTS + PROFILES + TABLES + SCRIPTS + BUSES + ACCEPTANCE
 
 
 def found_in(given, row):

@@ -39,6 +39,9 @@ rt1553-tool lint --|--format --help
 rt1553-tool lint --format .|json sarif text
 rt1553-tool lint --format json .|a.toml b.rt1553 sub
 rt1553-tool verify --|--already-on --any-subsystem --bus-only --date --expand --format --help --names --profiles --summary --witness
+rt1553-tool bus --|--alone --check --date --expand --format --gap --help --messages --names --response
+rt1553-tool bus --format .|json junit text
+rt1553-tool bus --names .|e.csv sub
 rt1553-tool verify .|a.toml b.rt1553 sub
 rt1553-tool verify a.toml c.script .|c.script sub
 rt1553-tool verify --summary a.toml .|c.script sub

@@ -1,9 +1,17 @@
-"""`rt1553-tool bus`: a transfer, collisions, messages, warnings and faults, and each terminal alone against `run`, over random scripts."""
+"""`rt1553-tool bus`: a transfer, collisions, messages, warnings and faults, and each terminal alone against `run`, over random scripts.
+
+Of `bus --check` also the names of messages, the load, and its reports beside the text; those by Python's own readers of JSON and XML.
+"""
 
 import random
+import re
+import xml.etree.ElementTree as xml
+from typing import NamedTuple
 
 import pytest
+import reports
 from programs import TOP, Row, check_row, run, with_files, write_files
+from schemas import misfits
 
 RULES = "".join(f"[[rule]]\ndirection = \"{it}\"\nsubaddresses = {s}\ncounts = 1\n" for it, s in (("receive", 1), ("transmit", 2)))
 FILES = {"five": f"address = 5\n{RULES}", "six": f"address = 6\n{RULES}", "again": "address = 5\n", "none": "address = 31\n"}
@@ -20,6 +28,16 @@ def expanded(name, output, errors, *lines, status=0, more=""):
     return Row(name, f"bus --expand five six script{more}", status, output, errors, files={"script": "".join(f"{it}\n" for it in lines)})
 
 
+def counted(messages):
+    """A number of messages in words."""
+    return f"{messages} message" + "s" * (messages != 1)
+
+
+def end_told(messages, wrong):
+    """The last line of a check."""
+    return counted(messages) + (f", {wrong} of them do{'es' * (wrong == 1)}n't end well" if wrong else ": all end well")
+
+
 HEADER = "number    line bus kind      RT sub words ended\n"
 SEVEN = ("address = 7\nbroadcast = true\n[[rule]]\nto = \"both\"\ndirection = \"receive\"\nsubaddresses = 1\n"
          "[[rule]]\ndirection = \"transmit\"\nsubaddresses = 2\n[[mode]]\ncodes = 4\n")  # fmt: skip
@@ -27,9 +45,35 @@ SEVEN = ("address = 7\nbroadcast = true\n[[rule]]\nto = \"both\"\ndirection = \"
 
 def checked(name, told, *lines, status=1, errors=""):
     """A check of messages for three terminals."""
-    output = "".join(f"script:{it}\n" if it[0].isdigit() and "messages" not in it else f"{it}\n" for it in told)
+    output = "".join(f"script:{it}\n" if re.match(r"\d+: ", it) else f"{it}\n" for it in told)
     return Row(f"check: {name}", "bus --check five six seven script", status, output, errors,
                files={"seven": SEVEN, "script": "".join(f"{it}\n" for it in lines)})
+
+
+# a table for a terminal, and its rows, by their names
+HEAD = "kind,name,value,subaddress,words,to,code\n"
+SIX = f"{HEAD}address,,6,,,,\nreceive,level,,1,1,,\ntransmit,position,,2,1,,\n"
+TABLES = {
+    "5.csv": f"{HEAD}address,,5,,,,\nreceive,speed,,1,1,,\ntransmit,\"the \"\"pressure\"\"\",,2,1,,\n",
+    "6.csv": SIX,
+    "7.csv": f"{HEAD}address,,7,,,,\nreceive,all of them,,1,1,both,\nmode,off,,,,,4\n",
+    "8.csv": SIX.replace(",6,", ",8,"), "none.csv": SIX.replace("address,,6", "address,,"), "no.csv": f"{HEAD}receive,level,,1,1,,\n",
+}
+GROUP = ["# rate 50", "A rx 5 1 1: 0001", "B tx 6 2 1"]
+# what is for --check alone
+CHECK_ALONE = "arguments: --format json and junit, --names, --date, --response and --gap are for --check\n"
+
+
+def named(name, tables, told, *lines, status=1, errors="", more=""):
+    """A check of messages with tables of names."""
+    row = checked(f"names: {name}", told, *lines, status=status, errors=errors)
+    return row._replace(words=" ".join([row.words, more, *(f"--names {it}" for it in tables.split())]), files={**row.files, **TABLES})
+
+
+def timed(name, words, told, *lines, errors=""):
+    """A check of messages that end well, with rates."""
+    row = checked(f"load: {name}", told, *lines, status=0, errors=errors)
+    return row._replace(words=f"{row.words} {words}")
 
 
 def refused(name, line, told):
@@ -117,23 +161,68 @@ ROWS = with_files(
                                        "2 messages, 2 of them don't end well"], "A rx 9 1 1: 0001", "A rx 12 1 1 from 13 1: 0001"),
     checked("illegal", ["1: terminal 05: illegal", "2: terminal 06: in error: wrong word count; terminal 05: illegal", "3: terminal 05: illegal",
                         "4 messages, 3 of them don't end well"], "A tx 5 3 1", "A rx 6 1 1 from 5 3: 0000", "B mode 5 19", "B tx 6 2 1"),
-    checked("busy in the run", ["2: terminal 05: busy # in the run", "2 messages, 1 of them don't end well"],
+    checked("busy in the run", ["2: terminal 05: busy # in the run", "2 messages, 1 of them doesn't end well"],
             "05 flag busy 1", "A rx 5 1 1: 0001", "05 flag busy 0", "A rx 5 1 1: 0001"),
-    checked("behind a command without its words", ["2: terminal 06: takes it for no message # in the run", "1 messages, 1 of them don't end well"],
+    checked("behind a command without its words", ["2: terminal 06: takes it for no message # in the run", "1 message, 1 of them doesn't end well"],
             "A c 3021", "A rx 6 1 1: 0001"),
     checked("a transmitter that is shut down", ["2: terminal 06: in error: no status from the transmitter; terminal 07: done: transmitter shut down # in the run",
                                                 "3: terminal 06: in error: wrong word count; terminal 07: illegal # alone",
                                                 "3: terminal 06: in error: no status from the transmitter; terminal 07: illegal: transmitter shut down # in the run",
                                                 "3 messages, 2 of them don't end well"],
             "B mode 7 4", "A rx 6 1 1 from 7 2: 0000", "A rx 6 1 1 from 7 3: 0000"),
-    checked("broadcasts", ["2: no terminal takes the broadcast; terminal 07: illegal", "2 messages, 1 of them don't end well"],
+    checked("broadcasts", ["2: no terminal takes the broadcast; terminal 07: illegal", "2 messages, 1 of them doesn't end well"],
             "A rx all 1 1: 0001", "A rx all 2 1: 0001"),
     Row("check: a broadcast without a terminal that has the option", "bus --check five six script", 1,
-        "script:1: no terminal takes the broadcast\n1 messages, 1 of them don't end well\n", files={"script": "A rx all 1 1: 0001\n"}),
+        "script:1: no terminal takes the broadcast\n1 message, 1 of them doesn't end well\n", files={"script": "A rx all 1 1: 0001\n"}),
     checked("stated answers", ["2 messages: all end well"], "A tx 5 2 1", "#> A s 2800", "#> A d 0000", "A rx 5 1 1: 0001", "#> hand receive own 01 0001", status=0),
-    checked("a warning", ["3: terminal 05: ignored: during a reply # in the run", "1 messages, 1 of them don't end well"], "A c 2c41\nA gap", "A tx 5 2 1",
+    checked("a warning", ["3: terminal 05: ignored: during a reply # in the run", "1 message, 1 of them doesn't end well"], "A c 2c41\nA gap", "A tx 5 2 1",
             errors="script:3: warning: a gap while terminal 05 replies: another terminal can begin its reply\n"),
     checked("a line that is refused", [], "A tx 5 2 1", "08 flag busy 1", status=2, errors="script:2:1: error: no profile has address 08\n"),
+    named("each of its terminal", "5.csv 6.csv",
+          ['2: "speed": terminal 05: busy # in the run', "3: terminal 05: illegal", "4: no profile has address 09", "4 messages, 3 of them don't end well"],
+          "05 flag busy 1", "A rx 5 1 1: 0001", "A tx 5 3 1", "A rx 9 1 1: 0001", "B rx 6 1 1: 0002"),
+    named("of the receiver, and else of the transmitter", "6.csv 5.csv",
+          ['1: "level": terminal 06: in error: wrong word count; terminal 05: illegal', "2: no profile has address 09; terminal 05: illegal",
+           '3: "the \\"pressure\\"": no profile has address 09', "3 messages, 3 of them don't end well"],
+          "A rx 6 1 1 from 5 3: 0000", "A rx 9 1 1 from 5 3: 0000", "A rx 9 1 1 from 5 2: 0000"),
+    named("of a broadcast, and of a mode code", "6.csv 7.csv",
+          ["2: no terminal takes the broadcast; terminal 07: illegal", '3: "off": terminal 07: illegal', "3 messages, 2 of them don't end well"],
+          "A rx all 1 1: 0001", "A rx all 2 1: 0001", "A mode 7 4 rx"),
+    named("of a broadcast that none takes", "7.csv", ['1: "all of them": no terminal takes the broadcast', "1 message, 1 of them doesn't end well"],
+          "A rx all 1 1: 0001")._replace(files={**FILES, **TABLES, "seven": "address = 7\n", "script": "A rx all 1 1: 0001\n"}),
+    *(named(f"refused: {name} {more}", tables, [], "A tx 5 2 1", status=status, errors=errors, more=more)
+      for more in ("", "--format json", "--format junit") for name, tables, status, errors in [
+          ("no profile of the address", "5.csv 8.csv", 2, "8.csv: a table for address 08, which no profile has\n"),
+          ("two of one address", "6.csv 5.csv 6.csv", 2, "6.csv and 6.csv: tables for the same address, 06\n"),
+          ("an empty address", "none.csv", 2, "none.csv:2:3: error: value: empty: allowed is 0 to 30\n"),
+          ("no address", "5.csv no.csv", 2, "no.csv:1:1: error: no row is of the kind address; its value is 0 to 30\n"),
+          ("no file", "5.csv nothing", 4, "file: cannot read nothing: no such file\n"),
+      ]),
+    timed("on both buses", "", [
+        "rate 50: 1 message, 76 us of each 20000 us on bus A", "rate 50: 1 message, 76 us of each 20000 us on bus B",
+        "rate 3: 1 message, 128 us of each 333333 us on bus A", "load: 0.5 % of bus A", "load: 0.4 % of bus B", "5 messages: all end well"],
+        "A tx 5 2 1", *GROUP, "# rate 3", "A rx 6 1 1 from 5 2: 0000", "# rate 0", "A tx 5 2 1"),
+    timed("other times", "--response 0 --gap 1000", [
+        "rate 50: 1 message, 1060 us of each 20000 us on bus A", "rate 50: 1 message, 1060 us of each 20000 us on bus B",
+        "load: 5.3 % of bus A", "load: 5.3 % of bus B", "2 messages: all end well"], *GROUP),
+    timed("exactly all of the bus", "--response 12 --gap 28", [
+        "rate 10000: 1 message, 100 us of each 100 us on bus A", "load: 100.0 % of bus A", "1 message: all end well"], "# rate 10000", "A rx 5 1 1: 0001"),
+    timed("more than the bus has", "--response 12 --gap 29", [
+        "rate 10000: 1 message, 101 us of each 100 us on bus A", "load: 101.0 % of bus A: more than the bus has", "1 message: all end well"],
+        "# rate 10000", "A rx 5 1 1: 0001"),
+    timed("the highest rate, without a message", "", ["1 message: all end well"], "# rate 1000000", "# rate 0", "A tx 5 2 1", "# rate 5"),
+    timed("comments and no rates", "", ["1 message: all end well"], "# rate", "# rates 5", "#  rate 5", "# rate of speed", "#rate 5", "# rate -1", "# rate +1", "A tx 5 2 1"),
+    *(timed(f"{it!r}", "", ["1 message: all end well"], f"# rate {it}", "A tx 5 2 1",
+            errors='script:1: warning: no rate: behind "# rate " stands a number from 0 to 1000000 alone\n') for it in ("5 Hz", "1000001", "5 ", "0x5", "1.5", "9" * 30)),
+    timed("events alone", "", ["0 messages: all end well"], "# rate 50", "A c 2c41", "A gap", "slot", "A status 5", "A data 0001"),
+    *(Row(f"for --check alone: {words}", f"bus {it} {words} five six script", 3, "", CHECK_ALONE, files={**TABLES, "script": ""})
+      for it in ("", "--messages", "--alone 5", "--expand")
+      for words in ("--format json", "--format junit", "--names 5.csv", "--date 2026-01-31T12:00:00", "--response 12", "--gap 4")),
+    *(Row(f"{option} {it}", f"bus --check {option} {it} five script", 3, "", f"arguments: {option} is 0 to 1000, in whole microseconds\n", files={"script": ""})
+      for option in ("--response", "--gap") for it in ("1001", "4.5", "+4", "x", "12us", "65536")),
+    *(Row(f"{option} {it}", f"bus --check {option} {it} five script", 0, "0 messages: all end well\n", files={"script": ""})
+      for option in ("--response", "--gap") for it in ("0", "1000")),
+    Row("a date for text", "bus --check --date 2026-01-31T12:00:00 five script", 3, "", "arguments: --date is not for text\n", files={"script": ""}),
     Row("no terminal alone", "bus five script --alone 7", 2, "", "--alone: no profile has address 07\n", files={"script": ""}),
 )  # fmt: skip
 
@@ -205,3 +294,156 @@ def test_examples(tool, script):
 def test_examples_are_checked(tool):
     given = run(tool, "bus", "--check", "examples/bus/pump.toml", "examples/bus/valve.toml", "examples/bus/day.messages", folder=TOP)
     assert given.status == 1 and given.output.decode().splitlines()[-1] == "5 messages, 2 of them don't end well"
+
+
+class Report(NamedTuple):
+    """Messages that are checked, by `bus --check WORDS PROFILES script`."""
+
+    name: str
+    words: list
+    profiles: list
+    lines: list
+    files: dict = {}
+
+
+MIXED = ["# rate 50", "05 flag busy 1", "A rx 5 1 1: 0001", "A tx 5 3 1", "05 flag busy 0", "B rx 6 1 1 from 5 3: 0000", "A rx 9 1 1: 0001",
+         "# rate 9000", "A rx all 1 1: 0001", "A tx 6 2 1", "B mode 7 4", "A rx 6 1 1 from 7 2: 0000", "# rate 2x", "A c 2c41"]  # fmt: skip
+MARKED = ["<", ">", "&", '"', "'", "\\", "]]>", "-->", "%", ",", "é", "\ufffe", "\U0001f600"]
+
+
+def report_of(name, words, profiles, *lines, files=None):
+    return Report(name, words.split(), profiles.split(), [*lines], files or {})
+
+
+def hostile(it):
+    """Names of files and of messages with these characters."""
+    cells = [f"a{it}b".replace('"', '""'), f"{it}y".replace('"', '""')]
+    table = f'{HEAD}address,,5,,,,\ntransmit,"{cells[0]}",,2,1-2,,\ntransmit,"{cells[1]}",,9,1,,\n'
+    return Report(f"hostile: {ascii(it)}", ["--names", f"na{it}mes", "--names", "6.csv"], [f"fi{it}ve", "six"],
+                  ["# rate 7", "A tx 5 9 1", "A rx 5 1 1: 0001", "A tx 5 2 2"], {f"fi{it}ve": FILES["five"], f"na{it}mes": table})  # fmt: skip
+
+
+REPORTS = [
+    report_of("mixed", "", "five six seven", *MIXED),
+    report_of("names and a date", "--names 6.csv --names 5.csv --names 7.csv --date 2026-01-31T12:00:00Z", "seven five six", *MIXED),
+    report_of("other times", "--names 5.csv --response 4 --gap 100", "five six", *MIXED),
+    report_of("all end well", "--names 5.csv", "five six", "A rx 5 1 1: 0001", "B tx 6 2 1"),
+    report_of("no message", "", "five", "# nothing"),
+    report_of("a message that is refused", "--names 5.csv", "five six", "A tx 5 2 1", "A txx 5 2 1"),
+    report_of("a line of a subsystem that is refused", "--date 2026-01-31T12:00:00", "five six", "A tx 5 2 1", "07 flag busy 1"),
+    *map(hostile, [*reports.CONTROLS, *reports.TURNING, *MARKED]),
+]
+
+
+def option_in(words, name):
+    """The values of an option."""
+    return [value for word, value in zip(words, words[1:]) if word == name]
+
+
+def lines_told(one, it, shown):
+    """The lines of text of an object of JSON that tells of a message."""
+    front = f"{shown[one['file']]}:{it['line']}: " + ("" if it["name"] is None else f'"{shown[it["name"]]}": ')
+    alone, in_run = ("; ".join(it[playing]) for playing in ("alone", "in_run"))
+    if alone == in_run:
+        return [front + alone]
+    return [f"{front}{reasons} # {playing}" for reasons, playing in ((alone, "alone"), (in_run, "in the run")) if reasons]
+
+
+def loads_told(one):
+    """The load of each bus."""
+    return [f"{it['tenths'] // 10}.{it['tenths'] % 10} % of bus {it['bus']}" + ("" if it["fits"] else ": more than the bus has")
+            for it in (one["load"] or {"buses": []})["buses"]]  # fmt: skip
+
+
+def text_told(one, shown):
+    """The lines of text that a whole object of JSON tells."""
+    lines = [line for it in one["troubles"] for line in lines_told(one, it, shown)]
+    if one["load"]:
+        lines += [f"rate {it['rate']}: {counted(it['messages'])}, {it['time']} us of each {it['period']} us on bus {it['bus']}" for it in one["load"]["rates"]]
+    lines += [f"load: {it}" for it in loads_told(one)]
+    return "".join(f"{line}\n" for line in [*lines, end_told(one["messages"], len(one["troubles"]))])
+
+
+def look_at_object(one, report, given, digests, shown):
+    """The object of JSON beside what the text format gave."""
+    assert misfits(one, "docs/bus.schema.json") == []
+    assert list(one) == ["file", "profiles", "passes", "messages", "troubles", "load", "names", "fault", "sha256", *reports.VERSIONS, "date"]
+    assert {it: one[it] for it in reports.VERSIONS} == reports.VERSIONS
+    assert one["profiles"] == [{"file": it, "address": {"five": 5, "six": 6, "seven": 7}.get(it, 5), "sha256": digests.of(it),
+                                "canonical_sha256": digests.canonical(it)} for it in report.profiles]  # fmt: skip
+    assert one["names"] == [{"file": it, "sha256": digests.of(it)} for it in option_in(report.words, "--names")]
+    assert [one["date"]] == (option_in(report.words, "--date") or [None])
+    assert (one["file"], one["passes"]) == ("script", given.status == 0)
+    if given.status == 2:
+        assert (one["messages"], one["troubles"], one["load"]) == (None, [], None)
+        assert f"{one['fault']}\n".encode() == given.errors
+        # its messages are refused, and then no digest is told
+        assert one["sha256"] in (None, digests.of("script")) and (one["sha256"] is None) == ("txx" in report.lines[-1])
+    else:
+        assert (one["fault"], one["sha256"]) == (None, digests.of("script"))
+        assert text_told(one, shown).encode() == given.output
+
+
+def look_at_cases(suite, one, shown):
+    """The test cases of JUnit beside the object of JSON."""
+    cases = suite.findall("testcase")
+    assert {(it.get("classname"), it.get("time"), len(it.attrib)) for it in cases} <= {("script", "0", 3)}
+    if one["fault"]:
+        case, = cases
+        assert (case.get("name"), [(it.tag, it.attrib) for it in case]) == ("script", [("error", {"message": one["fault"]})])
+        return
+    assert len(cases) == one["messages"]
+    told = {it["line"]: it for it in one["troubles"]}
+    for case in cases:
+        line, command, name = re.fullmatch(r"line (\d+): command ([0-9a-f]{4})(?:: (.*))?", case.get("name")).groups()
+        it = told.pop(int(line), None)
+        if it is None:
+            assert not len(case)
+            continue
+        assert (command, name) == (it["command"], None if it["name"] is None else f'"{shown[it["name"]]}"')
+        failure, = case
+        assert (failure.tag, failure.attrib) == ("failure", {"message": "; ".join(it["alone"] or it["in_run"])})
+        assert failure.text == "".join(f"{told_line}\n" for told_line in lines_told(one, it, shown))
+    assert not told
+
+
+def look_at_suite(text, one, shown):
+    """JUnit beside the object of JSON."""
+    assert not reports.NEVER & set(text)
+    root = xml.fromstring(text)
+    tests, failures, errors = (1, 0, 1) if one["fault"] else (one["messages"], len(one["troubles"]), 0)
+    counts = {"tests": str(tests), "failures": str(failures), "errors": str(errors), "skipped": "0", "time": "0"}
+    suite, = root
+    assert (root.tag, root.attrib) == ("testsuites", counts)
+    stamp = {"timestamp": one["date"]} if one["date"] else {}
+    assert (suite.tag, suite.attrib) == ("testsuite", {"name": "rt1553-tool bus", **counts, **stamp})
+    profiles = [(key, value) for it in one["profiles"] for key, value in (
+        ("profile", shown[it["file"]]), ("profile_sha256", it["sha256"]), ("canonical_sha256", it["canonical_sha256"]))]  # fmt: skip
+    names = [(key, value) for it in one["names"] for key, value in (("names", shown[it["file"]]), ("names_sha256", it["sha256"]))]
+    own = [("sha256", one["sha256"])] if one["sha256"] else []
+    assert reports.properties_of(suite) == [*reports.VERSIONS.items(), *own, *profiles, *names, *(("load", it) for it in loads_told(one))]
+    look_at_cases(suite, one, shown)
+
+
+@pytest.mark.parametrize("report", REPORTS, ids=lambda it: it.name)
+def test_reports_of_a_check(tool, report, tmp_path):
+    """JSON and JUnit say what the text says, with the same status and errors."""
+    write_files(tmp_path, {**FILES, "seven": SEVEN, **TABLES, **report.files, "script": "".join(f"{it}\n" for it in report.lines)})
+    words = [it for it in report.words if it != "--date" and it not in option_in(report.words, "--date")]
+    text = run(tool, "bus", "--check", *words, *report.profiles, "script", folder=tmp_path)
+    found = {it: run(tool, "bus", "--check", "--format", it, *report.words, *report.profiles, "script", folder=tmp_path) for it in ("json", "junit")}
+    assert {(it.status, it.errors) for it in found.values()} == {(text.status, text.errors)}
+    shown = reports.Shown(tool)
+    one, = reports.objects_of(found["json"].output.decode())
+    look_at_object(one, report, text, reports.Digests(tool, tmp_path), shown)
+    look_at_suite(found["junit"].output.decode(), one, shown)
+
+
+def test_a_report_that_is_not_written(tool, tmp_path):
+    """A profile that is refused gives no report; nor does an output that is full."""
+    write_files(tmp_path, {**FILES, "script": ""})
+    for it in ("json", "junit"):
+        given = run(tool, "bus", "--check", "--format", it, "none", "script", folder=tmp_path)
+        assert (given.status, given.output) == (2, b"")
+        given = run("sh", "-c", f"exec {tool} bus --check --format {it} five script > /dev/full", folder=tmp_path)
+        assert (given.status, given.errors) == (4, b"output: write failed\n")

@@ -28,22 +28,26 @@ AreNamesProperties None properties = properties ≡ []
 AreNamesProperties (Some table) properties =
     (file : List ℕ) × IsProperty (codes "names") table.file.now file × (properties ≡ file ++ digest_property (codes "names_sha256") table.digest)
 
--- what the scripts share
-abbrev pub AreSuiteProperties : ReportHead → List ℕ → Type 0
-AreSuiteProperties head properties =
+-- what the test cases share, and behind that other properties
+abbrev pub AreSuiteProperties : ReportHead → List ℕ → List ℕ → Type 0
+AreSuiteProperties head more properties =
     (program toolchain canonical names : List ℕ) × IsProperty (codes "program") head.program.now program
     × IsProperty (codes "toolchain") head.toolchain.now toolchain × IsProperty (codes "canonical") head.canonical.now canonical
     × AreNamesProperties head.names names
-    × (properties ≡ codes "<properties>\n" ++ program ++ toolchain ++ canonical ++ names ++ codes "</properties>\n")
+    × (properties ≡ codes "<properties>\n" ++ program ++ toolchain ++ canonical ++ names ++ more ++ codes "</properties>\n")
 
 -- the attribute of a date
 abbrev pub IsTimestamp : Option (List ℕ) → List ℕ → Type 0
 IsTimestamp None stamp = stamp ≡ []
 IsTimestamp (Some date) stamp = (written : List ℕ) × StandsFor date written × (stamp ≡ codes " timestamp=\"" ++ written ++ codes "\"")
 
--- The report: its suite has the date and what the scripts share, and then its test cases.
-abbrev pub IsJunitReport : ReportHead → List ℕ → Type 0
-IsJunitReport head text =
-    (totals stamp properties cases : List ℕ) × IsTimestamp (option_map (λ d. d.now) head.date) stamp × AreSuiteProperties head properties
+-- A report of one suite: it has the date, what its test cases share, these other properties, and then these test cases.
+abbrev pub IsJunitSuite : ReportHead → List ℕ → List ℕ → List ℕ → Type 0
+IsJunitSuite head more cases text =
+    (totals stamp properties : List ℕ) × IsTimestamp (option_map (λ d. d.now) head.date) stamp × AreSuiteProperties head more properties
     × (text ≡ codes "<?xml version=\"1.0\" encoding=\"UTF-8\"?>\n<testsuites" ++ totals ++ codes ">\n<testsuite name=\"rt1553-tool " ++ head.command.now ++ codes "\"" ++ totals ++ stamp
     ++ codes ">\n" ++ properties ++ cases ++ codes "</testsuite>\n</testsuites>\n")
+
+-- the report of results, which has no other properties
+abbrev pub IsJunitReport : ReportHead → List ℕ → Type 0
+IsJunitReport head text = (cases : List ℕ) × IsJunitSuite head [] cases text

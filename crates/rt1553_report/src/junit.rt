@@ -1,7 +1,7 @@
 //! Results as JUnit reports them, XML.
 ghost use Rattle.std.specs.Prelude.{ℕ, List, Some, IfOk, OnOk, option_map, string_bytes};
 ghost use Rattle.rt1553_report.specs.Pieces.{AddsPiece};
-ghost use Rattle.rt1553_report.specs.Junit.{AreNamesProperties, AreSuiteProperties, IsJunitReport, IsProperty, IsTimestamp, digest_properties, digest_property, some_digest};
+ghost use Rattle.rt1553_report.specs.Junit.{AreNamesProperties, AreSuiteProperties, IsJunitReport, IsJunitSuite, IsProperty, IsTimestamp, digest_properties, digest_property, some_digest};
 
 use crate::head::{FileDigests, NamesTable, ReportHead, push_digest};
 use crate::result::{AnswerNames, ScriptOutcome, ScriptResult, Totals, name_at, totals_of};
@@ -26,7 +26,7 @@ fn totals_text(alloc: Global, totals: Totals) -> Result<String, AllocError> {
 }
 
 /// Writes a property.
-fn push_property(
+pub fn push_property(
     alloc: Global,
     text: &mut String,
     name: &str,
@@ -42,7 +42,7 @@ fn push_property(
 }
 
 /// Writes the property of a digest.
-fn push_digest_property(
+pub fn push_digest_property(
     alloc: Global,
     text: &mut String,
     name: &str,
@@ -103,15 +103,21 @@ fn push_names(
     }
 }
 
-/// Writes what the scripts of a report share.
-fn push_head(alloc: Global, text: &mut String, head: ReportHead<'_>) -> Result<(), AllocError>
-    ensures { OnOk result ((properties : List ℕ) × AreSuiteProperties head.entry properties × AddsPiece (string_bytes text.old) (string_bytes text.new) properties) }
+/// Writes what the test cases of a report share, and behind that these other properties.
+fn push_head(
+    alloc: Global,
+    text: &mut String,
+    head: ReportHead<'_>,
+    more: &str,
+) -> Result<(), AllocError>
+    ensures { OnOk result ((properties : List ℕ) × AreSuiteProperties head.entry more.now properties × AddsPiece (string_bytes text.old) (string_bytes text.new) properties) }
 {
     push_markup(text, "<properties>\n")?;
     push_property(alloc, text, "program", head.program.as_bytes())?;
     push_property(alloc, text, "toolchain", head.toolchain.as_bytes())?;
     push_property(alloc, text, "canonical", head.canonical.as_bytes())?;
     push_names(alloc, text, head.names)?;
+    push_markup(text, more)?;
     push_markup(text, "</properties>\n")
 }
 
@@ -294,18 +300,18 @@ fn cases_text(alloc: Global, results: &[ScriptResult]) -> Result<String, AllocEr
     Ok(text)
 }
 
-/// The results of scripts as JUnit reports tests: XML, one test case a script, in their order. The class of a test case is the
-/// profile of its script. Properties tell versions, digests and clauses.
-pub fn junit_report(
+/// A report of JUnit, XML, of one suite: it has so many test cases, these properties behind those of the head, and these test cases.
+pub fn junit_suite(
     alloc: Global,
     head: ReportHead<'_>,
-    results: &[ScriptResult],
+    totals: Totals,
+    more: &str,
+    cases: &str,
 ) -> Result<String, AllocError>
-    ensures { IfOk result (λ text. IsJunitReport head.entry (string_bytes text)) }
+    ensures { IfOk result (λ text. IsJunitSuite head.entry more.now cases.now (string_bytes text)) }
 {
-    let totals = totals_text(alloc, totals_of(results))?;
+    let totals = totals_text(alloc, totals)?;
     let totals = totals.as_str();
-    let cases = cases_text(alloc, results)?;
     let mut text = String::new(alloc);
     push_markup(
         &mut text,
@@ -318,8 +324,21 @@ pub fn junit_report(
     push_markup(&mut text, totals)?;
     push_timestamp(alloc, &mut text, head.date)?;
     push_markup(&mut text, ">\n")?;
-    push_head(alloc, &mut text, head)?;
-    push_markup(&mut text, cases.as_str())?;
+    push_head(alloc, &mut text, head, more)?;
+    push_markup(&mut text, cases)?;
     push_markup(&mut text, "</testsuite>\n</testsuites>\n")?;
     Ok(text)
+}
+
+/// The results of scripts as JUnit reports tests: XML, one test case a script, in their order. The class of a test case is the
+/// profile of its script. Properties tell versions, digests and clauses.
+pub fn junit_report(
+    alloc: Global,
+    head: ReportHead<'_>,
+    results: &[ScriptResult],
+) -> Result<String, AllocError>
+    ensures { IfOk result (λ text. IsJunitReport head.entry (string_bytes text)) }
+{
+    let cases = cases_text(alloc, results)?;
+    junit_suite(alloc, head, totals_of(results), "", cases.as_str())
 }

@@ -10,9 +10,9 @@ mod told;
 mod unit;
 
 pub use clauses::{Scope, ScopeRow, ScriptCount, TriedScript, clause_rows, clauses_in};
-pub use head::{FileDigests, NamesTable, ReportHead, push_digest};
+pub use head::{FileDigests, NamesTable, ReportHead, digest_text, push_digest};
 pub use json::result_json;
-pub use junit::junit_report;
+pub use junit::{junit_report, junit_suite, push_digest_property, push_property};
 pub use result::{AnswerNames, ScriptOutcome, ScriptResult, Totals, name_at, totals_of};
 pub use told::{answer_told, difference_told, push_markup, push_shown};
 pub use unit::{ReplyDifference, UnitVerdict};

@@ -25,6 +25,9 @@ use Rattle.rt1553_tool_args.specs.declared.command.MessagesFormat.{MessagesForma
 use Rattle.rt1553_tool_args.specs.declared.command.MessagesFormat.TheVariants as messages
 use Rattle.rt1553_tool_args.specs.declared.command.BusOutput.{BusOutput}
 use Rattle.rt1553_tool_args.specs.declared.command.BusOutput.TheVariants as printed
+use Rattle.rt1553_tool_args.specs.declared.command.AskedCheck.{AskedCheck}
+use Rattle.rt1553_tool_args.specs.declared.command.CheckFormat.{CheckFormat}
+use Rattle.rt1553_tool_args.specs.declared.command.CheckFormat.TheVariants as check
 use Rattle.rt1553_tool_args.specs.declared.command.TestFormat.{TestFormat}
 use Rattle.rt1553_tool_args.specs.declared.command.TestFormat.TheVariants.{Script, Csv, Json}
 
@@ -84,13 +87,6 @@ is_given f id = is_value (codes "true") (first_value f id)
 abbrev pub is_json : Found → Bool
 is_json f = is_value (codes "json") (first_value f (codes "format"))
 
--- what `bus` is to print: at most one of the three options is given
-abbrev pub AsksOutput : Found → BusOutput → Type 0
-AsksOutput f printed.Transcript = HasAlone f None × (is_given f (codes "messages") ≡ false) × (is_given f (codes "check") ≡ false)
-AsksOutput f (printed.CameTo a) = HasAlone f (Some a) × (is_given f (codes "messages") ≡ false) × (is_given f (codes "check") ≡ false)
-AsksOutput f printed.Messages = HasAlone f None × (is_given f (codes "messages") ≡ true) × (is_given f (codes "check") ≡ false)
-AsksOutput f printed.Check = HasAlone f None × (is_given f (codes "messages") ≡ false) × (is_given f (codes "check") ≡ true)
-
 -- the argument, if it is there, before the others
 abbrev pub first_and_rest : Option Text → List Text → List Text
 first_and_rest None rest = rest
@@ -135,6 +131,35 @@ AsksReport f format summary =
 abbrev pub HasDate : Found → ReportFormat → Option (Bor Text) → Type 0
 HasDate f format date = HasOption f (codes "date") date × IfSome date (λ d. is_date d.now ≡ true) × (format ≡ report.Text → date ≡ None)
 
+-- how it is to be written which messages of a bus do not end well
+abbrev pub check_format_of : Option Text → CheckFormat
+check_format_of o = if is_value (codes "json") o then check.Json else if is_value (codes "junit") o then check.Junit else check.Text
+
+-- a time is the usual one, or a number of microseconds that is given
+abbrev pub IsTimeOf : ℕ → Option Text → ℕ → Type 0
+IsTimeOf usual None t = t ≡ usual
+IsTimeOf usual (Some text) t = IsNumberUpTo 1000 text t
+
+-- How messages of a bus are to be checked. The usual times are the longest response (4.3.3.8), and the shortest gap (4.3.3.7).
+abbrev pub AsksCheck : Found → AskedCheck → Type 0
+AsksCheck f asked =
+    (asked.format ≡ check_format_of (first_value f (codes "format"))) × IsTimeOf 12 (first_value f (codes "response")) asked.response
+    × IsTimeOf 4 (first_value f (codes "gap")) asked.gap × HasDate f (report_format_of (first_value f (codes "format"))) asked.date
+
+-- no option is given that is for such a check alone
+abbrev pub HasNoCheck : Found → Type 0
+HasNoCheck f =
+    (is_value (codes "json") (first_value f (codes "format")) ≡ false) × (is_value (codes "junit") (first_value f (codes "format")) ≡ false)
+    × (first_value f (codes "names") ≡ None) × (first_value f (codes "date") ≡ None) × (first_value f (codes "response") ≡ None)
+    × (first_value f (codes "gap") ≡ None)
+
+-- what `bus` is to print: at most one of the three options is given
+abbrev pub AsksOutput : Found → BusOutput → Type 0
+AsksOutput f printed.Transcript = HasAlone f None × (is_given f (codes "messages") ≡ false) × (is_given f (codes "check") ≡ false) × HasNoCheck f
+AsksOutput f (printed.CameTo a) = HasAlone f (Some a) × (is_given f (codes "messages") ≡ false) × (is_given f (codes "check") ≡ false) × HasNoCheck f
+AsksOutput f printed.Messages = HasAlone f None × (is_given f (codes "messages") ≡ true) × (is_given f (codes "check") ≡ false) × HasNoCheck f
+AsksOutput f (printed.Check asked) = HasAlone f None × (is_given f (codes "messages") ≡ false) × (is_given f (codes "check") ≡ true) × AsksCheck f asked
+
 -- no format of reports alone is given, and no date
 abbrev pub HasNoReport : Found → Type 0
 HasNoReport f =
@@ -175,7 +200,7 @@ command_name (Answers asked) = codes "answers"
 command_name (Check p) = codes "check"
 command_name (Canon p) = codes "canon"
 command_name (Run p script) = codes "run"
-command_name (Bus asked profiles) = codes "bus"
+command_name (Bus asked profiles tables) = codes "bus"
 command_name (Compare p q) = codes "compare"
 
 -- what a command says of its arguments
@@ -230,9 +255,9 @@ Asks f (Answers asked) =
 Asks f (Check p) = HasValue f (codes "profile") p.now
 Asks f (Canon p) = HasValue f (codes "profile") p.now
 Asks f (Run p script) = HasValue f (codes "profile") p.now × HasValue f (codes "script") script.now
-Asks f (Bus asked profiles) =
+Asks f (Bus asked profiles tables) =
     HasValue f (codes "script") asked.script.now × (asked.expand ≡ is_given f (codes "expand")) × AsksOutput f asked.output
-    × (texts_of profiles.items ≡ all_values f (codes "profile"))
+    × (texts_of profiles.items ≡ all_values f (codes "profile")) × (texts_of tables.items ≡ all_values f (codes "names"))
 Asks f (Compare p q) = HasValue f (codes "profile") p.now × HasValue f (codes "other") q.now
 
 -- clap met the subcommand of this command, with these arguments

@@ -73,6 +73,13 @@ fn often<'a>(arg: Arg<'a>, row: &Argument) -> Arg<'a> {
         .value_name(row.value)
 }
 
+/// An option with a value, which can be given several times.
+fn several<'a>(arg: Arg<'a>, row: &Argument) -> Arg<'a> {
+    arg.action(ArgAction::Append)
+        .value_name(row.value)
+        .long(row.id)
+}
+
 /// An argument, as clap takes it.
 fn argument<'a>(alloc: Global, row: &Argument) -> Result<Arg<'a>, AllocError> {
     let arg = Arg::new(alloc, row.id).help(row.help);
@@ -85,6 +92,7 @@ fn argument<'a>(alloc: Global, row: &Argument) -> Result<Arg<'a>, AllocError> {
             .requires_arg(other)?
             .required_if_eq(other, "true"),
         Occurrence::Value => Ok(once(arg, row).long(row.id)),
+        Occurrence::Values => Ok(several(arg, row)),
         Occurrence::Needed => Ok(once(arg, row).long(row.id).required(true)),
         Occurrence::Flag => Ok(arg.long(row.id).action(ArgAction::SetTrue)),
         Occurrence::OneOf(default, values) => Ok(

@@ -4,8 +4,9 @@ ghost use Rattle.clap.specs.Words.{first_value, found_of};
 ghost use Rattle.rt1553_tool_args.specs.Commands.{Asks, AsksKind, AsksReport, HasAddress, HasBusAddress, HasDate, HasSubaddress, HasOption, HasValue, IsAskedBy, all_values, command_name, coverage_format_of, format_of, is_given, is_json, lint_format_of, messages_format_of, report_format_of, texts_of};
 
 use crate::args::{NO_COMMAND, NoCommand};
+use crate::bus::bus_command;
 use crate::date::is_date;
-use crate::messages::{bus_command, messages_command, number_of};
+use crate::messages::{messages_command, number_of};
 use clap::ArgMatches;
 use std::alloc::Global;
 
@@ -218,9 +219,32 @@ pub struct AskedMessages<'a> {
     pub names: Option<&'a str>,
 }
 
+/// How it is to be written which messages of a bus don't end well.
+#[derive(Clone, Copy)]
+pub enum CheckFormat {
+    /// A line for each.
+    Text,
+    /// One object of JSON.
+    Json,
+    /// A report of JUnit.
+    Junit,
+}
+
+/// How the messages of a bus are to be checked.
+#[derive(Clone, Copy)]
+pub struct AskedCheck<'a> {
+    pub format: CheckFormat,
+    /// The time before a status word, in microseconds, 0 to 1000.
+    pub response: u16,
+    /// The time before the next message, in microseconds, 0 to 1000.
+    pub gap: u16,
+    /// The date and time of the report, where they are given.
+    pub date: Option<&'a str>,
+}
+
 /// What `bus` prints.
 #[derive(Clone, Copy)]
-pub enum BusOutput {
+pub enum BusOutput<'a> {
     /// The transcript.
     Transcript,
     /// What comes to the terminal of this address, 0 to 30, as a script.
@@ -228,7 +252,7 @@ pub enum BusOutput {
     /// The messages, a line for each terminal that they are for.
     Messages,
     /// Which messages don't end well. The script has messages, whether or not `expand` is asked for.
-    Check,
+    Check(AskedCheck<'a>),
 }
 
 /// What `bus` is asked for.
@@ -238,7 +262,7 @@ pub struct AskedBus<'a> {
     /// The script has messages, too.
     pub expand: bool,
     /// What is printed.
-    pub output: BusOutput,
+    pub output: BusOutput<'a>,
 }
 
 /// What the command line asks for. The texts are names of files.
@@ -317,8 +341,8 @@ pub enum ToolCommand<'a> {
         profile: &'a str,
         script: &'a str,
     },
-    /// The transcript of a script for a bus of terminals, of these profiles.
-    Bus(AskedBus<'a>, Vec<&'a str>),
+    /// The transcript of a script for a bus of terminals, of these profiles, or what comes of its messages, with these tables of names.
+    Bus(AskedBus<'a>, Vec<&'a str>, Vec<&'a str>),
     /// Whether two profiles mean the same terminal, and a script that two answer differently.
     Compare {
         profile: &'a str,
@@ -401,7 +425,7 @@ fn coverage_format(given: &ArgMatches<'_>) -> CoverageFormat
 }
 
 /// How results of scripts are to be written.
-fn report_format(given: &ArgMatches<'_>) -> ReportFormat
+pub(crate) fn report_format(given: &ArgMatches<'_>) -> ReportFormat
     ensures { result ≡ report_format_of (first_value (found_of given.now) (codes "format")) }
 {
     match given.get_str("format") {
@@ -425,7 +449,10 @@ fn report_of(given: &ArgMatches<'_>) -> Result<(ReportFormat, bool), NoCommand>
 }
 
 /// The date and time of a report in this format, where they are given. The text has none.
-fn date_of<'a>(given: &ArgMatches<'a>, format: ReportFormat) -> Result<Option<&'a str>, NoCommand>
+pub(crate) fn date_of<'a>(
+    given: &ArgMatches<'a>,
+    format: ReportFormat,
+) -> Result<Option<&'a str>, NoCommand>
     ensures { IfOk result (HasDate (found_of given.now) format) }
 {
     match (given.get_str("date"), format) {

@@ -1,6 +1,8 @@
 //! The commands of `rt1553-tool`, made by scripts/manual.py of manual/arguments.toml.
 use crate::table::{Argument, CommandGroup, CommandRow, Occurrence};
 
+const TEXT_OR_JSON_OR_JUNIT: [&str; 3] = ["text", "json", "junit"];
+
 const TEXT_OR_JSON_OR_SARIF: [&str; 3] = ["text", "json", "sarif"];
 
 const TEXT_OR_JSON_OR_JUNIT_OR_HTML: [&str; 4] = ["text", "json", "junit", "html"];
@@ -72,7 +74,7 @@ const OF_COMPARE: [Argument; 2] = [PROFILE, OTHER];
 
 const OF_RUN: [Argument; 2] = [PROFILE, SCRIPT];
 
-const OF_BUS: [Argument; 6] = [
+const OF_BUS: [Argument; 11] = [
     Argument {
         id: "profile",
         given: Occurrence::Often,
@@ -103,6 +105,36 @@ const OF_BUS: [Argument; 6] = [
         given: Occurrence::Flag,
         value: "",
         help: "takes messages as --expand does, and prints which of them do not end well",
+    },
+    Argument {
+        id: "format",
+        given: Occurrence::OneOf("text", &TEXT_OR_JSON_OR_JUNIT),
+        value: "format",
+        help: "with --check: the output format",
+    },
+    Argument {
+        id: "names",
+        given: Occurrence::Values,
+        value: "TABLE",
+        help: "with --check: the names of messages to the terminal of TABLE, also several times",
+    },
+    Argument {
+        id: "date",
+        given: Occurrence::Value,
+        value: "DATE",
+        help: "with --check, not as text: the date, as 2026-01-31T12:00:00",
+    },
+    Argument {
+        id: "response",
+        given: Occurrence::Value,
+        value: "TIME",
+        help: "with --check: the time before a status word, in us; 12 if left out",
+    },
+    Argument {
+        id: "gap",
+        given: Occurrence::Value,
+        value: "TIME",
+        help: "with --check: the time between messages, in us; 4 if left out",
     },
 ];
 

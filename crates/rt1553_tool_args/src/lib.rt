@@ -2,6 +2,7 @@
 #![tactic(auto)]
 
 mod args;
+mod bus;
 mod command;
 mod commands;
 mod date;
@@ -11,9 +12,9 @@ mod versions;
 
 pub use args::{NoCommand, read_tool_args};
 pub use command::{
-    AskedAnswers, AskedBus, AskedComparison, AskedCoverage, AskedDrawing, AskedMessages,
-    AskedProfile, AskedRecording, AskedReport, AskedResults, AskedWitness, BusOutput,
-    CoverageFormat, LintFormat, MessagesFormat, Profiles, ReportFormat, ScriptKind, TestFormat,
-    ToolCommand,
+    AskedAnswers, AskedBus, AskedCheck, AskedComparison, AskedCoverage, AskedDrawing,
+    AskedMessages, AskedProfile, AskedRecording, AskedReport, AskedResults, AskedWitness,
+    BusOutput, CheckFormat, CoverageFormat, LintFormat, MessagesFormat, Profiles, ReportFormat,
+    ScriptKind, TestFormat, ToolCommand,
 };
 pub use versions::{CANONICAL_VERSION, PROGRAM_VERSION, TOOLCHAIN, VERSION};

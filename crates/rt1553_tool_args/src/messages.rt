@@ -1,15 +1,13 @@
-//! What `messages` and `bus` are asked for.
+//! What `messages` is asked for.
 ghost use Rattle.std.specs.Prelude.{◌≡◌, IfOk, codes};
 ghost use Rattle.clap.specs.Words.{first_value, found_of};
-ghost use Rattle.rt1553_tool_args.specs.Commands.{Asks, AsksOutput, HasAlone, HasBusAddress, HasSubaddress, IsNumberUpTo, command_name, messages_format_of};
+ghost use Rattle.rt1553_tool_args.specs.Commands.{Asks, HasBusAddress, HasSubaddress, IsNumberUpTo, command_name, messages_format_of};
 
 use crate::args::NoCommand;
 use crate::command::{
-    AskedAnswers, AskedBus, AskedMessages, BusOutput, MessagesFormat, ToolCommand, all_of,
-    is_flag_given, names_of, required,
+    AskedAnswers, AskedMessages, MessagesFormat, ToolCommand, is_flag_given, names_of, required,
 };
 use clap::ArgMatches;
-use std::alloc::Global;
 
 /// A number up to this one, of decimal digits alone; refused for this cause.
 pub(crate) fn number_of(text: &str, most: u8, cause: &'static str) -> Result<u8, NoCommand>
@@ -92,46 +90,4 @@ pub(crate) fn messages_command<'a>(given: &ArgMatches<'a>) -> Result<ToolCommand
         format: messages_format(given),
         names: names_of(given),
     }))
-}
-
-/// The address of the terminal that is to be told of alone, 0 to 30.
-fn alone_of(given: &ArgMatches<'_>) -> Result<Option<u8>, NoCommand>
-    ensures { IfOk result (HasAlone (found_of given.now)) }
-{
-    match given.get_str("alone") {
-        Some(text) => Ok(Some(number_of(text, 30, "--alone is 0 to 30")?)),
-        None => Ok(None),
-    }
-}
-
-/// What `bus` is to print.
-fn bus_output(given: &ArgMatches<'_>) -> Result<BusOutput, NoCommand>
-    ensures { IfOk result (AsksOutput (found_of given.now)) }
-{
-    let alone = alone_of(given)?;
-    let messages = is_flag_given(given, "messages");
-    let check = is_flag_given(given, "check");
-    match (alone, messages, check) {
-        (None, false, false) => Ok(BusOutput::Transcript),
-        (Some(address), false, false) => Ok(BusOutput::CameTo(address)),
-        (None, true, false) => Ok(BusOutput::Messages),
-        (None, false, true) => Ok(BusOutput::Check),
-        _ => Err(NoCommand::Usage("--alone, --messages and --check exclude each other")),
-    }
-}
-
-/// What `bus` is asked for.
-pub(crate) fn bus_command<'a>(
-    alloc: Global,
-    given: &ArgMatches<'a>,
-) -> Result<ToolCommand<'a>, NoCommand>
-    ensures { IfOk result (λ command. (command_name command ≡ codes "bus") × Asks (found_of given.now) command) }
-{
-    let expand = is_flag_given(given, "expand");
-    let asked = AskedBus {
-        script: required(given, "script")?,
-        expand,
-        output: bus_output(given)?,
-    };
-    Ok(ToolCommand::Bus(asked, all_of(alloc, given, "profile")?))
 }

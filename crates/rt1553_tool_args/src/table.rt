@@ -15,6 +15,8 @@ pub enum Occurrence {
     OnceWith(&'static str),
     /// As an option with a value, which may be left out.
     Value,
+    /// As an option with a value, which may be left out, or be given several times.
+    Values,
     /// As an option with a value, which has to be given.
     Needed,
     /// As an option without a value.

@@ -4,7 +4,7 @@ use Rattle.tool_files.specs.declared.fault.ToolFault.{ToolFault}
 use Rattle.tool_files.specs.declared.fault.ToolFault.TheVariants.{Output}
 use Rattle.rt1553_tool_args.specs.declared.command.ToolCommand.{ToolCommand}
 use Rattle.rt1553_tool_args.specs.declared.command.ToolCommand.TheVariants as tool
-use Rattle.tool_scripts.specs.Troubles.{IsBusStatus}
+use Rattle.tool_buses.specs.Troubles.{IsBusStatus}
 
 -- The statuses with which a command can end that is done: those that make a text or a drawing with 0, those that compare with 0 or 1, and
 -- those that go through files with the highest of these.
@@ -24,7 +24,7 @@ CanEnd (tool.Answers asked) status = status ≡ 0
 CanEnd (tool.Check p) status = status ≡ 0
 CanEnd (tool.Canon p) status = status ≡ 0
 CanEnd (tool.Run p script) status = status ≡ 0
-CanEnd (tool.Bus asked profiles) status = IsBusStatus asked.output status
+CanEnd (tool.Bus asked profiles tables) status = IsBusStatus asked.output status
 CanEnd (tool.Compare p q) status = status ≤ 1
 CanEnd (tool.Differ asked) status = status ≤ 1
 CanEnd (tool.Against asked) status = status ≤ 1

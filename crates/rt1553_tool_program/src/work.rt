@@ -7,6 +7,7 @@ use rt1553_tool_args::{NoCommand, ToolCommand, read_tool_args};
 use std::env;
 use std::io::{ErrorKind, Read, Write};
 use std::rt::{Env, Files};
+use tool_buses::play_bus;
 use tool_files::{Screen, ToolFault, USAGE};
 use tool_profiles::{
     check_import, differ_profiles, explain_profile, export_file, import_file, lint_files,
@@ -14,7 +15,7 @@ use tool_profiles::{
 };
 use tool_scripts::{
     bus_words, check_profile, check_scripts, compare_profiles, draw_run, expand_file,
-    gather_script, list_messages, play_bus, play_live, record_table, run_file, state_in_file,
+    gather_script, list_messages, play_live, record_table, run_file, state_in_file,
     write_canonical,
 };
 use tool_verify::{
@@ -75,7 +76,9 @@ fn do_command<R: Files + AllocGlobal + Eprint, I: Read + Drop, W: Write>(
         ToolCommand::Check(profile) => check_profile(rt, profile, output),
         ToolCommand::Canon(profile) => write_canonical(rt, profile, output),
         ToolCommand::Run { profile, script } => run_file(rt, profile, script, output),
-        ToolCommand::Bus(asked, profiles) => play_bus(rt, *asked, profiles.as_slice(), output),
+        ToolCommand::Bus(asked, profiles, tables) => {
+            play_bus(rt, *asked, profiles.as_slice(), tables.as_slice(), output)
+        }
         ToolCommand::Compare { profile, other } => compare_profiles(rt, profile, other, output),
     }
 }

@@ -8,7 +8,11 @@ use Rattle.bus_word.specs.Command.{code_of, is_mode, is_broadcast}
 use Rattle.message_names.specs.NameRow.{NameRow}
 use Rattle.message_names.specs.Names.{name_of}
 use Rattle.sha2.specs.Sha256.{sha256}
+use Rattle.bus_legal.specs.Parts.{Parts}
+use Rattle.rt1553.specs.Load.{Reaches}
+use Rattle.rt1553_import.specs.Import.{IsImported}
 use Rattle.tool_names.specs.declared.names.LoadedNames.{LoadedNames}
+use Rattle.tool_names.specs.declared.names.TerminalNames.{TerminalNames}
 use Rattle.tool_names.specs.Names.{AreNamesOf}
 
 -- without a table there are no names, and with one they are those of a text that is a table without faults
@@ -17,9 +21,21 @@ AreLoadedNames None None = Unit {0}
 AreLoadedNames (Some name) (Some names) = (table : List ℕ) × AreNamesOf table names
 AreLoadedNames _ _ = ⊥
 
--- they are those of a text that is a table without faults, and has this digest
+-- they are those of this text, a table without faults, and this is its digest
+abbrev pub AreNamesOfTable : List ℕ → LoadedNames → Type 0
+AreNamesOfTable table loaded = AreNamesOf table loaded.names × (loaded.digest ≡ sha256 table)
+
+-- the same of some text
 abbrev pub AreNamesOfFile : LoadedNames → Type 0
-AreNamesOfFile loaded = (table : List ℕ) × AreNamesOf table loaded.names × (loaded.digest ≡ sha256 table)
+AreNamesOfFile loaded = (table : List ℕ) × AreNamesOfTable table loaded
+
+-- the terminal of the profile that a table says
+abbrev pub IsTableFor : List ℕ → Parts → Type 0
+IsTableFor table normal = (text : List ℕ) × IsImported table text × Reaches text normal
+
+-- the same of some text, with the address of the terminal that it is for
+abbrev pub AreNamesOfTerminal : TerminalNames → Type 0
+AreNamesOfTerminal it = (table : List ℕ) × (normal : Parts) × AreNamesOfTable table it.loaded × IsTableFor table normal × (it.address ≡ normal.address)
 
 -- the cell of a mode code and its addressee, whether or not it can be legal
 abbrev pub code_cell_said : ℕ → Cell

@@ -9,7 +9,9 @@ mod table;
 mod table_texts;
 mod warnings;
 
-pub use names::{LoadedNames, load_names, load_names_file, name_of_command};
+pub use names::{
+    LoadedNames, TerminalNames, load_names, load_names_file, load_terminal_names, name_of_command,
+};
 pub use reading::names_in;
 pub use table::table_fault;
 pub use table_texts::told_text;

@@ -1,15 +1,30 @@
 //! The names of messages that a command is given.
 ghost use Rattle.std.specs.Prelude.{◌≡◌, IfOk, option_map};
-ghost use Rattle.tool_names.specs.Named.{AreLoadedNames, AreNamesOfFile, cell_said, name_said};
+ghost use Rattle.tool_names.specs.Named.{AreLoadedNames, AreNamesOfFile, AreNamesOfTable, AreNamesOfTerminal, IsTableFor, cell_said, name_said};
 
 use crate::names_in;
 use crate::table::table_fault;
 use bus_word::{Cell, Command, cell_of};
 use message_names::MessageNames;
-use rt1553::{LoadFault, load};
+use rt1553::{LoadFault, Normal, load};
 use rt1553_import::{ImportFault, import_table};
 use std::rt::Files;
-use tool_files::{ToolFault, digest_of, read_tool_profile, shown};
+use tool_files::{ToolFault, digest_of, read_tool_profile, refused_file, shown};
+
+/// The terminal of a table in a file of this name.
+fn terminal_of<R: AllocGlobal>(rt: &R, name: &str, table: &[u8]) -> Result<Normal, ToolFault>
+    ensures { IfOk result (IsTableFor table.now) }
+{
+    let imported = match import_table(rt.alloc(), table) {
+        Ok(imported) => imported,
+        Err(fault) => return Err(table_fault(rt, name, fault)),
+    };
+    match load(rt.alloc(), imported.profile.as_str().as_bytes()) {
+        Ok(normal) => Ok(normal),
+        Err(LoadFault::Memory) => Err(ToolFault::Memory),
+        Err(fault) => Err(refused_file(rt, name, &fault)),
+    }
+}
 
 /// Warns, on the standard error, of a table in a file of this name that is for none of these addresses, if there are some.
 fn warn_of_address<R: AllocGlobal + Eprint>(
@@ -18,17 +33,11 @@ fn warn_of_address<R: AllocGlobal + Eprint>(
     table: &[u8],
     addresses: &[u8],
 ) -> Result<(), ToolFault> {
-    let imported = match import_table(rt.alloc(), table) {
-        Ok(imported) => imported,
-        Err(ImportFault::Memory) => return Err(ToolFault::Memory),
+    let address = match terminal_of(rt, name, table) {
+        Ok(normal) => normal.address(),
+        Err(ToolFault::Memory) => return Err(ToolFault::Memory),
         Err(_) => return Ok(()),
     };
-    let normal = match load(rt.alloc(), imported.profile.as_str().as_bytes()) {
-        Ok(normal) => normal,
-        Err(LoadFault::Memory) => return Err(ToolFault::Memory),
-        Err(_) => return Ok(()),
-    };
-    let address = normal.address();
     if !addresses.is_empty() && !addresses.contains(&address) {
         let name = shown(rt, name)?;
         let _ = eprintln!(rt;
@@ -46,6 +55,47 @@ pub struct LoadedNames {
     pub digest: [u8; 32],
 }
 
+/// A table of names, and the terminal for which it is.
+#[derive(Drop)]
+pub struct TerminalNames {
+    /// The address of the terminal, 0 to 30.
+    pub address: u8,
+    pub loaded: LoadedNames,
+}
+
+/// The names of messages of a table in the file of this name.
+fn names_of_bytes<R: AllocGlobal>(
+    rt: &R,
+    name: &str,
+    table: &[u8],
+) -> Result<LoadedNames, ToolFault>
+    ensures { IfOk result (AreNamesOfTable table.now) }
+{
+    match names_in(rt.alloc(), table) {
+        Ok(names) => Ok(LoadedNames {
+            names,
+            digest: digest_of(table),
+        }),
+        Err(fault) => Err(table_fault(rt, name, fault)),
+    }
+}
+
+/// The names of messages of the table in the file of this name, and the address of its terminal.
+pub fn load_terminal_names<R: Files + AllocGlobal>(
+    rt: &R,
+    name: &str,
+) -> Result<TerminalNames, ToolFault>
+    ensures { IfOk result AreNamesOfTerminal }
+{
+    let bytes = read_tool_profile(rt, name)?;
+    let loaded = names_of_bytes(rt, name, bytes.as_slice())?;
+    let normal = terminal_of(rt, name, bytes.as_slice())?;
+    Ok(TerminalNames {
+        address: normal.address(),
+        loaded,
+    })
+}
+
 /// The names of messages of the table in the file of this name. A table for none of these addresses of profiles is warned of.
 pub fn load_names_file<R: Files + AllocGlobal + Eprint>(
     rt: &R,
@@ -55,16 +105,9 @@ pub fn load_names_file<R: Files + AllocGlobal + Eprint>(
     ensures { IfOk result AreNamesOfFile }
 {
     let bytes = read_tool_profile(rt, name)?;
-    match names_in(rt.alloc(), bytes.as_slice()) {
-        Ok(names) => {
-            warn_of_address(rt, name, bytes.as_slice(), addresses)?;
-            Ok(LoadedNames {
-                names,
-                digest: digest_of(bytes.as_slice()),
-            })
-        }
-        Err(fault) => Err(table_fault(rt, name, fault)),
-    }
+    let loaded = names_of_bytes(rt, name, bytes.as_slice())?;
+    warn_of_address(rt, name, bytes.as_slice(), addresses)?;
+    Ok(loaded)
 }
 
 /// The same, where a table is given.

@@ -2,12 +2,6 @@
 #![tactic(auto)]
 
 mod answers;
-mod bus;
-mod bus_check;
-mod bus_list;
-mod bus_messages;
-mod bus_trouble;
-mod bus_watch;
 mod draw;
 mod draw_list;
 mod expand;
@@ -21,7 +15,6 @@ mod script_file;
 mod words;
 
 pub use answers::state_in_file;
-pub use bus::play_bus;
 pub use draw::draw_run;
 pub use expand::expand_file;
 pub use gather::gather_script;

@@ -9,7 +9,7 @@ returns c =
     let toolchain = c.in_ok-push_property-2.ensures in
     let canonical = c.in_ok-push_property-3.ensures in
     let names = c.in_ok-push_names.ensures in
-    chosen c.push_markup-2.result (AreSuiteProperties c.args.head) _ _ _ (
+    chosen c.push_markup-3.result (AreSuiteProperties c.args.head c.args.more.now) _ _ _ (
       program.0,
       toolchain.0,
       canonical.0,
@@ -20,6 +20,6 @@ returns c =
       names.1,
       refl,
     )
-    (adds_on_ok c.push_markup-2.result _ _
-    (adds (adds (adds (adds c.in_ok-push_markup.ensures program.2) toolchain.2) canonical.2) names.2)
-    c.push_markup-2.ensures)
+    (adds_on_ok c.push_markup-3.result _ _
+    (adds (adds (adds (adds (adds c.in_ok-push_markup.ensures program.2) toolchain.2) canonical.2) names.2) c.in_ok-push_markup-2.ensures)
+    c.push_markup-3.ensures)

@@ -1,0 +1,4 @@
+pub mod Outcomes
+pub mod Load
+pub mod Rates
+pub mod inner

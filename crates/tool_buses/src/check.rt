@@ -1,0 +1,293 @@
+//! Which messages of a file don't end well on a bus: each alone from power-up, and in the run of the whole file.
+ghost use Rattle.std.specs.Prelude.{◌≡◌, ◌≤◌, ◌↔◌, IfOk, true};
+ghost use Rattle.bus_reports.specs.Outcomes.{file_passes, told_among};
+ghost use Rattle.tool_buses.specs.Troubles.{IsCheckStatus, told_status};
+
+use crate::messages::{FileMessage, FoundMessages, messages_in};
+use crate::names::BusNames;
+use crate::play::{refused_script, warn};
+use crate::watch::{SpokenTo, WatchedBus};
+use ascii_json::json_line;
+use bus_reports::{
+    CheckOutcome, CheckReport, CheckedProfile, JudgedMessage, Judgement, LoadTimes, check_json,
+    check_junit, judged_text, load_of, told_in,
+};
+use message_names::owned;
+use rt1553::Normal;
+use rt1553_expand::ScriptFor;
+use rt1553_report::{NamesTable, ReportHead};
+use rt1553_tool_args::{AskedCheck, CANONICAL_VERSION, CheckFormat, PROGRAM_VERSION, TOOLCHAIN};
+use std::alloc::{AllocError, Global};
+use std::format;
+use std::io::Write;
+use std::rt::Files;
+use terminal_bus::TerminalBus;
+use tool_files::{
+    DIFFERENT, LoadedScript, ToolFault, load_messages, shown, status_or_stop, write_bytes,
+};
+
+/// The bus on which messages are checked.
+#[derive(Drop)]
+pub struct CheckedBus<'a> {
+    pub profiles: Vec<CheckedProfile<'a>>,
+    pub normals: Vec<Normal>,
+    pub bus: TerminalBus<Normal>,
+    pub names: BusNames<'a>,
+}
+
+/// A file that was judged, or why it wasn't.
+#[derive(Drop)]
+struct JudgedFile {
+    digest: Option<[u8; 32]>,
+    judged: Result<Judgement, ToolFault>,
+}
+
+/// Why a message doesn't end well that comes alone, at power-up, to the terminals that it speaks to; empty where it does. The others
+/// of the bus would be silent.
+fn alone_reasons(
+    alloc: Global,
+    message: &FileMessage,
+    script: &[u8],
+    on: &CheckedBus<'_>,
+) -> Result<Vec<String>, ToolFault> {
+    let mut alone = message.afresh();
+    let mut warnings = Vec::new(alloc);
+    let mut watched = WatchedBus::power_up(alloc, on.normals.as_slice(), message.spoken_to)?;
+    if message.from <= message.to && message.to <= script.len() {
+        let lines = &script[message.from..message.to];
+        let _ = watched.play(lines, None, &mut warnings, &mut alone)?;
+    }
+    Ok(alone.reasons(&on.bus)?)
+}
+
+/// What comes of a message, by its two playings.
+fn judged_message(
+    alloc: Global,
+    message: &FileMessage,
+    script: &[u8],
+    on: &CheckedBus<'_>,
+) -> Result<JudgedMessage, ToolFault> {
+    Ok(JudgedMessage {
+        line: message.line,
+        command: message.put.command,
+        name: owned(alloc, on.names.name_of(message.put))?,
+        alone: alone_reasons(alloc, message, script, on)?,
+        in_run: message.reasons(&on.bus)?,
+    })
+}
+
+/// What comes of messages that were played in the run.
+fn judgement_of(
+    alloc: Global,
+    found: &FoundMessages,
+    script: &[u8],
+    on: &CheckedBus<'_>,
+    times: LoadTimes,
+) -> Result<Judgement, ToolFault> {
+    let mut messages = Vec::new(alloc);
+    for message in found.messages.items.as_slice() {
+        messages.push(judged_message(alloc, message, script, on)?)?;
+    }
+    Ok(Judgement {
+        messages,
+        load: load_of(alloc, found.rates.as_slice(), times)?,
+    })
+}
+
+/// Warns, on the standard error, of comments that look like a rate, and are none.
+fn warn_of_rates<R: AllocGlobal + Eprint>(
+    rt: &R,
+    name: &str,
+    lines: &[u64],
+) -> Result<(), ToolFault> {
+    let name = shown(rt, name)?;
+    for line in lines {
+        let _ = eprintln!(rt;
+            "{name}:{line}: warning: no rate: behind \"# rate \" stands a number from 0 to 1000000 alone"
+        );
+    }
+    Ok(())
+}
+
+/// Plays the messages of a file to terminals at power-up, each alone and all in their order. A script that is refused has no judgement.
+fn judge_script<R: AllocGlobal + Eprint>(
+    rt: &R,
+    name: &str,
+    script: &LoadedScript,
+    on: &CheckedBus<'_>,
+    times: LoadTimes,
+) -> Result<Judgement, ToolFault> {
+    let alloc = rt.alloc();
+    let text = script.text.as_slice();
+    let mut found = messages_in(alloc, script)?;
+    let mut warnings = Vec::new(alloc);
+    let mut watched = WatchedBus::power_up(alloc, on.normals.as_slice(), SpokenTo::ALL)?;
+    let numbers = Some(found.numbers.as_slice());
+    let fault = watched.play(text, numbers, &mut warnings, &mut found.messages)?;
+    warn(rt, name, script, warnings.as_slice())?;
+    if let Some(fault) = fault {
+        return Err(refused_script(rt, name, script, fault)?);
+    }
+    warn_of_rates(rt, name, found.wrong_rates.as_slice())?;
+    judgement_of(alloc, &found, text, on, times)
+}
+
+/// The addresses of terminals, for which messages are expanded.
+fn addresses_of(alloc: Global, normals: &[Normal]) -> Result<ScriptFor, AllocError> {
+    let mut addresses = Vec::new(alloc);
+    for normal in normals {
+        addresses.push(normal.address())?;
+    }
+    Ok(ScriptFor::Bus(addresses))
+}
+
+/// Judges the messages in the file of this name.
+fn judge_file<R: Files + AllocGlobal + Eprint>(
+    rt: &R,
+    name: &str,
+    on: &CheckedBus<'_>,
+    times: LoadTimes,
+) -> Result<JudgedFile, ToolFault> {
+    let own = addresses_of(rt.alloc(), on.normals.as_slice())?;
+    match load_messages(rt, name, &own) {
+        Ok(script) => Ok(JudgedFile {
+            digest: Some(script.file_digest()),
+            judged: judge_script(rt, name, &script, on, times),
+        }),
+        Err(fault) => Ok(JudgedFile {
+            digest: None,
+            judged: Err(fault),
+        }),
+    }
+}
+
+/// The status by how many messages are told.
+fn told_status(told: usize) -> u8
+    ensures value { result ≡ told_status told }
+    ensures most { result ≤ 1 }
+{
+    if told == 0 { 0 } else { DIFFERENT }
+}
+
+/// Writes what is told of the messages of a file, as text. The status is 0 where no message is told.
+fn put_text<R: AllocGlobal, W: Write>(
+    rt: &R,
+    name: &str,
+    judged: &Judgement,
+    output: &mut W,
+) -> Result<u8, ToolFault>
+    ensures value { IfOk result (λ status. status ≡ told_status (told_among judged.now)) }
+    ensures most { IfOk result (λ status. status ≤ 1) }
+{
+    let name = shown(rt, name)?;
+    let text = judged_text(rt.alloc(), name.as_str(), judged)?;
+    write_bytes(output, text.as_str().as_bytes())?;
+    Ok(told_status(told_in(judged.messages.as_slice())))
+}
+
+/// What came of a file, and the status that it asks for. A fault is told on the standard error, too.
+fn outcome_of<R: AllocGlobal + Eprint>(
+    rt: &R,
+    judged: Result<Judgement, ToolFault>,
+) -> Result<(CheckOutcome, u8), ToolFault>
+    ensures passes { IfOk result (λ done. (done.1 ≡ 0) ↔ (file_passes done.0 ≡ true)) }
+    ensures most { IfOk result (λ done. done.1 ≤ 4) }
+{
+    match judged {
+        Ok(judged) => {
+            let status = told_status(told_in(judged.messages.as_slice()));
+            Ok((CheckOutcome::Judged(judged), status))
+        }
+        Err(fault) => {
+            let reason = format!(in rt.alloc(); "{fault}")?;
+            let status = status_or_stop(rt, Err(fault))?;
+            Ok((CheckOutcome::Refused(reason), status))
+        }
+    }
+}
+
+/// The report in its format.
+fn report_text(
+    alloc: Global,
+    format: CheckFormat,
+    report: &CheckReport<'_>,
+) -> Result<String, ToolFault> {
+    match format {
+        CheckFormat::Junit => Ok(check_junit(alloc, report)?),
+        _ => Ok(json_line(check_json(alloc, report))?),
+    }
+}
+
+/// The tables of names as they are reported.
+fn tables_of<'a>(alloc: Global, names: &BusNames<'a>) -> Result<Vec<NamesTable<'a>>, AllocError> {
+    let mut tables = Vec::new(alloc);
+    for table in names.tables.as_slice() {
+        tables.push(NamesTable {
+            file: table.file,
+            digest: table.names.loaded.digest,
+        })?;
+    }
+    Ok(tables)
+}
+
+/// Writes the report of a file.
+fn put_report<'a, R: AllocGlobal + Eprint, W: Write>(
+    rt: &R,
+    asked: AskedCheck<'a>,
+    name: &'a str,
+    on: &CheckedBus<'a>,
+    file: JudgedFile,
+    output: &mut W,
+) -> Result<u8, ToolFault>
+    ensures { IfOk result (λ status. status ≤ 4) }
+{
+    let JudgedFile { digest, judged } = file;
+    let (outcome, status) = outcome_of(rt, judged)?;
+    let report = CheckReport {
+        file: name,
+        digest,
+        profiles: Vec::from_slice(rt.alloc(), on.profiles.as_slice())?,
+        tables: tables_of(rt.alloc(), &on.names)?,
+        times: times_of(asked),
+        outcome,
+        head: ReportHead {
+            command: "bus",
+            program: PROGRAM_VERSION,
+            toolchain: TOOLCHAIN,
+            canonical: CANONICAL_VERSION,
+            names: None,
+            date: asked.date,
+        },
+    };
+    let text = report_text(rt.alloc(), asked.format, &report)?;
+    write_bytes(output, text.as_str().as_bytes())?;
+    Ok(status)
+}
+
+/// The times by which the load is computed.
+fn times_of(asked: AskedCheck<'_>) -> LoadTimes {
+    LoadTimes {
+        response: asked.response,
+        gap: asked.gap,
+    }
+}
+
+/// Judges the messages of a file, and writes what comes of them: as text a line for each that doesn't end well at every terminal that it
+/// speaks to, or a report. As text the status is 0 where no message is told, and 1 where one is; nothing is written of a script that is
+/// refused. A report tells also why that is so, and has its status.
+pub fn check_on_bus<'a, R: Files + AllocGlobal + Eprint, W: Write>(
+    rt: &R,
+    asked: AskedCheck<'a>,
+    name: &'a str,
+    on: &CheckedBus<'a>,
+    output: &mut W,
+) -> Result<u8, ToolFault>
+    ensures status { IfOk result (IsCheckStatus asked.entry.format) }
+    ensures most { IfOk result (λ status. status ≤ 4) }
+{
+    let file = judge_file(rt, name, on, times_of(asked))?;
+    match asked.format {
+        CheckFormat::Text => put_text(rt, name, &file.judged?, output),
+        _ => put_report(rt, asked, name, on, file, output),
+    }
+}

@@ -1,0 +1,13 @@
+//! The command `bus` of `rt1553-tool`: a script that is played to the terminals of several profiles on one bus, and a file of messages
+//! that is judged as a schedule of a bus controller.
+#![tactic(auto)]
+
+mod check;
+mod list;
+mod messages;
+mod names;
+mod play;
+mod trouble;
+mod watch;
+
+pub use play::play_bus;

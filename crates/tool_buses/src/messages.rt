@@ -1,0 +1,359 @@
+//! The messages of a file, and what comes of each on a bus.
+ghost use Rattle.std.specs.Prelude.{◌<◌, length};
+
+use crate::trouble::{CommandTrouble, command_trouble};
+use crate::watch::{ALL_TERMINALS, SpokenTo, TakesRows};
+use bus_reports::{PutMessage, RateGroup, RateLine, rate_line};
+use bus_word::{Bus, Command};
+use message_rows::{RowEnd, RunRow, row_cells};
+use refused_lines::first_line;
+use rt1553::{Event, Normal};
+use script_terminals::read_bus_line;
+use std::alloc::{AllocError, Global};
+use terminal_bus::{BusEvent, TerminalBus};
+use tool_files::{LoadedScript, ToolFault};
+
+/// Which of the cells of a row tells how it ended, and why.
+const ENDED_CELL: usize = 7;
+
+/// What came of a command of a message.
+#[derive(Drop)]
+struct CommandResult {
+    /// A terminal has a row of it.
+    is_seen: bool,
+    /// It is done at a terminal.
+    is_done: bool,
+    /// What is told of the rows.
+    told: Vec<String>,
+}
+
+/// A message of a file, and what came of it.
+#[derive(Drop)]
+pub struct FileMessage {
+    alloc: Global,
+    /// Its line in the file, from 1.
+    pub line: u64,
+    /// Where the lines of its events begin in the script.
+    pub from: usize,
+    /// Where they end.
+    pub to: usize,
+    /// To which terminals it speaks.
+    pub spoken_to: SpokenTo,
+    /// Its commands.
+    pub put: PutMessage,
+    /// What came of the first command.
+    first: CommandResult,
+    /// What came of the command to the transmitter.
+    second: CommandResult,
+}
+
+/// A line of a script.
+#[derive(Clone, Copy)]
+struct ScriptLine<'a> {
+    text: &'a [u8],
+    /// The line behind it; empty where there is none.
+    next: &'a [u8],
+    /// Where it begins in the script.
+    from: usize,
+    /// Where the line behind it begins.
+    to: usize,
+    /// The line of the file that it stands for.
+    source: u64,
+    /// The line of the file that the line behind it stands for.
+    next_source: u64,
+}
+
+/// The messages of a file in their order.
+#[derive(Drop)]
+pub struct FileMessages {
+    pub items: Vec<FileMessage>,
+}
+
+/// The messages of a file, and for each line of the script the number of its message, from 1; 0 where it is of none.
+#[derive(Drop)]
+pub struct FoundMessages {
+    pub messages: FileMessages,
+    pub numbers: Vec<u64>,
+    /// The rates that comments tell, with the messages that are sent at each.
+    pub rates: Vec<RateGroup>,
+    /// The lines of the file with comments that look like a rate, and are none.
+    pub wrong_rates: Vec<u64>,
+    /// The messages to come are sent at the last rate.
+    is_rated: bool,
+}
+
+/// How the message of a row ended at the terminal of this address, and why, as a list of messages tells it.
+fn row_reason(alloc: Global, address: u8, row: &RunRow) -> Result<String, AllocError> {
+    let cells = row_cells(alloc, row, None)?;
+    let ended = match cells.as_slice().get(ENDED_CELL) {
+        Some(cell) => cell.as_str(),
+        None => "",
+    };
+    format!(in alloc; "terminal {address:02}: {ended}")
+}
+
+/// What is told of a command to this address.
+fn command_reason(
+    alloc: Global,
+    address: u8,
+    trouble: CommandTrouble,
+) -> Result<String, AllocError> {
+    match trouble {
+        CommandTrouble::NoProfile => format!(in alloc; "no profile has address {address:02}"),
+        CommandTrouble::NoRow => format!(in alloc;
+            "terminal {address:02}: takes it for no message"
+        ),
+        CommandTrouble::NoTaker => format!(in alloc; "no terminal takes the broadcast"),
+    }
+}
+
+impl CommandResult {
+    /// Nothing came of it yet.
+    fn none(alloc: Global) -> CommandResult {
+        CommandResult {
+            is_seen: false,
+            is_done: false,
+            told: Vec::new(alloc),
+        }
+    }
+
+    /// Takes the row of a terminal.
+    fn take_row(&mut self, alloc: Global, address: u8, row: &RunRow) -> Result<(), AllocError> {
+        self.is_seen = true;
+        self.is_done = self.is_done || row.end == RowEnd::Done;
+        if row.is_faulty() {
+            self.told.push(row_reason(alloc, address, row)?)?;
+        }
+        Ok(())
+    }
+
+    /// Adds why the command, to this address, doesn't end well on a bus, if it doesn't.
+    fn push_reasons(
+        &self,
+        alloc: Global,
+        address: u8,
+        bus: &TerminalBus<Normal>,
+        reasons: &mut Vec<String>,
+    ) -> Result<(), AllocError> {
+        let is_broadcast = address == ALL_TERMINALS;
+        let has_profile = bus.has_terminal(address);
+        if let Some(trouble) = command_trouble(
+            is_broadcast,
+            has_profile,
+            self.is_seen,
+            self.is_done,
+        ) {
+            reasons.push(command_reason(alloc, address, trouble)?)?;
+        }
+        for reason in self.told.as_slice() {
+            reasons.push(String::from_str(alloc, reason.as_str())?)?;
+        }
+        Ok(())
+    }
+}
+
+impl FileMessage {
+    /// The message again, with nothing that came of it.
+    pub fn afresh(&self) -> FileMessage {
+        FileMessage {
+            alloc: self.alloc,
+            line: self.line,
+            from: self.from,
+            to: self.to,
+            spoken_to: self.spoken_to,
+            put: self.put,
+            first: CommandResult::none(self.alloc),
+            second: CommandResult::none(self.alloc),
+        }
+    }
+
+    /// Why it doesn't end well on a bus; empty where it does.
+    pub fn reasons(&self, bus: &TerminalBus<Normal>) -> Result<Vec<String>, AllocError> {
+        let mut reasons = Vec::new(self.alloc);
+        self.first
+            .push_reasons(self.alloc, self.spoken_to.address, bus, &mut reasons)?;
+        if let Some(address) = self.spoken_to.transmitter {
+            self.second
+                .push_reasons(self.alloc, address, bus, &mut reasons)?;
+        }
+        Ok(reasons)
+    }
+}
+
+impl TakesRows for FileMessage {
+    fn take(&mut self, address: u8, row: &RunRow) -> Result<(), ToolFault> {
+        if self.spoken_to.transmitter == Some(address) {
+            self.second.take_row(self.alloc, address, row)?;
+        } else {
+            self.first.take_row(self.alloc, address, row)?;
+        }
+        Ok(())
+    }
+}
+
+impl TakesRows for FileMessages {
+    fn take(&mut self, address: u8, row: &RunRow) -> Result<(), ToolFault> {
+        if row.line == 0 {
+            return Ok(());
+        }
+        match self.items.as_mut_slice().get_mut((row.line - 1) as usize) {
+            Some(message) => message.take(address, row),
+            None => Ok(()),
+        }
+    }
+}
+
+/// The command word that a line puts on a bus.
+fn commanded(line: &[u8]) -> Option<(Bus, u16)> {
+    match read_bus_line(line) {
+        Ok(Some(BusEvent::OnBus(Event::Word(bus, word)))) if word.is_command() => {
+            Some((bus, word.bits))
+        }
+        _ => None,
+    }
+}
+
+/// The message that begins with this line, and with the next, if that has a command, too; None where it begins with no command.
+fn put_at(at: &ScriptLine<'_>) -> Option<PutMessage> {
+    let (bus, command) = commanded(at.text)?;
+    let transmitter = match commanded(at.next) {
+        Some((_, word)) => Some(word),
+        None => None,
+    };
+    Some(PutMessage {
+        bus,
+        command,
+        transmitter,
+    })
+}
+
+/// To which terminals a message speaks.
+fn spoken_by(put: PutMessage) -> SpokenTo {
+    SpokenTo {
+        address: Command::of(put.command).address(),
+        transmitter: match put.transmitter {
+            Some(word) => Some(Command::of(word).address()),
+            None => None,
+        },
+    }
+}
+
+impl FoundMessages {
+    /// Takes note that a line belongs to the message that came last, if that is so. Tells whether it is.
+    fn goes_on(&mut self, at: &ScriptLine<'_>) -> bool {
+        let count = self.messages.items.len();
+        match self
+            .messages
+            .items
+            .as_mut_slice()
+            .get_mut(count.saturating_sub(1))
+        {
+            Some(message) if message.line == at.source => {
+                message.to = at.to;
+                true
+            }
+            _ => false,
+        }
+    }
+
+    /// Adds the message that begins with a line, if it is a command. Tells whether it is.
+    fn begin(&mut self, alloc: Global, at: &ScriptLine<'_>) -> Result<bool, AllocError> {
+        let Some(put) = put_at(at) else {
+            return Ok(false);
+        };
+        self.messages.items.push(FileMessage {
+            alloc,
+            line: at.source,
+            from: at.from,
+            to: at.to,
+            spoken_to: spoken_by(put),
+            put,
+            first: CommandResult::none(alloc),
+            second: CommandResult::none(alloc),
+        })?;
+        self.rate(put)?;
+        Ok(true)
+    }
+
+    /// Adds a message to those of the last rate, if it is sent at that.
+    fn rate(&mut self, put: PutMessage) -> Result<(), AllocError> {
+        let last = self.rates.len().saturating_sub(1);
+        match self.rates.as_mut_slice().get_mut(last) {
+            Some(group) if self.is_rated => Ok(group.messages.push(put)?),
+            _ => Ok(()),
+        }
+    }
+
+    /// Takes note of the rate that a line tells, if it tells one.
+    fn note_rate(&mut self, alloc: Global, at: &ScriptLine<'_>) -> Result<(), AllocError> {
+        match rate_line(at.text) {
+            RateLine::Rate(0) => self.is_rated = false,
+            RateLine::Rate(rate) => {
+                self.is_rated = true;
+                self.rates.push(RateGroup {
+                    line: at.source,
+                    rate,
+                    messages: Vec::new(alloc),
+                })?;
+            }
+            RateLine::Wrong => self.wrong_rates.push(at.source)?,
+            RateLine::Other => {}
+        }
+        Ok(())
+    }
+
+    /// Takes note of a line. A message gives two events or more, and any other line of the file is one of the script.
+    fn note(&mut self, alloc: Global, at: &ScriptLine<'_>) -> Result<(), AllocError> {
+        self.note_rate(alloc, at)?;
+        let is_of_message = self.goes_on(at)
+            || at.source == at.next_source && self.begin(alloc, at)?;
+        let number = if is_of_message {
+            self.messages.items.len() as u64
+        } else {
+            0
+        };
+        self.numbers.push(number)?;
+        Ok(())
+    }
+}
+
+/// The first of these lines, which has this number in the script.
+fn line_at_front<'a>(script: &'a LoadedScript, rest: &'a [u8], number: u64) -> ScriptLine<'a>
+    requires { 0 < length rest.now }
+{
+    let whole = script.text.len();
+    let (text, more) = first_line(rest);
+    ScriptLine {
+        text,
+        next: if more.is_empty() {
+            more
+        } else {
+            first_line(more).0
+        },
+        from: whole.saturating_sub(rest.len()),
+        to: whole.saturating_sub(more.len()),
+        source: script.line_in_file(number),
+        next_source: script.line_in_file(number.saturating_add(1)),
+    }
+}
+
+/// The messages of a file that begin with a command, by its script.
+pub fn messages_in(alloc: Global, script: &LoadedScript) -> Result<FoundMessages, AllocError> {
+    let mut found = FoundMessages {
+        messages: FileMessages {
+            items: Vec::new(alloc),
+        },
+        numbers: Vec::new(alloc),
+        rates: Vec::new(alloc),
+        wrong_rates: Vec::new(alloc),
+        is_rated: false,
+    };
+    let mut rest = script.text.as_slice();
+    let mut number = 1u64;
+    while !rest.is_empty() {
+        found.note(alloc, &line_at_front(script, rest, number))?;
+        number = number.saturating_add(1);
+        rest = first_line(rest).1;
+    }
+    Ok(found)
+}
