@@ -22,9 +22,7 @@ files() {
     done
     find manual/*.5 -printf '%p 644 share/man/man5/%f\n' | sort
     echo "editors/profile.schema.json 644 share/rt1553/profile.schema.json"
-    for name in lint verify coverage explain differ acceptance; do
-        echo "docs/$name.schema.json 644 share/rt1553/$name.schema.json"
-    done
+    find docs/*.schema.json -printf '%p 644 share/rt1553/%f\n' | sort
     find editors/vim editors/vscode -type f -printf '%p 644 share/rt1553/%p\n' | sort
     find README.md CHANGELOG.md SECURITY.md docs/*.md editors/README.md examples -type f -printf '%p 644 share/doc/rt1553/%p\n' | sort
 }
