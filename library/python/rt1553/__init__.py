@@ -705,6 +705,24 @@ class _Memory:
         free(self.at)
 
 
+def _saved(save: Callable[..., int], memory: _Memory, room: int) -> bytes:
+    """The saved state of a terminal or of a bus."""
+    fault, to, length = ctypes.create_string_buffer(_FAULT.size), ctypes.create_string_buffer(room), _size()
+    with memory.lock:
+        status = save(memory.at, to, room, ctypes.byref(length), fault)
+    if status:
+        raise _told(status, fault)
+    return to.raw[: length.value]
+
+
+def _restored(restore: Callable[..., int], state: object) -> _Memory:
+    """The memory of one in a saved state."""
+    if not isinstance(state, _BYTES):
+        raise TypeError(f"a saved state is wanted, as bytes, not {_kind(state)}")
+    data = _of(state)
+    return _Memory(restore, data, len(data))
+
+
 # what a step writes: an answer, its place, and the number of answers
 _Stepped = ctypes.c_char * (_ANSWER.size + 2 * _PLACE.size)
 
@@ -755,10 +773,8 @@ class Terminal:
         ...     print(refused, refused.kind.name, refused.number, refused.line)
         saved state: line 1 STATE 1 1
         """
-        if not isinstance(state, _BYTES):
-            raise TypeError(f"a saved state is wanted, as bytes, not {_kind(state)}")
-        terminal, data = cls.__new__(cls), _of(state)
-        terminal.__memory = _Memory(_restore, data, len(data))
+        terminal = cls.__new__(cls)
+        terminal.__memory = _restored(_restore, state)
         return terminal
 
     @property
@@ -780,13 +796,7 @@ class Terminal:
         >>> Terminal.restore(terminal.save()).slot()
         Sent(bus=<Bus.A: 0>, sync=<Sync.COMMAND: 0>, bits=10240)
         """
-        memory, fault = self.__made(), ctypes.create_string_buffer(_FAULT.size)
-        to, length = ctypes.create_string_buffer(_STATE_ROOM), _size()
-        with memory.lock:
-            status = _save(memory.at, to, len(to), ctypes.byref(length), fault)
-        if status:
-            raise _told(status, fault)
-        return to.raw[: length.value]
+        return _saved(_save, self.__made(), _STATE_ROOM)
 
     def __twin(self: _T) -> _T:
         """A terminal in the same state, without what a subclass has of its own."""
@@ -1044,10 +1054,8 @@ class TerminalBus:
         ...     print(refused, refused.kind.name, refused.number, refused.line)
         saved state: line 1 STATE 1 1
         """
-        if not isinstance(state, _BYTES):
-            raise TypeError(f"a saved state is wanted, as bytes, not {_kind(state)}")
-        bus, data = cls.__new__(cls), _of(state)
-        bus.__memory = _Memory(_bus_restore, data, len(data))
+        bus = cls.__new__(cls)
+        bus.__memory = _restored(_bus_restore, state)
         return bus
 
     def save(self) -> bytes:
@@ -1057,13 +1065,7 @@ class TerminalBus:
         >>> TerminalBus.restore(bus.save()).terminal(6).address
         6
         """
-        memory, fault = self.__made(), ctypes.create_string_buffer(_FAULT.size)
-        to, length = ctypes.create_string_buffer(_BUS_STATE_ROOM), _size()
-        with memory.lock:
-            status = _bus_save(memory.at, to, len(to), ctypes.byref(length), fault)
-        if status:
-            raise _told(status, fault)
-        return to.raw[: length.value]
+        return _saved(_bus_save, self.__made(), _BUS_STATE_ROOM)
 
     def __reduce__(self) -> tuple[Any, ...]:
         memory = self.__made()
