@@ -1,5 +1,5 @@
 //! What can be reached of a terminal, as a table for people.
-ghost use Rattle.std.specs.Prelude.{◌≡◌, ◌-◌, ◌≤◌, ◌<◌, ℕ, true, get_or, []};
+ghost use Rattle.std.specs.Prelude.{◌≡◌, ◌-◌, ◌≤◌, ◌<◌, ℕ, true, false, get_or, []};
 ghost use Rattle.bus_word.specs.declared.cell.Cell.TheVariants.{OwnReceive, OwnTransmit, BroadReceive, OwnMode, BroadMode};
 ghost use Rattle.bus_word.specs.Cell.{is_data_place};
 ghost use Rattle.bus_word.specs.Mask.{has_bit};
@@ -46,6 +46,25 @@ pub fn row_of(normal: &Normal, subaddress: u8) -> SubaddressRow
         transmit: tables.own_transmit[index],
         broadcast: tables.broadcast_receive[index],
         words: normal.initial()[index],
+    }
+}
+
+/// Whether a subaddress is 1 to 30, and a word count or the number of a word 1 to 32.
+pub fn is_place(s: u8, n: u8) -> bool
+    ensures { result ≡ is_data_place s n }
+{
+    1 <= s && s <= 30 && 1 <= n && n <= 32
+}
+
+/// The word of this number that is held for a subaddress; 0 if the subaddress has none.
+pub fn word_at(normal: &Normal, s: u8, i: u8) -> u16
+    ensures held { is_data_place s i ≡ true → result ≡ (description_in normal.now).initial s i }
+    ensures none { is_data_place s i ≡ false → result ≡ 0 }
+{
+    if is_place(s, i) {
+        row_of(normal, s).words[usize::from(i) - 1]
+    } else {
+        0
     }
 }
 

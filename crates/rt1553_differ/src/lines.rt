@@ -1,4 +1,5 @@
 //! Groups of differences as lines, as people read them.
+use crate::explained::word_at;
 use crate::groups::Group;
 use bus_canon::Difference;
 use bus_legal::{Normal, Numbers};
@@ -119,18 +120,6 @@ pub struct Values<'a> {
     /// What the two are called.
     pub first: &'a str,
     pub second: &'a str,
-}
-
-/// A word that is held; 0 at what is no place of one.
-pub fn word_at(normal: &Normal, s: u8, i: u8) -> u16 {
-    for (row, words) in normal.initial().iter().enumerate() {
-        for (at, word) in words.iter().enumerate() {
-            if row + 1 == usize::from(s) && at + 1 == usize::from(i) {
-                return *word;
-            }
-        }
-    }
-    0
 }
 
 impl Values<'_> {

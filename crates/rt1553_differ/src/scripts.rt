@@ -2,20 +2,13 @@
 ghost use Rattle.std.specs.Prelude.{◌≡◌, ◌↔◌, ◌⊎◌, IfSome, IsNone, IsTrue};
 ghost use Rattle.bus_legal.specs.Parts.{description_in};
 ghost use Rattle.terminal_exchanges.specs.Distinguish.{TellsApart};
-ghost use Rattle.bus_word.specs.Cell.{is_data_place};
 ghost use Rattle.bus_canon.specs.Difference.{AreAlike, IsInRange, NothingHides, script_for};
 
+use crate::explained::is_place;
 use bus_canon::{Difference, Script, script_showing};
 use bus_legal::Normal;
 use script_lines::write_event;
 use std::alloc::{AllocError, Global};
-
-/// Tells whether a subaddress is 1 to 30, and a word count or the number of a word 1 to 32.
-fn is_place(s: u8, n: u8) -> bool
-    ensures { result ≡ is_data_place s n }
-{
-    1 <= s && s <= 30 && 1 <= n && n <= 32
-}
 
 /// Tells whether the numbers of a difference are in their ranges.
 fn is_in_range(difference: Difference) -> bool

@@ -1,7 +1,8 @@
 //! What differs, as text and as JSON.
 use crate::columns::{push_column, wider};
+use crate::explained::word_at;
 use crate::groups::Group;
-use crate::lines::{DifferenceLine, Label, Values, lines_of, word_at};
+use crate::lines::{DifferenceLine, Label, Values, lines_of};
 use crate::named::names_of;
 use crate::scripts::{script_lines, script_of};
 use bus_canon::Difference;

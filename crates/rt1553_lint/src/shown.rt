@@ -2,8 +2,8 @@
 use std::fmt;
 use toml::Value;
 
-/// How many characters of a text are shown.
-const MOST: usize = 40;
+/// How many characters of a text are shown at most.
+const MOST_LETTERS: usize = 40;
 
 /// Writes a character, escaped where it does not print.
 fn write_shown<W: fmt::Write>(f: &mut fmt::Formatter<W>, letter: char) -> fmt::Result {
@@ -22,7 +22,7 @@ impl fmt::Display for Quoted<'_> {
     fn fmt<W: fmt::Write>(&self, f: &mut fmt::Formatter<W>) -> fmt::Result {
         f.write_str("\"")?;
         for (index, letter) in self.0.chars().enumerate() {
-            if index == MOST {
+            if index == MOST_LETTERS {
                 return f.write_str("\" ..");
             }
             write_shown(f, letter)?;
