@@ -4,6 +4,7 @@
 saves means the profile that is written here of its rows; with up to ten faults planted in it, each is told once, with its row and column."""
 
 import random
+import re
 from typing import NamedTuple, Optional
 
 import canonical
@@ -188,12 +189,15 @@ class Layout:
         """What is warned of, without the name of the file."""
         left_out = [(at, it) for at, it in enumerate(header, 1) if it not in COLUMNS]
         counts = [(line, row) for line, row in zip(lines[1:], rows) if row["kind"] in MESSAGES and not row.get("words")]
+        decimals = [line for line, row in zip(lines[1:], rows) if row["kind"] in ("vector", "bit") and re.fullmatch("[0-9]{4}", row["value"])]
         return [
             *(f'{lines[0]}:{at}: warning: the column "{self.case(it)}" is left out; known are {KNOWN}' for at, it in left_out),
             *([f"{lines[0]}:{len(header) + 1}: warning: no column is named words, so all counts 1 to 32: is this meant?"]
               if "words" not in header and counts and "kind" in header else []),
             *(f"{line}:{header.index('words') + 1}: warning: {self.case('words')}: empty, so all counts 1 to 32: is this meant?"
               for line, _ in counts if "kind" in header and "words" in header),
+            *(f"{line}:{header.index('value') + 1}: warning: {self.case('value')}: decimal, since it has no 0x: is this meant?"
+              for line in decimals if "kind" in header),
         ]  # fmt: skip
 
 

@@ -51,17 +51,24 @@ TABLES = [
     table("a number that is too long to be told", f"kind,value\naddress,{'9' * 41}\n", 2, "", f'2:2: error: value: "{"9" * 40}..": allowed is 0 to 30'),
     # --- warnings
     table("a column left out explains a fault", "kind,value,subadress,words\naddress,5,,\nreceive,,3,2\n", 2, "",
-          '1:3: warning: the column "subadress" is left out' + KNOWN, '3:1: error: no column is named subaddress: allowed is 1 to 30, as "1-3, 5"'),
+          '1:3: warning: the column "subadress" is left out' + KNOWN, "1:1: error: no column is named subaddress"),
     table("no word counts", "kind,value,subaddress,words\naddress,5,,\nreceive,,3,\nmode,,,\n", 2, "",
-          "3:4: warning: words: empty, so all counts 1 to 32: is this meant?", '4:1: error: no column is named code: allowed is 0 to 31, as "1-3, 5"'),
+          "3:4: warning: words: empty, so all counts 1 to 32: is this meant?", "1:1: error: no column is named code"),
     table("no column for word counts", "kind,value,subaddress,to\naddress,5,,\nreceive,,3,both\n", 0, RULE.replace("counts = 2\n", ""),
           "1:5: warning: no column is named words, so all counts 1 to 32: is this meant?"),
     table("no column for word counts, and no message", "kind,value\naddress,5\n", 0, FIVE),
     table("no word counts, and no fault", "kind,value,subaddress,Words,to\naddress,5,,,\nreceive,,3,,both\n", 0, RULE.replace("counts = 2\n", ""),
           "3:4: warning: Words: empty, so all counts 1 to 32: is this meant?"),
+    table("words of four decimal digits", "kind,VALUE\naddress,5\nbit,8000\nvector,0100\n", 0, FIVE + "bit = 8000\nvector = 100\n",
+          *(f"{it}:2: warning: VALUE: decimal, since it has no 0x: is this meant?" for it in (3, 4))),
+    table("words that are not of four decimal digits", "kind,value\naddress,5\nbit,32768\nvector,0x8000\n", 0, FIVE + "bit = 32768\nvector = 0x8000\n"),
     # --- faults
+    table("columns that are not there are told once", "kind,words\naddress,\nreceive,2\ntransmit,2\nmode,\nmode,1\n", 2, "",
+          *(f"1:1: error: no column is named {it}" for it in ("value", "subaddress", "code"))),
+    table("a mode code that must be legal: the row that says it last", "kind,value,code,to,legal\naddress,5,,,\nmode,,2-4,,no\nmode,,0x04,Both,No\nmode,,4,broadcast,yes\n"
+          "mode,,8,,no\nmode,,8,,yes\n", 2, "", '3:5: error: legal: "no": mode code 2 must be legal', '4:5: error: legal: "No": mode code 4 must be legal'),
     table("a kind that is none", "kind,value\naddress,5\nrecieve,\n", 2, "", f'3:1: error: kind: "recieve": allowed is {KINDS}'),
-    table("no address", "kind,value\nbit,1\n", 2, "", "1:1: error: no row is of the kind address; its value is 0 to 30"),
+    table("no address", "kind,value\nbit,1\n", 2, "", " error: no row is of the kind address; its value is 0 to 30"),
     table("a fault that would end its line", 'kind,value\naddress,"5\n\x1b[2K"\n', 2, "", '2:2: error: value: "5\\n\\u{1b}[2K": allowed is 0 to 30'),
     # --- names
     table("a name with which the profile is too large", f"kind,value,subaddress,words,name\naddress,5,,,\nreceive,,1,2,{'x' * (MOST - 60)}\n", 2, "",

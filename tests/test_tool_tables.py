@@ -16,7 +16,7 @@ IMPORTS = [
     Row("a byte order mark, and an address that is too large", "import marked.csv", 2,
         errors='marked.csv:2:2: error: value: "0x1f": allowed is 0 to 30\n', files={"marked.csv": "\ufeffkind,value\naddress,0x1f\n"}),
     Row("a table that is not UTF-8", "import bytes.csv", 2,
-        errors="bytes.csv: table: not UTF-8\n", files={"bytes.csv": b"kind,value\naddress,\xff\n"}),
+        errors="bytes.csv: table: row 2: not UTF-8\n", files={"bytes.csv": b"kind,value\naddress,\xff\n"}),
     Row("a table that is not there", "import none", 4, errors="file: cannot read none: no such file\n"),
 ]  # fmt: skip
 
@@ -136,9 +136,11 @@ def test_names_of_a_table_for_another_address(tool, folder):
 
 @pytest.mark.parametrize("words", WITH_NAMES)
 def test_table_without_names(tool, words, folder):
-    """It leaves all as it is."""
+    """It is warned of, and leaves all as it is."""
     word, *rest = words.split()
-    assert run(tool, word, "--names", "nameless.csv", *rest, folder=folder) == run(tool, *words.split(), folder=folder)
+    without = run(tool, *words.split(), folder=folder)
+    warned = b"nameless.csv:1:3: warning: no column is named name, so no message has a name\n"
+    assert run(tool, word, "--names", "nameless.csv", *rest, folder=folder) == without._replace(errors=warned + without.errors)
 
 
 def without_comments(script):

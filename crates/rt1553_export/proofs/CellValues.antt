@@ -18,7 +18,7 @@ use Rattle.rt1553_import.proofs.CellLaws.{number_there}
 use Rattle.rt1553_toml.specs.Sets.{two_digits, lone_range, more_numbers, numbers_below, numbers_text, said_set, set_text}
 use Rattle.rt1553_toml.specs.inner.FullTree.{wraparound_data}
 use Rattle.rt1553_toml.proofs.SetTexts.{said_fits, said_some}
-use Rattle.rt1553_export.specs.inner.Full.{yes_no, word_cell, wrap_cell, spaced, words_cell}
+use Rattle.rt1553_export.specs.inner.Full.{yes_no, word_cell, wrap_cell, spaced_words, words_cell}
 use Rattle.rt1553_export.proofs.Trimmed.{IsGraphic, AllAscii, EndsGraphic, IsPlain, plain_by, ascii-append, ends-append}
 
 and_false : (b : Bool) → (b && false) ≡ false
@@ -194,9 +194,9 @@ four_split w rest parts l e =
 word_split : (w : ℕ) (rest : List ℕ) (parts : List (List ℕ)) → w < 2 ^ 16 → at_spaces rest ≡ [] ∷ parts → at_spaces (digits_of w ++ rest) ≡ digits_of w ∷ parts
 word_split w rest parts l e = subst (λ d. at_spaces (d ++ rest) ≡ d ∷ parts) (sym (are_four w)) (four_split w rest parts l e)
 
-spaced_split : (ws : List ℕ) → AreWords16 ws → at_spaces (spaced ws) ≡ [] ∷ map digits_of ws
+spaced_split : (ws : List ℕ) → AreWords16 ws → at_spaces (spaced_words ws) ≡ [] ∷ map digits_of ws
 spaced_split [] h = refl
-spaced_split (w ∷ ws) h = ap (λ parts. [] ∷ parts) (word_split w (spaced ws) (map digits_of ws) h.0 (spaced_split ws h.1))
+spaced_split (w ∷ ws) h = ap (λ parts. [] ∷ parts) (word_split w (spaced_words ws) (map digits_of ws) h.0 (spaced_split ws h.1))
 
 one_word : (w : ℕ) → w < 2 ^ 16 → cell_word (digits_of w) ≡ Some w
 unfolding encode_with
@@ -213,19 +213,19 @@ parts_words (w ∷ ws) h =
     ap (λ b. cond b (words_of_parts parts) (word_before (cell_word (digits_of w)) (words_of_parts parts))) (has_digits w) ∙ (λ j. word_before (one_word w h.0 j) (parts_words ws h.1 j))
 
 pub words_read : (w : ℕ) (ws : List ℕ) → AreWords16 (w ∷ ws) → cell_words (words_cell (w ∷ ws)) ≡ Some (w ∷ ws)
-words_read w ws h = ap words_of_parts (word_split w (spaced ws) (map digits_of ws) h.0 (spaced_split ws h.1)) ∙ parts_words (w ∷ ws) h
+words_read w ws h = ap words_of_parts (word_split w (spaced_words ws) (map digits_of ws) h.0 (spaced_split ws h.1)) ∙ parts_words (w ∷ ws) h
 
 pub words_say : (w : ℕ) (ws : List ℕ) → AreWords16 (w ∷ ws) → words_data (words_cell (w ∷ ws)) ≡ map word_value (w ∷ ws)
 words_say w ws h = ap each_word (words_read w ws h)
 
-spaced_ascii : (ws : List ℕ) → AreWords16 ws → AllAscii (spaced ws)
+spaced_ascii : (ws : List ℕ) → AreWords16 ws → AllAscii (spaced_words ws)
 spaced_ascii [] h = tt
-spaced_ascii (w ∷ ws) h = (omega arith, ascii-append (digits_of w) (spaced ws) (subst AllAscii (sym (are_four w)) (four_ascii w h.0)) (spaced_ascii ws h.1))
+spaced_ascii (w ∷ ws) h = (omega arith, ascii-append (digits_of w) (spaced_words ws) (subst AllAscii (sym (are_four w)) (four_ascii w h.0)) (spaced_ascii ws h.1))
 
-spaced_ends : (part ws : List ℕ) → EndsGraphic part → AreWords16 ws → EndsGraphic (part ++ spaced ws)
+spaced_ends : (part ws : List ℕ) → EndsGraphic part → AreWords16 ws → EndsGraphic (part ++ spaced_words ws)
 spaced_ends part [] e h = rw (append-nil part) e
 spaced_ends part (w ∷ ws) e h =
-    ends-append part (32 ∷ (digits_of w ++ spaced ws)) (behind (digits_of w ++ spaced ws) (spaced_ends (digits_of w) ws (subst EndsGraphic (sym (are_four w)) (four_ends w h.0)) h.1))
+    ends-append part (32 ∷ (digits_of w ++ spaced_words ws)) (behind (digits_of w ++ spaced_words ws) (spaced_ends (digits_of w) ws (subst EndsGraphic (sym (are_four w)) (four_ends w h.0)) h.1))
   where
     behind : (t : List ℕ) → EndsGraphic t → EndsGraphic (32 ∷ t)
     behind [] h = absurd h
@@ -234,8 +234,8 @@ spaced_ends part (w ∷ ws) e h =
 pub words_plain : (w : ℕ) (ws : List ℕ) → AreWords16 (w ∷ ws) → IsPlain (words_cell (w ∷ ws))
 words_plain w ws h =
     let is = word_digits w h.0 in
-    subst (λ d. IsPlain (d ++ spaced ws)) (sym (are_four w)) (record {
-      ascii = ascii-append (four w) (spaced ws) (four_ascii w h.0) (spaced_ascii ws h.1);
+    subst (λ d. IsPlain (d ++ spaced_words ws)) (sym (are_four w)) (record {
+      ascii = ascii-append (four w) (spaced_words ws) (four_ascii w h.0) (spaced_ascii ws h.1);
       begins = (omega (arith, is.first.low), omega (arith, is.first.high));
       ends = spaced_ends (four w) ws (four_ends w h.0) h.1;
     })

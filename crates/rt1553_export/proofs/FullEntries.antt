@@ -16,7 +16,7 @@ use Rattle.rt1553_toml.specs.Sets.{two_digits, set_text}
 use Rattle.rt1553_toml.specs.inner.FullTree.{from_number, rule_data, mode_data, initial_data}
 use Rattle.rt1553_toml.proofs.TreeFaults.{AllIn}
 use Rattle.rt1553_export.specs.inner.Rows.{header_cells, setting_cells, message_cells, mode_cells}
-use Rattle.rt1553_export.specs.inner.Full.{yes_no, is_said, words_cell, receive_row, transmit_row, mode_codes_row}
+use Rattle.rt1553_export.specs.inner.Full.{yes_no, legal_cell, words_cell, receive_row, transmit_row, mode_codes_row}
 use Rattle.rt1553_export.proofs.Trimmed.{IsPlain, plain_by, trim_plain, trim_nothing}
 use Rattle.rt1553_export.proofs.CellValues.{two_says, two_plain, set_says, set_plain, yes_no_says, yes_no_plain, AreWords16, words_read, words_say, words_plain}
 use Rattle.rt1553_export.proofs.FullSheet.{row_of, row_made, Says, text_put, cell_is, entry_is, is_entry_by}
@@ -157,25 +157,25 @@ module _ (s : Sheet) (header : row_fields s.header ≡ header_cells) where
 
   pub receive_entry : (to : List ℕ) → IsWordCell to → (n mask : ℕ) → n ≤ 30 → mask < 2 ^ 32 → (e : Entry) → is_entry s e (row_of (receive_row to n mask)) ≡ is_entry_by e (codes "receive") []
   receive_entry to t n mask l fits =
-      message_entry (receive_row to n mask) (codes "receive") (two_digits n) (set_text 1 mask) to [] (is_said mask) _ _ _ _ _ refl receive_cell (two_cell n (omega arith)) (set_cell 1 mask (omega arith) fits) t.says trim_nothing (truth_cell (not (mask == 0)))
+      message_entry (receive_row to n mask) (codes "receive") (two_digits n) (set_text 1 mask) to [] (legal_cell mask) _ _ _ _ _ refl receive_cell (two_cell n (omega arith)) (set_cell 1 mask (omega arith) fits) t.says trim_nothing (truth_cell (not (mask == 0)))
 
   pub receive_rule : (to : List ℕ) → IsWordCell to → (n mask : ℕ) → n ≤ 30 → mask < 2 ^ 32 → Becomes entry.Rule (receive_row to n mask) (rule_data to (codes "receive") n mask)
   receive_rule to t n mask l fits = record {
     is = receive_entry to t n mask l fits entry.Rule;
-    data_is = rule_made (receive_row to n mask) (codes "receive") (two_digits n) (set_text 1 mask) to [] (is_said mask) _ _ _ _ _ refl receive_cell receive_cell (two_cell n (omega arith)) (set_cell 1 mask (omega arith) fits) t.says t.small trim_nothing (truth_cell (not (mask == 0)));
+    data_is = rule_made (receive_row to n mask) (codes "receive") (two_digits n) (set_text 1 mask) to [] (legal_cell mask) _ _ _ _ _ refl receive_cell receive_cell (two_cell n (omega arith)) (set_cell 1 mask (omega arith) fits) t.says t.small trim_nothing (truth_cell (not (mask == 0)));
   }
 
   -- ---- a subaddress with the words that it holds
 
   pub transmit_entry : (n : ℕ) (held : ℕ × List ℕ) → n ≤ 30 → IsHeld held → (e : Entry) → is_entry s e (row_of (transmit_row n held)) ≡ is_entry_by e (codes "transmit") (words_cell held.1)
   transmit_entry n held l is =
-      message_entry (transmit_row n held) (codes "transmit") (two_digits n) (set_text 1 held.0) (codes "own") (words_cell held.1) (is_said held.0) _ _ _ _ _ refl transmit_cell (two_cell n (omega arith)) (set_cell 1 held.0 (omega arith) is.0) own_cell.says
+      message_entry (transmit_row n held) (codes "transmit") (two_digits n) (set_text 1 held.0) (codes "own") (words_cell held.1) (legal_cell held.0) _ _ _ _ _ refl transmit_cell (two_cell n (omega arith)) (set_cell 1 held.0 (omega arith) is.0) own_cell.says
       (trim_plain (words_cell held.1) (block_cell held.1 is.1).plain) (truth_cell (not (held.0 == 0)))
 
   pub transmit_rule : (n : ℕ) (held : ℕ × List ℕ) → n ≤ 30 → IsHeld held → Becomes entry.Rule (transmit_row n held) (rule_data (codes "own") (codes "transmit") n held.0)
   transmit_rule n held l is = record {
     is = transmit_entry n held l is entry.Rule;
-    data_is = rule_made (transmit_row n held) (codes "transmit") (two_digits n) (set_text 1 held.0) (codes "own") (words_cell held.1) (is_said held.0) _ _ _ _ _ refl transmit_cell transmit_cell (two_cell n (omega arith)) (set_cell 1 held.0 (omega arith) is.0) own_cell.says own_cell.small
+    data_is = rule_made (transmit_row n held) (codes "transmit") (two_digits n) (set_text 1 held.0) (codes "own") (words_cell held.1) (legal_cell held.0) _ _ _ _ _ refl transmit_cell transmit_cell (two_cell n (omega arith)) (set_cell 1 held.0 (omega arith) is.0) own_cell.says own_cell.small
         (trim_plain (words_cell held.1) (block_cell held.1 is.1).plain) (truth_cell (not (held.0 == 0)));
   }
 
@@ -202,7 +202,7 @@ module _ (s : Sheet) (header : row_fields s.header ≡ header_cells) where
   pub codes_mode : (to : List ℕ) → IsWordCell to → (mask : ℕ) → mask < 2 ^ 32 → Becomes entry.Mode (mode_codes_row to mask) (mode_data to mask)
   codes_mode to t mask fits = record {
     is = codes_entry to t mask fits entry.Mode;
-    data_is = mode_made (mode_codes_row to mask) (set_text 0 mask) to (is_said mask) _ _ _ refl (set_cell 0 mask (omega arith) fits) t.says t.small (truth_cell (not (mask == 0)));
+    data_is = mode_made (mode_codes_row to mask) (set_text 0 mask) to (legal_cell mask) _ _ _ refl (set_cell 0 mask (omega arith) fits) t.says t.small (truth_cell (not (mask == 0)));
   }
 
   -- ---- all rows

@@ -24,8 +24,8 @@ use Rattle.rt1553_import.specs.Columns.{column_name, all_columns, place_from, ce
 use Rattle.rt1553_import.specs.Kinds.{kind_name, row_kind, is_setting, takes}
 use Rattle.rt1553_import.specs.Reading.{row_fields}
 use Rattle.rt1553_import.specs.Tree.{table_tree}
-use Rattle.rt1553_import.specs.Places.{placed, is_hidden, told}
-use Rattle.rt1553_import.specs.TableFaults.{fault_where, fault_if_any, header_place, second_fault, second_place, column_fault, no_kind_fault, header_faults, is_set_in, kind_fault, initial_fault, taken_fault, cell_fault, kind_faults, last_place, row_faults, rows_faults, or_others, table_faults}
+use Rattle.rt1553_import.specs.Places.{placed_fault, is_hidden, reported_faults}
+use Rattle.rt1553_import.specs.TableFaults.{fault_where, fault_if_any, second_fault, column_fault_by, column_fault, header_faults, is_set_in, kind_fault, initial_fault, taken_fault, cell_fault, kind_faults, last_place, row_faults, rows_faults, or_others, table_faults}
 use Rattle.rt1553_toml.specs.Sets.{two_digits}
 use Rattle.rt1553_toml.specs.inner.FullTree.{from_number, initial_data, rules_by, modes_by, initials_by, full_tree}
 use Rattle.rt1553_toml.proofs.TreeFaults.{AllIn, AllIn-append, IsMask32, all_masks, from_number_in, own_mode_fits, broadcast_mode_fits, rules_few, length-from_number, count_items_of, full_tree_faultless}
@@ -75,13 +75,10 @@ no_second column.Name = refl
 
 module _ (s : Sheet) (header : row_fields s.header ≡ header_cells) where
   one_column : (c : TableColumn) → column_fault s c ≡ None
-  one_column c = ap (λ o. second_fault s c (second_place s c o)) (place_is s header c) ∙ ap (second_fault s c) (ap (place_from (column_name c) (column_place c + 1)) header ∙ no_second c)
-
-  has_kind : no_kind_fault s ≡ None
-  has_kind = ap (λ o. cond (is_none o) (Some (fault_where (header_place s 0) fault.NoKind)) None) (place_is s header column.Kind)
+  one_column c = ap (column_fault_by s c) (place_is s header c) ∙ ap (second_fault s c) (ap (place_from (column_name c) (column_place c + 1)) header ∙ no_second c)
 
   header_faultless : header_faults s ≡ []
-  header_faultless = λ j. fault_if_any (has_kind j) ++ flat_none (column_fault s) all_columns one_column j
+  header_faultless = flat_none (column_fault s) all_columns one_column
 
   -- ---- a row without fault
 
@@ -290,11 +287,11 @@ module _ (s : Sheet) (header : row_fields s.header ≡ header_cells) where
         ((address_fine, a, refl), ((broadcast_fine, b, refl), ((wraparound_fine, w, refl), ((accept_fine, c, refl), ((vector_fine, x, refl), tt)))))
         (rest_faultless (all_messages v ++ all_codes v.tables) others_faultless _))))))
 
-    pub full_table_faultless : s.rows.items ≡ map row_of (full_rows v) → told s ≡ []
+    pub full_table_faultless : s.rows.items ≡ map row_of (full_rows v) → reported_faults s ≡ []
     unfolding table_faults
     full_table_faultless rows =
         let header_none = header_faultless in
         let rows_none : rows_faults s [] s.rows.items ≡ [] = ap (rows_faults s []) rows ∙ all_faultless in
-        let tree_none : map (placed s) (told_faults (table_tree s)) ≡ [] = ap (λ t. map (placed s) (told_faults t)) (full_table_tree s header v is rows) ∙ ap (map (placed s)) (tree_faultless v is) in
+        let tree_none : map (placed_fault s) (told_faults (table_tree s)) ≡ [] = ap (λ t. map (placed_fault s) (told_faults t)) (full_table_tree s header v is rows) ∙ ap (map (placed_fault s)) (tree_faultless v is) in
         let table_none : table_faults s ≡ [] = (λ j. or_others (header_none j) (rows_none j)) in
         (λ j. table_none j ++ filter (λ f. not (is_hidden (table_none j) f)) (tree_none j))

@@ -11,7 +11,7 @@ use Rattle.rt1553_toml.specs.Sets.{two_digits, set_text}
 use Rattle.rt1553_toml.specs.inner.FullTree.{from_number}
 use Rattle.rt1553_toml.proofs.TreeFaults.{AllIn, AllIn-append, IsMask32, all_masks, all_blocks, from_number_in, own_mode_fits, broadcast_mode_fits}
 use Rattle.rt1553_export.specs.inner.Rows.{header_cells, setting_cells, message_cells, mode_cells}
-use Rattle.rt1553_export.specs.inner.Full.{yes_no, is_said, word_cell, wrap_cell, words_cell, receive_row, transmit_row, mode_codes_row, all_settings, all_messages, all_codes, full_rows}
+use Rattle.rt1553_export.specs.inner.Full.{yes_no, legal_cell, word_cell, wrap_cell, words_cell, receive_row, transmit_row, mode_codes_row, all_settings, all_messages, all_codes, full_rows}
 use Rattle.rt1553_export.proofs.Trimmed.{IsGraphic, BeginsGraphic, EndsGraphic, IsPlain, plain_by}
 use Rattle.rt1553_export.proofs.CellValues.{two_plain, set_plain, yes_no_plain, wrap_plain, word_plain}
 use Rattle.rt1553_export.proofs.RowLaws.{length-zip}
@@ -79,16 +79,16 @@ message_kept direction sub words to initial legal a b k t i l = record {
 
 receive_kept : (to : List ℕ) → IsPlain to → (n mask : ℕ) → n ≤ 30 → mask < 2 ^ 32 → IsKept (receive_row to n mask)
 receive_kept to t n mask l fits =
-    message_kept (codes "receive") (two_digits n) (set_text 1 mask) to [] (is_said mask) (plain_by (codes "receive") refl) (two_plain n (omega arith)) (set_plain 1 mask (omega arith) fits) t none (yes_no_plain (not (mask == 0)))
+    message_kept (codes "receive") (two_digits n) (set_text 1 mask) to [] (legal_cell mask) (plain_by (codes "receive") refl) (two_plain n (omega arith)) (set_plain 1 mask (omega arith) fits) t none (yes_no_plain (not (mask == 0)))
 
 transmit_kept : (n : ℕ) (held : ℕ × List ℕ) → n ≤ 30 → IsHeld held → IsKept (transmit_row n held)
 transmit_kept n held l is =
-    message_kept (codes "transmit") (two_digits n) (set_text 1 held.0) (codes "own") (words_cell held.1) (is_said held.0) (plain_by (codes "transmit") refl) (two_plain n (omega arith)) (set_plain 1 held.0 (omega arith) is.0)
+    message_kept (codes "transmit") (two_digits n) (set_text 1 held.0) (codes "own") (words_cell held.1) (legal_cell held.0) (plain_by (codes "transmit") refl) (two_plain n (omega arith)) (set_plain 1 held.0 (omega arith) is.0)
     (plain_by (codes "own") refl) (so (words_cell held.1) (block_cell held.1 is.1).plain) (yes_no_plain (not (held.0 == 0)))
 
 codes_kept : (to : List ℕ) → IsPlain to → (mask : ℕ) → mask < 2 ^ 32 → IsKept (mode_codes_row to mask)
 codes_kept to t mask fits = record {
-  same = λ j. so (codes "mode") mode_plain j ∷ none j ∷ none j ∷ none j ∷ so (set_text 0 mask) (set_plain 0 mask (omega arith) fits) j ∷ so to t j ∷ none j ∷ so (is_said mask) (yes_no_plain (not (mask == 0))) j ∷ none j ∷ [];
+  same = λ j. so (codes "mode") mode_plain j ∷ none j ∷ none j ∷ none j ∷ so (set_text 0 mask) (set_plain 0 mask (omega arith) fits) j ∷ so to t j ∷ none j ∷ so (legal_cell mask) (yes_no_plain (not (mask == 0))) j ∷ none j ∷ [];
   said = refl;
 }
 

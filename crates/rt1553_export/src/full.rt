@@ -3,7 +3,7 @@ ghost use Rattle.std.specs.Prelude.{◌≡◌, ◌<◌, ◌++◌, drop, IfOk, On
 ghost use Rattle.std.specs.List.{zip};
 ghost use Rattle.rt1553_toml.specs.inner.FullTree.{from_number};
 ghost use Rattle.rt1553_export.specs.inner.Rows.{setting_cells, row_bytes, rows_text};
-ghost use Rattle.rt1553_export.specs.inner.Full.{yes_no, is_said, word_cell, wrap_cell, spaced, receive_row, transmit_row, mode_codes_row, all_settings, all_messages, all_codes, full_text};
+ghost use Rattle.rt1553_export.specs.inner.Full.{yes_no, legal_cell, word_cell, wrap_cell, spaced_words, receive_row, transmit_row, mode_codes_row, all_settings, all_messages, all_codes, full_text};
 
 use crate::records::{MessageCells, push_header, push_message_cells, push_mode, push_setting};
 use bus_legal::{Normal, Tables};
@@ -18,9 +18,9 @@ fn yes_no(truth: bool) -> &'static [u8]
     if truth { b"yes" } else { b"no" }
 }
 
-/// Whether what is said of a set is that it's legal: of an empty one it isn't.
-fn is_said(mask: u32) -> &'static [u8]
-    ensures { result.now ≡ is_said mask }
+/// What the column `legal` says of a set: no where it is empty.
+fn legal_cell(mask: u32) -> &'static [u8]
+    ensures { result.now ≡ legal_cell mask }
 {
     yes_no(mask != 0)
 }
@@ -34,8 +34,8 @@ fn word_cell(word: u16) -> [u8; 6]
 }
 
 /// Words, each behind a space.
-fn spaced(alloc: Global, words: &[u16; 32]) -> Result<Vec<u8>, AllocError>
-    ensures { IfOk result (λ text. text.items ≡ spaced words.now) }
+fn spaced_words(alloc: Global, words: &[u16; 32]) -> Result<Vec<u8>, AllocError>
+    ensures { IfOk result (λ text. text.items ≡ spaced_words words.now) }
 {
     let mut text = Vec::new(alloc);
     for word in words {
@@ -85,7 +85,7 @@ fn push_receive(
         words: words.as_str().as_bytes(),
         to,
         initial: b"",
-        legal: is_said(counts),
+        legal: legal_cell(counts),
     };
     push_message_cells(alloc, text, message)
 }
@@ -127,14 +127,14 @@ fn push_transmit(
     ensures { OnOk result (text.new.items ≡ text.old.items ++ row_bytes (transmit_row subaddress (counts, row.now))) }
 {
     let words = set_text(alloc, 1, counts)?;
-    let held = spaced(alloc, row)?;
+    let held = spaced_words(alloc, row)?;
     let message = MessageCells {
         direction: b"transmit",
         subaddress: &two_digits(subaddress),
         words: words.as_str().as_bytes(),
         to: b"own",
         initial: behind_first(held.as_slice()),
-        legal: is_said(counts),
+        legal: legal_cell(counts),
     };
     push_message_cells(alloc, text, message)
 }
@@ -170,7 +170,14 @@ fn push_codes(alloc: Global, text: &mut Vec<u8>, to: &[u8], mask: u32) -> Result
     ensures { OnOk result (text.new.items ≡ text.old.items ++ row_bytes (mode_codes_row to.now mask)) }
 {
     let set = set_text(alloc, 0, mask)?;
-    push_mode(alloc, text, set.as_str().as_bytes(), to, is_said(mask), b"")
+    push_mode(
+        alloc,
+        text,
+        set.as_str().as_bytes(),
+        to,
+        legal_cell(mask),
+        b"",
+    )
 }
 
 /// Adds the mode codes of both kinds.

@@ -28,17 +28,12 @@ is_hexadecimal _ = false
 abbrev pub cell_number : List ℕ → Option ℕ
 cell_number text = if is_hexadecimal text then number_in 16 (drop 2 text) else number_in 10 text
 
--- a spelling of true: `yes` or `true`, in any capitals
-abbrev pub is_yes : List ℕ → Bool
-is_yes text = str_eq_ignore_ascii_case text (codes "yes") || str_eq_ignore_ascii_case text (codes "true")
-
--- a spelling of false: `no` or `false`, in any capitals
-abbrev pub is_no : List ℕ → Bool
-is_no text = str_eq_ignore_ascii_case text (codes "no") || str_eq_ignore_ascii_case text (codes "false")
-
--- the truth value that a text names
+-- the truth value that a text names: true by `yes` or `true`, false by `no` or `false`, in any capitals
 abbrev pub cell_truth : List ℕ → Option Bool
-cell_truth text = if is_yes text then Some true else if is_no text then Some false else None
+cell_truth text =
+    if str_eq_ignore_ascii_case text (codes "yes") || str_eq_ignore_ascii_case text (codes "true") then Some true
+    else if str_eq_ignore_ascii_case text (codes "no") || str_eq_ignore_ascii_case text (codes "false") then Some false
+    else None
 
 -- a word: 1 to 4 hexadecimal digits
 abbrev pub cell_word : List ℕ → Option ℕ

@@ -11,12 +11,12 @@ use Rattle.rt1553_import.specs.declared.sheet.Sheet.{Sheet}
 use Rattle.rt1553_import.specs.NoTable.{IsNoTable}
 use Rattle.rt1553_import.specs.Reading.{IsSheetOf}
 use Rattle.rt1553_import.specs.Tree.{table_tree}
-use Rattle.rt1553_import.specs.Places.{told}
+use Rattle.rt1553_import.specs.Places.{reported_faults}
 
--- the text is a table, this one, and nothing is told of it
+-- the text is a table, this one, and no fault is reported of it
 pub record IsFaultless (table : List ℕ) (sheet : Sheet) : Type 0 where
   pub read : IsSheetOf table sheet
-  pub faultless : told sheet ≡ []
+  pub faultless : reported_faults sheet ≡ []
 
 -- the text is an accepted profile text, and its profile is the one that the table says
 pub record SaysTable (sheet : Sheet) (text : List ℕ) : Type 0 where
@@ -39,10 +39,10 @@ pub record HasLongNames (table : List ℕ) : Type 0 where
   pub says : SaysTable sheet profile_text
   pub many : 1048576 < length profile_text
 
--- this is the table, with all the faults that are told of it, and there is one
+-- this is the table, with all the faults that are reported of it, and there is one
 pub record HasFaults (table : List ℕ) (faulty : FaultyTable) : Type 0 where
   pub read : IsSheetOf table faulty.sheet
-  pub all : faulty.faults.items ≡ told faulty.sheet
+  pub all : faulty.faults.items ≡ reported_faults faulty.sheet
   pub some : 0 < length faulty.faults.items
 
 -- why a table is refused: its faults, or that it is no table; want of memory says nothing of it

@@ -1,13 +1,17 @@
 -- Where in a table the faults of its profile stand.
-use Rattle.std.specs.Prelude.{ℕ, ◌-◌, ◌==◌, ◌||◌, ◌&&◌, not, Bool, true, false, List, ◌++◌, map, filter, Option, Some, None, slice_get}
+use Rattle.std.specs.Prelude.{ℕ, ◌-◌, ◌==◌, ◌||◌, ◌&&◌, nat_lt, not, Bool, true, false, List, ◌++◌, map, filter, find, reverse, Option, Some, None, option_map, slice_get, codes}
 use Rattle.std.specs.List.{list_any}
+use Rattle.std.specs.Result.{result_unwrap_or}
+use Rattle.std.specs.Str.{str_eq_ignore_ascii_case}
+use Rattle.bus_word.specs.Mask.{has_bit}
 use Rattle.bus_profile.specs.declared.fault.Key.{Key}
 use Rattle.bus_profile.specs.declared.fault.Key.TheVariants as key
 use Rattle.bus_profile.specs.declared.fault.Part.{Part}
 use Rattle.bus_profile.specs.declared.fault.Part.TheVariants as part
 use Rattle.bus_profile.specs.declared.fault.ProfileFault.{ProfileFault}
-use Rattle.bus_profile.specs.declared.fault.ProfileFault.TheVariants.{Missing, WrongKind, OutOfRange, BadRanges, TooMany}
+use Rattle.bus_profile.specs.declared.fault.ProfileFault.TheVariants.{Missing, WrongKind, OutOfRange, BadRanges, TooMany, RequiredCode}
 use Rattle.bus_profile.specs.AllFaults.{told_faults}
+use Rattle.bus_profile.specs.RangesOf.{ranges_of}
 use Rattle.rt1553_import.specs.declared.column.TableColumn.{TableColumn}
 use Rattle.rt1553_import.specs.declared.column.TableColumn.TheVariants as column
 use Rattle.rt1553_import.specs.declared.kind.RowKind.TheVariants as kind
@@ -19,8 +23,9 @@ use Rattle.rt1553_import.specs.declared.sheet.Sheet.{Sheet}
 use Rattle.rt1553_import.specs.declared.sheet.TableRow.{TableRow}
 use Rattle.rt1553_import.specs.declared.tree.Entry.{Entry}
 use Rattle.rt1553_import.specs.declared.tree.Entry.TheVariants as entry
-use Rattle.rt1553_import.specs.Columns.{row_place}
-use Rattle.rt1553_import.specs.Tree.{entry_rows, setting_row, table_tree}
+use Rattle.rt1553_import.specs.Cells.{cell_number}
+use Rattle.rt1553_import.specs.Columns.{cell, row_place}
+use Rattle.rt1553_import.specs.Tree.{is_entry, entry_rows, setting_row, table_tree}
 use Rattle.rt1553_import.specs.TableFaults.{table_faults}
 
 -- the row that became the entry of this number, from 1
@@ -63,31 +68,46 @@ key_column key.At = column.Initial
 key_column key.Words = column.Initial
 key_column _ = column.Value
 
--- a place in a row; in the header where there is no row
-abbrev pub place_or_header : Sheet → Option TableRow → TableColumn → CellPlace
-place_or_header sheet None c = row_place sheet sheet.header column.Kind
-place_or_header sheet (Some row) c = row_place sheet row c
+-- the place of a row in a column, where there is a row
+abbrev pub place_in : Sheet → Option TableRow → TableColumn → Option CellPlace
+place_in sheet row c = option_map (λ r. row_place sheet r c) row
 
 -- where a key of a part of the profile comes from
-abbrev pub key_place : Sheet → Part → Key → CellPlace
-key_place sheet p k = place_or_header sheet (part_row sheet p k) (key_column k)
+abbrev pub key_place : Sheet → Part → Key → Option CellPlace
+key_place sheet p k = place_in sheet (part_row sheet p k) (key_column k)
 
--- where a fault of the profile stands; one that is of no row stands in the header
-abbrev pub fault_place : Sheet → ProfileFault → CellPlace
+-- the text of mode codes, whose number this is, has a code
+abbrev pub names_code : ℕ → List ℕ → Option ℕ → Bool
+names_code code text (Some number) = number == code
+names_code code text None = nat_lt code 32 && has_bit (result_unwrap_or (ranges_of 0 31 text) 0) code
+
+-- the row of mode codes speaks of this own code
+abbrev pub has_own_code : Sheet → ℕ → TableRow → Bool
+has_own_code sheet code row =
+    (is_entry sheet entry.Mode row && not (str_eq_ignore_ascii_case (cell sheet row column.To) (codes "broadcast")))
+    && names_code code (cell sheet row column.Code) (cell_number (cell sheet row column.Code))
+
+-- the row that says whether an own code is legal: the last that speaks of it
+abbrev pub code_row : Sheet → ℕ → Option TableRow
+code_row sheet code = find (has_own_code sheet code) (reverse sheet.rows.items)
+
+-- where a fault of the profile stands; one that is of no row has no place
+abbrev pub fault_place : Sheet → ProfileFault → Option CellPlace
 fault_place sheet (Missing p k) = key_place sheet p k
 fault_place sheet (WrongKind p k) = key_place sheet p k
 fault_place sheet (OutOfRange p k) = key_place sheet p k
 fault_place sheet (BadRanges p k) = key_place sheet p k
 fault_place sheet (TooMany p k) = key_place sheet p k
-fault_place sheet _ = place_or_header sheet None column.Kind
+fault_place sheet (RequiredCode code) = place_in sheet (code_row sheet code) column.Legal
+fault_place sheet _ = None
 
 -- a fault of the profile as a fault of the table, at its place
-abbrev pub placed : Sheet → ProfileFault → TableFault
-placed sheet f = record { place = fault_place sheet f; kind = fault.Profile f }
+abbrev pub placed_fault : Sheet → ProfileFault → TableFault
+placed_fault sheet f = record { place = fault_place sheet f; kind = fault.Profile f }
 
 -- With such a fault of the header no row says anything.
 abbrev pub hides_all : TableFaultKind → Bool
-hides_all fault.NoKind = true
+hides_all (fault.NoColumn c) = true
 hides_all (fault.TwoColumns c) = true
 hides_all _ = false
 
@@ -96,9 +116,14 @@ abbrev pub hides_row : TableFaultKind → Bool
 hides_row fault.Fields = true
 hides_row _ = false
 
+-- both places are in one row, and in one column if the row alone is not enough
+abbrev pub shares_place : Bool → Option CellPlace → Option CellPlace → Bool
+shares_place by_row (Some a) (Some b) = (a.row == b.row) && (by_row || (a.column == b.column))
+shares_place by_row _ _ = false
+
 -- A fault of the table hides the faults of the profile in its own cell, in its row, or all of them.
 abbrev pub hides : TableFault → TableFault → Bool
-hides t f = hides_all t.kind || ((t.place.row == f.place.row) && (hides_row t.kind || (t.place.column == f.place.column)))
+hides t f = hides_all t.kind || shares_place (hides_row t.kind) t.place f.place
 
 -- one of these faults hides it
 abbrev pub is_hidden : List TableFault → TableFault → Bool
@@ -106,8 +131,8 @@ is_hidden ts f = list_any (λ t. hides t f) ts
 
 -- the faults of the profile that the table says, each at its place, but for those that these hide
 abbrev pub profile_faults : Sheet → List TableFault → List TableFault
-profile_faults sheet ts = filter (λ f. not (is_hidden ts f)) (map (placed sheet) (told_faults (table_tree sheet)))
+profile_faults sheet ts = filter (λ f. not (is_hidden ts f)) (map (placed_fault sheet) (told_faults (table_tree sheet)))
 
--- all that is told of a table: its own faults, and then those of the profile that it says
-abbrev pub told : Sheet → List TableFault
-told sheet = table_faults sheet ++ profile_faults sheet (table_faults sheet)
+-- all faults that are reported of a table: its own, and then those of the profile that it says
+abbrev pub reported_faults : Sheet → List TableFault
+reported_faults sheet = table_faults sheet ++ profile_faults sheet (table_faults sheet)

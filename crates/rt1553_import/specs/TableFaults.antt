@@ -1,5 +1,5 @@
 -- The faults of a table itself, apart from the profile that it says.
-use Rattle.std.specs.Prelude.{ℕ, ◌+◌, ◌==◌, ◌&&◌, min, Bool, if◌then◌else◌, is_none, List, [], ◌∷◌, ◌++◌, flat_map, length, Option, Some, None}
+use Rattle.std.specs.Prelude.{ℕ, ◌+◌, ◌==◌, ◌&&◌, min, Bool, true, false, if◌then◌else◌, is_none, List, [], ◌∷◌, ◌++◌, flat_map, length, Option, Some, None}
 use Rattle.std.specs.List.{list_any}
 use Rattle.csv.specs.Records.{fields_of}
 use Rattle.rt1553_import.specs.declared.column.TableColumn.{TableColumn}
@@ -18,7 +18,7 @@ use Rattle.rt1553_import.specs.Tree.{is_kind}
 
 -- a fault of this kind at this place
 abbrev pub fault_where : CellPlace → TableFaultKind → TableFault
-fault_where place k = record { place = place; kind = k }
+fault_where place k = record { place = Some place; kind = k }
 
 -- a list of the fault, or no fault
 abbrev pub fault_if_any : Option TableFault → List TableFault
@@ -27,31 +27,40 @@ fault_if_any (Some f) = f ∷ []
 
 -- ---- the header
 
--- the place of a field of the header, which is counted from 0
-abbrev pub header_place : Sheet → ℕ → CellPlace
-header_place sheet place = record { row = sheet.header.line; column = place + 1 }
+-- a row of this kind may have text in the column
+abbrev pub takes_if : TableColumn → Option RowKind → Bool
+takes_if c None = false
+takes_if c (Some k) = takes k c
 
--- the second column of this name
-abbrev pub second_place : Sheet → TableColumn → Option ℕ → Option ℕ
-second_place sheet c None = None
-second_place sheet c (Some first) = place_from (column_name c) (first + 1) (fields_of sheet.header.fields)
+-- one of the rows may have text in the column
+abbrev pub is_taken : Sheet → TableColumn → Bool
+is_taken sheet c = list_any (λ row. takes_if c (row_kind (cell sheet row column.Kind))) sheet.rows.items
+
+-- The header needs the column: `kind`, and those without which a setting, a message of data or mode codes say nothing.
+abbrev pub is_needed : Sheet → TableColumn → Bool
+is_needed sheet column.Kind = true
+is_needed sheet column.Value = is_taken sheet column.Value
+is_needed sheet column.Subaddress = is_taken sheet column.Subaddress
+is_needed sheet column.Code = is_taken sheet column.Code
+is_needed sheet _ = false
 
 -- the fault of a second column of the same name, where there is one
 abbrev pub second_fault : Sheet → TableColumn → Option ℕ → Option TableFault
 second_fault sheet c None = None
-second_fault sheet c (Some place) = Some (fault_where (header_place sheet place) (fault.TwoColumns c))
+second_fault sheet c (Some place) = Some (fault_where (record { row = sheet.header.line; column = place + 1 }) (fault.TwoColumns c))
 
--- the fault of a column that is there twice
+-- the fault of a column by its first place: it is needed and not there, or there twice
+abbrev pub column_fault_by : Sheet → TableColumn → Option ℕ → Option TableFault
+column_fault_by sheet c None = if is_needed sheet c then Some (fault_where (row_place sheet sheet.header c) (fault.NoColumn c)) else None
+column_fault_by sheet c (Some first) = second_fault sheet c (place_from (column_name c) (first + 1) (fields_of sheet.header.fields))
+
+-- the fault of a column of the header
 abbrev pub column_fault : Sheet → TableColumn → Option TableFault
-column_fault sheet c = second_fault sheet c (second_place sheet c (place_of sheet c))
+column_fault sheet c = column_fault_by sheet c (place_of sheet c)
 
--- the fault of a header without the column `kind`
-abbrev pub no_kind_fault : Sheet → Option TableFault
-no_kind_fault sheet = if is_none (place_of sheet column.Kind) then Some (fault_where (header_place sheet 0) fault.NoKind) else None
-
--- all faults of the header: the missing column first, then each column that is there twice
+-- all faults of the header
 abbrev pub header_faults : Sheet → List TableFault
-header_faults sheet = fault_if_any (no_kind_fault sheet) ++ flat_map (λ c. fault_if_any (column_fault sheet c)) all_columns
+header_faults sheet = flat_map (λ c. fault_if_any (column_fault sheet c)) all_columns
 
 -- ---- a row
 

@@ -23,13 +23,9 @@ use Rattle.rt1553_import.specs.Cells.{has_no_text, cell_words, cell_value}
 abbrev pub is_kind : Sheet → RowKind → TableRow → Bool
 is_kind sheet k row = str_eq_ignore_ascii_case (cell sheet row column.Kind) (kind_name k)
 
--- the row is a message of data
-abbrev pub is_data_row : Sheet → TableRow → Bool
-is_data_row sheet row = is_kind sheet kind.Receive row || is_kind sheet kind.Transmit row || is_kind sheet kind.Both row
-
 -- the row becomes such an entry: each message of data a rule, and each transmit row with initial words an initial entry too
 abbrev pub is_entry : Sheet → Entry → TableRow → Bool
-is_entry sheet entry.Rule row = is_data_row sheet row
+is_entry sheet entry.Rule row = (is_kind sheet kind.Receive row || is_kind sheet kind.Transmit row) || is_kind sheet kind.Both row
 is_entry sheet entry.Mode row = is_kind sheet kind.Mode row
 is_entry sheet entry.Initial row = is_kind sheet kind.Transmit row && not (has_no_text (cell sheet row column.Initial))
 

@@ -2,7 +2,7 @@
 ghost use Rattle.std.specs.Prelude.{◌≡◌, ◌≤◌, ◌==◌, IfOk, map, option_map};
 ghost use Rattle.std.specs.List.{slice_split};
 ghost use Rattle.toml.specs.View.{view};
-ghost use Rattle.rt1553_import.specs.Cells.{is_numeral, is_yes, is_no, number_in, cell_number, cell_truth, cell_word, cell_words, cell_value};
+ghost use Rattle.rt1553_import.specs.Cells.{is_numeral, number_in, cell_number, cell_truth, cell_word, cell_words, cell_value};
 
 use crate::alike::is_alike;
 use std::alloc::{AllocError, Global};
@@ -52,27 +52,13 @@ pub fn cell_number(text: &[u8]) -> Option<u32>
     }
 }
 
-/// Whether a text is a spelling of true.
-fn is_yes(text: &str) -> bool
-    ensures { result ≡ is_yes text.now }
-{
-    is_alike(text, "yes") || is_alike(text, "true")
-}
-
-/// Whether a text is a spelling of false.
-fn is_no(text: &str) -> bool
-    ensures { result ≡ is_no text.now }
-{
-    is_alike(text, "no") || is_alike(text, "false")
-}
-
 /// The truth value that a text names, in any capitals.
 pub fn cell_truth(text: &str) -> Option<bool>
     ensures { result ≡ cell_truth text.now }
 {
-    if is_yes(text) {
+    if is_alike(text, "yes") || is_alike(text, "true") {
         Some(true)
-    } else if is_no(text) {
+    } else if is_alike(text, "no") || is_alike(text, "false") {
         Some(false)
     } else {
         None

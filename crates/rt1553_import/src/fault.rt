@@ -13,8 +13,8 @@ use thiserror::Error;
 /// What is wrong at a place of a table.
 #[derive(Clone, Copy, Debug)]
 pub enum TableFaultKind {
-    /// The header has no column `kind`.
-    NoKind,
+    /// The header has no such column, and there are rows that say nothing without it.
+    NoColumn(TableColumn),
     /// A second column of the header has this name.
     TwoColumns(TableColumn),
     /// The row has not as many fields as the header.
@@ -33,10 +33,11 @@ pub enum TableFaultKind {
     Profile(ProfileFault),
 }
 
-/// A fault of a table, with its place.
+/// A fault of a table.
 #[derive(Clone, Copy, Debug)]
 pub struct TableFault {
-    pub place: CellPlace,
+    /// Its place; none where it is one of the whole table.
+    pub place: Option<CellPlace>,
     pub kind: TableFaultKind,
 }
 
@@ -58,7 +59,7 @@ pub enum ImportFault {
     #[error("table: {0}: names as long as this make a profile of over 1,048,576 bytes")]
     LongNames(CellPlace),
     /// A field is not in UTF-8; the line on which its record begins, from 1.
-    #[error("table: not UTF-8")]
+    #[error("table: row {0}: not UTF-8")]
     NotText(u64),
     /// The text is no CSV: the place of the first field with a misplaced quote, or without its closing quote.
     #[error("table: {0}: not CSV, a quote is misplaced or missing")]

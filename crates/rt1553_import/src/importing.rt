@@ -57,7 +57,7 @@ fn ordered_text(alloc: Global, sheet: &Sheet, text: String) -> Result<String, Al
     ensures { IfOk result (λ ordered. SaysTable sheet.now (string_bytes ordered)) }
 {
     let profile = profile_in(alloc, text.as_str())?;
-    let ordered = sheet.written(alloc)?;
+    let ordered = sheet.profile_text(alloc)?;
     match read_profile(alloc, ordered.as_str().as_bytes()) {
         Ok(back) if is_same_profile(&back, &profile) => Ok(ordered),
         Err(ProfileFault::Memory) => Err(AllocError),
@@ -76,7 +76,7 @@ pub fn faultless_sheet(alloc: Global, text: &[u8]) -> Result<(Sheet, Table), Imp
         Err(fault) => return Err(fault),
     };
     let root = sheet.table_of(alloc)?;
-    let faults = sheet.told(alloc, &root)?;
+    let faults = sheet.reported_faults(alloc, &root)?;
     if !faults.as_slice().is_empty() {
         return Err(ImportFault::Faults(FaultyTable { sheet, faults }));
     }

@@ -60,12 +60,10 @@ impl RowKind {
     pub fn of(text: &str) -> Option<RowKind>
         ensures { result ≡ row_kind text.now }
     {
-        for kind in ROW_KINDS {
-            if is_alike(text, kind.name()) {
-                return Some(kind);
-            }
-        }
-        None
+        ROW_KINDS
+            .iter()
+            .copied()
+            .find(|kind| is_alike(text, kind.name()))
     }
 
     /// Whether it is a key of the profile that holds one value.

@@ -3,14 +3,17 @@ ghost use Rattle.std.specs.Prelude.{◌≡◌, ◌≤◌, ◌++◌, IfOk, OnOk, 
 ghost use Rattle.bus_profile.specs.AllFaults.{told_faults};
 ghost use Rattle.toml.specs.View.{table_view};
 ghost use Rattle.rt1553_import.specs.Tree.{table_tree};
-ghost use Rattle.rt1553_import.specs.Places.{entry_row, root_row, part_row, key_column, key_place, fault_place, placed, hides, is_hidden, told};
+ghost use Rattle.rt1553_import.specs.Places.{entry_row, root_row, part_row, key_column, has_own_code, code_row, fault_place, placed_fault, hides, is_hidden, reported_faults};
 
+use crate::alike::is_alike;
+use crate::cells::cell_number;
 use crate::column::TableColumn;
 use crate::fault::{TableFault, TableFaultKind};
 use crate::kind::RowKind;
 use crate::sheet::{Sheet, TableRow};
 use crate::tree::Entry;
-use bus_profile::{Key, Part, ProfileFault, all_faults};
+use bus_profile::{Key, Part, ProfileFault, all_faults, parse_ranges};
+use bus_word::has_bit;
 use csv_rows::CellPlace;
 use std::alloc::{AllocError, Global};
 use toml::Table;
@@ -32,15 +35,17 @@ pub fn key_column(key: Key) -> TableColumn
 }
 
 impl TableFault {
-    /// Whether a fault of the profile is not told beside this one, of the table.
+    /// Whether a fault of the profile is not reported beside this one, of the table.
     fn hides(&self, fault: &TableFault) -> bool
         ensures { result ≡ hides self.now fault.now }
     {
         let hides_row = matches!(self.kind, TableFaultKind::Fields);
-        let is_in_row = self.place.row == fault.place.row;
-        match self.kind {
-            TableFaultKind::NoKind | TableFaultKind::TwoColumns(_) => true,
-            _ => is_in_row && (hides_row || self.place.column == fault.place.column),
+        match (self.kind, self.place, fault.place) {
+            (TableFaultKind::NoColumn(_) | TableFaultKind::TwoColumns(_), _, _) => true,
+            (_, Some(own), Some(other)) => {
+                own.row == other.row && (hides_row || own.column == other.column)
+            }
+            _ => false,
         }
     }
 }
@@ -115,33 +120,52 @@ impl Sheet {
         }
     }
 
-    /// The place of a key of a part; in the header where there is no row.
-    fn key_place(&self, part: Part, key: Key) -> CellPlace
-        ensures { result ≡ key_place self.now part key }
+    /// Whether a row of mode codes speaks of this own code.
+    fn has_own_code(&self, row: &TableRow, code: u8) -> bool
+        ensures { result ≡ has_own_code self.now code row.now }
     {
-        match self.part_row(part, key) {
-            Some(row) => self.place(row, key_column(key)),
-            None => self.place(&self.header, TableColumn::Kind),
-        }
+        let text = self.cell(row, TableColumn::Code);
+        self.is_entry(Entry::Mode, row)
+            && !is_alike(self.cell(row, TableColumn::To), "broadcast")
+            && match cell_number(text.as_bytes()) {
+                Some(number) => number == u32::from(code),
+                None => code < 32 && has_bit(parse_ranges(text, 0, 31).unwrap_or(0), code),
+            }
     }
 
-    /// Where a fault of the profile stands.
-    fn fault_place(&self, fault: ProfileFault) -> CellPlace
+    /// The row that says whether an own code is legal: the last that speaks of it.
+    fn code_row(&self, code: u8) -> Option<&TableRow>
+        ensures { option_map (λ row. row.now) result ≡ code_row self.now code }
+    {
+        self.rows
+            .as_slice()
+            .iter()
+            .rev()
+            .find(|row| self.has_own_code(row, code))
+    }
+
+    /// Where a fault of the profile stands; none where no row has it.
+    fn fault_place(&self, fault: ProfileFault) -> Option<CellPlace>
         ensures { result ≡ fault_place self.now fault }
     {
-        match fault {
+        let (row, column) = match fault {
             ProfileFault::Missing(part, key)
             | ProfileFault::WrongKind(part, key)
             | ProfileFault::OutOfRange(part, key)
             | ProfileFault::BadRanges(part, key)
-            | ProfileFault::TooMany(part, key) => self.key_place(part, key),
-            _ => self.place(&self.header, TableColumn::Kind),
+            | ProfileFault::TooMany(part, key) => (self.part_row(part, key), key_column(key)),
+            ProfileFault::RequiredCode(code) => (self.code_row(code), TableColumn::Legal),
+            _ => (None, TableColumn::Kind),
+        };
+        match row {
+            Some(row) => Some(self.place(row, column)),
+            None => None,
         }
     }
 
     /// A fault of the profile with its place.
-    fn placed(&self, fault: ProfileFault) -> TableFault
-        ensures { result ≡ placed self.now fault }
+    fn placed_fault(&self, fault: ProfileFault) -> TableFault
+        ensures { result ≡ placed_fault self.now fault }
     {
         TableFault {
             place: self.fault_place(fault),
@@ -151,20 +175,24 @@ impl Sheet {
 
     /// The faults of the profile with their places.
     fn placed_faults(&self, alloc: Global, root: &Table) -> Result<Vec<TableFault>, AllocError>
-        ensures { IfOk result (λ faults. faults.items ≡ map (placed self.now) (told_faults (table_view root.now))) }
+        ensures { IfOk result (λ faults. faults.items ≡ map (placed_fault self.now) (told_faults (table_view root.now))) }
     {
         let faults = all_faults(alloc, root)?;
         let mut placed = Vec::new(alloc);
         for fault in faults.as_slice() {
-            placed.push(self.placed(*fault))?;
+            placed.push(self.placed_fault(*fault))?;
         }
         Ok(placed)
     }
 
-    /// All that is told of the table, whose tree this is: its own faults, and those of the profile that these do not hide.
-    pub fn told(&self, alloc: Global, root: &Table) -> Result<Vec<TableFault>, AllocError>
+    /// All faults that are reported of the table, whose tree this is: its own, and those of the profile that these do not hide.
+    pub fn reported_faults(
+        &self,
+        alloc: Global,
+        root: &Table,
+    ) -> Result<Vec<TableFault>, AllocError>
         requires { table_view root.now ≡ table_tree self.now }
-        ensures { IfOk result (λ faults. faults.items ≡ told self.now) }
+        ensures { IfOk result (λ faults. faults.items ≡ reported_faults self.now) }
     {
         let own = self.table_faults(alloc)?;
         let placed = self.placed_faults(alloc, root)?;

@@ -82,15 +82,13 @@ impl Sheet {
     pub fn place(&self, row: &TableRow, column: TableColumn) -> CellPlace
         ensures { result ≡ row_place self.now row.now column }
     {
-        match self.place_of(column) {
-            Some(place) => CellPlace {
-                row: row.line,
-                column: place as u64 + 1,
-            },
-            None => CellPlace {
-                row: row.line,
-                column: 1,
-            },
+        let column = match self.place_of(column) {
+            Some(place) => place as u64 + 1,
+            None => 1,
+        };
+        CellPlace {
+            row: row.line,
+            column,
         }
     }
 }

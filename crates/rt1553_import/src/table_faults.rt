@@ -1,7 +1,7 @@
 //! The faults of a table itself, apart from the profile that it says.
 ghost use Rattle.std.specs.Prelude.{◌≡◌, ◌<◌, ◌-◌, ◌^◌, ◌++◌, [], IfOk, OnOk, flat_map};
-ghost use Rattle.rt1553_import.specs.Columns.{all_columns};
-ghost use Rattle.rt1553_import.specs.TableFaults.{fault_if_any, header_place, column_fault, no_kind_fault, header_faults, is_set_in, kind_fault, initial_fault, taken_fault, cell_fault, kind_faults, last_place, row_faults, rows_faults, table_faults};
+ghost use Rattle.rt1553_import.specs.Columns.{all_columns, row_place};
+ghost use Rattle.rt1553_import.specs.TableFaults.{fault_where, fault_if_any, is_taken, is_needed, column_fault, header_faults, is_set_in, kind_fault, initial_fault, taken_fault, cell_fault, kind_faults, last_place, row_faults, rows_faults, table_faults};
 
 use crate::cells::{cell_number, cell_words};
 use crate::column::{TABLE_COLUMNS, TableColumn};
@@ -22,40 +22,58 @@ fn push_some(faults: &mut Vec<TableFault>, fault: Option<TableFault>) -> Result<
 }
 
 impl Sheet {
-    /// A field of the header, by its place from 0.
-    fn header_place(&self, place: usize) -> CellPlace
-        requires { place < 2 ^ 64 - 1 }
-        ensures { result ≡ header_place self.now place }
+    /// A fault of this kind of a row in a column.
+    fn fault_at(&self, row: &TableRow, column: TableColumn, kind: TableFaultKind) -> TableFault
+        ensures { result ≡ fault_where (row_place self.now row.now column) kind }
     {
-        CellPlace {
-            row: self.header.line,
-            column: place as u64 + 1,
+        TableFault {
+            place: Some(self.place(row, column)),
+            kind,
         }
     }
 
-    /// The fault of a header without the column `kind`.
-    fn no_kind_fault(&self) -> Option<TableFault>
-        ensures { result ≡ no_kind_fault self.now }
+    /// Whether one of the rows may have text in the column.
+    fn is_taken(&self, column: TableColumn) -> bool
+        ensures { result ≡ is_taken self.now column }
     {
-        if self.place_of(TableColumn::Kind).is_some() {
-            return None;
-        }
-        Some(TableFault {
-            place: self.header_place(0),
-            kind: TableFaultKind::NoKind,
+        self.rows.as_slice().iter().any(|row| {
+            match RowKind::of(self.cell(row, TableColumn::Kind)) {
+                Some(kind) => kind.takes(column),
+                None => false,
+            }
         })
     }
 
-    /// The fault of a column that is there twice.
+    /// Whether the header needs the column: `kind`, or one without which a setting, a message of data or mode codes say nothing.
+    fn is_needed(&self, column: TableColumn) -> bool
+        ensures { result ≡ is_needed self.now column }
+    {
+        match column {
+            TableColumn::Kind => true,
+            TableColumn::Value | TableColumn::Subaddress | TableColumn::Code => self.is_taken(
+                column,
+            ),
+            _ => false,
+        }
+    }
+
+    /// The fault of a column of the header: it is needed and not there, or there twice.
     fn column_fault(&self, column: TableColumn) -> Option<TableFault>
         ensures { result ≡ column_fault self.now column }
     {
         let Some(first) = self.place_of(column) else {
-            return None;
+            if !self.is_needed(column) {
+                return None;
+            }
+            let kind = TableFaultKind::NoColumn(column);
+            return Some(self.fault_at(&self.header, column, kind));
         };
         match place_from(&self.header.fields, column.name(), first + 1) {
             Some(second) => Some(TableFault {
-                place: self.header_place(second),
+                place: Some(CellPlace {
+                    row: self.header.line,
+                    column: second as u64 + 1,
+                }),
                 kind: TableFaultKind::TwoColumns(column),
             }),
             None => None,
@@ -67,7 +85,6 @@ impl Sheet {
         ensures { IfOk result (λ faults. faults.items ≡ header_faults self.now) }
     {
         let mut faults = Vec::new(alloc);
-        push_some(&mut faults, self.no_kind_fault())?;
         for column in TABLE_COLUMNS {
             push_some(&mut faults, self.column_fault(column))?;
         }
@@ -78,12 +95,7 @@ impl Sheet {
     fn is_set_in(&self, kind: RowKind, rows: &[TableRow]) -> bool
         ensures { result ≡ is_set_in self.now kind rows.now }
     {
-        for row in rows {
-            if self.is_kind(row, kind) {
-                return true;
-            }
-        }
-        false
+        rows.iter().any(|row| self.is_kind(row, kind))
     }
 
     /// The fault of a setting that one of the rows before has.
@@ -91,10 +103,7 @@ impl Sheet {
         ensures { result ≡ kind_fault self.now before.now row.now kind }
     {
         if kind.is_setting() && self.is_set_in(kind, before) {
-            return Some(TableFault {
-                place: self.place(row, TableColumn::Kind),
-                kind: TableFaultKind::Twice,
-            });
+            return Some(self.fault_at(row, TableColumn::Kind, TableFaultKind::Twice));
         }
         None
     }
@@ -105,17 +114,12 @@ impl Sheet {
     {
         let subaddress = self.cell(row, TableColumn::Subaddress);
         if cell_number(subaddress.as_bytes()).is_none() {
-            return Ok(Some(TableFault {
-                place: self.place(row, TableColumn::Subaddress),
-                kind: TableFaultKind::OneSubaddress,
-            }));
+            let kind = TableFaultKind::OneSubaddress;
+            return Ok(Some(self.fault_at(row, TableColumn::Subaddress, kind)));
         }
         match cell_words(alloc, self.cell(row, TableColumn::Initial))? {
             Some(_) => Ok(None),
-            None => Ok(Some(TableFault {
-                place: self.place(row, TableColumn::Initial),
-                kind: TableFaultKind::NotWords,
-            })),
+            None => Ok(Some(self.fault_at(row, TableColumn::Initial, TableFaultKind::NotWords))),
         }
     }
 
@@ -154,10 +158,7 @@ impl Sheet {
         if kind.takes(column) {
             return self.taken_fault(alloc, before, row, kind, column);
         }
-        Ok(Some(TableFault {
-            place: self.place(row, column),
-            kind: TableFaultKind::NotTaken(column),
-        }))
+        Ok(Some(self.fault_at(row, column, TableFaultKind::NotTaken(column))))
     }
 
     /// Adds the faults of a row of this kind.
@@ -199,7 +200,7 @@ impl Sheet {
     {
         if row.fields.len() != self.header.fields.len() {
             faults.push(TableFault {
-                place: self.last_place(row),
+                place: Some(self.last_place(row)),
                 kind: TableFaultKind::Fields,
             })?;
             return Ok(());
@@ -207,10 +208,7 @@ impl Sheet {
         match RowKind::of(self.cell(row, TableColumn::Kind)) {
             Some(kind) => self.push_kind_faults(alloc, faults, before, row, kind),
             None => {
-                faults.push(TableFault {
-                    place: self.place(row, TableColumn::Kind),
-                    kind: TableFaultKind::UnknownKind,
-                })?;
+                faults.push(self.fault_at(row, TableColumn::Kind, TableFaultKind::UnknownKind))?;
                 Ok(())
             }
         }

@@ -1,7 +1,7 @@
 //! The tree of a table: the profile that it says, as a TOML table.
 ghost use Rattle.std.specs.Prelude.{◌≡◌, IfOk, OnOk, map, string_bytes, option_map};
 ghost use Rattle.toml.specs.View.{table_view, view};
-ghost use Rattle.rt1553_import.specs.Tree.{words_data, is_kind, is_data_row, is_entry, member_put, with_text, with_small_text, with_entries, with_scope, rule_entry_data, mode_entry_data, initial_entry_data, entry_data, entries_of, setting_row, setting_text, with_setting, with_settings, with_arrays, table_tree};
+ghost use Rattle.rt1553_import.specs.Tree.{words_data, is_kind, is_entry, member_put, with_text, with_small_text, with_entries, with_scope, rule_entry_data, mode_entry_data, initial_entry_data, entry_data, entries_of, setting_row, setting_text, with_setting, with_settings, with_arrays, table_tree};
 
 use crate::alike::is_alike;
 use crate::cells::{cell_value, cell_words};
@@ -88,21 +88,16 @@ impl Sheet {
         is_alike(self.cell(row, TableColumn::Kind), kind.name())
     }
 
-    /// Whether a row is a message of data.
-    fn is_message(&self, row: &TableRow) -> bool
-        ensures { result ≡ is_data_row self.now row.now }
-    {
-        self.is_kind(row, RowKind::Receive)
-            || self.is_kind(row, RowKind::Transmit)
-            || self.is_kind(row, RowKind::Both)
-    }
-
     /// Whether a row becomes such an entry.
     pub fn is_entry(&self, entry: Entry, row: &TableRow) -> bool
         ensures { result ≡ is_entry self.now entry row.now }
     {
         match entry {
-            Entry::Rule => self.is_message(row),
+            Entry::Rule => {
+                self.is_kind(row, RowKind::Receive)
+                    || self.is_kind(row, RowKind::Transmit)
+                    || self.is_kind(row, RowKind::Both)
+            }
             Entry::Mode => self.is_kind(row, RowKind::Mode),
             Entry::Initial => {
                 self.is_kind(row, RowKind::Transmit)
@@ -194,12 +189,10 @@ impl Sheet {
     pub fn setting_row(&self, kind: RowKind) -> Option<&TableRow>
         ensures { option_map (λ row. row.now) result ≡ setting_row self.now kind }
     {
-        for row in self.rows.as_slice() {
-            if self.is_kind(row, kind) {
-                return Some(row);
-            }
-        }
-        None
+        self.rows
+            .as_slice()
+            .iter()
+            .find(|row| self.is_kind(row, kind))
     }
 
     /// The text of the value of a setting: none where no row has it.

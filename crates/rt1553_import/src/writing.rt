@@ -172,7 +172,7 @@ impl Sheet {
     }
 
     /// The profile as a text.
-    pub fn written(&self, alloc: Global) -> Result<String, AllocError> {
+    pub fn profile_text(&self, alloc: Global) -> Result<String, AllocError> {
         let mut text = String::new(alloc);
         self.push_settings(alloc, &mut text)?;
         for row in self.rows.as_slice() {

@@ -108,7 +108,7 @@ const REFUSED: [(&[u8], &str); 18] = [
         b"\xef\xbb\xbf\"kind\"\r\n\"address\" ,1\r\n",
         "table: row 2, column 1: not CSV, a quote is misplaced or missing",
     ),
-    (b"kind,value\naddress,\xff\n", "table: not UTF-8"),
+    (b"kind,value\naddress,\xff\n", "table: row 2: not UTF-8"),
     (b"", "t:1:1: error: no column is named kind"),
     (
         b"\nvalue,to,value\n",
@@ -132,7 +132,7 @@ const REFUSED: [(&[u8], &str); 18] = [
     ),
     (
         b"kind,value\nbit,1\n",
-        "t:1:1: error: no row is of the kind address; its value is 0 to 30",
+        "t: error: no row is of the kind address; its value is 0 to 30",
     ),
     (
         b"value,kind\n31,address\nx,bit\n",
@@ -144,7 +144,7 @@ const REFUSED: [(&[u8], &str); 18] = [
     ),
     (
         b"kind,value,code,legal\naddress,1,,\nmode,,0-31,no\n",
-        "t:1:1: error: mode code 2 must be legal\nt:1:1: error: mode code 4 must be legal\nt:1:1: error: mode code 5 must be legal\nt:1:1: error: mode code 8 must be legal",
+        "t:3:4: error: legal: \"no\": mode code 2 must be legal\nt:3:4: error: legal: \"no\": mode code 4 must be legal\nt:3:4: error: legal: \"no\": mode code 5 must be legal\nt:3:4: error: legal: \"no\": mode code 8 must be legal",
     ),
     (
         b"kind,value,subaddress,initial\naddress,1,,\ntransmit,,3,\ntransmit,,31,1 2\n",
@@ -152,7 +152,7 @@ const REFUSED: [(&[u8], &str); 18] = [
     ),
     (
         b"Kind,Subaddress ,counts\nAddress,1,\n",
-        "t:1:3: warning: the column \"counts\" is left out; known are kind, value, subaddress, words, code, to, initial, legal, name\nt:2:2: error: Subaddress: \"1\": a row of this kind takes nothing here\nt:2:1: error: no column is named value: allowed is 0 to 30",
+        "t:1:3: warning: the column \"counts\" is left out; known are kind, value, subaddress, words, code, to, initial, legal, name\nt:1:1: error: no column is named value",
     ),
 ];
 

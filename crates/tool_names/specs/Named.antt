@@ -37,13 +37,11 @@ IsTableFor table normal = (text : List ℕ) × IsImported table text × Reaches 
 abbrev pub AreNamesOfTerminal : TerminalNames → Type 0
 AreNamesOfTerminal it = (table : List ℕ) × (normal : Parts) × AreNamesOfTable table it.loaded × IsTableFor table normal × (it.address ≡ normal.address)
 
--- the cell of a mode code and its addressee, whether or not it can be legal
-abbrev pub code_cell_said : ℕ → Cell
-code_cell_said command = if is_broadcast command then BroadMode (code_of command) else OwnMode (code_of command)
-
 -- the cell of a command, also of a mode code that no terminal may have
-abbrev pub cell_said : ℕ → Option Cell
-cell_said command = if is_mode command then Some (code_cell_said command) else cell_of command
+abbrev pub command_cell : ℕ → Option Cell
+command_cell command =
+    if is_mode command then Some (if is_broadcast command then BroadMode (code_of command) else OwnMode (code_of command))
+    else cell_of command
 
 -- the name of a cell, if there is one
 abbrev pub name_at : List NameRow → Option Cell → Option (List ℕ)
@@ -51,5 +49,5 @@ name_at names None = None
 name_at names (Some cell) = name_of names cell
 
 -- the name of the message of a command word
-abbrev pub name_said : List NameRow → ℕ → Option (List ℕ)
-name_said names word = name_at names (cell_said word)
+abbrev pub name_of_command : List NameRow → ℕ → Option (List ℕ)
+name_of_command names word = name_at names (command_cell word)

@@ -34,18 +34,18 @@ abbrev pub goes_by_broadcast : List ℕ → Bool
 goes_by_broadcast to = str_eq_ignore_ascii_case to (codes "broadcast") || str_eq_ignore_ascii_case to (codes "both")
 
 -- the set, or no number at all
-abbrev pub if_so : Bool → ℕ → ℕ
-if_so so set = if so then set else 0
+abbrev pub set_if : Bool → ℕ → ℕ
+set_if so set = if so then set else 0
 
 -- the cells that a row of this kind speaks of
 abbrev pub cells_of : Sheet → TableRow → RowKind → NamedCells
 cells_of sheet row k = record {
   own = goes_to_own (cell sheet row column.To);
   broadcast = goes_by_broadcast (cell sheet row column.To);
-  receive = if_so (is_received k) (numbers_named 1 30 (cell sheet row column.Subaddress));
-  transmit = if_so (is_transmitted k) (numbers_named 1 30 (cell sheet row column.Subaddress));
+  receive = set_if (is_received k) (numbers_named 1 30 (cell sheet row column.Subaddress));
+  transmit = set_if (is_transmitted k) (numbers_named 1 30 (cell sheet row column.Subaddress));
   counts = counts_in (cell sheet row column.Words);
-  codes = if_so (is_mode_kind k) (numbers_named 0 31 (cell sheet row column.Code));
+  codes = set_if (is_mode_kind k) (numbers_named 0 31 (cell sheet row column.Code));
 }
 
 -- names, with that of a row of this kind behind them, which may be empty: settings have none

@@ -1,13 +1,14 @@
 //! The names of messages that a command is given.
 ghost use Rattle.std.specs.Prelude.{◌≡◌, IfOk, option_map};
-ghost use Rattle.tool_names.specs.Named.{AreLoadedNames, AreNamesOfFile, AreNamesOfTable, AreNamesOfTerminal, IsTableFor, cell_said, name_said};
+ghost use Rattle.tool_names.specs.Named.{AreLoadedNames, AreNamesOfFile, AreNamesOfTable, AreNamesOfTerminal, IsTableFor, command_cell, name_of_command};
 
-use crate::names_in;
+use crate::reading::names_of_sheet;
 use crate::table::table_fault;
+use crate::warnings::names_warning;
 use bus_word::{Cell, Command, cell_of};
 use message_names::MessageNames;
 use rt1553::{LoadFault, Normal, load};
-use rt1553_import::{ImportFault, import_table};
+use rt1553_import::{Sheet, faultless_sheet, import_table};
 use std::rt::Files;
 use tool_files::{ToolFault, digest_of, read_tool_profile, refused_file, shown};
 
@@ -26,22 +27,28 @@ fn terminal_of<R: AllocGlobal>(rt: &R, name: &str, table: &[u8]) -> Result<Norma
     }
 }
 
-/// Warns, on the standard error, of a table in a file of this name that is for none of these addresses, if there are some.
-fn warn_of_address<R: AllocGlobal + Eprint>(
+/// Warns, on the standard error, of a table in a file of this name that has no column for names, or that is for none of these addresses, if
+/// there are some.
+fn warn_of_table<R: AllocGlobal + Eprint>(
     rt: &R,
     name: &str,
+    sheet: &Sheet,
     table: &[u8],
     addresses: &[u8],
 ) -> Result<(), ToolFault> {
+    let shown_name = shown(rt, name)?;
+    if let Some(warning) = names_warning(rt.alloc(), sheet)? {
+        let _ = eprintln!(rt; "{}:{warning}", shown_name.as_str());
+    }
     let address = match terminal_of(rt, name, table) {
         Ok(normal) => normal.address(),
         Err(ToolFault::Memory) => return Err(ToolFault::Memory),
         Err(_) => return Ok(()),
     };
     if !addresses.is_empty() && !addresses.contains(&address) {
-        let name = shown(rt, name)?;
         let _ = eprintln!(rt;
-            "{name}: warning: a table for address {address}, and a profile for another"
+            "{}: warning: a table for address {address}, and a profile for another",
+            shown_name.as_str()
         );
     }
     Ok(())
@@ -63,21 +70,21 @@ pub struct TerminalNames {
     pub loaded: LoadedNames,
 }
 
-/// The names of messages of a table in the file of this name.
-fn names_of_bytes<R: AllocGlobal>(
+/// A table in the file of this name, and the names of its messages.
+fn sheet_with_names<R: AllocGlobal>(
     rt: &R,
     name: &str,
     table: &[u8],
-) -> Result<LoadedNames, ToolFault>
-    ensures { IfOk result (AreNamesOfTable table.now) }
+) -> Result<(Sheet, LoadedNames), ToolFault>
+    ensures { IfOk result (λ it. AreNamesOfTable table.now it.1) }
 {
-    match names_in(rt.alloc(), table) {
-        Ok(names) => Ok(LoadedNames {
-            names,
-            digest: digest_of(table),
-        }),
-        Err(fault) => Err(table_fault(rt, name, fault)),
-    }
+    let (sheet, _) = match faultless_sheet(rt.alloc(), table) {
+        Ok(read) => read,
+        Err(fault) => return Err(table_fault(rt, name, fault)),
+    };
+    let names = names_of_sheet(rt.alloc(), &sheet)?;
+    let digest = digest_of(table);
+    Ok((sheet, LoadedNames { names, digest }))
 }
 
 /// The names of messages of the table in the file of this name, and the address of its terminal.
@@ -88,7 +95,7 @@ pub fn load_terminal_names<R: Files + AllocGlobal>(
     ensures { IfOk result AreNamesOfTerminal }
 {
     let bytes = read_tool_profile(rt, name)?;
-    let loaded = names_of_bytes(rt, name, bytes.as_slice())?;
+    let (_, loaded) = sheet_with_names(rt, name, bytes.as_slice())?;
     let normal = terminal_of(rt, name, bytes.as_slice())?;
     Ok(TerminalNames {
         address: normal.address(),
@@ -96,7 +103,8 @@ pub fn load_terminal_names<R: Files + AllocGlobal>(
     })
 }
 
-/// The names of messages of the table in the file of this name. A table for none of these addresses of profiles is warned of.
+/// The names of messages of the table in the file of this name. One without a column for them, or for none of these addresses of profiles,
+/// is warned of.
 pub fn load_names_file<R: Files + AllocGlobal + Eprint>(
     rt: &R,
     name: &str,
@@ -105,8 +113,8 @@ pub fn load_names_file<R: Files + AllocGlobal + Eprint>(
     ensures { IfOk result AreNamesOfFile }
 {
     let bytes = read_tool_profile(rt, name)?;
-    let loaded = names_of_bytes(rt, name, bytes.as_slice())?;
-    warn_of_address(rt, name, bytes.as_slice(), addresses)?;
+    let (sheet, loaded) = sheet_with_names(rt, name, bytes.as_slice())?;
+    warn_of_table(rt, name, &sheet, bytes.as_slice(), addresses)?;
     Ok(loaded)
 }
 
@@ -126,8 +134,8 @@ pub fn load_names<R: Files + AllocGlobal + Eprint>(
 
 /// The cell of a command, also of a mode code that no terminal may have: one that the standard reserves, with the other T/R, or not by
 /// broadcast. None for a broadcast transmit command to a subaddress of data.
-fn cell_said(command: Command) -> Option<Cell>
-    ensures { result ≡ cell_said command }
+fn command_cell(command: Command) -> Option<Cell>
+    ensures { result ≡ command_cell command }
 {
     if !command.is_mode() {
         return cell_of(command);
@@ -142,9 +150,9 @@ fn cell_said(command: Command) -> Option<Cell>
 
 /// The name of the message of a command word, where it has one: that of its cell, of a mode code whether or not it can be legal.
 pub fn name_of_command(names: &MessageNames, word: u16) -> Option<&str>
-    ensures { option_map (λ name. name.now) result ≡ name_said names.now word }
+    ensures { option_map (λ name. name.now) result ≡ name_of_command names.now word }
 {
-    match cell_said(Command::of(word)) {
+    match command_cell(Command::of(word)) {
         Some(cell) => names.name_of(cell),
         None => None,
     }

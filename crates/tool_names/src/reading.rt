@@ -9,7 +9,7 @@ use rt1553_import::{ImportFault, Sheet, faultless_sheet};
 use std::alloc::{AllocError, Global};
 
 /// The names of a table.
-fn names_of_sheet(alloc: Global, sheet: &Sheet) -> Result<MessageNames, AllocError>
+pub fn names_of_sheet(alloc: Global, sheet: &Sheet) -> Result<MessageNames, AllocError>
     ensures { IfOk result (λ names. names ≡ names_of_sheet sheet.now) }
 {
     let mut names = MessageNames::new(alloc);

@@ -1,6 +1,6 @@
 //! What the rows of a table are the names of.
 ghost use Rattle.std.specs.Prelude.{◌≡◌, OnOk};
-ghost use Rattle.tool_names.specs.Rows.{is_received, is_transmitted, goes_to_own, goes_by_broadcast, if_so, cells_of, with_kind, with_table_row};
+ghost use Rattle.tool_names.specs.Rows.{is_received, is_transmitted, goes_to_own, goes_by_broadcast, set_if, cells_of, with_kind, with_table_row};
 
 use crate::numbers::{counts_in, numbers_named};
 use message_names::{MessageNames, NamedCells};
@@ -36,8 +36,8 @@ fn goes_by_broadcast(to: &str) -> bool
 }
 
 /// The set, if this is so, and otherwise none of it.
-fn if_so(so: bool, set: u32) -> u32
-    ensures { result ≡ if_so so set }
+fn set_if(so: bool, set: u32) -> u32
+    ensures { result ≡ set_if so set }
 {
     if so { set } else { 0 }
 }
@@ -52,10 +52,10 @@ fn cells_of(sheet: &Sheet, row: &TableRow, kind: RowKind) -> NamedCells
     NamedCells {
         own: goes_to_own(to),
         broadcast: goes_by_broadcast(to),
-        receive: if_so(is_received(kind), subaddresses),
-        transmit: if_so(is_transmitted(kind), subaddresses),
+        receive: set_if(is_received(kind), subaddresses),
+        transmit: set_if(is_transmitted(kind), subaddresses),
         counts: counts_in(sheet.cell(row, TableColumn::Words)),
-        codes: if_so(kind == RowKind::Mode, codes),
+        codes: set_if(kind == RowKind::Mode, codes),
     }
 }
 

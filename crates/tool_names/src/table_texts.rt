@@ -11,7 +11,7 @@ use std::alloc::{AllocError, Global};
 const MOST_CHARACTERS: usize = 40;
 
 /// What the field of a key takes.
-fn allowed(key: Key) -> &'static str {
+fn allowed_text(key: Key) -> &'static str {
     match key {
         Key::Address => "0 to 30",
         Key::Broadcast | Key::AcceptBusControl | Key::Legal => "yes or no",
@@ -61,15 +61,10 @@ fn push_kinds(text: &mut String) -> Result<(), AllocError> {
 
 /// The row that begins on this line.
 fn row_on(sheet: &Sheet, line: u64) -> Option<&TableRow> {
-    for row in sheet.rows.as_slice() {
-        if row.line == line {
-            return Some(row);
-        }
-    }
-    None
+    sheet.rows.as_slice().iter().find(|row| row.line == line)
 }
 
-/// Adds the name of a column, and what a row has there; or that there is no such column.
+/// Adds the name of a column, and what a row has there.
 fn push_cell(
     alloc: Global,
     sheet: &Sheet,
@@ -77,9 +72,6 @@ fn push_cell(
     row: Option<&TableRow>,
     column: TableColumn,
 ) -> Result<(), AllocError> {
-    if sheet.place_of(column).is_none() {
-        return write!(text, "no column is named {column}: ");
-    }
     text.push_str(column_text(alloc, sheet, column)?.as_str())?;
     text.push_str(": ")?;
     if let Some(row) = row {
@@ -102,11 +94,11 @@ fn push_key_fault(
         return write!(
             text,
             "no row is of the kind {key}; its value is {}",
-            allowed(key)
+            allowed_text(key)
         );
     }
     push_cell(alloc, sheet, text, row, key_column(key))?;
-    write!(text, "allowed is {}", allowed(key))
+    write!(text, "allowed is {}", allowed_text(key))
 }
 
 /// Adds a fault of the profile that the table says.
@@ -123,7 +115,10 @@ fn push_profile_fault(
         | ProfileFault::OutOfRange(part, key)
         | ProfileFault::BadRanges(part, key)
         | ProfileFault::TooMany(part, key) => push_key_fault(alloc, sheet, text, row, part, key),
-        ProfileFault::RequiredCode(code) => write!(text, "mode code {code} must be legal"),
+        ProfileFault::RequiredCode(code) => {
+            push_cell(alloc, sheet, text, row, TableColumn::Legal)?;
+            write!(text, "mode code {code} must be legal")
+        }
         other => write!(text, "{other}"),
     }
 }
@@ -141,8 +136,8 @@ fn push_fields(sheet: &Sheet, text: &mut String, row: Option<&TableRow>) -> Resu
     )
 }
 
-/// Adds what is wrong in a row.
-fn push_kind(
+/// Adds what is wrong, in a row if there is one.
+fn push_reason(
     alloc: Global,
     sheet: &Sheet,
     text: &mut String,
@@ -150,7 +145,7 @@ fn push_kind(
     kind: TableFaultKind,
 ) -> Result<(), AllocError> {
     match kind {
-        TableFaultKind::NoKind => text.push_str("no column is named kind"),
+        TableFaultKind::NoColumn(column) => write!(text, "no column is named {column}"),
         TableFaultKind::TwoColumns(column) => write!(text, "a second column is named {column}"),
         TableFaultKind::Fields => push_fields(sheet, text, row),
         TableFaultKind::UnknownKind => {
@@ -172,38 +167,40 @@ fn push_kind(
         }
         TableFaultKind::NotWords => {
             push_cell(alloc, sheet, text, row, TableColumn::Initial)?;
-            write!(text, "allowed is {}", allowed(Key::Words))
+            write!(text, "allowed is {}", allowed_text(Key::Words))
         }
         TableFaultKind::Profile(fault) => push_profile_fault(alloc, sheet, text, row, fault),
     }
 }
 
-/// Adds a fault with its place.
+/// Adds a fault with its place, if it has one.
 fn push_fault(
     alloc: Global,
     sheet: &Sheet,
     text: &mut String,
     fault: &TableFault,
 ) -> Result<(), AllocError> {
-    write!(text, "{}:{}: error: ", fault.place.row, fault.place.column)?;
-    push_kind(
-        alloc,
-        sheet,
-        text,
-        row_on(sheet, fault.place.row),
-        fault.kind,
-    )
+    let mut row = None;
+    if let Some(place) = fault.place {
+        write!(text, "{}:{}:", place.row, place.column)?;
+        row = row_on(sheet, place.row);
+    }
+    text.push_str(" error: ")?;
+    push_reason(alloc, sheet, text, row, fault.kind)
 }
 
 /// What is told of a table with faults, in the file of this name as it is printed: a line for each warning, and for each fault in the order
-/// of the rows, but for the last line feed.
+/// of the rows, those of the whole table first, but for the last line feed.
 pub fn told_text(alloc: Global, name: &str, table: &FaultyTable) -> Result<String, AllocError> {
     let mut text = String::new(alloc);
     for warning in table_warnings(alloc, &table.sheet)?.as_slice() {
         writeln!(text, "{name}:{warning}")?;
     }
     let mut faults = Vec::from_slice(alloc, table.faults.as_slice())?;
-    faults.sort_by_key(|fault| fault.place.row)?;
+    faults.sort_by_key(|fault| match fault.place {
+        Some(place) => place.row,
+        None => 0,
+    })?;
     for (index, fault) in faults.as_slice().iter().enumerate() {
         if index > 0 {
             text.push('\n')?;

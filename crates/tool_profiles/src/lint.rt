@@ -34,12 +34,7 @@ fn push_finding(
 fn has_error(findings: &[Finding]) -> bool
     ensures { result ≡ list_any (λ f. is_some f.fault) findings.now }
 {
-    for finding in findings {
-        if finding.fault.is_some() {
-            return true;
-        }
-    }
-    false
+    findings.iter().any(|finding| finding.fault.is_some())
 }
 
 /// The status of the findings of a file.

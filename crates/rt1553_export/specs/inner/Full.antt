@@ -16,8 +16,8 @@ abbrev pub yes_no : Bool → List ℕ
 yes_no b = if b then codes "yes" else codes "no"
 
 -- which of a set is legal: what it says, or else that it isn't
-abbrev pub is_said : ℕ → List ℕ
-is_said mask = yes_no (not (mask == 0))
+abbrev pub legal_cell : ℕ → List ℕ
+legal_cell mask = yes_no (not (mask == 0))
 
 -- a word as a cell: 0x and four hexadecimal digits
 abbrev pub word_cell : ℕ → List ℕ
@@ -28,26 +28,26 @@ abbrev pub wrap_cell : ℕ → List ℕ
 wrap_cell wrap = if wrap == 0 then codes "no" else two_digits wrap
 
 -- words, each behind a space
-abbrev pub spaced : List ℕ → List ℕ
-spaced words = flat_map (λ word. 32 ∷ digits_of word) words
+abbrev pub spaced_words : List ℕ → List ℕ
+spaced_words words = flat_map (λ word. 32 ∷ digits_of word) words
 
 -- words with spaces between them
 abbrev pub words_cell : List ℕ → List ℕ
-words_cell words = drop 1 (spaced words)
+words_cell words = drop 1 (spaced_words words)
 
 -- ---- rows
 
 -- which receive commands to this addressee are legal at a subaddress
 abbrev pub receive_row : List ℕ → ℕ → ℕ → List (List ℕ)
-receive_row to subaddress mask = message_cells (codes "receive") (two_digits subaddress) (set_text 1 mask) to [] (is_said mask)
+receive_row to subaddress mask = message_cells (codes "receive") (two_digits subaddress) (set_text 1 mask) to [] (legal_cell mask)
 
 -- the transmit commands of a subaddress, and the words that it holds
 abbrev pub transmit_row : ℕ → ℕ × List ℕ → List (List ℕ)
-transmit_row subaddress held = message_cells (codes "transmit") (two_digits subaddress) (set_text 1 held.0) (codes "own") (words_cell held.1) (is_said held.0)
+transmit_row subaddress held = message_cells (codes "transmit") (two_digits subaddress) (set_text 1 held.0) (codes "own") (words_cell held.1) (legal_cell held.0)
 
 -- which mode codes to this addressee are legal
 abbrev pub mode_codes_row : List ℕ → ℕ → List (List ℕ)
-mode_codes_row to mask = mode_cells (set_text 0 mask) to (is_said mask) []
+mode_codes_row to mask = mode_cells (set_text 0 mask) to (legal_cell mask) []
 
 -- a row for each value of the profile's root
 abbrev pub all_settings : Parts → List (List (List ℕ))

@@ -6,6 +6,6 @@ use Rattle.rt1553_import.proofs.sheet.Sheet.header_faults.Goals as goal
 
 pub loop-column-preserved : goal.loop-column-preserved
 loop-column-preserved c =
-    told_step _ _ _ _ _ _ c.in_ok-push_some-2.ensures
+    told_step _ _ _ _ _ _ c.in_ok-push_some.ensures
     (flat_step (λ k. fault_if_any (column_fault c.args.self.now k)) all_columns c.loop-column.column-index _ _ c.loop-column-test.true (ap fault_if_any c.column_fault.ensures))
     c.loop-column.invariant

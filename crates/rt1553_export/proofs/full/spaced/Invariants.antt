@@ -1,6 +1,0 @@
-use Rattle.std.proofs.Common.{◌≡◌, take}
-use Rattle.rt1553_export.specs.inner.Full.{spaced}
-use Rattle.rt1553_export.proofs.full.spaced.Given as goal
-
-abbrev pub invariant-loop-word : goal.invariant-loop-word
-invariant-loop-word l = l.text.items ≡ spaced (take l.word-index l.words)
