@@ -52,11 +52,14 @@ function dueBefore(line, left, isFresh) {
   return at < 0 ? left.length : at + 1;
 }
 
+const NO_COLON = 'a colon is missing before the data words, as in A rx 5 3 1: 0001';
+
 /** The parts of what says a word, between blanks. */
 class Parts {
-  /** @param {string} text what stands behind the letter of the bus and its space */
-  constructor(text) {
+  /** @param {string} text what stands behind the letter of the bus and its space @param {boolean} hasColon whether a colon comes after it */
+  constructor(text, hasColon) {
     this.text = text;
+    this.much = !hasColon && text.startsWith('rx ') ? NO_COLON : 'nothing may follow the last field';
     this.found = [...text.matchAll(/[^ \t\f]+/g)];
     this.words = this.found.map((it) => it[0]);
   }
@@ -74,7 +77,7 @@ class Parts {
   address() { return this.words[1] === 'all' ? 31 : this.number(1, 0, 30, 'an address is 0 to 30, or all for a command'); }
 
   /** @param {number} n how many parts there are at most */
-  end(n) { if (this.words.length > n) this.refuse(n, 'nothing may follow the last field'); }
+  end(n) { if (this.words.length > n) this.refuse(n, this.much); }
 }
 
 /** @param {Parts} parts @param {number} transmit the T/R bit */
@@ -121,11 +124,13 @@ function eventsOf(line, own) {
   const [, bus, text, from, data] = /^([AB]) ([^:]*?)(?: from ([^:]*))?(?::([^]*))?$/.exec(line) ?? [];
   if (!bus) throw new Refused(1, 'neither a line of a script nor a message, which begins with A or B and a space');
   if (line.includes('#')) throw new Refused(line.indexOf('#') + 1, 'a comment after a message: a comment is a line of its own');
-  const parts = new Parts(text), name = parts.words[0], read = KINDS.get(name);
+  const parts = new Parts(text, data !== undefined), name = parts.words[0], read = KINDS.get(name);
   if (!read || text.length > 128) return parts.refuse(0, 'rx, tx, mode, status or data is expected, in at most 128 bytes');
   const bits = read(parts), c = commandOf(bits), first = `${name === 'data' ? 'd' : 'c'} ${hex4(bits)}`;
   const isCommand = name !== 'status' && name !== 'data', sender = from === undefined ? -1 : senderOf(from, name, bits, 3 + text.length);
-  const words = dataOf(line, data === undefined ? line.length : line.indexOf(':') + 1, isCommand ? expectedWords(c) : 0);
+  const count = isCommand ? expectedWords(c) : 0;
+  if (data === undefined && count > 0) throw new Refused(line.length + 1, NO_COLON);
+  const words = dataOf(line, data === undefined ? line.length : line.indexOf(':') + 1, count);
   const heard = sender < 0 ? [] : [`c ${hex4(sender)}`, 'gap', `c ${hex4(sender & 0xf800)}`];
   const events = !isCommand ? [first]
     // this terminal sends words of its own, whatever the message says

@@ -199,7 +199,8 @@ def test_messages_as_expand(browser, shipped, tmp_path):
     lines += ["A rx 5 3 2 from 6 4: 0011 0022", "A rx all 3 2 from 6 4: 0011 0022", "B status 6 busy", "B status 31", "B data 0011", "A rx 5 3 2: 1",
               "A rx 5 0 1: 0000", "A rx 5 1 33: 0000", "A tx 5 1 1 ", "A  tx 5 1 1", "C rx 5 1 1: 0000", "A", "", "# x", "slot", "flag busy 2", "A c 2862",
               "A tx 5 1 1:", "A rx 5 1 1: 00FF", "B data 00Ff", "A d 00fF", "A tx 5 1 1 from 6 1", "A toString 5", "A rx 5 1 1 from 5 1: 0000",
-              "A rx 5 1 1 from 6: 0000", "A rx 5 1 1  from  6  1 : 0000", "A status 6 reserved1", "A status 6 x", "A tx 5 1 1 # x"]  # fmt: skip
+              "A rx 5 1 1 from 6: 0000", "A rx 5 1 1  from  6  1 : 0000", "A status 6 reserved1", "A status 6 x", "A tx 5 1 1 # x", "A rx 5 3 2 0011 0022", "A rx 5 3 2",
+              "A rx 5 3 2 from 6 4"]  # fmt: skip
     for line in lines:
         write_files(tmp_path, {"messages": f"{line}\n"})
         wanted = run(shipped.tool, "expand", "messages", folder=tmp_path)

@@ -51,7 +51,7 @@ WORDS = [
         "? a count is 1 to 32\n? a count is 1 to 32\n? after a mode code comes tx or rx; a reserved code needs it\n"
         "? a mode code is 0 to 31\n? the subaddress of a mode code is 0 or 31\n"
         "? a status has error, instrumentation, service, reserved1 to 3, broadcast, busy, subsystem, accept, terminal\n"
-        "? a line begins with rx, tx, mode, status, data, c, s or d\n? a word is four hexadecimal digits\n? too much in a line\nc 2862 0\n"
+        "? a line begins with rx, tx, mode, status, data, c, s or d\n? a word is four hexadecimal digits\n? nothing may follow the last field\nc 2862 0\n"
         "? a line begins with rx, tx, mode, status, data, c, s or d\n",
         stdin=b"c 2862 1\nrx 32 3 2\nrx 5 31 2\nrx 5 3 33\nrx 5 3\nmode 5 9\nmode 5 32\nmode 5 1 tx 30\nstatus 5 none\nx\nc 286\nc 2862 0 x\n"
               b"rx 5 3 2\n\xff\n"),

@@ -8,7 +8,7 @@ use Rattle.script_lines.specs.EventLine.{event_line, script_text}
 use Rattle.rt1553_expand.specs.declared.script_for.ScriptFor.{ScriptFor}
 use Rattle.rt1553_expand.specs.Placing.{ScriptLine, Statement, Placing, is_stating, is_more, is_hand, can_have, event_at, among_events, nothing_placed, lines_in_order, leading, statement_lines}
 use Rattle.rt1553_expand.specs.Expansion.{Expansion, Stays, Gives, events_said, events_given, lines_given, is_statement, with_expansion, with_expanded, expansion_of, placing, spelled}
-use Rattle.rt1553_expand.specs.inner.StillLeft.{StillLeft, to_come, first_can_have, up_to, due_before, due, own_line, left_behind}
+use Rattle.rt1553_expand.specs.inner.StillLeft.{StillLeft, to_come, first_can_have, count_up_to, events_before_statement, events_before_line, own_line, left_behind}
 
 -- ---- a message
 
@@ -18,14 +18,14 @@ among_events-end n (e ∷ es) = ap (λ ls. event_at n e ∷ ls) (among_events-en
 
 -- a statement comes behind the first event that can have it
 among_events-statement : (n : ℕ) (es : List Event) (s : Statement) (ss : List Statement)
-    → among_events n es (s ∷ ss) ≡ map (event_at n) (take (up_to (is_hand s.first.text) es) es) ++ (statement_lines s ++ among_events n (drop (up_to (is_hand s.first.text) es) es) ss)
+    → among_events n es (s ∷ ss) ≡ map (event_at n) (take (count_up_to (is_hand s.first.text) es) es) ++ (statement_lines s ++ among_events n (drop (count_up_to (is_hand s.first.text) es) es) ss)
 among_events-statement n [] s ss = refl
 among_events-statement n (e ∷ es) s ss = case (can_have (is_hand s.first.text) e es) refl (among_events-statement n es s ss)
   where
     case : (t : Bool) → can_have (is_hand s.first.text) e es ≡ t
-        → among_events n es (s ∷ ss) ≡ map (event_at n) (take (up_to (is_hand s.first.text) es) es) ++ (statement_lines s ++ among_events n (drop (up_to (is_hand s.first.text) es) es) ss)
+        → among_events n es (s ∷ ss) ≡ map (event_at n) (take (count_up_to (is_hand s.first.text) es) es) ++ (statement_lines s ++ among_events n (drop (count_up_to (is_hand s.first.text) es) es) ss)
         → among_events n (e ∷ es) (s ∷ ss)
-        ≡ map (event_at n) (take (up_to (is_hand s.first.text) (e ∷ es)) (e ∷ es)) ++ (statement_lines s ++ among_events n (drop (up_to (is_hand s.first.text) (e ∷ es)) (e ∷ es)) ss)
+        ≡ map (event_at n) (take (count_up_to (is_hand s.first.text) (e ∷ es)) (e ∷ es)) ++ (statement_lines s ++ among_events n (drop (count_up_to (is_hand s.first.text) (e ∷ es)) (e ∷ es)) ss)
     case true is later = rw is refl
     case false is later = rw is (ap (λ ls. event_at n e ∷ ls) later)
 
@@ -44,17 +44,17 @@ gives-come n k es fs false p = all-among_events k es _
 
 statement-come : (k : ℕ) (es : List Event) (l : ScriptLine) (p : Placing)
     → among_events k es (record { first = l; more = p.more } ∷ p.statements) ++ p.script
-    ≡ map (event_at k) (take (up_to (is_hand l.text) es) es) ++ ((l ∷ []) ++ (p.more ++ (among_events k (drop (up_to (is_hand l.text) es) es) p.statements ++ p.script)))
+    ≡ map (event_at k) (take (count_up_to (is_hand l.text) es) es) ++ ((l ∷ []) ++ (p.more ++ (among_events k (drop (count_up_to (is_hand l.text) es) es) p.statements ++ p.script)))
 statement-come k es l p = ap (λ ls. ls ++ p.script) (among_events-statement k es _ p.statements) ∙ joined _ p.more _ p.script l
 
 stays-come : (n k : ℕ) (es : List Event) (line : List ℕ) (said : Option Event) (fresh : Bool) (p : Placing) → let l : StillLeft = record { events = es; source = k; fresh = fresh } in
     to_come l (with_expansion n (Stays line said) p)
-    ≡ map (event_at k) (take (due l (Stays line said)) es) ++ (own_line n (Stays line said) ++ to_come (left_behind n l (Stays line said)) p)
+    ≡ map (event_at k) (take (events_before_line l (Stays line said)) es) ++ (own_line n (Stays line said) ++ to_come (left_behind n l (Stays line said)) p)
 stays-come n k es line said fresh p = case (is_statement line said) refl (is_more line) refl fresh
   where
     case : (t : Bool) → is_statement line said ≡ t → (g : Bool) → is_more line ≡ g → (f : Bool) → let l : StillLeft = record { events = es; source = k; fresh = f } in
         to_come l (with_expansion n (Stays line said) p)
-        ≡ map (event_at k) (take (due l (Stays line said)) es) ++ (own_line n (Stays line said) ++ to_come (left_behind n l (Stays line said)) p)
+        ≡ map (event_at k) (take (events_before_line l (Stays line said)) es) ++ (own_line n (Stays line said) ++ to_come (left_behind n l (Stays line said)) p)
     case false is g goes true = rw is (all-among_events k es _)
     case false is g goes false = rw is (all-among_events k es _)
     case true is true goes true = rw is (rw goes (statement-come k es (record { text = line; source = n }) p))
@@ -64,7 +64,7 @@ stays-come n k es line said fresh p = case (is_statement line said) refl (is_mor
 
 -- the events that come before a line, the line, and what comes behind it
 come-on : (n : ℕ) (l : StillLeft) (x : Expansion) (p : Placing)
-    → to_come l (with_expansion n x p) ≡ map (event_at l.source) (take (due l x) l.events) ++ (own_line n x ++ to_come (left_behind n l x) p)
+    → to_come l (with_expansion n x p) ≡ map (event_at l.source) (take (events_before_line l x) l.events) ++ (own_line n x ++ to_come (left_behind n l x) p)
 come-on n l (Gives es) p = gives-come n l.source l.events es l.fresh p
 come-on n l (Stays line said) p = stays-come n l.source l.events line said l.fresh p
 
@@ -81,12 +81,12 @@ abbrev pub own_said : Expansion → List Event
 own_said (Gives es) = []
 own_said (Stays line said) = events_said said
 
-pub events-split : (n : ℕ) (l : StillLeft) (x : Expansion) → l.events ++ events_given x ≡ take (due l x) l.events ++ (own_said x ++ (left_behind n l x).events)
+pub events-split : (n : ℕ) (l : StillLeft) (x : Expansion) → l.events ++ events_given x ≡ take (events_before_line l x) l.events ++ (own_said x ++ (left_behind n l x).events)
 events-split n l (Gives es) = ap (λ ls. ls ++ es) (sym (take_all (length l.events) l.events (omega arith)))
 events-split n l (Stays line None) = case (is_stating line) refl
   where
-    case : (t : Bool) → is_stating line ≡ t → l.events ++ [] ≡ take (due l (Stays line None)) l.events ++ ([] ++ (left_behind n l (Stays line None)).events)
-    case true is = rw is (append-nil l.events ∙ sym (take-append-drop (due_before l line) l.events))
+    case : (t : Bool) → is_stating line ≡ t → l.events ++ [] ≡ take (events_before_line l (Stays line None)) l.events ++ ([] ++ (left_behind n l (Stays line None)).events)
+    case true is = rw is (append-nil l.events ∙ sym (take-append-drop (events_before_statement l line) l.events))
     case false is = rw is (ap (λ ls. ls ++ []) (sym (take_all (length l.events) l.events (omega arith))))
 events-split n l (Stays line (Some e)) = ap (λ ls. ls ++ e ∷ []) (sym (take_all (length l.events) l.events (omega arith)))
 
@@ -94,16 +94,16 @@ abbrev pub own_count : Expansion → ℕ
 own_count (Gives es) = 0
 own_count (Stays line said) = 1
 
-pub count-split : (n : ℕ) (l : StillLeft) (x : Expansion) → length l.events + lines_given x ≡ length (take (due l x) l.events) + (own_count x + length (left_behind n l x).events)
+pub count-split : (n : ℕ) (l : StillLeft) (x : Expansion) → length l.events + lines_given x ≡ length (take (events_before_line l x) l.events) + (own_count x + length (left_behind n l x).events)
 count-split n l (Gives es) = omega (arith, ap length (take_all (length l.events) l.events (omega arith)))
 count-split n l (Stays line said) = case (is_statement line said) refl
   where
     case : (t : Bool) → is_statement line said ≡ t
-        → length l.events + 1 ≡ length (take (due l (Stays line said)) l.events) + (1 + length (left_behind n l (Stays line said)).events)
+        → length l.events + 1 ≡ length (take (events_before_line l (Stays line said)) l.events) + (1 + length (left_behind n l (Stays line said)).events)
     case true is = rw is
-        (let both : length (take (due_before l line) l.events ++ drop (due_before l line) l.events) ≡ length l.events = ap length (take-append-drop (due_before l line) l.events) in
-        let parts : length (take (due_before l line) l.events ++ drop (due_before l line) l.events) ≡ length (take (due_before l line) l.events) + length (drop (due_before l line) l.events)
-        = length-append (take (due_before l line) l.events) (drop (due_before l line) l.events) in
+        (let both : length (take (events_before_statement l line) l.events ++ drop (events_before_statement l line) l.events) ≡ length l.events = ap length (take-append-drop (events_before_statement l line) l.events) in
+        let parts : length (take (events_before_statement l line) l.events ++ drop (events_before_statement l line) l.events) ≡ length (take (events_before_statement l line) l.events) + length (drop (events_before_statement l line) l.events)
+        = length-append (take (events_before_statement l line) l.events) (drop (events_before_statement l line) l.events) in
         omega (arith, both, parts))
     case false is = rw is (ap (λ ls. length ls + 1) (sym (take_all (length l.events) l.events (omega arith))))
 
@@ -114,15 +114,15 @@ events-spelled k [] = refl
 events-spelled k (e ∷ es) = ap (λ t. event_line e ++ t) (events-spelled k es)
 
 -- the text of what was written, and of what is to come
-pub text-on : (n : ℕ) (l : StillLeft) (x : Expansion) (p : Placing) (old mid new : List ℕ) → mid ≡ old ++ script_text (take (due l x) l.events) → new ≡ mid ++ flat_map spelled (own_line n x)
+pub text-on : (n : ℕ) (l : StillLeft) (x : Expansion) (p : Placing) (old mid new : List ℕ) → mid ≡ old ++ script_text (take (events_before_line l x) l.events) → new ≡ mid ++ flat_map spelled (own_line n x)
     → old ++ flat_map spelled (to_come l (with_expansion n x p)) ≡ new ++ flat_map spelled (to_come (left_behind n l x) p)
 text-on n l x p old mid new before own =
-    let es : List ScriptLine = map (event_at l.source) (take (due l x) l.events) in
+    let es : List ScriptLine = map (event_at l.source) (take (events_before_line l x) l.events) in
     let more : List ScriptLine = to_come (left_behind n l x) p in
     ap (λ ls. old ++ flat_map spelled ls) (come-on n l x p)
     ∙ ap (λ t. old ++ t) (flat_map-append spelled es (own_line n x ++ more))
-    ∙ ap (λ t. old ++ (t ++ flat_map spelled (own_line n x ++ more))) (events-spelled l.source (take (due l x) l.events))
-    ∙ sym (append_assoc old (script_text (take (due l x) l.events)) (flat_map spelled (own_line n x ++ more)))
+    ∙ ap (λ t. old ++ (t ++ flat_map spelled (own_line n x ++ more))) (events-spelled l.source (take (events_before_line l x) l.events))
+    ∙ sym (append_assoc old (script_text (take (events_before_line l x) l.events)) (flat_map spelled (own_line n x ++ more)))
     ∙ ap (λ t. t ++ flat_map spelled (own_line n x ++ more)) (sym before)
     ∙ ap (λ t. mid ++ t) (flat_map-append spelled (own_line n x) more)
     ∙ sym (append_assoc mid (flat_map spelled (own_line n x)) (flat_map spelled more))
@@ -140,15 +140,15 @@ events-from : (k : ℕ) (es : List Event) → sources (map (event_at k) es) ≡ 
 events-from k [] = refl
 events-from k (e ∷ es) = ap (λ ns. k ∷ ns) (events-from k es)
 
-pub sources-on : (n : ℕ) (l : StillLeft) (x : Expansion) (p : Placing) (old mid new : List ℕ) → due l x ≤ length l.events → mid ≡ old ++ replicate (due l x) l.source → new ≡ mid ++ sources (own_line n x)
+pub sources-on : (n : ℕ) (l : StillLeft) (x : Expansion) (p : Placing) (old mid new : List ℕ) → events_before_line l x ≤ length l.events → mid ≡ old ++ replicate (events_before_line l x) l.source → new ≡ mid ++ sources (own_line n x)
     → old ++ sources (to_come l (with_expansion n x p)) ≡ new ++ sources (to_come (left_behind n l x) p)
 sources-on n l x p old mid new within before own =
-    let es : List ScriptLine = map (event_at l.source) (take (due l x) l.events) in
+    let es : List ScriptLine = map (event_at l.source) (take (events_before_line l x) l.events) in
     let more : List ScriptLine = to_come (left_behind n l x) p in
     ap (λ ls. old ++ sources ls) (come-on n l x p)
     ∙ ap (λ t. old ++ t) (map-append (λ l. l.source) es (own_line n x ++ more))
-    ∙ ap (λ t. old ++ (t ++ sources (own_line n x ++ more))) (events-from l.source (take (due l x) l.events) ∙ ap (λ c. replicate c l.source) (length-take-le (due l x) l.events within))
-    ∙ sym (append_assoc old (replicate (due l x) l.source) (sources (own_line n x ++ more)))
+    ∙ ap (λ t. old ++ (t ++ sources (own_line n x ++ more))) (events-from l.source (take (events_before_line l x) l.events) ∙ ap (λ c. replicate c l.source) (length-take-le (events_before_line l x) l.events within))
+    ∙ sym (append_assoc old (replicate (events_before_line l x) l.source) (sources (own_line n x ++ more)))
     ∙ ap (λ t. t ++ sources (own_line n x ++ more)) (sym before)
     ∙ ap (λ t. mid ++ t) (map-append (λ l. l.source) (own_line n x) more)
     ∙ sym (append_assoc mid (sources (own_line n x)) (sources more))
@@ -176,15 +176,15 @@ come-start l p none stale = ap (λ f. if f then among_events l.source l.events (
 
 -- ---- the first event that can have an answer
 
-up_to-next : (hand : Bool) (es : List Event) → 0 < length es → first_can_have hand es ≡ false → up_to hand es ≡ 1 + up_to hand (drop 1 es)
-up_to-next hand [] some is = absurd (omega (arith, some))
-up_to-next hand (e ∷ es) some is = rw is (omega arith)
+count_up_to-next : (hand : Bool) (es : List Event) → 0 < length es → first_can_have hand es ≡ false → count_up_to hand es ≡ 1 + count_up_to hand (drop 1 es)
+count_up_to-next hand [] some is = absurd (omega (arith, some))
+count_up_to-next hand (e ∷ es) some is = rw is (omega arith)
 
 -- one event more that cannot have it
-pub up_to-on : (hand : Bool) (es : List Event) (i : ℕ) (rest : List Event) (t : Bool) → i < length es → up_to hand es ≡ i + up_to hand (drop i es) → rest ≡ drop i es
-    → t ≡ first_can_have hand rest → t ≡ false → up_to hand es ≡ (i + 1) + up_to hand (drop (i + 1) es)
-up_to-on hand es i rest t low before is tested not_it =
+pub count_up_to-on : (hand : Bool) (es : List Event) (i : ℕ) (rest : List Event) (t : Bool) → i < length es → count_up_to hand es ≡ i + count_up_to hand (drop i es) → rest ≡ drop i es
+    → t ≡ first_can_have hand rest → t ≡ false → count_up_to hand es ≡ (i + 1) + count_up_to hand (drop (i + 1) es)
+count_up_to-on hand es i rest t low before is tested not_it =
     let some : 0 < length (drop i es) = omega (arith, low, length-drop i es) in
-    let next : up_to hand (drop i es) ≡ 1 + up_to hand (drop 1 (drop i es)) = up_to-next hand (drop i es) some (ap (first_can_have hand) (sym is) ∙ sym tested ∙ not_it) in
-    let same : up_to hand (drop 1 (drop i es)) ≡ up_to hand (drop (i + 1) es) = ap (up_to hand) (drop-drop 1 i es) in
+    let next : count_up_to hand (drop i es) ≡ 1 + count_up_to hand (drop 1 (drop i es)) = count_up_to-next hand (drop i es) some (ap (first_can_have hand) (sym is) ∙ sym tested ∙ not_it) in
+    let same : count_up_to hand (drop 1 (drop i es)) ≡ count_up_to hand (drop (i + 1) es) = ap (count_up_to hand) (drop-drop 1 i es) in
     omega (arith, before, next, same)

@@ -15,7 +15,7 @@ use Rattle.rt1553_expand.specs.declared.expanding.ReadLine.TheVariants.{Kept, Wr
 use Rattle.rt1553_expand.specs.Placing.{Placing}
 use Rattle.rt1553_expand.specs.Expansion.{Expansion, Stays, Gives, events_said, events_given, lines_given, is_of_bus, expansion_of, with_expanded, spelled, expanded_events, expanded_lines}
 use Rattle.rt1553_expand.specs.inner.Wrote.{AreRead, Wrote}
-use Rattle.rt1553_expand.specs.inner.StillLeft.{StillLeft, left_of, to_come, IsPending, due, own_line, left_behind}
+use Rattle.rt1553_expand.specs.inner.StillLeft.{StillLeft, left_of, to_come, IsPending, events_before_line, own_line, left_behind}
 use Rattle.rt1553_expand.specs.inner.Added.{Added, ReadSo}
 use Rattle.rt1553_expand.specs.inner.Read.{expansion_by, IsWritable}
 use Rattle.rt1553_expand.proofs.FeedLaws.{event-line}
@@ -57,11 +57,11 @@ own-read k n (Stays line said) right few =
     (ReadsLines-line n line (events_said said) (omega (arith, few)) right.0 right.1 (λ r. said-read line said n r right.2))
 
 -- the lines of the events that come before a line, and the line, are read
-read-on : (n : ℕ) (l : StillLeft) (x : Expansion) (old mid new : List ℕ) (lines count : ℕ) (all : List Event) → IsRight x → Wrote old mid (take (due l x) l.events)
+read-on : (n : ℕ) (l : StillLeft) (x : Expansion) (old mid new : List ℕ) (lines count : ℕ) (all : List Event) → IsRight x → Wrote old mid (take (events_before_line l x) l.events)
     → new ≡ mid ++ flat_map spelled (own_line n x) → count ≡ lines + lines_given x → count ≤ 1048576 → ReadSo old l.events lines all
     → ReadSo new (left_behind n l x).events count (all ++ events_given x)
 read-on n l x old mid new lines count all right wrote own counted few so =
-    let es : List Event = take (due l x) l.events in
+    let es : List Event = take (events_before_line l x) l.events in
     let more : List Event = (left_behind n l x).events in
     let sum : length l.events + lines_given x ≡ length es + (own_count x + length more) = count-split n l x in
     let first : ReadsLines 0 (old ++ script_text es) (so.said ++ es) (so.written + length es)
@@ -79,14 +79,14 @@ read-on n l x old mid new lines count all right wrote own counted few so =
 
 -- what was added for a line that is not refused
 pub added-by : (own : ScriptFor) (n : ℕ) (old new : ScriptSoFar) (line : List ℕ) (read : ReadLine) (mid : List ℕ) (count : ℕ) → expansion_of own line ≡ Ok (expansion_by own line read)
-    → IsWritable own line read → count ≡ due (left_of old.pending) (expansion_by own line read) → Wrote old.text.items mid (take count (left_of old.pending).events)
+    → IsWritable own line read → count ≡ events_before_line (left_of old.pending) (expansion_by own line read) → Wrote old.text.items mid (take count (left_of old.pending).events)
     → new.text.items ≡ mid ++ flat_map spelled (own_line n (expansion_by own line read))
     → left_of new.pending ≡ left_behind n (left_of old.pending) (expansion_by own line read) → IsPending new.pending
     → new.lines ≡ old.lines + lines_given (expansion_by own line read) → new.lines ≤ 1048576 → Added own n old new line
 added-by own n old new line read mid count is sound counted wrote stays left fits lines few =
     let x : Expansion = expansion_by own line read in
     let l : StillLeft = left_of old.pending in
-    let due_wrote : Wrote old.text.items mid (take (due l x) l.events) = subst (λ c. Wrote old.text.items mid (take c l.events)) counted wrote in
+    let due_wrote : Wrote old.text.items mid (take (events_before_line l x) l.events) = subst (λ c. Wrote old.text.items mid (take c l.events)) counted wrote in
     record {
       text = λ p. ap (λ o. old.text.items ++ flat_map spelled (to_come l (with_expanded n o p))) is ∙ text-on n l x p old.text.items mid new.text.items due_wrote.bytes stays
           ∙ ap (λ it. new.text.items ++ flat_map spelled (to_come it p)) (sym left);
@@ -120,7 +120,7 @@ read-start text left all empty nothing none = record {
 
 -- where the lines come from of a line that is not refused
 pub sources-by : (own : ScriptFor) (n : ℕ) (was now : StillLeft) (line : List ℕ) (read : ReadLine) (old mid new : List ℕ) (count : ℕ) → expansion_of own line ≡ Ok (expansion_by own line read)
-    → count ≡ due was (expansion_by own line read) → count ≤ length was.events → mid ≡ old ++ replicate count was.source
+    → count ≡ events_before_line was (expansion_by own line read) → count ≤ length was.events → mid ≡ old ++ replicate count was.source
     → new ≡ mid ++ map (λ l. l.source) (own_line n (expansion_by own line read)) → now ≡ left_behind n was (expansion_by own line read)
     → (p : Placing) → old ++ map (λ l. l.source) (to_come was (with_expanded n (expansion_of own line) p)) ≡ new ++ map (λ l. l.source) (to_come now p)
 sources-by own n was now line read old mid new count is counted within before stays left p =

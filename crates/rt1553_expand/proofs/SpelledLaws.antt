@@ -24,7 +24,7 @@ use Rattle.rt1553_tool.specs.WordLines.{word_line}
 use Rattle.rt1553_tool.specs.WordTexts.{short_decimal, address_text, tr_text, mode_text, transfer_text, asks_mode, command_text}
 use Rattle.rt1553_expand.specs.declared.fault.ExpandFault.{ExpandFault}
 use Rattle.rt1553_expand.specs.declared.fault.ExpandFault.TheVariants.{Sender, Comment, NotReceive}
-use Rattle.rt1553_expand.specs.Message.{◌>>=◌, cut, SaidMessage, named_word, sender_line, another_terminal, sender_of, words_wanted, nothing_behind, data_in, or_nothing, message_of, message_by_cuts, message_in}
+use Rattle.rt1553_expand.specs.Message.{◌>>=◌, cut, SaidMessage, named_word, sender_line, another_terminal, sender_of, words_wanted, nothing_behind, data_in, data_behind, message_of, message_by_cuts, message_in}
 use Rattle.rt1553_expand.specs.Gathered.{CommandMessage, said, from_text, spaced_word, data_words_text, message_text, listed_line, IsSender, IsMessage, EachIsSaid}
 use Rattle.rt1553_expand.proofs.FeedLaws.{no_byte}
 use Rattle.rt1553_expand.proofs.PartsLaws.{Free, free, free-append, free-if, free-decimal, free-above, cut-free, cut-at, cut-from, cut-from-none}
@@ -190,9 +190,10 @@ abbrev behind_colon : List ℕ → Option (List ℕ)
 behind_colon [] = None
 behind_colon (w ∷ words) = Some (flat_map spaced_word (w ∷ words))
 
-words-back : (words : List ℕ) → or_nothing (behind_colon words) ≡ flat_map spaced_word words
-words-back [] = refl
-words-back (w ∷ words) = refl
+data-back : (count : ℕ) (words : List ℕ) → length words ≡ count → All (λ w. w < 2 ^ 16) words → data_behind count (behind_colon words) ≡ Ok words
+data-back count [] is small = ap (λ n. data_behind n None) (sym is)
+data-back count (w ∷ words) is small =
+    ap (data_in count) (small_stays (flat_map spaced_word (w ∷ words)) (small-words (w ∷ words))) ∙ data-read count (w ∷ words) is small
 
 colon-cut : (command from : List ℕ) (words : List ℕ) → Free 58 (command ++ from) → cut (codes ":") (command ++ (from ++ data_words_text words)) ≡ record { front = command ++ from; behind = behind_colon words }
 colon-cut command from [] p = ap (λ t. cut (codes ":") (command ++ t)) (append-nil from) ∙ cut-free 58 (command ++ from) p
@@ -207,18 +208,16 @@ abbrev with_words : WordFields → Option CommandFields → List ℕ → Result 
 with_words first sender words = Ok (record { first = first; sender = sender; words = words })
 
 abbrev with_sender : Option (List ℕ) → WordFields → Option CommandFields → Result SaidMessage ExpandFault
-with_sender colon first sender = data_in (words_wanted first) (map to_ascii_lowercase (or_nothing colon)) >>= with_words first sender
+with_sender colon first sender = data_behind (words_wanted first) colon >>= with_words first sender
 
 abbrev with_first : Option (List ℕ) → Option (List ℕ) → WordFields → Result SaidMessage ExpandFault
 with_first from colon first = sender_of first from >>= with_sender colon first
 
 parts-said : (m : CommandMessage) → IsMessage m → message_of (command_text m.command) (behind_from m.sender) (behind_colon m.words) ≡ Ok (said m)
 parts-said m is =
-    ap (λ r. named_word r >>= with_first (behind_from m.sender) (behind_colon m.words)) (command-says m.command is.command)
+    ap (λ r. named_word (command_text m.command) (behind_colon m.words) r >>= with_first (behind_from m.sender) (behind_colon m.words)) (command-says m.command is.command)
     ∙ ap (λ r. r >>= with_sender (behind_colon m.words) (fields.Command m.command)) (sender-back m.command m.sender is.command is.sender)
-    ∙ ap (λ t. data_in (words_wanted (fields.Command m.command)) (map to_ascii_lowercase t) >>= with_words (fields.Command m.command) m.sender) (words-back m.words)
-    ∙ ap (λ t. data_in (words_wanted (fields.Command m.command)) t >>= with_words (fields.Command m.command) m.sender) (small_stays (flat_map spaced_word m.words) (small-words m.words))
-    ∙ ap (λ r. r >>= with_words (fields.Command m.command) m.sender) (data-read (words_wanted (fields.Command m.command)) m.words is.count is.words)
+    ∙ ap (λ r. r >>= with_words (fields.Command m.command) m.sender) (data-back (words_wanted (fields.Command m.command)) m.words is.count is.words)
 
 text-free : (m : CommandMessage) → IsMessage m → Free 35 (message_text m)
 text-free m is =

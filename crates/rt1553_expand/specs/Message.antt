@@ -10,10 +10,11 @@ use Rattle.rt1553_tool.specs.declared.fields.CommandFields.{CommandFields}
 use Rattle.rt1553_tool.specs.declared.fields.WordFields.{WordFields}
 use Rattle.rt1553_tool.specs.declared.fields.WordFields.TheVariants as fields
 use Rattle.rt1553_tool.specs.declared.word_lines.WordLineFault.{WordLineFault}
+use Rattle.rt1553_tool.specs.declared.word_lines.WordLineFault.TheVariants as line
 use Rattle.rt1553_tool.specs.Fields.{bits_with}
 use Rattle.rt1553_tool.specs.WordLines.{SaidWord, word_line}
 use Rattle.rt1553_expand.specs.declared.fault.ExpandFault.{ExpandFault}
-use Rattle.rt1553_expand.specs.declared.fault.ExpandFault.TheVariants.{Comment, Word, ByDigits, NotReceive, Sender, DataWord, Much}
+use Rattle.rt1553_expand.specs.declared.fault.ExpandFault.TheVariants.{Comment, Word, ByDigits, NotReceive, Sender, Colon, DataWord, Much}
 
 infixl 10 ◌>>=◌
 -- what follows, unless there is a fault
@@ -43,10 +44,15 @@ pub record SaidMessage : Type 0 where
   pub sender : Option CommandFields
   pub words : List ℕ
 
+-- why this text, with this behind its colon, says no word: without a colon, what follows `rx A S N` stands where it is missing
+abbrev pub word_fault : List ℕ → Option (List ℕ) → WordLineFault → ExpandFault
+word_fault text None line.Much = if is_some (after (codes "rx ") text) then Colon else Word line.Much
+word_fault text colon fault = Word fault
+
 -- a word that is said by the names of its fields
-abbrev pub named_word : Result SaidWord WordLineFault → Result WordFields ExpandFault
-named_word (Err fault) = Err (Word fault)
-named_word (Ok said) = if said.by_fields then Ok said.fields else Err ByDigits
+abbrev pub named_word : List ℕ → Option (List ℕ) → Result SaidWord WordLineFault → Result WordFields ExpandFault
+named_word text colon (Err fault) = Err (word_fault text colon fault)
+named_word text colon (Ok said) = if said.by_fields then Ok said.fields else Err ByDigits
 
 -- the command to transmit as many words as are to be received, to the terminal and subaddress of this text
 abbrev pub sender_line : CommandFields → List ℕ → List ℕ
@@ -87,17 +93,17 @@ nothing_behind (Some (words, b ∷ rest)) = Err Much
 abbrev pub data_in : ℕ → List ℕ → Result (List ℕ) ExpandFault
 data_in count text = nothing_behind (fields_at (replicate count word) text)
 
--- a message without a colon has an empty list of data words
-abbrev pub or_nothing : Option (List ℕ) → List ℕ
-or_nothing None = []
-or_nothing (Some text) = text
+-- so many data words behind a colon, whose digits have letters of either case; without a colon there are none
+abbrev pub data_behind : ℕ → Option (List ℕ) → Result (List ℕ) ExpandFault
+data_behind count None = if count == 0 then Ok [] else Err Colon
+data_behind count (Some text) = data_in count (map to_ascii_lowercase text)
 
--- `WORD`, `WORD: XXXX ..` and `WORD from A S: XXXX ..`, by their parts; the digits of data words have letters of either case
+-- `WORD`, `WORD: XXXX ..` and `WORD from A S: XXXX ..`, by their parts
 abbrev pub message_of : List ℕ → Option (List ℕ) → Option (List ℕ) → Result SaidMessage ExpandFault
 message_of text from colon = do
-  first ← named_word (word_line text)
+  first ← named_word text colon (word_line text)
   sender ← sender_of first from
-  words ← data_in (words_wanted first) (map to_ascii_lowercase (or_nothing colon))
+  words ← data_behind (words_wanted first) colon
   Ok (record { first = first; sender = sender; words = words })
 
 -- the parts of a message: the first cut is at `from`, the second at the colon

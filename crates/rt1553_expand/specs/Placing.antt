@@ -24,8 +24,8 @@ this_or (Some text) other = Some text
 this_or None other = other
 
 -- the answer that a line states, or the mask that it has to fit
-abbrev pub stated : List ℕ → Option (List ℕ)
-stated line = this_or (after (codes "#> ") line) (after (codes "#~ ") line)
+abbrev pub stated_answer : List ℕ → Option (List ℕ)
+stated_answer line = this_or (after (codes "#> ") line) (after (codes "#~ ") line)
 
 -- the line goes on with the one before it
 abbrev pub is_more : List ℕ → Bool
@@ -33,7 +33,7 @@ is_more line = is_some (after (codes "#+ ") line)
 
 -- the line states an answer, or goes on with one
 abbrev pub is_stating : List ℕ → Bool
-is_stating line = is_some (stated line) || is_more line
+is_stating line = is_some (stated_answer line) || is_more line
 
 -- a word ends here
 abbrev pub is_word_over : Option (List ℕ) → Bool
@@ -47,7 +47,7 @@ behind_hand (Some text) = after (codes "hand") text
 
 -- the line states a hand-over: the word `hand` comes first
 abbrev pub is_hand : List ℕ → Bool
-is_hand line = is_word_over (behind_hand (stated line))
+is_hand line = is_word_over (behind_hand (stated_answer line))
 
 -- a word comes first
 abbrev pub word_first : List Event → Bool

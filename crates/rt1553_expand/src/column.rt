@@ -33,7 +33,7 @@ fn part_len(text: &[u8]) -> usize
 }
 
 /// How many bytes stand before the part of this number, from 0; all where there is no such part.
-fn before_part(text: &[u8], number: usize) -> usize
+fn part_place(text: &[u8], number: usize) -> usize
     ensures { result ≤ length text.now }
 {
     let mut at = blanks(text);
@@ -45,10 +45,10 @@ fn before_part(text: &[u8], number: usize) -> usize
 }
 
 /// How many bytes stand before the first part of a status word that names no bit.
-fn before_bit(text: &[u8]) -> usize
+fn bit_place(text: &[u8]) -> usize
     ensures { result ≤ length text.now }
 {
-    let mut at = before_part(text, 2);
+    let mut at = part_place(text, 2);
     for _ in 0..MOST {
         let end = at + part_len(&text[at..]);
         if read_word_line(&text[..end]).is_err() {
@@ -60,7 +60,7 @@ fn before_bit(text: &[u8]) -> usize
 }
 
 /// How many bytes of what is to say a word stand before what does not fit.
-fn before_fault(text: &[u8], fault: WordLineFault) -> usize
+fn fault_place(text: &[u8], fault: WordLineFault) -> usize
     ensures { result ≤ length text.now }
 {
     let number = match fault {
@@ -69,14 +69,14 @@ fn before_fault(text: &[u8], fault: WordLineFault) -> usize
         WordLineFault::Subaddress | WordLineFault::Code | WordLineFault::Parity(_) => 2,
         WordLineFault::Count | WordLineFault::Direction => 3,
         WordLineFault::ModeSubaddress => 4,
-        WordLineFault::Bit => return before_bit(text),
-        WordLineFault::Much => last_part(text),
+        WordLineFault::Bit => return bit_place(text),
+        WordLineFault::Much => part_behind(text),
     };
-    before_part(text, number)
+    part_place(text, number)
 }
 
 /// The number of the first part behind all that the word has, by its name.
-fn last_part(text: &[u8]) -> usize
+fn part_behind(text: &[u8]) -> usize
     ensures { result ≤ 5 }
 {
     let start = blanks(text);
@@ -89,7 +89,7 @@ fn last_part(text: &[u8]) -> usize
 }
 
 /// How many bytes stand before the first of so many data words that is missing or is none, or before what stands behind the last one.
-fn before_word(wanted: u8, text: &[u8]) -> usize
+fn word_place(wanted: u8, text: &[u8]) -> usize
     ensures { result ≤ length text.now }
 {
     let mut rest = text;
@@ -103,7 +103,7 @@ fn before_word(wanted: u8, text: &[u8]) -> usize
 }
 
 /// The same of the data words of a message that begins with this word, of which 256 bytes count.
-fn before_data(word: &[u8], text: &[u8]) -> usize
+fn data_place(word: &[u8], text: &[u8]) -> usize
     ensures { result ≤ length text.now }
 {
     let wanted = match read_word_line(word) {
@@ -111,24 +111,25 @@ fn before_data(word: &[u8], text: &[u8]) -> usize
         Err(_) => 0,
     };
     let small = small_letters(&text[..text.len().min(256)]);
-    before_word(wanted, small.as_slice())
+    word_place(wanted, small.as_slice())
 }
 
 /// How many bytes of a message stand before what does not fit.
-fn before_misfit(text: &[u8], fault: ExpandFault) -> usize
+fn misfit_place(text: &[u8], fault: ExpandFault) -> usize
     ensures { result ≤ length text.now }
 {
     let (head, data) = cut(text, b":");
     let (word, from) = cut(head, b" from ");
     match (fault, from, data) {
         (ExpandFault::Comment, ..) => cut(text, b"#").0.len(),
-        (ExpandFault::Word(fault), ..) => before_fault(word, fault),
+        (ExpandFault::Word(fault), ..) => fault_place(word, fault),
         (ExpandFault::NotReceive, ..) => word.len(),
         (ExpandFault::Sender, Some(from), _) => head.len() - from.len(),
+        (ExpandFault::Colon, None, _) => fault_place(word, WordLineFault::Much),
+        (ExpandFault::Colon, ..) => text.len(),
         (ExpandFault::DataWord | ExpandFault::Much, _, Some(data)) => {
-            text.len() - data.len() + before_data(word, data)
+            text.len() - data.len() + data_place(word, data)
         }
-        (ExpandFault::DataWord | ExpandFault::Much, _, None) => text.len(),
         _ => 0,
     }
 }
@@ -149,6 +150,6 @@ pub fn column_of(line: &[u8], fault: ExpandFault) -> usize
         ExpandFault::Mark => 1,
         ExpandFault::Return => line.len().max(1),
         _ if line.len() < 2 => 1,
-        _ => before_misfit(&line[2..], fault) + 3,
+        _ => misfit_place(&line[2..], fault) + 3,
     }
 }

@@ -14,7 +14,9 @@ ghost use Rattle.rt1553_expand.specs.inner.Wrote.{Wrote};
 use crate::column::column_of;
 use crate::fault::ExpandFault;
 use crate::message::{BusMessage, MOST, read_message};
-use crate::placing::{Pending, due, go_behind, how_many_left, next_events, nothing_pending};
+use crate::placing::{
+    Pending, events_before_line, go_behind, how_many_left, next_events, nothing_pending,
+};
 use crate::script_for::ScriptFor;
 use crate::writing::{message_lines, write_lines};
 use bus_terminal::Event;
@@ -117,10 +119,7 @@ pub fn read_line(own: &ScriptFor, line: &[u8]) -> Result<ReadLine, ExpandFault>
     match read_event(line) {
         Ok(_) if line.len() > MAX_LINE => Err(ExpandFault::LongComment),
         Ok(said) => Ok(ReadLine::Kept(said)),
-        Err(_) => match read_message_line(own, line) {
-            Ok(read) => Ok(read),
-            Err(fault) => Err(named_fault(line, fault)),
-        },
+        Err(_) => read_message_line(own, line).map_err(|fault| named_fault(line, fault)),
     }
 }
 
@@ -166,7 +165,7 @@ fn add_line(
     if lines > MAX_LINES as usize {
         return Ok(false);
     }
-    let count = due(&script.pending, line, &read);
+    let count = events_before_line(&script.pending, line, &read);
     write_lines(&mut script.text, next_events(&script.pending, count))?;
     push_kept(&mut script.text, line, &read)?;
     go_behind(&mut script.pending, count, own, number, line, &read)?;

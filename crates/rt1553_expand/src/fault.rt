@@ -37,6 +37,9 @@ pub enum ExpandFault {
     /// What stands behind `from` is not the address and the subaddress of another terminal.
     #[error("after from, the address of another terminal, 0 to 30, and its subaddress, 1 to 30, are expected")]
     Sender,
+    /// A colon is missing before data words, or data words are missing with it.
+    #[error("a colon is missing before the data words, as in A rx 5 3 1: 0001")]
+    Colon,
     /// A data word is missing, or is none.
     #[error("a data word is wanted: one space and four hexadecimal digits")]
     DataWord,
@@ -45,24 +48,13 @@ pub enum ExpandFault {
     Much,
 }
 
-/// Why what is to say a word does not.
+/// Why what is to say a word does not: in a message two texts differ from those of a line of words.
 fn word_fault_text(fault: WordLineFault) -> &'static str {
     match fault {
         WordLineFault::Long => "a word is said in at most 128 bytes",
         WordLineFault::Name => {
             "after a bus, rx, tx, mode, status or data is expected for a message, and c, d, gap or noise for an event"
         }
-        WordLineFault::Address => "an address is 0 to 30, or all for a command",
-        WordLineFault::Subaddress => "a subaddress is 1 to 30",
-        WordLineFault::Count => "a count is 1 to 32",
-        WordLineFault::Code => "a mode code is 0 to 31",
-        WordLineFault::Direction => "after a mode code comes tx or rx; a reserved code needs it",
-        WordLineFault::ModeSubaddress => "the subaddress of a mode code is 0 or 31",
-        WordLineFault::Bit => {
-            "a status has error, instrumentation, service, reserved1 to 3, broadcast, busy, subsystem, accept, terminal"
-        }
-        WordLineFault::Digits => "a word is four hexadecimal digits",
-        WordLineFault::Parity(_) => "the parity bit of this word is wrong",
-        WordLineFault::Much => "nothing may follow the last field",
+        _ => fault.text(),
     }
 }

@@ -54,7 +54,7 @@ fn have_16_bits(words: &[u16])
 {}
 
 /// All but the first items, so many.
-pub fn behind<T>(items: &[T], count: usize) -> &[T]
+pub fn rest_from<T>(items: &[T], count: usize) -> &[T]
     requires { count ≤ length items.now }
     ensures { result.now ≡ drop count items.now }
 {
@@ -154,7 +154,7 @@ fn lines_of_events(alloc: Global, own: &ScriptFor, events: &[Event]) -> Result<V
     let mut rest = events;
     while !rest.is_empty() {
         let taken = push_piece(&mut text, &mut room, own, rest)?;
-        rest = behind(rest, taken);
+        rest = rest_from(rest, taken);
     }
     Ok(text)
 }

@@ -5,14 +5,14 @@ ghost use Rattle.arrayvec.specs.ArrayVec.{array_vec_len};
 ghost use Rattle.bus_word.specs.Command.{AreOfTheirWidth};
 ghost use Rattle.rt1553_tool.specs.Fields.{AreOfWidth, in_word};
 ghost use Rattle.rt1553_tool.specs.WordLines.{word_line};
-ghost use Rattle.rt1553_expand.specs.Message.{cut, named_word, sender_line, another_terminal, sender_of, words_wanted, data_in, or_nothing, message_of, message_in};
+ghost use Rattle.rt1553_expand.specs.Message.{cut, named_word, sender_line, another_terminal, sender_of, words_wanted, data_in, data_behind, message_of, message_in};
 ghost use Rattle.rt1553_expand.specs.inner.Said.{said_message};
 
 use crate::fault::ExpandFault;
 use arrayvec::{ArrayString, ArrayVec};
 use bus_word::Command;
 use line_format::{FieldKind, after, field};
-use rt1553_tool::{CommandFields, WordFields, command_bits, read_word_line};
+use rt1553_tool::{CommandFields, WordFields, WordLineFault, command_bits, read_word_line};
 use script_lines::push_number;
 
 /// The address of all terminals.
@@ -52,15 +52,18 @@ pub fn cut<'a>(text: &'a [u8], mark: &[u8]) -> (&'a [u8], Option<&'a [u8]>)
     (text, None)
 }
 
-/// Reads the word that a message begins with.
-fn read_first(text: &[u8]) -> Result<WordFields, ExpandFault>
-    ensures value { result ≡ named_word (word_line text.now) }
+/// Reads the word that a message begins with; the rest of the message is this, if it has a colon.
+fn read_first(text: &[u8], colon: Option<&[u8]>) -> Result<WordFields, ExpandFault>
+    ensures value { result ≡ named_word text.now (option_map (λ t. t.now) colon.entry) (word_line text.now) }
     ensures width { IfOk result AreOfWidth }
 {
-    match read_word_line(text) {
-        Ok(line) if line.by_fields => Ok(line.fields),
-        Ok(_) => Err(ExpandFault::ByDigits),
-        Err(fault) => Err(ExpandFault::Word(fault)),
+    match (read_word_line(text), colon) {
+        (Ok(line), _) if line.by_fields => Ok(line.fields),
+        (Ok(_), _) => Err(ExpandFault::ByDigits),
+        (Err(WordLineFault::Much), None) if after(text, b"rx ").is_some() => {
+            Err(ExpandFault::Colon)
+        }
+        (Err(fault), _) => Err(ExpandFault::Word(fault)),
     }
 }
 
@@ -163,6 +166,20 @@ pub(crate) fn small_letters(text: &[u8]) -> ArrayVec<u8, 256>
     small
 }
 
+/// Reads this many data words behind a colon; without a colon there are none.
+fn read_behind(count: u8, colon: Option<&[u8]>) -> Result<Words, ExpandFault>
+    requires few { count ≤ 32 }
+    requires short { IfSome colon (λ t. length t.now ≤ 256) }
+    ensures said { IfOk result (λ words. data_behind count (option_map (λ t. t.now) colon.entry) ≡ Ok words.items) }
+    ensures refused { IfErr result (λ fault. data_behind count (option_map (λ t. t.now) colon.entry) ≡ Err fault) }
+{
+    match colon {
+        Some(text) => read_data(count, small_letters(text).as_slice()),
+        None if count == 0 => Ok(Words::new()),
+        None => Err(ExpandFault::Colon),
+    }
+}
+
 /// Reads a message by its parts: up to `from` or the colon, behind `from`, and behind a colon.
 fn read_parts(
     text: &[u8],
@@ -176,10 +193,9 @@ fn read_parts(
     ensures width { IfOk result (λ message. AreOfWidth message.first) }
     ensures sender { IfOk result (λ message. IfSome message.sender (λ sender. AreOfTheirWidth (in_word sender))) }
 {
-    let first = read_first(text)?;
+    let first = read_first(text, colon)?;
     let sender = read_sender(first, from)?;
-    let data = small_letters(colon.unwrap_or(b""));
-    let words = read_data(words_wanted(first), data.as_slice())?;
+    let words = read_behind(words_wanted(first), colon)?;
     Ok(BusMessage {
         first,
         sender,

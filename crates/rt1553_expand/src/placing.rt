@@ -1,13 +1,13 @@
 //! The answers that lines behind a message state, each behind the event that it is for.
 ghost use Rattle.std.specs.Prelude.{ℕ, ◌≡◌, ◌≤◌, ◌<◌, ◌+◌, [], List, false, length, take, drop, get_or, option_map, Option, OnOk};
 ghost use Rattle.terminal_rules.specs.declared.event.Event.{Event};
-ghost use Rattle.rt1553_expand.specs.Placing.{stated, is_more, is_stating, is_word_over, is_hand, word_first};
+ghost use Rattle.rt1553_expand.specs.Placing.{stated_answer, is_more, is_stating, is_hand, word_first};
 ghost use Rattle.rt1553_expand.specs.Expansion.{is_statement};
-ghost use Rattle.rt1553_expand.specs.inner.StillLeft.{left_of, IsPending, first_can_have, up_to, due_before, due, left_behind};
+ghost use Rattle.rt1553_expand.specs.inner.StillLeft.{left_of, IsPending, first_can_have, count_up_to, events_before_statement, events_before_line, left_behind};
 ghost use Rattle.rt1553_expand.specs.inner.Read.{expansion_by, IsWritable};
 
 use crate::expanding::ReadLine;
-use crate::gathering::behind;
+use crate::gathering::rest_from;
 use crate::script_for::ScriptFor;
 use crate::writing::push_events;
 use bus_terminal::Event;
@@ -42,8 +42,8 @@ pub fn nothing_pending(alloc: Global) -> Pending
 }
 
 /// What stands behind `#> ` or `#~ `.
-fn stated(line: &[u8]) -> Option<&[u8]>
-    ensures { option_map (λ r. r.now) result ≡ stated line.now }
+fn stated_answer(line: &[u8]) -> Option<&[u8]>
+    ensures { option_map (λ r. r.now) result ≡ stated_answer line.now }
 {
     match after(line, b"#> ") {
         Some(text) => Some(text),
@@ -62,27 +62,17 @@ fn is_more(line: &[u8]) -> bool
 fn is_stating(line: &[u8]) -> bool
     ensures { result ≡ is_stating line.now }
 {
-    stated(line).is_some() || is_more(line)
-}
-
-/// Whether nothing or a space comes.
-fn is_word_over(text: &[u8]) -> bool
-    ensures { result ≡ is_word_over (Some text.now) }
-{
-    text.is_empty() || text[0] == b' '
+    stated_answer(line).is_some() || is_more(line)
 }
 
 /// Whether the line states a hand-over.
 fn is_hand(line: &[u8]) -> bool
     ensures { result ≡ is_hand line.now }
 {
-    let Some(text) = stated(line) else {
+    let Some(text) = stated_answer(line) else {
         return false;
     };
-    match after(text, b"hand") {
-        Some(rest) => is_word_over(rest),
-        None => false,
-    }
+    matches!(after(text, b"hand"), Some([] | [b' ', ..]))
 }
 
 /// Whether a word comes first.
@@ -98,19 +88,19 @@ fn can_have(events: &[Event], hand: bool) -> bool
     ensures { result ≡ first_can_have hand events.now }
 {
     match events[0] {
-        Event::Gap(_) => hand && !word_first(behind(events, 1)),
+        Event::Gap(_) => hand && !word_first(rest_from(events, 1)),
         Event::Slot => !hand,
         _ => false,
     }
 }
 
 /// How many events come up to the first that can have the answer; all, if none can.
-fn up_to(events: &[Event], hand: bool) -> usize
-    ensures value { result ≡ up_to hand events.now }
+fn count_up_to(events: &[Event], hand: bool) -> usize
+    ensures value { result ≡ count_up_to hand events.now }
     ensures within { result ≤ length events.now }
 {
     for i in 0..events.len() {
-        if can_have(behind(events, i), hand) {
+        if can_have(rest_from(events, i), hand) {
             return i + 1;
         }
     }
@@ -122,7 +112,7 @@ fn left_events(pending: &Pending) -> &[Event]
     requires { IsPending pending.now }
     ensures { result.now ≡ (left_of pending.now).events }
 {
-    behind(pending.events.as_slice(), pending.at)
+    rest_from(pending.events.as_slice(), pending.at)
 }
 
 /// The next events, so many.
@@ -143,15 +133,15 @@ pub fn how_many_left(pending: &Pending) -> usize
 }
 
 /// How many events come before a line that states an answer.
-fn due_before(pending: &Pending, line: &[u8]) -> usize
+fn events_before_statement(pending: &Pending, line: &[u8]) -> usize
     requires { IsPending pending.now }
-    ensures value { result ≡ due_before (left_of pending.now) line.now }
+    ensures value { result ≡ events_before_statement (left_of pending.now) line.now }
     ensures within { result ≤ length (left_of pending.now).events }
 {
     if is_more(line) && !pending.fresh {
         0
     } else {
-        up_to(left_events(pending), is_hand(line))
+        count_up_to(left_events(pending), is_hand(line))
     }
 }
 
@@ -163,13 +153,13 @@ fn is_statement(line: &[u8], said: Option<Event>) -> bool
 }
 
 /// How many events come before the lines of a line that was read.
-pub fn due(pending: &Pending, line: &[u8], read: &ReadLine) -> usize
+pub fn events_before_line(pending: &Pending, line: &[u8], read: &ReadLine) -> usize
     requires { IsPending pending.now }
-    ensures value { (own : ScriptFor) → result ≡ due (left_of pending.now) (expansion_by own line.now read.now) }
+    ensures value { (own : ScriptFor) → result ≡ events_before_line (left_of pending.now) (expansion_by own line.now read.now) }
     ensures within { result ≤ length (left_of pending.now).events }
 {
     match read {
-        ReadLine::Kept(said) if is_statement(line, *said) => due_before(pending, line),
+        ReadLine::Kept(said) if is_statement(line, *said) => events_before_statement(pending, line),
         _ => how_many_left(pending),
     }
 }
@@ -185,7 +175,7 @@ pub fn go_behind(
 ) -> Result<(), AllocError>
     requires fits { IsPending pending.old }
     requires sound { IsWritable own.now line.now read.now }
-    requires due { count ≡ due (left_of pending.old) (expansion_by own.now line.now read.now) }
+    requires due { count ≡ events_before_line (left_of pending.old) (expansion_by own.now line.now read.now) }
     requires within { count ≤ length (left_of pending.old).events }
     ensures left { OnOk result (left_of pending.new ≡ left_behind number (left_of pending.old) (expansion_by own.now line.now read.now)) }
     ensures fits { OnOk result (IsPending pending.new) }

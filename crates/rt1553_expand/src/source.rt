@@ -7,7 +7,7 @@ ghost use Rattle.rt1553_expand.specs.inner.StillLeft.{left_of, IsPending, to_com
 ghost use Rattle.rt1553_expand.specs.inner.Read.{expansion_by};
 
 use crate::expanding::{ReadLine, read_line};
-use crate::placing::{Pending, due, go_behind, how_many_left, nothing_pending};
+use crate::placing::{Pending, events_before_line, go_behind, how_many_left, nothing_pending};
 use crate::script_for::ScriptFor;
 use refused_lines::first_line;
 use std::alloc::{AllocError, Global};
@@ -47,7 +47,7 @@ fn push_sources(
     let Ok(read) = read_line(own, line) else {
         return Ok(());
     };
-    let count = due(pending, line, &read);
+    let count = events_before_line(pending, line, &read);
     push_times(sources, count, pending.source)?;
     push_own(sources, &read, number)?;
     go_behind(pending, count, own, number, line, &read)?;

@@ -358,7 +358,7 @@ fn lines_of_stated_answers(rt: HostRuntime) -> Result<(), Fail> {
 
 #[test]
 fn columns(rt: HostRuntime) -> Result<(), Fail> {
-    let lines: [(&str, usize, &str); 35] = [
+    let lines: [(&str, usize, &str); 39] = [
         (
             "\u{feff}A mode 5 2",
             1,
@@ -488,7 +488,27 @@ fn columns(rt: HostRuntime) -> Result<(), Fail> {
         (
             "A rx 5 3 2",
             11,
-            "a data word is wanted: one space and four hexadecimal digits",
+            "a colon is missing before the data words, as in A rx 5 3 1: 0001",
+        ),
+        (
+            "A rx 5 3 2 0001 0002",
+            12,
+            "a colon is missing before the data words, as in A rx 5 3 1: 0001",
+        ),
+        (
+            "A rx 5 3 2 from 6 4",
+            20,
+            "a colon is missing before the data words, as in A rx 5 3 1: 0001",
+        ),
+        (
+            "A mode 5 17 rx 0",
+            17,
+            "a colon is missing before the data words, as in A rx 5 3 1: 0001",
+        ),
+        (
+            "A tx 5 3 2 0001 0002",
+            12,
+            "nothing may follow the last field",
         ),
         (
             "A rx 5 3 2: 0001  0002",

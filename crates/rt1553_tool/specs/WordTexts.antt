@@ -120,7 +120,7 @@ fault_text Bit = codes "a status has error, instrumentation, service, reserved1 
 fault_text Digits = codes "a word is four hexadecimal digits"
 fault_text (Parity false) = codes "the parity bit of this word is 0"
 fault_text (Parity true) = codes "the parity bit of this word is 1"
-fault_text Much = codes "too much in a line"
+fault_text Much = codes "nothing may follow the last field"
 
 -- a byte as it is written back: printable ASCII as it is, any other byte by its two digits
 abbrev pub shown_byte : ℕ → List ℕ

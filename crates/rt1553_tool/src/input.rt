@@ -75,10 +75,7 @@ pub fn put<W: Sink>(sink: &mut W, bytes: &[u8]) -> Result<(), ServeFault>
     ensures ok { OnOk result (Appends (W.written sink.old) (W.written sink.new) bytes.now) }
     ensures fault { IfErr result (λ fault. (fault ≡ ServeFault.Write) × (W.has_failed sink.new ≡ true)) }
 {
-    match write_all(sink, bytes) {
-        Ok(()) => Ok(()),
-        Err(_) => Err(ServeFault::Write),
-    }
+    write_all(sink, bytes).map_err(|_| ServeFault::Write)
 }
 
 /// Hands on what was written.
@@ -86,8 +83,5 @@ pub fn hand_on<W: Sink>(sink: &mut W) -> Result<(), ServeFault>
     ensures ok { OnOk result (Keeps (W.written sink.old) (W.written sink.new)) }
     ensures fault { IfErr result (λ fault. (fault ≡ ServeFault.Write) × (W.has_failed sink.new ≡ true)) }
 {
-    match sink.flush() {
-        Ok(()) => Ok(()),
-        Err(_) => Err(ServeFault::Write),
-    }
+    sink.flush().map_err(|_| ServeFault::Write)
 }

@@ -310,22 +310,12 @@ fn read_data(parts: &[&[u8]]) -> Result<WordFields, WordLineFault>
 fn parity_part(parity: bool, part: Option<&[u8]>) -> Result<bool, WordLineFault>
     ensures { result ≡ parity_part parity (text_in part.entry) }
 {
-    if part.is_none() {
+    let right: &[u8] = if parity { b"1" } else { b"0" };
+    if part.is_none() || is_word(part, right) {
         return Ok(parity);
     }
-    if is_word(part, b"0") {
-        return if parity {
-            Err(WordLineFault::Parity(parity))
-        } else {
-            Ok(parity)
-        };
-    }
-    if is_word(part, b"1") {
-        return if parity {
-            Ok(parity)
-        } else {
-            Err(WordLineFault::Parity(parity))
-        };
+    if is_word(part, b"0") || is_word(part, b"1") {
+        return Err(WordLineFault::Parity(parity));
     }
     Err(WordLineFault::Much)
 }
@@ -342,58 +332,18 @@ fn read_digits(parts: &[&[u8]], kind: Kind) -> Result<u16, WordLineFault>
     Ok(bits)
 }
 
-/// Gives a line that has the fields of a word.
-fn by_fields(fields: WordFields) -> WordLine
+/// Gives a line that has the fields of a word, or its digits.
+fn line_of(fields: WordFields, by_fields: bool) -> WordLine
     requires { AreOfWidth fields }
     ensures word { IsWordOf result.word result.fields }
     ensures width { AreOfWidth result.fields }
-    ensures fields { result.fields ≡ fields }
-    ensures by_fields { result.by_fields ≡ true }
+    ensures said { said_of result ≡ record { fields = fields; by_fields = by_fields } }
     ensures digits { result.word ≡ valid_word (sync_of fields) (bits_with fields) }
 {
     WordLine {
         fields,
         word: word_with(fields),
-        by_fields: true,
-    }
-}
-
-/// Gives a line that has the digits of a command word.
-fn command_by_digits(bits: u16) -> WordLine
-    ensures word { IsWordOf result.word result.fields }
-    ensures width { AreOfWidth result.fields }
-    ensures said { said_of result ≡ record { fields = CommandWord (command_fields_in bits); by_fields = false } }
-{
-    WordLine {
-        fields: WordFields::Command(command_fields(bits)),
-        word: Raw::of(Kind::Com, bits),
-        by_fields: false,
-    }
-}
-
-/// Gives a line that has the digits of a status word.
-fn status_by_digits(bits: u16) -> WordLine
-    ensures word { IsWordOf result.word result.fields }
-    ensures width { AreOfWidth result.fields }
-    ensures said { said_of result ≡ record { fields = StatusWord (status_in bits); by_fields = false } }
-{
-    WordLine {
-        fields: WordFields::Status(status_fields(bits)),
-        word: Raw::of(Kind::Com, bits),
-        by_fields: false,
-    }
-}
-
-/// Gives a line that has the digits of a data word.
-fn data_by_digits(bits: u16) -> WordLine
-    ensures word { IsWordOf result.word result.fields }
-    ensures width { AreOfWidth result.fields }
-    ensures said { said_of result ≡ record { fields = DataWord bits; by_fields = false } }
-{
-    WordLine {
-        fields: WordFields::Data(bits),
-        word: Raw::of(Kind::Dat, bits),
-        by_fields: false,
+        by_fields,
     }
 }
 
@@ -406,28 +356,31 @@ fn read_parts(parts: &[&[u8]]) -> Result<WordLine, WordLineFault>
 {
     let name = part(parts, 0);
     if is_word(name, b"rx") {
-        return Ok(by_fields(read_transfer(parts, false)?));
+        return Ok(line_of(read_transfer(parts, false)?, true));
     }
     if is_word(name, b"tx") {
-        return Ok(by_fields(read_transfer(parts, true)?));
+        return Ok(line_of(read_transfer(parts, true)?, true));
     }
     if is_word(name, b"mode") {
-        return Ok(by_fields(read_mode(parts)?));
+        return Ok(line_of(read_mode(parts)?, true));
     }
     if is_word(name, b"status") {
-        return Ok(by_fields(read_status(parts)?));
+        return Ok(line_of(read_status(parts)?, true));
     }
     if is_word(name, b"data") {
-        return Ok(by_fields(read_data(parts)?));
+        return Ok(line_of(read_data(parts)?, true));
     }
     if is_word(name, b"c") {
-        return Ok(command_by_digits(read_digits(parts, Kind::Com)?));
+        let bits = read_digits(parts, Kind::Com)?;
+        return Ok(line_of(WordFields::Command(command_fields(bits)), false));
     }
     if is_word(name, b"s") {
-        return Ok(status_by_digits(read_digits(parts, Kind::Com)?));
+        let bits = read_digits(parts, Kind::Com)?;
+        return Ok(line_of(WordFields::Status(status_fields(bits)), false));
     }
     if is_word(name, b"d") {
-        return Ok(data_by_digits(read_digits(parts, Kind::Dat)?));
+        let bits = read_digits(parts, Kind::Dat)?;
+        return Ok(line_of(WordFields::Data(bits), false));
     }
     Err(WordLineFault::Name)
 }

@@ -261,27 +261,31 @@ fn push_digits(text: &mut AnswerLine, fields: WordFields, word: Raw)
     text.push_str(if word.parity { " 1" } else { " 0" });
 }
 
-/// Gives why a line is refused.
-fn text_of(fault: WordLineFault) -> &'static str
-    ensures value { result.now ≡ fault_text fault }
-    ensures short { length result.now ≤ 200 }
-{
-    match fault {
-        WordLineFault::Long => "a line has at most 128 bytes",
-        WordLineFault::Name => "a line begins with rx, tx, mode, status, data, c, s or d",
-        WordLineFault::Address => "an address is 0 to 30, or all for a command",
-        WordLineFault::Subaddress => "a subaddress is 1 to 30",
-        WordLineFault::Count => "a count is 1 to 32",
-        WordLineFault::Code => "a mode code is 0 to 31",
-        WordLineFault::Direction => { "after a mode code comes tx or rx; a reserved code needs it" }
-        WordLineFault::ModeSubaddress => "the subaddress of a mode code is 0 or 31",
-        WordLineFault::Bit => {
-            "a status has error, instrumentation, service, reserved1 to 3, broadcast, busy, subsystem, accept, terminal"
+impl WordLineFault {
+    /// Why the line is refused, as it is printed.
+    pub fn text(self) -> &'static str
+        ensures value { result.now ≡ fault_text self }
+        ensures short { length result.now ≤ 200 }
+    {
+        match self {
+            WordLineFault::Long => "a line has at most 128 bytes",
+            WordLineFault::Name => "a line begins with rx, tx, mode, status, data, c, s or d",
+            WordLineFault::Address => "an address is 0 to 30, or all for a command",
+            WordLineFault::Subaddress => "a subaddress is 1 to 30",
+            WordLineFault::Count => "a count is 1 to 32",
+            WordLineFault::Code => "a mode code is 0 to 31",
+            WordLineFault::Direction => {
+                "after a mode code comes tx or rx; a reserved code needs it"
+            }
+            WordLineFault::ModeSubaddress => "the subaddress of a mode code is 0 or 31",
+            WordLineFault::Bit => {
+                "a status has error, instrumentation, service, reserved1 to 3, broadcast, busy, subsystem, accept, terminal"
+            }
+            WordLineFault::Digits => "a word is four hexadecimal digits",
+            WordLineFault::Parity(false) => "the parity bit of this word is 0",
+            WordLineFault::Parity(true) => "the parity bit of this word is 1",
+            WordLineFault::Much => "nothing may follow the last field",
         }
-        WordLineFault::Digits => "a word is four hexadecimal digits",
-        WordLineFault::Parity(false) => "the parity bit of this word is 0",
-        WordLineFault::Parity(true) => "the parity bit of this word is 1",
-        WordLineFault::Much => "too much in a line",
     }
 }
 
@@ -373,7 +377,7 @@ pub fn answer_word_line(line: &[u8]) -> (AnswerLine, bool)
             Ok(said) => push_said(&mut text, &said),
             Err(fault) => {
                 text.push_str("? ");
-                text.push_str(text_of(fault));
+                text.push_str(fault.text());
                 is_refused_line = true;
             }
         }

@@ -30,18 +30,18 @@ first_can_have hand [] = false
 first_can_have hand (e ∷ es) = can_have hand e es
 
 -- how many events come up to the first that can have the answer; all, if none can
-abbrev pub up_to : Bool → List Event → ℕ
-up_to hand [] = 0
-up_to hand (e ∷ es) = if can_have hand e es then 1 else suc (up_to hand es)
+abbrev pub count_up_to : Bool → List Event → ℕ
+count_up_to hand [] = 0
+count_up_to hand (e ∷ es) = if can_have hand e es then 1 else suc (count_up_to hand es)
 
 -- how many events come before a line that states an answer
-abbrev pub due_before : StillLeft → List ℕ → ℕ
-due_before l line = if is_more line then (if l.fresh then up_to (is_hand line) l.events else 0) else up_to (is_hand line) l.events
+abbrev pub events_before_statement : StillLeft → List ℕ → ℕ
+events_before_statement l line = if is_more line then (if l.fresh then count_up_to (is_hand line) l.events else 0) else count_up_to (is_hand line) l.events
 
 -- how many events come before the lines of this expansion
-abbrev pub due : StillLeft → Expansion → ℕ
-due l (Gives es) = length l.events
-due l (Stays line said) = if is_statement line said then due_before l line else length l.events
+abbrev pub events_before_line : StillLeft → Expansion → ℕ
+events_before_line l (Gives es) = length l.events
+events_before_line l (Stays line said) = if is_statement line said then events_before_statement l line else length l.events
 
 -- the line that comes behind them
 abbrev pub own_line : ℕ → Expansion → List ScriptLine
@@ -52,5 +52,5 @@ own_line n (Stays line said) = record { text = line; source = n } ∷ []
 abbrev pub left_behind : ℕ → StillLeft → Expansion → StillLeft
 left_behind n l (Gives es) = record { events = es; source = n; fresh = true }
 left_behind n l (Stays line said) =
-    if is_statement line said then record { events = drop (due_before l line) l.events; source = l.source; fresh = false }
+    if is_statement line said then record { events = drop (events_before_statement l line) l.events; source = l.source; fresh = false }
     else record { events = []; source = l.source; fresh = false }

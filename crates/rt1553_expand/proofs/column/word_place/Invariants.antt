@@ -1,5 +1,5 @@
 use Rattle.std.proofs.Common.{◌≤◌, length}
-use Rattle.rt1553_expand.proofs.column.before_word.Given as goal
+use Rattle.rt1553_expand.proofs.column.word_place.Given as goal
 
 abbrev pub invariant-loop : goal.invariant-loop
 invariant-loop l = length l.rest ≤ length l.text

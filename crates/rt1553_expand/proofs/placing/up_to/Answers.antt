@@ -1,5 +1,0 @@
-use Rattle.rt1553_expand.proofs.PlacingLaws.{up_to-on}
-use Rattle.rt1553_expand.proofs.placing.up_to.Goals as goal
-
-pub loop-i-preserved : goal.loop-i-preserved
-loop-i-preserved c = up_to-on c.args.hand c.args.events.now c.loop-i.i _ _ c.loop-i-test.true c.loop-i.invariant c.behind.ensures c.can_have.ensures c.if-can_have.false
