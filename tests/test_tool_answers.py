@@ -24,7 +24,8 @@ REFUSED = {
 ROWS = with_files(
     FILES,
     Row("answers behind their events", "answers five plain", output=f"# asks\n\n{ASK}#> A s 2800\n# and again\nslot\n"),
-    Row("others are replaced", "answers five stated", output=f"{ASK}#> A s 2800\n# that of another\nslot\nA gap\n"),
+    Row("others are replaced", "answers five stated", output=f"{ASK}#> A s 2800\n# that of another\nslot\nA gap\n",
+        errors="stated: warning: stated answers that are replaced: 3\n"),
     Row("its own transfer", "answers --expand nine messages",
         output="A c 3022\nA c 4c22\nA gap\nslot\n#> A s 4800\nslot\n#> A d 0000\nslot\n#> A d 0000\n"
         "A c 4c21\nA gap\nslot\n#> A s 4800\nslot\n#> A d 0000\n"),

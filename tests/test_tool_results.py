@@ -51,6 +51,10 @@ FAULTS = with_files(
       for it in ("check bad", "canon bad", "run bad script", "compare bad five", "compare five bad", "compare bad bad", "compare bad cut")),
     Row("a canonical text", "check cut", 2, errors='cut:64:1: error: canonical text: line 64: a line like "own-mode 00000134" is expected\n'),
     Row("bytes after a canonical text", "canon trailing", 2, errors="trailing:66:1: error: canonical text: bytes after the end\n"),
+    *(Row(f"a hint: {words}", words, 2,
+          errors=f"{name}:{line}:3: error: profile: not TOML: key with no value, expected `=`\n{name}: hint: it begins like a script, and a profile is expected here\n",
+          files={"messages": "# two\n\nA rx 5 1 1: 0001\n"})
+      for words, name, line in (("run script five", "script", 1), ("check messages", "messages", 3))),
     Row("no TOML", "check text", 2, errors="text:1:4: error: profile: not TOML: key with no value, expected `=`\n", files={"text": "no TOML\n"}),
     Row("all faults", "check two", 2,
         "", 'two:2:1: error: profile: root: unknown key "vectr"; known are address, broadcast, wraparound, accept_bus_control, vector, bit, '

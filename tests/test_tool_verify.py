@@ -52,7 +52,7 @@ VERIFY = with_files(
         "refused:3:5: error: a space at the end: nothing may follow the last field\nsilent: warning: the script states no answer\n"),
     Row("a script that is not there", "verify five none good", 4, errors="file: cannot read none: no such file\n"),
     Row("a profile that is not there", "verify none good", 4, errors="file: cannot read none: no such file\n"),
-    Row("a profile that is refused", "verify silent good", 2, errors="silent:1:3: error: profile: not TOML: key with no value, expected `=`\n"),
+    Row("a profile that is refused", "verify silent good", 2, errors="silent:1:3: error: profile: not TOML: key with no value, expected `=`\nsilent: hint: it begins like a script, and a profile is expected here\n"),
     Row("comments that are none", "verify five near"),
     Row("check-script: comments that are none", "check-script near"),
     Row("a profile that is too large", "verify large good", 4, errors="file: too large large: at most 1,048,576 bytes\n", files={"large": bytes(1048577)}),

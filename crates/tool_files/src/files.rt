@@ -31,10 +31,7 @@ fn read_named<R: Files + AllocGlobal>(rt: &R, name: &str, most: usize) -> Result
     if name.is_empty() {
         return Err(ToolFault::NoName);
     }
-    match read_file(rt, name, most) {
-        Ok(bytes) => Ok(bytes),
-        Err(fault) => Err(unread_file(rt, name, most, fault)),
-    }
+    read_file(rt, name, most).map_err(|fault| unread_file(rt, name, most, fault))
 }
 
 /// The file of this name, opened to be read.
@@ -42,10 +39,7 @@ pub fn open_named<R: Files + AllocGlobal>(rt: &R, name: &str) -> Result<R::File,
     if name.is_empty() {
         return Err(ToolFault::NoName);
     }
-    match open_file(rt, name) {
-        Ok(file) => Ok(file),
-        Err(fault) => Err(unread_file(rt, name, SCRIPT_BYTES, fault)),
-    }
+    open_file(rt, name).map_err(|fault| unread_file(rt, name, SCRIPT_BYTES, fault))
 }
 
 /// The bytes of a profile file or a table, of at most 1,048,576 bytes.

@@ -35,14 +35,9 @@ impl LoadedScript {
     pub fn sources(&self) -> Option<&[u64]>
         ensures { option_map (λ s. s.now) result ≡ option_map (λ lines. lines.items) self.now.sources }
     {
-        match &self.sources {
-            Some(sources) => Some(sources.as_slice()),
-            None => None,
-        }
+        self.sources.as_ref().map(|sources| sources.as_slice())
     }
-}
 
-impl LoadedScript {
     /// The SHA-256 digest of the file.
     pub fn file_digest(&self) -> [u8; 32]
         ensures { (expand_for : Option ℕ) (text : List ℕ) → IsScriptOf expand_for text self.now → result ≡ sha256 text }

@@ -28,13 +28,11 @@ impl<'a> ListWriter<'a> {
 
     /// Writes a row, if there is one.
     fn push_row(&self, page: &mut String, row: Option<RunRow>) -> Result<(), AllocError> {
-        match row {
-            Some(row) => {
-                let cells = row_cells(self.alloc, &row, self.name_of(&row))?;
-                push_list_row(self.alloc, page, &row, cells.as_slice())
-            }
-            None => Ok(()),
-        }
+        let Some(row) = row else {
+            return Ok(());
+        };
+        let cells = row_cells(self.alloc, &row, self.name_of(&row))?;
+        push_list_row(self.alloc, page, &row, cells.as_slice())
     }
 
     /// Writes the rows of messages that are over.

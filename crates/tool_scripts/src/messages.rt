@@ -54,10 +54,8 @@ impl<'a> RowPrinter<'a> {
     /// The name of a message: None where there are no names, and that it has none where it has none.
     fn name_of(&self, row: &RunRow) -> Option<Option<&'a str>> {
         let names = self.names?;
-        match row.commands.named(self.own) {
-            Some(command) => Some(name_of_command(names, command.bits())),
-            None => Some(None),
-        }
+        let command = row.commands.named(self.own);
+        Some(command.and_then(|command| name_of_command(names, command.bits())))
     }
 
     /// A row of CSV.

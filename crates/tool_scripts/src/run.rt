@@ -18,7 +18,7 @@ use tool_files::{
 const PIECE: usize = 65_536;
 
 /// The fault of a script that isn't played to its end; the line that is refused is told as `check-script` tells it.
-fn unplayed<R: AllocGlobal>(rt: &R, script: NamedBytes<'_>, fault: RunFault) -> ToolFault
+fn play_fault<R: AllocGlobal>(rt: &R, script: NamedBytes<'_>, fault: RunFault) -> ToolFault
     ensures { (result ≡ ToolFault.Memory) ⊎ (tool_status result ≡ exit_status_of (Script fault)) }
 {
     match fault {
@@ -46,7 +46,7 @@ fn play<R: AllocGlobal, W: Sink>(
     match run(rt.alloc(), profile.bytes, &mut source, sink) {
         Ok(_) => Ok(()),
         Err(EngineFault::Load(fault)) => Err(refused_profile(rt, profile, fault)),
-        Err(EngineFault::Script(fault)) => Err(unplayed(rt, script, fault)),
+        Err(EngineFault::Script(fault)) => Err(play_fault(rt, script, fault)),
     }
 }
 
