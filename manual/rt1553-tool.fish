@@ -17,7 +17,7 @@ complete -c rt1553-tool -n '__fish_seen_subcommand_from bus' -l messages -d 'pri
 complete -c rt1553-tool -n '__fish_seen_subcommand_from bus' -l check -d 'takes messages as --expand does, and prints which of them do not end well'
 complete -c rt1553-tool -n '__fish_seen_subcommand_from bus' -l format -x -a 'text json junit' -d 'with --check: the output format'
 complete -c rt1553-tool -n '__fish_seen_subcommand_from bus' -l names -r -F -d 'with --check: the names of messages to the terminal of TABLE, also several times'
-complete -c rt1553-tool -n '__fish_seen_subcommand_from bus' -l date -x -d 'with --check, not as text: the date, as 2026-01-31T12:00:00'
+complete -c rt1553-tool -n '__fish_seen_subcommand_from bus' -l date -x -d 'with --check, not as text: the date and time, as 2026-01-31T12:00:00'
 complete -c rt1553-tool -n '__fish_seen_subcommand_from bus' -l response -x -d 'with --check: the time before a status word, in us; 12 if left out'
 complete -c rt1553-tool -n '__fish_seen_subcommand_from bus' -l gap -x -d 'with --check: the time between messages, in us; 4 if left out'
 complete -c rt1553-tool -n '__fish_seen_subcommand_from bus' -F
@@ -36,7 +36,7 @@ complete -c rt1553-tool -n '__fish_seen_subcommand_from verify' -l expand -d 'ta
 complete -c rt1553-tool -n '__fish_seen_subcommand_from verify' -l profiles -x -a '(__fish_complete_directories)' -d 'in place of P: each script names its profile in FOLDER'
 complete -c rt1553-tool -n '__fish_seen_subcommand_from verify' -l format -x -a 'text json junit html' -d 'the output format'
 complete -c rt1553-tool -n '__fish_seen_subcommand_from verify' -l names -r -F -d 'puts the names of messages in TABLE beside their numbers'
-complete -c rt1553-tool -n '__fish_seen_subcommand_from verify' -l date -x -d 'not as text: the date, as 2026-01-31T12:00:00, also with Z or an offset'
+complete -c rt1553-tool -n '__fish_seen_subcommand_from verify' -l date -x -d 'not as text: the date and time, as 2026-01-31T12:00:00, also with Z or an offset'
 complete -c rt1553-tool -n '__fish_seen_subcommand_from verify' -F
 complete -c rt1553-tool -n __fish_use_subcommand -a answers -d 'Writes a script with the answers of a terminal stated'
 complete -c rt1553-tool -n '__fish_seen_subcommand_from answers' -l expand -d 'takes messages, too, as `expand` does'
@@ -81,7 +81,7 @@ complete -c rt1553-tool -n '__fish_seen_subcommand_from acceptance' -l against -
 complete -c rt1553-tool -n '__fish_seen_subcommand_from acceptance' -l any-subsystem -d 'with --against: some behaviour of the subsystem is to explain the replies'
 complete -c rt1553-tool -n '__fish_seen_subcommand_from acceptance' -l format -x -a 'text csv json junit html' -d 'the output format; csv: without --against; junit, html: with it'
 complete -c rt1553-tool -n '__fish_seen_subcommand_from acceptance' -l names -r -F -d 'puts the names of messages in TABLE beside their numbers'
-complete -c rt1553-tool -n '__fish_seen_subcommand_from acceptance' -l date -x -d 'with --against, not as text: the date, as 2026-01-31T12:00:00Z'
+complete -c rt1553-tool -n '__fish_seen_subcommand_from acceptance' -l date -x -d 'with --against, not as text: the date and time, as 2026-01-31T12:00:00Z'
 complete -c rt1553-tool -n '__fish_seen_subcommand_from acceptance' -F
 complete -c rt1553-tool -n __fish_use_subcommand -a messages -d 'Prints a line for each message of a run, and how it ended'
 complete -c rt1553-tool -n '__fish_seen_subcommand_from messages' -l expand -d 'takes messages, too, as `expand` does'

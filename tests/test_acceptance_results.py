@@ -53,7 +53,7 @@ REFUSED = [
 ]
 DATE = "2026-11-28T12:00:00Z"
 WITHOUT = "arguments: --format junit and html, --any-subsystem and --date are for --against\n"
-DATES = "arguments: --date is as 2026-01-31T12:00:00, also with Z or an offset\n"
+DATES = "arguments: --date is a date and a time, as 2026-01-31T12:00:00, also with Z or an offset\n"
 OUT_OF_RANGE = "profile:1:1: error: profile: root: address is out of range: 31; allowed is a whole number from 0 to 30\n"
 FILES = {"profile": LARGEST, "results": "number,reply\n1,none\n"}
 FAILING = [

@@ -226,7 +226,7 @@ def test_date(tool, shown, form, date, tmp_path):
 def test_no_date(tool, date, tmp_path):
     write_files(tmp_path, SMALL)
     given = run(tool, "verify", "--format", "json", f"--date={date}", "five", "good", folder=tmp_path)
-    assert given == (3, b"", b"arguments: --date is as 2026-01-31T12:00:00, also with Z or an offset\n")
+    assert given == (3, b"", b"arguments: --date is a date and a time, as 2026-01-31T12:00:00, also with Z or an offset\n")
 
 
 @pytest.mark.parametrize("words", [[], ["--summary"], ["--format", "text"]], ids=" ".join)

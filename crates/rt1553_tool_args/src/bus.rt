@@ -86,7 +86,11 @@ fn check_output<'a>(given: &ArgMatches<'a>) -> Result<BusOutput<'a>, NoCommand>
 {
     match (alone_of(given)?, is_flag_given(given, "messages")) {
         (None, false) => Ok(BusOutput::Check(asked_check(given)?)),
-        _ => Err(NoCommand::Usage("--alone, --messages and --check exclude each other")),
+        (Some(_), false) => Err(NoCommand::Usage("--alone and --check exclude each other")),
+        (None, true) => Err(NoCommand::Usage("--messages and --check exclude each other")),
+        (Some(_), true) => Err(NoCommand::Usage(
+            "--alone, --messages and --check exclude each other",
+        )),
     }
 }
 
@@ -118,7 +122,7 @@ fn bus_output<'a>(given: &ArgMatches<'a>) -> Result<BusOutput<'a>, NoCommand>
         (None, false) => Ok(BusOutput::Transcript),
         (Some(address), false) => Ok(BusOutput::CameTo(address)),
         (None, true) => Ok(BusOutput::Messages),
-        _ => Err(NoCommand::Usage("--alone, --messages and --check exclude each other")),
+        (Some(_), true) => Err(NoCommand::Usage("--alone and --messages exclude each other")),
     }
 }
 

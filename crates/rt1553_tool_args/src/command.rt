@@ -460,7 +460,7 @@ pub(crate) fn date_of<'a>(
         (Some(_), ReportFormat::Text) => Err(NoCommand::Usage("--date is not for text")),
         (Some(date), _) if is_date(date.as_bytes()) => Ok(Some(date)),
         (Some(_), _) => Err(NoCommand::Usage(
-            "--date is as 2026-01-31T12:00:00, also with Z or an offset",
+            "--date is a date and a time, as 2026-01-31T12:00:00, also with Z or an offset",
         )),
     }
 }

@@ -85,7 +85,7 @@ const OF_BUS: [Argument; 11] = [
         id: "script",
         given: Occurrence::Once,
         value: "SCRIPT",
-        help: "a script, with addresses in front of subsystem lines",
+        help: "a script, with addresses in front of subsystem lines, right behind the profiles",
     },
     EXPAND,
     Argument {
@@ -122,7 +122,7 @@ const OF_BUS: [Argument; 11] = [
         id: "date",
         given: Occurrence::Value,
         value: "DATE",
-        help: "with --check, not as text: the date, as 2026-01-31T12:00:00",
+        help: "with --check, not as text: the date and time, as 2026-01-31T12:00:00",
     },
     Argument {
         id: "response",
@@ -221,7 +221,7 @@ const OF_VERIFY: [Argument; 12] = [
         id: "date",
         given: Occurrence::Value,
         value: "DATE",
-        help: "not as text: the date, as 2026-01-31T12:00:00, also with Z or an offset",
+        help: "not as text: the date and time, as 2026-01-31T12:00:00, also with Z or an offset",
     },
 ];
 
@@ -370,7 +370,7 @@ const OF_ACCEPTANCE: [Argument; 6] = [
         id: "date",
         given: Occurrence::Value,
         value: "DATE",
-        help: "with --against, not as text: the date, as 2026-01-31T12:00:00Z",
+        help: "with --against, not as text: the date and time, as 2026-01-31T12:00:00Z",
     },
 ];
 
