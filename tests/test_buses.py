@@ -59,13 +59,13 @@ def check_alone(tool, rt1553, name, names, bus, wanted, folder):
     assert run(rt1553, "run", name, "/dev/stdin", stdin=alone.output, folder=folder) == (0, answers.encode(), b"")
 
 
-CHECK_SEEDS, SCHEDULES = 4, 80
+CHECK_SEEDS, SCHEDULES = 4, 100
 # in the schedules of each seed
 CHECKED = {
     "well": 100, "neither": 150, "in the run": 12, "both, and not the same": 15, "all end well": 1, "lines of a subsystem": 80,
     "no profile has address": 40, "no terminal takes the broadcast": 40, "illegal": 150, "busy": 8, "done: transmitter shut down": 3,
     "in error: wrong word count": 20, "in error: no status from the transmitter": 1,
-    "takes it for no message": 3, "ignored: during a reply": 1,
+    "takes it for no message": 20, "ignored: during a reply": 1, "commands of two lines in a message": 10,
     "loads to 100 %": 10, "loads over 100 %": 20, "rated: data": 40, "rated: data to all": 5, "rated: mode code": 20, "rated: mode code to all": 4,
     "rated: transfer": 20, "rated: transfer to all": 4,
 }  # fmt: skip
@@ -118,9 +118,9 @@ class Schedule:
         while sum(isinstance(it, Message) for it in self.lines) < length:
             self.lines += self.strangers() if draw.random() < self.strange else []
             line = draw.choice(kinds)()
-            if self.strange and isinstance(line, Message) and rules.is_broadcast(line.commands[0]):
-                # without it some terminal may take the broadcast for a word of another message; the test leaves open what is told then
-                self.lines.append(f"{line.bus} gap")
+            if self.strange and isinstance(line, Message) and draw.random() < 0.3:
+                # with which the message may make a transfer
+                self.lines.append(f"{line.bus} c {self.receive().commands[0]:04x}")
             self.lines.append(line)
 
     def own(self):
@@ -191,8 +191,14 @@ def event_of(line):
     return f"{status[1]} c {int(status[2]) << 11:04x}" if status else line.replace("data", "d")
 
 
+def commands_of(row, came):
+    """The words of the commands of a message, by the numbers of their lines; it begins at a place of what came to its terminal."""
+    later = [(number, event[2][1]) for number, event in came[row["line"]:] if event[0] == "word" and event[1] == row["bus"]]
+    return later[:1 + (row["transmitter"] is not None)]
+
+
 def rows_of(setups, numbered, counts):
-    """The messages of each terminal, of numbered lines of a script on a bus of these, and the warnings."""
+    """The messages of each terminal with their commands, of numbered lines of a script on a bus of these, and the warnings."""
     bus = buses.Bus(setups, counts)
     events, warnings = {it.address: [] for it in setups}, []
     for number, line in numbered:
@@ -200,13 +206,18 @@ def rows_of(setups, numbered, counts):
         warnings += [f"schedule:{number}: warning: {warning}\n"] if warning else []
         for address, came in bus.came.items():
             events[address] += [(number, it) for it in came[len(events[address]):]]
-    return {it.address: message_rows.rows_of(it, events[it.address]) for it in setups}, warnings
+    rows = {}
+    for it in setups:
+        came = events[it.address]
+        told = message_rows.rows_of(it, [(place, event) for place, (_, event) in enumerate(came)])
+        rows[it.address] = [(row, commands_of(row, came)) for row in told]
+        counts["commands of two lines in a message"] += sum(len({number for number, _ in commands}) > 1 for _, commands in rows[it.address])
+    return rows, warnings
 
 
 def result_of(rows, number, command):
     """How a terminal ended the message of a line that has this command for it, or None where it did so well."""
-    words = [([part["word"] for part in (it["command"], it["transmitter"]) if part], it) for it in rows if it["line"] == number]
-    ends = [(it["ended"], it["why"]) for has, it in words if f"{command:04x}" in has and it["ended"] != "other"]
+    ends = [(it["ended"], it["why"]) for it, commands in rows if (number, command) in commands and it["ended"] != "other"]
     if not ends:
         return "takes it for no message"
     (ended, why), = ends
@@ -323,9 +334,9 @@ def counted(messages):
 
 
 def loosened(output):
-    """What is told, with the reasons of a line as a set: the page gives no order."""
+    """What is told, with the reasons of a line sorted: the page gives no order."""
     lines = [re.split("( # .*)", line) for line in output.decode().splitlines()]
-    return [({*line.split(": ", 1)[-1].split("; ")}, line.split(": ", 1)[0], *mark) for line, *mark in lines]
+    return [(sorted(line.split(": ", 1)[-1].split("; ")), line.split(": ", 1)[0], *mark) for line, *mark in lines]
 
 
 @pytest.mark.parametrize("seed", range(CHECK_SEEDS))

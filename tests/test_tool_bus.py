@@ -172,6 +172,14 @@ ROWS = with_files(
             "B mode 7 4", "A rx 6 1 1 from 7 2: 0000", "A rx 6 1 1 from 7 3: 0000"),
     checked("broadcasts", ["2: no terminal takes the broadcast; terminal 07: illegal", "2 messages, 1 of them doesn't end well"],
             "A rx all 1 1: 0001", "A rx all 2 1: 0001"),
+    Row("check: a broadcast that one of its terminals takes for a word of another message", "bus --check hearer seven script", 1,
+        "script:2: terminal 06: takes it for no message # in the run\n1 message, 1 of them doesn't end well\n",
+        files={"hearer": HEARER, "seven": SEVEN, "script": "A c 3021\nA rx all 1 1: 0001\n"}),
+    Row("check: a transfer to all from a terminal that replies", "bus --check hearer seven script", 1,
+        "script:3: terminal 07: ignored: during a reply # in the run\n1 message, 1 of them doesn't end well\n",
+        "script:3: warning: a gap while terminal 07 replies: another terminal can begin its reply\n",
+        files={"hearer": HEARER, "seven": SEVEN, "script": "A c 3c41\nA gap\nA rx all 1 1 from 7 2: 0000\n"}),
+    checked("right behind the command of an event", ["1 message: all end well"], "A c 3021", "05 flag busy 0", "A tx 5 2 1", status=0),
     Row("check: a broadcast without a terminal that has the option", "bus --check five six script", 1,
         "script:1: no terminal takes the broadcast\n1 message, 1 of them doesn't end well\n", files={"script": "A rx all 1 1: 0001\n"}),
     checked("stated answers", ["2 messages: all end well"], "A tx 5 2 1", "#> A s 2800", "#> A d 0000", "A rx 5 1 1: 0001", "#> hand receive own 01 0001", status=0),
@@ -195,7 +203,7 @@ ROWS = with_files(
           ("no profile of the address", "5.csv 8.csv", 2, "8.csv: a table for address 08, which no profile has\n"),
           ("two of one address", "6.csv 5.csv 6.csv", 2, "6.csv and 6.csv: tables for the same address, 06\n"),
           ("an empty address", "none.csv", 2, "none.csv:2:3: error: value: empty: allowed is 0 to 30\n"),
-          ("no address", "5.csv no.csv", 2, "no.csv:1:1: error: no row is of the kind address; its value is 0 to 30\n"),
+          ("no address", "5.csv no.csv", 2, "no.csv: error: no row is of the kind address; its value is 0 to 30\n"),
           ("no file", "5.csv nothing", 4, "file: cannot read nothing: no such file\n"),
       ]),
     timed("on both buses", "", [
@@ -222,6 +230,9 @@ ROWS = with_files(
       for option in ("--response", "--gap") for it in ("1001", "4.5", "+4", "x", "12us", "65536")),
     *(Row(f"{option} {it}", f"bus --check {option} {it} five script", 0, "0 messages: all end well\n", files={"script": ""})
       for option in ("--response", "--gap") for it in ("0", "1000")),
+    *(Row(f"exclusive: {words}", f"bus five script {words}", 3, "", f"arguments: {told} exclude each other\n", files={"script": ""})
+      for words, told in (("--check --messages", "--messages and --check"), ("--alone 5 --check", "--alone and --check"),
+                          ("--messages --alone 5", "--alone and --messages"), ("--messages --alone 5 --check", "--alone, --messages and --check"))),
     Row("a date for text", "bus --check --date 2026-01-31T12:00:00 five script", 3, "", "arguments: --date is not for text\n", files={"script": ""}),
     Row("no terminal alone", "bus five script --alone 7", 2, "", "--alone: no profile has address 07\n", files={"script": ""}),
 )  # fmt: skip
@@ -232,8 +243,7 @@ def test_bus(tool, row, tmp_path):
     check_row(tool, row, tmp_path)
 
 
-@pytest.mark.parametrize("words", ["bus", "bus five", "bus five script --check --messages", "bus five script --alone 5 --check",
-                                   "bus five script --messages --alone 5"])  # fmt: skip
+@pytest.mark.parametrize("words", ["bus", "bus five"])
 def test_arguments_that_are_refused(tool, words, tmp_path):
     write_files(tmp_path, {**FILES, "script": ""})
     assert run(tool, *words.split(), folder=tmp_path).status == 3

@@ -1,5 +1,5 @@
 -- Which messages of a file are told, and what comes of the file.
-use Rattle.std.specs.Prelude.{ℕ, Bool, false, not, ◌&&◌, ◌==◌, List, length, filter, Option, Some, None}
+use Rattle.std.specs.Prelude.{ℕ, ◌≡◌, Bool, false, not, ◌&&◌, ◌==◌, ◌++◌, if◌then◌else◌, List, length, filter, codes, Option, Some, None}
 use Rattle.std.specs.String.{string_bytes}
 use Rattle.bus_reports.specs.declared.report.CheckOutcome.{CheckOutcome}
 use Rattle.bus_reports.specs.declared.report.CheckOutcome.TheVariants.{Judged, Refused}
@@ -28,3 +28,10 @@ file_messages (Refused reason) = None
 abbrev pub file_fault : CheckOutcome → Option (List ℕ)
 file_fault (Judged judged) = None
 file_fault (Refused reason) = Some (string_bytes reason)
+
+-- the text ends with these words, and with these where so many messages are told
+abbrev pub EndsWith : List ℕ → List ℕ → Type 0
+EndsWith words text = (front : List ℕ) × (text ≡ front ++ words)
+
+abbrev pub last_words : ℕ → List ℕ
+last_words told = if told == 0 then codes ": all end well\n" else codes "n't end well\n"

@@ -5,7 +5,7 @@ ghost use Rattle.rt1553_report.specs.Junit.{IsJunitSuite};
 use crate::judged::{JudgedMessage, Judgement, told_in};
 use crate::load::BusLoad;
 use crate::report::{CheckOutcome, CheckReport, CheckedProfile};
-use crate::told::joined;
+use crate::told::reasons_text;
 use drawing_boxes::push_escaped;
 use message_names::quoted;
 use rt1553_files::escaped;
@@ -83,7 +83,7 @@ fn push_failure(
         message.alone.as_slice()
     };
     text.push_str("<failure message=\"")?;
-    push_escaped(text, joined(alloc, reasons)?.as_str())?;
+    push_escaped(text, reasons_text(alloc, reasons)?.as_str())?;
     text.push_str("\">")?;
     push_escaped(text, message.lines(alloc, file)?.as_str())?;
     text.push_str("</failure>\n")

@@ -1,4 +1,8 @@
 //! What is told of the messages of a file, as text.
+ghost use Rattle.std.specs.Prelude.{IfOk, OnOk};
+ghost use Rattle.std.specs.String.{string_bytes};
+ghost use Rattle.bus_reports.specs.Outcomes.{EndsWith, last_words, told_among};
+
 use crate::judged::{JudgedMessage, Judgement, told_in};
 use crate::load::{BusLoad, LoadRow, RateRow};
 use bus_word::Bus;
@@ -6,7 +10,7 @@ use message_names::quoted;
 use std::alloc::{AllocError, Global};
 
 /// The letter of a bus.
-pub fn letter_of(bus: Bus) -> &'static str {
+pub(crate) fn letter_of(bus: Bus) -> &'static str {
     match bus {
         Bus::A => "A",
         Bus::B => "B",
@@ -19,7 +23,7 @@ fn messages_word(count: usize) -> &'static str {
 }
 
 /// Reasons with semicolons between them.
-pub fn joined(alloc: Global, reasons: &[String]) -> Result<String, AllocError> {
+pub(crate) fn reasons_text(alloc: Global, reasons: &[String]) -> Result<String, AllocError> {
     let mut text = String::new(alloc);
     for reason in reasons {
         if !text.is_empty() {
@@ -44,11 +48,11 @@ impl JudgedMessage {
     }
 
     /// The lines that tell it: one, or one for each of its playings that shows reasons, if these differ; none where it ends well.
-    pub fn lines(&self, alloc: Global, file: &str) -> Result<String, AllocError> {
+    pub(crate) fn lines(&self, alloc: Global, file: &str) -> Result<String, AllocError> {
         let mut text = String::new(alloc);
         let front = self.front(alloc, file)?;
-        let alone = joined(alloc, self.alone.as_slice())?;
-        let in_run = joined(alloc, self.in_run.as_slice())?;
+        let alone = reasons_text(alloc, self.alone.as_slice())?;
+        let in_run = reasons_text(alloc, self.in_run.as_slice())?;
         let (front, alone, in_run) = (front.as_str(), alone.as_str(), in_run.as_str());
         if alone == in_run {
             if !alone.is_empty() {
@@ -83,7 +87,7 @@ impl RateRow {
 
 impl LoadRow {
     /// How much of the bus is busy, in percent.
-    pub fn text(&self, alloc: Global) -> Result<String, AllocError> {
+    pub(crate) fn text(&self, alloc: Global) -> Result<String, AllocError> {
         let tenths = self.tenths();
         let more = if self.fits() {
             ""
@@ -111,21 +115,22 @@ fn push_load(alloc: Global, text: &mut String, load: &BusLoad) -> Result<(), All
 }
 
 /// Adds the last line, of how many messages there are and are told.
-fn push_end(text: &mut String, messages: usize, told: usize) -> Result<(), AllocError> {
-    let word = messages_word(messages);
+fn push_end(text: &mut String, messages: usize, told: usize) -> Result<(), AllocError>
+    ensures { OnOk result (EndsWith (last_words told) (string_bytes text.new)) }
+{
+    write!(text, "{messages} {}", messages_word(messages))?;
     if told == 0 {
-        write!(text, "{messages} {word}: all end well\n")
-    } else {
-        let do_not = if told == 1 { "doesn't" } else { "don't" };
-        write!(
-            text,
-            "{messages} {word}, {told} of them {do_not} end well\n"
-        )
+        return text.push_str(": all end well\n");
     }
+    let do_not = if told == 1 { "does" } else { "do" };
+    write!(text, ", {told} of them {do_not}")?;
+    text.push_str("n't end well\n")
 }
 
 /// What is told of the messages of the file of this name, as it is printed.
-pub fn judged_text(alloc: Global, file: &str, judged: &Judgement) -> Result<String, AllocError> {
+pub fn judged_text(alloc: Global, file: &str, judged: &Judgement) -> Result<String, AllocError>
+    ensures { IfOk result (λ text. EndsWith (last_words (told_among judged.now)) (string_bytes text)) }
+{
     let mut text = String::new(alloc);
     let messages = judged.messages.as_slice();
     for message in messages {

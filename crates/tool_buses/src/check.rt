@@ -21,7 +21,6 @@ use std::alloc::{AllocError, Global};
 use std::format;
 use std::io::Write;
 use std::rt::Files;
-use terminal_bus::TerminalBus;
 use tool_files::{
     DIFFERENT, LoadedScript, ToolFault, load_messages, shown, status_or_stop, write_bytes,
 };
@@ -30,8 +29,8 @@ use tool_files::{
 #[derive(Drop)]
 pub struct CheckedBus<'a> {
     pub profiles: Vec<CheckedProfile<'a>>,
+    /// Of different addresses.
     pub normals: Vec<Normal>,
-    pub bus: TerminalBus<Normal>,
     pub names: BusNames<'a>,
 }
 
@@ -50,14 +49,14 @@ fn alone_reasons(
     script: &[u8],
     on: &CheckedBus<'_>,
 ) -> Result<Vec<String>, ToolFault> {
-    let mut alone = message.afresh();
+    let mut alone = message.fresh_copy();
     let mut warnings = Vec::new(alloc);
     let mut watched = WatchedBus::power_up(alloc, on.normals.as_slice(), message.spoken_to)?;
     if message.from <= message.to && message.to <= script.len() {
         let lines = &script[message.from..message.to];
         let _ = watched.play(lines, None, &mut warnings, &mut alone)?;
     }
-    Ok(alone.reasons(&on.bus)?)
+    Ok(alone.reasons(on.normals.as_slice())?)
 }
 
 /// What comes of a message, by its two playings.
@@ -72,7 +71,7 @@ fn judged_message(
         command: message.put.command,
         name: owned(alloc, on.names.name_of(message.put))?,
         alone: alone_reasons(alloc, message, script, on)?,
-        in_run: message.reasons(&on.bus)?,
+        in_run: message.reasons(on.normals.as_slice())?,
     })
 }
 

@@ -1,16 +1,17 @@
 //! The messages of a file, and what comes of each on a bus.
 ghost use Rattle.std.specs.Prelude.{◌<◌, length};
 
+use crate::names::has_profile;
 use crate::trouble::{CommandTrouble, command_trouble};
 use crate::watch::{ALL_TERMINALS, SpokenTo, TakesRows};
 use bus_reports::{PutMessage, RateGroup, RateLine, rate_line};
 use bus_word::{Bus, Command};
-use message_rows::{RowEnd, RunRow, row_cells};
+use message_rows::{MessageCommands, RowEnd, RunRow, row_cells};
 use refused_lines::first_line;
 use rt1553::{Event, Normal};
 use script_terminals::read_bus_line;
 use std::alloc::{AllocError, Global};
-use terminal_bus::{BusEvent, TerminalBus};
+use terminal_bus::BusEvent;
 use tool_files::{LoadedScript, ToolFault};
 
 /// Which of the cells of a row tells how it ended, and why.
@@ -19,8 +20,8 @@ const ENDED_CELL: usize = 7;
 /// What came of a command of a message.
 #[derive(Drop)]
 struct CommandResult {
-    /// A terminal has a row of it.
-    is_seen: bool,
+    /// The addresses of the terminals that have a row of it.
+    seen_at: Vec<u8>,
     /// It is done at a terminal.
     is_done: bool,
     /// What is told of the rows.
@@ -63,13 +64,22 @@ struct ScriptLine<'a> {
     next_source: u64,
 }
 
+/// A command in a line of the script that is of no message.
+#[derive(Clone, Copy)]
+struct LoneCommand {
+    word: u16,
+    /// How many lines stand before it.
+    place: usize,
+}
+
 /// The messages of a file in their order.
 #[derive(Drop)]
 pub struct FileMessages {
     pub items: Vec<FileMessage>,
 }
 
-/// The messages of a file, and for each line of the script the number of its message, from 1; 0 where it is of none.
+/// The messages of a file, and for each line of the script the number of its message, from 1; 0 where it is of none. A lone command has
+/// the number of the message behind it, which makes a transfer with it for terminals that hear no gap between them.
 #[derive(Drop)]
 pub struct FoundMessages {
     pub messages: FileMessages,
@@ -80,6 +90,10 @@ pub struct FoundMessages {
     pub wrong_rates: Vec<u64>,
     /// The messages to come are sent at the last rate.
     is_rated: bool,
+    /// The last lone command on bus A behind the messages there.
+    lone_a: Option<LoneCommand>,
+    /// The same of bus B.
+    lone_b: Option<LoneCommand>,
 }
 
 /// How the message of a row ended at the terminal of this address, and why, as a list of messages tells it.
@@ -107,11 +121,16 @@ fn command_reason(
     }
 }
 
+/// The command word that speaks to the terminal of this address, or to all.
+fn word_for(commands: &MessageCommands, address: u8) -> Option<u16> {
+    commands.named(address).map(|command| command.bits())
+}
+
 impl CommandResult {
     /// Nothing came of it yet.
     fn none(alloc: Global) -> CommandResult {
         CommandResult {
-            is_seen: false,
+            seen_at: Vec::new(alloc),
             is_done: false,
             told: Vec::new(alloc),
         }
@@ -119,7 +138,7 @@ impl CommandResult {
 
     /// Takes the row of a terminal.
     fn take_row(&mut self, alloc: Global, address: u8, row: &RunRow) -> Result<(), AllocError> {
-        self.is_seen = true;
+        self.seen_at.push(address)?;
         self.is_done = self.is_done || row.end == RowEnd::Done;
         if row.is_faulty() {
             self.told.push(row_reason(alloc, address, row)?)?;
@@ -127,20 +146,18 @@ impl CommandResult {
         Ok(())
     }
 
-    /// Adds why the command, to this address, doesn't end well on a bus, if it doesn't.
+    /// Adds why the command, to this address, doesn't end well at terminals of profiles, if it doesn't.
     fn push_reasons(
         &self,
         alloc: Global,
         address: u8,
-        bus: &TerminalBus<Normal>,
+        normals: &[Normal],
         reasons: &mut Vec<String>,
     ) -> Result<(), AllocError> {
-        let is_broadcast = address == ALL_TERMINALS;
-        let has_profile = bus.has_terminal(address);
         if let Some(trouble) = command_trouble(
-            is_broadcast,
-            has_profile,
-            self.is_seen,
+            address == ALL_TERMINALS,
+            has_profile(normals, address),
+            !self.seen_at.is_empty(),
             self.is_done,
         ) {
             reasons.push(command_reason(alloc, address, trouble)?)?;
@@ -154,7 +171,7 @@ impl CommandResult {
 
 impl FileMessage {
     /// The message again, with nothing that came of it.
-    pub fn afresh(&self) -> FileMessage {
+    pub fn fresh_copy(&self) -> FileMessage {
         FileMessage {
             alloc: self.alloc,
             line: self.line,
@@ -167,14 +184,44 @@ impl FileMessage {
         }
     }
 
-    /// Why it doesn't end well on a bus; empty where it does.
-    pub fn reasons(&self, bus: &TerminalBus<Normal>) -> Result<Vec<String>, AllocError> {
+    /// Whether a row of the terminal of this address is of the message: the same command speaks to the terminal.
+    fn has_row(&self, address: u8, row: &RunRow) -> bool {
+        let commands = MessageCommands {
+            command: Command::of(self.put.command),
+            transmitter: self.put.transmitter.map(Command::of),
+        };
+        word_for(&commands, address) == word_for(&row.commands, address)
+    }
+
+    /// Adds the terminals that are to receive its broadcast and have no row of it.
+    fn push_unheard(
+        &self,
+        normals: &[Normal],
+        reasons: &mut Vec<String>,
+    ) -> Result<(), AllocError> {
+        for normal in normals {
+            let address = normal.address();
+            if normal.setup().broadcast
+                && self.spoken_to.transmitter != Some(address)
+                && !self.first.seen_at.as_slice().contains(&address)
+            {
+                reasons.push(command_reason(self.alloc, address, CommandTrouble::NoRow)?)?;
+            }
+        }
+        Ok(())
+    }
+
+    /// Why it doesn't end well at terminals of profiles; empty where it does.
+    pub fn reasons(&self, normals: &[Normal]) -> Result<Vec<String>, AllocError> {
         let mut reasons = Vec::new(self.alloc);
         self.first
-            .push_reasons(self.alloc, self.spoken_to.address, bus, &mut reasons)?;
+            .push_reasons(self.alloc, self.spoken_to.address, normals, &mut reasons)?;
+        if self.spoken_to.address == ALL_TERMINALS {
+            self.push_unheard(normals, &mut reasons)?;
+        }
         if let Some(address) = self.spoken_to.transmitter {
             self.second
-                .push_reasons(self.alloc, address, bus, &mut reasons)?;
+                .push_reasons(self.alloc, address, normals, &mut reasons)?;
         }
         Ok(reasons)
     }
@@ -182,6 +229,9 @@ impl FileMessage {
 
 impl TakesRows for FileMessage {
     fn take(&mut self, address: u8, row: &RunRow) -> Result<(), ToolFault> {
+        if !self.has_row(address, row) {
+            return Ok(());
+        }
         if self.spoken_to.transmitter == Some(address) {
             self.second.take_row(self.alloc, address, row)?;
         } else {
@@ -204,7 +254,7 @@ impl TakesRows for FileMessages {
 }
 
 /// The command word that a line puts on a bus.
-fn commanded(line: &[u8]) -> Option<(Bus, u16)> {
+fn command_in(line: &[u8]) -> Option<(Bus, u16)> {
     match read_bus_line(line) {
         Ok(Some(BusEvent::OnBus(Event::Word(bus, word)))) if word.is_command() => {
             Some((bus, word.bits))
@@ -215,15 +265,11 @@ fn commanded(line: &[u8]) -> Option<(Bus, u16)> {
 
 /// The message that begins with this line, and with the next, if that has a command, too; None where it begins with no command.
 fn put_at(at: &ScriptLine<'_>) -> Option<PutMessage> {
-    let (bus, command) = commanded(at.text)?;
-    let transmitter = match commanded(at.next) {
-        Some((_, word)) => Some(word),
-        None => None,
-    };
+    let (bus, command) = command_in(at.text)?;
     Some(PutMessage {
         bus,
         command,
-        transmitter,
+        transmitter: command_in(at.next).map(|(_, word)| word),
     })
 }
 
@@ -231,10 +277,7 @@ fn put_at(at: &ScriptLine<'_>) -> Option<PutMessage> {
 fn spoken_by(put: PutMessage) -> SpokenTo {
     SpokenTo {
         address: Command::of(put.command).address(),
-        transmitter: match put.transmitter {
-            Some(word) => Some(Command::of(word).address()),
-            None => None,
-        },
+        transmitter: put.transmitter.map(|word| Command::of(word).address()),
     }
 }
 
@@ -271,12 +314,43 @@ impl FoundMessages {
             first: CommandResult::none(alloc),
             second: CommandResult::none(alloc),
         })?;
-        self.rate(put)?;
+        self.add_to_rate(put)?;
+        self.number_lone(put);
         Ok(true)
     }
 
+    /// Takes note of a line that is of no message.
+    fn note_lone(&mut self, at: &ScriptLine<'_>) {
+        if let Some((bus, word)) = command_in(at.text) {
+            let lone = Some(LoneCommand {
+                word,
+                place: self.numbers.len(),
+            });
+            match bus {
+                Bus::A => self.lone_a = lone,
+                Bus::B => self.lone_b = lone,
+            }
+        }
+    }
+
+    /// Gives the lone command before the message that came last its number, if it may be the first of a transfer.
+    fn number_lone(&mut self, put: PutMessage) {
+        let lone = match put.bus {
+            Bus::A => self.lone_a.take(),
+            Bus::B => self.lone_b.take(),
+        };
+        let count = self.messages.items.len() as u64;
+        if let Some(lone) = lone
+            && lone.word != put.command
+            && put.transmitter.is_none()
+            && let Some(number) = self.numbers.as_mut_slice().get_mut(lone.place)
+        {
+            *number = count;
+        }
+    }
+
     /// Adds a message to those of the last rate, if it is sent at that.
-    fn rate(&mut self, put: PutMessage) -> Result<(), AllocError> {
+    fn add_to_rate(&mut self, put: PutMessage) -> Result<(), AllocError> {
         let last = self.rates.len().saturating_sub(1);
         match self.rates.as_mut_slice().get_mut(last) {
             Some(group) if self.is_rated => Ok(group.messages.push(put)?),
@@ -310,6 +384,7 @@ impl FoundMessages {
         let number = if is_of_message {
             self.messages.items.len() as u64
         } else {
+            self.note_lone(at);
             0
         };
         self.numbers.push(number)?;
@@ -347,6 +422,8 @@ pub fn messages_in(alloc: Global, script: &LoadedScript) -> Result<FoundMessages
         rates: Vec::new(alloc),
         wrong_rates: Vec::new(alloc),
         is_rated: false,
+        lone_a: None,
+        lone_b: None,
     };
     let mut rest = script.text.as_slice();
     let mut number = 1u64;

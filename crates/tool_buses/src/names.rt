@@ -23,32 +23,21 @@ pub struct BusNames<'a> {
 }
 
 /// Whether a profile has this address.
-fn has_profile(normals: &[Normal], address: u8) -> bool {
-    for normal in normals {
-        if normal.address() == address {
-            return true;
-        }
-    }
-    false
+pub fn has_profile(normals: &[Normal], address: u8) -> bool {
+    normals.iter().any(|normal| normal.address() == address)
 }
 
 impl<'a> BusNames<'a> {
     /// The table of the terminal of this address.
     fn table_of(&self, address: u8) -> Option<&BusTable<'a>> {
-        for table in self.tables.as_slice() {
-            if table.names.address == address {
-                return Some(table);
-            }
-        }
-        None
+        self.tables
+            .iter()
+            .find(|table| table.names.address == address)
     }
 
     /// The name of the message of a command in the table of this terminal.
     fn name_at(&self, address: u8, command: u16) -> Option<&str> {
-        match self.table_of(address) {
-            Some(table) => name_of_command(&table.names.loaded.names, command),
-            None => None,
-        }
+        name_of_command(&self.table_of(address)?.names.loaded.names, command)
     }
 
     /// The name of the message of a command: in the table of its terminal, or of the first one that has one for a broadcast.

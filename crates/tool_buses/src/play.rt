@@ -79,7 +79,7 @@ fn load_for<R: Files + AllocGlobal>(
 }
 
 /// What is printed of profiles that have the same address, without a line feed.
-fn told_of_same<R: AllocGlobal>(
+fn same_address_text<R: AllocGlobal>(
     rt: &R,
     names: &[&str],
     normals: &[Normal],
@@ -111,7 +111,7 @@ fn add_at<R: AllocGlobal>(
 ) -> Result<(), ToolFault> {
     for normal in normals {
         if normal.address() == address && bus.add(normal.setup(), *normal).is_err() {
-            return Err(ToolFault::Refused(told_of_same(rt, names, normals, address)?));
+            return Err(ToolFault::Refused(same_address_text(rt, names, normals, address)?));
         }
     }
     Ok(())
@@ -205,7 +205,7 @@ fn reason_of(alloc: Global, line: &[u8], fault: BusLineFault) -> Result<String, 
 }
 
 /// What stands behind the address of a line, if one is in front, and how many bytes stand before that.
-fn behind_address(line: &[u8]) -> (usize, &[u8])
+fn split_address(line: &[u8]) -> (usize, &[u8])
     ensures { result.0 ≤ 3 }
 {
     if address_first(line).is_some() && line.len() >= 3 {
@@ -217,7 +217,7 @@ fn behind_address(line: &[u8]) -> (usize, &[u8])
 
 /// Where a line that is none stops being one, and why.
 fn misfit_text(alloc: Global, line: &[u8]) -> Result<String, AllocError> {
-    let (front, rest) = behind_address(line);
+    let (front, rest) = split_address(line);
     match misfit_of(rest) {
         Some(misfit) => {
             let column = misfit.column + front;
@@ -284,12 +284,11 @@ fn check_bus<'a, R: Files + AllocGlobal + Eprint, W: Write>(
 {
     let profiles = load_all(rt, names)?;
     let normals = normals_of(rt.alloc(), profiles.as_slice())?;
-    let bus = bus_of(rt, names, normals.as_slice())?;
+    let _ = bus_of(rt, names, normals.as_slice())?;
     let tables = load_tables(rt, tables, normals.as_slice())?;
     let on = CheckedBus {
         profiles: checked_profiles(rt.alloc(), names, profiles.as_slice())?,
         normals,
-        bus,
         names: tables,
     };
     check_on_bus(rt, asked, script, &on, output)

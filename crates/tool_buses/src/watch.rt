@@ -89,8 +89,8 @@ impl SpokenTo {
     }
 }
 
-/// What the line of this number says to the terminals of a bus.
-fn said_to(
+/// The event of the line of this number on a bus.
+fn event_in(
     bus: &TerminalBus<Normal>,
     number: u64,
     line: &[u8],
@@ -191,7 +191,7 @@ impl WatchedBus {
         let mut line_number = 1u64;
         while !rest.is_empty() {
             let (line, more) = first_line(rest);
-            match said_to(&self.bus, line_number, line) {
+            match event_in(&self.bus, line_number, line) {
                 Ok(Some(event)) => {
                     self.warn_of(&event, line_number, warnings)?;
                     self.play_event(&event, line_in_file(numbers, line_number), taker)?;
