@@ -1,5 +1,5 @@
 -- What comes of the results of a unit, and how a report has it.
-use Rattle.std.specs.Prelude.{ℕ, ◌≡◌, Bool, true, false, List, [], map, None, option_to_list}
+use Rattle.std.specs.Prelude.{ℕ, ◌≡◌, ◌<◌, ◌++◌, Bool, true, false, List, [], ◌∷◌, map, take, None, IfSome, option_map, option_to_list}
 use Rattle.std.specs.Option.{unwrap_or}
 use Rattle.bus_legal.specs.Description.{Description}
 use Rattle.bus_legal.specs.Reach.{reach}
@@ -53,10 +53,15 @@ told_place d = (d.line, d.reply.number, d.reply.came.items)
 abbrev pub unexplained_place : Results → UnexplainedReply → ℕ × ℕ × List ℕ
 unexplained_place results r = (unwrap_or (line_in results r.number) 0, r.number, r.came.items)
 
+-- in place of the reply that nothing explains: the words before the one that is not explained, and the one that can come there
+abbrev pub expected_of : UnexplainedReply → List ℕ
+expected_of r = take r.slot r.came.items ++ option_to_list (option_map (λ s. s.bits) r.possible)
+
 -- the only difference is the reply that nothing explains, if there is one, and the missing numbers are those of the search
 pub record TellsExplained (results : Results) (e : ResultsExplained) (unit : UnitVerdict) : Type 0 where
   pub exchanges : unit.exchanges ≡ e.total
   pub differences : map told_place unit.differences.items ≡ map (unexplained_place results) (option_to_list e.first)
+  pub expected : IfSome e.first (λ r. r.slot < 33 → map (λ d. d.reply.expected.items) unit.differences.items ≡ expected_of r ∷ [])
   pub missing : unit.missing ≡ e.missing
 
 -- a report tells of a unit what its results tell

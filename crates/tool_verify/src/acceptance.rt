@@ -7,7 +7,7 @@ use byte_streams::{FromWrite, Sink, write_all};
 use message_names::MessageNames;
 use rt1553_acceptance::{Progress, write_acceptance};
 use rt1553_files::escaped;
-use rt1553_results::{Rows, csv_header, csv_row, json_row};
+use rt1553_results::{Rows, TestRow, csv_header, csv_row, json_row};
 use rt1553_tool_args::TestFormat;
 use std::alloc::{AllocError, Global};
 use std::io::Write;
@@ -79,53 +79,48 @@ fn csv_name(
 }
 
 /// Adds bytes to those that are written.
-fn put<S: Sink>(sink: &mut S, bytes: &[u8]) -> Result<(), ToolFault> {
+fn put_bytes<S: Sink>(sink: &mut S, bytes: &[u8]) -> Result<(), ToolFault> {
     write_all(sink, bytes).map_err(|_| ToolFault::Output)
 }
 
-/// Writes out what is left in a buffer.
-fn put_rest<S: Sink>(sink: &mut S) -> Result<(), ToolFault> {
-    sink.flush().map_err(|_| ToolFault::Output)
-}
-
-/// Writes the test as a table in CSV.
-fn put_csv<P: Progress, W: Write>(
+/// Writes a row of the test: in CSV, or as an object of JSON on a line.
+fn put_row<S: Sink>(
     alloc: Global,
     normal: &Normal,
     names: Option<&MessageNames>,
-    progress: &mut P,
-    output: &mut W,
+    is_csv: bool,
+    row: &TestRow,
+    sink: &mut S,
 ) -> Result<(), ToolFault> {
-    let mut sink = FromWrite::new(output);
-    put(&mut sink, csv_header(alloc, names.is_some())?.as_slice())?;
-    let mut rows = Rows::new(normal);
-    while let Some(row) = rows.next() {
+    if is_csv {
         let name = csv_name(alloc, names, row.exchange.command)?;
         let name = name.as_ref().map(|name| name.as_str().as_bytes());
-        put(&mut sink, csv_row(alloc, normal, &row, name)?.as_slice())?;
-        progress.exchange_written();
+        return put_bytes(sink, csv_row(alloc, normal, row, name)?.as_slice());
     }
-    put_rest(&mut sink)
+    let name = names.map(|names| name_of_command(names, row.exchange.command));
+    let line = named_json(alloc, json_row(alloc, normal, row, name), names.is_some())?;
+    put_bytes(sink, line.as_str().as_bytes())
 }
 
-/// Writes the test as a table, an object of JSON a line.
-fn put_json<P: Progress, W: Write>(
+/// Writes the test as a table: in CSV, or an object of JSON a line.
+fn put_table<P: Progress, W: Write>(
     alloc: Global,
     normal: &Normal,
     names: Option<&MessageNames>,
+    is_csv: bool,
     progress: &mut P,
     output: &mut W,
 ) -> Result<(), ToolFault> {
     let mut sink = FromWrite::new(output);
+    if is_csv {
+        put_bytes(&mut sink, csv_header(alloc, names.is_some())?.as_slice())?;
+    }
     let mut rows = Rows::new(normal);
     while let Some(row) = rows.next() {
-        let name = names.map(|names| name_of_command(names, row.exchange.command));
-        let json = json_row(alloc, normal, &row, name);
-        let line = named_json(alloc, json, names.is_some())?;
-        put(&mut sink, line.as_str().as_bytes())?;
+        put_row(alloc, normal, names, is_csv, &row, &mut sink)?;
         progress.exchange_written();
     }
-    put_rest(&mut sink)
+    sink.flush().map_err(|_| ToolFault::Output)
 }
 
 /// Writes the acceptance test of the terminal of a profile. The status is 0.
@@ -149,8 +144,8 @@ pub fn write_test<R: Files + AllocGlobal + Eprint, W: Write>(
     };
     let outcome = match format {
         TestFormat::Script => put_script(rt.alloc(), &normal, names, &mut progress, output),
-        TestFormat::Csv => put_csv(rt.alloc(), &normal, names, &mut progress, output),
-        TestFormat::Json => put_json(rt.alloc(), &normal, names, &mut progress, output),
+        TestFormat::Csv => put_table(rt.alloc(), &normal, names, true, &mut progress, output),
+        TestFormat::Json => put_table(rt.alloc(), &normal, names, false, &mut progress, output),
     };
     progress.end();
     outcome?;

@@ -118,19 +118,28 @@ fn compare_test(
     })
 }
 
-/// What is told of a recording, with its command, where anything is.
-fn lines_told(
+/// What came of a recording, of which this is the first line that nothing explains.
+fn compared_recording(
     alloc: Global,
+    answers: usize,
+    warning: Option<ScriptWarning>,
+    part: Option<JudgedPart>,
     first: Option<UnexplainedLine>,
-) -> Result<(Vec<WrongAnswer>, Vec<Option<u16>>), AllocError>
-    ensures { IfOk result (λ told. (length told.0.items == 0 ≡ true) ↔ (first ≡ None)) }
+) -> Result<Compared, AllocError>
+    ensures { IfOk result (λ it. (length it.wrong.items == 0 ≡ true) ↔ (first ≡ None)) }
 {
     let (mut wrong, mut commands) = (Vec::new(alloc), Vec::new(alloc));
     if let Some(UnexplainedLine { answer, command }) = first {
         wrong.push(answer)?;
         commands.push(command)?;
     }
-    Ok((wrong, commands))
+    Ok(Compared {
+        answers,
+        warning,
+        part,
+        wrong,
+        commands,
+    })
 }
 
 /// Reads a recording of a terminal for its first line that no behaviour of the subsystem explains.
@@ -146,14 +155,8 @@ pub fn compare_recording<B: BufRead + Drop>(
         warning,
         first,
     } = watch_recording(alloc, normal, input)?;
-    let (wrong, commands) = lines_told(alloc, first)?;
-    Ok(Compared {
-        answers,
-        warning,
-        part: None,
-        wrong,
-        commands,
-    })
+    let it = compared_recording(alloc, answers, warning, None, first)?;
+    Ok(it)
 }
 
 /// The same of a recording that began at any time, of which the first part is judged that begins afresh after a pause.
@@ -170,17 +173,12 @@ pub fn compare_later<B: BufRead + Drop>(
         after,
         first,
     } = watch_since(alloc, normal, input)?;
-    let (wrong, commands) = lines_told(alloc, first)?;
-    Ok(Compared {
-        answers,
-        warning,
-        part: Some(match after {
-            Some(line) => JudgedPart::After(line),
-            None => JudgedPart::Nothing,
-        }),
-        wrong,
-        commands,
-    })
+    let part = match after {
+        Some(line) => JudgedPart::After(line),
+        None => JudgedPart::Nothing,
+    };
+    let it = compared_recording(alloc, answers, warning, Some(part), first)?;
+    Ok(it)
 }
 
 /// Plays a script to a terminal, and compares its answers with what the script states.

@@ -77,7 +77,7 @@ fn drawing_of<R: AllocGlobal>(
 }
 
 /// What differs in a script, by the lines of its file.
-fn in_file(
+fn wrong_in_file(
     alloc: Global,
     script: &LoadedScript,
     wrong: Vec<WrongAnswer>,
@@ -114,7 +114,7 @@ fn outcome_of_script<R: AllocGlobal + Eprint, F: Read + Drop>(
     Ok(ScriptOutcome::Played {
         answers: it.answers,
         warning: it.warning,
-        wrong: in_file(rt.alloc(), script, it.wrong)?,
+        wrong: wrong_in_file(rt.alloc(), script, it.wrong)?,
         names: it.names,
         rules: it.rules,
         drawing,
@@ -193,21 +193,8 @@ fn digest_with<F: Read + Drop>(script: &LoadedScript, rest: Option<F>) -> Option
     }
 }
 
-/// Plays a recording that goes on in `rest`, and gives what came of it, and the digest of its file as `digest_with` does.
-fn play_long<R: AllocGlobal + Eprint, F: Read + Drop>(
-    rt: &R,
-    played: &Played<'_>,
-    normal: &Normal,
-    name: &str,
-    script: &LoadedScript,
-    rest: F,
-) -> (Result<ScriptOutcome, ToolFault>, Option<[u8; 32]>) {
-    let mut hashed = HashedReader::new(script.text.as_slice(), rest);
-    let outcome = outcome_of_script(rt, played, normal, name, script, Some(&mut hashed), false);
-    (outcome, hashed.digest().ok())
-}
-
-/// Plays a script to a terminal, and gives what came of it, and the digest of its file. It goes on in `rest` if that is there.
+/// Plays a script to a terminal, and gives what came of it, and the digest of its file as `digest_with` does. It goes on in `rest` if that
+/// is there.
 fn play_hashed<R: AllocGlobal + Eprint, F: Read + Drop>(
     rt: &R,
     played: &Played<'_>,
@@ -226,7 +213,12 @@ fn play_hashed<R: AllocGlobal + Eprint, F: Read + Drop>(
             let outcome = outcome_of_script(rt, played, normal, name, script, none, drawn);
             (outcome, Some(script.file_digest()))
         }
-        Some(rest) => play_long(rt, played, normal, name, script, rest),
+        Some(rest) => {
+            let mut hashed = HashedReader::new(script.text.as_slice(), rest);
+            let rest = Some(&mut hashed);
+            let outcome = outcome_of_script(rt, played, normal, name, script, rest, false);
+            (outcome, hashed.digest().ok())
+        }
     }
 }
 

@@ -200,25 +200,6 @@ fn result_of(
     })
 }
 
-/// Writes the report of what comes of the results of a unit.
-fn put_report<W: Write>(
-    alloc: Global,
-    asked: AskedResults<'_>,
-    profile: &LoadedProfile,
-    names: &Option<LoadedNames>,
-    loaded: &LoadedResults,
-    judged: JudgedResults,
-    output: &mut W,
-) -> Result<(), ToolFault> {
-    let named = names.as_ref().map(|loaded| &loaded.names);
-    let unit = unit_verdict_of(alloc, named, &loaded.results, judged)?;
-    let of = result_of(alloc, asked, profile, loaded, unit)?;
-    let head = head_of("acceptance", asked.names, names, asked.date);
-    let mut kept = Vec::new(alloc);
-    put_or_keep(alloc, asked.format, head, of, &mut kept, output)?;
-    put_kept(alloc, asked.format, head, kept.as_slice(), output)
-}
-
 /// Writes what comes of the results of a unit, as text or as a report.
 fn put_judged<W: Write>(
     alloc: Global,
@@ -229,13 +210,16 @@ fn put_judged<W: Write>(
     judged: JudgedResults,
     output: &mut W,
 ) -> Result<(), ToolFault> {
-    match asked.format {
-        ReportFormat::Text => {
-            let named = names.as_ref().map(|loaded| &loaded.names);
-            write_bytes(output, judged.text(alloc, named)?.as_str().as_bytes())
-        }
-        _ => put_report(alloc, asked, profile, names, loaded, judged, output),
+    let named = names.as_ref().map(|loaded| &loaded.names);
+    if matches!(asked.format, ReportFormat::Text) {
+        return write_bytes(output, judged.text(alloc, named)?.as_str().as_bytes());
     }
+    let unit = unit_verdict_of(alloc, named, &loaded.results, judged)?;
+    let of = result_of(alloc, asked, profile, loaded, unit)?;
+    let head = head_of("acceptance", asked.names, names, asked.date);
+    let mut kept = Vec::new(alloc);
+    put_or_keep(alloc, asked.format, head, of, &mut kept, output)?;
+    put_kept(alloc, asked.format, head, kept.as_slice(), output)
 }
 
 /// Judges the results of a unit by the acceptance test of the terminal of a profile. The status tells whether the unit is

@@ -4,4 +4,4 @@ use Rattle.tool_verify.proofs.compared.compare_recording.Goals as goal
 
 pub returns : goal.returns
 returns g c =
-    says_recorded (g.B.Read.remaining c.args.input) c.in_ok-answers.field-0.first (length c.in_ok-wrong.wrong.items == 0) c.in_ok-answers.ensures.explained c.in_ok-wrong.ensures
+    says_recorded (g.B.Read.remaining c.args.input) c.in_ok-answers.field-0.first (length c.in_ok-it.it.wrong.items == 0) c.in_ok-answers.ensures.explained c.in_ok-it.ensures
