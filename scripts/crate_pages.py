@@ -6,9 +6,9 @@
 Each crate has a README.md with the sections of SECTIONS. What is in backticks there, in docs/proofs.md and in docs/architecture.md and
 looks like a path is a file or folder, of the crate or of the repository, or a must-fail edit, as `crate/name`. What looks like a name is
 in the code, or is that of an edit; and `crate::name` is of that crate. The Rust lines of a first use are in a test of the crates of
-TESTS, where they are proved and run. In the table of docs/proofs.md whose rows begin with a specs folder the number
-behind each file is that of its lines, and each file of specs/ outside of specs/inner is there once; what is in a folder below specs/
-counts with the file of its name. That page names just the crates of the toolchain that crates.txt names. In the table of
+TESTS, where they are proved and run. In the table of docs/proofs.md whose rows begin with a specs folder each file of specs/ outside of
+specs/inner is there once, by its name or by `all`, and the last number is that of the lines; what is in a folder below specs/ counts with
+the file of its name. That page names just the crates of the toolchain that crates.txt names. In the table of
 docs/architecture.md the last column has the crates of this repository that a crate uses, without those that another of them stands on.
 """
 
@@ -29,7 +29,6 @@ SMALL = {*TESTS, "probes"}
 CODE = {".rt", ".antt", ".py", ".sh", ".rs", ".h", ".c", ".hpp", ".toml"}
 NAME = re.compile(r"[A-Za-z_][\w'\-]*(?:(?:::|\.)[A-Za-z_][\w'\-]*)*(?:\(\.*\))?")
 WORD = re.compile(r"[^\W\d][\w'\-]*")
-COUNTED = re.compile(r"(\w+) (\d+)")
 
 
 def plain(text):
@@ -93,26 +92,33 @@ def untested(repository, text):
 
 
 def rows(text):
-    """The rows of the table of files with their lines: the folder, what it is needed for, the list of files, the sum."""
-    return re.finditer(r"^\| `([\w/]+/specs)` \| ([^|]*) \| ([^|]*) \| (\d+) \|$", text, re.M)
+    """The rows of the table of files: the crate, what its files are needed for, their names or `all`, the sum of their lines."""
+    return re.finditer(r"^\| `(\w+)/specs` \| ([^|]*) \| ([^|]*) \| (\d+) \|$", text, re.M)
 
 
-def lines_in(repository, folder, name):
-    path = repository.root / "crates" / folder / f"{name}.antt"
+def definitions_of(repository, crate):
+    """The names of a crate's files of definitions, outside of specs/inner."""
+    specs = repository.root / "crates" / crate / "specs"
+    names = {path.relative_to(specs).parts[0].removesuffix(".antt") for path in specs.rglob("*.antt")}
+    return sorted(names - {"Lib", "inner"})
+
+
+def named_in(repository, row):
+    """The files that a row is about."""
+    return definitions_of(repository, row[1]) if row[3] == "all" else row[3].split(", ")
+
+
+def lines_in(repository, crate, name):
+    path = repository.root / "crates" / crate / "specs" / f"{name}.antt"
     files = [path, *sorted((path.parent / name).glob("*.antt"))]
     return sum(len(file.read_text().splitlines()) for file in files if file.exists())
 
 
 def counted(repository, text):
     """The page with each number as it is."""
-    def row(found):
-        numbers = [lines_in(repository, found[1], name) for name, _ in COUNTED.findall(found[3])]
-        left = iter(numbers)
-        listed = COUNTED.sub(lambda file: f"{file[1]} {next(left)}", found[3])
-        return f"| `{found[1]}` | {found[2]} | {listed} | {sum(numbers)} |"
-
-    for found in reversed(list(rows(text))):
-        text = text[:found.start()] + row(found) + text[found.end():]
+    for row in reversed(list(rows(text))):
+        lines = sum(lines_in(repository, row[1], name) for name in named_in(repository, row))
+        text = text[:row.start(4)] + str(lines) + text[row.end(4):]
     return text
 
 
@@ -138,10 +144,8 @@ def layered(repository, text):
 
 def unlisted(repository, text):
     """The files of definitions that the table lacks, has twice, or has though they aren't there."""
-    named = collections.Counter((found[1].removesuffix("/specs"), name) for found in rows(text) for name, _ in COUNTED.findall(found[3]))
-    there = {(crate, path.relative_to(repository.root / "crates" / crate / "specs").parts[0].removesuffix(".antt"))
-             for crate in repository.crates for path in (repository.root / "crates" / crate / "specs").rglob("*.antt")}
-    there -= {(crate, name) for crate in repository.crates for name in ("Lib", "inner")}
+    named = collections.Counter((row[1], name) for row in rows(text) for name in named_in(repository, row))
+    there = {(crate, name) for crate in repository.crates for name in definitions_of(repository, crate)}
     yield from (f"the table of files lacks {name} of {crate}/specs" for crate, name in sorted(there - named.keys()))
     yield from (f"the table of files has {name} of {crate}/specs, which isn't there" for crate, name in sorted(named.keys() - there))
     yield from (f"the table of files has {name} of {crate}/specs twice" for (crate, name), times in sorted(named.items()) if times > 1)
