@@ -288,58 +288,60 @@ fn kept_lines(rt: HostRuntime) -> Result<(), Fail> {
     Ok(())
 }
 
+/// The address of a terminal, messages that state answers, and their script.
+const STATED_ANSWERS: [(u8, &str, &str); 9] = [
+    (
+        5,
+        "A tx 5 1 2\n#> A s 2800\n#~ A d ....\n#~ *\n",
+        "A c 2c22\nA gap\nslot\n#> A s 2800\nslot\n#~ A d ....\nslot\n#~ *\n",
+    ),
+    (
+        5,
+        "A rx 5 3 1: 0001\n#> hand receive own 03\n#+ 0001\n#> A s\n#+ 2800\n# x\n#> A s 2800\n",
+        "A c 2861\nA d 0001\nA gap\n#> hand receive own 03\n#+ 0001\nslot\n#> A s\n#+ 2800\n# x\n#> A s 2800\n",
+    ),
+    // in a transfer the hand-over comes behind the data words
+    (
+        5,
+        "A rx 5 3 1 from 6 4: 0001\n#> hand receive own 03 0001\n#> A s 2800\n",
+        "A c 2861\nA c 3481\nA gap\nA c 3000\nA d 0001\nA gap\n#> hand receive own 03 0001\nslot\n#> A s 2800\n",
+    ),
+    (
+        6,
+        "A rx 5 3 1 from 6 4: 0000\n#> A s 3000\n#> A d 0007\n",
+        "A c 2861\nA c 3481\nA gap\nslot\n#> A s 3000\nslot\n#> A d 0007\n",
+    ),
+    (
+        5,
+        "B rx all 3 1: 0001\n#~ hand\nB mode 5 1\n#> hand sync\n",
+        "B c f861\nB d 0001\nB gap\n#~ hand\nB c 2c01\nB gap\n#> hand sync\nslot\n",
+    ),
+    // those that no event is left for
+    (
+        5,
+        "A mode 5 1\n#~ handed\n#> hand sync\n#> A s 2800\nslot\n#> x\n#> y\n",
+        "A c 2c01\nA gap\nslot\n#~ handed\n#> hand sync\n#> A s 2800\nslot\n#> x\n#> y\n",
+    ),
+    (
+        5,
+        "A tx 5 1 1\n#+ x\n#+ y\n#> A d 0000\n",
+        "A c 2c21\nA gap\nslot\n#+ x\n#+ y\nslot\n#> A d 0000\n",
+    ),
+    (
+        5,
+        "A tx 5 1 1\n\n#> A s 2800\n",
+        "A c 2c21\nA gap\nslot\nslot\n\n#> A s 2800\n",
+    ),
+    (
+        5,
+        "A tx 5 1 1\n#>A s 2800\n",
+        "A c 2c21\nA gap\nslot\nslot\n#>A s 2800\n",
+    ),
+];
+
 #[test]
 fn stated_answers(rt: HostRuntime) -> Result<(), Fail> {
-    let cases: [(u8, &str, &str); 9] = [
-        (
-            5,
-            "A tx 5 1 2\n#> A s 2800\n#~ A d ....\n#~ *\n",
-            "A c 2c22\nA gap\nslot\n#> A s 2800\nslot\n#~ A d ....\nslot\n#~ *\n",
-        ),
-        (
-            5,
-            "A rx 5 3 1: 0001\n#> hand receive own 03\n#+ 0001\n#> A s\n#+ 2800\n# x\n#> A s 2800\n",
-            "A c 2861\nA d 0001\nA gap\n#> hand receive own 03\n#+ 0001\nslot\n#> A s\n#+ 2800\n# x\n#> A s 2800\n",
-        ),
-        // in a transfer the hand-over comes behind the data words
-        (
-            5,
-            "A rx 5 3 1 from 6 4: 0001\n#> hand receive own 03 0001\n#> A s 2800\n",
-            "A c 2861\nA c 3481\nA gap\nA c 3000\nA d 0001\nA gap\n#> hand receive own 03 0001\nslot\n#> A s 2800\n",
-        ),
-        (
-            6,
-            "A rx 5 3 1 from 6 4: 0000\n#> A s 3000\n#> A d 0007\n",
-            "A c 2861\nA c 3481\nA gap\nslot\n#> A s 3000\nslot\n#> A d 0007\n",
-        ),
-        (
-            5,
-            "B rx all 3 1: 0001\n#~ hand\nB mode 5 1\n#> hand sync\n",
-            "B c f861\nB d 0001\nB gap\n#~ hand\nB c 2c01\nB gap\n#> hand sync\nslot\n",
-        ),
-        // those that no event is left for
-        (
-            5,
-            "A mode 5 1\n#~ handed\n#> hand sync\n#> A s 2800\nslot\n#> x\n#> y\n",
-            "A c 2c01\nA gap\nslot\n#~ handed\n#> hand sync\n#> A s 2800\nslot\n#> x\n#> y\n",
-        ),
-        (
-            5,
-            "A tx 5 1 1\n#+ x\n#+ y\n#> A d 0000\n",
-            "A c 2c21\nA gap\nslot\n#+ x\n#+ y\nslot\n#> A d 0000\n",
-        ),
-        (
-            5,
-            "A tx 5 1 1\n\n#> A s 2800\n",
-            "A c 2c21\nA gap\nslot\nslot\n\n#> A s 2800\n",
-        ),
-        (
-            5,
-            "A tx 5 1 1\n#>A s 2800\n",
-            "A c 2c21\nA gap\nslot\nslot\n#>A s 2800\n",
-        ),
-    ];
-    for (own, text, script) in cases {
+    for (own, text, script) in STATED_ANSWERS {
         let found = script_for(rt.alloc(), Some(own), text.as_bytes())?;
         assert!(rt; found.as_slice() == script.as_bytes(), "{text}");
     }
@@ -356,182 +358,184 @@ fn lines_of_stated_answers(rt: HostRuntime) -> Result<(), Fail> {
     Ok(())
 }
 
+/// Lines that are rejected, each with its column and its reason.
+const REJECTED_LINES: [(&str, usize, &str); 39] = [
+    (
+        "\u{feff}A mode 5 2",
+        1,
+        "a byte order mark: save the file as UTF-8 without it",
+    ),
+    (
+        "A rx 5 3 1: 0001\r",
+        17,
+        "a carriage return: a line ends in a line feed alone",
+    ),
+    (
+        "\r",
+        1,
+        "a carriage return: a line ends in a line feed alone",
+    ),
+    (
+        "wrte 01 01 0000",
+        1,
+        "neither a line of a script nor a message, which begins with A or B and a space",
+    ),
+    (
+        "write 01 1 0000",
+        10,
+        "neither a line of a script nor a message, which begins with A or B and a space",
+    ),
+    (
+        "a rx 5 3 1: 0001",
+        1,
+        "neither a line of a script nor a message, which begins with A or B and a space",
+    ),
+    (
+        "A tx 5 3 1 # x",
+        12,
+        "a comment after a message: a comment is a line of its own",
+    ),
+    (
+        "A rx 5 3 1: 0001 # x",
+        18,
+        "a comment after a message: a comment is a line of its own",
+    ),
+    (
+        "A",
+        2,
+        "neither a line of a script nor a message, which begins with A or B and a space",
+    ),
+    (
+        "A ",
+        3,
+        "after a bus, rx, tx, mode, status or data is expected for a message, and c, d, gap or noise for an event",
+    ),
+    (
+        "A gpa",
+        3,
+        "after a bus, rx, tx, mode, status or data is expected for a message, and c, d, gap or noise for an event",
+    ),
+    (
+        "A s 2800",
+        3,
+        "a message names its fields, by rx, tx, mode, status or data",
+    ),
+    ("A c 286", 5, "a word is four hexadecimal digits"),
+    (
+        "A rx 31 3 2: 0001 0002",
+        6,
+        "an address is 0 to 30, or all for a command",
+    ),
+    ("A rx", 5, "an address is 0 to 30, or all for a command"),
+    ("A  rx  5 31 2: 0001 0002", 10, "a subaddress is 1 to 30"),
+    ("A rx 5 3: 0001", 9, "a count is 1 to 32"),
+    ("A rx 5 3 33: 0001", 10, "a count is 1 to 32"),
+    (
+        "A rx 5 3 1 1: 0001",
+        12,
+        "nothing may follow the last field",
+    ),
+    ("A mode 5 32", 10, "a mode code is 0 to 31"),
+    (
+        "A mode 5 20",
+        12,
+        "after a mode code comes tx or rx; a reserved code needs it",
+    ),
+    (
+        "A mode 5 2 tx 3",
+        15,
+        "the subaddress of a mode code is 0 or 31",
+    ),
+    (
+        "A mode 5 2 tx 31 x",
+        18,
+        "nothing may follow the last field",
+    ),
+    (
+        "A status 5 busy bsy error",
+        17,
+        "a status has error, instrumentation, service, reserved1 to 3, broadcast, busy, subsystem, accept, terminal",
+    ),
+    (
+        "A tx 5 3 1 from 6 4",
+        11,
+        "from follows rx alone: the terminal of rx receives what another sends",
+    ),
+    (
+        "A rx 5 3 1 from 5 4: 0001",
+        17,
+        "after from, the address of another terminal, 0 to 30, and its subaddress, 1 to 30, are expected",
+    ),
+    (
+        "A rx 5 3 1 from all 4: 0001",
+        17,
+        "after from, the address of another terminal, 0 to 30, and its subaddress, 1 to 30, are expected",
+    ),
+    (
+        "A rx 5 3 1 from 6: 0001",
+        17,
+        "after from, the address of another terminal, 0 to 30, and its subaddress, 1 to 30, are expected",
+    ),
+    (
+        "A rx 5 3 1 from 6 4 1: 0001",
+        17,
+        "after from, the address of another terminal, 0 to 30, and its subaddress, 1 to 30, are expected",
+    ),
+    (
+        "A rx 5 3 2: 0001",
+        17,
+        "a data word is wanted: one space and four hexadecimal digits",
+    ),
+    (
+        "A rx 5 3 2",
+        11,
+        "a colon is missing before the data words, as in A rx 5 3 1: 0001",
+    ),
+    (
+        "A rx 5 3 2 0001 0002",
+        12,
+        "a colon is missing before the data words, as in A rx 5 3 1: 0001",
+    ),
+    (
+        "A rx 5 3 2 from 6 4",
+        20,
+        "a colon is missing before the data words, as in A rx 5 3 1: 0001",
+    ),
+    (
+        "A mode 5 17 rx 0",
+        17,
+        "a colon is missing before the data words, as in A rx 5 3 1: 0001",
+    ),
+    (
+        "A tx 5 3 2 0001 0002",
+        12,
+        "nothing may follow the last field",
+    ),
+    (
+        "A rx 5 3 2: 0001  0002",
+        17,
+        "a data word is wanted: one space and four hexadecimal digits",
+    ),
+    (
+        "A rx 5 3 2: 0001 000G",
+        17,
+        "a data word is wanted: one space and four hexadecimal digits",
+    ),
+    (
+        "A rx 5 3 1: 0001 0002",
+        17,
+        "nothing more is wanted: the message has all its data words",
+    ),
+    (
+        "A tx 5 3 1: 0001",
+        12,
+        "nothing more is wanted: the message has all its data words",
+    ),
+];
+
 #[test]
 fn columns(rt: HostRuntime) -> Result<(), Fail> {
-    let lines: [(&str, usize, &str); 39] = [
-        (
-            "\u{feff}A mode 5 2",
-            1,
-            "a byte order mark: save the file as UTF-8 without it",
-        ),
-        (
-            "A rx 5 3 1: 0001\r",
-            17,
-            "a carriage return: a line ends in a line feed alone",
-        ),
-        (
-            "\r",
-            1,
-            "a carriage return: a line ends in a line feed alone",
-        ),
-        (
-            "wrte 01 01 0000",
-            1,
-            "neither a line of a script nor a message, which begins with A or B and a space",
-        ),
-        (
-            "write 01 1 0000",
-            10,
-            "neither a line of a script nor a message, which begins with A or B and a space",
-        ),
-        (
-            "a rx 5 3 1: 0001",
-            1,
-            "neither a line of a script nor a message, which begins with A or B and a space",
-        ),
-        (
-            "A tx 5 3 1 # x",
-            12,
-            "a comment after a message: a comment is a line of its own",
-        ),
-        (
-            "A rx 5 3 1: 0001 # x",
-            18,
-            "a comment after a message: a comment is a line of its own",
-        ),
-        (
-            "A",
-            2,
-            "neither a line of a script nor a message, which begins with A or B and a space",
-        ),
-        (
-            "A ",
-            3,
-            "after a bus, rx, tx, mode, status or data is expected for a message, and c, d, gap or noise for an event",
-        ),
-        (
-            "A gpa",
-            3,
-            "after a bus, rx, tx, mode, status or data is expected for a message, and c, d, gap or noise for an event",
-        ),
-        (
-            "A s 2800",
-            3,
-            "a message names its fields, by rx, tx, mode, status or data",
-        ),
-        ("A c 286", 5, "a word is four hexadecimal digits"),
-        (
-            "A rx 31 3 2: 0001 0002",
-            6,
-            "an address is 0 to 30, or all for a command",
-        ),
-        ("A rx", 5, "an address is 0 to 30, or all for a command"),
-        ("A  rx  5 31 2: 0001 0002", 10, "a subaddress is 1 to 30"),
-        ("A rx 5 3: 0001", 9, "a count is 1 to 32"),
-        ("A rx 5 3 33: 0001", 10, "a count is 1 to 32"),
-        (
-            "A rx 5 3 1 1: 0001",
-            12,
-            "nothing may follow the last field",
-        ),
-        ("A mode 5 32", 10, "a mode code is 0 to 31"),
-        (
-            "A mode 5 20",
-            12,
-            "after a mode code comes tx or rx; a reserved code needs it",
-        ),
-        (
-            "A mode 5 2 tx 3",
-            15,
-            "the subaddress of a mode code is 0 or 31",
-        ),
-        (
-            "A mode 5 2 tx 31 x",
-            18,
-            "nothing may follow the last field",
-        ),
-        (
-            "A status 5 busy bsy error",
-            17,
-            "a status has error, instrumentation, service, reserved1 to 3, broadcast, busy, subsystem, accept, terminal",
-        ),
-        (
-            "A tx 5 3 1 from 6 4",
-            11,
-            "from follows rx alone: the terminal of rx receives what another sends",
-        ),
-        (
-            "A rx 5 3 1 from 5 4: 0001",
-            17,
-            "after from, the address of another terminal, 0 to 30, and its subaddress, 1 to 30, are expected",
-        ),
-        (
-            "A rx 5 3 1 from all 4: 0001",
-            17,
-            "after from, the address of another terminal, 0 to 30, and its subaddress, 1 to 30, are expected",
-        ),
-        (
-            "A rx 5 3 1 from 6: 0001",
-            17,
-            "after from, the address of another terminal, 0 to 30, and its subaddress, 1 to 30, are expected",
-        ),
-        (
-            "A rx 5 3 1 from 6 4 1: 0001",
-            17,
-            "after from, the address of another terminal, 0 to 30, and its subaddress, 1 to 30, are expected",
-        ),
-        (
-            "A rx 5 3 2: 0001",
-            17,
-            "a data word is wanted: one space and four hexadecimal digits",
-        ),
-        (
-            "A rx 5 3 2",
-            11,
-            "a colon is missing before the data words, as in A rx 5 3 1: 0001",
-        ),
-        (
-            "A rx 5 3 2 0001 0002",
-            12,
-            "a colon is missing before the data words, as in A rx 5 3 1: 0001",
-        ),
-        (
-            "A rx 5 3 2 from 6 4",
-            20,
-            "a colon is missing before the data words, as in A rx 5 3 1: 0001",
-        ),
-        (
-            "A mode 5 17 rx 0",
-            17,
-            "a colon is missing before the data words, as in A rx 5 3 1: 0001",
-        ),
-        (
-            "A tx 5 3 2 0001 0002",
-            12,
-            "nothing may follow the last field",
-        ),
-        (
-            "A rx 5 3 2: 0001  0002",
-            17,
-            "a data word is wanted: one space and four hexadecimal digits",
-        ),
-        (
-            "A rx 5 3 2: 0001 000G",
-            17,
-            "a data word is wanted: one space and four hexadecimal digits",
-        ),
-        (
-            "A rx 5 3 1: 0001 0002",
-            17,
-            "nothing more is wanted: the message has all its data words",
-        ),
-        (
-            "A tx 5 3 1: 0001",
-            12,
-            "nothing more is wanted: the message has all its data words",
-        ),
-    ];
-    for (text, column, reason) in lines {
+    for (text, column, reason) in REJECTED_LINES {
         let found = refused_of(rt.alloc(), text.as_bytes())?;
         assert_eq!(rt; found.len(), 1, "{text}");
         assert_eq!(rt; (found[0].line, found[0].column), (1, column), "{text}");
