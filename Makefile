@@ -1,14 +1,19 @@
 # rt1553: `make help` lists the targets. All proofs, compilers and runs are the toolchain's command `rt`.
 PREFIX ?= /usr/local
 export PREFIX DESTDIR
-# the toolchain with which this version was proved: what `rt version` prints
-export KIT = rattle-kit-13f logic dac8208d650f15bf
-# what build, library, dist and deb take besides with TARGET=aarch64, for ARM64
+# what build, tool, library, dist and deb take besides with TARGET=aarch64, for ARM64
 CROSS = $(if $(TARGET),$(TARGET)-linux-gnu-gcc qemu-$(TARGET))
 
-build: ## proves and builds bin/rt1553 and bin/rt1553-tool, one line a crate, and plays the first answer; what is proved is kept
+# what tests take besides of what is built, and in the gate: $(call TESTED,BUILT,TOOLS)
+TESTED = $(if $(or $(GATE),$(wildcard bin/$(1))),$(2))
+
+build: ## proves and builds bin/rt1553, a line for each crate, and plays the first answer; what is proved is kept
 	@bash scripts/need.sh rt python3 gcc $(CROSS)
 	@python3 scripts/build.py
+
+tool: ## proves and builds bin/rt1553-tool in the same way
+	@bash scripts/need.sh rt python3 gcc $(CROSS)
+	@python3 scripts/build.py tool
 
 help: ## lists the targets
 	@awk -F ':.*## ' '/^[a-z]+:.*## / { printf "make %-12s %s\n", $$1, $$2 }' Makefile
@@ -37,10 +42,11 @@ page: ## proves and builds the page, bin/rt1553.html: the terminal in a web brow
 	@bash scripts/need.sh rt python3
 	@python3 scripts/build.py page
 
-test: ## the gate: proves and tests everything; the last line is 'N passed, M failed'; TARGET=aarch64 tests what is for ARM64
-	@bash scripts/need.sh rt python3 pytest-3 import:xdist import:jsonschema shellcheck pyflakes3 pip3 cc c++ cargo rustc objdump groff mandoc \
-	    aspell vim dpkg-deb dpkg-shlibdeps git script chromium aarch64-linux-gnu-gcc aarch64-linux-gnu-g++ qemu-aarch64
-	$(if $(TARGET),pytest-3 -q tests/test_arm64.py,bash scripts/gate.sh)
+test: ## tests what is built; GATE=1 proves and tests everything anew; TARGET=aarch64 tests what is for ARM64; the last line is 'N passed, M failed'
+	@bash scripts/need.sh rt python3 pytest-3 import:xdist import:jsonschema shellcheck pyflakes3 git script aspell groff mandoc cc \
+	    $(call TESTED,rt1553-tool,vim dpkg-deb dpkg-shlibdeps) $(call TESTED,library,pip3 c++ cargo rustc) $(call TESTED,rt1553.html,chromium) \
+	    $(if $(GATE),objdump valgrind aarch64-linux-gnu-gcc aarch64-linux-gnu-g++ qemu-aarch64)
+	@$(if $(TARGET),pytest-3 -q tests/test_arm64.py,bash scripts/test.sh)
 
 bench: ## the speed beside that of three programs in plain Rust; no test
 	@bash scripts/need.sh rt rustc python3
@@ -56,7 +62,7 @@ deb: ## makes a Debian package of what is built: bin/rt1553_VERSION_ARCHITECTURE
 	@bash scripts/need.sh python3 dpkg-deb dpkg-shlibdeps $(CROSS)
 	@bash scripts/deb.sh
 
-dist: build library ## makes an archive for machines without the toolchain: bin/rt1553-VERSION-linux-x86_64.tar.gz; TARGET=aarch64 makes one for ARM64
+dist: tool library ## makes an archive for machines without the toolchain: bin/rt1553-VERSION-linux-x86_64.tar.gz; TARGET=aarch64 makes one for ARM64
 	@bash scripts/dist.sh
 
 pages: ## writes the commands of rt1553-tool, man pages and completions, of manual/arguments.toml, docs/script.md and docs/profile.md
@@ -67,4 +73,4 @@ clean: ## removes what was built: bin/, out/ and crates/*/out; what was proved i
 	@du -shc bin out crates/*/out 2>/dev/null | tail -n 1 | sed 's/\ttotal/ are freed/'
 	@rm -rf bin out crates/*/out
 
-.PHONY: build help try check edits library page test bench install uninstall deb dist pages clean
+.PHONY: build tool help try check edits library page test bench install uninstall deb dist pages clean

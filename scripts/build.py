@@ -1,11 +1,14 @@
 #!/usr/bin/env python3
 """Proves and builds what users run, and keeps what it proves for later builds.
 
-    scripts/build.py                              the programs, bin/rt1553 and bin/rt1553-tool; then the first answer of README.md
+    scripts/build.py                              bin/rt1553; then the first answer of README.md
+    scripts/build.py tool                         bin/rt1553-tool as well
     scripts/build.py library [BUILT]              the library for C, C++, Python and Rust, bin/library; or BUILT/bin/library, over the
                                                   crates that `rt ci` has proved in BUILT
     scripts/build.py page [BUILT]                 the page for a web browser, bin/rt1553.html; or BUILT/bin/rt1553.html, in the same way
+    scripts/build.py again                        bin/rt1553, and what else of these is there, over the files as they are
     scripts/build.py libraries FOLDER [NAME..]    the crates below these, or all, where scripts/must-fail.py looks for them
+    scripts/build.py copy FOLDER                  a copy of the crates, for `rt ci`: without edits and unit tests, which have runs of their own
 
 Each crate is proved from nothing by one `rattle build`, with the words that `rt ci` gives it, over the statements of the libraries below.
 As many run side by side as there are processors, or as RT_JOBS says, and 3 GiB of memory for each: first what rt1553 stands on,
@@ -22,7 +25,8 @@ can have a build take what nobody proved.
 So a build of this clone or another proves what has changed and what stands on it. With ANEW=1 it proves all.
 
 A line tells of each crate that it is proved, and how long that took, or that it was kept. All that the tools print stands in
-out/build.log. Only proofs are judged here: the tests, and what else `rt ci` refuses, are for `make test`.
+out/build.log. Only proofs are judged here: the tests are for `make test`, and what else `rt ci` refuses, as contracts that no call can
+meet, for the gate.
 
 With TARGET=aarch64 the programs and the library are for ARM64 and in bin/aarch64; the first answer is played under qemu.
 """
@@ -39,13 +43,20 @@ import tempfile
 import time
 from pathlib import Path
 
+from toolchain import Toolchain
+
 TOP = os.path.dirname(os.path.dirname(os.path.realpath(__file__)))
 LOG = f"{TOP}/out/build.log"
-# a program's crate, and what it is called; the first is built first
+# the crate of a program, and what it is called
 PROGRAMS = {"rt1553_program": "rt1553", "rt1553_tool_program": "rt1553-tool"}
-LIBRARY = "rt1553_c"
-# the calls of the page, which are for WebAssembly
+# what can be asked for: the crate, and what is left in bin/
+WANTED = {"": ("rt1553_program", "rt1553"), "tool": ("rt1553_tool_program", "rt1553-tool"), "library": ("rt1553_c", "library"), "page": ("rt1553_page", "rt1553.html")}
+# what makes the library and the page of the archives of their crates
+MADE_BY = {"library": ["bash", "scripts/library.sh"], "page": ["python3", "scripts/page.py"]}
+# the calls of the page are for WebAssembly
 PAGE, WASM = "rt1553_page", "wasm64-unknown-unknown"
+# crates of unit tests, which are run by `rt try` (tests/test_units.py)
+UNIT_TESTS = ("terminal_tests", "rt1553_tests")
 # the first answer of README.md: what is typed, and what comes
 GIVEN, ANSWER = r"A c 2c02\nA gap\nslot\n", "A s 2800"
 # bytes of memory for each process that proves
@@ -62,10 +73,9 @@ VERSIONS = 4
 SCHEME = "1"
 # the last line of a proof from nothing that trusts the toolchain and the statements of libraries, and nothing else
 PROVED = r"logic=proved functions=\d+( axioms=\d+)?( target={})? sum={} native=nat,char,string logic-built=trusted libraries-built=trusted statements=trusted"
-# what `rt ci` refuses beside it: contracts that no call meets, a pattern that takes every value, a term that a tactic chose
+# what is refused beside it: a pattern that takes every value, a term that a tactic chose
 REFUSED = re.compile(
-    r"^(warning: no call of `(?![^`]*::fn::)|note: the search for empty contracts did not end|warning: calls of a tactic that chose a term"
-    r"|(\./)?(src|specs)/\S+ warning: this pattern binds a variable)",
+    r"^(warning: calls of a tactic that chose a term|(\./)?(src|specs)/\S+ warning: this pattern binds a variable)",
     re.M,
 )
 # and in a library, since a crate above may cite it, also a term that a tactic chose in a proof
@@ -134,23 +144,10 @@ class Kept:
         Path(room, "sums").write_text(sums_of(files_of(room)), encoding="utf-8")
         shutil.rmtree(at, ignore_errors=True)
         os.rename(room, at)
-        versions = glob.glob(f"{self.folder}/proved/{label.rpartition('-')[0]}-*")
-        for it in sorted(versions, key=os.path.getmtime)[:-VERSIONS]:
+        others = {*glob.glob(f"{self.folder}/proved/{label.rpartition('-')[0]}-*")} - {at}
+        for it in sorted(others, key=os.path.getmtime)[: 1 - VERSIONS]:
             shutil.rmtree(it)
         return at
-
-
-class Toolchain:
-    """The toolchain: its folder, its line, and a sum that tells it from others."""
-
-    def __init__(self):
-        # the toolchain's first page stands at its top
-        self.folder = os.path.dirname(subprocess.check_output(["rt", "doc"], text=True).strip())
-        self.line = subprocess.check_output(["rt", "version"], text=True).strip()
-        whole = hashlib.sha256(self.line.encode())
-        for it in [*sorted(glob.glob(f"{self.folder}/WHAT*")), f"{self.folder}/bin/rattle"]:
-            whole.update(Path(it).read_bytes())
-        self.sum = whole.hexdigest()
 
 
 class Crate:
@@ -159,7 +156,8 @@ class Crate:
     def __init__(self, line, known, toolchain):
         head, _, names = line.partition(":")
         self.name, self.is_archive, self.toolchain = head.split()[0], "staticlib" in head.split(), toolchain
-        self.files = files_of(f"{TOP}/crates/{self.name}", "src", "specs", "proofs")
+        files = files_of(f"{TOP}/crates/{self.name}", "src", "specs", "proofs")
+        self.files = {path: toolchain.named(f"crates/{self.name}/{path}", it) for path, it in files.items()}
         self.is_program = "src/main.rt" in self.files
         self.libraries = [known[it] for it in names.split() if it in known]
         self.of_toolchain = ["std", *[it for it in names.split() if it not in known]]
@@ -193,7 +191,7 @@ class Crate:
         for it in self.below:
             words += ["-L", f"dependency={made[it.name]}"]
         words += ["--antt-project", f"{at}/rattle/logic/antt-project.json", "--logic-built", f"{at}/logic_built"]
-        words += ["--jobs", str(jobs), "--links", f"{self.name}=", "--empty-contracts"]
+        words += ["--jobs", str(jobs), "--links", f"{self.name}="]
         if self.is_library:
             words += ["--statements"]
         else:
@@ -203,8 +201,18 @@ class Crate:
     def is_proved(self, said):
         """Whether a proof that ended well and said this is one that `rt ci` passes."""
         lines = re.findall(r"^logic=.*", said, re.M)
-        is_proved = len(lines) == 1 and re.fullmatch(PROVED.format(self.machine, self.toolchain.line.rpartition(" ")[2]), lines[0])
+        is_proved = len(lines) == 1 and re.fullmatch(PROVED.format(self.machine, self.toolchain.logic), lines[0])
         return is_proved and not REFUSED.search(said) and not (self.is_library and REFUSED_BELOW.search(said))
+
+
+def crates_for(toolchain):
+    """The crates of crates.txt by their names, each as it is given to the toolchain."""
+    crates = {}
+    for line in Path(TOP, "crates.txt").read_text(encoding="utf-8").splitlines():
+        if line and not line.startswith("#"):
+            it = Crate(line, crates, toolchain)
+            crates[it.name] = it
+    return crates
 
 
 class Group:
@@ -225,18 +233,18 @@ class Progress:
     """What is told: a line for each crate that is done, and what goes on."""
 
     def __init__(self):
-        self.told, self.is_terminal = time.time(), sys.stdout.isatty()
+        self.told, self.is_terminal = time.monotonic(), sys.stdout.isatty()
 
     def line(self, text, end="\n"):
         """Writes a line, over the line of a terminal that tells what goes on."""
         print(f"\r\033[K{text}" if self.is_terminal else text, end=end, flush=True)
-        self.told = time.time()
+        self.told = time.monotonic()
 
     def tick(self, text):
         """Tells what goes on, each second on a terminal, and else where nothing was told for long."""
-        if self.is_terminal and time.time() - self.told >= 1:
+        if self.is_terminal and time.monotonic() - self.told >= 1:
             self.line(f"        {text}"[: shutil.get_terminal_size().columns - 1], end="")
-        elif not self.is_terminal and time.time() - self.told > SILENCE:
+        elif not self.is_terminal and time.monotonic() - self.told > SILENCE:
             self.line(f"        {text}")
 
 
@@ -244,7 +252,7 @@ class Proof:
     """A proof that runs: the process, where it leaves what it makes, and the file of what it prints."""
 
     def __init__(self, crate, jobs, nice, made, kept, group):
-        self.crate, self.jobs, self.began, self.room, self.copy = crate, jobs, time.time(), kept.room(), kept.room()
+        self.crate, self.jobs, self.began, self.room, self.copy = crate, jobs, time.monotonic(), kept.room(), kept.room()
         self.said = tempfile.TemporaryFile("w+", errors="replace")
         crate.copy(self.copy)
         self.process = group.start(crate.words(made, self.room, jobs), cwd=self.copy, stdout=self.said)
@@ -258,20 +266,15 @@ class Proof:
         self.process.returncode = os.waitstatus_to_exitcode(status)
         shutil.rmtree(self.copy)
         self.said.seek(0)
-        cost = f"{minutes(time.time() - self.began)}, {used.ru_utime + used.ru_stime:.0f} s of processor time, {used.ru_maxrss / 1e6:.1f} GB, {self.jobs} jobs"
+        cost = f"{minutes(time.monotonic() - self.began)}, {used.ru_utime + used.ru_stime:.0f} s of processor time, {used.ru_maxrss / 1e6:.1f} GB, {self.jobs} jobs"
         return self.process.returncode, self.said.read(), cost
 
 
 class Build:
     """A build of some crates and of all that they stand on."""
 
-    def __init__(self, kept, log):
-        self.kept, self.log, self.progress, self.group, self.toolchain = kept, log, Progress(), Group(), Toolchain()
-        self.crates = {}
-        for line in Path(TOP, "crates.txt").read_text(encoding="utf-8").splitlines():
-            if line and not line.startswith("#"):
-                it = Crate(line, self.crates, self.toolchain)
-                self.crates[it.name] = it
+    def __init__(self, kept, log, toolchain):
+        self.kept, self.log, self.progress, self.group, self.crates = kept, log, Progress(), Group(), crates_for(toolchain)
         # where what is made of a crate lies; what is to be proved, in the order in which it is started; what runs
         self.made, self.left, self.running, self.proved, self.told = {}, [], [], 0, 0
         # what was said by the proof of each crate that failed
@@ -349,7 +352,7 @@ class Build:
                 if end := proof.end():
                     self.end_of(proof, *end)
             self.start_ready()
-            going = ", ".join(f"{it.crate.name} {minutes(time.time() - it.began)}" for it in self.running)
+            going = ", ".join(f"{it.crate.name} {minutes(time.monotonic() - it.began)}" for it in self.running)
             self.progress.tick(f"{len(self.left) + len(self.running)} left; {going}")
             time.sleep(0.1)
         if self.progress.is_terminal:
@@ -384,13 +387,18 @@ def play():
         sys.exit(f"{BIN}/rt1553 was to answer {ANSWER}")
 
 
-def build_archive(build, built, name, script, left):
-    """Builds an archive, over what `rt ci` proved in the folder, if there is one, and makes of it what is left in bin/."""
+def left_by(build, words, built):
+    """Builds what these words of WANTED ask for, over what `rt ci` proved in the folder, if there is one. Returns what is left of it."""
     if built:
         build.made = {it.name: f"{built}/crates/{it.name}/out/rlib" for it in build.crates.values() if it.is_library}
-    build.prove([build.crates[name]])
-    build.run(*script, f"{build.made[name]}/lib{name}.a", f"{built or TOP}/{left}")
-    return f"{built}/{left}" if built else left
+    build.prove([build.crates[WANTED[it][0]] for it in words])
+    top = built or TOP
+    for it in words:
+        if it in MADE_BY:
+            program, script = MADE_BY[it]
+            crate = WANTED[it][0]
+            build.run(program, f"{TOP}/{script}", f"{build.made[crate]}/lib{crate}.a", f"{top}/{BIN}/{WANTED[it][1]}")
+    return " and ".join(f"{BIN}/{WANTED[it][1]}" for it in words)
 
 
 def build_libraries(build, folder, names):
@@ -404,28 +412,40 @@ def build_libraries(build, folder, names):
     return "libraries"
 
 
+def copy_for_gate(crates, folder):
+    """Copies the crates without their edits, each of which `rt ci` would give a check of its own, and without those of unit tests, whose
+    proofs tell nothing."""
+    lines = Path(TOP, "crates.txt").read_text(encoding="utf-8").splitlines()
+    kept = [it for it in lines if not it.startswith(tuple(f"{name}:" for name in UNIT_TESTS))]
+    os.makedirs(folder, exist_ok=True)
+    shutil.copy(f"{TOP}/HANDLES", folder)
+    Path(folder, "crates.txt").write_text("".join(f"{it}\n" for it in kept), encoding="utf-8")
+    for it in crates.values():
+        if it.name not in UNIT_TESTS:
+            leave_out = shutil.ignore_patterns("out", "must-fail", "must-not-compile")
+            shutil.copytree(f"{TOP}/crates/{it.name}", f"{folder}/crates/{it.name}", ignore=leave_out)
+            it.copy(f"{folder}/crates/{it.name}")
+
+
 def main():
-    began, (word, *more) = time.time(), sys.argv[1:] or [""]
-    if word not in ("", "library", "page", "libraries"):
+    began, (word, *more), toolchain = time.monotonic(), sys.argv[1:] or [""], Toolchain()
+    if word not in (*WANTED, "again", "libraries", "copy"):
         sys.exit(__doc__)
+    if word == "copy":
+        return copy_for_gate(crates_for(toolchain), more[0])
     kept = Kept()
     for it in (BIN, "out"):
         os.makedirs(f"{TOP}/{it}", exist_ok=True)
     with open(LOG, "w", encoding="utf-8", buffering=1) as log:
-        build = Build(kept, log)
-        if (proved_with := os.environ.get("KIT", build.toolchain.line)) != build.toolchain.line:
-            print(f"This version was proved with {proved_with}; this is {build.toolchain.line}: every crate is proved by it.", flush=True)
-        if word == "library":
-            what = build_archive(build, "".join(more), LIBRARY, ["bash", f"{TOP}/scripts/library.sh"], f"{BIN}/library")
-        elif word == "page":
-            what = build_archive(build, "".join(more), PAGE, ["python3", f"{TOP}/scripts/page.py"], "bin/rt1553.html")
-        elif word == "libraries":
+        build = Build(kept, log, toolchain)
+        if word == "libraries":
             what = build_libraries(build, more[0], more[1:])
         else:
-            what = f"{BIN}/rt1553 and {BIN}/rt1553-tool"
-            build.prove([build.crates[it] for it in PROGRAMS])
+            there = [it for it in WANTED if word == "again" and os.path.exists(f"{TOP}/{BIN}/{WANTED[it][1]}")]
+            words = list(dict.fromkeys([*[""] * (word in ("tool", "again")), *there, *[word] * (word in WANTED)]))
+            what = left_by(build, words, "".join(more))
     of = f"{build.proved} of {len(build.all)} crates proved now, {len(build.all) - build.proved} before"
-    print(f"{what}: {of}, by {build.toolchain.line}, in {minutes(time.time() - began)}.", flush=True)
+    print(f"{what}: {of}, by {toolchain.line}, in {minutes(time.monotonic() - began)}.", flush=True)
     if not word:
         play()
 
@@ -435,3 +455,5 @@ if __name__ == "__main__":
         main()
     except KeyboardInterrupt:
         sys.exit("\nended; what was proved is kept")
+    except OSError as error:
+        sys.exit(f"\n{error.strerror}: {error.filename or 'a file'}. What was proved is kept.")

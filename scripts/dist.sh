@@ -1,5 +1,5 @@
 #!/usr/bin/env bash
-# Makes an archive of what `make build` and `make library` leave, with its pages: dist.sh [BUILT [FOLDER]]
+# Makes an archive of what `make tool` and `make library` leave, with its pages: dist.sh [BUILT [FOLDER]]
 # BUILT is a copy of this repository with the same in its bin/, by default this one. The archive is left in FOLDER, by default bin/, with
 # its checksum beside it. It prints the archive's name. With TARGET=aarch64 it is the archive for ARM64, of what is in bin/aarch64.
 # What `make page` leaves goes with it, if it is there.
@@ -24,7 +24,7 @@ to=$work/$name
 
 for file in rt1553 rt1553.o rt1553-tool rt1553-tool.o library; do
     if [[ ! -e $built/$bin/$file ]]; then
-        echo "$bin/$file isn't there: run 'make build' and 'make library' first, where gcc can link statically" >&2
+        echo "$bin/$file isn't there: run 'make tool' and 'make library' first, where gcc can link statically" >&2
         exit 1
     fi
 done

@@ -1,17 +1,18 @@
 """Which must-fail edits were refused over the files as they are: tests/edits.record, and what this machine keeps.
 
-The record begins with the toolchain and the last run over all crates; then it has for each crate a sum of all that its edits rest on,
-and how many of them were refused. The sum is that of the edits, of the crate's files and line of crates.txt, and of those of all crates
-below. Where it is the same and all were refused, the gate takes the record's word. Each refusal is also kept in ~/.cache/rt1553/refused,
-by the same sum and the edit; with ANEW=1 nothing is taken from either.
+The record has a line for each crate: its name; a sum of its edits, of its files and line of crates.txt, and of those of all crates below;
+a sum of the logic, and of what the toolchain's crates state that are used; how many of its edits were refused; and by which toolchain.
+Where both sums are the same and all were refused, the record is good, whatever the toolchain is called. Where only the second differs, the
+record is another toolchain's. Each refusal is also kept in ~/.cache/rt1553/refused, by the same sums and the edit; with ANEW=1 nothing is
+taken from either.
 """
 
-import hashlib
 import os
 import threading
 from pathlib import Path
 
 from edits import PARTS, TOP, files_below, read
+from toolchain import sum_of
 
 RECORD = f"{TOP}/tests/edits.record"
 # to be changed where a change of these scripts can change what counts as refused: then no record and no kept refusal is good
@@ -25,18 +26,13 @@ def listed_crates():
     return {name.split()[0]: rest.split() for name, _, rest in lines}
 
 
-def sum_of(*parts):
-    """A sum of these."""
-    return hashlib.sha256(repr(parts).encode()).hexdigest()
-
-
 class Sums:
     """What stands below each crate, sums of all that a refusal depends on, and the edits that were refused before: an empty file
     for each, named by such a sum."""
 
-    def __init__(self, deps, line):
-        # the toolchain's line, and the sum of each crate's files and of those below it
-        self.deps, self.line, self.crates = deps, line, {}
+    def __init__(self, deps, toolchain):
+        # the toolchain, and the sum of each crate's files and of those below it
+        self.deps, self.toolchain, self.crates = deps, toolchain, {}
         cache = os.environ.get("XDG_CACHE_HOME") or os.path.expanduser("~/.cache")
         self.folder = Path(os.environ.get("RT1553_KEPT") or f"{cache}/rt1553") / "refused"
 
@@ -52,9 +48,17 @@ class Sums:
         """The sum of a crate with all its edits."""
         return sum_of(self.of_crate(crate.name), [(it.label, it.lines) for it in crate.edits])[:16]
 
+    def used(self, name):
+        """The crates of the toolchain that a crate and those below it use."""
+        return {"std"}.union(*(self.used(it) if it in self.deps else {it} for it in self.deps[name]))
+
+    def of_statements(self, name):
+        """The sum of what the toolchain states that a refusal depends on."""
+        return sum_of([self.toolchain.statements(it) for it in sorted(self.used(name))])[:16]
+
     def place(self, crate, edit):
         """The file that stands where this edit of the crate was refused."""
-        return self.folder / sum_of(self.line, self.of_crate(crate.name), edit.lines)
+        return self.folder / sum_of(self.of_statements(crate.name), self.of_crate(crate.name), edit.lines)
 
     def has(self, crate, edit):
         """Whether the edit was refused before."""
@@ -67,34 +71,29 @@ class Sums:
 
 
 class Record:
-    """tests/edits.record: the toolchain, what is said of the last run over all crates, and for each crate what was noted of it."""
+    """tests/edits.record: for each crate what is noted of it."""
 
     def __init__(self, sums):
         self.sums, self.lock = sums, threading.Lock()
-        first, *lines = read(RECORD).splitlines() if os.path.isfile(RECORD) else [""]
-        self.toolchain, _, self.whole = first.partition("; ")
+        lines = read(RECORD).splitlines() if os.path.isfile(RECORD) else []
         self.crates = dict(it.split(maxsplit=1) for it in lines)
 
     def noted(self, crate, refused):
         """What is noted of a crate, of whose edits so many were refused."""
-        return f"{self.sums.of_edits(crate)} {refused} of {len(crate.edits)}"
+        count = f"{refused} of {len(crate.edits)}"
+        return f"{self.sums.of_edits(crate)} {self.sums.of_statements(crate.name)} {count} {self.sums.toolchain.line}"
 
-    def covers(self, crate):
-        """Whether the record says that all edits of the crate, as it is, were refused; an edit that can't be tried is not covered."""
-        is_noted = self.crates.get(crate.name) == self.noted(crate, len(crate.edits))
-        return is_noted and not os.environ.get("ANEW") and not any(it.fault for it in crate.edits)
+    def refused(self, crate):
+        """Of a crate of which all edits were refused over the files as they are: the sum of what the toolchain stated, and the toolchain; else
+        '' and ''. An edit that can't be applied is refused by none."""
+        own, stated, refused, _, count, line = self.crates.get(crate.name, "- - 0 of - -").split(maxsplit=5)
+        is_whole = own == self.sums.of_edits(crate) and refused == count == str(len(crate.edits)) and not any(it.fault for it in crate.edits)
+        return (stated, line) if is_whole and not os.environ.get("ANEW") else ("", "")
 
     def note(self, crate, refused):
         """Writes the line of a crate whose edits were all tried."""
         with self.lock:
-            if self.toolchain != self.sums.line:
-                self.toolchain, self.whole, self.crates = self.sums.line, "no run over all crates", {}
             self.crates[crate.name] = self.noted(crate, refused)
-            self.write()
-
-    def write(self):
-        """Writes the record."""
-        lines = [f"{self.toolchain}; {self.whole}", *[f"{it} {self.crates[it]}" for it in self.sums.deps if it in self.crates]]
-        with open(f"{RECORD}.new", "w", encoding="utf-8") as it:
-            it.write("".join(f"{line}\n" for line in lines))
-        os.replace(f"{RECORD}.new", RECORD)
+            lines = [f"{it} {self.crates[it]}\n" for it in self.sums.deps if it in self.crates]
+            Path(f"{RECORD}.new").write_text("".join(lines), encoding="utf-8")
+            os.replace(f"{RECORD}.new", RECORD)

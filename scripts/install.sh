@@ -46,7 +46,7 @@ copy() {
 case ${1:-} in
 install)
     if [[ ! -x $bin/rt1553 || ! -x $bin/rt1553-tool ]]; then
-        echo "$bin/rt1553 and $bin/rt1553-tool aren't there: run 'make build' first" >&2
+        echo "$bin/rt1553 and $bin/rt1553-tool aren't there: run 'make tool' first" >&2
         exit 1
     fi
     files | copy

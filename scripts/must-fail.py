@@ -3,10 +3,11 @@
 
     scripts/must-fail.py [NAME..]          the edits of these crates, or of all; tests/edits.record gets a line for each crate
     scripts/must-fail.py gate BUILT LOG    the edits of the crates that the record does not cover, for the gate
+    scripts/must-fail.py told              tries none, and tells which edits the record does not cover, if any
 
 Where tests/edits.record says of a crate that all its edits were refused over the same files, the gate takes its word; else it tries
-them (scripts/edit_record.py). It fails where the record is of another toolchain. What a refusal is, scripts/edit_checks.py tells. The last
-line is 'N passed, M failed': the edits that were tried, and the crates that the record covers.
+them (scripts/edit_record.py). Where another toolchain refused them, which states other things, it tells that and tries none. What a refusal
+is, scripts/edit_checks.py tells. The last line is 'N passed, M failed': the edits that were tried, and the crates that the record covers.
 
 For the gate, `rt ci` is at work in BUILT, a copy of this repository, and LOG is the file of what it prints: a crate's turn comes when
 what it stands on is proved. Else scripts/build.py gives the libraries. A run that was ended goes on where it was; with ANEW=1 each edit
@@ -25,6 +26,7 @@ from concurrent.futures import ThreadPoolExecutor
 from edit_checks import Crate, tried
 from edit_record import Record, Sums, listed_crates
 from edits import TOP, read
+from toolchain import Toolchain
 
 
 class Work:
@@ -76,45 +78,63 @@ def all_tried(crates, record, log):
     return [sum(it) for it in zip(*(it.result() for it in counts))]
 
 
+def count_of(crates):
+    """How many edits crates have."""
+    return sum(len(it.edits) for it in crates)
+
+
+def sorted_out(crates, record):
+    """The crates whose edits the record covers, and those whose edits nobody tried. Tells of the rest, of which another toolchain refused
+    all."""
+    refused = {it: record.refused(it) for it in crates}
+    covered = [it for it in crates if refused[it][0] == record.sums.of_statements(it.name)]
+    other = [it for it in crates if refused[it][1] and it not in covered]
+    if other:
+        lines = ", ".join(sorted({refused[it][1] for it in other}))
+        print(f"{count_of(other)} must-fail edits were not tried with this toolchain, and were refused with {lines}: `make edits` tries them")
+    return covered, [it for it in crates if it not in covered and it not in other]
+
+
 def for_gate(crates, record, log):
     """Tries the edits that the record does not cover. Returns how many rows passed, and how many failed."""
-    if record.toolchain != record.sums.line:
-        print(f"FAILED: tests/edits.record is of {record.toolchain or 'no toolchain'}, and this is {record.sums.line}: run `make edits`")
-        return 0, 1
-    covered = [it for it in crates if record.covers(it)]
-    passed, failed = all_tried([it for it in crates if it not in covered], None, log)
-    count = sum(len(it.edits) for it in covered)
+    covered, untried = sorted_out(crates, record)
+    passed, failed = all_tried(untried, None, log)
     why = "tests/edits.record has that they were refused, over the same files"
-    print(f"{passed + failed} edits were tried; {count}, in {len(covered)} crates, were not: {why}")
+    print(f"{passed + failed} edits were tried; {count_of(covered)}, in {len(covered)} crates, were not: {why}")
     return passed + len(covered), failed
 
 
-def for_record(crates, names, record, built):
+def for_record(crates, record, built):
     """Tries the edits of these crates, and notes what was refused. Returns how many were, and how many were not."""
     if untried := [it.name for it in crates if not all(it.sums.has(it, edit) for edit in it.edits)]:
         subprocess.run([sys.executable, f"{TOP}/scripts/build.py", "libraries", built, *untried], check=True)
-    began = time.monotonic()
-    passed, failed = all_tried(crates, record, "")
-    if not names:
-        record.whole = f"all crates: {passed} of {passed + failed} refused, in {(time.monotonic() - began) / 60:.0f} minutes"
-        record.write()
-    return passed, failed
+    return all_tried(crates, record, "")
+
+
+def tell(crates, record):
+    """Tells which edits the record does not cover."""
+    if untried := sorted_out(crates, record)[1]:
+        names = " ".join(it.name for it in untried)
+        print(f"{count_of(untried)} must-fail edits were not tried over the files as they are, of {names}: `make edits CRATE=..` tries them")
 
 
 def main():
-    gate, names = sys.argv[2:] if sys.argv[1:2] == ["gate"] else [], sys.argv[1:]
-    sums = Sums(listed_crates(), subprocess.check_output(["rt", "version"], text=True).strip())
-    if not gate and not {*names} <= {*sums.deps}:
+    (word, *more), deps = sys.argv[1:] or [""], listed_crates()
+    if not (word in ("gate", "told") or {*sys.argv[1:]} <= {*deps}):
         sys.exit(__doc__)
-    # the toolchain's first page stands at its top
-    kit = os.path.dirname(subprocess.check_output(["rt", "doc"], text=True).strip())
+    toolchain = Toolchain()
+    sums = Sums(deps, toolchain)
     with tempfile.TemporaryDirectory() as room:
-        built = os.path.realpath(gate[0] if gate else f"{room}/built")
-        crates = [Crate(it, built, kit, f"{room}/{it}", sums) for it in (names if names and not gate else sums.deps)]
-        crates, record = [it for it in crates if it.edits], Record(sums)
-        passed, failed = for_gate(crates, record, gate[1]) if gate else for_record(crates, names, record, built)
+        built = os.path.realpath(more[0] if word == "gate" else f"{room}/built")
+        names = deps if word in ("gate", "told", "") else [word, *more]
+        crates = [it for name in names if (it := Crate(name, built, toolchain.folder, f"{room}/{name}", sums)).edits]
+        record = Record(sums)
+        if word == "told":
+            tell(crates, record)
+            return 0
+        passed, failed = for_gate(crates, record, more[1]) if word == "gate" else for_record(crates, record, built)
     print(f"{passed} passed, {failed} failed")
-    return 1 if failed or not passed else 0
+    return 1 if failed else 0
 
 
 if __name__ == "__main__":

@@ -7,7 +7,7 @@ declare -A packages=(
     [script]=bsdutils [ar]=binutils [ld]=binutils [objcopy]=binutils [objdump]=binutils [dpkg-deb]=dpkg [dpkg-shlibdeps]=dpkg-dev
     [aarch64-linux-gnu-gcc]='gcc-aarch64-linux-gnu libc6-dev-arm64-cross' [aarch64-linux-gnu-g++]=g++-aarch64-linux-gnu
     [pytest-3]=python3-pytest [import:xdist]=python3-pytest-xdist [import:jsonschema]=python3-jsonschema
-    [shellcheck]=shellcheck [pyflakes3]=pyflakes3 [qemu-aarch64]=qemu-user [groff]=groff-base [mandoc]=mandoc [aspell]='aspell aspell-en' [vim]=vim [debootstrap]=debootstrap [chromium]=chromium
+    [shellcheck]=shellcheck [pyflakes3]=pyflakes3 [qemu-aarch64]=qemu-user [groff]=groff-base [mandoc]=mandoc [aspell]='aspell aspell-en' [vim]=vim [debootstrap]=debootstrap [chromium]=chromium [valgrind]=valgrind
 )
 # whether a tool is there
 has() { if [[ $1 == import:* ]]; then /usr/bin/python3 -c "${1/:/ }" 2>/dev/null; else command -v "$1" >/dev/null; fi; }
@@ -19,8 +19,10 @@ done
 if ((${#wanted[@]})); then
     if ((EUID == 0)) && command -v apt-get >/dev/null; then
         echo "installing: ${wanted[*]}"
+        while sleep 25 >/dev/null 2>&1; do echo "still installing"; done &
         { apt-get update && DEBIAN_FRONTEND=noninteractive DEBCONF_NOWARNINGS=yes apt-get install -y --no-install-recommends "${wanted[@]}"; } >/dev/null ||
             echo "that failed: it takes the Debian archive, over the network" >&2
+        kill $!
     else
         echo "missing; as root: apt-get install ${wanted[*]}" >&2
     fi

@@ -70,6 +70,11 @@ def succeed(*words, **how):
     return given.output
 
 
+def toolchain():
+    """The line of the toolchain at hand."""
+    return succeed("rt", "version").decode().rstrip("\n")
+
+
 def passed_in(output):
     """How many cases passed by the last line of a program that counts them, as 'N passed, M failed': none may fail."""
     said = output.decode(errors="replace")

@@ -12,7 +12,7 @@ import re
 import urllib.parse
 import xml.etree.ElementTree as xml
 
-from programs import TOP, run
+from programs import run, toolchain
 from schemas import misfits
 
 HTML, SVG = "{http://www.w3.org/1999/xhtml}", "{http://www.w3.org/2000/svg}"
@@ -21,8 +21,7 @@ CONTROLS = [chr(it) for it in range(1, 32) if it != 10] + [chr(127)] + [chr(it) 
 TURNING = [chr(it) for it in [*range(0x2028, 0x202F), *range(0x2066, 0x206A)]]
 NEVER = set(CONTROLS + TURNING)
 # the versions that a report tells, which `--version` prints
-KIT = re.search("^export KIT = (.*)$", (TOP / "Makefile").read_text(encoding="utf-8"), re.MULTILINE)[1]
-VERSIONS = {"program": "0.1", "toolchain": KIT, "canonical": "2"}
+VERSIONS = {"program": "0.1", "toolchain": toolchain(), "canonical": "2"}
 DIGESTS = ["sha256", "profile_sha256", "canonical_sha256"]
 
 

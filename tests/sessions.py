@@ -3,7 +3,7 @@
 
 A session is an indented line `$ COMMAND` of a page, with what it prints in the lines below it, to the letter. All of them are played in
 one shell, page after page. Each page has to end in the folder in which it began. A command that isn't played stands in NOT_PLAYED with
-its reason. The last line is 'N passed, M failed'. This file needs Python and no other file, so that it runs beside an unpacked archive.
+its reason. What a page shows behind its line `$ make tool` needs rt1553-tool. The last line is 'N passed, M failed'. This file needs Python and no other file, so that it runs beside an unpacked archive.
 """
 
 import os
@@ -20,7 +20,7 @@ NOT_PLAYED = {
     r"make test\b": "is what plays this",
     r"make (try|edits|dist)\b": "takes minutes",
     r"(sudo )?make (un)?install\b": "writes into the system; tests/test_installed.py installs into a folder of its own",
-    r"make library\b": "proves for many minutes",
+    r"make (tool|library|page)\b": "proves for many minutes",
     r"make bench\b|(bash|python3) bench/": "measures for minutes",
     r"tar -xf rt1553-": "needs the archive, which tests/test_archive.py unpacks",
 }
@@ -29,12 +29,13 @@ TIMEOUT = 600
 
 
 class Session(NamedTuple):
-    """What is played of a page: its name, a command, and what it is to print."""
+    """What is played of a page: its name, a command, what it is to print, and whether it stands behind `make tool`."""
 
     page: str
     name: str
     command: str
     wanted: str
+    needs_tool: bool = False
 
 
 # behind each page: whether it ends in the folder of the pages, where the next begins
@@ -74,19 +75,21 @@ def sessions_of(block):
 
 
 def commands_of(text):
-    """Each command of a page's text that is played, and what it is to print."""
+    """Each command of a page's text that is played, what it is to print, and whether it stands behind `make tool`."""
+    needs_tool = False
     for block in blocks_of(text):
         for command, wanted in sessions_of(block):
+            needs_tool |= command == "make tool"
             # what stands behind several spaces is a description
             if not any(re.match(pattern, re.split(r" {2,}", command)[0]) for pattern in NOT_PLAYED):
-                yield command, wanted
+                yield command, wanted, needs_tool
 
 
 def sessions_on(folder, pages, *more):
     """What is played of pages of a folder; the rows `more` are played behind each of them too."""
     for page in pages:
-        for command, wanted in commands_of(pathlib.Path(folder, page).read_text(encoding="utf-8")):
-            yield Session(page, command, command, wanted)
+        for command, *rest in commands_of(pathlib.Path(folder, page).read_text(encoding="utf-8")):
+            yield Session(page, command, command, *rest)
         yield from (Session(page, *row) for row in (END, *more))
 
 

@@ -14,6 +14,7 @@ import manual
 import pytest
 from programs import TOP, passed_in, run, succeed
 
+pytestmark = pytest.mark.gate
 PREFIX = "/opt/terminal"
 NAME = f"rt1553-{manual.version()[0]}-linux-x86_64"
 # where sessions are played, and the pages

@@ -23,6 +23,7 @@ import pytest
 from programs import TOP, compiled, passed_by, passed_by_tests, run, succeed
 
 TARGET = "aarch64"
+pytestmark = pytest.mark.gate if not os.environ.get("TARGET") else []
 HAS_PROGRAMS = os.environ.get("TARGET") == TARGET
 of_programs = pytest.mark.skipif(not HAS_PROGRAMS, reason="the programs are proved again for it: make test TARGET=aarch64")
 TESTS, CROSS = TOP / "library/tests", "aarch64-linux-gnu-"
@@ -43,12 +44,12 @@ def c_library(monkeypatch):
 
 
 @pytest.fixture(scope="session")
-def left(once, tools, library_for, built):
+def left(once, tools, made, built):
     """What `make deb` and `make dist` leave for ARM64, and the unpacked archive."""
 
     def make(folder):
-        library_for(TARGET)
-        succeed("python3", TOP / "scripts/build.py", TARGET=TARGET, timeout=3600)
+        made("library", "library", TARGET)
+        succeed("python3", TOP / "scripts/build.py", "tool", TARGET=TARGET, timeout=3600)
         succeed("bash", TOP / "scripts/deb.sh", folder, TARGET=TARGET)
         succeed("bash", TOP / "scripts/dist.sh", built, folder, TARGET=TARGET)
         succeed("tar", "-x", "-f", folder / f"{NAME}.tar.gz", "-C", folder)
@@ -63,9 +64,9 @@ def unpacked(left):
 
 
 @pytest.fixture(scope="session")
-def library_arm64(tools, library_for, request):
+def library_arm64(tools, made, request):
     """The library for ARM64: that of the archive, where there is one."""
-    return request.getfixturevalue("unpacked") / "bin/library" if HAS_PROGRAMS else library_for(TARGET)
+    return request.getfixturevalue("unpacked") / "bin/library" if HAS_PROGRAMS else made("library", "library", TARGET)
 
 
 def under_qemu(program, to):

@@ -1,5 +1,5 @@
-"""What `make build` does with what it keeps, over a toolchain that proves nothing and takes no time; a linker leaves rt1553 in place of
-what it links."""
+"""What `make` and `make tool` do with what they keep, over a toolchain that proves nothing and takes no time; a linker leaves rt1553 in
+place of what it links."""
 
 import os
 import pathlib
@@ -14,6 +14,7 @@ from typing import NamedTuple
 import pytest
 from programs import TOP
 
+pytestmark = pytest.mark.gate
 LINE = "a toolchain logic 0123456789abcdef"
 SUM = LINE.split()[-1]
 RT = f"""#!/bin/sh
@@ -56,11 +57,11 @@ class Room(NamedTuple):
         with open(self.at / f"clone/crates/{CRATE}/src/lib.rt", "a", encoding="utf-8") as it:
             it.write("// a comment\n")
 
-    def start(self, clone="clone", **more):
+    def start(self, word="tool", clone="clone", under=(), **more):
         """Starts a build."""
-        env = {"PATH": str(self.at / "tools"), "RT1553_KEPT": str(self.at / "kept"), "KIT": LINE, **more}
+        env = {"PATH": str(self.at / "tools"), "RT1553_KEPT": str(self.at / "kept"), **more}
         # a test in the background of a shell ignores the interrupt, and so would the build
-        return subprocess.Popen([sys.executable, "scripts/build.py"], cwd=self.at / clone, env=env, stdin=subprocess.DEVNULL, text=True,
+        return subprocess.Popen([*under, sys.executable, "scripts/build.py", *word.split()], cwd=self.at / clone, env=env, stdin=subprocess.DEVNULL, text=True,
                                 stdout=subprocess.PIPE, stderr=subprocess.STDOUT,
                                 preexec_fn=lambda: signal.signal(signal.SIGINT, signal.SIG_DFL))  # fmt: skip
 
@@ -71,9 +72,9 @@ class Room(NamedTuple):
         file.unlink(missing_ok=True)
         return found
 
-    def build(self, **more):
+    def build(self, word="tool", **more):
         """Builds, and gives the status, what was told, and the crates that were proved."""
-        ran = self.start(**more)
+        ran = self.start(word, **more)
         said = ran.communicate()[0]
         return ran.returncode, said, self.proved()
 
@@ -97,7 +98,7 @@ def first(tmp_path_factory, shipped):
     for name, text in SCRIPTS.items():
         room.write(name, text)
         (room.at / name).chmod(0o755)
-    for name, text in {"WHAT": "what\n", "sum": SUM}.items():
+    for name, text in {"WHAT": "what\n", "START-HERE.md": "\n", "sum": SUM}.items():
         room.write(f"kit/{name}", text)
     shutil.copy(shipped.rt1553, room.at / "kit/program")
     for name in TOOLS:
@@ -132,8 +133,12 @@ def test_rt1553_is_built_before_any_crate_that_it_does_not_need(first):
     assert proved.index("rt1553_program") < proved.index("rt1553_differ")
 
 
-def test_first_answer_is_played(first):
-    assert first[2].endswith("    $ printf 'A c 2c02\\nA gap\\nslot\\n' | bin/rt1553\n    A s 2800\n")
+def test_make_proves_what_rt1553_needs_and_plays_the_first_answer(room, first):
+    shutil.rmtree(room.at / "kept")
+    shutil.rmtree(room.at / "clone/bin")
+    status, said, proved = room.build("")
+    assert status == 0 and {*proved} == {*first[-1][: first[-1].index("rt1553_program") + 1]} and os.listdir(room.at / "clone/bin") == ["rt1553"]
+    assert said.endswith("    $ printf 'A c 2c02\\nA gap\\nslot\\n' | bin/rt1553\n    A s 2800\n")
 
 
 # --- what is kept
@@ -164,10 +169,31 @@ def test_anew_takes_nothing(room, first):
     assert sorted(room.build(ANEW="1")[2]) == sorted(first[-1])
 
 
-def test_another_toolchain_proves_all_and_says_so(room, first):
+def test_another_toolchain_proves_all(room, first):
     room.write("kit/WHAT", "something else\n")
-    _, said, proved = room.build(KIT="another")
-    assert sorted(proved) == sorted(first[-1]) and "was proved with another; this is a toolchain" in said, said
+    assert sorted(room.build()[2]) == sorted(first[-1])
+
+
+def test_toolchain_that_built_it_is_named(room):
+    assert f'"{LINE}"' in (room.entry("rt1553_tool_args") / "rt1553_tool_args.rlib/lib").read_text(encoding="utf-8")
+
+
+@pytest.mark.parametrize(("is_there", "builds"), [(True, "bin/rt1553 and bin/rt1553-tool: 0 of"), (False, "bin/rt1553: 0 of")])
+def test_what_is_built_is_brought_up_to_date(is_there, builds, room):
+    if not is_there:
+        (room.at / "clone/bin/rt1553-tool").unlink()
+    status, said, proved = room.build("again")
+    assert (status, proved) == (0, []) and builds in said, said
+
+
+def test_version_that_is_new_is_kept_whatever_the_clock_says(room):
+    """The versions that were taken last go last, and all of these are of a day to come."""
+    for number in range(4):
+        at = room.at / f"kept/proved/{CRATE}-{number}"
+        at.mkdir()
+        os.utime(at, (2**33, 2**33))
+    room.edit()
+    assert (room.build()[0], room.build()[2]) == (0, [])
 
 
 DAMAGES = {
@@ -247,6 +273,29 @@ def test_crate_that_is_not_proved_ends_the_build(room):
     status, said, proved = room.build()
     assert status != 0 and proved == [CRATE] and f"{CRATE:<22s} not proved, after" in said, said
     assert f"fn {CRATE}::broken: not proved" in said and "out/build.log" in said, said
+
+
+OLD_RT = {"fails": "#!/bin/sh\nexit 2\n", "names no logic": "#!/bin/sh\necho an old toolchain\n", "knows no doc": RT.replace("doc)", "docs)")}
+
+
+@pytest.mark.parametrize("rt", [*OLD_RT, "is missing"])
+def test_toolchain_that(rt, room):
+    (room.at / "tools/rt").unlink()
+    if rt in OLD_RT:
+        room.write("tools/rt", OLD_RT[rt])
+        (room.at / "tools/rt").chmod(0o755)
+    status, said, proved = room.build()
+    assert status == 1 and proved == [] and re.fullmatch("`rt .* too old.*\n", said), said
+
+
+def test_no_space_is_left(room, first):
+    """As root, in a small file system; later, with space, the build goes on."""
+    small = ("unshare", "--mount", "sh", "-c", f'mount -t tmpfs -o size=2m,mode=700 none "{room.at}/kept" && exec "$@"', "sh")
+    if subprocess.run([*small, "true"], stderr=subprocess.DEVNULL, check=False).returncode:
+        pytest.skip("to make a file system takes root")
+    status, said, _ = room.build(under=small, PATH=f"{room.at}/tools:/usr/bin:/bin")
+    assert status != 0 and "No space left on device" in said, said
+    assert (room.build()[0], room.build()[2]) == (0, [])
 
 
 def test_proof_in_another_logic_is_none(room):

@@ -47,7 +47,7 @@ def check_answers(folder):
 @pytest.fixture(scope="session")
 def clone(tmp_path_factory, shipped):
     """A copy of the clone."""
-    return copy_to(tmp_path_factory.mktemp("clone"), shipped)
+    return copy_to(tmp_path_factory.mktemp("clone"), (shipped.rt1553, shipped.tool))
 
 
 # --- make install
@@ -63,7 +63,7 @@ def prefix(clone, tmp_path_factory):
 
 def test_make_install_asks_for_what_is_built(tmp_path):
     given = run("make", "--silent", "install", f"PREFIX={tmp_path}/prefix", folder=copy_to(tmp_path / "clone"))
-    assert given.status != 0 and b"run 'make build' first" in given.output + given.errors
+    assert given.status != 0 and b"run 'make tool' first" in given.output + given.errors
     assert not (tmp_path / "prefix").exists()
 
 

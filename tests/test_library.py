@@ -48,12 +48,17 @@ PROGRAMS = [
 IN_PYTHON = {"package.py": {}, "bus.py": {}, "model_buses.py": {}, "misuse.py": {"PYTHONMALLOC": "debug", "MALLOC_PERTURB_": "85"}}
 
 
+def is_checked(program):
+    """Whether it runs under a checker, which takes long."""
+    return bool(program.under) or any("-fsanitize" in it for it in program.flags)
+
+
 def static(library):
     """The static library."""
     return library / "lib/librt1553.a"
 
 
-@pytest.mark.parametrize("program", PROGRAMS, ids=lambda it: it.name)
+@pytest.mark.parametrize("program", [pytest.param(it, marks=[pytest.mark.gate] * is_checked(it)) for it in PROGRAMS], ids=lambda it: it.name)
 def test_program(program, library, tmp_path, count_runs):
     if program.under and not shutil.which(program.under[0]):
         pytest.skip(f"there is no {program.under[0]}")
@@ -175,7 +180,7 @@ def test_player_plays_the_cases(name, cases, player, count_runs):
     count_runs(passed_by("python3", TESTS / "vectors.py", cases[0], player(name)))
 
 
-@pytest.mark.slow
+@pytest.mark.gate
 @pytest.mark.parametrize("name", PLAYERS)
 def test_player_plays_the_protocol_tests(name, player, shipped, tmp_path, count_runs):
     (tmp_path / "bin").mkdir()

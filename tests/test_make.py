@@ -1,4 +1,4 @@
-"""What `make` says, and the line of the toolchain."""
+"""What `make` says."""
 
 import re
 import shutil
@@ -7,8 +7,7 @@ import pytest
 from programs import TOP, run, succeed
 
 pytestmark = pytest.mark.usefixtures("clone_as_it_was")
-TARGETS = "build help try check edits library page test bench install uninstall deb dist pages clean".split()
-KIT = re.search(r"^export KIT = (.*)$", (TOP / "Makefile").read_text(encoding="utf-8"), re.MULTILINE)[1]
+TARGETS = "build tool help try check edits library page test bench install uninstall deb dist pages clean".split()
 
 
 @pytest.mark.parametrize("target", TARGETS)
@@ -27,13 +26,3 @@ def test_missing_tool_is_told_with_what_installs_it(tmp_path):
 def test_make_check_tells_the_names_of_crates():
     given = run("make", "--silent", "check", "CRATE=none", folder=TOP)
     assert given.status != 0 and b"bus_word" in given.output + given.errors
-
-
-def test_line_of_the_toolchain_in_readme():
-    assert f"`{KIT}`" in (TOP / "README.md").read_text(encoding="utf-8")
-
-
-def test_logic_of_the_toolchain():
-    """Another version may be at hand, of the same logic."""
-    name, logic = KIT.split(" ", 1)
-    assert logic.startswith("logic ") and succeed("rt", "version").decode().rstrip("\n").endswith(logic), name

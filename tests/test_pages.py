@@ -5,14 +5,14 @@ in `docs/script.md`, "The transcript". A line of prose has at most 100 character
 each word, in British spelling, or docs/words.txt has it, one word a line; blocks and what stands in backticks are left aside.
 
 The sessions (tests/sessions.py) of the README and of the pages of its table are played in one shell, in that order, in a copy of this
-repository without crates/, with the programs in bin/; there a page may leave only what git ignores. A line that looks like a command
+repository without crates/, with the programs in bin/; there a page may leave only what git ignores. Where rt1553-tool isn't built, what
+stands behind `make tool` is left out. A line that looks like a command
 and is in no session fails, and so do a block of TOML that is no accepted profile and a name of a file that isn't there.
 """
 
 import json
 import re
 import shutil
-import textwrap
 
 import manual
 import pytest
@@ -129,18 +129,29 @@ def answers(once, shipped):
         left_out = {".git", "bin", "crates", "out", "try"}
         shutil.copytree(TOP, folder / "copy", ignore=lambda at, names: left_out if at == str(TOP) else {"__pycache__"})
         (folder / "copy/bin").mkdir()
-        for program in shipped:
+        for program in shipped.places:
             (folder / "copy/bin" / program.name).symlink_to(program)
         succeed("git", "init", "--quiet", folder=folder / "copy")
         succeed("git", "add", "--all", folder=folder / "copy")
-        (folder / "printed.json").write_text(json.dumps(printed(SESSIONS, folder / "copy")), encoding="utf-8")
+        played = [number for number, it in enumerate(SESSIONS) if shipped.places[1].exists() or not it.needs_tool]
+        said = dict(zip(played, printed([SESSIONS[it] for it in played], folder / "copy")))
+        (folder / "printed.json").write_text(json.dumps([said.get(it) for it in range(len(SESSIONS))]), encoding="utf-8")
 
     return json.loads((once("sessions", play) / "printed.json").read_text(encoding="utf-8"))
 
 
 @pytest.mark.parametrize("number", range(len(SESSIONS)), ids=[f"{it.page}-{number}: {it.name}"[:60] for number, it in enumerate(SESSIONS)])
-def test_session(number, answers):
+def test_session(number, answers, shipped):
+    assert not SESSIONS[number].needs_tool or shipped.tool
     assert answers[number] == SESSIONS[number].wanted, SESSIONS[number].command
+
+
+@pytest.mark.parametrize("page", LISTED)
+def test_tool_is_built_before_it_is_used(page):
+    """In the sessions of a page; it is told once."""
+    sessions = [*sessions_on(TOP, [page])]
+    assert [it.command for it in sessions if not it.needs_tool and re.search(r"\brt1553-tool\b|/check-profiles\.sh", it.command)] == []
+    assert TEXTS[page].count("$ make tool\n") == any(it.needs_tool for it in sessions)
 
 
 @pytest.mark.parametrize("name", DRAWN)
@@ -157,7 +168,7 @@ def test_name_of_archive():
 
 
 def test_versions_in_changelog(shipped):
-    assert textwrap.indent(succeed(shipped.tool, "--version").decode(), "    ") in TEXTS["CHANGELOG.md"]
+    assert f"`{succeed(shipped.tool, '-V').decode().strip()}`" in TEXTS["CHANGELOG.md"]
 
 
 def test_version_of_vscode_package():

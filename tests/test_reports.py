@@ -192,7 +192,7 @@ DATED = ["--date", "2026-01-31T12:00:00Z"]
 def test_to_the_byte(tool, form, text, tmp_path):
     write_files(tmp_path, SMALL)
     digests = reports.Digests(tool, tmp_path)
-    fields = {**{it: digests.of(it) for it in ("five", "good", "wrong")}, "canonical": digests.canonical("five"), "kit": reports.KIT}
+    fields = {**{it: digests.of(it) for it in ("five", "good", "wrong")}, "canonical": digests.canonical("five"), "kit": reports.VERSIONS["toolchain"]}
     text = text.format(rest=REST.format(**fields), profile=PROFILE.format(**fields), **fields)
     given = run(tool, "verify", "--format", form, *DATED, "five", "good", "wrong", "none", folder=tmp_path)
     assert given == (4, text.encode(), b"file: cannot read none: no such file\n")

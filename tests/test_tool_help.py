@@ -2,11 +2,10 @@
 
 import os
 import pty
-import re
 import subprocess
 
 import pytest
-from programs import TOP, run, write_files
+from programs import run, toolchain, write_files
 
 WORDS = [
     "check", "canon", "compare", "run", "lint", "check-script", "verify", "answers", "recording", "coverage", "infer", "import", "export",
@@ -36,11 +35,10 @@ NEARLY = {
 
 
 def test_version(tool):
-    """The toolchain is that of the Makefile."""
-    kit = re.search("^export KIT = (.*)$", (TOP / "Makefile").read_text(encoding="utf-8"), re.MULTILINE)[1]
+    """The toolchain is that which built the program."""
     first = "rt1553-tool 0.1 (canonical text 2)\n"
     assert run(tool, "-V") == (0, first.encode(), b"")
-    assert run(tool, "--version") == (0, f"{first}proved and built by {kit}\n".encode(), b"")
+    assert run(tool, "--version") == (0, f"{first}proved and built by {toolchain()}\n".encode(), b"")
 
 
 @pytest.mark.parametrize("words", NEARLY)

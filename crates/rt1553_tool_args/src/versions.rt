@@ -1,8 +1,9 @@
-//! The versions: of the program, of the canonical text that it reads and writes, and of the toolchain by which it is proved and built.
+//! The versions: of the program, of the canonical text that it reads and writes, and of the toolchain by which it is proved and built:
+//! scripts/build.py puts the line of `rt version` in the place of the third.
 
 macro_rules! versions {
     ($told:ident) => {
-        $told!("0.1", "2", "rattle-kit-13f logic dac8208d650f15bf")
+        $told!("0.1", "2", "a toolchain that the build did not name")
     };
 }
 
