@@ -182,15 +182,17 @@ class Progress:
     """Tells each failure as it comes, and each half minute how far the tests are."""
 
     def __init__(self, reporter):
-        self.reporter, self.done, self.failed, self.last = reporter, 0, 0, ""
+        self.reporter, self.done, self.failed, self.last, self.ended = reporter, 0, 0, "", threading.Event()
 
     def pytest_sessionstart(self, session):
         threading.Thread(target=self.tell, args=(session, time.monotonic()), daemon=True).start()
 
+    def pytest_sessionfinish(self):
+        self.ended.set()
+
     def tell(self, session, began):
         """Tells it, as long as the run takes."""
-        while True:
-            time.sleep(SILENCE)
+        while not self.ended.wait(SILENCE):
             seconds = int(time.monotonic() - began)
             told = f"{self.done} of {session.testscollected} tests, {self.failed} failed; last of {self.last}" if self.done else "tests are collected"
             self.reporter.write_line(f"{seconds // 60} min {seconds % 60:02d} s: {told}")
