@@ -61,46 +61,35 @@ impl<T: Drop> From<AllocFailed<T>> for NoCommand {
     }
 }
 
-/// An argument with one value.
-fn once<'a>(arg: Arg<'a>, row: &Argument) -> Arg<'a> {
-    arg.action(ArgAction::Set).value_name(row.value)
-}
-
-/// An argument with one value or several.
-fn often<'a>(arg: Arg<'a>, row: &Argument) -> Arg<'a> {
-    arg.action(ArgAction::Append)
-        .num_args(1..)
-        .value_name(row.value)
-}
-
-/// An option with a value, which can be given several times.
-fn several<'a>(arg: Arg<'a>, row: &Argument) -> Arg<'a> {
-    arg.action(ArgAction::Append)
-        .value_name(row.value)
-        .long(row.id)
+/// What clap does with an argument that is given so, and whether it has to be there whatever else is given.
+fn action_of(given: Occurrence) -> (ArgAction, bool) {
+    match given {
+        Occurrence::Once | Occurrence::Needed => (ArgAction::Set, true),
+        Occurrence::Often => (ArgAction::Append, true),
+        Occurrence::OftenOr(_) | Occurrence::Values => (ArgAction::Append, false),
+        Occurrence::Flag => (ArgAction::SetTrue, false),
+        _ => (ArgAction::Set, false),
+    }
 }
 
 /// An argument, as clap takes it.
 fn argument<'a>(alloc: Global, row: &Argument) -> Result<Arg<'a>, AllocError> {
-    let arg = Arg::new(alloc, row.id).help(row.help);
+    let (action, required) = action_of(row.given);
+    let arg = Arg::new(alloc, row.id)
+        .help(row.help)
+        .value_name(row.value)
+        .action(action)
+        .required(required);
     match row.given {
-        Occurrence::Once => Ok(once(arg, row).required(true)),
-        Occurrence::Often => Ok(often(arg, row).required(true)),
-        Occurrence::OnceOr(other) => once(arg, row).required_unless_present(other),
-        Occurrence::OftenOr(other) => often(arg, row).required_unless_present(other),
-        Occurrence::OnceWith(other) => once(arg, row)
-            .requires_arg(other)?
-            .required_if_eq(other, "true"),
-        Occurrence::Value => Ok(once(arg, row).long(row.id)),
-        Occurrence::Values => Ok(several(arg, row)),
-        Occurrence::Needed => Ok(once(arg, row).long(row.id).required(true)),
-        Occurrence::Flag => Ok(arg.long(row.id).action(ArgAction::SetTrue)),
+        Occurrence::Once => Ok(arg),
+        Occurrence::Often => Ok(arg.num_args(1..)),
+        Occurrence::OnceOr(other) => arg.required_unless_present(other),
+        Occurrence::OftenOr(other) => arg.num_args(1..).required_unless_present(other),
+        Occurrence::OnceWith(other) => arg.requires_arg(other)?.required_if_eq(other, "true"),
         Occurrence::OneOf(default, values) => Ok(
-            arg.long(row.id)
-                .action(ArgAction::Set)
-                .value_parser(values)
-                .default_value(default),
+            arg.long(row.id).value_parser(values).default_value(default),
         ),
+        _ => Ok(arg.long(row.id)),
     }
 }
 
