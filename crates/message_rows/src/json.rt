@@ -1,141 +1,129 @@
 //! Rows as JSON.
+use crate::field::Field;
 use crate::row::RunRow;
-use crate::status::set_bit_names;
+use crate::status::{STATUS_BITS, is_bit_set};
 use crate::text::{bus_name, count_of, end_name, form_name, why};
 use bus_word::{Command, mode_name};
-use message_names::owned;
-use serde::Serialize;
-use std::alloc::{AllocError, Global};
+use serde::{Described, Serialize, Serializer};
+use std::alloc::Global;
 
-/// A command as JSON.
-#[derive(Drop, Serialize)]
-struct CommandJson {
-    /// The command word.
-    word: String,
-    address: u8,
-    subaddress: u8,
-    /// How many data words; null for a mode code.
-    count: Option<u8>,
-    /// Null where it is none.
-    code: Option<u8>,
-    /// What the mode code is called; null where it is none.
-    mode: Option<&'static str>,
+/// A row, and the name of its message, null for none; left out where there are no names.
+#[derive(Clone, Copy)]
+struct RowJson<'a> {
+    row: &'a RunRow,
+    name: Option<Option<&'a str>>,
 }
 
-/// A row as JSON.
-#[derive(Drop, Serialize)]
-struct RowJson {
-    number: u64,
-    line: u64,
-    bus: &'static str,
-    kind: &'static str,
-    command: CommandJson,
-    /// The second command of a transfer, else null.
-    transmitter: Option<CommandJson>,
-    ended: &'static str,
-    why: Option<&'static str>,
-    data: Vec<String>,
-    left_out: u64,
-    status: Option<String>,
-    bits: Vec<&'static str>,
-    handed: Option<String>,
-    /// The name of the message, null for none; left out where there are no names.
-    #[serde(skip_serializing_if = "Option::is_none")]
-    name: Option<Option<String>>,
-}
-
-/// The four digits of a word.
-fn digits(alloc: Global, word: u16) -> Result<String, AllocError> {
-    format!(in alloc; "{word:04x}")
-}
-
-/// A command.
-fn command_json(alloc: Global, command: Command) -> Result<CommandJson, AllocError> {
-    let is_mode = command.is_mode();
-    Ok(CommandJson {
-        word: digits(alloc, command.bits())?,
-        address: command.address(),
-        subaddress: command.subaddress(),
-        count: count_of(command),
-        code: is_mode.then_some(command.code()),
-        mode: is_mode.then_some(mode_name(command.code())),
-    })
-}
-
-/// The second command of a transfer.
-fn transmitter_json(
-    alloc: Global,
-    command: Option<Command>,
-) -> Result<Option<CommandJson>, AllocError> {
-    match command {
-        Some(command) => Ok(Some(command_json(alloc, command)?)),
-        None => Ok(None),
-    }
-}
-
-/// The digits of words.
-fn words_json(alloc: Global, words: &[u16]) -> Result<Vec<String>, AllocError> {
-    let mut list = Vec::new(alloc);
+/// Writes the words as a list.
+fn write_words<S: Serializer>(out: &mut S, words: &[u16]) -> Result<(), S::Error> {
+    out.begin_seq(None)?;
     for word in words {
-        list.push(digits(alloc, *word)?)?;
+        out.collect_str(&Field::Digits(Some(*word)))?;
     }
-    Ok(list)
+    out.end_seq()
 }
 
-/// The digits of a status word, if there is one.
-fn status_json(alloc: Global, status: Option<u16>) -> Result<Option<String>, AllocError> {
-    match status {
-        Some(word) => Ok(Some(digits(alloc, word)?)),
-        None => Ok(None),
+/// Writes the bits of a status word that are set as a list.
+fn write_bits<S: Serializer>(out: &mut S, status: Option<u16>) -> Result<(), S::Error> {
+    let word = status.unwrap_or(0);
+    out.begin_seq(None)?;
+    for (place, name) in STATUS_BITS {
+        if is_bit_set(word, place) {
+            out.str(name)?;
+        }
     }
+    out.end_seq()
 }
 
-/// The bits of a status word, if there is one.
-fn bits_json(alloc: Global, status: Option<u16>) -> Result<Vec<&'static str>, AllocError> {
-    match status {
-        Some(word) => set_bit_names(alloc, word),
-        None => Ok(Vec::new(alloc)),
-    }
-}
-
-/// The name of a message, None where there are no names.
-fn name_json(
-    alloc: Global,
-    name: Option<Option<&str>>,
-) -> Result<Option<Option<String>>, AllocError> {
-    match name {
-        Some(name) => Ok(Some(owned(alloc, name)?)),
-        None => Ok(None),
+/// Writes a field: a number, a list, a text, or null where there is none.
+fn write_field<S: Serializer>(out: &mut S, field: &Field<'_>) -> Result<(), S::Error> {
+    match *field {
+        Field::Number(number) => out.u64(number),
+        Field::Small(Some(number)) => out.u64(u64::from(number)),
+        Field::Text(Some(text)) => out.str(text),
+        Field::Small(None) | Field::Text(None) | Field::Digits(None) => out.unit(),
+        Field::Words(row) => write_words(out, row.data.as_slice()),
+        Field::Bits(status) => write_bits(out, status),
+        _ => out.collect_str(field),
     }
 }
 
-/// The row as it is written.
-fn row_as_json(
-    alloc: Global,
-    row: &RunRow,
-    name: Option<Option<&str>>,
-) -> Result<RowJson, AllocError> {
-    Ok(RowJson {
-        number: row.number,
-        line: row.line,
-        bus: bus_name(row.bus),
-        kind: form_name(row.commands.form()),
-        command: command_json(alloc, row.commands.command)?,
-        transmitter: transmitter_json(alloc, row.commands.transmitter)?,
-        ended: end_name(row.end),
-        why: why(row),
-        data: words_json(alloc, row.data.as_slice())?,
-        left_out: row.left_out,
-        status: status_json(alloc, row.status)?,
-        bits: bits_json(alloc, row.status)?,
-        handed: owned(alloc, row.handed_text())?,
-        name: name_json(alloc, name)?,
-    })
+/// Writes members of an object.
+fn write_members<S: Serializer>(
+    out: &mut S,
+    members: &[(&str, Field<'_>)],
+) -> Result<(), S::Error> {
+    for (key, field) in members {
+        out.key(key)?;
+        write_field(out, field)?;
+    }
+    Ok(())
+}
+
+/// Writes a command: its word and the fields of it. Null where there is none.
+fn write_command<S: Serializer>(out: &mut S, command: Option<Command>) -> Result<(), S::Error> {
+    let Some(command) = command else {
+        return out.unit();
+    };
+    let is_mode = command.is_mode();
+    out.begin_map(None)?;
+    write_members(
+        out,
+        &[
+            ("word", Field::Digits(Some(command.bits()))),
+            ("address", Field::Small(Some(command.address()))),
+            ("subaddress", Field::Small(Some(command.subaddress()))),
+            ("count", Field::Small(count_of(command))),
+            ("code", Field::Small(is_mode.then_some(command.code()))),
+            (
+                "mode",
+                Field::Text(is_mode.then_some(mode_name(command.code()))),
+            ),
+        ],
+    )?;
+    out.end_map()
+}
+
+impl Described for RowJson<'_> {}
+
+impl Serialize for RowJson<'_> {
+    fn serialize<S: Serializer>(&self, out: &mut S) -> Result<(), S::Error> {
+        let row = self.row;
+        out.begin_map(None)?;
+        write_members(
+            out,
+            &[
+                ("number", Field::Number(row.number)),
+                ("line", Field::Number(row.line)),
+                ("bus", Field::Text(Some(bus_name(row.bus)))),
+                ("kind", Field::Text(Some(form_name(row.commands.form())))),
+            ],
+        )?;
+        out.key("command")?;
+        write_command(out, Some(row.commands.command))?;
+        out.key("transmitter")?;
+        write_command(out, row.commands.transmitter)?;
+        write_members(
+            out,
+            &[
+                ("ended", Field::Text(Some(end_name(row.end)))),
+                ("why", Field::Text(why(row))),
+                ("data", Field::Words(row)),
+                ("left_out", Field::Number(row.left_out)),
+                ("status", Field::Digits(row.status)),
+                ("bits", Field::Bits(row.status)),
+                ("handed", Field::Text(row.handed_text())),
+            ],
+        )?;
+        if let Some(name) = self.name {
+            write_members(out, &[("name", Field::Text(name))])?;
+        }
+        out.end_map()
+    }
 }
 
 /// A row as one line of JSON, without a line feed; with the name of its message, which may have none, where there are names. None where
 /// memory runs out.
 pub fn row_json(alloc: Global, row: &RunRow, name: Option<Option<&str>>) -> Option<String> {
-    let json = row_as_json(alloc, row, name).ok()?;
-    serde_json::to_string(alloc, &json).ok()
+    serde_json::to_string(alloc, &RowJson { row, name }).ok()
 }

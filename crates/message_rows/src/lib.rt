@@ -4,6 +4,7 @@
 mod cells;
 mod commands;
 mod ending;
+mod field;
 mod filter;
 mod json;
 mod open_row;

@@ -2,10 +2,8 @@
 ghost use Rattle.std.specs.Prelude.{◌≡◌, ◌<◌};
 ghost use Rattle.message_rows.specs.inner.StatusBits.{is_bit_set};
 
-use std::alloc::{AllocError, Global};
-
 /// The bits of a status word behind the address, each by its place value, as `words` of `rt1553-tool` names them.
-const STATUS_BITS: [(u16, &str); 11] = [
+pub const STATUS_BITS: [(u16, &str); 11] = [
     (0x0400, "error"),
     (0x0200, "instrumentation"),
     (0x0100, "service"),
@@ -20,20 +18,9 @@ const STATUS_BITS: [(u16, &str); 11] = [
 ];
 
 /// Whether the bit of this place value is set.
-fn is_bit_set(word: u16, place: u16) -> bool
+pub fn is_bit_set(word: u16, place: u16) -> bool
     requires { 0 < place }
     ensures { result ≡ is_bit_set word place }
 {
     word / place % 2 == 1
-}
-
-/// The names of the bits of a status word that are set.
-pub fn set_bit_names(alloc: Global, word: u16) -> Result<Vec<&'static str>, AllocError> {
-    let mut names = Vec::new(alloc);
-    for (place, name) in STATUS_BITS {
-        if is_bit_set(word, place) {
-            names.push(name)?;
-        }
-    }
-    Ok(names)
 }

@@ -1,45 +1,14 @@
 //! Rows as lines of text.
-use crate::commands::{MessageCommands, MessageForm};
+use crate::commands::MessageForm;
 use crate::ending::{ErrorCause, IgnoreCause, RowEnd, Unsent};
+use crate::field::Field;
 use crate::row::RunRow;
-use crate::status::set_bit_names;
 use bus_word::{Bus, Command};
 use message_names::quoted;
 use std::alloc::{AllocError, Global};
-use std::fmt;
 
 /// The line above the rows.
 pub const ROW_HEADER: &str = "number    line bus kind      RT sub words ended\n";
-
-/// A field of a command word that is told as a number; nothing where there is none.
-#[derive(Clone, Copy)]
-pub struct ToldNumber {
-    pub number: Option<u8>,
-}
-
-/// An address as it is told: 31 as `all`.
-#[derive(Clone, Copy)]
-pub struct ToldAddress {
-    pub address: u8,
-}
-
-impl fmt::Display for ToldNumber {
-    fn fmt<W: fmt::Write>(&self, f: &mut fmt::Formatter<W>) -> fmt::Result {
-        match self.number {
-            Some(number) => write!(f, "{number}"),
-            None => Ok(()),
-        }
-    }
-}
-
-impl fmt::Display for ToldAddress {
-    fn fmt<W: fmt::Write>(&self, f: &mut fmt::Formatter<W>) -> fmt::Result {
-        match self.address {
-            31 => write!(f, "all"),
-            address => write!(f, "{address}"),
-        }
-    }
-}
 
 /// The letter of a bus.
 pub fn bus_name(bus: Bus) -> &'static str {
@@ -104,7 +73,7 @@ pub fn why(row: &RunRow) -> Option<&'static str> {
 }
 
 /// The subaddress of a command of data words, or its mode code.
-fn place_of(command: Command) -> u8 {
+pub fn place_of(command: Command) -> u8 {
     if command.is_mode() {
         command.code()
     } else {
@@ -126,20 +95,10 @@ fn push_columns(alloc: Global, text: &mut String, row: &RunRow) -> Result<(), Al
     let command = row.commands.command;
     let (number, line) = (row.number, row.line);
     let (bus, form) = (bus_name(row.bus), form_name(row.commands.form()));
-    let address = format!(in alloc;
-        "{}",
-        ToldAddress {
-            address: command.address()
-        }
-    )?;
+    let address = format!(in alloc; "{}", Field::Address(command.address()))?;
     let address = address.as_str();
     let place = place_of(command);
-    let count = format!(in alloc;
-        "{}",
-        ToldNumber {
-            number: count_of(command)
-        }
-    )?;
+    let count = format!(in alloc; "{}", Field::Small(count_of(command)))?;
     let count = count.as_str();
     let end = end_name(row.end);
     write!(
@@ -148,73 +107,45 @@ fn push_columns(alloc: Global, text: &mut String, row: &RunRow) -> Result<(), Al
     )
 }
 
-/// The data words of a message, each as four digits with a space between two, and how many are left out; empty for none.
-pub fn words_told(alloc: Global, row: &RunRow) -> Result<String, AllocError> {
-    let mut text = String::new(alloc);
-    for word in row.data.as_slice() {
-        if !text.is_empty() {
-            text.push_str(" ")?;
-        }
-        write!(text, "{word:04x}")?;
-    }
-    if row.left_out > 0 {
-        write!(text, " and {} more", row.left_out)?;
-    }
-    Ok(text)
-}
-
-/// The transmitter of a transfer, and its subaddress or mode code; empty where the message is none.
-pub fn transmitter_told(alloc: Global, commands: &MessageCommands) -> Result<String, AllocError> {
-    match commands.transmitter {
-        Some(command) => {
-            let address = command.address();
-            let place = place_of(command);
-            let mode = if command.is_mode() { " mode" } else { "" };
-            format!(in alloc; "{address}{mode} {place}")
-        }
-        None => Ok(String::new(alloc)),
-    }
-}
-
-/// The status word of the terminal, and its bits by name; empty for none.
-pub fn status_told(alloc: Global, status: Option<u16>) -> Result<String, AllocError> {
-    let mut text = String::new(alloc);
-    if let Some(word) = status {
-        write!(text, "{word:04x}")?;
-        for name in set_bit_names(alloc, word)?.as_slice() {
-            write!(text, " {name}")?;
+/// Adds fields, each behind these words, where there is something.
+fn push_told(
+    alloc: Global,
+    text: &mut String,
+    fields: &[(&str, Field<'_>)],
+) -> Result<(), AllocError> {
+    for (front, field) in fields {
+        let told = format!(in alloc; "{field}")?;
+        if !told.is_empty() {
+            write!(text, "{front}{}", told.as_str())?;
         }
     }
-    Ok(text)
-}
-
-/// Adds what is told of a message behind these words, where there is something.
-fn push_told(text: &mut String, front: &str, told: &str) -> Result<(), AllocError> {
-    if told.is_empty() {
-        return Ok(());
-    }
-    write!(text, "; {front}{told}")
+    Ok(())
 }
 
 /// A row as a line of text, with its line feed; with the name of its message, where it has one.
 pub fn row_text(alloc: Global, row: &RunRow, name: Option<&str>) -> Result<String, AllocError> {
     let mut text = String::new(alloc);
     push_columns(alloc, &mut text, row)?;
-    if let Some(why) = why(row) {
-        write!(text, ", {why}")?;
-    }
-    let from = transmitter_told(alloc, &row.commands)?;
-    push_told(&mut text, "from ", from.as_str())?;
+    push_told(
+        alloc,
+        &mut text,
+        &[
+            (", ", Field::Text(why(row))),
+            ("; from ", Field::Transmitter(row.commands.transmitter)),
+        ],
+    )?;
     if let Some(name) = name {
         write!(text, "; {}", quoted(alloc, name)?)?;
     }
-    push_told(&mut text, "data ", words_told(alloc, row)?.as_str())?;
     push_told(
+        alloc,
         &mut text,
-        "status ",
-        status_told(alloc, row.status)?.as_str(),
+        &[
+            ("; data ", Field::Words(row)),
+            ("; status ", Field::Status(row.status)),
+            ("; hand ", Field::Text(row.handed_text())),
+        ],
     )?;
-    push_told(&mut text, "hand ", row.handed_text().unwrap_or(""))?;
-    text.push_str("\n")?;
+    text.push('\n')?;
     Ok(text)
 }
