@@ -11,7 +11,7 @@ use crate::told::letter_of;
 use ascii_json::in_ascii;
 use message_names::owned;
 use rt1553_report::{NamesTable, digest_text};
-use rt1553_results::word_string;
+use rt1553_verify::word_string;
 use serde::Serialize;
 use std::alloc::{AllocError, Global};
 

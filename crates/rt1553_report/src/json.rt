@@ -11,8 +11,7 @@ use crate::unit::{ReplyDifference, UnitVerdict};
 use ascii_json::in_ascii;
 use message_names::owned;
 use rt1553_files::escaped;
-use rt1553_results::{NumberRange, word_string, word_strings};
-use rt1553_verify::WrongAnswer;
+use rt1553_verify::{NumberRange, WrongAnswer, word_string, word_strings};
 use serde::Serialize;
 use std::alloc::{AllocError, Global};
 

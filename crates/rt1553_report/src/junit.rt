@@ -8,8 +8,7 @@ use crate::result::{AnswerNames, ScriptOutcome, ScriptResult, Totals, name_at, t
 use crate::told::{difference_told, push_markup, push_shown};
 use crate::unit::{ReplyDifference, UnitVerdict};
 use drawing_boxes::push_escaped;
-use rt1553_results::NumberRange;
-use rt1553_verify::WrongAnswer;
+use rt1553_verify::{NumberRange, WrongAnswer};
 use std::alloc::{AllocError, Global};
 use std::format;
 

@@ -1,6 +1,6 @@
 //! What the results of a unit tell of it.
 use message_names::quoted;
-use rt1553_results::{NumberRange, WrongReply};
+use rt1553_verify::{NumberRange, WrongReply};
 use std::alloc::{AllocError, Global};
 
 /// A reply of a unit that is not that of the terminal.

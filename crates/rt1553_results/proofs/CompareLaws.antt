@@ -3,8 +3,8 @@ use Rattle.std.proofs.Common.{◌≡◌, ℕ, zero, suc, ◌+◌, ◌≤◌, ◌
 use Rattle.std.proofs.lemmas.Bool.Decides.{nat_tests}
 use Rattle.std.proofs.lemmas.Grind.{flat_map-append}
 use Rattle.bus_legal.specs.Description.{Description}
-use Rattle.rt1553_results.specs.declared.comparison.WrongReply.{WrongReply}
-use Rattle.rt1553_results.specs.declared.comparison.NumberRange.{NumberRange}
+use Rattle.rt1553_verify.specs.declared.replies.WrongReply.{WrongReply}
+use Rattle.rt1553_verify.specs.declared.replies.NumberRange.{NumberRange}
 use Rattle.rt1553_results.specs.declared.comparison.Comparison.{Comparison}
 use Rattle.rt1553_results.specs.declared.rows.Rows.{Rows}
 use Rattle.rt1553_results.specs.Rows.{Answered, rows_of}

@@ -20,7 +20,7 @@ use Rattle.rt1553_results.specs.declared.explaining.ResultsExplained.{ResultsExp
 use Rattle.rt1553_results.specs.Recorded.{replied, exchange_seen, recorded_replies, seen_slot}
 use Rattle.rt1553_acceptance.specs.Label.{label_of}
 use Rattle.rt1553_results.specs.Rows.{rows_from, after_exchange}
-use Rattle.rt1553_results.specs.declared.comparison.NumberRange.{NumberRange}
+use Rattle.rt1553_verify.specs.declared.replies.NumberRange.{NumberRange}
 use Rattle.rt1553_results.specs.Compare.{missing_at, missing, numbers_in}
 use Rattle.rt1553_results.proofs.CompareLaws.{none_missing, no_missing}
 use Rattle.rt1553_results.specs.ExplainedResults.{IsFirstUnexplainedReply, ExplainsResults, TellsMissing}

@@ -4,8 +4,8 @@ use Rattle.std.specs.Cmp.Lexicographic.{pointwise}
 use Rattle.std.specs.List.{flat_map}
 use Rattle.bus_legal.specs.Description.{Description}
 use Rattle.rt1553_acceptance.specs.Label.{label_of}
-use Rattle.rt1553_results.specs.declared.comparison.WrongReply.{WrongReply}
-use Rattle.rt1553_results.specs.declared.comparison.NumberRange.{NumberRange}
+use Rattle.rt1553_verify.specs.declared.replies.WrongReply.{WrongReply}
+use Rattle.rt1553_verify.specs.declared.replies.NumberRange.{NumberRange}
 use Rattle.rt1553_results.specs.declared.comparison.Comparison.{Comparison}
 use Rattle.rt1553_results.specs.declared.comparing.CompareFault.{CompareFault}
 use Rattle.rt1553_results.specs.declared.comparing.CompareFault.TheVariants.{Beyond, Other, Memory}

@@ -7,7 +7,6 @@ pub mod Results
 pub mod Refused
 pub mod Asked
 pub mod Compare
-pub mod Differing
 pub mod Unit
 pub mod Recorded
 pub mod ExplainedResults

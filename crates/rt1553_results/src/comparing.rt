@@ -6,13 +6,14 @@ ghost use Rattle.rt1553_results.specs.Handed.{answered_in};
 ghost use Rattle.rt1553_results.specs.Results.{answer, line_in};
 ghost use Rattle.rt1553_results.specs.Compare.{told_reply, replies_told, missing_at, counted, numbers_in, TellsResults, Compares, AreNotCompared};
 
-use crate::comparison::{Comparison, NumberRange, WrongReply};
+use crate::comparison::Comparison;
 use crate::playing::{TestRow, copied};
 use crate::results::Results;
 use crate::rows::Rows;
 use bus_legal::Normal;
 use csv_rows::CellPlace;
 use rt1553_acceptance::label_of;
+use rt1553_verify::{NumberRange, WrongReply};
 use std::alloc::{AllocError, Global};
 use thiserror::Error;
 

@@ -10,7 +10,6 @@ ghost use Rattle.rt1553_results.specs.ExplainedResults.{ExplainsResults, TellsMi
 ghost use Rattle.rt1553_results.specs.inner.Told.{TellsUnexplainedReply, TellsPlace};
 
 use crate::comparing::{CompareFault, beyond, miss};
-use crate::comparison::{NumberRange, WrongReply};
 use crate::playing::copied;
 use crate::results::Results;
 use crate::watching::{SLOT_LINES, watch_results};
@@ -19,6 +18,7 @@ use bus_complete_test::Exchanges;
 use bus_legal::Normal;
 use recorded_terminal::{Sent, Unexplained};
 use rt1553_acceptance::label_of;
+use rt1553_verify::{NumberRange, WrongReply};
 use std::alloc::{AllocError, Global};
 
 /// The first reply of a unit that no behaviour of the subsystem explains.

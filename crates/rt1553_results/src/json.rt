@@ -1,11 +1,9 @@
 //! Rows of the acceptance test as JSON.
-ghost use Rattle.std.specs.Prelude.{◌≡◌, IfOk, map, string_bytes};
-ghost use Rattle.script_lines.specs.Digits.{digits_of};
-
 use crate::playing::TestRow;
 use crate::texts::{data_words, handed_text};
 use bus_legal::Normal;
 use rt1553_acceptance::label_of;
+use rt1553_verify::{word_string, word_strings};
 use serde::Serialize;
 use std::alloc::{AllocError, Global};
 use std::str;
@@ -24,24 +22,6 @@ struct JsonRow {
     /// The name of its message, null for none; left out where there are no names.
     #[serde(skip_serializing_if = "Option::is_none")]
     name: Option<Option<String>>,
-}
-
-/// The four hexadecimal digits of a word, small.
-pub fn word_string(alloc: Global, word: u16) -> Result<String, AllocError>
-    ensures { IfOk result (λ text. string_bytes text ≡ digits_of word) }
-{
-    hex::encode(alloc, word.to_be_bytes())
-}
-
-/// The digits of each word.
-pub fn word_strings(alloc: Global, words: &[u16]) -> Result<Vec<String>, AllocError>
-    ensures { IfOk result (λ texts. map string_bytes texts.items ≡ map digits_of words.now) }
-{
-    let mut list = Vec::new(alloc);
-    for word in words {
-        list.push(word_string(alloc, *word)?)?;
-    }
-    Ok(list)
 }
 
 /// The words of a reply, or None where there are none.

@@ -1,38 +1,9 @@
 //! What a comparison tells, in words.
-use crate::comparison::{Comparison, NumberRange, WrongReply, count_of};
+use crate::comparison::{Comparison, count_of};
 use crate::explaining::{ResultsExplained, UnexplainedReply};
 use recorded_terminal::Sent;
+use rt1553_verify::ReplyText;
 use std::fmt;
-
-/// A reply as text: its words, or `none`.
-#[derive(Clone, Copy)]
-struct ReplyText<'a>(&'a [u16]);
-
-impl fmt::Display for ReplyText<'_> {
-    fn fmt<W: fmt::Write>(&self, f: &mut fmt::Formatter<W>) -> fmt::Result {
-        if self.0.is_empty() {
-            return f.write_str("none");
-        }
-        write!(f, "{:04x}", self.0[0])?;
-        for word in &self.0[1..] {
-            write!(f, " {word:04x}")?;
-        }
-        Ok(())
-    }
-}
-
-/// As `receive 3, 2 words: legal: expected 2800, came none`.
-impl fmt::Display for WrongReply {
-    fn fmt<W: fmt::Write>(&self, f: &mut fmt::Formatter<W>) -> fmt::Result {
-        write!(
-            f,
-            "{}: expected {}, came {}",
-            self.label.as_str(),
-            ReplyText(self.expected.as_slice()),
-            ReplyText(self.came.as_slice())
-        )
-    }
-}
 
 /// A word that can be sent, or `none`.
 #[derive(Clone, Copy)]
@@ -58,17 +29,6 @@ impl fmt::Display for UnexplainedReply {
             self.slot.saturating_add(1),
             WordText(self.possible)
         )
-    }
-}
-
-/// As `no result for 14 to 17`, or `no result for 14`.
-impl fmt::Display for NumberRange {
-    fn fmt<W: fmt::Write>(&self, f: &mut fmt::Formatter<W>) -> fmt::Result {
-        write!(f, "no result for {}", self.first)?;
-        if self.count > 1 {
-            write!(f, " to {}", self.last())?;
-        }
-        Ok(())
     }
 }
 

@@ -4,4 +4,5 @@ pub mod Possible
 pub mod Verify
 pub mod Commands
 pub mod Reader
+pub mod Differing
 pub mod inner

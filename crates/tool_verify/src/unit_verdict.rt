@@ -9,7 +9,8 @@ ghost use Rattle.tool_verify.specs.UnitResults.{UnitPasses, TellsCompared, Tells
 use crate::unit_results::JudgedResults;
 use message_names::{MessageNames, owned};
 use rt1553_report::{ReplyDifference, UnitVerdict};
-use rt1553_results::{Comparison, Results, ResultsExplained, WrongReply};
+use rt1553_results::{Comparison, Results, ResultsExplained};
+use rt1553_verify::WrongReply;
 use std::alloc::{AllocError, Global};
 use std::format;
 use tool_names::name_of_command;
