@@ -17,6 +17,11 @@ const KEYS: [(&str, &str); 10] = [
     ("flagged", "a status word with other bits"),
 ];
 
+/// How a page begins, up to its title.
+const FRONT: &str =
+    "<!DOCTYPE html>\n<html xmlns=\"http://www.w3.org/1999/xhtml\" lang=\"en\"><head><meta charset=\"utf-8\"/>\
+<meta name=\"viewport\" content=\"width=device-width, initial-scale=1\"/><title>";
+
 /// Writes what the colours and lines of a drawing say, as a list.
 pub fn push_keys(page: &mut String) -> Result<(), AllocError> {
     page.push_str("<ul class=\"keys\">\n")?;
@@ -27,10 +32,8 @@ pub fn push_keys(page: &mut String) -> Result<(), AllocError> {
         )?;
     }
     page.push_str(
-        "<li><svg class=\"key\" width=\"18\" height=\"14\" aria-hidden=\"true\"><line class=\"gap\" x1=\"9\" y1=\"0\" x2=\"9\" y2=\"14\"/></svg>a gap</li>\n",
-    )?;
-    page.push_str(
-        "<li><svg class=\"key\" width=\"18\" height=\"14\" aria-hidden=\"true\"><circle class=\"silence\" cx=\"9\" cy=\"7\" r=\"3\"/></svg>a slot in which nothing is sent</li>\n</ul>\n",
+        "<li><svg class=\"key\" width=\"18\" height=\"14\" aria-hidden=\"true\"><line class=\"gap\" x1=\"9\" y1=\"0\" x2=\"9\" y2=\"14\"/></svg>a gap</li>\n\
+<li><svg class=\"key\" width=\"18\" height=\"14\" aria-hidden=\"true\"><circle class=\"silence\" cx=\"9\" cy=\"7\" r=\"3\"/></svg>a slot in which nothing is sent</li>\n</ul>\n",
     )
 }
 
@@ -38,22 +41,22 @@ pub fn push_keys(page: &mut String) -> Result<(), AllocError> {
 /// printed page, too, with the number of the page. The style is CSS for what stands on the page beside drawings, and may be empty; it has
 /// no `<` and no `&`.
 pub fn push_front(page: &mut String, title: &str, style: &str) -> Result<(), AllocError> {
-    page.push_str(
-        "<!DOCTYPE html>\n<html xmlns=\"http://www.w3.org/1999/xhtml\" lang=\"en\"><head><meta charset=\"utf-8\"/>",
-    )?;
-    page.push_str(
-        "<meta name=\"viewport\" content=\"width=device-width, initial-scale=1\"/><title>",
-    )?;
+    page.push_str(FRONT)?;
     push_escaped(page, title)?;
-    page.push_str("</title><style>")?;
-    page.push_str(PAGE_STYLE)?;
-    page.push_str(LIGHT_STYLE)?;
-    page.push_str(DARK_STYLE)?;
-    page.push_str(style)?;
-    page.push_str("@page{font:9px Arial,Helvetica,sans-serif;@top-left{content:\"")?;
+    for text in [
+        "</title><style>",
+        PAGE_STYLE,
+        LIGHT_STYLE,
+        DARK_STYLE,
+        style,
+        "@page{font:9px Arial,Helvetica,sans-serif;@top-left{content:\"",
+    ] {
+        page.push_str(text)?;
+    }
     push_css_text(page, title)?;
-    page.push_str("\"}@bottom-right{content:counter(page) \" / \" counter(pages)}}")?;
-    page.push_str("</style></head><body>\n<h1>")?;
+    page.push_str(
+        "\"}@bottom-right{content:counter(page) \" / \" counter(pages)}}</style></head><body>\n<h1>",
+    )?;
     push_escaped(page, title)?;
     page.push_str("</h1>\n")
 }
@@ -80,8 +83,8 @@ pub fn page_with(
     push_front(&mut page, title, parts.style)?;
     page.push_str(parts.head)?;
     push_keys(&mut page)?;
-    page.push_str(drawings)?;
-    page.push_str(parts.foot)?;
-    page.push_str("</body></html>\n")?;
+    for text in [drawings, parts.foot, "</body></html>\n"] {
+        page.push_str(text)?;
+    }
     Ok(page)
 }
