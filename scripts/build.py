@@ -7,7 +7,7 @@
                                                   crates that `rt ci` has proved in BUILT
     scripts/build.py page [BUILT]                 the page for a web browser, bin/rt1553.html; or BUILT/bin/rt1553.html, in the same way
     scripts/build.py again                        bin/rt1553, and what else of these is there, over the files as they are
-    scripts/build.py libraries FOLDER [NAME..]    the crates below these, or all, where scripts/must-fail.py looks for them
+    scripts/build.py libraries FOLDER NAME..      the crates below these, where scripts/must-fail.py looks for them
     scripts/build.py copy FOLDER                  a copy of the crates, for `rt ci`: without edits and unit tests, which have runs of their own
 
 Each crate is proved from nothing by one `rattle build`, with the words that `rt ci` gives it, over the statements of the libraries below.
@@ -402,9 +402,8 @@ def left_by(build, words, built):
 
 
 def build_libraries(build, folder, names):
-    """Builds what these crates stand on, or all, and links what was made to the places at which `rt ci` leaves it."""
-    above = [build.crates[it] for it in names] or build.crates.values()
-    wanted = {below for it in above for below in it.below} if names else {it for it in above if it.is_library}
+    """Builds what these crates stand on, and links what was made to the places at which `rt ci` leaves it."""
+    wanted = {below for it in names for below in build.crates[it].below}
     build.prove([it for it in build.crates.values() if it in wanted])
     for name, at in build.made.items():
         os.makedirs(f"{folder}/crates/{name}/out")
@@ -441,8 +440,8 @@ def main():
         if word == "libraries":
             what = build_libraries(build, more[0], more[1:])
         else:
-            there = [it for it in WANTED if word == "again" and os.path.exists(f"{TOP}/{BIN}/{WANTED[it][1]}")]
-            words = list(dict.fromkeys([*[""] * (word in ("tool", "again")), *there, *[word] * (word in WANTED)]))
+            there = [it for it in WANTED if it and os.path.exists(f"{TOP}/{BIN}/{WANTED[it][1]}")]
+            words = {"tool": ["", "tool"], "again": ["", *there]}.get(word, [word])
             what = left_by(build, words, "".join(more))
     of = f"{build.proved} of {len(build.all)} crates proved now, {len(build.all) - build.proved} before"
     print(f"{what}: {of}, by {toolchain.line}, in {minutes(time.monotonic() - began)}.", flush=True)
