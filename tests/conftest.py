@@ -194,7 +194,7 @@ class Progress:
         """Tells it, as long as the run takes."""
         while not self.ended.wait(SILENCE):
             seconds = int(time.monotonic() - began)
-            told = f"{self.done} of {session.testscollected} tests, {self.failed} failed; last of {self.last}" if self.done else "tests are collected"
+            told = f"{self.done} of {session.testscollected} tests, {self.failed} failed; last of {self.last}" if self.done else "no test has ended"
             self.reporter.write_line(f"{seconds // 60} min {seconds % 60:02d} s: {told}")
 
     def pytest_runtest_logreport(self, report):
