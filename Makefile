@@ -1,8 +1,6 @@
 # rt1553: `make help` lists the targets. All proofs, compilers and runs are the toolchain's command `rt`.
 PREFIX ?= /usr/local
 export PREFIX DESTDIR
-# a proof takes 2 % less processor time if its process gives no memory back before it ends
-export MIMALLOC_PURGE_DELAY = -1
 # what build, tool, library, dist and deb take besides with TARGET=aarch64, for ARM64
 CROSS = $(if $(TARGET),$(TARGET)-linux-gnu-gcc qemu-$(TARGET))
 
