@@ -3,7 +3,8 @@
 
 A session is an indented line `$ COMMAND` of a page, with what it prints in the lines below it, to the letter. All of them are played in
 one shell, page after page. Each page has to end in the folder in which it began. A command that isn't played stands in NOT_PLAYED with
-its reason. What a page shows behind its line `$ make tool` needs rt1553-tool. The last line is 'N passed, M failed'. This file needs Python and no other file, so that it runs beside an unpacked archive.
+its reason. What a page shows behind its line `$ make tool` needs rt1553-tool. The last line is 'N passed, M failed'. This file needs Python
+and no other file, so that it runs beside an unpacked archive.
 """
 
 import os

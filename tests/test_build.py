@@ -61,7 +61,8 @@ class Room(NamedTuple):
         """Starts a build."""
         env = {"PATH": str(self.at / "tools"), "RT1553_KEPT": str(self.at / "kept"), **more}
         # a test in the background of a shell ignores the interrupt, and so would the build
-        return subprocess.Popen([*under, sys.executable, "scripts/build.py", *word.split()], cwd=self.at / clone, env=env, stdin=subprocess.DEVNULL, text=True,
+        words = [*under, sys.executable, "scripts/build.py", *word.split()]
+        return subprocess.Popen(words, cwd=self.at / clone, env=env, stdin=subprocess.DEVNULL, text=True,
                                 stdout=subprocess.PIPE, stderr=subprocess.STDOUT,
                                 preexec_fn=lambda: signal.signal(signal.SIGINT, signal.SIG_DFL))  # fmt: skip
 
