@@ -1,6 +1,8 @@
 pub mod SoFar
 pub mod TellLaws
 pub mod ToldSoFar
+pub mod WayLaws
 pub mod WatchLaws
+pub mod CameLaws
 mod BeginningLaws
 mod LaterLaws

@@ -1,9 +1,12 @@
 pub use Rattle.bus_legal.specs.Description
 pub use Rattle.terminal_recordings.specs.Recordings
 pub use Rattle.terminal_recordings.specs.Completion
+pub use Rattle.terminal_recordings.specs.MaybeGaps
 pub mod SentWords
 pub mod Sightings
+pub mod Marks
 pub mod Follows
+pub mod Ways
 pub mod Watched
 pub mod Judged
 pub mod Behaviour

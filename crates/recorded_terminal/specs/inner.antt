@@ -2,3 +2,5 @@
 pub mod Followed
 pub mod Latest
 pub mod Gaps
+pub mod Kept
+pub mod Steps

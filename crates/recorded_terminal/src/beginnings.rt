@@ -1,17 +1,14 @@
 //! A recording that is watched from each of the four beginnings: what a unit that was on before may have left is which transmitters are
 //! shut down.
-ghost use Rattle.std.specs.Prelude.{◌≡◌, ◌↔◌, ◌++◌, ◌∷◌, [], List, IfSome, None, OnOk};
+ghost use Rattle.std.specs.Prelude.{◌≡◌, ◌++◌, ◌∷◌, [], List, IfOk, IfErr, OnOk};
 ghost use Rattle.bus_legal.specs.Description.{Description, described};
-ghost use Rattle.terminal_recordings.specs.Recordings.{IsExplainedAfter};
-ghost use Rattle.terminal_recordings.specs.Later.{shut_history};
 ghost use Rattle.recorded_terminal.specs.declared.watch.Marked.{Marked};
-ghost use Rattle.recorded_terminal.specs.Follows.{shut_down};
-ghost use Rattle.recorded_terminal.specs.Watched.{masked_in};
-ghost use Rattle.terminal_recordings.specs.Masks.{ExplainsSome};
-ghost use Rattle.recorded_terminal.specs.Judged.{IsExplainedBegun, IsUnexplainedBegunAt, WatchBegun};
+ghost use Rattle.recorded_terminal.specs.declared.watch.WatchFault.TheVariants.{TooManyWays};
+ghost use Rattle.recorded_terminal.specs.Marks.{HasMaybeGap};
+ghost use Rattle.recorded_terminal.specs.Judged.{IsBest, WatchBegun};
 ghost use Rattle.recorded_terminal.specs.inner.Latest.{IsBetter};
 
-use crate::watch::{Marked, Unexplained, Watch};
+use crate::watch::{Marked, Unexplained, Watch, WatchFault};
 use bus_legal::{Legality, Setup};
 use std::alloc::{AllocError, Global};
 use terminal_state::OnBuses;
@@ -51,20 +48,21 @@ fn better_of(one: BestBeginning, other: BestBeginning) -> BestBeginning
 
 impl<L: Legality + Drop + Copy> Beginnings<L> {
     /// Watches a terminal of this set-up and legality from each beginning.
-    pub fn of(alloc: Global, setup: Setup, legality: L) -> Beginnings<L>
-        ensures { WatchBegun L.is_legal (described setup (L.is_legal legality)) [] result }
+    pub fn of(alloc: Global, setup: Setup, legality: L) -> Result<Beginnings<L>, AllocError>
+        ensures { IfOk result (WatchBegun L.is_legal (described setup (L.is_legal legality)) []) }
     {
-        Beginnings {
-            none: Watch::shut(alloc, setup, legality, OnBuses { a: false, b: false }),
-            a: Watch::shut(alloc, setup, legality, OnBuses { a: true, b: false }),
-            b: Watch::shut(alloc, setup, legality, OnBuses { a: false, b: true }),
-            both: Watch::shut(alloc, setup, legality, OnBuses { a: true, b: true }),
-        }
+        Ok(Beginnings {
+            none: Watch::shut(alloc, setup, legality, OnBuses { a: false, b: false })?,
+            a: Watch::shut(alloc, setup, legality, OnBuses { a: true, b: false })?,
+            b: Watch::shut(alloc, setup, legality, OnBuses { a: false, b: true })?,
+            both: Watch::shut(alloc, setup, legality, OnBuses { a: true, b: true })?,
+        })
     }
 
     /// Takes what is seen next.
-    pub fn see(&mut self, marked: &Marked) -> Result<(), AllocError>
-        ensures { OnOk result ((P : Description) (ms : List Marked) → WatchBegun L.is_legal P ms self.old → WatchBegun L.is_legal P (ms ++ marked.now ∷ []) self.new) }
+    pub fn see(&mut self, marked: &Marked) -> Result<(), WatchFault>
+        ensures sees { OnOk result ((P : Description) (ms : List Marked) → WatchBegun L.is_legal P ms self.old → WatchBegun L.is_legal P (ms ++ marked.now ∷ []) self.new) }
+        ensures refused { IfErr result (λ fault. fault ≡ TooManyWays → (P : Description) (ms : List Marked) → WatchBegun L.is_legal P ms self.old → HasMaybeGap (ms ++ marked.now ∷ [])) }
     {
         self.none.see(*marked)?;
         self.a.see(*marked)?;
@@ -75,28 +73,27 @@ impl<L: Legality + Drop + Copy> Beginnings<L> {
 
     /// Gives the beginning after which most is explained, and the first sighting that no behaviour of the subsystem explains after any.
     /// None where one explains all, as this one does then.
-    pub fn end(self) -> BestBeginning
-        ensures explained { (P : Description) (ms : List Marked) → WatchBegun L.is_legal P ms self → ((result.first ≡ None) ↔ ExplainsSome (IsExplainedBegun P) (masked_in ms)) }
-        ensures first { (P : Description) (ms : List Marked) → WatchBegun L.is_legal P ms self → IfSome result.first (IsUnexplainedBegunAt P ms) }
-        ensures begins { (P : Description) (ms : List Marked) → WatchBegun L.is_legal P ms self → result.first ≡ None → ExplainsSome (IsExplainedAfter P (shut_history P (shut_down result.shut))) (masked_in ms) }
+    pub fn end(self) -> Result<BestBeginning, WatchFault>
+        ensures best { IfOk result (λ best. (P : Description) (ms : List Marked) → WatchBegun L.is_legal P ms self → IsBest P ms best) }
+        ensures refused { IfErr result (λ fault. fault ≡ TooManyWays → (P : Description) (ms : List Marked) → WatchBegun L.is_legal P ms self → HasMaybeGap ms) }
     {
         let Beginnings { none, a, b, both } = self;
         let none = BestBeginning {
             shut: OnBuses { a: false, b: false },
-            first: none.end(),
+            first: none.end()?,
         };
         let of_a = BestBeginning {
             shut: OnBuses { a: true, b: false },
-            first: a.end(),
+            first: a.end()?,
         };
         let of_b = BestBeginning {
             shut: OnBuses { a: false, b: true },
-            first: b.end(),
+            first: b.end()?,
         };
         let both = BestBeginning {
             shut: OnBuses { a: true, b: true },
-            first: both.end(),
+            first: both.end()?,
         };
-        better_of(better_of(none, of_a), better_of(of_b, both))
+        Ok(better_of(better_of(none, of_a), better_of(of_b, both)))
     }
 }

@@ -8,7 +8,7 @@ use crate::told::{given, shows};
 use bus_legal::{Legality, Setup};
 use bus_terminal::{Answer, Event, Flag, Sent, Terminal};
 use bus_word::{Bus, Kind, mode};
-use terminal_state::OnBuses;
+use terminal_state::{OnBuses, Registers};
 
 /// What of that which a recording tells of the subsystem before a sighting changes anything, in this order.
 #[derive(Clone, Copy)]
@@ -44,10 +44,13 @@ pub struct Follower<L> {
 }
 
 impl<L: Legality> Follower<L> {
-    ghost use Rattle.std.specs.Prelude.{◌≡◌, List, [], ◌∷◌};
+    ghost use Rattle.std.specs.Prelude.{◌≡◌, true, List, [], ◌∷◌};
+    ghost use Rattle.terminal_rules.specs.Past.{past, history_after};
+    ghost use Rattle.terminal_state.specs.Registers.{registers_now};
+    ghost use Rattle.bus_terminal.specs.Waiting.{awaited};
+    ghost use Rattle.recorded_terminal.specs.inner.Kept.{IsFree};
     ghost use Rattle.bus_legal.specs.Description.{Description, described};
     ghost use Rattle.terminal_rules.specs.declared.event.Event.{Event};
-    ghost use Rattle.terminal_rules.specs.Past.{history_after};
     ghost use Rattle.terminal_rules.specs.Out.{out, sent_in};
     ghost use Rattle.terminal_recordings.specs.Completion.{flag_shown};
     ghost use Rattle.terminal_recordings.specs.Later.{shut_history, if_shut};
@@ -77,6 +80,39 @@ impl<L: Legality> Follower<L> {
         follower.exchange_if(shut.a, Bus::B, command);
         follower.exchange_if(shut.b, Bus::A, command);
         follower
+    }
+
+    /// One that stands wherever this one stands.
+    pub fn copy(&self) -> Follower<L>
+    where
+        L: Copy,
+        ensures { (P : Description) (h : List Event) → FollowsAt L.is_legal P h self.now → FollowsAt L.is_legal P h result }
+    {
+        Follower {
+            terminal: self.terminal.copy(),
+        }
+    }
+
+    /// The address of the terminal for whose status word the message on this bus waits, if one waits there.
+    pub fn awaits_status(&self, bus: Bus) -> Option<u8>
+        ensures { (P : Description) (h : List Event) → FollowsAt L.is_legal P h self.now → result ≡ awaited P h bus }
+    {
+        self.terminal.awaits_status(bus)
+    }
+
+    /// What the terminal remembers beside messages, replies and words held ready.
+    pub fn registers(&self) -> &Registers
+        ensures { (P : Description) (h : List Event) → FollowsAt L.is_legal P h self.now → result.now ≡ registers_now P (past P h) }
+    {
+        self.terminal.kept().registers
+    }
+
+    /// Whether neither a message nor a reply is in progress.
+    pub fn is_idle(&self) -> bool
+        ensures { result ≡ true → (P : Description) (h : List Event) → FollowsAt L.is_legal P h self.now → IsFree P h }
+    {
+        let kept = self.terminal.kept();
+        kept.in_progress.message.is_none() && kept.reply.is_none()
     }
 
     /// Takes a command on a bus, a gap, and a slot for the status, or nothing.

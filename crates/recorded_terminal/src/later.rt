@@ -1,17 +1,19 @@
 //! A recording that began at any time: the part of it that begins afresh is watched.
-ghost use Rattle.std.specs.Prelude.{◌≡◌, ◌+◌, ◌↔◌, ◌++◌, ◌∷◌, [], List, IfSome, None, OnOk};
+ghost use Rattle.std.specs.Prelude.{◌≡◌, ◌+◌, ◌++◌, ◌∷◌, [], List, IfOk, IfErr, OnOk};
 ghost use Rattle.bus_legal.specs.Description.{Description, described};
-ghost use Rattle.terminal_recordings.specs.Later.{are_two, command_for, fresh_part, no_gaps, gaps_with};
+ghost use Rattle.terminal_recordings.specs.Later.{are_two, command_for, gaps_with};
 ghost use Rattle.terminal_rules.specs.Status.{spares};
 ghost use Rattle.recorded_terminal.specs.SentWords.{word_shown};
 ghost use Rattle.recorded_terminal.specs.declared.watch.Marked.{Marked};
-ghost use Rattle.recorded_terminal.specs.Watched.{seen_in};
-ghost use Rattle.recorded_terminal.specs.Judged.{CanBegin, IsJudged, WatchesLater, shown_gaps};
-ghost use Rattle.recorded_terminal.specs.inner.Gaps.{AreGaps, IsPartWith, at_most_two};
+ghost use Rattle.recorded_terminal.specs.declared.watch.WatchFault.TheVariants.{TooManyWays};
+ghost use Rattle.recorded_terminal.specs.Marks.{maybe, HasMaybeGap};
+ghost use Rattle.recorded_terminal.specs.Judged.{CanBegin, IsJudgedBy, WatchesLater, shown_gaps};
+ghost use Rattle.recorded_terminal.specs.inner.Gaps.{AreGaps, IsPartOn, IsPartWith, at_most_two};
 ghost use Rattle.recorded_terminal.specs.Sightings.{shown_sighting};
 
 use crate::beginnings::Beginnings;
-use crate::watch::{Marked, Unexplained};
+use crate::watch::{Marked, Unexplained, WatchFault};
+use crate::ways::maybe_gap;
 use bus_legal::{Legality, Setup};
 use bus_terminal::{Event, Sent};
 use bus_word::{Bus, Command, cell_of};
@@ -103,10 +105,10 @@ pub struct LaterWatch<L> {
 
 impl<L: Legality + Drop + Copy> LaterWatch<L> {
     /// Watches a terminal of this set-up and legality.
-    pub fn new(alloc: Global, setup: Setup, legality: L) -> LaterWatch<L>
-        ensures { CanBegin (described setup (L.is_legal legality)) → WatchesLater L.is_legal (described setup (L.is_legal legality)) [] result }
+    pub fn new(alloc: Global, setup: Setup, legality: L) -> Result<LaterWatch<L>, AllocError>
+        ensures { IfOk result (λ watch. CanBegin (described setup (L.is_legal legality)) → WatchesLater L.is_legal (described setup (L.is_legal legality)) [] watch) }
     {
-        LaterWatch {
+        Ok(LaterWatch {
             alloc,
             setup,
             legality,
@@ -114,8 +116,8 @@ impl<L: Legality + Drop + Copy> LaterWatch<L> {
             seen: 0,
             after: 0,
             before: 0,
-            beginnings: Beginnings::of(alloc, setup, legality),
-        }
+            beginnings: Beginnings::of(alloc, setup, legality)?,
+        })
     }
 
     /// The command in a word for the terminal.
@@ -140,8 +142,19 @@ impl<L: Legality + Drop + Copy> LaterWatch<L> {
         }
     }
 
-    /// Which part the sighting is in that comes next.
+    /// Which part the sighting is in that comes next. A gap that may have come is not counted.
     fn part_with(&self, marked: &Marked) -> WatchPhase
+        ensures { IsPartOn (described self.now.setup (L.is_legal self.now.legality)) self.now.part (maybe marked.now) result }
+    {
+        if maybe_gap(marked).is_some() {
+            self.part
+        } else {
+            self.part_seen(marked)
+        }
+    }
+
+    /// The same where it is no such gap.
+    fn part_seen(&self, marked: &Marked) -> WatchPhase
         ensures { IsPartWith (described self.now.setup (L.is_legal self.now.legality)) self.now.part (shown_sighting marked.now.sighting) result }
     {
         match self.part {
@@ -162,11 +175,12 @@ impl<L: Legality + Drop + Copy> LaterWatch<L> {
     }
 
     /// Takes what is seen next. More than 2^64 - 1 sightings are as if memory had run out.
-    pub fn see(&mut self, marked: Marked) -> Result<(), AllocError>
-        ensures { OnOk result ((P : Description) (ms : List Marked) → WatchesLater L.is_legal P ms self.old → WatchesLater L.is_legal P (ms ++ marked ∷ []) self.new) }
+    pub fn see(&mut self, marked: Marked) -> Result<(), WatchFault>
+        ensures sees { OnOk result ((P : Description) (ms : List Marked) → WatchesLater L.is_legal P ms self.old → WatchesLater L.is_legal P (ms ++ marked ∷ []) self.new) }
+        ensures refused { IfErr result (λ fault. fault ≡ TooManyWays → (P : Description) (ms : List Marked) → WatchesLater L.is_legal P ms self.old → HasMaybeGap (ms ++ marked ∷ [])) }
     {
         let Some(seen) = self.seen.checked_add(1) else {
-            return Err(AllocError);
+            return Err(WatchFault::Memory);
         };
         let part = self.part;
         self.seen = seen;
@@ -176,7 +190,7 @@ impl<L: Legality + Drop + Copy> LaterWatch<L> {
             (WatchPhase::Sought(_), _) => {
                 self.after = marked.line;
                 self.before = seen;
-                self.beginnings = Beginnings::of(self.alloc, self.setup, self.legality);
+                self.beginnings = Beginnings::of(self.alloc, self.setup, self.legality)?;
                 Ok(())
             }
             _ => {
@@ -188,9 +202,9 @@ impl<L: Legality + Drop + Copy> LaterWatch<L> {
 
     /// Gives the part that is judged, and the first sighting there that no behaviour of the subsystem explains. None where no part
     /// begins afresh after a pause.
-    pub fn end(self) -> Option<FreshPart>
-        ensures none { (P : Description) (ms : List Marked) → WatchesLater L.is_legal P ms self → ((result ≡ None) ↔ (fresh_part P no_gaps (seen_in ms) ≡ None)) }
-        ensures judged { (P : Description) (ms : List Marked) → WatchesLater L.is_legal P ms self → IfSome result (IsJudged P ms) }
+    pub fn end(self) -> Result<Option<FreshPart>, WatchFault>
+        ensures judged { IfOk result (λ judged. (P : Description) (ms : List Marked) → WatchesLater L.is_legal P ms self → IsJudgedBy P ms judged) }
+        ensures refused { IfErr result (λ fault. fault ≡ TooManyWays → (P : Description) (ms : List Marked) → WatchesLater L.is_legal P ms self → HasMaybeGap ms) }
     {
         let LaterWatch {
             part,
@@ -200,14 +214,14 @@ impl<L: Legality + Drop + Copy> LaterWatch<L> {
             ..
         } = self;
         if let WatchPhase::Sought(_) = part {
-            return None;
+            return Ok(None);
         }
-        let best = beginnings.end();
-        Some(FreshPart {
+        let best = beginnings.end()?;
+        Ok(Some(FreshPart {
             after,
             before,
             shut: best.shut,
             first: best.first,
-        })
+        }))
     }
 }

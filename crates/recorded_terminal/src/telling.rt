@@ -10,13 +10,15 @@ ghost use Rattle.bus_word.specs.Word.{valid_word};
 ghost use Rattle.terminal_rules.specs.declared.event.Event.TheVariants.{Word as WordEvent, Gap as GapEvent, Slot as SlotEvent};
 ghost use Rattle.recorded_terminal.specs.Behaviour.{IsBehaviourAfter};
 ghost use Rattle.recorded_terminal.specs.Follows.{given_events, shut_down, told_events};
-ghost use Rattle.recorded_terminal.specs.Sightings.{recorded};
-ghost use Rattle.recorded_terminal.specs.Watched.{seen_in};
+ghost use Rattle.recorded_terminal.specs.Sightings.{recorded, shown_sighting};
+ghost use Rattle.std.specs.Option.{option_map, option_to_list};
+ghost use Rattle.recorded_terminal.specs.Marks.{seen_in};
 
 use crate::follower::{Follower, Told, shutdown_command};
 use crate::sighting::Sighting;
 use crate::told::shown_status;
 use crate::watch::Marked;
+use crate::ways::maybe_gap;
 use bus_legal::{Legality, Setup};
 use bus_terminal::Event;
 use bus_word::{Bus, Kind, Raw};
@@ -69,13 +71,25 @@ fn push_told(events: &mut Vec<Event>, told: Told) -> Result<(), AllocError>
     push_if(events, told.word)
 }
 
-/// Gives the sightings of a recording, without their places.
+/// What was seen, or nothing for a gap that may have come.
+fn certain(marked: &Marked) -> Option<Sighting>
+    ensures { option_to_list (option_map shown_sighting result) ≡ seen_in (marked.now ∷ []) }
+{
+    match maybe_gap(marked) {
+        Some(_) => None,
+        None => Some(marked.sighting),
+    }
+}
+
+/// Gives the sightings of a recording, without their places and without gaps that may have come.
 pub fn sightings_of(alloc: Global, recording: &[Marked]) -> Result<Vec<Sighting>, AllocError>
     ensures { IfOk result (λ sightings. recorded sightings.items ≡ seen_in recording.now) }
 {
     let mut sightings = Vec::new(alloc);
     'marked: for marked in recording {
-        sightings.push(marked.sighting)?;
+        if let Some(sighting) = certain(marked) {
+            sightings.push(sighting)?;
+        }
     }
     Ok(sightings)
 }

@@ -41,18 +41,18 @@ reads_line (Some xs) b bytes n is rest end count true some none = (
 
 -- what is left of a text of so many lines, by the latest event
 abbrev pub Left : Option (List ℕ) → ℕ → Latest → Option (Result (List StatedEvent) StatedFault)
-Left a n latest = option_map (λ bytes. stated_by 18446744073709551615 n latest (lines_of bytes)) a
+Left a n latest = option_map (λ bytes. stated_by true 18446744073709551615 n latest (lines_of bytes)) a
 
 -- the input is at its end
 pub ends : (a b : Option (List ℕ)) (bytes : List ℕ) (n : ℕ) (latest : Latest) (all : Option Stated) → ReadsLine a b bytes false → all_stated latest ≡ Ok (if_any (option_map shown all))
     → NextIs (Left a n latest) (Left b n None) (Ok all)
 ends None b bytes n latest all reads is = tt
 ends (Some text) b bytes n latest None reads is =
-    ap (λ l. stated_by 18446744073709551615 n latest (lines_of l)) reads.0 ∙ stated-none 18446744073709551615 n latest ∙ is
+    ap (λ l. stated_by true 18446744073709551615 n latest (lines_of l)) reads.0 ∙ stated-none true 18446744073709551615 n latest ∙ is
 ends (Some text) b bytes n latest (Some s) reads is = (
   Ok [],
-  ap (λ o. Left o n None) reads.1 ∙ ap Some (stated-none 18446744073709551615 n None),
-  ap (λ l. stated_by 18446744073709551615 n latest (lines_of l)) reads.0 ∙ stated-none 18446744073709551615 n latest ∙ is,
+  ap (λ o. Left o n None) reads.1 ∙ ap Some (stated-none true 18446744073709551615 n None),
+  ap (λ l. stated_by true 18446744073709551615 n latest (lines_of l)) reads.0 ∙ stated-none true 18446744073709551615 n latest ∙ is,
 )
 
 -- or the answer to the last event is refused
@@ -60,7 +60,7 @@ pub ends_badly : (a b : Option (List ℕ)) (bytes : List ℕ) (n : ℕ) (latest 
     → (fault ≢ Memory → all_stated latest ≡ Err fault) → NextIs (Left a n latest) new (Err fault)
 ends_badly None b bytes n latest fault new reads says = tt
 ends_badly (Some text) b bytes n latest fault new reads says = λ memory read.
-    ap (λ l. stated_by 18446744073709551615 n latest (lines_of l)) reads.0 ∙ stated-none 18446744073709551615 n latest ∙ says memory
+    ap (λ l. stated_by true 18446744073709551615 n latest (lines_of l)) reads.0 ∙ stated-none true 18446744073709551615 n latest ∙ says memory
 
 -- the line that was read is the first of the text
 first_of : (bytes text rest line more : List ℕ) → IsFirstLine bytes text rest → lines_of bytes ≡ line ∷ lines_of more → lines_of text ≡ line ∷ lines_of rest
@@ -68,29 +68,29 @@ first_of bytes text rest line more (l, is, first) at = let same : l ≡ line = c
 
 -- a line more was read, which ended no event, or one
 abbrev Known : ℕ → Latest → List ℕ → Latest → Latest → Type 0
-Known n latest line event now = bounded_line (n + 1) latest line ≡ Ok (record { events = if_any event; latest = now })
+Known n latest line event now = bounded_line true (n + 1) latest line ≡ Ok (record { events = if_any event; latest = now })
 
 goes_on : (n : ℕ) (latest : Latest) (bytes text rest line more : List ℕ) (event now : Latest) → n < 18446744073709551615 → IsFirstLine bytes text rest
     → lines_of bytes ≡ line ∷ lines_of more → Known n latest line event now
-    → stated_by 18446744073709551615 n latest (lines_of text) ≡ then_events (if_any event) (stated_by 18446744073709551615 (n + 1) now (lines_of rest))
+    → stated_by true 18446744073709551615 n latest (lines_of text) ≡ then_events (if_any event) (stated_by true 18446744073709551615 (n + 1) now (lines_of rest))
 goes_on n latest bytes text rest line more event now few first at says =
-    ap (stated_by 18446744073709551615 n latest) (first_of bytes text rest line more first at)
-    ∙ stated-line 18446744073709551615 n latest line (lines_of rest) few
-    ∙ ap (λ s. then_lines s (λ l. stated_by 18446744073709551615 (n + 1) l (lines_of rest))) says
+    ap (stated_by true 18446744073709551615 n latest) (first_of bytes text rest line more first at)
+    ∙ stated-line true 18446744073709551615 n latest line (lines_of rest) few
+    ∙ ap (λ s. then_lines s (λ l. stated_by true 18446744073709551615 (n + 1) l (lines_of rest))) says
 
 line_more : (a b : Option (List ℕ)) (bytes : List ℕ) (n : ℕ) (latest : Latest) (line more : List ℕ) (now : Latest) → n < 18446744073709551615 → ReadsLine a b bytes true
     → lines_of bytes ≡ line ∷ lines_of more → Known n latest line None now → StepBy (Left a n latest) (Left b (n + 1) now) false None
 line_more None b bytes n latest line more now few reads at says = tt
 line_more (Some text) b bytes n latest line more now few (rest, is, first) at says =
     ap (λ o. Left o (n + 1) now) is
-    ∙ ap Some (sym (goes_on n latest bytes text rest line more None now few first at says ∙ then-none (stated_by 18446744073709551615 (n + 1) now (lines_of rest))))
+    ∙ ap Some (sym (goes_on n latest bytes text rest line more None now few first at says ∙ then-none (stated_by true 18446744073709551615 (n + 1) now (lines_of rest))))
 
 event_more : (a b : Option (List ℕ)) (bytes : List ℕ) (n : ℕ) (latest : Latest) (line more : List ℕ) (s : Stated) (now : Latest) → n < 18446744073709551615
     → ReadsLine a b bytes true → lines_of bytes ≡ line ∷ lines_of more → Known n latest line (Some (shown s)) now
     → NextIs (Left a n latest) (Left b (n + 1) now) (Ok (Some s))
 event_more None b bytes n latest line more s now few reads at says = tt
 event_more (Some text) b bytes n latest line more s now few (rest, is, first) at says = (
-  stated_by 18446744073709551615 (n + 1) now (lines_of rest),
+  stated_by true 18446744073709551615 (n + 1) now (lines_of rest),
   ap (λ o. Left o (n + 1) now) is,
   goes_on n latest bytes text rest line more (Some (shown s)) now few first at says,
 )
@@ -103,18 +103,18 @@ line_step a b bytes n latest line more (Some s) now few reads at says = event_mo
 
 -- or it is refused
 line_refused : (a b : Option (List ℕ)) (bytes : List ℕ) (n : ℕ) (latest : Latest) (line more : List ℕ) (fault : StatedFault) → n < 18446744073709551615
-    → ReadsLine a b bytes true → lines_of bytes ≡ line ∷ lines_of more → bounded_line (n + 1) latest line ≡ Err fault → IfSome (Left a n latest) (λ said. said ≡ Err fault)
+    → ReadsLine a b bytes true → lines_of bytes ≡ line ∷ lines_of more → bounded_line true (n + 1) latest line ≡ Err fault → IfSome (Left a n latest) (λ said. said ≡ Err fault)
 line_refused None b bytes n latest line more fault few reads at says = tt
 line_refused (Some text) b bytes n latest line more fault few (rest, is, first) at says =
-    ap (stated_by 18446744073709551615 n latest) (first_of bytes text rest line more first at)
-    ∙ stated-line 18446744073709551615 n latest line (lines_of rest) few
-    ∙ ap (λ s. then_lines s (λ l. stated_by 18446744073709551615 (n + 1) l (lines_of rest))) says
+    ap (stated_by true 18446744073709551615 n latest) (first_of bytes text rest line more first at)
+    ∙ stated-line true 18446744073709551615 n latest line (lines_of rest) few
+    ∙ ap (λ s. then_lines s (λ l. stated_by true 18446744073709551615 (n + 1) l (lines_of rest))) says
 
 pub too_many : (a b : Option (List ℕ)) (bytes : List ℕ) (n : ℕ) (latest : Latest) → n ≡ 18446744073709551615 → ReadsLine a b bytes true
     → IfSome (Left a n latest) (λ said. said ≡ Err TooLong)
 too_many None b bytes n latest all reads = tt
 too_many (Some text) b bytes n latest all (rest, is, first) =
-    ap (stated_by 18446744073709551615 n latest) first.2 ∙ stated-too_long 18446744073709551615 n latest first.0 (lines_of rest) (omega (arith, all))
+    ap (stated_by true 18446744073709551615 n latest) first.2 ∙ stated-too_long true 18446744073709551615 n latest first.0 (lines_of rest) (omega (arith, all))
 
 -- what is said of a text is said of what comes next
 pub refused : (old new : Option (Result (List StatedEvent) StatedFault)) (fault : StatedFault) → IfSome old (λ said. said ≡ Err fault) → NextIs old new (Err fault)
@@ -128,6 +128,6 @@ Keeps (Some said) new = new ≡ Some said
 
 -- a fault of a line, but when memory runs out
 pub line_fault : (a b : Option (List ℕ)) (new : Option (Result (List StatedEvent) StatedFault)) (bytes : List ℕ) (n : ℕ) (latest : Latest) (line more : List ℕ) (fault : StatedFault) → n < 18446744073709551615
-    → ReadsLine a b bytes true → lines_of bytes ≡ line ∷ lines_of more → (fault ≢ Memory → bounded_line (n + 1) latest line ≡ Err fault) → NextIs (Left a n latest) new (Err fault)
+    → ReadsLine a b bytes true → lines_of bytes ≡ line ∷ lines_of more → (fault ≢ Memory → bounded_line true (n + 1) latest line ≡ Err fault) → NextIs (Left a n latest) new (Err fault)
 line_fault None b new bytes n latest line more fault few reads at says = tt
 line_fault (Some text) b new bytes n latest line more fault few reads at says = λ memory read. line_refused (Some text) b bytes n latest line more fault few reads at (says memory)

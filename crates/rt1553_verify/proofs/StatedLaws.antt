@@ -16,7 +16,7 @@ use Rattle.rt1553_verify.specs.declared.stated.StatedFault.{StatedFault}
 use Rattle.rt1553_verify.specs.declared.stated.StatedFault.TheVariants.{LongLine, TooLong, Impossible}
 use Rattle.rt1553_verify.specs.declared.matching.Matching.{Matching}
 use Rattle.rt1553_verify.specs.declared.matching.Matching.TheVariants.{Exact}
-use Rattle.rt1553_verify.specs.Stated.{StatedEvent, Latest, After, is_empty, states_answer, says_bytes, can_match, matching_of, small_digit, small_digits, states, goes_on, can_be_given, ended, all_stated, then_event, stays, or_misplaced, silent_line, unstated_line, by_going_on, by_mask, by_answer, line_says, bounded_line, then_events, then_lines, stated_by}
+use Rattle.rt1553_verify.specs.Stated.{StatedEvent, Latest, After, is_unanswered, states_answer, says_bytes, can_match, matching_of, small_digit, small_digits, states, goes_on, can_be_given, ended, all_stated, then_event, stays, or_misplaced, silent_line, by_early_end, unstated_line, by_going_on, by_mask, by_answer, line_says, bounded_line, then_events, then_lines, stated_by}
 
 -- a comment says no event
 comment-means : (line : List ℕ) → meaning (35 ∷ line) ≡ Ok None
@@ -48,68 +48,68 @@ pub then-none : (said : Said) → then_events [] said ≡ said
 then-none (Ok later) = refl
 then-none (Err fault) = refl
 
-pub bounded-short : (n : ℕ) (latest : Latest) (line : List ℕ) → length line ≤ 64 → bounded_line n latest line ≡ line_says n latest line
-bounded-short n latest line short = grind (arith, nat_tests)
+pub bounded-short : (r : Bool) (n : ℕ) (latest : Latest) (line : List ℕ) → length line ≤ 64 → bounded_line r n latest line ≡ line_says r n latest line
+bounded-short r n latest line short = grind (arith, nat_tests)
 
-bounded-long : (n : ℕ) (latest : Latest) (line : List ℕ) → 64 < length line → bounded_line n latest line ≡ Err (LongLine n)
-bounded-long n latest line long = grind (arith, nat_tests)
+bounded-long : (r : Bool) (n : ℕ) (latest : Latest) (line : List ℕ) → 64 < length line → bounded_line r n latest line ≡ Err (LongLine n)
+bounded-long r n latest line long = grind (arith, nat_tests)
 
 -- a line in its place
-pub stated-line : (most n : ℕ) (latest : Latest) (line : List ℕ) (lines : List (List ℕ)) → n < most
-    → stated_by most n latest (line ∷ lines) ≡ then_lines (bounded_line (n + 1) latest line) (λ l. stated_by most (n + 1) l lines)
+pub stated-line : (r : Bool) (most n : ℕ) (latest : Latest) (line : List ℕ) (lines : List (List ℕ)) → n < most
+    → stated_by r most n latest (line ∷ lines) ≡ then_lines (bounded_line r (n + 1) latest line) (λ l. stated_by r most (n + 1) l lines)
 unfolding stated_by
-stated-line most n latest line lines few = grind (arith, nat_tests)
+stated-line r most n latest line lines few = grind (arith, nat_tests)
 
-pub stated-too_long : (most n : ℕ) (latest : Latest) (line : List ℕ) (lines : List (List ℕ)) → most ≤ n → stated_by most n latest (line ∷ lines) ≡ Err TooLong
+pub stated-too_long : (r : Bool) (most n : ℕ) (latest : Latest) (line : List ℕ) (lines : List (List ℕ)) → most ≤ n → stated_by r most n latest (line ∷ lines) ≡ Err TooLong
 unfolding stated_by
-stated-too_long most n latest line lines many = grind (arith, nat_tests)
+stated-too_long r most n latest line lines many = grind (arith, nat_tests)
 
 -- one line more was read
-pub stated_on : (most n : ℕ) (rest line more : List ℕ) (latest now : Latest) (old es new : List StatedEvent) (all : Said)
+pub stated_on : (r : Bool) (most n : ℕ) (rest line more : List ℕ) (latest now : Latest) (old es new : List StatedEvent) (all : Said)
     → n < most → lines_of rest ≡ line ∷ lines_of more
-    → bounded_line (n + 1) latest line ≡ Ok (record { events = es; latest = now }) → new ≡ old ++ es
-    → all ≡ then_events old (stated_by most n latest (lines_of rest)) → all ≡ then_events new (stated_by most (n + 1) now (lines_of more))
-stated_on most n rest line more latest now old es new all few first says grown before =
-    let later : Said = stated_by most (n + 1) now (lines_of more) in
+    → bounded_line r (n + 1) latest line ≡ Ok (record { events = es; latest = now }) → new ≡ old ++ es
+    → all ≡ then_events old (stated_by r most n latest (lines_of rest)) → all ≡ then_events new (stated_by r most (n + 1) now (lines_of more))
+stated_on r most n rest line more latest now old es new all few first says grown before =
+    let later : Said = stated_by r most (n + 1) now (lines_of more) in
     before
-    ∙ ap (λ ls. then_events old (stated_by most n latest ls)) first
-    ∙ ap (then_events old) (stated-line most n latest line (lines_of more) few ∙ ap (λ s. then_lines s (λ l. stated_by most (n + 1) l (lines_of more))) says)
+    ∙ ap (λ ls. then_events old (stated_by r most n latest ls)) first
+    ∙ ap (then_events old) (stated-line r most n latest line (lines_of more) few ∙ ap (λ s. then_lines s (λ l. stated_by r most (n + 1) l (lines_of more))) says)
     ∙ then-twice old es later
     ∙ ap (λ xs. then_events xs later) (sym grown)
 
 -- a line is refused
-pub stated_stops : (most n : ℕ) (rest line more : List ℕ) (latest : Latest) (old : List StatedEvent) (all : Said) (fault : StatedFault)
-    → n < most → lines_of rest ≡ line ∷ lines_of more → bounded_line (n + 1) latest line ≡ Err fault
-    → all ≡ then_events old (stated_by most n latest (lines_of rest)) → all ≡ Err fault
-stated_stops most n rest line more latest old all fault few first says before =
+pub stated_stops : (r : Bool) (most n : ℕ) (rest line more : List ℕ) (latest : Latest) (old : List StatedEvent) (all : Said) (fault : StatedFault)
+    → n < most → lines_of rest ≡ line ∷ lines_of more → bounded_line r (n + 1) latest line ≡ Err fault
+    → all ≡ then_events old (stated_by r most n latest (lines_of rest)) → all ≡ Err fault
+stated_stops r most n rest line more latest old all fault few first says before =
     before
-    ∙ ap (λ ls. then_events old (stated_by most n latest ls)) first
-    ∙ ap (then_events old) (stated-line most n latest line (lines_of more) few ∙ ap (λ s. then_lines s (λ l. stated_by most (n + 1) l (lines_of more))) says)
+    ∙ ap (λ ls. then_events old (stated_by r most n latest ls)) first
+    ∙ ap (then_events old) (stated-line r most n latest line (lines_of more) few ∙ ap (λ s. then_lines s (λ l. stated_by r most (n + 1) l (lines_of more))) says)
 
-pub stated_many : (most n : ℕ) (rest line more : List ℕ) (latest : Latest) (old : List StatedEvent) (all : Said)
-    → most ≤ n → lines_of rest ≡ line ∷ lines_of more → all ≡ then_events old (stated_by most n latest (lines_of rest)) → all ≡ Err TooLong
-stated_many most n rest line more latest old all many first before =
-    before ∙ ap (λ ls. then_events old (stated_by most n latest ls)) first ∙ ap (then_events old) (stated-too_long most n latest line (lines_of more) many)
+pub stated_many : (r : Bool) (most n : ℕ) (rest line more : List ℕ) (latest : Latest) (old : List StatedEvent) (all : Said)
+    → most ≤ n → lines_of rest ≡ line ∷ lines_of more → all ≡ then_events old (stated_by r most n latest (lines_of rest)) → all ≡ Err TooLong
+stated_many r most n rest line more latest old all many first before =
+    before ∙ ap (λ ls. then_events old (stated_by r most n latest ls)) first ∙ ap (then_events old) (stated-too_long r most n latest line (lines_of more) many)
 
-pub stated-none : (most n : ℕ) (latest : Latest) → stated_by most n latest (lines_of []) ≡ all_stated latest
+pub stated-none : (r : Bool) (most n : ℕ) (latest : Latest) → stated_by r most n latest (lines_of []) ≡ all_stated latest
 unfolding stated_by lines_of
-stated-none most n latest = refl
+stated-none r most n latest = refl
 
 -- all lines were read
-pub stated_all : (most n : ℕ) (rest : List ℕ) (latest : Latest) (old es new : List StatedEvent) (all : Said)
-    → length rest ≡ 0 → all_stated latest ≡ Ok es → new ≡ old ++ es → all ≡ then_events old (stated_by most n latest (lines_of rest)) → all ≡ Ok new
-stated_all most n [] latest old es new all none last grown before = before ∙ ap (then_events old) (stated-none most n latest ∙ last) ∙ ap Ok (sym grown)
-stated_all most n (b ∷ rest) latest old es new all none last grown before = absurd (omega (arith, none))
+pub stated_all : (r : Bool) (most n : ℕ) (rest : List ℕ) (latest : Latest) (old es new : List StatedEvent) (all : Said)
+    → length rest ≡ 0 → all_stated latest ≡ Ok es → new ≡ old ++ es → all ≡ then_events old (stated_by r most n latest (lines_of rest)) → all ≡ Ok new
+stated_all r most n [] latest old es new all none last grown before = before ∙ ap (then_events old) (stated-none r most n latest ∙ last) ∙ ap Ok (sym grown)
+stated_all r most n (b ∷ rest) latest old es new all none last grown before = absurd (omega (arith, none))
 
 pub none-left : (rest : List ℕ) (b : Bool) → b ≡ (length rest == 0) → b ≡ true → length rest ≡ 0
 none-left rest true is ends = grind (arith, nat_tests, is)
 none-left rest false is ends = absurd (cc)
 
 -- or the answer to the last event is refused
-pub stated_refused : (most n : ℕ) (rest : List ℕ) (latest : Latest) (old : List StatedEvent) (all : Said) (fault : StatedFault)
-    → length rest ≡ 0 → all_stated latest ≡ Err fault → all ≡ then_events old (stated_by most n latest (lines_of rest)) → all ≡ Err fault
-stated_refused most n [] latest old all fault none last before = before ∙ ap (then_events old) (stated-none most n latest ∙ last)
-stated_refused most n (b ∷ rest) latest old all fault none last before = absurd (omega (arith, none))
+pub stated_refused : (r : Bool) (most n : ℕ) (rest : List ℕ) (latest : Latest) (old : List StatedEvent) (all : Said) (fault : StatedFault)
+    → length rest ≡ 0 → all_stated latest ≡ Err fault → all ≡ then_events old (stated_by r most n latest (lines_of rest)) → all ≡ Err fault
+stated_refused r most n [] latest old all fault none last before = before ∙ ap (then_events old) (stated-none r most n latest ∙ last)
+stated_refused r most n (b ∷ rest) latest old all fault none last before = absurd (omega (arith, none))
 
 -- ---- the events are those that a run reads
 
@@ -131,7 +131,7 @@ stays-line n m latest (Some s) line after comment same e = let is : after ≡ st
 
 states-event : (n : ℕ) (matching : Matching) (latest : Latest) (line : List ℕ) (s : StatedEvent) → states n matching latest line ≡ Some s → map (λ s. s.event) (ended (Some s)) ≡ map (λ s. s.event) (ended latest)
 states-event n matching None line s e = absurd (cc)
-states-event n matching (Some l) line s e = pick (is_empty l.answer && can_match matching l.event line) e
+states-event n matching (Some l) line s e = pick (is_unanswered l && can_match matching l.event line) e
   where
     pick : (b : Bool) → cond b (Some (record l { matching = matching; answer_line = n; answer = line })) None ≡ Some s → map (λ s. s.event) (ended (Some s)) ≡ map (λ s. s.event) (ended (Some l))
     pick true e = let is : s ≡ record l { matching = matching; answer_line = n; answer = line } = cc in ap (λ x. x.event ∷ []) is
@@ -149,19 +149,23 @@ silent-stays : (m : ℕ) (latest : Latest) (o : Option ℕ) (after : After) → 
 silent-stays m latest None after e = cc e
 silent-stays m latest (Some column) after e = absurd (cc)
 
-unstated-line : (n m : ℕ) (latest : Latest) (x : Result (Option Event) LineFault) (line : List ℕ) (after : After) → meaning line ≡ x → unstated_line m latest line x ≡ Ok after → Line n latest line after
+early-stays : (m : ℕ) (latest : Latest) (line : List ℕ) (o : Option (List ℕ)) (after : After) → by_early_end m latest line o ≡ Ok after → after ≡ stays latest
+early-stays m latest line None after e = silent-stays m latest (mistyped line) after e
+early-stays m latest line (Some rest) after e = absurd (cc)
+
+unstated-line : (n m : ℕ) (latest : Latest) (x : Result (Option Event) LineFault) (line : List ℕ) (after : After) → meaning line ≡ x → unstated_line false m latest line x ≡ Ok after → Line n latest line after
 unstated-line n m latest (Err fault) line after says e = absurd (cc)
-unstated-line n m latest (Ok None) line after says e = record {
+unstated-line n m latest (Ok None) line result says e = record {
   events = [];
   means = λ r. ap (λ x. then_reads x n r) says;
-  are = ap (λ a. map (λ s. s.event) a.events ++ map (λ s. s.event) (ended a.latest)) (silent-stays m latest (mistyped line) after e) ∙ sym (append-nil _);
+  are = ap (λ a. map (λ s. s.event) a.events ++ map (λ s. s.event) (ended a.latest)) (early-stays m latest line (after (codes "#! row ") line) result e) ∙ sym (append-nil _);
 }
 unstated-line n m latest (Ok (Some event)) line after says e = by_last (all_stated latest) refl e
   where
     new : StatedEvent
     new = record { line = m; event = event; matching = Exact; answer_line = 0; answer = [] }
 
-    by_last : (last : Said) → all_stated latest ≡ last → then_event m event last ≡ Ok after → Line n latest line after
+    by_last : (last : Said) → all_stated latest ≡ last → then_event m event Exact last ≡ Ok after → Line n latest line after
     by_last (Err fault) last e = absurd (cc)
     by_last (Ok es) last e =
         let is : after ≡ record { events = es; latest = Some new } = cc in record {
@@ -170,18 +174,18 @@ unstated-line n m latest (Ok (Some event)) line after says e = by_last (all_stat
           are = ap (λ a. map (λ s. s.event) a.events ++ map (λ s. s.event) (ended a.latest)) is ∙ ap (λ xs. map (λ s. s.event) xs ++ event ∷ []) (all-ended latest es last);
         }
 
-says-line : (n m : ℕ) (latest : Latest) (line : List ℕ) (result : After) → line_says m latest line ≡ Ok result → Line n latest line result
+says-line : (n m : ℕ) (latest : Latest) (line : List ℕ) (result : After) → line_says false m latest line ≡ Ok result → Line n latest line result
 says-line n m latest line result e = first (after (codes "#> ") line) refl e
   where
-    third : (o : Option (List ℕ)) → after (codes "#+ ") line ≡ o → by_going_on m latest line o ≡ Ok result → Line n latest line result
+    third : (o : Option (List ℕ)) → after (codes "#+ ") line ≡ o → by_going_on false m latest line o ≡ Ok result → Line n latest line result
     third None is e = unstated-line n m latest (meaning line) line result refl e
     third (Some rest) is e = stays-line n m latest (goes_on latest (map small_digit rest)) line result (stated-means 43 line rest is) (goes_on-event latest (map small_digit rest)) e
 
-    second : (o : Option (List ℕ)) → after (codes "#~ ") line ≡ o → by_mask m latest line o ≡ Ok result → Line n latest line result
+    second : (o : Option (List ℕ)) → after (codes "#~ ") line ≡ o → by_mask false m latest line o ≡ Ok result → Line n latest line result
     second None is e = third (after (codes "#+ ") line) refl e
     second (Some mask) is e = stays-line n m latest (states m (matching_of mask) latest (small_digits mask)) line result (stated-means 126 line mask is) (states-event m (matching_of mask) latest (small_digits mask)) e
 
-    first : (o : Option (List ℕ)) → after (codes "#> ") line ≡ o → by_answer m latest line o ≡ Ok result → Line n latest line result
+    first : (o : Option (List ℕ)) → after (codes "#> ") line ≡ o → by_answer false m latest line o ≡ Ok result → Line n latest line result
     first None is e = second (after (codes "#~ ") line) refl e
     first (Some answer) is e = stays-line n m latest (states m Exact latest (small_digits answer)) line result (stated-means 62 line answer is) (states-event m Exact latest (small_digits answer)) e
 
@@ -189,15 +193,15 @@ says-line n m latest line result e = first (after (codes "#> ") line) refl e
 abbrev AreRead : ℕ → Latest → List (List ℕ) → List StatedEvent → Type 0
 AreRead n latest lines ss = (events : List Event) × (map (λ s. s.event) ss ≡ map (λ s. s.event) (ended latest) ++ events) × (reading n lines ≡ adds events nothing)
 
-are_read : (n : ℕ) (latest : Latest) (lines : List (List ℕ)) (ss : List StatedEvent) → stated_by 1048576 n latest lines ≡ Ok ss → AreRead n latest lines ss
+are_read : (n : ℕ) (latest : Latest) (lines : List (List ℕ)) (ss : List StatedEvent) → stated_by false 1048576 n latest lines ≡ Ok ss → AreRead n latest lines ss
 unfolding stated_by reading
 are_read n latest [] ss e = let is = all-ended latest ss e in ([], ap (map (λ s. s.event)) is ∙ sym (append-nil _), refl)
 are_read n latest (line ∷ lines) ss e = ⊎_elim (few (λ latest ss is. are_read (n + 1) latest lines ss is)) many (cases_lt n 1048576)
   where
     Later : Type 0
-    Later = (latest : Latest) (ss : List StatedEvent) → stated_by 1048576 (n + 1) latest lines ≡ Ok ss → AreRead (n + 1) latest lines ss
+    Later = (latest : Latest) (ss : List StatedEvent) → stated_by false 1048576 (n + 1) latest lines ≡ Ok ss → AreRead (n + 1) latest lines ss
 
-    later : Later → (after : After) (said : Said) → stated_by 1048576 (n + 1) after.latest lines ≡ said → then_events after.events said ≡ Ok ss
+    later : Later → (after : After) (said : Said) → stated_by false 1048576 (n + 1) after.latest lines ≡ said → then_events after.events said ≡ Ok ss
         → n < 1048576 → length line ≤ 64 → Line n latest line after → AreRead n latest (line ∷ lines) ss
     later read after (Err fault) is e few short l = absurd (cc)
     later read after (Ok others) is e few short l =
@@ -210,19 +214,19 @@ are_read n latest (line ∷ lines) ss e = ⊎_elim (few (λ latest ss is. are_re
           reading-line n line lines few short ∙ l.means (reading (n + 1) lines) ∙ ap (adds l.events) p.2 ∙ adds-adds l.events p.0 nothing,
         )
 
-    by_line : Later → (says : Result After StatedFault) → bounded_line (n + 1) latest line ≡ says → then_lines says (λ l. stated_by 1048576 (n + 1) l lines) ≡ Ok ss
+    by_line : Later → (says : Result After StatedFault) → bounded_line false (n + 1) latest line ≡ says → then_lines says (λ l. stated_by false 1048576 (n + 1) l lines) ≡ Ok ss
         → n < 1048576 → length line ≤ 64 → AreRead n latest (line ∷ lines) ss
     by_line read (Err fault) is e few short = absurd (cc)
-    by_line read (Ok after) is e few short = later read after (stated_by 1048576 (n + 1) after.latest lines) refl e few short (says-line n (n + 1) latest line after (sym (bounded-short (n + 1) latest line short) ∙ is))
+    by_line read (Ok after) is e few short = later read after (stated_by false 1048576 (n + 1) after.latest lines) refl e few short (says-line n (n + 1) latest line after (sym (bounded-short false (n + 1) latest line short) ∙ is))
 
     short : Later → n < 1048576 → length line ≤ 64 → AreRead n latest (line ∷ lines) ss
-    short read few low = by_line read (bounded_line (n + 1) latest line) refl (sym (stated-line 1048576 n latest line lines few) ∙ e) few low
+    short read few low = by_line read (bounded_line false (n + 1) latest line) refl (sym (stated-line false 1048576 n latest line lines few) ∙ e) few low
 
     few : Later → n < 1048576 → AreRead n latest (line ∷ lines) ss
-    few read low = ⊎_elim (λ s. short read low (omega (arith, s))) (λ long. let no = sym (stated-line 1048576 n latest line lines low ∙ ap (λ s. then_lines s (λ l. stated_by 1048576 (n + 1) l lines)) (bounded-long (n + 1) latest line (omega (arith, long)))) ∙ e in absurd (cc)) (cases_lt (length line) 65)
+    few read low = ⊎_elim (λ s. short read low (omega (arith, s))) (λ long. let no = sym (stated-line false 1048576 n latest line lines low ∙ ap (λ s. then_lines s (λ l. stated_by false 1048576 (n + 1) l lines)) (bounded-long false (n + 1) latest line (omega (arith, long)))) ∙ e in absurd (cc)) (cases_lt (length line) 65)
 
     many : 1048576 ≤ n → AreRead n latest (line ∷ lines) ss
-    many high = let no = sym (stated-too_long 1048576 n latest line lines high) ∙ e in absurd (cc)
+    many high = let no = sym (stated-too_long false 1048576 n latest line lines high) ∙ e in absurd (cc)
 
-pub stated-read : (script : List ℕ) (ss : List StatedEvent) → stated_by 1048576 0 None (lines_of script) ≡ Ok ss → reading 0 (lines_of script) ≡ adds (map (λ s. s.event) ss) nothing
+pub stated-read : (script : List ℕ) (ss : List StatedEvent) → stated_by false 1048576 0 None (lines_of script) ≡ Ok ss → reading 0 (lines_of script) ≡ adds (map (λ s. s.event) ss) nothing
 stated-read script ss e = let p = are_read 0 None (lines_of script) ss e in p.2 ∙ ap (λ es. adds es nothing) (sym p.1)

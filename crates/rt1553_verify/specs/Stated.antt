@@ -1,6 +1,7 @@
 -- What a script says that states its answers: `#> LINE` behind the event that LINE of the transcript answers; `#~ MASK` behind one
 -- that a line answers of which MASK says all but the digits at its dots, and `#~ *` behind one that any line answers; and `#+ REST`
--- behind an answer that goes on with a space and REST. All else is read as in any script.
+-- behind an answer that goes on with a space and REST. A line `#! row ..` says that the recording ends before its table does. In a recording
+-- `#? A gap` or `#? B gap` says that a gap may have come on that bus, or not. All else is read as in any script.
 use Rattle.std.specs.Prelude.{ℕ, ◌+◌, Bool, true, false, not, ◌&&◌, ◌||◌, ◌==◌, nat_le, nat_lt, if◌then◌else◌, List, [], ◌∷◌, ◌++◌, Option, Some, None, option_map, length, map, filter, Result, Ok, Err, codes}
 use Rattle.terminal_rules.specs.declared.event.Event.{Event}
 use Rattle.std.specs.Str.{bytes_eq}
@@ -11,13 +12,13 @@ use Rattle.script_lines.specs.Line.{meaning}
 use Rattle.script_lines.specs.Text.{lines_of}
 use Rattle.refused_lines.specs.Refused.{mistyped}
 use Rattle.rt1553_verify.specs.declared.matching.Matching.{Matching}
-use Rattle.rt1553_verify.specs.declared.matching.Matching.TheVariants.{Exact, Masked, AnyLine, Unchecked}
+use Rattle.rt1553_verify.specs.declared.matching.Matching.TheVariants.{Exact, Masked, AnyLine, Unchecked, MaybeGap}
 use Rattle.rt1553_verify.specs.declared.stated.Stated.{Stated}
 use Rattle.rt1553_verify.specs.declared.stated.AfterLine.{AfterLine}
 use Rattle.rt1553_verify.specs.declared.stated.ScriptWarning.{ScriptWarning}
 use Rattle.rt1553_verify.specs.declared.stated.ScriptWarning.TheVariants.{NoEvent, NoAnswer}
 use Rattle.rt1553_verify.specs.declared.stated.StatedFault.{StatedFault}
-use Rattle.rt1553_verify.specs.declared.stated.StatedFault.TheVariants.{Line, LongLine, TooLong, Mistyped, Misplaced, Impossible}
+use Rattle.rt1553_verify.specs.declared.stated.StatedFault.TheVariants.{Line, LongLine, TooLong, Mistyped, Misplaced, Impossible, EndsEarly}
 
 -- An event with the number of its line, from 1, and what is to answer it: the line of the transcript, or its mask, with a line feed, or
 -- nothing; the number of the line that states this, 0 for none; and how what comes is compared with that.
@@ -58,6 +59,7 @@ fits Exact answer came = bytes_eq came answer
 fits Masked mask came = fits_mask mask came
 fits AnyLine _ came = not (is_empty came)
 fits Unchecked _ came = true
+fits MaybeGap _ came = true
 
 -- an answer is stated of the event
 abbrev pub states_answer : StatedEvent → Bool
@@ -179,10 +181,19 @@ small_digits (b ∷ bytes) = b ∷ map small_digit bytes
 abbrev pub Latest : Type 0
 Latest = Option StatedEvent
 
+-- a gap that may have come or not
+abbrev pub is_maybe : Matching → Bool
+is_maybe MaybeGap = true
+is_maybe _ = false
+
+-- an answer can be stated of the event: it came, and none was stated so far
+abbrev pub is_unanswered : StatedEvent → Bool
+is_unanswered s = is_empty s.answer && not (is_maybe s.matching)
+
 -- the line, of number n, is stated so as the answer to the latest event, which it can answer and of which nothing was stated
 abbrev pub states : ℕ → Matching → Latest → List ℕ → Option StatedEvent
 states n matching None line = None
-states n matching (Some s) line = if is_empty s.answer && can_match matching s.event line then Some (record s { matching = matching; answer_line = n; answer = line }) else None
+states n matching (Some s) line = if is_unanswered s && can_match matching s.event line then Some (record s { matching = matching; answer_line = n; answer = line }) else None
 
 -- more can be stated of the answer than that there is one
 abbrev pub says_bytes : Matching → Bool
@@ -236,39 +247,55 @@ abbrev pub silent_line : ℕ → Latest → Option ℕ → Result After StatedFa
 silent_line n latest None = Ok (stays latest)
 silent_line n latest (Some column) = Err (Mistyped n column)
 
--- a new event on line n, behind those of which all was stated
-abbrev pub then_event : ℕ → Event → Result (List StatedEvent) StatedFault → Result After StatedFault
-then_event n e (Err fault) = Err fault
-then_event n e (Ok events) = Ok (record { events = events; latest = Some (record { line = n; event = e; matching = Exact; answer_line = 0; answer = [] }) })
+-- line n, with which a recording ends early if it has a rest behind `#! row `; any other says nothing
+abbrev pub by_early_end : ℕ → Latest → List ℕ → Option (List ℕ) → Result After StatedFault
+by_early_end n latest line (Some rest) = Err (EndsEarly n)
+by_early_end n latest line None = silent_line n latest (mistyped line)
 
--- a line that states no answer: an event, nothing, or none of a script
-abbrev pub unstated_line : ℕ → Latest → List ℕ → Result (Option Event) LineFault → Result After StatedFault
-unstated_line n latest line (Err fault) = Err (Line n)
-unstated_line n latest line (Ok None) = silent_line n latest (mistyped line)
-unstated_line n latest line (Ok (Some e)) = then_event n e (all_stated latest)
+-- a new event on line n, compared so, behind those of which all was stated
+abbrev pub then_event : ℕ → Event → Matching → Result (List StatedEvent) StatedFault → Result After StatedFault
+then_event n e matching (Err fault) = Err fault
+then_event n e matching (Ok events) = Ok (record { events = events; latest = Some (record { line = n; event = e; matching = matching; answer_line = 0; answer = [] }) })
+
+-- line n, with this behind `#? `: a gap that may have come
+abbrev pub maybe_gap_line : ℕ → Latest → Result (Option Event) LineFault → Result After StatedFault
+maybe_gap_line n latest (Ok (Some (Gap bus))) = then_event n (Gap bus) MaybeGap (all_stated latest)
+maybe_gap_line n latest _ = Err (Line n)
+
+-- line n, which of a recording says that a gap may have come if it has a rest behind `#? `
+abbrev pub by_maybe_gap : Bool → ℕ → Latest → List ℕ → Option (List ℕ) → Result After StatedFault
+by_maybe_gap true n latest line (Some rest) = maybe_gap_line n latest (meaning rest)
+by_maybe_gap true n latest line None = by_early_end n latest line (after (codes "#! row ") line)
+by_maybe_gap false n latest line rest = by_early_end n latest line (after (codes "#! row ") line)
+
+-- a line, of a recording or not, that states no answer: an event, perhaps a gap that may have come, nothing, or none of a script
+abbrev pub unstated_line : Bool → ℕ → Latest → List ℕ → Result (Option Event) LineFault → Result After StatedFault
+unstated_line is_recording n latest line (Err fault) = Err (Line n)
+unstated_line is_recording n latest line (Ok None) = by_maybe_gap is_recording n latest line (after (codes "#? ") line)
+unstated_line is_recording n latest line (Ok (Some e)) = then_event n e Exact (all_stated latest)
 
 -- line n, which goes on with an answer if it has a rest behind `#+ `
-abbrev pub by_going_on : ℕ → Latest → List ℕ → Option (List ℕ) → Result After StatedFault
-by_going_on n latest line (Some rest) = or_misplaced n (goes_on latest (map small_digit rest))
-by_going_on n latest line None = unstated_line n latest line (meaning line)
+abbrev pub by_going_on : Bool → ℕ → Latest → List ℕ → Option (List ℕ) → Result After StatedFault
+by_going_on is_recording n latest line (Some rest) = or_misplaced n (goes_on latest (map small_digit rest))
+by_going_on is_recording n latest line None = unstated_line is_recording n latest line (meaning line)
 
 -- line n, which states a mask if it has one behind `#~ `
-abbrev pub by_mask : ℕ → Latest → List ℕ → Option (List ℕ) → Result After StatedFault
-by_mask n latest line (Some mask) = or_misplaced n (states n (matching_of mask) latest (small_digits mask))
-by_mask n latest line None = by_going_on n latest line (after (codes "#+ ") line)
+abbrev pub by_mask : Bool → ℕ → Latest → List ℕ → Option (List ℕ) → Result After StatedFault
+by_mask is_recording n latest line (Some mask) = or_misplaced n (states n (matching_of mask) latest (small_digits mask))
+by_mask is_recording n latest line None = by_going_on is_recording n latest line (after (codes "#+ ") line)
 
 -- line n, which states an answer if it has one behind `#> `
-abbrev pub by_answer : ℕ → Latest → List ℕ → Option (List ℕ) → Result After StatedFault
-by_answer n latest line (Some answer) = or_misplaced n (states n Exact latest (small_digits answer))
-by_answer n latest line None = by_mask n latest line (after (codes "#~ ") line)
+abbrev pub by_answer : Bool → ℕ → Latest → List ℕ → Option (List ℕ) → Result After StatedFault
+by_answer is_recording n latest line (Some answer) = or_misplaced n (states n Exact latest (small_digits answer))
+by_answer is_recording n latest line None = by_mask is_recording n latest line (after (codes "#~ ") line)
 
--- what line number n says: a stated answer, how one goes on, or what it says in any script
-abbrev pub line_says : ℕ → Latest → List ℕ → Result After StatedFault
-line_says n latest line = by_answer n latest line (after (codes "#> ") line)
+-- what line number n says: a stated answer, how one goes on, that the recording ends early, or what it says in any script
+abbrev pub line_says : Bool → ℕ → Latest → List ℕ → Result After StatedFault
+line_says is_recording n latest line = by_answer is_recording n latest line (after (codes "#> ") line)
 
 -- what line number n says where it has at most 64 bytes; a longer one is too long
-abbrev pub bounded_line : ℕ → Latest → List ℕ → Result After StatedFault
-bounded_line n latest line = if nat_lt 64 (length line) then Err (LongLine n) else line_says n latest line
+abbrev pub bounded_line : Bool → ℕ → Latest → List ℕ → Result After StatedFault
+bounded_line is_recording n latest line = if nat_lt 64 (length line) then Err (LongLine n) else line_says is_recording n latest line
 
 -- these events before the later ones, unless the later lines have a fault
 abbrev pub then_events : List StatedEvent → Result (List StatedEvent) StatedFault → Result (List StatedEvent) StatedFault
@@ -282,22 +309,22 @@ then_lines (Ok after) later = then_events after.events (later after.latest)
 
 -- What lines say that follow n lines, of a script that may have so many: of one line more that there are too many, of a line of over 64
 -- bytes that it is too long, and of any other what it says by itself. The first fault is that of all.
-unfoldable pub stated_by : ℕ → ℕ → Latest → List (List ℕ) → Result (List StatedEvent) StatedFault
-stated_by most n latest [] = all_stated latest
-stated_by most n latest (line ∷ lines) =
-    if nat_le most n then Err TooLong else then_lines (bounded_line (n + 1) latest line) (λ latest. stated_by most (n + 1) latest lines)
+unfoldable pub stated_by : Bool → ℕ → ℕ → Latest → List (List ℕ) → Result (List StatedEvent) StatedFault
+stated_by is_recording most n latest [] = all_stated latest
+stated_by is_recording most n latest (line ∷ lines) =
+    if nat_le most n then Err TooLong else then_lines (bounded_line is_recording (n + 1) latest line) (λ latest. stated_by is_recording most (n + 1) latest lines)
 
--- what a script of at most so many lines says: its events, each with what is stated of it, or its first fault
-abbrev pub stated_within : ℕ → List ℕ → Result (List StatedEvent) StatedFault
-stated_within most script = stated_by most 0 None (lines_of script)
+-- what a script, or a recording, of at most so many lines says: its events, each with what is stated of it, or its first fault
+abbrev pub stated_within : Bool → ℕ → List ℕ → Result (List StatedEvent) StatedFault
+stated_within is_recording most script = stated_by is_recording most 0 None (lines_of script)
 
 -- what a script says that is played: it has at most 1,048,576 lines
 abbrev pub stated_in : List ℕ → Result (List StatedEvent) StatedFault
-stated_in script = stated_within 1048576 script
+stated_in script = stated_within false 1048576 script
 
--- what a script says that is read event by event: its lines are counted in 64 bits
+-- what a recording says, which is read event by event: its lines are counted in 64 bits
 abbrev pub stated_through : List ℕ → Result (List StatedEvent) StatedFault
-stated_through script = stated_within 18446744073709551615 script
+stated_through script = stated_within true 18446744073709551615 script
 
 -- the words of a warning
 abbrev pub warning_text : ScriptWarning → List ℕ

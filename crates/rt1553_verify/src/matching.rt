@@ -13,6 +13,8 @@ pub enum Matching {
     AnyLine,
     /// It is not compared.
     Unchecked,
+    /// The event is a gap that may have come or not. Only a recording has one, and nothing is stated of it.
+    MaybeGap,
 }
 
 /// Whether a byte of a mask admits a byte of a line: a dot any digit, and any other itself.
@@ -63,7 +65,7 @@ impl Matching {
             Matching::Exact => came == answer,
             Matching::Masked => fits_mask(answer, came),
             Matching::AnyLine => !came.is_empty(),
-            Matching::Unchecked => true,
+            Matching::Unchecked | Matching::MaybeGap => true,
         }
     }
 }

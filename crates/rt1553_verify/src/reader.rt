@@ -1,4 +1,4 @@
-//! Scripts that state their answers, read event by event.
+//! Recordings, as scripts that state their answers, read event by event.
 ghost use Rattle.std.specs.Prelude.{◌≡◌, ◌<◌, true, length, IfOk, IfErr, IfSome};
 ghost use Rattle.script_lines.specs.Text.{lines_of};
 ghost use Rattle.rt1553_verify.specs.Stated.{stated_through};
@@ -10,7 +10,8 @@ use refused_lines::first_line;
 use std::alloc::Global;
 use std::io::{BufRead, ErrorKind};
 
-/// A script that states its answers and is read event by event: one event of it is kept, and one line.
+/// A recording, as a script that states its answers, which is read event by event: one event of it is kept, and one line. A line `#? A gap`
+/// is an event, too: a gap that may have come.
 #[derive(Drop)]
 pub struct StatedReader<B> {
     alloc: Global,
@@ -64,7 +65,7 @@ impl<B: BufRead> StatedReader<B> {
             return Err(StatedFault::TooLong);
         }
         let (line, _) = first_line(self.line.as_slice());
-        let known = read_stated_line(self.alloc, self.latest.take(), self.lines + 1, line)?;
+        let known = read_stated_line(self.alloc, self.latest.take(), self.lines + 1, line, true)?;
         self.lines += 1;
         self.latest = known.latest;
         Ok((known.ended, false))

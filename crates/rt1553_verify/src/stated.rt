@@ -1,9 +1,10 @@
 //! Scripts that state their answers.
-ghost use Rattle.std.specs.Prelude.{◌≡◌, ◌≢◌, ◌<◌, ◌&&◌, ◌∷◌, ◌++◌, ℕ, length, map, option_map, filter, Ok, Err, IfOk, IfErr, IfSome, OnOk};
+ghost use Rattle.std.specs.Prelude.{◌≡◌, ◌≢◌, ◌<◌, ◌&&◌, ◌∷◌, ◌++◌, ℕ, codes, length, map, option_map, filter, Ok, Err, IfOk, IfErr, IfSome, OnOk};
+ghost use Rattle.line_format.specs.Front.{after};
 ghost use Rattle.script_lines.specs.Line.{meaning};
 ghost use Rattle.script_lines.specs.Text.{lines_of};
 ghost use Rattle.bus_script.specs.Reading.{reading, adds, nothing};
-ghost use Rattle.rt1553_verify.specs.Stated.{shown, states_answer, hands_over, can_answer, can_match, small_digit, small_digits, says_bytes, states, goes_on, all_stated, if_any, shown_after, stays, or_misplaced, unstated_line, bounded_line, stated_in, warning_text, stated_warning, script_warning, seen_on_bus};
+ghost use Rattle.rt1553_verify.specs.Stated.{shown, states_answer, hands_over, can_answer, can_match, is_maybe, is_unanswered, small_digit, small_digits, says_bytes, states, goes_on, all_stated, if_any, shown_after, stays, or_misplaced, then_event, by_early_end, maybe_gap_line, by_maybe_gap, unstated_line, bounded_line, stated_in, warning_text, stated_warning, script_warning, seen_on_bus};
 ghost use Rattle.rt1553_verify.specs.declared.stated.StatedFault.TheVariants.{Memory};
 
 use crate::Matching;
@@ -59,6 +60,9 @@ pub enum StatedFault {
     /// The answer that this line states, with the lines that go on with it, is none that a terminal gives.
     #[error("no terminal answers so: an answer is a line that run prints, as \"A s 2800\", \"A d 0001\" or \"hand receive own 01 0011\"")]
     Impossible(u64),
+    /// With this line a recording ends before its table does.
+    #[error("the recording ends early: a row of its table was refused")]
+    EndsEarly(u64),
     /// The script can't be read on, which says nothing of it.
     #[error("script: read failed")]
     Read,
@@ -147,6 +151,13 @@ fn push_stated(answer: &mut Vec<u8>, line: &[u8]) -> Result<(), AllocError>
     Ok(())
 }
 
+/// Whether an answer can be stated of the event: it came, and none was stated so far.
+fn is_unanswered(stated: &Stated) -> bool
+    ensures { result ≡ is_unanswered (shown stated.now) }
+{
+    stated.answer.is_empty() && stated.matching != Matching::MaybeGap
+}
+
 /// Keeps what a line states of the answer to the latest event, of which nothing was stated yet.
 fn state(
     latest: Option<Stated>,
@@ -160,7 +171,7 @@ fn state(
     let Some(mut latest) = latest else {
         return Err(StatedFault::Misplaced(number));
     };
-    if !latest.answer.is_empty() {
+    if !is_unanswered(&latest) {
         return Err(StatedFault::Misplaced(number));
     }
     push_stated(&mut latest.answer, line)?;
@@ -222,44 +233,110 @@ fn stays(latest: Option<Stated>) -> AfterLine
     }
 }
 
+/// Ends the latest event, and begins a new one, of which nothing is stated.
+fn begin(
+    alloc: Global,
+    latest: Option<Stated>,
+    number: u64,
+    event: Event,
+    matching: Matching,
+) -> Result<AfterLine, StatedFault>
+    ensures said { IfOk result (λ after. then_event number event matching (all_stated (option_map shown latest)) ≡ Ok (shown_after after)) }
+    ensures refused { IfErr result (λ fault. fault ≢ StatedFault.Memory → then_event number event matching (all_stated (option_map shown latest)) ≡ Err fault) }
+{
+    Ok(AfterLine {
+        ended: end(latest)?,
+        latest: Some(Stated {
+            line: number,
+            event,
+            matching,
+            answer_line: 0,
+            answer: Vec::new(alloc),
+        }),
+    })
+}
+
+/// Reads a line that says nothing, but perhaps that the recording ends early.
+fn read_comment(latest: Option<Stated>, number: u64, line: &[u8]) -> Result<AfterLine, StatedFault>
+    ensures said { IfOk result (λ known. by_early_end number (option_map shown latest) line.now (after (codes "#! row ") line.now) ≡ Ok (shown_after known)) }
+    ensures refused { IfErr result (λ fault. by_early_end number (option_map shown latest) line.now (after (codes "#! row ") line.now) ≡ Err fault) }
+{
+    match after(line, b"#! row ") {
+        Some(_) => Err(StatedFault::EndsEarly(number)),
+        None => match mistyped_answer(line) {
+            None => Ok(stays(latest)),
+            Some(column) => Err(StatedFault::Mistyped(number, column as u64)),
+        },
+    }
+}
+
+/// Reads what stands behind `#? ` in a recording: a gap that may have come.
+fn read_maybe_gap(
+    alloc: Global,
+    latest: Option<Stated>,
+    number: u64,
+    line: &[u8],
+) -> Result<AfterLine, StatedFault>
+    ensures said { IfOk result (λ after. maybe_gap_line number (option_map shown latest) (meaning line.now) ≡ Ok (shown_after after)) }
+    ensures refused { IfErr result (λ fault. fault ≢ StatedFault.Memory → maybe_gap_line number (option_map shown latest) (meaning line.now) ≡ Err fault) }
+{
+    match read_event(line) {
+        Ok(Some(Event::Gap(bus))) => {
+            begin(alloc, latest, number, Event::Gap(bus), Matching::MaybeGap)
+        }
+        _ => Err(StatedFault::Line(number)),
+    }
+}
+
+/// Reads a line that is no event and states no answer.
+fn read_silent(
+    alloc: Global,
+    latest: Option<Stated>,
+    number: u64,
+    line: &[u8],
+    is_recording: bool,
+) -> Result<AfterLine, StatedFault>
+    ensures said { IfOk result (λ known. by_maybe_gap is_recording number (option_map shown latest) line.now (after (codes "#? ") line.now) ≡ Ok (shown_after known)) }
+    ensures refused { IfErr result (λ fault. fault ≢ StatedFault.Memory → by_maybe_gap is_recording number (option_map shown latest) line.now (after (codes "#? ") line.now) ≡ Err fault) }
+{
+    if is_recording {
+        match after(line, b"#? ") {
+            Some(rest) => read_maybe_gap(alloc, latest, number, rest),
+            None => read_comment(latest, number, line),
+        }
+    } else {
+        read_comment(latest, number, line)
+    }
+}
+
 /// Reads a line that states no answer.
 fn read_plain(
     alloc: Global,
     latest: Option<Stated>,
     number: u64,
     line: &[u8],
+    is_recording: bool,
 ) -> Result<AfterLine, StatedFault>
-    ensures said { IfOk result (λ after. unstated_line number (option_map shown latest) line.now (meaning line.now) ≡ Ok (shown_after after)) }
-    ensures refused { IfErr result (λ fault. fault ≢ StatedFault.Memory → unstated_line number (option_map shown latest) line.now (meaning line.now) ≡ Err fault) }
+    ensures said { IfOk result (λ after. unstated_line is_recording number (option_map shown latest) line.now (meaning line.now) ≡ Ok (shown_after after)) }
+    ensures refused { IfErr result (λ fault. fault ≢ StatedFault.Memory → unstated_line is_recording number (option_map shown latest) line.now (meaning line.now) ≡ Err fault) }
 {
     match read_event(line) {
-        Ok(Some(event)) => Ok(AfterLine {
-            ended: end(latest)?,
-            latest: Some(Stated {
-                line: number,
-                event,
-                matching: Matching::Exact,
-                answer_line: 0,
-                answer: Vec::new(alloc),
-            }),
-        }),
-        Ok(None) => match mistyped_answer(line) {
-            None => Ok(stays(latest)),
-            Some(column) => Err(StatedFault::Mistyped(number, column as u64)),
-        },
+        Ok(Some(event)) => begin(alloc, latest, number, event, Matching::Exact),
+        Ok(None) => read_silent(alloc, latest, number, line, is_recording),
         Err(LineFault) => Err(StatedFault::Line(number)),
     }
 }
 
-/// Reads a line of this number, from 1, by the latest event before it.
+/// Reads a line of this number, from 1, of a recording or another script, by the latest event before it. Only a recording says that gaps may have come.
 pub fn read_stated_line(
     alloc: Global,
     latest: Option<Stated>,
     number: u64,
     line: &[u8],
+    is_recording: bool,
 ) -> Result<AfterLine, StatedFault>
-    ensures said { IfOk result (λ after. bounded_line number (option_map shown latest) line.now ≡ Ok (shown_after after)) }
-    ensures refused { IfErr result (λ fault. fault ≢ StatedFault.Memory → bounded_line number (option_map shown latest) line.now ≡ Err fault) }
+    ensures said { IfOk result (λ after. bounded_line is_recording number (option_map shown latest) line.now ≡ Ok (shown_after after)) }
+    ensures refused { IfErr result (λ fault. fault ≢ StatedFault.Memory → bounded_line is_recording number (option_map shown latest) line.now ≡ Err fault) }
 {
     if line.len() > MAX_LINE {
         return Err(StatedFault::LongLine(number));
@@ -273,7 +350,7 @@ pub fn read_stated_line(
     if let Some(rest) = after(line, b"#+ ") {
         return Ok(stays(go_on(latest, number, rest)?));
     }
-    read_plain(alloc, latest, number, line)
+    read_plain(alloc, latest, number, line, is_recording)
 }
 
 /// Adds an event, if there is one.
@@ -289,7 +366,7 @@ fn push_if(read: &mut Vec<Stated>, stated: Option<Stated>) -> Result<(), AllocEr
 /// Reads a script with the answers that it states in comments: `#> LINE` behind the event that LINE answers, `#~ MASK` behind one
 /// that is answered by a line with any digits at the dots of MASK, `#~ *` behind one that is answered by any line, and `#+ REST`
 /// behind an answer that goes on with a space and REST. Other comments and empty lines may come between, but no comment that looks like
-/// a stated answer. A script is refused by its first fault.
+/// a stated answer, and no line `#! row ..`, with which a recording ends early. A script is refused by its first fault.
 pub fn read_stated(alloc: Global, script: &[u8]) -> Result<Vec<Stated>, StatedFault>
     ensures accepted { IfOk result (λ read. stated_in script.now ≡ Ok (map shown read.items)) }
     ensures refused { IfErr result (λ fault. fault ≢ StatedFault.Memory → stated_in script.now ≡ Err fault) }
@@ -304,7 +381,7 @@ pub fn read_stated(alloc: Global, script: &[u8]) -> Result<Vec<Stated>, StatedFa
         if lines == MAX_LINES as u64 {
             return Err(StatedFault::TooLong);
         }
-        let known = read_stated_line(alloc, latest, lines + 1, line)?;
+        let known = read_stated_line(alloc, latest, lines + 1, line, false)?;
         push_if(&mut read, known.ended)?;
         latest = known.latest;
         lines += 1;

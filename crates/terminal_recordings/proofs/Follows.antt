@@ -57,7 +57,7 @@ pub then_follows : (P : Description) (h k : List Event) (e : Event) (front later
 then_follows P h k e front later seen same rest =
     (rest.0, shown_step P k (record { event = e; sent = sent_in (out P h e) }) (front ++ later) seen ∙ (λ j. record { event = e; sent = sym same j } ∷ rest.1 j))
 
-then_open : (P : Description) (k : List Event) (m : MaskedSighting) (front : List MaskedSighting) (later : List Sighting) → is_seen m.sighting.event ≡ true →
+pub then_open : (P : Description) (k : List Event) (m : MaskedSighting) (front : List MaskedSighting) (later : List Sighting) → is_seen m.sighting.event ≡ true →
     (let l : List Event = history_after (told_before P k m.sighting (unmasked front ++ later)) k in
     FitsWord m.any_word m.sighting.sent (sent_in (out P l m.sighting.event)) → FollowsOpen P (m.sighting.event ∷ l) front later → FollowsOpen P k (m ∷ front) later)
 then_open P k m front later seen fits rest =

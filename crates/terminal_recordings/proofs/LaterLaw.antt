@@ -1,19 +1,18 @@
 -- The laws of recordings that begin later.
-use Rattle.std.proofs.Common.{◌≡◌, ℕ, zero, suc, take, drop, ◌≤◌, Bool, true, false, if◌then◌else◌, Option, Some, None, List, [], ◌∷◌, ◌++◌, refl, ap, sym, ◌∙◌, subst}
+use Rattle.std.proofs.Common.{◌≡◌, ℕ, zero, suc, take, drop, ◌≤◌, true, false, Option, Some, None, List, [], ◌∷◌, ◌++◌, refl, ap, sym, ◌∙◌, subst}
 use Rattle.std.proofs.lemmas.List.{take-append-drop}
 use Rattle.bus_word.specs.declared.cell.Cell.TheVariants.{OwnMode}
 use Rattle.bus_legal.specs.Description.{Description}
 use Rattle.terminal_rules.specs.declared.event.Event.{Event}
 use Rattle.terminal_rules.specs.Past.{history_after}
-use Rattle.terminal_recordings.specs.Recordings.{Sighting, sightings_from, IsRecording}
+use Rattle.terminal_recordings.specs.Recordings.{Sighting, IsRecording}
 use Rattle.terminal_recordings.specs.Completion.{completion_from}
-use Rattle.terminal_recordings.specs.Later.{IsQuiet, IsExplainedLater, IsExplainedAnyTime, Gaps, no_gaps, gaps_with, after_pause, command_for, first_command, asks_back, BeginsAfresh, fresh_part, ShutDown, shutting, shut_history, shown_later, LaterLaw}
+use Rattle.terminal_recordings.specs.Later.{IsQuiet, IsExplainedLater, command_for, first_command, asks_back, BeginsAfresh, ShutDown, shutting, shut_history, shown_later, LaterLaw}
 use Rattle.terminal_recordings.proofs.Follows.{Follows}
 use Rattle.terminal_recordings.proofs.Fresh.{AreFreshAlike, quiet_fresh}
 use Rattle.terminal_recordings.proofs.FollowsLater.{follows_later}
-use Rattle.terminal_recordings.proofs.Leaving.{history_join, Leaves, shutting_leaves, shutting_proper, shut_by, shut_by_is}
-use Rattle.terminal_recordings.proofs.Pause.{Pauses, at_pause}
-use Rattle.terminal_recordings.proofs.Law.{proper_join, completion_proper, Front, front_of, shown_again, shown_first}
+use Rattle.terminal_recordings.proofs.Leaving.{Leaves, shutting_leaves, shutting_proper, shut_by, shut_by_is}
+use Rattle.terminal_recordings.proofs.Law.{completion_proper, Front, front_of, shown_again, shown_first}
 
 -- the beginning that leaves shut down what a history leaves so; its terminal flag is not inhibited
 begun_alike : (P : Description) (h : List Event) → P.address ≤ 30 → P.legal (OwnMode 4) ≡ true → IsQuiet P h → AreFreshAlike P h (shut_history P (shut_by P h))
@@ -67,53 +66,6 @@ front_afresh P (suc n) (s ∷ later) a = by_command (command_for P s.event) a (�
     by_command None q next = next q
     by_command (Some c) q next = q
 
-paused : (P : Description) (recording later : List Sighting) → IsExplainedAnyTime P recording → after_pause no_gaps recording ≡ Some later → IsExplainedLater P later
-paused P recording later (earlier, a, (es, b, e)) q =
-    let h : List Event = history_after earlier [] in
-    let x : Pauses P h later = at_pause P es h later b (ap (after_pause no_gaps) e ∙ q) in
-    let join : history_after x.0 h ≡ history_after (earlier ++ x.0) [] = sym (history_join earlier x.0 []) in (
-      earlier ++ x.0,
-      proper_join earlier x.0 a x.1,
-      subst (IsQuiet P) join x.2,
-      (x.3, x.4, ap (λ k. sightings_from P k x.3) (sym join) ∙ x.5),
-    )
-
--- the first part of a recording that begins afresh, by what is known of the part after its first pause
-fresh_later : (P : Description) (recording later : List Sighting) (g : Gaps) → ((mid : List Sighting) → after_pause g recording ≡ Some mid → IsExplainedLater P mid) →
-    fresh_part P g recording ≡ Some later → IsExplainedLater P later
-fresh_later P [] later g pauses e = absurd (cc)
-fresh_later P (s ∷ rest) later g pauses e =
-    by_gaps (gaps_with g s.event s.sent) pauses e (λ n more q. fresh_later P rest later n more q)
-    (λ x q. fresh_later P rest later no_gaps (λ mid paused_at. paused P rest mid (x.0, x.1, x.3) paused_at) q)
-  where
-    by_fresh : (t : Bool) → IsExplainedLater P rest → (fresh_part P no_gaps rest ≡ Some later → IsExplainedLater P later) →
-        (if t then fresh_part P no_gaps rest else Some rest) ≡ Some later → IsExplainedLater P later
-    by_fresh true x next q = next q
-    by_fresh false x next q = let same : rest ≡ later = cc in subst (IsExplainedLater P) same x
-
-    by_gaps : (o : Option Gaps) → ((mid : List Sighting) → elim o as (λ o. Option (List Sighting)) [ None ↦ Some rest | Some n ↦ after_pause n rest ] ≡ Some mid → IsExplainedLater P mid) →
-        elim o as (λ o. Option (List Sighting)) [ None ↦ if asks_back P (first_command P rest) then fresh_part P no_gaps rest else Some rest | Some n ↦ fresh_part P n rest ] ≡ Some later →
-        ((n : Gaps) → ((mid : List Sighting) → after_pause n rest ≡ Some mid → IsExplainedLater P mid) → fresh_part P n rest ≡ Some later → IsExplainedLater P later) →
-        (IsExplainedLater P rest → fresh_part P no_gaps rest ≡ Some later → IsExplainedLater P later) → IsExplainedLater P later
-    by_gaps None pauses q over next = let x : IsExplainedLater P rest = pauses rest refl in by_fresh (asks_back P (first_command P rest)) x (next x) q
-    by_gaps (Some n) pauses q over next = over n pauses q
-
--- it begins afresh
-fresh_begins : (P : Description) (recording later : List Sighting) (g : Gaps) → fresh_part P g recording ≡ Some later → BeginsAfresh P later
-fresh_begins P [] later g e = absurd (cc)
-fresh_begins P (s ∷ rest) later g e = by_gaps (gaps_with g s.event s.sent) e (λ n q. fresh_begins P rest later n q)
-  where
-    by_fresh : (t : Bool) → asks_back P (first_command P rest) ≡ t → (fresh_part P no_gaps rest ≡ Some later → BeginsAfresh P later) →
-        (if t then fresh_part P no_gaps rest else Some rest) ≡ Some later → BeginsAfresh P later
-    by_fresh true is next q = next q
-    by_fresh false is next q = let same : rest ≡ later = cc in subst (BeginsAfresh P) same is
-
-    by_gaps : (o : Option Gaps) →
-        elim o as (λ o. Option (List Sighting)) [ None ↦ if asks_back P (first_command P rest) then fresh_part P no_gaps rest else Some rest | Some n ↦ fresh_part P n rest ] ≡ Some later →
-        ((n : Gaps) → fresh_part P n rest ≡ Some later → BeginsAfresh P later) → BeginsAfresh P later
-    by_gaps None q next = by_fresh (asks_back P (first_command P rest)) refl (next no_gaps) q
-    by_gaps (Some n) q next = next n q
-
 pub later_law : LaterLaw
 later_law = record {
   decided = λ P recording low l r afresh. (
@@ -133,9 +85,4 @@ later_law = record {
   fronts = fronts;
   at_once = λ P recording x. ([], tt, record { message = λ b. refl; run = λ b. refl; reply = refl }, x);
   any_time = λ P recording x. (x.0, x.1, x.3);
-  paused = paused;
-  afresh = λ P recording later e. (
-    fresh_begins P recording later no_gaps e,
-    λ x. fresh_later P recording later no_gaps (λ mid paused_at. paused P recording mid x paused_at) e,
-  );
 }

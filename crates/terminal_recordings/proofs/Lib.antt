@@ -11,7 +11,11 @@ pub mod FollowsLater
 pub mod Beginnings
 pub mod Leaving
 pub mod Law
-pub mod Pause
 pub mod LaterLaw
 pub mod MaskLaw
+pub mod Pause
+pub mod Runs
+pub mod GapLaw
+pub mod GapShows
+pub mod MaybeLaw
 pub mod Tests

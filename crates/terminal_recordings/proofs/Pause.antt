@@ -1,5 +1,5 @@
--- At a pause in what is seen a terminal is at a quiet place.
-use Rattle.std.proofs.Common.{◌≡◌, ℕ, zero, suc, Bool, true, false, nat_le, if◌then◌else◌, ◌⊎◌, inl, inr, Option, Some, None, is_some, List, [], ◌∷◌, refl, ap, sym, ◌∙◌, subst}
+-- At a pause in what is seen a terminal is at a quiet place, also where more gaps came than were counted.
+use Rattle.std.proofs.Common.{◌≡◌, ℕ, zero, suc, Bool, true, false, nat_le, if◌then◌else◌, ◌⊎◌, inl, inr, Option, Some, None, is_some, List, [], ◌∷◌, ◌++◌, refl, ap, sym, ◌∙◌, subst}
 use Rattle.std.proofs.lemmas.Bool.{and_parts}
 use Rattle.bus_word.specs.declared.word.Bus.{Bus}
 use Rattle.bus_word.specs.declared.word.Bus.TheVariants.{A, B}
@@ -7,7 +7,6 @@ use Rattle.bus_word.specs.declared.cell.Cell.{Cell}
 use Rattle.bus_legal.specs.Description.{Description}
 use Rattle.terminal_rules.specs.declared.event.Event.{Event}
 use Rattle.terminal_rules.specs.declared.event.Event.TheVariants.{Word, Noise, Gap, Write, Vector, Bit, Flag as FlagIs, Slot}
-use Rattle.terminal_rules.specs.LookBack.{or_else}
 use Rattle.terminal_rules.specs.History.{Replying, Entry}
 use Rattle.terminal_rules.specs.Open.{Open, Idle, Collects, Waits, Resumes, is_on, transfer}
 use Rattle.terminal_rules.specs.Reply.{reply_now, reply_bus}
@@ -15,12 +14,16 @@ use Rattle.terminal_rules.specs.Ends.{ends_now}
 use Rattle.terminal_rules.specs.SinceReset.{is_reset, off_now}
 use Rattle.terminal_rules.specs.Turn.{is_answered, done_cell}
 use Rattle.terminal_rules.specs.Past.{note, past, history_after}
-use Rattle.terminal_rules.specs.Same.{AreProper}
+use Rattle.terminal_rules.specs.Same.{IsProper, AreProper}
 use Rattle.terminal_rules.specs.Out.{Sending, sends, sending_out, out, sent_in}
 use Rattle.terminal_rules.specs.Steps.{sent_one, begun_if}
 use Rattle.terminal_rules.proofs.OpenLaw.{waits, after_gap}
-use Rattle.terminal_recordings.specs.Recordings.{Sighting, is_seen, sightings_from}
-use Rattle.terminal_recordings.specs.Later.{IsQuiet, Gaps, no_gaps, are_two, after_pause}
+use Rattle.terminal_recordings.specs.Recordings.{Sighting, is_seen, sightings_from, IsExplainedAfter}
+use Rattle.terminal_recordings.specs.Masks.{MaskedSighting, FitsWord, FitsSighting, ExplainsSome}
+use Rattle.terminal_recordings.specs.Later.{IsQuiet, IsExplainedLater, IsExplainedAnyTime, Gaps, no_gaps, are_two, gaps_with, first_command, asks_back, BeginsAfresh}
+use Rattle.terminal_recordings.specs.MaybeGaps.{MaybeSighting, Seen, MaybeGap, gap_on, FirstThen, IsReadingOf, ExplainsReading, IsExplainedSomehow, certainly, fresh_part}
+use Rattle.terminal_recordings.proofs.Law.{proper_join}
+use Rattle.terminal_recordings.proofs.Leaving.{history_join}
 use Rattle.terminal_recordings.proofs.Endings.{if_busy, effects}
 use Rattle.terminal_recordings.proofs.Summary.{Determined, determined, Summary, summary, quiet_law, determined_after, determined_law, reply_law}
 
@@ -147,59 +150,185 @@ heard_quiet P h g two x = record { message = λ b. (on b).1; run = λ b. (on b).
 unseen_paused : (P : Description) (h : List Event) (e : Event) (g : Gaps) → is_seen e ≡ false → Paused P (summary P (past P h)) g → Paused P (summary P (past P (e ∷ h))) g
 unseen_paused P h e g u x = subst (λ (s : Summary). Paused P s g) (sym (quiet_law P (past P h) e u)) x
 
--- some of the events bring the terminal to a quiet place, and of the others just this is seen
-abbrev pub Pauses : Description → List Event → List Sighting → Type 0
-Pauses P h later =
-    (front : List Event) × AreProper front × IsQuiet P (history_after front h) × (es : List Event) × AreProper es × (sightings_from P (history_after front h) es ≡ later)
+-- ---- fewer gaps are counted than came
 
-one_before : (P : Description) (h : List Event) (e : Event) (later : List Sighting) → AreProper (e ∷ []) → Pauses P (e ∷ h) later → Pauses P h later
-one_before P h e later p x = (e ∷ x.0, (p.0, x.1), x.2, x.3, x.4, x.5)
+fewer : (P : Description) (n : ℕ) (r : List Entry) (o : Open) → Counted P (suc n) r o → Counted P n r o
+fewer P zero r o c = tt
+fewer P (suc zero) r o c = (c.0, ap (after_gap P) c.1)
+fewer P (suc (suc n)) r o c = c
 
-abbrev Next : Description → List Event → List Event → List Sighting → Type 0
-Next P h es later = (g : Gaps) → Paused P (summary P (past P h)) g → after_pause g (sightings_from P h es) ≡ Some later → Pauses P h later
+heard_fewer : (P : Description) (s : Summary) (b : Bus) (g : Gaps) → Heard P s (with_gap b g) → Heard P s g
+heard_fewer P s A g x = record { reply = x.reply; on_a = fewer P g.a (s.determined.run A) (s.determined.message A) x.on_a; on_b = x.on_b }
+heard_fewer P s B g x = record { reply = x.reply; on_a = x.on_a; on_b = fewer P g.b (s.determined.run B) (s.determined.message B) x.on_b }
 
-slot_pauses : (P : Description) (es h : List Event) (g : Gaps) (later : List Sighting) → Paused P (summary P (past P h)) g → AreProper es →
-    after_pause g (sightings_from P h (Slot ∷ es)) ≡ Some later → Next P (Slot ∷ h) es later → Pauses P h later
-slot_pauses P es h g later x p e next = by_sent (sent_in (out P h Slot)) refl
+paused_fewer : (P : Description) (s : Summary) (b : Bus) (g : Gaps) → Paused P s (with_gap b g) → Paused P s g
+paused_fewer P s b g (inl e) = inl e
+paused_fewer P s b g (inr x) = inr (heard_fewer P s b g x)
+
+-- ---- a part of a recording
+
+-- a history that can come
+abbrev Comes : List Event → Type 0
+Comes h = (earlier : List Event) × AreProper earlier × (history_after earlier [] ≡ h)
+
+comes_next : (h : List Event) (e : Event) → IsProper e → Comes h → Comes (e ∷ h)
+comes_next h e p (earlier, a, q) = (earlier ++ e ∷ [], proper_join earlier (e ∷ []) a (p, tt), history_join earlier (e ∷ []) [] ∙ (λ j. e ∷ q j))
+
+-- where the first sighting is seen, and what is left there of the rest
+record First (P : Description) (g : Gaps) (s : Sighting) (later : List Sighting) : Type 0 where
+  pub history : List Event
+  pub comes : Comes history
+  pub paused : Paused P (summary P (past P history)) g
+  pub proper : IsProper s.event
+  pub sent : s.sent ≡ sent_in (out P history s.event)
+  pub explained : IsExplainedAfter P (s.event ∷ history) later
+
+first_of : (P : Description) (es h : List Event) (g : Gaps) (s : Sighting) (later : List Sighting) → Comes h → Paused P (summary P (past P h)) g → AreProper es → sightings_from P h es ≡ s ∷ later → First P g s later
+first_of P [] h g s later c x p e = absurd (cc)
+first_of P (y ∷ es) h g s later c x (p, a) e = by_seen (is_seen y) refl e (λ u q. first_of P es (y ∷ h) g s later (comes_next h y p c) (unseen_paused P h y g u x) a q)
   where
-    rest : List Sighting
-    rest = sightings_from P (Slot ∷ h) es
+    shows : List Sighting → Bool → List Sighting
+    shows rest t = if t then record { event = y; sent = sent_in (out P h y) } ∷ rest else rest
 
-    slot_with : Option Sending → List Sighting
-    slot_with sent = record { event = Slot; sent = sent } ∷ rest
+    by_seen : (t : Bool) → is_seen y ≡ t → shows (sightings_from P (y ∷ h) es) t ≡ s ∷ later →
+        (is_seen y ≡ false → sightings_from P (y ∷ h) es ≡ s ∷ later → First P g s later) → First P g s later
+    by_seen true u e next =
+        let head : record { event = y; sent = sent_in (out P h y) } ≡ s = cc in
+        let rest : sightings_from P (y ∷ h) es ≡ later = cc in
+        record {
+          history = h;
+          comes = c;
+          paused = x;
+          proper = subst (λ (t : Sighting). IsProper t.event) head p;
+          sent = subst (λ (t : Sighting). t.sent ≡ sent_in (out P h t.event)) head refl;
+          explained = subst (λ (t : Sighting). IsExplainedAfter P (t.event ∷ h) later) head (es, a, rest);
+        }
+    by_seen false u e next = next u e
 
-    heard : sent_in (out P h Slot) ≡ None → Heard P (summary P (past P (Slot ∷ h))) g
-    heard silent = slot_heard P h g (silent_heard P h g silent x)
+-- where the counted gaps end a pause, the terminal is at a quiet place
+abbrev Then : Description → List Event → Option Gaps → Type 0
+Then P h None = IsQuiet P h
+Then P h (Some n) = Paused P (summary P (past P h)) n
 
-    by_two : (t : Bool) → are_two g ≡ t → sent_in (out P h Slot) ≡ None → after_pause g (slot_with None) ≡ Some later → Pauses P h later
-    by_two true two silent q = (
-      Slot ∷ [],
-      (tt, tt),
-      heard_quiet P (Slot ∷ h) g two (heard silent),
-      es,
-      p,
-      ap (λ o. or_else o rest) (sym (ap (λ t. elim (if t then None else Some g) as (λ o. Option (List Sighting)) [ None ↦ Some rest | Some n ↦ after_pause n rest ]) two) ∙ q),
-    )
-    by_two false two silent q =
-        one_before P h Slot later (tt, tt)
-        (next g (inr (heard silent)) (sym (ap (λ t. elim (if t then None else Some g) as (λ o. Option (List Sighting)) [ None ↦ Some rest | Some n ↦ after_pause n rest ]) two) ∙ q))
+then_of : (P : Description) (h : List Event) (g : Gaps) (e : Event) (sent : Option Sending) → Paused P (summary P (past P h)) g → sent ≡ sent_in (out P h e) → Then P (e ∷ h) (gaps_with g e sent)
+then_of P h g (Gap A) sent x q = gap_paused P h A g x
+then_of P h g (Gap B) sent x q = gap_paused P h B g x
+then_of P h g Slot (Some s) x q = any_paused P (summary P (past P (Slot ∷ h)))
+then_of P h g Slot None x q = by_two (are_two g) refl
+  where
+    heard : Heard P (summary P (past P (Slot ∷ h))) g
+    heard = slot_heard P h g (silent_heard P h g (sym q) x)
 
-    by_sent : (o : Option Sending) → sent_in (out P h Slot) ≡ o → Pauses P h later
-    by_sent None q = by_two (are_two g) refl q (sym (ap (λ o. after_pause g (slot_with o)) q) ∙ e)
-    by_sent (Some s) q = one_before P h Slot later (tt, tt) (next no_gaps (any_paused P (summary P (past P (Slot ∷ h)))) (sym (ap (λ o. after_pause g (slot_with o)) q) ∙ e))
+    by_two : (t : Bool) → are_two g ≡ t → Then P (Slot ∷ h) (if t then None else Some g)
+    by_two true two = heard_quiet P (Slot ∷ h) g two heard
+    by_two false two = inr heard
+then_of P h g (Word b w) sent x q = any_paused P (summary P (past P (Word b w ∷ h)))
+then_of P h g (Noise b) sent x q = any_paused P (summary P (past P (Noise b ∷ h)))
+then_of P h g (Write p v) sent x q = any_paused P (summary P (past P (Write p v ∷ h)))
+then_of P h g (Vector v) sent x q = any_paused P (summary P (past P (Vector v ∷ h)))
+then_of P h g (Bit v) sent x q = any_paused P (summary P (past P (Bit v ∷ h)))
+then_of P h g (FlagIs f v) sent x q = any_paused P (summary P (past P (FlagIs f v ∷ h)))
 
-pauses : (P : Description) (es h : List Event) (g : Gaps) (later : List Sighting) → Paused P (summary P (past P h)) g → AreProper es → after_pause g (sightings_from P h es) ≡ Some later → Pauses P h later
-pauses P [] h g later x p e = cc
-pauses P (Word b w ∷ es) h g later x p e = one_before P h (Word b w) later (p.0, tt) (pauses P es (Word b w ∷ h) no_gaps later (any_paused P (summary P (past P (Word b w ∷ h)))) p.1 e)
-pauses P (Noise b ∷ es) h g later x p e = one_before P h (Noise b) later (p.0, tt) (pauses P es (Noise b ∷ h) no_gaps later (any_paused P (summary P (past P (Noise b ∷ h)))) p.1 e)
-pauses P (Gap A ∷ es) h g later x p e = one_before P h (Gap A) later (p.0, tt) (pauses P es (Gap A ∷ h) (with_gap A g) later (gap_paused P h A g x) p.1 e)
-pauses P (Gap B ∷ es) h g later x p e = one_before P h (Gap B) later (p.0, tt) (pauses P es (Gap B ∷ h) (with_gap B g) later (gap_paused P h B g x) p.1 e)
-pauses P (Slot ∷ es) h g later x p e = slot_pauses P es h g later x p.1 e (λ n y q. pauses P es (Slot ∷ h) n later y p.1 q)
-pauses P (Write q v ∷ es) h g later x p e = one_before P h (Write q v) later (p.0, tt) (pauses P es (Write q v ∷ h) g later (unseen_paused P h (Write q v) g refl x) p.1 e)
-pauses P (Vector v ∷ es) h g later x p e = one_before P h (Vector v) later (p.0, tt) (pauses P es (Vector v ∷ h) g later (unseen_paused P h (Vector v) g refl x) p.1 e)
-pauses P (Bit v ∷ es) h g later x p e = one_before P h (Bit v) later (p.0, tt) (pauses P es (Bit v ∷ h) g later (unseen_paused P h (Bit v) g refl x) p.1 e)
-pauses P (FlagIs f v ∷ es) h g later x p e = one_before P h (FlagIs f v) later (p.0, tt) (pauses P es (FlagIs f v ∷ h) g later (unseen_paused P h (FlagIs f v) g refl x) p.1 e)
+-- a data word that is left open counts as any
+gaps_fit : (g : Gaps) (e : Event) (any : Bool) (stated sent : Option Sending) → FitsWord any stated sent → gaps_with g e sent ≡ gaps_with g e stated
+gaps_fit g e false stated sent fits = ap (gaps_with g e) fits
+gaps_fit g e true None sent fits = absurd fits
+gaps_fit g e true (Some stated) None fits = absurd fits
+gaps_fit g (Gap A) true (Some stated) (Some sent) fits = refl
+gaps_fit g (Gap B) true (Some stated) (Some sent) fits = refl
+gaps_fit g (Word b w) true (Some stated) (Some sent) fits = refl
+gaps_fit g (Noise b) true (Some stated) (Some sent) fits = refl
+gaps_fit g (Write q v) true (Some stated) (Some sent) fits = refl
+gaps_fit g (Vector v) true (Some stated) (Some sent) fits = refl
+gaps_fit g (Bit v) true (Some stated) (Some sent) fits = refl
+gaps_fit g (FlagIs f v) true (Some stated) (Some sent) fits = refl
+gaps_fit g Slot true (Some stated) (Some sent) fits = refl
+
+-- a reading that is explained from a history on, where these gaps were counted
+record Reads (P : Description) (g : Gaps) (h : List Event) (ms : List MaybeSighting) : Type 0 where
+  pub comes : Comes h
+  pub paused : Paused P (summary P (past P h)) g
+  pub explained : IsExplainedSomehow P h ms
+
+-- and one whose first sighting is this
+record ReadsFirst (P : Description) (g : Gaps) (s : MaskedSighting) (ms : List MaybeSighting) : Type 0 where
+  pub history : List Event
+  pub comes : Comes (s.sighting.event ∷ history)
+  pub paused : Paused P (summary P (past P history)) g
+  pub then_with : Then P (s.sighting.event ∷ history) (gaps_with g s.sighting.event s.sighting.sent)
+  pub explained : IsExplainedSomehow P (s.sighting.event ∷ history) ms
+
+reads_first : (P : Description) (g : Gaps) (h : List Event) (s : MaskedSighting) (ms : List MaybeSighting) → Comes h → Paused P (summary P (past P h)) g →
+    (recording : List MaskedSighting) → FirstThen s (IsReadingOf ms) recording → ExplainsSome (IsExplainedAfter P h) recording → ReadsFirst P g s ms
+reads_first P g h s ms c x [] f e = absurd f
+reads_first P g h s ms c x (t ∷ later) (p, f) ([], fits, e) = absurd fits
+reads_first P g h s ms c x (t ∷ later) (p, f) (r ∷ rest, (fit, fits), (es, a, e)) =
+    let y : First P g r rest = first_of P es h g r rest c x a e in
+    let fit : FitsSighting s r = subst (λ (u : MaskedSighting). FitsSighting u r) p fit in
+    let with_gaps : Then P (r.event ∷ y.history) (gaps_with g s.sighting.event s.sighting.sent) =
+    subst (Then P (r.event ∷ y.history)) ((λ j. gaps_with g (fit.event j) r.sent) ∙ gaps_fit g s.sighting.event s.any_word s.sighting.sent r.sent fit.sent) (then_of P y.history g r.event r.sent y.paused y.sent) in
+    record {
+      history = y.history;
+      comes = subst (λ (e : Event). Comes (e ∷ y.history)) fit.event (comes_next y.history r.event y.proper y.comes);
+      paused = y.paused;
+      then_with = subst (λ (e : Event). Then P (e ∷ y.history) (gaps_with g s.sighting.event s.sighting.sent)) fit.event with_gaps;
+      explained = (later, f, (rest, fits, subst (λ (e : Event). IsExplainedAfter P (e ∷ y.history) rest) fit.event y.explained));
+    }
+
+begun_later : (P : Description) (h : List Event) (ms : List MaybeSighting) → Comes h → IsQuiet P h → IsExplainedSomehow P h ms → ExplainsReading (IsExplainedLater P) ms
+begun_later P h ms (earlier, a, q) quiet (recording, f, (r, fits, x)) =
+    (recording, f, (r, fits, (earlier, a, subst (IsQuiet P) (sym q) quiet, subst (λ (k : List Event). IsExplainedAfter P k r) (sym q) x)))
+
+abbrev next_part : Description → List MaybeSighting → Option Gaps → Option (List MaybeSighting)
+next_part P later o = elim o as (λ o. Option (List MaybeSighting)) [ None ↦ if asks_back P (first_command P (certainly later)) then fresh_part P no_gaps later else Some later | Some n ↦ fresh_part P n later ]
+
+part_explained : (P : Description) (ms part : List MaybeSighting) (g : Gaps) (h : List Event) → Reads P g h ms → fresh_part P g ms ≡ Some part → ExplainsReading (IsExplainedLater P) part
+part_explained P [] part g h x e = absurd (cc)
+part_explained P (MaybeGap b ∷ ms) part g h x e =
+    by_reading x.explained (λ y. part_explained P ms part g h (record { comes = x.comes; paused = x.paused; explained = y }) e) (λ l y. part_explained P ms part g (Gap b ∷ l) y e)
+  where
+    by_reading : IsExplainedSomehow P h (MaybeGap b ∷ ms) → (IsExplainedSomehow P h ms → ExplainsReading (IsExplainedLater P) part) →
+        ((l : List Event) → Reads P g (Gap b ∷ l) ms → ExplainsReading (IsExplainedLater P) part) → ExplainsReading (IsExplainedLater P) part
+    by_reading (recording, inl f, y) left came = left (recording, f, y)
+    by_reading (recording, inr f, y) left came =
+        let z : ReadsFirst P g (gap_on b) ms = reads_first P g h (gap_on b) ms x.comes x.paused recording f y in
+        came z.history (record { comes = z.comes; paused = paused_fewer P (summary P (past P (Gap b ∷ z.history))) b g (gap_paused P z.history b g z.paused); explained = z.explained })
+part_explained P (Seen s ∷ ms) part g h x e =
+    by_gaps (gaps_with g s.sighting.event s.sighting.sent) z.then_with e (λ n y. part_explained P ms part n l y)
+  where
+    z : ReadsFirst P g s ms
+    z = reads_first P g h s ms x.comes x.paused x.explained.0 x.explained.1 x.explained.2
+
+    l : List Event
+    l = s.sighting.event ∷ z.history
+
+    by_asks : (t : Bool) → IsQuiet P l → (if t then fresh_part P no_gaps ms else Some ms) ≡ Some part → (fresh_part P no_gaps ms ≡ Some part → ExplainsReading (IsExplainedLater P) part) → ExplainsReading (IsExplainedLater P) part
+    by_asks true quiet q next = next q
+    by_asks false quiet q next = let same : ms ≡ part = cc in subst (ExplainsReading (IsExplainedLater P)) same (begun_later P l ms z.comes quiet z.explained)
+
+    by_gaps : (o : Option Gaps) → Then P l o → next_part P ms o ≡ Some part →
+        ((n : Gaps) → Reads P n l ms → fresh_part P n ms ≡ Some part → ExplainsReading (IsExplainedLater P) part) → ExplainsReading (IsExplainedLater P) part
+    by_gaps None quiet q next =
+        by_asks (asks_back P (first_command P (certainly ms))) quiet q (next no_gaps (record { comes = z.comes; paused = any_paused P (summary P (past P l)); explained = z.explained }))
+    by_gaps (Some n) p q next = next n (record { comes = z.comes; paused = p; explained = z.explained }) q
 
 -- whatever came before
-pub at_pause : (P : Description) (es h : List Event) (later : List Sighting) → AreProper es → after_pause no_gaps (sightings_from P h es) ≡ Some later → Pauses P h later
-at_pause P es h later p e = pauses P es h no_gaps later (any_paused P (summary P (past P h))) p e
+pub fresh_explained : (P : Description) (ms part : List MaybeSighting) → fresh_part P no_gaps ms ≡ Some part → ExplainsReading (IsExplainedAnyTime P) ms → ExplainsReading (IsExplainedLater P) part
+fresh_explained P ms part e (recording, f, (r, fits, (earlier, a, x))) =
+    part_explained P ms part no_gaps (history_after earlier [])
+    (record { comes = (earlier, a, refl); paused = any_paused P (summary P (past P (history_after earlier []))); explained = (recording, f, (r, fits, x)) }) e
+
+-- it begins afresh
+pub fresh_begins : (P : Description) (ms part : List MaybeSighting) (g : Gaps) → fresh_part P g ms ≡ Some part → BeginsAfresh P (certainly part)
+fresh_begins P [] part g e = absurd (cc)
+fresh_begins P (MaybeGap b ∷ ms) part g e = fresh_begins P ms part g e
+fresh_begins P (Seen s ∷ ms) part g e = by_gaps (gaps_with g s.sighting.event s.sighting.sent) e (λ n q. fresh_begins P ms part n q)
+  where
+    by_asks : (t : Bool) → asks_back P (first_command P (certainly ms)) ≡ t → (if t then fresh_part P no_gaps ms else Some ms) ≡ Some part →
+        (fresh_part P no_gaps ms ≡ Some part → BeginsAfresh P (certainly part)) → BeginsAfresh P (certainly part)
+    by_asks true is q next = next q
+    by_asks false is q next = let same : ms ≡ part = cc in subst (λ (m : List MaybeSighting). BeginsAfresh P (certainly m)) same is
+
+    by_gaps : (o : Option Gaps) → next_part P ms o ≡ Some part → ((n : Gaps) → fresh_part P n ms ≡ Some part → BeginsAfresh P (certainly part)) → BeginsAfresh P (certainly part)
+    by_gaps None q next = by_asks (asks_back P (first_command P (certainly ms))) refl q (next no_gaps)
+    by_gaps (Some n) q next = next n q

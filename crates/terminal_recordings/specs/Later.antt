@@ -56,11 +56,6 @@ gaps_with g (Gap B) sent = Some (record g { b = suc g.b })
 gaps_with g Slot None = if are_two g then None else Some g
 gaps_with g _ sent = Some no_gaps
 
--- what comes in a recording after its first pause
-abbrev pub after_pause : Gaps → List Sighting → Option (List Sighting)
-after_pause g [] = None
-after_pause g (s ∷ later) = elim (gaps_with g s.event s.sent) [ None ↦ Some later | Some n ↦ after_pause n later ]
-
 -- the command in a word for the terminal
 abbrev pub command_for : Description → Event → Option ℕ
 command_for P (Word b w) = if is_for_terminal P w then Some w.bits else None
@@ -80,12 +75,6 @@ asks_back P (Some c) = spares P c
 -- command too where it can ever be asked for. What was kept before is not seen then.
 abbrev pub BeginsAfresh : Description → List Sighting → Type 0
 BeginsAfresh P recording = asks_back P (first_command P recording) ≡ false
-
--- what comes in a recording after its first pause after which it begins afresh
-abbrev pub fresh_part : Description → Gaps → List Sighting → Option (List Sighting)
-fresh_part P g [] = None
-fresh_part P g (s ∷ later) =
-    elim (gaps_with g s.event s.sent) [ None ↦ if asks_back P (first_command P later) then fresh_part P no_gaps later else Some later | Some n ↦ fresh_part P n later ]
 
 -- All that is left from before a quiet place and may be seen later, whatever the subsystem does: which transmitters are shut
 -- down. A terminal flag that is inhibited shows nothing that a flag that is off doesn't.
@@ -114,9 +103,8 @@ abbrev pub shown_later : Description → ShutDown → List Sighting → List Sig
 shown_later P shut recording = shown_from P (shut_history P shut) recording
 
 -- A recording that begins afresh is explained later than power-up exactly if it is shown after one of four beginnings, and so is
--- each front of it. (Own mode code 4 is legal in every profile.) What is explained from power-up is explained later too, and what
--- explains more explains less. And at a pause every terminal is at a quiet place: whenever a recording began, what comes after a
--- pause in it is explained later, if the whole can be explained; and so its first part that begins afresh.
+-- each front of it. (Own mode code 4 is legal in every profile.) What is explained from power-up is explained later too, what is
+-- explained later is so at any time, and what explains more explains less.
 pub record LaterLaw : Type 0 where
   pub decided : (P : Description) (recording : List Sighting) → P.address ≤ 30 → P.legal (OwnMode mode.shutdown) ≡ true → IsRecording recording → BeginsAfresh P recording →
       IsExplainedLater P recording ↔ ((shut : ShutDown) × (shown_later P shut recording ≡ recording))
@@ -125,6 +113,3 @@ pub record LaterLaw : Type 0 where
   pub fronts : (P : Description) (front later : List Sighting) → IsExplainedLater P (front ++ later) → IsExplainedLater P front
   pub at_once : (P : Description) (recording : List Sighting) → IsExplained P recording → IsExplainedLater P recording
   pub any_time : (P : Description) (recording : List Sighting) → IsExplainedLater P recording → IsExplainedAnyTime P recording
-  pub paused : (P : Description) (recording later : List Sighting) → IsExplainedAnyTime P recording → after_pause no_gaps recording ≡ Some later → IsExplainedLater P later
-  pub afresh : (P : Description) (recording later : List Sighting) → fresh_part P no_gaps recording ≡ Some later →
-      BeginsAfresh P later × (IsExplainedAnyTime P recording → IsExplainedLater P later)

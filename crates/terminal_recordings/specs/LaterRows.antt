@@ -1,9 +1,9 @@
 -- Worked examples: recordings that begin later than power-up, each with whether a description explains it.
-use Rattle.std.specs.Prelude.{◌≡◌, Some, List, [], ◌∷◌, ◌++◌}
+use Rattle.std.specs.Prelude.{◌≡◌, List, [], ◌∷◌}
 use Rattle.bus_word.specs.declared.word.Bus.TheVariants.{A, B}
 use Rattle.bus_legal.specs.Description.{Description}
 use Rattle.terminal_rules.specs.WorkedExamples.Words.{Step, five, command, quiet, gap, idle_slot, gap_sends, steps_of}
-use Rattle.terminal_recordings.specs.Later.{IsExplainedLater, no_gaps, after_pause, fresh_part, ShutDown, shown_later}
+use Rattle.terminal_recordings.specs.Later.{IsExplainedLater, ShutDown, shown_later}
 use Rattle.terminal_recordings.specs.RecordingRows.{recording_of, DoesNotExplain}
 
 unfoldable pub ExplainsLater : Description → List (List Step) → Type 0
@@ -24,10 +24,6 @@ silent_on_a = quiet (command A 0x2c05) ∷ gap A ∷ idle_slot ∷ []
 abbrev pub asking : List (List Step)
 asking = quiet (command A 0x2c02) ∷ gap_sends A 0x2900 [] ∷ []
 
--- a pause
-abbrev pub pause : List (List Step)
-pause = gap A ∷ gap A ∷ gap B ∷ gap B ∷ idle_slot ∷ []
-
 pub record LaterRows : Type 0 where
   -- a terminal is silent on a bus whose transmitter was shut down before
   pub shut_before : ExplainsLater (five []) silent_on_a
@@ -39,7 +35,3 @@ pub record LaterRows : Type 0 where
   -- a recording that asks back: what was kept before is seen, and no beginning shows it
   pub asks_back : ExplainsLater (five []) asking
   pub not_shown : IsNotShown (five []) asking
-  -- what comes after a pause is passed over where it asks back, to the next pause
-  pub skips : fresh_part (five []) no_gaps (recording_of (steps_of (pause ++ (asking ++ (pause ++ silent_on_a))))) ≡ Some (recording_of (steps_of silent_on_a))
-  -- after a pause, and only after both gaps of each bus and the slot
-  pub pauses : after_pause no_gaps (recording_of (steps_of (silent_on_a ++ (pause ++ silent_on_a)))) ≡ Some (recording_of (steps_of silent_on_a))

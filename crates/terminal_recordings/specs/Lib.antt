@@ -5,4 +5,6 @@ pub mod Completion
 pub mod RecordingRows
 pub mod Later
 pub mod Masks
+pub mod MaybeGaps
+pub mod MaybeRows
 pub mod LaterRows

@@ -1,5 +1,5 @@
 -- A recording that leaves some data words open, and when a description explains it.
-use Rattle.std.specs.Prelude.{◌≡◌, ℕ, ◌≤◌, Bool, true, false, ◌↔◌, Option, Some, List, [], ◌∷◌, ◌++◌, map, take}
+use Rattle.std.specs.Prelude.{◌≡◌, ℕ, ◌≤◌, Bool, true, false, ◌↔◌, Option, Some, List, [], ◌∷◌, map, take}
 use Rattle.bus_word.specs.declared.word.Kind.TheVariants.{Dat}
 use Rattle.bus_word.specs.declared.cell.Cell.TheVariants.{OwnMode}
 use Rattle.bus_word.specs.Mode as mode
@@ -8,7 +8,7 @@ use Rattle.terminal_rules.specs.declared.event.Event.{Event}
 use Rattle.terminal_rules.specs.Out.{Sending}
 use Rattle.terminal_recordings.specs.Recordings.{Sighting, IsExplainedAfter, IsRecording}
 use Rattle.terminal_recordings.specs.Completion.{shown_from}
-use Rattle.terminal_recordings.specs.Later.{IsExplainedLater, Gaps, fresh_part, BeginsAfresh, ShutDown, shut_history}
+use Rattle.terminal_recordings.specs.Later.{IsExplainedLater, BeginsAfresh, ShutDown, shut_history}
 
 -- what is seen at one time, where a data word that is sent may be left open: then any may stand in its place
 pub record MaskedSighting : Type 0 where
@@ -46,7 +46,7 @@ abbrev pub ExplainsSome : (List Sighting → Type 0) → List MaskedSighting →
 ExplainsSome explains ms = (recording : List Sighting) × FitsMasked ms recording × explains recording
 
 -- One of the recordings that are stated is explained exactly if what is shown of any of them is one of them. The same holds of each front. So
--- it does of one that begins afresh, later than power-up, after one of the four beginnings. And all begin afresh after the same pause.
+-- it does of one that begins afresh, later than power-up, after one of the four beginnings.
 pub record MaskLaw : Type 0 where
   pub decided : (P : Description) (h : List Event) (ms : List MaskedSighting) → P.address ≤ 30 → IsRecording (unmasked ms) →
       ExplainsSome (IsExplainedAfter P h) ms ↔ FitsMasked ms (shown_from P h (unmasked ms))
@@ -54,5 +54,3 @@ pub record MaskLaw : Type 0 where
       ExplainsSome (IsExplainedAfter P h) (take n ms) ↔ FitsMasked (take n ms) (take n (shown_from P h (unmasked ms)))
   pub later : (P : Description) (ms : List MaskedSighting) → P.address ≤ 30 → P.legal (OwnMode mode.shutdown) ≡ true → IsRecording (unmasked ms) → BeginsAfresh P (unmasked ms) →
       ExplainsSome (IsExplainedLater P) ms ↔ ((shut : ShutDown) × ExplainsSome (IsExplainedAfter P (shut_history P shut)) ms)
-  pub part : (P : Description) (g : Gaps) (front ms : List MaskedSighting) (recording : List Sighting) → FitsMasked (front ++ ms) recording →
-      fresh_part P g (unmasked (front ++ ms)) ≡ Some (unmasked ms) → (later : List Sighting) × FitsMasked ms later × (fresh_part P g recording ≡ Some later)

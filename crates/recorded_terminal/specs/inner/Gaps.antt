@@ -3,6 +3,7 @@ use Rattle.std.specs.Prelude.{◌≡◌, ℕ, nat_lt, true, false, if◌then◌e
 use Rattle.bus_legal.specs.Description.{Description}
 use Rattle.terminal_rules.specs.Status.{spares}
 use Rattle.terminal_recordings.specs.Recordings.{Sighting}
+use Rattle.terminal_recordings.specs.MaybeGaps.{MaybeSighting, Seen, MaybeGap}
 use Rattle.terminal_recordings.specs.Later.{Gaps, no_gaps, gaps_with, command_for}
 use Rattle.recorded_terminal.specs.declared.later.Gaps.{Gaps as Counted}
 use Rattle.recorded_terminal.specs.Judged.{shown_gaps}
@@ -32,3 +33,8 @@ IsPartWith P Begun s Begun = command_for P s.event ≡ None
 IsPartWith P Begun s Afresh = (c : ℕ) × (command_for P s.event ≡ Some c) × (spares P c ≡ false)
 IsPartWith P Afresh s Afresh = Unit {0}
 IsPartWith _ _ _ _ = ⊥
+
+-- a gap that may have come changes nothing of it
+abbrev pub IsPartOn : Description → WatchPhase → MaybeSighting → WatchPhase → Type 0
+IsPartOn P p (Seen m) q = IsPartWith P p m.sighting q
+IsPartOn P p (MaybeGap b) q = q ≡ p

@@ -86,6 +86,4 @@ returns c = record {
   illegal = does_not_explain (five []) _ (omega arith) refl refl refl (record { none = refl; on_a = refl; on_b = refl; both = refl });
   asks_back = asks_back;
   not_shown = not_shown (five []) _ (record { none = refl; on_a = refl; on_b = refl; both = refl });
-  skips = refl;
-  pauses = refl;
 }

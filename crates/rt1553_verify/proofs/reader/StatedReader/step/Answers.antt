@@ -1,4 +1,4 @@
-use Rattle.std.proofs.Common.{◌∙◌, ◌+◌, option_map, Ok, sym, ap, subst, arith, rules}
+use Rattle.std.proofs.Common.{◌∙◌, ◌+◌, option_map, Ok, sym, ap, subst, arith, rules, true}
 use Rattle.std.proofs.lemmas.Result.{err_from_is_err_and}
 use Rattle.rt1553_verify.specs.Stated.{shown, all_stated, bounded_line}
 use Rattle.rt1553_verify.specs.Reader.{NextIs}
@@ -37,7 +37,7 @@ returns-in_err-known-clause-step g c =
     (option_map shown c.args.self.now.latest) c.first_line.result.0.now c.first_line.result.1.now _ (grind (arith, c.if-self.false))
     (subst (λ b. ReadsLine (g.B.Read.remaining c.args.self.now.input) (g.B.Read.remaining c.fill_line.new.input) c.fill_line.new.line.items b) (search rules) c.in_ok-fill_line.ensures.reads)
     (search rules)
-    (λ other. ap (λ l. bounded_line (c.args.self.now.lines + 1) (option_map shown l) c.first_line.result.0.now) (sym c.take-2.ensures.value) ∙ c.in_err-known.ensures.refused other))
+    (λ other. ap (λ l. bounded_line true (c.args.self.now.lines + 1) (option_map shown l) c.first_line.result.0.now) (sym c.take-2.ensures.value) ∙ c.in_err-known.ensures.refused other))
 
 pub returns-clause-step : goal.returns-clause-step
 returns-clause-step g c =
@@ -45,4 +45,4 @@ returns-clause-step g c =
     (option_map shown c.args.self.now.latest) c.first_line.result.0.now c.first_line.result.1.now c.in_ok-known.known.ended (option_map shown c.in_ok-known.known.latest) (grind (arith, c.if-self.false))
     (subst (λ b. ReadsLine (g.B.Read.remaining c.args.self.now.input) (g.B.Read.remaining c.fill_line.new.input) c.fill_line.new.line.items b) (search rules) c.in_ok-fill_line.ensures.reads)
     (search rules)
-    (ap (λ l. bounded_line (c.args.self.now.lines + 1) (option_map shown l) c.first_line.result.0.now) (sym c.take-2.ensures.value) ∙ c.in_ok-known.ensures.said)
+    (ap (λ l. bounded_line true (c.args.self.now.lines + 1) (option_map shown l) c.first_line.result.0.now) (sym c.take-2.ensures.value) ∙ c.in_ok-known.ensures.said)

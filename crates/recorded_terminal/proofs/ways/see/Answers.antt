@@ -1,0 +1,19 @@
+use Rattle.std.proofs.Common.{subst}
+use Rattle.recorded_terminal.specs.inner.Steps.{Splits}
+use Rattle.recorded_terminal.proofs.WayLaws.{steps_split}
+use Rattle.recorded_terminal.proofs.ways.see.Goals as goal
+
+pub returns-in_ok-ways-in-Some-clause-sees : goal.returns-in_ok-ways-in-Some-clause-sees
+returns-in_ok-ways-in-Some-clause-sees g c P h ms low ways =
+    let legal = g.L.Legality.is_legal in
+    steps_split legal P h ms c.args.marked.now c.in-Some.bus c.args.status c.args.ways.now.items c.in_ok-ways-in-Some.field-0.items low (c.maybe_gap.ensures.some c.in-Some.bus c.in-Some.is) ways
+    (subst (λ ws. Splits legal c.in-Some.bus c.args.status ws c.in_ok-ways-in-Some.field-0.items) c.as_slice-then-not-all_pass.ensures.value c.in_ok-ways-in-Some.ensures)
+
+pub returns-else-not-all_pass-clause-sees : goal.returns-else-not-all_pass-clause-sees
+returns-else-not-all_pass-clause-sees g c P h ms low ways =
+    let legal = g.L.Legality.is_legal in
+    steps_split legal P h ms c.args.marked.now c.in-Some.bus c.args.status c.args.ways.now.items c.args.ways.now.items low (c.maybe_gap.ensures.some c.in-Some.bus c.in-Some.is) ways
+    (subst (λ ws. Splits legal c.in-Some.bus c.args.status ws ws) c.as_slice.ensures.value (c.all_pass.ensures c.if-not-all_pass.false c.args.status))
+
+pub returns-in_ok-see_certain-in-None-clause-sees : goal.returns-in_ok-see_certain-in-None-clause-sees
+returns-in_ok-see_certain-in-None-clause-sees g c P h ms low ways = c.in_ok-see_certain-in-None.ensures P h ms low (c.maybe_gap.ensures.none c.in-None.is) ways

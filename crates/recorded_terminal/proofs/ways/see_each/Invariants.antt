@@ -1,0 +1,5 @@
+use Rattle.recorded_terminal.proofs.WayLaws.{SeenBelow}
+use Rattle.recorded_terminal.proofs.ways.see_each.Given as goal
+
+abbrev pub invariant-loop-way : goal.invariant-loop-way
+invariant-loop-way g l = SeenBelow g.L.Legality.is_legal l.status l.marked l.way-index l.fn.ways.items l.way-items
